@@ -1,0 +1,70 @@
+-- A step keeps what a sketch says of its history.
+use Rattle.std.proofs.Common.{◌≡◌, ℕ, ◌+◌, ◌*◌, ◌/◌, ◌<◌, ◌≤◌, Bool, cond, List, length, ap, ◌∙◌, arith, IsPermutation}
+use Rattle.std.proofs.lemmas.Bool.{cases_lt}
+use Rattle.std.specs.Cmp.{IsEquivalence}
+use Rattle.std.specs.Map.{keys_of}
+use Rattle.std.proofs.lemmas.Map.Made.{length-le_from_is_member}
+use Rattle.std.proofs.lemmas.Map.Entries.{length-keys_of}
+use Rattle.sketch_frequencies.specs.Tables.{count_of, put, purged}
+use Rattle.sketch_frequencies.specs.History.{FrequentHistory, own_size, least_size}
+use Rattle.sketch_frequencies.specs.History.FrequentHistory.{New, Update, Merge, Reset, Restored}
+use Rattle.sketch_frequencies.specs.State.{FrequentState, IsState, capacity}
+use Rattle.sketch_frequencies.specs.Stands.{StandsFor, Covers}
+use Rattle.sketch_frequencies.specs.Steps.{Steps}
+use Rattle.sketch_frequencies.proofs.Cases.{by_cases}
+use Rattle.sketch_frequencies.proofs.Puts.{count_of-put, IsDistinct-put, positive-put, positive_from_tracked}
+use Rattle.sketch_frequencies.proofs.Orders.{count_of-permutation, count_of-purged, IsDistinct-purged}
+
+-- the counts after a step, at each item
+pub record Counted {T : Type 0} (eq : T → T → Bool) (old : FrequentState T) (x : T) (w : ℕ) (new : FrequentState T) : Type 0 where
+  pub low : (y : T) → count_of eq new.counters y ≤ count_of eq old.counters y + cond (eq x y) w 0
+  pub high : (y : T) → count_of eq old.counters y + cond (eq x y) w 0 + old.error ≤ count_of eq new.counters y + new.error
+
+pub counted : {T : Type 0} {eq : T → T → Bool} → IsEquivalence eq → (old new : FrequentState T) (x : T) (w : ℕ) → IsState eq old → Steps eq old x w new → Counted eq old x w new
+counted {eq = eq} laws old new x w ok step =
+    let c1 = put eq old.counters x w in
+    let apart = IsDistinct-put laws old.counters x w ok.distinct in
+    let added = λ (y : _). count_of-put laws old.counters x w y in
+    let moved = λ (p : IsPermutation c1 new.counters) (y : _). count_of-permutation laws c1 new.counters y apart p in
+    by_cases (cases_lt (capacity old.size) (length c1))
+    (λ over. by_cases (cases_lt old.size old.max_size)
+    (λ below. let d = step.doubled over below in record { low = λ y. grind (arith, moved d.counters y, added y); high = λ y. grind (arith, moved d.counters y, added y, d.error) })
+    (λ at.
+    let d = step.purge over (omega (arith, ok.within)) in
+    let left = λ (y : _). count_of-permutation laws (purged d.m c1) new.counters y (IsDistinct-purged laws d.m c1 apart) d.left.counters ∙ count_of-purged laws d.m c1 y apart in
+    record { low = λ y. grind (arith, left y, added y); high = λ y. grind (arith, left y, added y, d.left.error) }))
+    (λ room. let d = step.kept room in record { low = λ y. grind (arith, moved d.counters y, added y); high = λ y. grind (arith, moved d.counters y, added y, d.error) })
+
+-- no size that took part is greater than the sketch's own
+pub least_le_own : {T : Type 0} (h : FrequentHistory T) → least_size h ≤ own_size h
+least_le_own (New m) = omega arith
+least_le_own (Update h x w) = least_le_own h
+least_le_own (Merge h g) = omega (arith, least_le_own h)
+least_le_own (Reset h) = omega arith
+least_le_own (Restored h) = least_le_own h
+
+-- every tracked item has a true weight above 0, so it is covered
+exact_after : {T : Type 0} {eq : T → T → Bool} → IsEquivalence eq → (old new : FrequentState T) (x : T) (w : ℕ) → 0 < w → IsState eq old → Steps eq old x w new → (h : FrequentHistory T) → StandsFor eq old h → (few : List T) → length few ≤ 3 * least_size h / 4 → Covers eq few (Update h x w) → new.error ≡ 0
+exact_after {eq = eq} laws old new x w pos ok step h s few short covers =
+    let c1 = put eq old.counters x w in
+    let apart = IsDistinct-put laws old.counters x w ok.distinct in
+    let positive = positive-put eq old.counters x w pos ok.positive in
+    let none : old.error ≡ 0 = s.exact few short (λ y p. covers y (omega arith)) in
+    let true_of = λ (y : _). count_of-put laws old.counters x w y in
+    let fits : length (keys_of c1) ≤ length few = length-le_from_is_member laws (keys_of c1) few apart (λ q there. covers q (grind (arith, positive_from_tracked eq c1 q positive there, true_of q, s.at_least q))) in
+    by_cases (cases_lt (capacity old.size) (length c1))
+    (λ over. by_cases (cases_lt old.size old.max_size)
+    (λ below. omega (arith, (step.doubled over below).error, none))
+    (λ at. absurd (omega (arith, least_le_own h, length-keys_of c1))))
+    (λ room. omega (arith, (step.kept room).error, none))
+
+pub stands_after : {T : Type 0} {eq : T → T → Bool} → IsEquivalence eq → (old new : FrequentState T) (x : T) (w : ℕ) → 0 < w → IsState eq old → Steps eq old x w new → (h : FrequentHistory T) → StandsFor eq old h → StandsFor eq new (Update h x w)
+stands_after {eq = eq} laws old new x w pos ok step h s =
+    let now = counted laws old new x w ok step in
+    record {
+      max_size = step.max_size ∙ s.max_size;
+      total = step.total ∙ ap (λ n. n + w) s.total;
+      at_least = λ y. omega (arith, now.low y, s.at_least y);
+      at_most = λ y. omega (arith, now.high y, s.at_most y);
+      exact = λ few short covers. exact_after laws old new x w pos ok step h s few short covers;
+    }

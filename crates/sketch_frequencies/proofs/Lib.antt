@@ -1,0 +1,16 @@
+pub mod Cases
+pub mod Descents
+pub mod Enclosure
+pub mod Estimates
+pub mod Filters
+pub mod Lookups
+pub mod Middle
+pub mod Orders
+pub mod Parts
+pub mod Powers
+pub mod Purges
+pub mod Puts
+pub mod Reports
+pub mod States
+pub mod Tail
+pub mod Walks

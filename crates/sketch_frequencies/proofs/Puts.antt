@@ -1,0 +1,119 @@
+-- What `put` does to the keys, the counts and the sums.
+use Rattle.std.proofs.Common.{◌≡◌, ℕ, ◌+◌, ◌<◌, ◌≤◌, Bool, true, false, cond, not, List, [], ◌∷◌, ◌++◌, length, get_or, None, Some, refl, ap, sym, arith, zero, suc, position}
+use Rattle.std.proofs.Math.ListN.{set}
+use Rattle.std.proofs.lemmas.Bool.{false≢true}
+use Rattle.std.specs.Cmp.{IsEquivalence}
+use Rattle.std.specs.List.{IsDistinct, list_any, position_or_len, All}
+use Rattle.std.specs.Map.{lookup, keys_of}
+use Rattle.std.proofs.lemmas.Grind.{common_steps}
+use Rattle.std.proofs.lemmas.Map.Keys.{IsDistinct-push}
+use Rattle.std.proofs.lemmas.List.Quantifiers.{position-Some}
+use Rattle.std.proofs.lemmas.List.Sums.{prefix_len-le-length, sum_by-cons}
+use Rattle.std.proofs.lemmas.List.Elements.{All-cons, All-nil, All-head, All-tail}
+use Rattle.sketch_frequencies.specs.Tables.{count_of, is_tracked, put, sum_of, sum_outside}
+use Rattle.sketch_frequencies.proofs.Cases.{by_test}
+
+-- a write at the item's place
+pub put_at : {T : Type 0} (eq : T → T → Bool) (es : List (T × ℕ)) (x : T) (w i : ℕ) (r : T × ℕ) → i < length es → r ≡ get_or es i r → eq x r.0 ≡ true → ((k : ℕ) → k < i → eq x (get_or es k r).0 ≡ false) → set es i (r.0, r.1 + w) ≡ put eq es x w
+put_at eq [] x w i r h e t f = absurd (omega arith)
+put_at eq (e ∷ es) x w zero r h is t f = grind (arith, is, t)
+put_at eq (e ∷ es) x w (suc i) r h is t f = rw (f 0 (omega arith)) (ap (λ l. e ∷ l) (put_at eq es x w i r (omega arith) is t (λ k l. f (suc k) (omega arith))))
+
+-- a push of an item that is not there
+pub put_absent : {T : Type 0} (eq : T → T → Bool) (es : List (T × ℕ)) (x : T) (w : ℕ) → lookup (eq x) es ≡ None → put eq es x w ≡ es ++ (x, w) ∷ []
+put_absent eq [] x w h = refl
+put_absent eq (e ∷ es) x w h = grind (arith, put_absent eq es x w)
+
+-- the keys
+pub keys_of-put : {T : Type 0} (eq : T → T → Bool) (es : List (T × ℕ)) (x : T) (w : ℕ) → keys_of (put eq es x w) ≡ cond (is_tracked eq es x) (keys_of es) (keys_of es ++ x ∷ [])
+keys_of-put eq [] x w = refl
+keys_of-put eq (e ∷ es) x w = grind (arith, keys_of-put eq es x w)
+
+pub is_tracked-keys : {T : Type 0} (eq : T → T → Bool) (es : List (T × ℕ)) (x : T) → is_tracked eq es x ≡ list_any (eq x) (keys_of es)
+is_tracked-keys eq [] x = refl
+is_tracked-keys eq (e ∷ es) x = grind (arith, is_tracked-keys eq es x)
+
+push_or_not : {T : Type 0} {eq : T → T → Bool} → IsEquivalence eq → (ks : List T) (x : T) → IsDistinct eq ks → IsDistinct eq (cond (list_any (eq x) ks) ks (ks ++ x ∷ []))
+push_or_not {eq = eq} laws ks x h = by_test (list_any (eq x) ks) (λ b. IsDistinct eq (cond b ks (ks ++ x ∷ []))) (λ _. h) (λ absent. IsDistinct-push laws ks x h absent)
+
+pub IsDistinct-put : {T : Type 0} {eq : T → T → Bool} → IsEquivalence eq → (es : List (T × ℕ)) (x : T) (w : ℕ) → IsDistinct eq (keys_of es) → IsDistinct eq (keys_of (put eq es x w))
+IsDistinct-put {eq = eq} laws es x w h = rw (keys_of-put eq es x w) (rw (is_tracked-keys eq es x) (push_or_not laws (keys_of es) x h))
+
+pub length-put : {T : Type 0} (eq : T → T → Bool) (es : List (T × ℕ)) (x : T) (w : ℕ) → length (put eq es x w) ≡ cond (is_tracked eq es x) (length es) (length es + 1)
+length-put eq [] x w = refl
+length-put eq (e ∷ es) x w = grind (arith, length-put eq es x w)
+
+pub length_put_le : {T : Type 0} (eq : T → T → Bool) (es : List (T × ℕ)) (x : T) (w : ℕ) → length (put eq es x w) ≤ length es + 1
+length_put_le eq es x w = grind (arith, length-put eq es x w)
+
+-- each count
+pub count_of-put : {T : Type 0} {eq : T → T → Bool} → IsEquivalence eq → (es : List (T × ℕ)) (x : T) (w : ℕ) (y : T) → count_of eq (put eq es x w) y ≡ cond (eq x y) (count_of eq es y + w) (count_of eq es y)
+count_of-put laws [] x w y = grind (arith, laws.symm)
+count_of-put laws (e ∷ es) x w y = grind (arith, count_of-put laws es x w y, laws.symm, laws.congr)
+
+-- what the item's first entry says
+pub lookup_at : {T : Type 0} (eq : T → T → Bool) (es : List (T × ℕ)) (x : T) (i : ℕ) (r : T × ℕ) → i < length es → r ≡ get_or es i r → eq x r.0 ≡ true → ((k : ℕ) → k < i → eq x (get_or es k r).0 ≡ false) → lookup (eq x) es ≡ Some r.1
+lookup_at eq [] x i r h e t f = absurd (omega arith)
+lookup_at eq (e ∷ es) x zero r h is t f = grind (arith, is, t)
+lookup_at eq (e ∷ es) x (suc i) r h is t f = rw (f 0 (omega arith)) (lookup_at eq es x i r (omega arith) is t (λ k l. f (suc k) (omega arith)))
+
+-- a search that hits: the write there is `put`, and the count is the one there
+pub record Found {T : Type 0} (eq : T → T → Bool) (es : List (T × ℕ)) (x : T) (i : ℕ) (r : T × ℕ) : Type 0 where
+  pub written : (w : ℕ) → set es i (r.0, r.1 + w) ≡ put eq es x w
+  pub looked_up : lookup (eq x) es ≡ Some r.1
+
+pub found : {T : Type 0} (eq : T → T → Bool) (es : List (T × ℕ)) (x : T) (i : ℕ) (r : T × ℕ) → Some i ≡ position (λ e. eq x e.0) es → r ≡ get_or es i r → Found eq es x i r
+found eq es x i r h is =
+    let at = position-Some (λ e. eq x e.0) es i r (sym h) in
+    let t : eq x r.0 ≡ true = rw is at.1 in
+    record {
+      written = λ w. put_at eq es x w i r at.0 is t at.2;
+      looked_up = lookup_at eq es x i r at.0 is t at.2;
+    }
+
+-- a search that misses
+missed : {T : Type 0} (eq : T → T → Bool) (es : List (T × ℕ)) (x : T) → position_or_len (λ e. eq x e.0) es ≡ length es → lookup (eq x) es ≡ None
+missed eq [] x h = refl
+missed eq (e ∷ es) x h = grind (arith, missed eq es x, prefix_len-le-length (λ e. not (eq x e.0)) es)
+
+pub lookup_missed : {T : Type 0} (eq : T → T → Bool) (es : List (T × ℕ)) (x : T) → None ≡ position (λ e. eq x e.0) es → lookup (eq x) es ≡ None
+lookup_missed eq es x h = missed eq es x (grind (arith, common_steps, h, prefix_len-le-length (λ e. not (eq x e.0)) es))
+
+-- the sums
+pub same_set_test : {T : Type 0} {eq : T → T → Bool} → IsEquivalence eq → (set : List T) (x y : T) → eq x y ≡ true → list_any (eq x) set ≡ list_any (eq y) set
+same_set_test laws [] x y h = refl
+same_set_test laws (z ∷ set) x y h = rw (laws.congr x y z h, same_set_test laws set x y h) refl
+
+pub count_le_sum : {T : Type 0} (eq : T → T → Bool) (es : List (T × ℕ)) (x : T) → count_of eq es x ≤ sum_of es
+count_le_sum eq [] x = omega arith
+count_le_sum eq (e ∷ es) x = grind (arith, count_le_sum eq es x, sum_by-cons (λ (e : _ × ℕ). e.1) e es)
+
+pub sum_of-put : {T : Type 0} (eq : T → T → Bool) (es : List (T × ℕ)) (x : T) (w : ℕ) → sum_of (put eq es x w) ≡ sum_of es + w
+sum_of-put eq [] x w = refl
+sum_of-put {T} eq (e ∷ es) x w =
+    let f : T × ℕ → ℕ = λ e. e.1 in
+    by_test (eq x e.0) (λ b. sum_of (cond b ((e.0, e.1 + w) ∷ es) (e ∷ put eq es x w)) ≡ sum_of (e ∷ es) + w)
+    (λ _. omega (arith, sum_by-cons f (e.0, e.1 + w) es, sum_by-cons f e es))
+    (λ _. omega (arith, sum_by-cons f e (put eq es x w), sum_by-cons f e es, sum_of-put eq es x w))
+
+pub sum_outside-put : {T : Type 0} {eq : T → T → Bool} → IsEquivalence eq → (set : List T) (es : List (T × ℕ)) (x : T) (w : ℕ) → sum_outside eq set (put eq es x w) ≡ sum_outside eq set es + cond (list_any (eq x) set) 0 w
+sum_outside-put laws set [] x w = refl
+sum_outside-put {T} {eq} laws set (e ∷ es) x w =
+    let f : T × ℕ → ℕ = λ e. cond (list_any (eq e.0) set) 0 e.1 in
+    by_test (eq x e.0) (λ b. eq x e.0 ≡ b → sum_outside eq set (cond b ((e.0, e.1 + w) ∷ es) (e ∷ put eq es x w)) ≡ sum_outside eq set (e ∷ es) + cond (list_any (eq x) set) 0 w)
+    (λ _ yes'. let same = same_set_test laws set x e.0 yes' in grind (arith, sum_by-cons f (e.0, e.1 + w) es, sum_by-cons f e es, same))
+    (λ _ _. omega (arith, sum_by-cons f e (put eq es x w), sum_by-cons f e es, sum_outside-put laws set es x w)) refl
+
+pub positive-put : {T : Type 0} (eq : T → T → Bool) (es : List (T × ℕ)) (x : T) (w : ℕ) → 0 < w → All (λ e. 0 < e.1) es → All (λ e. 0 < e.1) (put eq es x w)
+positive-put {T} eq [] x w h all = let P : T × ℕ → Type 0 = λ e. 0 < e.1 in All-cons P (x, w) [] h (All-nil P)
+positive-put eq (e ∷ es) x w h all = by_test (eq x e.0) (λ b. All (λ e. 0 < e.1) (cond b ((e.0, e.1 + w) ∷ es) (e ∷ put eq es x w))) (λ _. All-cons (λ e. 0 < e.1) _ es (omega (arith, All-head (λ e. 0 < e.1) e es all)) (All-tail (λ e. 0 < e.1) e es all)) (λ _. All-cons (λ e. 0 < e.1) e _ (All-head (λ e. 0 < e.1) e es all) (positive-put eq es x w h (All-tail (λ e. 0 < e.1) e es all)))
+
+-- where each count is above 0, a count of 0 says that the item is absent
+pub absent_from_zero : {T : Type 0} (eq : T → T → Bool) (es : List (T × ℕ)) (x : T) → All (λ e. 0 < e.1) es → count_of eq es x ≡ 0 → is_tracked eq es x ≡ false
+absent_from_zero eq [] x all h = refl
+absent_from_zero eq (e ∷ es) x all h = grind (arith, absent_from_zero eq es x (All-tail (λ e. 0 < e.1) e es all), All-head (λ e. 0 < e.1) e es all, h)
+
+-- a tracked item has a count above 0
+pub positive_from_tracked : {T : Type 0} (eq : T → T → Bool) (es : List (T × ℕ)) (y : T) → All (λ e. 0 < e.1) es → list_any (eq y) (keys_of es) ≡ true → 0 < count_of eq es y
+positive_from_tracked eq [] y all h = absurd (false≢true h)
+positive_from_tracked eq (e ∷ es) y all h = grind (arith, positive_from_tracked eq es y (All-tail (λ e. 0 < e.1) e es all), All-head (λ e. 0 < e.1) e es all, h)

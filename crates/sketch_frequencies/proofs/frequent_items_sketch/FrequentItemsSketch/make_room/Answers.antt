@@ -1,0 +1,53 @@
+use Rattle.std.proofs.Common.{◌<◌, ◌*◌, arith, ap, sym, ◌∙◌, refl, subst}
+use Rattle.std.proofs.lemmas.Bool.{false≢true}
+use Rattle.sketch_frequencies.specs.State.{FrequentState, must_double}
+use Rattle.sketch_frequencies.specs.Growth.{MakesRoom}
+use Rattle.sketch_frequencies.proofs.Parts.{due_from_parts}
+use Rattle.sketch_frequencies.proofs.Powers.{power_twice, doubled_fits}
+use Rattle.sketch_frequencies.proofs.Puts.{absent_from_zero}
+use Rattle.sketch_frequencies.proofs.States.{state_made, length_le_sum}
+use Rattle.sketch_frequencies.proofs.frequent_items_sketch.FrequentItemsSketch.make_room.Goals as goal
+
+pub resize-requires-clause-power : goal.resize-requires-clause-power
+resize-requires-clause-power g c = rw c.len-size.ensures.size (power_twice c.self.inside.map.size c.self.invariant.size_power)
+
+pub resize-requires-clause-limit : goal.resize-requires-clause-limit
+resize-requires-clause-limit g c =
+    let below : c.self.inside.map.size < c.self.inside.max_size = omega (arith, c.if-size-self.false, c.len-size.ensures.size, c.self.invariant.within) in
+    omega (arith, doubled_fits c.self.inside.map.size c.self.inside.max_size c.self.invariant.size_power c.self.invariant.max_size_power below, c.len-size.ensures.size, c.self.invariant.greatest)
+
+pub returns-in_err-resize-clause-succeeds : goal.returns-in_err-resize-clause-succeeds
+returns-in_err-resize-clause-succeeds g c = λ not_due.
+    let old : FrequentState g.row.T.Denot = record { counters = c.self.inside.map.entries; error = c.self.inside.error; total = c.self.inside.total; max_size = c.self.inside.max_size; size = c.self.inside.map.size } in
+    let eq = g.T.PartialEq.eq in
+    let absent = absent_from_zero eq old.counters c.args.item.now c.self.invariant.positive (sym c.get.ensures ∙ c.if-get-ne0.false) in
+    let due = due_from_parts eq old c.args.item.now absent (omega (arith, c.if-num_active-size.false, c.num_active.ensures.active, c.len-size.ensures.size)) (omega (arith, c.if-size-self.false, c.len-size.ensures.size, c.self.invariant.within)) in
+    absurd (false≢true (sym not_due ∙ (ap (λ s. must_double eq s c.args.item.now) (sym c.self.view_is) ∙ due)))
+
+pub invariant_of-self-2 : goal.invariant_of-self-2
+invariant_of-self-2 g c =
+    let old : FrequentState g.row.T.Denot = record { counters = c.self.inside.map.entries; error = c.self.inside.error; total = c.self.inside.total; max_size = c.self.inside.max_size; size = c.self.inside.map.size } in
+    let below : old.size < old.max_size = omega (arith, c.if-size-self.false, c.len-size.ensures.size, c.self.invariant.within) in
+    let fits = doubled_fits old.size old.max_size c.self.invariant.size_power c.self.invariant.max_size_power below in
+    state_made g.met.T.Eq.laws old c.resize.new.self c.self.invariant c.resize.ensures.entries (c.in_ok-resize.ensures.ok ∙ ap (λ n. 2 * n) c.len-size.ensures.size) fits (omega (arith, c.if-num_active-size.false, c.num_active.ensures.active, c.len-size.ensures.size, length_le_sum old.counters c.self.invariant.positive, c.self.invariant.sum, c.self.invariant.least))
+
+pub returns-clause-ok : goal.returns-clause-ok
+returns-clause-ok g c =
+    let old : FrequentState g.row.T.Denot = record { counters = c.self.inside.map.entries; error = c.self.inside.error; total = c.self.inside.total; max_size = c.self.inside.max_size; size = c.self.inside.map.size } in
+    let eq = g.T.PartialEq.eq in
+    let t = c.resize.new.self in
+    let new : FrequentState g.row.T.Denot = record { counters = t.entries; error = old.error; total = old.total; max_size = old.max_size; size = t.size } in
+    let absent = absent_from_zero eq old.counters c.args.item.now c.self.invariant.positive (sym c.get.ensures ∙ c.if-get-ne0.false) in
+    let due = due_from_parts eq old c.args.item.now absent (omega (arith, c.if-num_active-size.false, c.num_active.ensures.active, c.len-size.ensures.size)) (omega (arith, c.if-size-self.false, c.len-size.ensures.size, c.self.invariant.within)) in
+    let made : MakesRoom eq old c.args.item.now new = record {
+      counters = c.resize.ensures.entries;
+      error = refl;
+      total = refl;
+      max_size = refl;
+      doubled = λ _. c.in_ok-resize.ensures.ok ∙ ap (λ n. 2 * n) c.len-size.ensures.size;
+      stays = λ not_due. absurd (false≢true (sym not_due ∙ due));
+    } in
+    subst (λ s. MakesRoom eq s c.args.item.now new) c.self.view_is made
+
+pub returns-clause-state : goal.returns-clause-state
+returns-clause-state g c = invariant_of-self-2 g c

@@ -1,0 +1,13 @@
+pub mod Above
+pub mod Errors
+pub mod Growth
+pub mod History
+pub mod Pairs
+pub mod RowValue
+pub mod Rows
+pub mod Sizes
+pub mod Stands
+pub mod State
+pub mod Steps
+pub mod Tables
+pub mod Walk

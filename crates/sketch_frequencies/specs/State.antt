@@ -1,0 +1,47 @@
+-- A frequent-items sketch as its counters and four numbers.
+use Rattle.std.specs.Prelude.{◌≡◌, ℕ, ◌+◌, ◌*◌, ◌/◌, ◌^◌, ◌<◌, ◌≤◌, min, nat_lt, nat_le, not, ◌&&◌, Bool, IsTrue, List, [], length, All, if◌then◌else◌}
+use Rattle.std.specs.Int.{is_power_of_two}
+use Rattle.std.specs.List.{IsDistinct}
+use Rattle.std.specs.Map.{keys_of}
+use Rattle.sketch_frequencies.specs.Tables.{count_of, is_tracked, sum_of}
+
+-- the counters in some order, the error, the total, and the greatest and the current size of the table
+pub record FrequentState (T : Type 0) : Type 0 where
+  pub counters : List (T × ℕ)
+  pub error : ℕ
+  pub total : ℕ
+  pub max_size : ℕ
+  pub size : ℕ
+
+-- how many counters a table of this size may hold: three quarters
+abbrev pub capacity : ℕ → ℕ
+capacity size = size * 3 / 4
+
+-- how many counters a purge samples, by the greatest size
+abbrev pub sample_size : ℕ → ℕ
+sample_size max_size = min 1024 (capacity max_size)
+
+-- what holds of every sketch
+pub record IsState {T : Type 0} (eq : T → T → Bool) (s : FrequentState T) : Type 0 where
+  pub distinct : IsDistinct eq (keys_of s.counters)
+  pub positive : All (λ e. 0 < e.1) s.counters
+  pub few : length s.counters ≤ capacity s.size
+  pub sum : sum_of s.counters + s.error ≤ s.total
+  pub least : 8 ≤ s.size
+  pub within : s.size ≤ s.max_size
+  pub greatest : s.max_size ≤ 2 ^ 30
+  pub size_power : IsTrue (is_power_of_two s.size)
+  pub max_size_power : IsTrue (is_power_of_two s.max_size)
+  pub empty : s.total ≡ 0 → s.size ≡ 8
+
+-- the sketch into which nothing was fed
+abbrev pub empty_state : {T : Type 0} → ℕ → FrequentState T
+empty_state max_size = record { counters = []; error = 0; total = 0; max_size = max_size; size = 8 }
+
+-- the best single guess of an item's weight: its count and the error where it is tracked, else 0
+abbrev pub estimate_of : {T : Type 0} → (T → T → Bool) → FrequentState T → T → ℕ
+estimate_of eq s x = if is_tracked eq s.counters x then count_of eq s.counters x + s.error else 0
+
+-- the table must double before the item is added: it is new, all the counters that the table may hold are taken, and the table may grow
+abbrev pub must_double : {T : Type 0} → (T → T → Bool) → FrequentState T → T → Bool
+must_double eq s x = not (is_tracked eq s.counters x) && nat_le (capacity s.size) (length s.counters) && nat_lt s.size s.max_size

@@ -1,0 +1,22 @@
+-- A walk over a table, as a caller sees it.
+use Rattle.std.specs.Prelude.{◌≡◌, ℕ, ◌≤◌, List, ◌++◌, Option, option_to_list, option_map}
+use Rattle.std.specs.Borrow.{Bor}
+use Rattle.std.specs.Iterator.{YieldsFirstBy}
+
+-- the entries given so far and those that are still to come, each in the walk's order, the slots looked at so far, and the size of the table
+pub record Walk (T : Type 0) : Type 0 where
+  pub given : List (T × ℕ)
+  pub rest : List (T × ℕ)
+  pub looked : ℕ
+  pub size : ℕ
+
+-- the entry that an item of the walk shows
+abbrev pub entry_of : {T : Type 0} → Bor T × ℕ → T × ℕ
+entry_of item = (item.0.now, item.1)
+
+-- the first of what was left was given, or nothing was left; the slots looked at only grow in number
+abbrev pub WalkGives : {T : Type 0} → Walk T → Option (Bor T × ℕ) → Walk T → Type 0
+WalkGives {T} old item new =
+    YieldsFirstBy entry_of (λ (walk : Walk T). walk.rest) old item new
+    × (new.given ≡ old.given ++ option_to_list (option_map entry_of item))
+    × (new.size ≡ old.size) × (old.looked ≤ new.looked)

@@ -1,0 +1,26 @@
+//! A sketch of the items that weigh most in a stream.
+//!
+//! [`FrequentItemsSketch`] adds up the weights of a stream's items in bounded memory. It never holds more counters than
+//! three quarters of its greatest table size, so it drops the light items now and then; what it takes from every
+//! counter to do so is its error. Each item's true weight lies between `lower_bound` and `upper_bound`, and the error is
+//! paid for by the tail: whichever few items are set aside, it is at most the weight of all the others divided by what
+//! is left of half a purge's sample.
+//!
+//! [`ReversePurgeItemHashMap`] is the table of counters under it.
+#![tactic(auto)]
+
+mod error;
+mod error_type;
+mod frequent_items_sketch;
+mod reverse_purge_item_hash_map;
+mod reverse_purge_item_iter;
+mod row;
+#[cfg(test)]
+mod tests;
+
+pub use error::{Error, ErrorKind, Fault};
+pub use error_type::ErrorType;
+pub use frequent_items_sketch::FrequentItemsSketch;
+pub use reverse_purge_item_hash_map::ReversePurgeItemHashMap;
+pub use reverse_purge_item_iter::ReversePurgeItemIter;
+pub use row::Row;

@@ -1,0 +1,206 @@
+//! The table of counters.
+ghost use Rattle.std.specs.Prelude.{◌≡◌, ℕ, ◌+◌, ◌-◌, ◌*◌, ◌/◌, ◌<◌, ◌≤◌, ◌^◌, true, false, [], length, min, map, All, position, IfOk, IfErr, IsTrue, IsPermutation, OnOk, OnErr};
+ghost use Rattle.std.specs.Int.{is_power_of_two};
+ghost use Rattle.std.specs.List.{IsDistinct};
+ghost use Rattle.std.specs.Map.{keys_of};
+ghost use Rattle.sketch_frequencies.specs.Errors.{no_memory};
+ghost use Rattle.sketch_frequencies.specs.Tables.{count_of, is_tracked, put, purged, IsSampleMiddle};
+
+use crate::error::Error;
+use crate::reverse_purge_item_iter::ReversePurgeItemIter;
+use arrayvec::ArrayVec;
+use std::alloc::Global;
+use std::hash::Hash;
+use std::marker::Model;
+
+/// The most counts that a purge samples.
+const MAX_SAMPLE_SIZE: usize = 1024;
+
+/// A finite map from items to counts of zero or more, in a table of slots that is never full.
+///
+/// Items are told apart by `==` alone. A purge takes a middle count of a sample from every count at once and drops
+/// what is left without one.
+#[derive(Debug, Drop)]
+pub struct ReversePurgeItemHashMap<T: Eq + Hash + Drop> {
+    entries: Vec<(T, u64)>,
+    size: usize,
+}
+
+impl<T: Eq + Hash + Drop> Model for ReversePurgeItemHashMap<T> {
+    ghost use Rattle.sketch_frequencies.specs.Tables.{Table};
+    ghost use Rattle.sketch_frequencies.specs.Pairs.{IsPairs};
+    ghost use Rattle.std.specs.Prelude.{vec_capacity};
+
+    ghost Value = { Table T };
+
+    ghost view = { λ a. record { entries = a.entries.items; size = a.size } };
+
+    ghost invariant = { λ a. IsPairs T.eq a.entries.items a.size (vec_capacity a.entries) };
+}
+
+impl<T: Eq + Hash + Drop> ReversePurgeItemHashMap<T> {
+    /// An empty map in a table of `map_size` slots, a power of two of at most 2^30.
+    ///
+    /// Answers `NoMemory` where there is no memory for the table.
+    pub fn new(alloc: Global, map_size: usize) -> Result<Self, Error>
+        requires power { IsTrue (is_power_of_two map_size) }
+        requires limit { map_size ≤ 2 ^ 30 }
+        ensures ok { IfOk result (λ map. map ≡ record { entries = []; size = map_size }) }
+        ensures err { IfErr result (λ e. e ≡ no_memory) }
+    {
+        let entries = Vec::with_capacity(alloc, map_size)?;
+        Ok(ReversePurgeItemHashMap {
+            entries,
+            size: map_size,
+        })
+    }
+
+    /// The count of the item, 0 where it is absent.
+    pub fn get(&self, item: &T) -> u64
+        ensures { result ≡ count_of T.eq self.now.entries item.now }
+    {
+        for entry in &self.entries {
+            if *item == entry.0 {
+                return entry.1;
+            }
+        }
+        0
+    }
+
+    /// Adds the amount to the item's count, or inserts the item with it where it is absent, also an amount of 0.
+    ///
+    /// Where the item is absent a slot has to stay free behind it, and where it is present the sum has to fit.
+    pub fn adjust_or_put_value(&mut self, item: T, adjust_amount: u64)
+        requires room { is_tracked T.eq self.old.entries item ≡ false → length self.old.entries + 1 < self.old.size }
+        requires fits { is_tracked T.eq self.old.entries item ≡ true → count_of T.eq self.old.entries item + adjust_amount < 2 ^ 64 }
+        ensures entries { IsPermutation (put T.eq self.old.entries item adjust_amount) self.new.entries }
+        ensures size { self.new.size ≡ self.old.size }
+        ensures distinct { IsDistinct T.eq (keys_of self.new.entries) }
+    {
+        match self.position_of(&item) {
+            Some(place) => {
+                self.entries[place].1 += adjust_amount;
+            }
+            None => {
+                self.entries.push_reserved((item, adjust_amount));
+            }
+        }
+    }
+
+    /// Takes a middle count m of a sample from every count, drops the entries at or below m, and answers m.
+    ///
+    /// The sample has `min(sample_size, active, 1024)` entries, and m is the count at half its length in ascending
+    /// order. Which entries are sampled is left open. There has to be an entry, and a `sample_size` above 0.
+    pub fn purge(&mut self, sample_size: usize) -> u64
+        requires active { 0 < length self.old.entries }
+        requires sample { 0 < sample_size }
+        ensures middle { IsSampleMiddle (min sample_size (min (length self.old.entries) 1024)) self.old.entries result }
+        ensures entries { IsPermutation (purged result self.old.entries) self.new.entries }
+        ensures size { self.new.size ≡ self.old.size }
+        ensures distinct { IsDistinct T.eq (keys_of self.new.entries) }
+        ensures room { length self.new.entries + min sample_size (min (length self.old.entries) 1024) / 2 + 1 ≤ length self.old.entries }
+    {
+        let middle = middle_of(&self.entries, sample_size);
+        self.entries.retain(|entry| entry.1 > middle);
+        lower(&mut self.entries, middle);
+        middle
+    }
+
+    /// The same map in a table of `new_size` slots, a power of two of at most 2^30 above the number of entries.
+    ///
+    /// Answers `NoMemory` where there is no memory for the table, and then nothing has changed.
+    pub fn resize(&mut self, new_size: usize) -> Result<(), Error>
+        requires power { IsTrue (is_power_of_two new_size) }
+        requires limit { new_size ≤ 2 ^ 30 }
+        requires room { length self.old.entries < new_size }
+        ensures entries { IsPermutation self.old.entries self.new.entries }
+        ensures ok { OnOk result (self.new.size ≡ new_size) }
+        ensures err { OnErr result (self.new ≡ self.old) }
+        ensures memory { IfErr result (λ e. e ≡ no_memory) }
+        ensures distinct { IsDistinct T.eq (keys_of self.new.entries) }
+    {
+        let active = self.entries.len();
+        self.entries.reserve(new_size - active)?;
+        self.size = new_size;
+        Ok(())
+    }
+
+    /// The number of slots, at most 2^30.
+    pub fn len(&self) -> usize
+        ensures size { result ≡ self.now.size }
+        ensures limit { result ≤ 2 ^ 30 }
+    {
+        self.size
+    }
+
+    /// The number of slots as a power of two.
+    pub fn lg_length(&self) -> u8
+        ensures { 2 ^ result ≡ self.now.size }
+    {
+        self.size.ilog2() as u8
+    }
+
+    /// Three quarters of the slots: how many entries a sketch keeps in a table of this size.
+    pub fn capacity(&self) -> usize
+        ensures { result ≡ self.now.size * 3 / 4 }
+    {
+        self.size * 3 / 4
+    }
+
+    /// The number of entries.
+    pub fn num_active(&self) -> usize
+        ensures active { result ≡ length self.now.entries }
+        ensures room { result < self.now.size }
+    {
+        self.entries.len()
+    }
+
+    /// A walk that gives every entry once, in an order that is left open.
+    pub fn iter(&self) -> ReversePurgeItemIter<'_, T>
+        ensures entries { IsPermutation self.now.entries result.rest }
+        ensures distinct { IsDistinct T.eq (keys_of result.rest) }
+        ensures given { result.given ≡ [] }
+        ensures looked { result.looked ≡ 0 }
+        ensures size { result.size ≡ self.now.size }
+    {
+        ReversePurgeItemIter::new(self.entries.as_slice(), self.size)
+    }
+
+    /// The allocator of the table.
+    pub(crate) fn allocator(&self) -> Global {
+        *self.entries.allocator()
+    }
+
+    /// Where the item's entry stands.
+    fn position_of(&self, item: &T) -> Option<usize>
+        ensures { result ≡ position (λ e. T.eq item.now e.0) self.now.entries }
+    {
+        self.entries.iter().position(|entry| *item == entry.0)
+    }
+}
+
+/// A middle count of the first entries.
+fn middle_of<T>(entries: &[(T, u64)], sample_size: usize) -> u64
+    requires active { 0 < length entries.now }
+    requires sample { 0 < sample_size }
+    ensures { IsSampleMiddle (min sample_size (min (length entries.now) 1024)) entries.now result }
+{
+    let mut sample: ArrayVec<u64, MAX_SAMPLE_SIZE> = ArrayVec::new_in(());
+    let size = sample_size.min(entries.len().min(MAX_SAMPLE_SIZE));
+    for entry in &entries[..size] {
+        sample.push(entry.1);
+    }
+    let counts = sample.as_mut_slice();
+    counts.sort_unstable();
+    counts[size / 2]
+}
+
+/// Takes `middle` from each count.
+fn lower<T>(entries: &mut [(T, u64)], middle: u64)
+    requires { All (λ e. middle ≤ e.1) entries.old }
+    ensures { entries.new ≡ map (λ e. (e.0, e.1 - middle)) entries.old }
+{
+    for entry in entries.iter_mut() {
+        entry.1 -= middle;
+    }
+}

@@ -1,0 +1,65 @@
+//! The rows of a report.
+ghost use Rattle.std.specs.Prelude.{◌≡◌};
+
+use std::marker::Model;
+
+/// A row of a report: an item with its estimated weight and the bounds of its true weight.
+#[derive(Debug, PartialEq, Eq, Drop)]
+pub struct Row<T> {
+    item: T,
+    estimate: u64,
+    upper_bound: u64,
+    lower_bound: u64,
+}
+
+impl<T> Model for Row<T> {
+    ghost use Rattle.sketch_frequencies.specs.RowValue.{RowValue};
+
+    ghost Value = { RowValue T };
+
+    ghost view = { λ r. record { item = r.item; estimate = r.estimate; upper_bound = r.upper_bound; lower_bound = r.lower_bound } };
+
+    ghost inverse = { λ v. record { item = v.item; estimate = v.estimate; upper_bound = v.upper_bound; lower_bound = v.lower_bound } };
+}
+
+impl<T> Row<T> {
+    /// A row of an item with this estimate and these bounds.
+    pub(crate) fn new(item: T, estimate: u64, upper_bound: u64, lower_bound: u64) -> Self
+        ensures { result ≡ record { item = item; estimate = estimate; upper_bound = upper_bound; lower_bound = lower_bound } }
+    {
+        Row {
+            item,
+            estimate,
+            upper_bound,
+            lower_bound,
+        }
+    }
+
+    /// The item.
+    pub fn item(&self) -> &T
+        ensures { result.now ≡ self.now.item }
+    {
+        &self.item
+    }
+
+    /// The sketch's best guess of the item's true weight.
+    pub fn estimate(&self) -> u64
+        ensures { result ≡ self.now.estimate }
+    {
+        self.estimate
+    }
+
+    /// A bound that the item's true weight does not pass.
+    pub fn upper_bound(&self) -> u64
+        ensures { result ≡ self.now.upper_bound }
+    {
+        self.upper_bound
+    }
+
+    /// A bound that the item's true weight reaches.
+    pub fn lower_bound(&self) -> u64
+        ensures { result ≡ self.now.lower_bound }
+    {
+        self.lower_bound
+    }
+}
