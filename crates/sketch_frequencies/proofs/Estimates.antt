@@ -6,7 +6,7 @@ use Rattle.sketch_frequencies.specs.Tables.{count_of}
 use Rattle.sketch_frequencies.specs.State.{FrequentState, estimate_of}
 use Rattle.sketch_frequencies.proofs.Puts.{absent_from_zero}
 
-some_from_count : (o : Option ℕ) → (unwrap_or o 0 ≡ 0 → ⊥) → is_some o ≡ true
+pub some_from_count : (o : Option ℕ) → (unwrap_or o 0 ≡ 0 → ⊥) → is_some o ≡ true
 some_from_count None h = absurd (h refl)
 some_from_count (Some v) h = refl
 

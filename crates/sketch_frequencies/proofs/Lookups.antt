@@ -1,5 +1,6 @@
 -- What an entry says of its item, and of the items before it.
-use Rattle.std.proofs.Common.{◌≡◌, ℕ, Bool, true, false, List, [], ◌∷◌, ◌++◌, Some, refl, ◌∙◌}
+use Rattle.std.proofs.Common.{◌≡◌, ℕ, Bool, true, false, List, [], ◌∷◌, ◌++◌, Some, is_some, refl, ap, sym, ◌∙◌}
+use Rattle.sketch_frequencies.specs.Tables.{is_tracked}
 use Rattle.std.specs.Cmp.{IsEquivalence}
 use Rattle.std.specs.List.{IsDistinct, AllByRecursion, list_any}
 use Rattle.std.specs.Map.{lookup, keys_of}
@@ -28,3 +29,7 @@ absent_before {eq = eq} laws (a ∷ front) e back apart =
 pub lookup_same : {T : Type 0} {eq : T → T → Bool} → IsEquivalence eq → (es : List (T × ℕ)) (x y : T) → eq x y ≡ true → lookup (eq x) es ≡ lookup (eq y) es
 lookup_same laws [] x y h = refl
 lookup_same laws (e ∷ es) x y h = rw (laws.congr x y e.0 h, lookup_same laws es x y h) refl
+
+-- and both or neither are tracked
+pub tracked_alike : {T : Type 0} {eq : T → T → Bool} → IsEquivalence eq → (es : List (T × ℕ)) (x y : T) → eq x y ≡ true → is_tracked eq es y ≡ is_tracked eq es x
+tracked_alike laws es x y h = ap is_some (sym (lookup_same laws es x y h))

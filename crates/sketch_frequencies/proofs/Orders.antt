@@ -30,7 +30,7 @@ absent_share {eq = eq} laws k y (e ∷ es) all h =
     let none = laws.congr y k e.0 h ∙ all.0 in
     sum_by-cons (share eq y) e es ∙ rw none (omega (arith, absent_share laws k y es all.1 h))
 
-share_is : {T : Type 0} (eq : T → T → Bool) (y : T) (e : T × ℕ) → share eq y e ≡ cond (eq y e.0) e.1 0
+pub share_is : {T : Type 0} (eq : T → T → Bool) (y : T) (e : T × ℕ) → share eq y e ≡ cond (eq y e.0) e.1 0
 unfolding share
 share_is eq y e = refl
 
@@ -69,7 +69,7 @@ put_tracked {eq = eq} laws (e ∷ es) x w h t =
     (λ _ is _. ap (λ l. (e.0, e.1 + w) ∷ l) (sym (bumped_none laws e.0 x w es (IsDistinct-head eq e.0 (keys_of es) h) is)))
     (λ _ _ there. ap (λ l. e ∷ l) (put_tracked laws es x w (IsDistinct-tail eq e.0 (keys_of es) h) there)) refl t
 
-none_from_is_some : (o : Option ℕ) → is_some o ≡ false → o ≡ None
+pub none_from_is_some : (o : Option ℕ) → is_some o ≡ false → o ≡ None
 none_from_is_some None h = refl
 none_from_is_some (Some v) h = absurd (false≢true (sym h))
 

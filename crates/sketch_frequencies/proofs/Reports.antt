@@ -28,11 +28,11 @@ pub record RowsSoFar {T : Type 0} (eq : T → T → Bool) (kind : ErrorType) (th
   pub once : IsDistinct eq (map (λ row. row.item) rows)
   pub whole : (x : T) → list_any (eq x) (keys_of given) ≡ true → passes kind threshold s (count_of eq s.counters x) ≡ true → list_any (λ row. eq x row.item) rows ≡ true
 
-or_true : (a : Bool) → (a || true) ≡ true
+pub or_true : (a : Bool) → (a || true) ≡ true
 or_true true = refl
 or_true false = refl
 
-or_false : (b : Bool) → (b || false) ≡ true → b ≡ true
+pub or_false : (b : Bool) → (b || false) ≡ true → b ≡ true
 or_false true h = refl
 or_false false h = h
 

@@ -1,17 +1,17 @@
 -- The two parts of an update. No public clause cites this module.
-use Rattle.std.specs.Prelude.{◌≡◌, ℕ, ◌+◌, ◌*◌, ◌<◌, ◌≤◌, Bool, true, false, length, IsPermutation}
-use Rattle.sketch_frequencies.specs.Tables.{put}
-use Rattle.sketch_frequencies.specs.State.{FrequentState, capacity, must_double}
-use Rattle.sketch_frequencies.specs.Steps.{Becomes, Purges}
+use Rattle.std.specs.Prelude.{◌≡◌, ℕ, ◌+◌, ◌*◌, ◌<◌, ◌≤◌, Bool, true, false, List, length, IsPermutation}
+use Rattle.sketch_frequencies.specs.Tables.{put, IsSameMap}
+use Rattle.sketch_frequencies.specs.State.{FrequentState, capacity, must_grow}
+use Rattle.sketch_frequencies.specs.Steps.{Becomes, Purges, StepsAlong}
 
--- new is old, in a table of twice the size where it must double for x
-pub record MakesRoom {T : Type 0} (eq : T → T → Bool) (old : FrequentState T) (x : T) (new : FrequentState T) : Type 0 where
+-- new is old, in a table of twice the size where it must grow for one more counter
+pub record MakesRoom {T : Type 0} (old new : FrequentState T) : Type 0 where
   pub counters : IsPermutation old.counters new.counters
   pub error : new.error ≡ old.error
   pub total : new.total ≡ old.total
   pub max_size : new.max_size ≡ old.max_size
-  pub doubled : must_double eq old x ≡ true → new.size ≡ 2 * old.size
-  pub stays : must_double eq old x ≡ false → new.size ≡ old.size
+  pub doubled : must_grow old ≡ true → new.size ≡ 2 * old.size
+  pub stays : must_grow old ≡ false → new.size ≡ old.size
 
 -- new is old after w was added at x, purged where that was one counter too many
 pub record Adds {T : Type 0} (eq : T → T → Bool) (old : FrequentState T) (x : T) (w : ℕ) (new : FrequentState T) : Type 0 where
@@ -19,3 +19,9 @@ pub record Adds {T : Type 0} (eq : T → T → Bool) (old : FrequentState T) (x 
   pub max_size : new.max_size ≡ old.max_size
   pub kept : length (put eq old.counters x w) ≤ capacity old.size → Becomes (put eq old.counters x w) old.error old.size new
   pub purge : capacity old.size < length (put eq old.counters x w) → Purges old (put eq old.counters x w) new
+
+-- the counters were added, one after another, with items equal to theirs
+pub record AddsCounters {T : Type 0} (eq : T → T → Bool) (old : FrequentState T) (counters : List (T × ℕ)) (new : FrequentState T) : Type 0 where
+  pub order : List (T × ℕ)
+  pub same : IsSameMap eq counters order
+  pub steps : StepsAlong eq old order new

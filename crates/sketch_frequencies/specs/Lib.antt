@@ -1,5 +1,4 @@
 pub mod Above
-pub mod Errors
 pub mod Growth
 pub mod History
 pub mod Pairs

@@ -1,7 +1,8 @@
 -- The rows of a report on a sketch.
-use Rattle.std.specs.Prelude.{◌≡◌, ℕ, ◌+◌, ◌≤◌, max, Bool, true, List, map, All, AllPairs}
+use Rattle.std.specs.Prelude.{◌≡◌, ℕ, ◌+◌, ◌<◌, ◌≤◌, max, Bool, true, List, map, All, AllPairs}
 use Rattle.std.specs.List.{list_any, IsDistinct}
 use Rattle.sketch_frequencies.specs.Above.{is_above}
+use Rattle.sketch_frequencies.specs.History.{FrequentHistory, true_weight}
 use Rattle.sketch_frequencies.specs.RowValue.{RowValue}
 use Rattle.sketch_frequencies.specs.State.{FrequentState, estimate_of}
 use Rattle.sketch_frequencies.specs.Tables.{count_of, is_tracked}
@@ -28,3 +29,11 @@ pub record ShowsExactly {T : Type 0} (eq : T → T → Bool) (kind : ErrorType) 
 -- no estimate is above the one before it
 abbrev pub Descends : {T : Type 0} → List (RowValue T) → Type 0
 Descends {T} rows = AllPairs (λ (earlier later : RowValue T). later.estimate ≤ earlier.estimate) rows
+
+-- no item of a true weight above the threshold and the error is missing
+abbrev pub MissesNone : {T : Type 0} → (T → T → Bool) → ℕ → FrequentHistory T → List (RowValue T) → Type 0
+MissesNone {T} eq floor h rows = (x : T) → floor < true_weight eq h x → list_any (λ row. eq x row.item) rows ≡ true
+
+-- every item that is shown has a true weight above the threshold and the error
+abbrev pub ShowsNoneBelow : {T : Type 0} → (T → T → Bool) → ℕ → FrequentHistory T → List (RowValue T) → Type 0
+ShowsNoneBelow eq floor h rows = All (λ row. floor < true_weight eq h row.item) rows

@@ -1,5 +1,6 @@
 -- What a sketch says of its history.
-use Rattle.std.specs.Prelude.{◌≡◌, ◌+◌, ◌-◌, ◌*◌, ◌/◌, ◌<◌, ◌≤◌, Bool, true, List, length}
+use Rattle.std.specs.Prelude.{◌≡◌, ◌+◌, ◌-◌, ◌*◌, ◌/◌, ◌<◌, ◌≤◌, Bool, true, IsTrue, List, length}
+use Rattle.std.specs.Int.{is_power_of_two}
 use Rattle.std.specs.List.{list_any}
 use Rattle.sketch_frequencies.specs.Tables.{count_of, sum_outside}
 use Rattle.sketch_frequencies.specs.History.{FrequentHistory, true_weight, total_weight, weight_outside, own_size, least_size, budget_size}
@@ -22,3 +23,7 @@ pub record StandsFor {T : Type 0} (eq : T → T → Bool) (s : FrequentState T) 
 -- the tail budget: whichever few items are set aside, the kept counts of the others and the error for each place that is left are at most the weight of the others
 abbrev pub KeepsTailBudget : {T : Type 0} → (T → T → Bool) → FrequentState T → FrequentHistory T → Type 0
 KeepsTailBudget {T} eq s h = (set : List T) → length set ≤ budget_size h → sum_outside eq set s.counters + (budget_size h - length set) * s.error ≤ weight_outside eq set h
+
+-- the least size is one that a table of a sketch may have
+abbrev pub HasTableSize : {T : Type 0} → FrequentHistory T → Type 0
+HasTableSize h = IsTrue (is_power_of_two (least_size h)) × (8 ≤ least_size h)

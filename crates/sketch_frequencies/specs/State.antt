@@ -42,6 +42,10 @@ empty_state max_size = record { counters = []; error = 0; total = 0; max_size = 
 abbrev pub estimate_of : {T : Type 0} → (T → T → Bool) → FrequentState T → T → ℕ
 estimate_of eq s x = if is_tracked eq s.counters x then count_of eq s.counters x + s.error else 0
 
--- the table must double before the item is added: it is new, all the counters that the table may hold are taken, and the table may grow
+-- the table must double for one more counter: all that it may hold are taken, and it may grow
+abbrev pub must_grow : {T : Type 0} → FrequentState T → Bool
+must_grow s = nat_le (capacity s.size) (length s.counters) && nat_lt s.size s.max_size
+
+-- the table must double before the item is added: it is new, and one more counter is too many
 abbrev pub must_double : {T : Type 0} → (T → T → Bool) → FrequentState T → T → Bool
-must_double eq s x = not (is_tracked eq s.counters x) && nat_le (capacity s.size) (length s.counters) && nat_lt s.size s.max_size
+must_double eq s x = not (is_tracked eq s.counters x) && must_grow s

@@ -1,6 +1,6 @@
 -- What an update and a merge do to a sketch. Which counters a purge samples, and the order of a merge, are open.
-use Rattle.std.specs.Prelude.{◌≡◌, ℕ, ◌+◌, ◌*◌, ◌<◌, ◌≤◌, Bool, List, [], ◌∷◌, length, IsPermutation}
-use Rattle.sketch_frequencies.specs.Tables.{put, purged, IsSampleMiddle}
+use Rattle.std.specs.Prelude.{◌≡◌, ℕ, ◌+◌, ◌*◌, ◌<◌, ◌≤◌, Bool, true, List, [], ◌∷◌, length, IsPermutation}
+use Rattle.sketch_frequencies.specs.Tables.{put, purged, IsSampleMiddle, IsSameMap}
 use Rattle.sketch_frequencies.specs.State.{FrequentState, capacity, sample_size}
 
 -- these are the new sketch's counters, in some order, and its error and its size are e and n
@@ -26,6 +26,12 @@ pub record Steps {T : Type 0} (eq : T → T → Bool) (old : FrequentState T) (x
   -- they do not, the table is at its greatest size, and is purged
   pub purge : capacity old.size < length (put eq old.counters x w) → old.size ≡ old.max_size → Purges old (put eq old.counters x w) new
 
+-- w was added at an item equal to x
+pub record StepsEqual {T : Type 0} (eq : T → T → Bool) (old : FrequentState T) (x : T) (w : ℕ) (new : FrequentState T) : Type 0 where
+  pub item : T
+  pub equal : eq x item ≡ true
+  pub step : Steps eq old item w new
+
 -- a step for each pair, in turn
 abbrev pub StepsAlong : {T : Type 0} → (T → T → Bool) → FrequentState T → List (T × ℕ) → FrequentState T → Type 0
 StepsAlong eq old [] new = new ≡ old
@@ -45,3 +51,19 @@ pub record AddsAll {T : Type 0} (eq : T → T → Bool) (old other new : Frequen
 pub record Joins {T : Type 0} (eq : T → T → Bool) (old other new : FrequentState T) : Type 0 where
   pub nothing : other.total ≡ 0 → new ≡ old
   pub added : 0 < other.total → AddsAll eq old other new
+
+-- the same sketch, up to which of equal items it holds
+pub record IsSameState {T : Type 0} (eq : T → T → Bool) (s t : FrequentState T) : Type 0 where
+  pub counters : IsSameMap eq s.counters t.counters
+  pub error : t.error ≡ s.error
+  pub total : t.total ≡ s.total
+  pub max_size : t.max_size ≡ s.max_size
+  pub size : t.size ≡ s.size
+
+-- the other was merged in, both with items equal to theirs
+pub record JoinsEqual {T : Type 0} (eq : T → T → Bool) (old other new : FrequentState T) : Type 0 where
+  pub own : FrequentState T
+  pub same_own : IsSameState eq old own
+  pub more : FrequentState T
+  pub same_more : IsSameState eq other more
+  pub join : Joins eq own more new

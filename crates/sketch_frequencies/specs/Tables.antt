@@ -1,6 +1,6 @@
 -- A finite map from items to counts, as the list of its entries in some order. Items are told apart by `eq` alone.
 use Rattle.std.specs.Prelude.{◌≡◌, ℕ, ◌+◌, ◌-◌, ◌/◌, ◌≤◌, nat_lt, nat_le, ◌==◌, Bool, true, cond, List, [], ◌∷◌, ◌++◌, length, map, filter, sum_by, count_by, is_some, unwrap_or, IsPermutation}
-use Rattle.std.specs.List.{list_any}
+use Rattle.std.specs.List.{list_any, AllZip}
 use Rattle.std.specs.Map.{lookup}
 
 -- a table: its entries in some order, and its size
@@ -20,6 +20,22 @@ is_tracked eq es x = is_some (lookup (eq x) es)
 abbrev pub put : {T : Type 0} → (T → T → Bool) → List (T × ℕ) → T → ℕ → List (T × ℕ)
 put eq [] x w = (x, w) ∷ []
 put eq (e ∷ es) x w = cond (eq x e.0) ((e.0, e.1 + w) ∷ es) (e ∷ put eq es x w)
+
+-- w was added at an item equal to x
+pub record PutsEqual {T : Type 0} (eq : T → T → Bool) (old : List (T × ℕ)) (x : T) (w : ℕ) (new : List (T × ℕ)) : Type 0 where
+  pub item : T
+  pub equal : eq x item ≡ true
+  pub entries : IsPermutation (put eq old item w) new
+
+-- two entries of equal items with one count
+abbrev pub IsSameEntry : {T : Type 0} → (T → T → Bool) → T × ℕ → T × ℕ → Type 0
+IsSameEntry eq e f = (eq e.0 f.0 ≡ true) × (f.1 ≡ e.1)
+
+-- the same map: in some order, entries of equal items with the same counts
+pub record IsSameMap {T : Type 0} (eq : T → T → Bool) (es fs : List (T × ℕ)) : Type 0 where
+  pub order : List (T × ℕ)
+  pub whole : IsPermutation es order
+  pub same : AllZip (IsSameEntry eq) order fs
 
 -- the counts above m, each less m
 abbrev pub purged : {T : Type 0} → ℕ → List (T × ℕ) → List (T × ℕ)

@@ -1,20 +1,20 @@
 //! The sketch of frequent items.
-ghost use Rattle.std.specs.Prelude.{◌≡◌, ℕ, ◌+◌, ◌*◌, ◌/◌, ◌<◌, ◌≤◌, ◌^◌, ◌↔◌, true, false, None, length, IfOk, IfErr, IsOk, IsTrue, OnOk, OnErr, IsErrOf};
-ghost use Rattle.sketch_frequencies.specs.Errors.{invalid_argument, no_memory};
-ghost use Rattle.sketch_frequencies.specs.Growth.{MakesRoom, Adds};
-ghost use Rattle.sketch_frequencies.specs.History.{FrequentHistory};
-ghost use Rattle.sketch_frequencies.specs.History.FrequentHistory.{New, Update};
-ghost use Rattle.sketch_frequencies.specs.Rows.{ShowsExactly, Descends};
+ghost use Rattle.std.specs.Prelude.{◌≡◌, ℕ, ◌+◌, ◌*◌, ◌/◌, ◌<◌, ◌≤◌, ◌^◌, ◌↔◌, true, false, None, length, max, IfOk, IfErr, IsOk, IsTrue, OnOk, OnErr, IsErrOf};
+ghost use Rattle.sketch_base.specs.Errors.{invalid_argument, no_memory};
+ghost use Rattle.sketch_frequencies.specs.Growth.{MakesRoom, Adds, AddsCounters};
+ghost use Rattle.sketch_frequencies.specs.History.{FrequentHistory, least_size, total_weight};
+ghost use Rattle.sketch_frequencies.specs.History.FrequentHistory.{New, Update, Merge, Reset};
+ghost use Rattle.sketch_frequencies.specs.Rows.{ShowsExactly, Descends, MissesNone, ShowsNoneBelow};
 ghost use Rattle.sketch_frequencies.specs.Sizes.{size_fault, refusal_of};
-ghost use Rattle.sketch_frequencies.specs.Stands.{StandsFor, KeepsTailBudget};
-ghost use Rattle.sketch_frequencies.specs.State.{IsState, capacity, empty_state, estimate_of, must_double};
-ghost use Rattle.sketch_frequencies.specs.Steps.{Steps};
-ghost use Rattle.sketch_frequencies.specs.Tables.{count_of, put};
+ghost use Rattle.sketch_frequencies.specs.Stands.{StandsFor, KeepsTailBudget, HasTableSize};
+ghost use Rattle.sketch_frequencies.specs.State.{IsState, capacity, empty_state, estimate_of, must_double, must_grow};
+ghost use Rattle.sketch_frequencies.specs.Steps.{Steps, StepsEqual, IsSameState, JoinsEqual};
+ghost use Rattle.sketch_frequencies.specs.Tables.{count_of, is_tracked, put, sum_of};
 
-use crate::error::{Error, ErrorKind, Fault};
 use crate::error_type::ErrorType;
 use crate::reverse_purge_item_hash_map::ReversePurgeItemHashMap;
 use crate::row::Row;
+use sketch_base::{Error, ErrorKind, Fault};
 use std::alloc::Global;
 use std::hash::Hash;
 use std::marker::Model;
@@ -127,9 +127,123 @@ impl<T: Eq + Hash + Drop> FrequentItemsSketch<T> {
         if count == 0 {
             return Ok(());
         }
-        self.make_room(&item)?;
-        self.add(item, count);
+        if self.adjust(&item, count) {
+            return Ok(());
+        }
+        self.make_room()?;
+        self.insert(item, count);
         Ok(())
+    }
+
+    /// Adds 1 to the weight of an item equal to this one. As `update_with_count_ref` with a count of 1.
+    pub fn update_ref(&mut self, item: &T) -> Result<(), Error>
+    where
+        T: Clone,
+        requires clones { (x y : T) → T.is_clone x y → IsTrue (T.eq x y) }
+        ensures step { OnOk result (StepsEqual T.eq self.old item.now 1 self.new) }
+        ensures state { IsState T.eq self.new }
+        ensures stands { OnOk result ((h : FrequentHistory T) → StandsFor T.eq self.old h → StandsFor T.eq self.new (Update h item.now 1)) }
+        ensures budget { OnOk result ((h : FrequentHistory T) → StandsFor T.eq self.old h → KeepsTailBudget T.eq self.old h → KeepsTailBudget T.eq self.new (Update h item.now 1)) }
+        ensures err { OnErr result (self.new ≡ self.old) }
+        ensures overflow { 2 ^ 64 ≤ self.old.total + 1 → IsErrOf result (invalid_argument Fault.WeightOverflow) }
+        ensures memory { self.old.total + 1 < 2 ^ 64 → IfErr result (λ e. e ≡ no_memory) }
+        ensures succeeds { self.old.total + 1 < 2 ^ 64 → is_tracked T.eq self.old.counters item.now ≡ true → IsOk result }
+    {
+        self.update_with_count_ref(item, 1)
+    }
+
+    /// Adds `count` to the weight of an item equal to this one, which is cloned only where it is not tracked and the
+    /// count is not 0. Clones have to equal their originals. A count of 0 changes nothing and succeeds.
+    ///
+    /// # Errors
+    ///
+    /// `WeightOverflow` where the weight of all items would pass the greatest `u64`, and `NoMemory` where the item is not
+    /// tracked and there is no memory for its clone, or for a table of twice the size where it must double. The sketch is
+    /// then as it was.
+    pub fn update_with_count_ref(&mut self, item: &T, count: u64) -> Result<(), Error>
+    where
+        T: Clone,
+        requires clones { (x y : T) → T.is_clone x y → IsTrue (T.eq x y) }
+        ensures zero { count ≡ 0 → IsOk result × (self.new ≡ self.old) }
+        ensures step { OnOk result (0 < count → StepsEqual T.eq self.old item.now count self.new) }
+        ensures state { IsState T.eq self.new }
+
+        // What stood for a history stands for the extended one, and keeps its tail budget.
+        ensures stands { OnOk result (0 < count → (h : FrequentHistory T) → StandsFor T.eq self.old h → StandsFor T.eq self.new (Update h item.now count)) }
+        ensures budget { OnOk result (0 < count → (h : FrequentHistory T) → StandsFor T.eq self.old h → KeepsTailBudget T.eq self.old h → KeepsTailBudget T.eq self.new (Update h item.now count)) }
+
+        // A refusal changes nothing. Want of memory stands only for an item that is not tracked.
+        ensures err { OnErr result (self.new ≡ self.old) }
+        ensures overflow { 2 ^ 64 ≤ self.old.total + count → IsErrOf result (invalid_argument Fault.WeightOverflow) }
+        ensures memory { self.old.total + count < 2 ^ 64 → IfErr result (λ e. e ≡ no_memory) }
+        ensures succeeds { self.old.total + count < 2 ^ 64 → is_tracked T.eq self.old.counters item.now ≡ true → IsOk result }
+    {
+        if self.total > u64::MAX - count {
+            return Err(Error::new(ErrorKind::InvalidArgument, Fault::WeightOverflow));
+        }
+        if count == 0 {
+            return Ok(());
+        }
+        if self.adjust(item, count) {
+            return Ok(());
+        }
+        let twin = item.clone()?;
+        self.make_room()?;
+        self.insert(twin, count);
+        Ok(())
+    }
+
+    /// Merges another sketch into this one, which then stands for both streams and keeps its own greatest size.
+    ///
+    /// Each counter of the other is added as an update, in an order that is left open, and then its error and its total.
+    /// The result is built aside and put in place at the end. An other into which nothing was fed changes nothing and
+    /// takes no memory. Clones of the items have to equal them.
+    ///
+    /// # Errors
+    ///
+    /// `WeightOverflow` where the weight of both together would pass the greatest `u64`, and `NoMemory` where there is
+    /// no memory for the result. Both sketches are then as they were.
+    pub fn merge(&mut self, other: &Self) -> Result<(), Error>
+    where
+        T: Clone,
+        requires clones { (x y : T) → T.is_clone x y → IsTrue (T.eq x y) }
+        ensures nothing { other.now.total ≡ 0 → IsOk result × (self.new ≡ self.old) }
+        ensures join { OnOk result (JoinsEqual T.eq self.old other.now self.new) }
+        ensures state { IsState T.eq self.new }
+
+        // What stood for two histories stands for the merged one, and keeps its tail budget.
+        ensures stands { OnOk result ((h g : FrequentHistory T) → StandsFor T.eq self.old h → StandsFor T.eq other.now g → StandsFor T.eq self.new (Merge h g)) }
+        ensures budget { OnOk result ((h g : FrequentHistory T) → StandsFor T.eq self.old h → StandsFor T.eq other.now g → KeepsTailBudget T.eq self.old h → KeepsTailBudget T.eq other.now g → KeepsTailBudget T.eq self.new (Merge h g)) }
+
+        // A refusal changes nothing.
+        ensures err { OnErr result (self.new ≡ self.old) }
+        ensures overflow { 2 ^ 64 ≤ self.old.total + other.now.total → IsErrOf result (invalid_argument Fault.WeightOverflow) }
+        ensures memory { self.old.total + other.now.total < 2 ^ 64 → IfErr result (λ e. e ≡ no_memory) }
+    {
+        if other.total > u64::MAX - self.total {
+            return Err(Error::new(ErrorKind::InvalidArgument, Fault::WeightOverflow));
+        }
+        if other.total == 0 {
+            return Ok(());
+        }
+        let total = self.total + other.total;
+        let mut merged = self.try_clone()?;
+        merged.add_counters(other)?;
+        merged.settle(other.error, total);
+        *self = merged;
+        Ok(())
+    }
+
+    /// Forgets everything but the greatest size. The memory is kept for what comes next.
+    pub fn reset(&mut self)
+        ensures empty { self.new ≡ empty_state self.old.max_size }
+        ensures state { IsState T.eq self.new }
+        ensures stands { (h : FrequentHistory T) → StandsFor T.eq self.old h → StandsFor T.eq self.new (Reset h) }
+        ensures budget { (h : FrequentHistory T) → StandsFor T.eq self.old h → KeepsTailBudget T.eq self.new (Reset h) }
+    {
+        self.map.clear(LEAST_MAP_SIZE);
+        self.error = 0;
+        self.total = 0;
     }
 
     /// The best single guess of the item's weight: its count and the error where it is tracked, else 0.
@@ -159,8 +273,13 @@ impl<T: Eq + Hash + Drop> FrequentItemsSketch<T> {
     }
 
     /// The error: what each item's upper bound is above its lower bound.
+    ///
+    /// For a greatest size M, the least of all that took part, it is at most 8 / 3M of the weight of all items where M
+    /// is up to 1024, and at most 1 / 512 of it above.
     pub fn maximum_error(&self) -> u64
-        ensures { result ≡ self.now.error }
+        ensures value { result ≡ self.now.error }
+        ensures small { (h : FrequentHistory T) → KeepsTailBudget T.eq self.now h → HasTableSize h → least_size h ≤ 1024 → 3 * least_size h * result ≤ 8 * total_weight h }
+        ensures large { (h : FrequentHistory T) → KeepsTailBudget T.eq self.now h → HasTableSize h → 1024 < least_size h → 512 * result ≤ total_weight h }
     {
         self.error
     }
@@ -225,6 +344,49 @@ impl<T: Eq + Hash + Drop> FrequentItemsSketch<T> {
         self.map.lg_length()
     }
 
+    /// How many bytes the table takes: for each slot those of an `Option<T>` and 12 more, or the greatest `usize` where
+    /// that passes it.
+    pub fn estimated_size(&self) -> usize {
+        self.map.estimated_size()
+    }
+
+    /// The same sketch with clones of the items. Clones have to equal their originals.
+    ///
+    /// # Errors
+    ///
+    /// `NoMemory` where there is no memory for the table or for a clone.
+    pub fn try_clone(&self) -> Result<Self, Error>
+    where
+        T: Clone,
+        requires clones { (x y : T) → T.is_clone x y → IsTrue (T.eq x y) }
+        ensures same { IfOk result (λ sketch. IsSameState T.eq self.now sketch) }
+        ensures state { IfOk result (λ sketch. IsState T.eq sketch) }
+        ensures stands { IfOk result (λ sketch. (h : FrequentHistory T) → StandsFor T.eq self.now h → StandsFor T.eq sketch h) }
+        ensures budget { IfOk result (λ sketch. (h : FrequentHistory T) → KeepsTailBudget T.eq self.now h → KeepsTailBudget T.eq sketch h) }
+        ensures err { IfErr result (λ e. e ≡ no_memory) }
+    {
+        let map = self.map.try_clone()?;
+        Ok(FrequentItemsSketch {
+            map,
+            error: self.error,
+            total: self.total,
+            max_size: self.max_size,
+        })
+    }
+
+    /// The tracked items whose bound is above the error, in rows that descend by estimate. As
+    /// `frequent_items_with_threshold` with the error for the threshold.
+    pub fn frequent_items(&self, error_type: ErrorType) -> Result<Vec<Row<T>>, Error>
+    where
+        T: Clone,
+        requires clones { (x y : T) → T.is_clone x y → IsTrue (T.eq x y) }
+        ensures exact { IfOk result (λ rows. ShowsExactly T.eq error_type self.now.error self.now rows.items) }
+        ensures descending { IfOk result (λ rows. Descends rows.items) }
+        ensures err { IfErr result (λ e. e ≡ no_memory) }
+    {
+        self.frequent_items_with_threshold(error_type, self.error)
+    }
+
     /// The tracked items whose bound is above both the threshold and the error, in rows that descend by estimate.
     ///
     /// With `NoFalseNegatives` it is the upper bound that counts, and with `NoFalsePositives` the lower one. The order
@@ -243,6 +405,10 @@ impl<T: Eq + Hash + Drop> FrequentItemsSketch<T> {
         requires clones { (x y : T) → T.is_clone x y → IsTrue (T.eq x y) }
         ensures exact { IfOk result (λ rows. ShowsExactly T.eq error_type threshold self.now rows.items) }
         ensures descending { IfOk result (λ rows. Descends rows.items) }
+
+        // What the rows say of every history for which the sketch stands.
+        ensures none_missing { IfOk result (λ rows. error_type ≡ ErrorType.NoFalseNegatives → (h : FrequentHistory T) → StandsFor T.eq self.now h → MissesNone T.eq (max threshold self.now.error) h rows.items) }
+        ensures none_below { IfOk result (λ rows. error_type ≡ ErrorType.NoFalsePositives → (h : FrequentHistory T) → StandsFor T.eq self.now h → ShowsNoneBelow T.eq (max threshold self.now.error) h rows.items) }
         ensures err { IfErr result (λ e. e ≡ no_memory) }
     {
         let mut rows = self.passing_rows(error_type, threshold)?;
@@ -272,13 +438,29 @@ impl<T: Eq + Hash + Drop> FrequentItemsSketch<T> {
         Ok(rows)
     }
 
-    /// Doubles the table where it must for the item.
-    fn make_room(&mut self, item: &T) -> Result<(), Error>
-        ensures ok { OnOk result (MakesRoom T.eq self.old item.now self.new) }
+    /// Adds to the item's count where it is tracked, and answers whether it is.
+    fn adjust(&mut self, item: &T, count: u64) -> bool
+        requires positive { 0 < count }
+        requires fits { self.old.total + count < 2 ^ 64 }
+        ensures tracked { result ≡ is_tracked T.eq self.old.counters item.now }
+        ensures present { result ≡ true → Adds T.eq self.old item.now count self.new }
+        ensures absent { result ≡ false → self.new ≡ self.old }
+        ensures state { IsState T.eq self.new }
+    {
+        if !self.map.adjust(item, count) {
+            return false;
+        }
+        self.total += count;
+        true
+    }
+
+    /// Doubles the table where it must grow for one more counter.
+    fn make_room(&mut self) -> Result<(), Error>
+        ensures ok { OnOk result (MakesRoom self.old self.new) }
         ensures state { IsState T.eq self.new }
         ensures err { OnErr result (self.new ≡ self.old) }
         ensures memory { IfErr result (λ e. e ≡ no_memory) }
-        ensures succeeds { must_double T.eq self.old item.now ≡ false → IsOk result }
+        ensures succeeds { must_grow self.old ≡ false → IsOk result }
     {
         let size = self.map.len();
         if size == self.max_size {
@@ -287,26 +469,52 @@ impl<T: Eq + Hash + Drop> FrequentItemsSketch<T> {
         if self.map.num_active() < size * 3 / 4 {
             return Ok(());
         }
-        if self.map.get(item) != 0 {
-            return Ok(());
-        }
         self.map.resize(2 * size)?;
         Ok(())
     }
 
-    /// Adds to the item's count, and purges where that was one counter too many.
-    fn add(&mut self, item: T, count: u64)
+    /// Inserts an item that is not tracked, and purges where that was one counter too many.
+    fn insert(&mut self, item: T, count: u64)
+        requires absent { is_tracked T.eq self.old.counters item ≡ false }
         requires positive { 0 < count }
         requires fits { self.old.total + count < 2 ^ 64 }
         requires room { capacity self.old.size < length (put T.eq self.old.counters item count) → self.old.size ≡ self.old.max_size }
         ensures adds { Adds T.eq self.old item count self.new }
         ensures state { IsState T.eq self.new }
     {
-        self.map.adjust_or_put_value(item, count);
+        self.map.insert(item, count);
         self.total += count;
         if self.map.num_active() > self.map.len() * 3 / 4 {
             let sample_size = (self.max_size * 3 / 4).min(MAX_SAMPLE_SIZE);
             self.error += self.map.purge(sample_size);
         }
+    }
+
+    /// Adds every counter of the other.
+    fn add_counters(&mut self, other: &Self) -> Result<(), Error>
+    where
+        T: Clone,
+        requires clones { (x y : T) → T.is_clone x y → IsTrue (T.eq x y) }
+        requires fits { self.old.total + other.now.total < 2 ^ 64 }
+        ensures ok { OnOk result (AddsCounters T.eq self.old other.now.counters self.new) }
+        ensures state { IsState T.eq self.new }
+        ensures err { IfErr result (λ e. e ≡ no_memory) }
+    {
+        let _ = &self.map;
+        for (item, count) in other.map.iter() {
+            self.update_with_count_ref(item, count)?;
+        }
+        Ok(())
+    }
+
+    /// Adds to the error, and puts the total in place.
+    fn settle(&mut self, error: u64, total: u64)
+        requires sum { sum_of self.old.counters + self.old.error + error ≤ total }
+        requires some { 0 < total }
+        ensures settled { self.new ≡ record self.old { error = self.old.error + error; total = total } }
+        ensures state { IsState T.eq self.new }
+    {
+        self.error += error;
+        self.total = total;
     }
 }

@@ -9,7 +9,6 @@
 //! [`ReversePurgeItemHashMap`] is the table of counters under it.
 #![tactic(auto)]
 
-mod error;
 mod error_type;
 mod frequent_items_sketch;
 mod reverse_purge_item_hash_map;
@@ -18,9 +17,9 @@ mod row;
 #[cfg(test)]
 mod tests;
 
-pub use error::{Error, ErrorKind, Fault};
 pub use error_type::ErrorType;
 pub use frequent_items_sketch::FrequentItemsSketch;
 pub use reverse_purge_item_hash_map::ReversePurgeItemHashMap;
 pub use reverse_purge_item_iter::ReversePurgeItemIter;
 pub use row::Row;
+pub use sketch_base::{Error, ErrorKind, Fault};

@@ -1,17 +1,19 @@
 //! The table of counters.
-ghost use Rattle.std.specs.Prelude.{◌≡◌, ℕ, ◌+◌, ◌-◌, ◌*◌, ◌/◌, ◌<◌, ◌≤◌, ◌^◌, true, false, [], length, min, map, All, position, IfOk, IfErr, IsTrue, IsPermutation, OnOk, OnErr};
+ghost use Rattle.std.specs.Prelude.{◌≡◌, ℕ, ◌+◌, ◌-◌, ◌*◌, ◌/◌, ◌<◌, ◌≤◌, ◌^◌, true, false, [], length, min, map, All, position, IfOk, IfErr, IsOk, IsTrue, IsPermutation, OnOk, OnErr};
 ghost use Rattle.std.specs.Int.{is_power_of_two};
 ghost use Rattle.std.specs.List.{IsDistinct};
 ghost use Rattle.std.specs.Map.{keys_of};
-ghost use Rattle.sketch_frequencies.specs.Errors.{no_memory};
-ghost use Rattle.sketch_frequencies.specs.Tables.{count_of, is_tracked, put, purged, IsSampleMiddle};
+ghost use Rattle.sketch_base.specs.Errors.{no_memory};
+ghost use Rattle.sketch_frequencies.specs.Tables.{count_of, is_tracked, put, purged, IsSampleMiddle, IsSameMap, PutsEqual};
+ghost use Rattle.sketch_frequencies.specs.Walk.{entry_of};
 
-use crate::error::Error;
 use crate::reverse_purge_item_iter::ReversePurgeItemIter;
 use arrayvec::ArrayVec;
+use sketch_base::Error;
 use std::alloc::Global;
 use std::hash::Hash;
 use std::marker::Model;
+use std::mem::size_of_val;
 
 /// The most counts that a purge samples.
 const MAX_SAMPLE_SIZE: usize = 1024;
@@ -77,14 +79,36 @@ impl<T: Eq + Hash + Drop> ReversePurgeItemHashMap<T> {
         ensures size { self.new.size ≡ self.old.size }
         ensures distinct { IsDistinct T.eq (keys_of self.new.entries) }
     {
-        match self.position_of(&item) {
-            Some(place) => {
-                self.entries[place].1 += adjust_amount;
-            }
-            None => {
-                self.entries.push_reserved((item, adjust_amount));
-            }
+        if !self.adjust(&item, adjust_amount) {
+            self.insert(item, adjust_amount);
         }
+    }
+
+    /// Adds the amount to the item's count, or inserts a clone of the item with it where it is absent, also an amount
+    /// of 0. Only then is it cloned.
+    ///
+    /// Where the item is absent a slot has to stay free behind it, and where it is present the sum has to fit. Clones
+    /// have to equal their originals. Answers `NoMemory` where there is no memory for the clone, and then nothing has
+    /// changed.
+    pub fn adjust_or_put_value_ref(&mut self, item: &T, adjust_amount: u64) -> Result<(), Error>
+    where
+        T: Clone,
+        requires clones { (x y : T) → T.is_clone x y → IsTrue (T.eq x y) }
+        requires room { is_tracked T.eq self.old.entries item.now ≡ false → length self.old.entries + 1 < self.old.size }
+        requires fits { is_tracked T.eq self.old.entries item.now ≡ true → count_of T.eq self.old.entries item.now + adjust_amount < 2 ^ 64 }
+        ensures entries { OnOk result (PutsEqual T.eq self.old.entries item.now adjust_amount self.new.entries) }
+        ensures size { self.new.size ≡ self.old.size }
+        ensures distinct { IsDistinct T.eq (keys_of self.new.entries) }
+        ensures err { OnErr result (self.new ≡ self.old) }
+        ensures memory { IfErr result (λ e. e ≡ no_memory) }
+        ensures succeeds { is_tracked T.eq self.old.entries item.now ≡ true → IsOk result }
+    {
+        if self.adjust(item, adjust_amount) {
+            return Ok(());
+        }
+        let twin = item.clone()?;
+        self.insert(twin, adjust_amount);
+        Ok(())
     }
 
     /// Takes a middle count m of a sample from every count, drops the entries at or below m, and answers m.
@@ -164,6 +188,85 @@ impl<T: Eq + Hash + Drop> ReversePurgeItemHashMap<T> {
         ensures size { result.size ≡ self.now.size }
     {
         ReversePurgeItemIter::new(self.entries.as_slice(), self.size)
+    }
+
+    /// Every entry once, in an order that is left open.
+    ///
+    /// Answers `NoMemory` where there is no memory for the list.
+    pub fn active_entries(&self) -> Result<Vec<(&T, u64)>, Error>
+        ensures ok { IfOk result (λ found. IsPermutation self.now.entries (map entry_of found.items)) }
+        ensures err { IfErr result (λ e. e ≡ no_memory) }
+    {
+        let found = self.iter().collect(self.allocator())?;
+        Ok(found)
+    }
+
+    /// How many bytes the table takes: for each slot those of an `Option<T>` and 12 more, or the greatest `usize` where
+    /// that passes it.
+    pub fn estimated_size(&self) -> usize {
+        let free: Option<T> = None;
+        let slot = size_of_val(&free).saturating_add(12);
+        self.size.saturating_mul(slot)
+    }
+
+    /// The same map with clones of the items, in a table of the same size. Clones have to equal their originals.
+    ///
+    /// Answers `NoMemory` where there is no memory for the table or for a clone.
+    pub fn try_clone(&self) -> Result<Self, Error>
+    where
+        T: Clone,
+        requires clones { (x y : T) → T.is_clone x y → IsTrue (T.eq x y) }
+        ensures entries { IfOk result (λ map. IsSameMap T.eq self.now.entries map.entries) }
+        ensures size { IfOk result (λ map. map.size ≡ self.now.size) }
+        ensures distinct { IfOk result (λ map. IsDistinct T.eq (keys_of map.entries)) }
+        ensures err { IfErr result (λ e. e ≡ no_memory) }
+    {
+        let mut entries = Vec::with_capacity(self.allocator(), self.size)?;
+        for entry in &self.entries {
+            let item = entry.0.clone()?;
+            entries.push_reserved((item, entry.1));
+        }
+        Ok(ReversePurgeItemHashMap {
+            entries,
+            size: self.size,
+        })
+    }
+
+    /// Adds to the item's count where it has an entry, and answers whether it has.
+    pub(crate) fn adjust(&mut self, item: &T, adjust_amount: u64) -> bool
+        requires { is_tracked T.eq self.old.entries item.now ≡ true → count_of T.eq self.old.entries item.now + adjust_amount < 2 ^ 64 }
+        ensures tracked { result ≡ is_tracked T.eq self.old.entries item.now }
+        ensures present { result ≡ true → IsPermutation (put T.eq self.old.entries item.now adjust_amount) self.new.entries }
+        ensures absent { result ≡ false → self.new ≡ self.old }
+        ensures size { self.new.size ≡ self.old.size }
+        ensures distinct { IsDistinct T.eq (keys_of self.new.entries) }
+    {
+        let Some(place) = self.position_of(item) else {
+            return false;
+        };
+        self.entries[place].1 += adjust_amount;
+        true
+    }
+
+    /// Inserts an item that is absent.
+    pub(crate) fn insert(&mut self, item: T, amount: u64)
+        requires absent { is_tracked T.eq self.old.entries item ≡ false }
+        requires room { length self.old.entries + 1 < self.old.size }
+        ensures entries { IsPermutation (put T.eq self.old.entries item amount) self.new.entries }
+        ensures size { self.new.size ≡ self.old.size }
+        ensures distinct { IsDistinct T.eq (keys_of self.new.entries) }
+    {
+        self.entries.push_reserved((item, amount));
+    }
+
+    /// Drops every entry, and takes the size for that of the table, whose memory is kept.
+    pub(crate) fn clear(&mut self, size: usize)
+        requires power { IsTrue (is_power_of_two size) }
+        requires within { size ≤ self.old.size }
+        ensures { self.new ≡ record { entries = []; size = size } }
+    {
+        self.entries.clear();
+        self.size = size;
     }
 
     /// The allocator of the table.

@@ -1,6 +1,9 @@
 //! The rows of a report.
-ghost use Rattle.std.specs.Prelude.{◌≡◌};
+ghost use Rattle.std.specs.Prelude.{◌≡◌, IfOk, IfErr, IsTrue};
+ghost use Rattle.sketch_base.specs.Errors.{no_memory};
+ghost use Rattle.sketch_frequencies.specs.RowValue.{IsSameRow};
 
+use sketch_base::Error;
 use std::marker::Model;
 
 /// A row of a report: an item with its estimated weight and the bounds of its true weight.
@@ -33,6 +36,23 @@ impl<T> Row<T> {
             upper_bound,
             lower_bound,
         }
+    }
+
+    /// The same row with a clone of the item, which has to equal it. Answers `NoMemory` where there is no memory for the
+    /// clone.
+    pub fn try_clone(&self) -> Result<Self, Error>
+    where
+        T: PartialEq + Clone,
+        requires clones { (x y : T) → T.is_clone x y → IsTrue (T.eq x y) }
+        ensures ok { IfOk result (λ row. IsSameRow T.eq self.now row) }
+        ensures err { IfErr result (λ e. e ≡ no_memory) }
+    {
+        Ok(Row {
+            item: self.item.clone()?,
+            estimate: self.estimate,
+            upper_bound: self.upper_bound,
+            lower_bound: self.lower_bound,
+        })
     }
 
     /// The item.

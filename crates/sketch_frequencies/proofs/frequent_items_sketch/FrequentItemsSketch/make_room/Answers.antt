@@ -1,10 +1,9 @@
 use Rattle.std.proofs.Common.{◌<◌, ◌*◌, arith, ap, sym, ◌∙◌, refl, subst}
 use Rattle.std.proofs.lemmas.Bool.{false≢true}
-use Rattle.sketch_frequencies.specs.State.{FrequentState, must_double}
+use Rattle.sketch_frequencies.specs.State.{FrequentState, must_grow}
 use Rattle.sketch_frequencies.specs.Growth.{MakesRoom}
-use Rattle.sketch_frequencies.proofs.Parts.{due_from_parts}
+use Rattle.sketch_frequencies.proofs.Parts.{grow_from_parts}
 use Rattle.sketch_frequencies.proofs.Powers.{power_twice, doubled_fits}
-use Rattle.sketch_frequencies.proofs.Puts.{absent_from_zero}
 use Rattle.sketch_frequencies.proofs.States.{state_made, length_le_sum}
 use Rattle.sketch_frequencies.proofs.frequent_items_sketch.FrequentItemsSketch.make_room.Goals as goal
 
@@ -19,10 +18,8 @@ resize-requires-clause-limit g c =
 pub returns-in_err-resize-clause-succeeds : goal.returns-in_err-resize-clause-succeeds
 returns-in_err-resize-clause-succeeds g c = λ not_due.
     let old : FrequentState g.row.T.Denot = record { counters = c.self.inside.map.entries; error = c.self.inside.error; total = c.self.inside.total; max_size = c.self.inside.max_size; size = c.self.inside.map.size } in
-    let eq = g.T.PartialEq.eq in
-    let absent = absent_from_zero eq old.counters c.args.item.now c.self.invariant.positive (sym c.get.ensures ∙ c.if-get-ne0.false) in
-    let due = due_from_parts eq old c.args.item.now absent (omega (arith, c.if-num_active-size.false, c.num_active.ensures.active, c.len-size.ensures.size)) (omega (arith, c.if-size-self.false, c.len-size.ensures.size, c.self.invariant.within)) in
-    absurd (false≢true (sym not_due ∙ (ap (λ s. must_double eq s c.args.item.now) (sym c.self.view_is) ∙ due)))
+    let due = grow_from_parts old (omega (arith, c.if-num_active-size.false, c.num_active.ensures.active, c.len-size.ensures.size)) (omega (arith, c.if-size-self.false, c.len-size.ensures.size, c.self.invariant.within)) in
+    absurd (false≢true (sym not_due ∙ (ap (λ (s : FrequentState g.row.T.Denot). must_grow s) (sym c.self.view_is) ∙ due)))
 
 pub invariant_of-self-2 : goal.invariant_of-self-2
 invariant_of-self-2 g c =
@@ -34,12 +31,10 @@ invariant_of-self-2 g c =
 pub returns-clause-ok : goal.returns-clause-ok
 returns-clause-ok g c =
     let old : FrequentState g.row.T.Denot = record { counters = c.self.inside.map.entries; error = c.self.inside.error; total = c.self.inside.total; max_size = c.self.inside.max_size; size = c.self.inside.map.size } in
-    let eq = g.T.PartialEq.eq in
     let t = c.resize.new.self in
     let new : FrequentState g.row.T.Denot = record { counters = t.entries; error = old.error; total = old.total; max_size = old.max_size; size = t.size } in
-    let absent = absent_from_zero eq old.counters c.args.item.now c.self.invariant.positive (sym c.get.ensures ∙ c.if-get-ne0.false) in
-    let due = due_from_parts eq old c.args.item.now absent (omega (arith, c.if-num_active-size.false, c.num_active.ensures.active, c.len-size.ensures.size)) (omega (arith, c.if-size-self.false, c.len-size.ensures.size, c.self.invariant.within)) in
-    let made : MakesRoom eq old c.args.item.now new = record {
+    let due = grow_from_parts old (omega (arith, c.if-num_active-size.false, c.num_active.ensures.active, c.len-size.ensures.size)) (omega (arith, c.if-size-self.false, c.len-size.ensures.size, c.self.invariant.within)) in
+    let made : MakesRoom old new = record {
       counters = c.resize.ensures.entries;
       error = refl;
       total = refl;
@@ -47,7 +42,7 @@ returns-clause-ok g c =
       doubled = λ _. c.in_ok-resize.ensures.ok ∙ ap (λ n. 2 * n) c.len-size.ensures.size;
       stays = λ not_due. absurd (false≢true (sym not_due ∙ due));
     } in
-    subst (λ s. MakesRoom eq s c.args.item.now new) c.self.view_is made
+    subst (λ s. MakesRoom s new) c.self.view_is made
 
 pub returns-clause-state : goal.returns-clause-state
 returns-clause-state g c = invariant_of-self-2 g c

@@ -1,0 +1,351 @@
+//! Times the proved hash functions beside plain Rust, in one process.
+
+use std::hash::{Hash, Hasher};
+use std::hint::black_box;
+use std::time::Instant;
+
+unsafe extern "C" {
+    fn rattle_murmur3_u64(numbers: *const u64, len: usize, turns: u64) -> u64;
+    fn rattle_xxh64_u64(numbers: *const u64, len: usize, turns: u64) -> u64;
+    fn rattle_murmur3_text(text: *const u8, len: usize, count: u64) -> u64;
+    fn rattle_xxh64_text(text: *const u8, len: usize, count: u64) -> u64;
+}
+
+const C1: u64 = 0x87C3_7B91_1142_53D5;
+const C2: u64 = 0x4CF5_AD43_2745_937F;
+
+/// MurmurHash3 x64 128 as a Rust programmer would write it.
+struct Murmur3 {
+    h1: u64,
+    h2: u64,
+    total: u64,
+    buffer: [u8; 16],
+    used: usize,
+}
+
+#[inline(always)]
+fn word(bytes: &[u8]) -> u64 {
+    u64::from_le_bytes(bytes[..8].try_into().unwrap())
+}
+
+#[inline(always)]
+fn mix_k1(k: u64) -> u64 {
+    k.wrapping_mul(C1).rotate_left(31).wrapping_mul(C2)
+}
+
+#[inline(always)]
+fn mix_k2(k: u64) -> u64 {
+    k.wrapping_mul(C2).rotate_left(33).wrapping_mul(C1)
+}
+
+#[inline(always)]
+fn fmix64(mut k: u64) -> u64 {
+    k ^= k >> 33;
+    k = k.wrapping_mul(0xFF51_AFD7_ED55_8CCD);
+    k ^= k >> 33;
+    k = k.wrapping_mul(0xC4CE_B9FE_1A85_EC53);
+    k ^ (k >> 33)
+}
+
+impl Murmur3 {
+    #[inline(always)]
+    fn with_seed(seed: u64) -> Self {
+        Murmur3 {
+            h1: seed,
+            h2: seed,
+            total: 0,
+            buffer: [0; 16],
+            used: 0,
+        }
+    }
+
+    #[inline(always)]
+    fn block(&mut self, k1: u64, k2: u64) {
+        self.h1 ^= mix_k1(k1);
+        self.h1 = self
+            .h1
+            .rotate_left(27)
+            .wrapping_add(self.h2)
+            .wrapping_mul(5)
+            .wrapping_add(0x52DC_E729);
+        self.h2 ^= mix_k2(k2);
+        self.h2 = self
+            .h2
+            .rotate_left(31)
+            .wrapping_add(self.h1)
+            .wrapping_mul(5)
+            .wrapping_add(0x3849_5AB5);
+    }
+}
+
+impl Hasher for Murmur3 {
+    #[inline(always)]
+    fn write(&mut self, mut bytes: &[u8]) {
+        self.total = self.total.wrapping_add(bytes.len() as u64);
+        if self.used > 0 {
+            let room = 16 - self.used;
+            if bytes.len() < room {
+                self.buffer[self.used..self.used + bytes.len()].copy_from_slice(bytes);
+                self.used += bytes.len();
+                return;
+            }
+            let (front, rest) = bytes.split_at(room);
+            self.buffer[self.used..].copy_from_slice(front);
+            let buffer = self.buffer;
+            self.block(word(&buffer), word(&buffer[8..]));
+            self.used = 0;
+            bytes = rest;
+        }
+        let mut chunks = bytes.chunks_exact(16);
+        for chunk in &mut chunks {
+            self.block(word(chunk), word(&chunk[8..]));
+        }
+        let rest = chunks.remainder();
+        self.buffer[..rest.len()].copy_from_slice(rest);
+        self.used = rest.len();
+    }
+
+    #[inline(always)]
+    fn finish(&self) -> u64 {
+        let mut tail = [0u8; 16];
+        tail[..self.used].copy_from_slice(&self.buffer[..self.used]);
+        let mut h1 = self.h1 ^ mix_k1(word(&tail));
+        let mut h2 = self.h2 ^ mix_k2(word(&tail[8..]));
+        h1 ^= self.total;
+        h2 ^= self.total;
+        h1 = h1.wrapping_add(h2);
+        h2 = h2.wrapping_add(h1);
+        h1 = fmix64(h1);
+        h2 = fmix64(h2);
+        h1.wrapping_add(h2)
+    }
+}
+
+const P1: u64 = 0x9E37_79B1_85EB_CA87;
+const P2: u64 = 0xC2B2_AE3D_27D4_EB4F;
+const P3: u64 = 0x1656_67B1_9E37_79F9;
+const P4: u64 = 0x85EB_CA77_C2B2_AE63;
+const P5: u64 = 0x27D4_EB2F_1656_67C5;
+
+/// XXH64 as a Rust programmer would write it.
+struct Xxh64 {
+    seed: u64,
+    lanes: [u64; 4],
+    total: u64,
+    buffer: [u8; 32],
+    used: usize,
+}
+
+#[inline(always)]
+fn round(acc: u64, lane: u64) -> u64 {
+    acc.wrapping_add(lane.wrapping_mul(P2))
+        .rotate_left(31)
+        .wrapping_mul(P1)
+}
+
+#[inline(always)]
+fn merge(h: u64, acc: u64) -> u64 {
+    (h ^ round(0, acc)).wrapping_mul(P1).wrapping_add(P4)
+}
+
+impl Xxh64 {
+    #[inline(always)]
+    fn with_seed(seed: u64) -> Self {
+        Xxh64 {
+            seed,
+            lanes: [
+                seed.wrapping_add(P1).wrapping_add(P2),
+                seed.wrapping_add(P2),
+                seed,
+                seed.wrapping_sub(P1),
+            ],
+            total: 0,
+            buffer: [0; 32],
+            used: 0,
+        }
+    }
+
+    #[inline(always)]
+    fn stripe(&mut self, chunk: &[u8]) {
+        for i in 0..4 {
+            self.lanes[i] = round(self.lanes[i], word(&chunk[8 * i..]));
+        }
+    }
+}
+
+impl Hasher for Xxh64 {
+    #[inline(always)]
+    fn write(&mut self, mut bytes: &[u8]) {
+        self.total = self.total.wrapping_add(bytes.len() as u64);
+        if self.used > 0 {
+            let room = 32 - self.used;
+            if bytes.len() < room {
+                self.buffer[self.used..self.used + bytes.len()].copy_from_slice(bytes);
+                self.used += bytes.len();
+                return;
+            }
+            let (front, rest) = bytes.split_at(room);
+            self.buffer[self.used..].copy_from_slice(front);
+            let buffer = self.buffer;
+            self.stripe(&buffer);
+            self.used = 0;
+            bytes = rest;
+        }
+        let mut chunks = bytes.chunks_exact(32);
+        for chunk in &mut chunks {
+            self.stripe(chunk);
+        }
+        let rest = chunks.remainder();
+        self.buffer[..rest.len()].copy_from_slice(rest);
+        self.used = rest.len();
+    }
+
+    #[inline(always)]
+    fn finish(&self) -> u64 {
+        let mut h = if self.total >= 32 {
+            let [a, b, c, d] = self.lanes;
+            let h = a
+                .rotate_left(1)
+                .wrapping_add(b.rotate_left(7))
+                .wrapping_add(c.rotate_left(12))
+                .wrapping_add(d.rotate_left(18));
+            merge(merge(merge(merge(h, a), b), c), d)
+        } else {
+            self.seed.wrapping_add(P5)
+        };
+        h = h.wrapping_add(self.total);
+        let mut rest = &self.buffer[..self.used];
+        while rest.len() >= 8 {
+            h = (h ^ round(0, word(rest)))
+                .rotate_left(27)
+                .wrapping_mul(P1)
+                .wrapping_add(P4);
+            rest = &rest[8..];
+        }
+        if rest.len() >= 4 {
+            let lane = u32::from_le_bytes(rest[..4].try_into().unwrap()) as u64;
+            h = (h ^ lane.wrapping_mul(P1))
+                .rotate_left(23)
+                .wrapping_mul(P2)
+                .wrapping_add(P3);
+            rest = &rest[4..];
+        }
+        for byte in rest {
+            h = (h ^ (*byte as u64).wrapping_mul(P5))
+                .rotate_left(11)
+                .wrapping_mul(P1);
+        }
+        h = (h ^ (h >> 33)).wrapping_mul(P2);
+        h = (h ^ (h >> 29)).wrapping_mul(P3);
+        h ^ (h >> 32)
+    }
+}
+
+#[inline(never)]
+fn rust_murmur3_u64(numbers: &[u64], turns: u64) -> u64 {
+    let mut all = 0;
+    for turn in 0..turns {
+        for n in numbers {
+            let mut hasher = Murmur3::with_seed(9001);
+            n.hash(&mut hasher);
+            all ^= hasher.finish().wrapping_add(turn);
+        }
+    }
+    all
+}
+
+#[inline(never)]
+fn rust_xxh64_u64(numbers: &[u64], turns: u64) -> u64 {
+    let mut all = 0;
+    for turn in 0..turns {
+        for n in numbers {
+            let mut hasher = Xxh64::with_seed(9001);
+            n.hash(&mut hasher);
+            all ^= hasher.finish().wrapping_add(turn);
+        }
+    }
+    all
+}
+
+#[inline(never)]
+fn rust_murmur3_text(text: &str, count: u64) -> u64 {
+    let mut all = 0;
+    for seed in 0..count {
+        let mut hasher = Murmur3::with_seed(seed);
+        text.hash(&mut hasher);
+        all ^= hasher.finish();
+    }
+    all
+}
+
+#[inline(never)]
+fn rust_xxh64_text(text: &str, count: u64) -> u64 {
+    let mut all = 0;
+    for seed in 0..count {
+        let mut hasher = Xxh64::with_seed(seed);
+        text.hash(&mut hasher);
+        all ^= hasher.finish();
+    }
+    all
+}
+
+fn seconds(f: &dyn Fn() -> u64) -> (f64, u64) {
+    let start = Instant::now();
+    let answer = black_box(f());
+    (start.elapsed().as_secs_f64(), answer)
+}
+
+/// The least time of each side over several turns, by turns, and their ratio.
+fn compare(name: &str, count: u64, rattle: &dyn Fn() -> u64, rust: &dyn Fn() -> u64) {
+    let mut least = (f64::MAX, f64::MAX);
+    for _ in 0..15 {
+        let (a, x) = seconds(rattle);
+        let (b, y) = seconds(rust);
+        assert_eq!(x, y, "{name}");
+        least = (least.0.min(a), least.1.min(b));
+    }
+    let each = 1e9 / count as f64;
+    println!(
+        "{name:<22} {:>12.2} {:>12.2} {:>8.2}",
+        least.0 * each,
+        least.1 * each,
+        least.0 / least.1
+    );
+}
+
+fn main() {
+    println!("{:<22} {:>12} {:>12} {:>8}", "hashed", "proved, ns", "plain, ns", "ratio");
+    let numbers: Vec<u64> = (0..4096u64).map(|n| n.wrapping_mul(0x9E37_79B9_7F4A_7C15)).collect();
+    let numbers = black_box(&numbers[..]);
+    let turns = 500;
+    let count = turns * numbers.len() as u64;
+    compare(
+        "murmur3 u64",
+        count,
+        &|| unsafe { rattle_murmur3_u64(numbers.as_ptr(), numbers.len(), black_box(turns)) },
+        &|| rust_murmur3_u64(numbers, black_box(turns)),
+    );
+    compare(
+        "xxh64 u64",
+        count,
+        &|| unsafe { rattle_xxh64_u64(numbers.as_ptr(), numbers.len(), black_box(turns)) },
+        &|| rust_xxh64_u64(numbers, black_box(turns)),
+    );
+    for len in [8, 15, 40, 100, 1 << 20] {
+        let text = "a".repeat(len);
+        let text = black_box(text.as_str());
+        let count = if len > 1000 { 20 } else { 1_000_000 };
+        compare(
+            &format!("murmur3 text of {len}"),
+            count,
+            &|| unsafe { rattle_murmur3_text(text.as_ptr(), text.len(), black_box(count)) },
+            &|| rust_murmur3_text(text, black_box(count)),
+        );
+        compare(
+            &format!("xxh64 text of {len}"),
+            count,
+            &|| unsafe { rattle_xxh64_text(text.as_ptr(), text.len(), black_box(count)) },
+            &|| rust_xxh64_text(text, black_box(count)),
+        );
+    }
+}

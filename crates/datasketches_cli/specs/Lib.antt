@@ -1,0 +1,9 @@
+pub mod Counts
+pub mod FaultNames
+pub mod Printing
+pub mod Said
+pub mod Serving
+pub mod Sketches
+pub mod Steps
+pub mod Transcript
+pub mod Words

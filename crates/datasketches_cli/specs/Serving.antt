@@ -1,0 +1,22 @@
+-- What the parts of the loop do.
+use Rattle.std.specs.Prelude.{◌≡◌, ◌≢◌, ℕ, Bool, true, false, List, [], ◌++◌, Option, Some, IfSome}
+use Rattle.std.specs.Io.BufRead.{take_through, drop_through}
+use Rattle.std.specs.Io.KnownBytes.{Appends}
+use Rattle.datasketches_cli.specs.declared.command.Command.{Command}
+use Rattle.datasketches_cli.specs.declared.reply.Reply.{Reply}
+use Rattle.datasketches_cli.specs.Sketches.{Sketches}
+use Rattle.datasketches_cli.specs.Steps.{Step}
+use Rattle.datasketches_cli.specs.Transcript.{reply_line}
+
+-- whether a line was found, with its end
+abbrev pub TakesLine : Bool → Option (List ℕ) → Option (List ℕ) → List ℕ → Type 0
+TakesLine true was is line = IfSome was (λ bytes. (bytes ≢ []) × (line ≡ take_through 10 bytes) × (is ≡ Some (drop_through 10 bytes)))
+TakesLine false was is line = IfSome was (λ bytes. bytes ≡ [])
+
+-- the front of what was gathered went to the writer
+abbrev pub WritesFront : Option (List ℕ) → Option (List ℕ) → List ℕ → List ℕ → Type 0
+WritesFront held holds gathered left = (front : List ℕ) × Appends held holds front × (gathered ≡ front ++ left)
+
+-- the command was done, and its reply stands behind what was gathered
+abbrev pub HasAnswered : Sketches → Command → Sketches → List ℕ → List ℕ → Type 0
+HasAnswered old command new gathered more = (reply : Reply) × Step old command reply new × (more ≡ gathered ++ reply_line reply)

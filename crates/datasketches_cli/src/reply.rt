@@ -1,0 +1,121 @@
+//! Replies, and the lines that they print.
+use crate::fault_name::name_of;
+use sketch_base::Error;
+use sketch_frequencies::Row;
+use std::fmt;
+
+/// The answer to a command.
+#[derive(Drop)]
+pub enum Reply {
+    /// It was done.
+    Done,
+    /// An item's estimate and bounds.
+    Bounds {
+        estimate: u64,
+        lower: u64,
+        upper: u64,
+    },
+    /// A sketch's numbers.
+    Status(Status),
+    /// The items above a threshold.
+    Rows(Vec<Row<String>>),
+    /// It was refused, and nothing changed.
+    Refused(Refusal),
+}
+
+/// A sketch's numbers.
+#[derive(Clone, Copy)]
+pub enum Status {
+    /// Those of a frequent-items sketch.
+    Frequent {
+        active: usize,
+        error: u64,
+        total: u64,
+        size: usize,
+        max: usize,
+        capacity: usize,
+    },
+}
+
+/// Why a command was refused.
+#[derive(Drop)]
+pub enum Refusal {
+    /// No sketch has the name.
+    NoSuchName,
+    /// A sketch has the name already.
+    NameTaken,
+    /// The sketch's own call refused.
+    Call(Error),
+}
+
+impl fmt::Display for Status {
+    ghost use Rattle.std.specs.Prelude.{Some};
+    ghost use Rattle.datasketches_cli.specs.Printing.{status_text};
+
+    ghost output = { λ status. Some (status_text status) };
+
+    fn fmt<W: fmt::Write>(&self, f: &mut fmt::Formatter<W>) -> fmt::Result {
+        match self {
+            Status::Frequent {
+                active,
+                error,
+                total,
+                size,
+                max,
+                capacity,
+            } => write!(
+                f,
+                "frequent active {active} error {error} total {total} size {size} max {max} capacity {capacity}"
+            ),
+        }
+    }
+}
+
+impl fmt::Display for Refusal {
+    ghost use Rattle.std.specs.Prelude.{Some};
+    ghost use Rattle.datasketches_cli.specs.Printing.{refusal_name};
+
+    ghost output = { λ refusal. Some (refusal_name refusal) };
+
+    fn fmt<W: fmt::Write>(&self, f: &mut fmt::Formatter<W>) -> fmt::Result {
+        match self {
+            Refusal::NoSuchName => write!(f, "NoSuchName"),
+            Refusal::NameTaken => write!(f, "NameTaken"),
+            Refusal::Call(error) => write!(f, "{}", name_of(error.fault())),
+        }
+    }
+}
+
+impl fmt::Display for Reply {
+    ghost use Rattle.std.specs.Prelude.{Some};
+    ghost use Rattle.datasketches_cli.specs.Printing.{reply_text};
+
+    ghost output = { λ reply. Some (reply_text reply) };
+
+    fn fmt<W: fmt::Write>(&self, f: &mut fmt::Formatter<W>) -> fmt::Result {
+        match self {
+            Reply::Done => write!(f, "ok"),
+            Reply::Bounds {
+                estimate,
+                lower,
+                upper,
+            } => write!(f, "estimate {estimate} lower {lower} upper {upper}"),
+            Reply::Status(status) => write!(f, "{status}"),
+            Reply::Rows(rows) => {
+                write!(f, "rows {}", rows.len())?;
+                for row in rows {
+                    write!(
+                        f,
+                        " {} {} {} {}",
+                        row.item(),
+                        row.estimate(),
+                        row.lower_bound(),
+                        row.upper_bound()
+                    )?;
+                }
+                Ok(())
+            }
+            Reply::Refused(refusal) => write!(f, "refused {refusal}"),
+        }
+    }
+}

@@ -1,0 +1,212 @@
+//! The loop from lines to replies.
+ghost use Rattle.std.specs.Prelude.{◌≡◌, ◌<◌, ◌⊎◌, ◌↔◌, [], ◌++◌, IsTrue, IfOk, IfErr, OnOk, Contains, string_bytes, string_len};
+ghost use Rattle.std.specs.Io.BufRead.{strip_last};
+ghost use Rattle.std.specs.Io.Buffered.{reader_buffer, reader_remaining};
+ghost use Rattle.std.specs.Io.KnownBytes.{Appends};
+ghost use Rattle.datasketches_cli.specs.Counts.{HasGrown};
+ghost use Rattle.datasketches_cli.specs.Serving.{HasAnswered, TakesLine, WritesFront};
+ghost use Rattle.datasketches_cli.specs.Transcript.{Serves, bad_line};
+
+use crate::command::Command;
+use crate::counted::Counted;
+use crate::keeper::Keeper;
+use crate::parse::{Line, parse};
+use std::alloc::Global;
+use std::io::{BufRead, BufReader, Read, Write};
+
+/// How a run ended.
+#[derive(Clone, Copy, Debug, PartialEq, Eq)]
+pub enum Ended {
+    /// All lines were read, and each command was answered.
+    All,
+    /// The line of this number, counted from 1, is no command.
+    BadLine(u128),
+}
+
+/// What stopped a run.
+#[derive(Clone, Copy, Debug, PartialEq, Eq)]
+pub enum CliFault {
+    /// A read or a write failed.
+    Io,
+    /// There was no memory, outside of any command.
+    Memory,
+}
+
+/// How many bytes are read at once.
+const READ_SIZE: usize = 1 << 16;
+
+/// How many bytes of replies are gathered before they are written.
+const WRITE_SIZE: usize = 1 << 16;
+
+/// Something failed.
+#[derive(Drop)]
+struct Stopped;
+
+/// Does the commands of the reader's lines on sketches of its own, and writes a line for each.
+///
+/// A line ends at a line feed or at the end of input, and one carriage return before that is dropped. A line without a
+/// word gets no answer. After a line that is no command, `bad line` and its number are written, and nothing more is
+/// done. Replies are written before more input is waited for.
+///
+/// # Errors
+///
+/// `Io` where a call of the reader or the writer failed in this run, or where a count of failures stands at the
+/// greatest `u64`, and else `Memory`. Replies to earlier lines may be written by then.
+pub fn serve<R: Read, W: Write>(
+    alloc: Global,
+    reader: &mut Counted<R>,
+    writer: &mut Counted<W>,
+) -> Result<Ended, CliFault>
+    ensures served { IfOk result (Serves (R.remaining reader.old.inner)
+        (W.contents writer.old.inner) (W.contents writer.new.inner)) }
+    ensures err { IfErr result (λ e. (e ≡ CliFault.Io)
+        ↔ (HasGrown reader.old.failures reader.new.failures
+        ⊎ HasGrown writer.old.failures writer.new.failures)) }
+{
+    let reads = reader.failures();
+    let writes = writer.failures();
+    let ended = match BufReader::with_capacity(alloc, READ_SIZE, &mut *reader) {
+        Ok(mut input) => serve_lines(alloc, &mut input, &mut *writer),
+        Err(_) => Err(Stopped),
+    };
+    match ended {
+        Ok(ended) => Ok(ended),
+        Err(_) => {
+            if has_grown(reads, reader.failures()) || has_grown(writes, writer.failures()) {
+                Err(CliFault::Io)
+            } else {
+                Err(CliFault::Memory)
+            }
+        }
+    }
+}
+
+/// Whether a count may have grown.
+fn has_grown(before: u64, now: u64) -> bool
+    ensures { IsTrue result ↔ HasGrown before now }
+{
+    before < now || now == u64::MAX
+}
+
+/// Does the commands of the lines.
+fn serve_lines<R: Read, W: Write>(
+    alloc: Global,
+    input: &mut BufReader<R>,
+    writer: &mut W,
+) -> Result<Ended, Stopped>
+    ensures { IfOk result (Serves (reader_remaining R.remaining input.old)
+        (W.contents writer.old) (W.contents writer.new)) }
+{
+    let mut keeper = Keeper::new(alloc);
+    let mut replies = String::new(alloc);
+    let mut line = Vec::new(alloc);
+    for before in 0..u128::MAX {
+        let number = before + 1;
+        write_due(input, writer, &mut replies)?;
+        if !read_line(input, &mut line)? {
+            write_out(writer, &mut replies)?;
+            return Ok(Ended::All);
+        }
+        let Ok(said) = parse(alloc, without_end(&line)) else {
+            return Err(Stopped);
+        };
+        match said {
+            Line::Blank => {}
+            Line::Command(command) => answer(&mut keeper, command, &mut replies)?,
+            Line::Bad => {
+                write_bad(writer, &mut replies, number)?;
+                return Ok(Ended::BadLine(number));
+            }
+        }
+    }
+    Err(Stopped)
+}
+
+/// Does a command, and gathers its reply.
+fn answer(keeper: &mut Keeper, command: Command, replies: &mut String) -> Result<(), Stopped>
+    ensures { OnOk result (HasAnswered keeper.old command keeper.new
+        (string_bytes replies.old) (string_bytes replies.new)) }
+{
+    let reply = keeper.apply(command);
+    let Ok(()) = writeln!(replies, "{reply}") else {
+        return Err(Stopped);
+    };
+    Ok(())
+}
+
+/// Writes the gathered replies, and names a bad line.
+fn write_bad<W: Write>(writer: &mut W, replies: &mut String, number: u128) -> Result<(), Stopped>
+    ensures { OnOk result (Appends (W.contents writer.old) (W.contents writer.new)
+        (string_bytes replies.old ++ bad_line number)) }
+{
+    let Ok(()) = writeln!(replies, "bad line {number}") else {
+        return Err(Stopped);
+    };
+    write_out(writer, replies)
+}
+
+/// Reads a line with its end, unless no input is left.
+fn read_line<B: BufRead>(input: &mut B, line: &mut Vec<u8>) -> Result<bool, Stopped>
+    ensures { IfOk result (λ found. TakesLine found (B.remaining input.old) (B.remaining input.new)
+        line.new.items) }
+{
+    line.clear();
+    match input.read_until(b'\n', line) {
+        Ok(count) => Ok(count > 0),
+        Err(_) => Err(Stopped),
+    }
+}
+
+/// The line without its end.
+fn without_end(line: &[u8]) -> &[u8]
+    ensures { result.now ≡ strip_last 13 (strip_last 10 line.now) }
+{
+    without_last(b'\r', without_last(b'\n', line))
+}
+
+/// The bytes without the last one, if that is `byte`.
+fn without_last(byte: u8, bytes: &[u8]) -> &[u8]
+    ensures { result.now ≡ strip_last byte bytes.now }
+{
+    match bytes.split_last() {
+        Some((last, front)) if *last == byte => front,
+        _ => bytes,
+    }
+}
+
+/// Writes the gathered replies, where more input is read next or they are many.
+fn write_due<R: Read, W: Write>(
+    input: &BufReader<R>,
+    writer: &mut W,
+    replies: &mut String,
+) -> Result<(), Stopped>
+    ensures written { OnOk result (WritesFront (W.contents writer.old) (W.contents writer.new)
+        (string_bytes replies.old) (string_bytes replies.new)) }
+    ensures at_once { OnOk result (¬ Contains (reader_buffer input.now) 10
+        → string_bytes replies.new ≡ []) }
+    ensures few { OnOk result (string_len replies.new < WRITE_SIZE) }
+{
+    if input.buffer().contains(&b'\n') && replies.len() < WRITE_SIZE {
+        return Ok(());
+    }
+    write_out(writer, replies)
+}
+
+/// Writes the gathered replies.
+fn write_out<W: Write>(writer: &mut W, replies: &mut String) -> Result<(), Stopped>
+    ensures written { OnOk result (Appends (W.contents writer.old) (W.contents writer.new)
+        (string_bytes replies.old)) }
+    ensures empty { OnOk result (string_bytes replies.new ≡ []) }
+{
+    if replies.is_empty() {
+        return Ok(());
+    }
+    let Ok(()) = writer.write_all(replies.as_bytes()) else {
+        return Err(Stopped);
+    };
+    let Ok(()) = writer.flush() else {
+        return Err(Stopped);
+    };
+    replies.clear();
+    Ok(())
+}

@@ -1,0 +1,5 @@
+pub mod DirectRemainder
+pub mod Murmur3Pieces
+pub mod Rotation
+mod Vectors
+pub mod Xxh64Pieces

@@ -1,0 +1,10 @@
+pub mod Buffer
+pub mod Errors
+pub mod Fields
+pub mod Hashes
+pub mod Murmur3
+pub mod Murmur3State
+pub mod Reciprocal
+pub mod Words
+pub mod Xxh64
+pub mod Xxh64State

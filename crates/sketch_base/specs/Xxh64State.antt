@@ -1,0 +1,32 @@
+-- XXH64 of bytes that come piece by piece.
+use Rattle.std.specs.Prelude.{◌≡◌, ℕ, ◌+◌, ◌*◌, ◌/◌, ◌%◌, ◌^◌, Bool, false, ◌||◌, nat_lt, if◌then◌else◌, List, [], ◌++◌, length, drop}
+use Rattle.sketch_base.specs.Words.{wrapping_add}
+use Rattle.sketch_base.specs.Xxh64.{Accumulators, prime64_5, initial_accumulators, stripes, convergence, finalization}
+
+-- what a hasher keeps: the seed, the accumulators after all whole stripes, whether there was one,
+-- the bytes since then, and how many bytes there were
+pub record Xxh64State : Type 0 where
+  pub seed : ℕ
+  pub accumulators : Accumulators
+  pub is_long : Bool
+  pub tail : List ℕ
+  pub total : ℕ
+
+-- before the first byte
+unfoldable pub initial : ℕ → Xxh64State
+initial seed = record { seed = seed; accumulators = initial_accumulators seed; is_long = false; tail = []; total = 0 }
+
+-- after one piece more
+unfoldable pub write : Xxh64State → List ℕ → Xxh64State
+write s piece =
+    let whole = s.tail ++ piece in
+    let n = length whole / 32 in
+    record { seed = s.seed; accumulators = stripes n s.accumulators whole; is_long = s.is_long || nat_lt 0 n; tail = drop (32 * n) whole; total = (s.total + length piece) % 2 ^ 64 }
+
+-- the hash
+unfoldable pub finish : Xxh64State → ℕ
+finish s = finalization (wrapping_add (if s.is_long then convergence s.accumulators else wrapping_add s.seed prime64_5) s.total) s.tail
+
+-- a hasher of this seed was fed these bytes and no others, in whatever pieces
+pub record HasFed (seed : ℕ) (bytes : List ℕ) (s : Xxh64State) : Type 0 where
+  pub state_is : s ≡ write (initial seed) bytes

@@ -1,0 +1,70 @@
+//! The families of sketches that have images.
+ghost use Rattle.std.specs.Prelude.{◌≡◌, ◌≢◌, OnOk, IfErr};
+ghost use Rattle.sketch_base.specs.Errors.{invalid_data};
+
+use crate::error::{Error, ErrorKind, Fault};
+
+/// A family of sketches: the number that names it in an image, and how many longs its preamble may have.
+#[derive(Clone, Copy, Debug, PartialEq, Eq)]
+pub struct Family {
+    /// The number of the family in an image.
+    pub id: u8,
+    /// The least number of longs, of 8 bytes each, in a preamble.
+    pub min_pre_longs: u8,
+    /// The greatest number of longs in a preamble.
+    pub max_pre_longs: u8,
+}
+
+impl Family {
+    /// Frequent items.
+    pub const FREQUENCY: Family = Family {
+        id: 10,
+        min_pre_longs: 1,
+        max_pre_longs: 4,
+    };
+
+    /// Count-Min sketches.
+    pub const COUNTMIN: Family = Family {
+        id: 18,
+        min_pre_longs: 2,
+        max_pre_longs: 2,
+    };
+
+    /// Bloom filters.
+    pub const BLOOMFILTER: Family = Family {
+        id: 21,
+        min_pre_longs: 3,
+        max_pre_longs: 4,
+    };
+
+    /// Whether `id`, which was read from an image, is this family's.
+    ///
+    /// Where it is not, this answers [`BadFamily`](Fault::BadFamily) of the kind
+    /// [`InvalidData`](ErrorKind::InvalidData). It takes no memory.
+    #[inline]
+    pub fn validate_id(&self, id: u8) -> Result<(), Error>
+        ensures ok { OnOk result (id ≡ self.now.id) }
+        ensures other { IfErr result (λ e. (e ≡ invalid_data Fault.BadFamily) × (id ≢ self.now.id)) }
+    {
+        if id != self.id {
+            return Err(Error::new(ErrorKind::InvalidData, Fault::BadFamily));
+        }
+        Ok(())
+    }
+}
+
+#[cfg(test)]
+mod tests {
+    use super::*;
+
+    #[test]
+    fn knows_its_own_number(rt: HostRuntime) {
+        let other = Family::BLOOMFILTER
+            .validate_id(18)
+            .map_err(|e| (e.kind(), e.fault()));
+        assert_eq!(rt; other, Err((ErrorKind::InvalidData, Fault::BadFamily)));
+        assert!(rt; Family::BLOOMFILTER.validate_id(21).is_ok());
+        assert!(rt; Family::COUNTMIN.validate_id(18).is_ok());
+        assert!(rt; Family::FREQUENCY.validate_id(10).is_ok());
+    }
+}

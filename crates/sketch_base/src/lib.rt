@@ -1,0 +1,32 @@
+//! The layer under the sketches: hash functions, byte cursors, families and refusals.
+//!
+//! - [`XxHash64`] and [`MurmurHash3X64128`] hash bytes that come piece by piece, [`xxh64_of`], [`murmur3_of`] and
+//!   [`murmur3_of_u64`] whole items and numbers, [`compute_seed_hash`] seeds. A contract sees each answer as the hash
+//!   of one whole list of bytes, however they came.
+//! - [`SketchSlice`] reads numbers from bytes, and [`SketchBytes`] writes them. A contract sees the bytes that are
+//!   still unread, and those that were written.
+//! - [`Family`] names a kind of sketch in an image, and [`Error`] says why a call was refused.
+//! - [`Divisor`] takes remainders by a number that is known before, without a division.
+#![tactic(auto)]
+
+mod divisor;
+mod error;
+mod family;
+mod item_hash;
+mod murmurhash;
+mod seed_hash;
+mod short_copy;
+mod sketch_bytes;
+mod sketch_slice;
+mod words;
+mod xxhash;
+
+pub use divisor::Divisor;
+pub use error::{Error, ErrorKind, Fault};
+pub use family::Family;
+pub use item_hash::{murmur3_of, murmur3_of_u64, xxh64_of};
+pub use murmurhash::{DEFAULT_UPDATE_SEED, MurmurHash3X64128};
+pub use seed_hash::{check_seed_hash, compute_seed_hash};
+pub use sketch_bytes::SketchBytes;
+pub use sketch_slice::SketchSlice;
+pub use xxhash::XxHash64;

@@ -1,0 +1,63 @@
+//! The hash of a seed, which an image keeps in place of the seed.
+ghost use Rattle.std.specs.Prelude.{◌≡◌, ◌≢◌, OnOk, IfOk, IfErr};
+ghost use Rattle.sketch_base.specs.Errors.{refusal};
+ghost use Rattle.sketch_base.specs.Hashes.{seed_hash};
+
+use crate::error::{Error, ErrorKind, Fault};
+use crate::item_hash::murmur3_of_u64;
+
+/// The hash of a seed: the low 16 bits of the first half of MurmurHash3 x64 128, under the seed 0, of the eight bytes
+/// of `seed`, the lowest first.
+///
+/// Where that is 0, which stands for no seed, this answers [`ZeroSeedHash`](Fault::ZeroSeedHash) of the kind that is
+/// given. It takes no memory.
+#[tactic(auto, unfolding(crate::specs::Hashes::seed_hash))]
+pub fn compute_seed_hash(seed: u64, kind: ErrorKind) -> Result<u16, Error>
+    ensures value { IfOk result (λ hash. (hash ≡ seed_hash seed) × (hash ≢ 0)) }
+    ensures zero { IfErr result (λ e. (e ≡ refusal kind Fault.ZeroSeedHash) × (seed_hash seed ≡ 0)) }
+{
+    let hash = (murmur3_of_u64(seed, 0).0 % 0x1_0000) as u16;
+    if hash == 0 {
+        return Err(Error::new(kind, Fault::ZeroSeedHash));
+    }
+    Ok(hash)
+}
+
+/// Whether two hashes of seeds are the same.
+///
+/// Where they differ, this answers [`SeedHashMismatch`](Fault::SeedHashMismatch) of the kind that is given.
+/// It takes no memory.
+#[inline]
+pub fn check_seed_hash(expected: u16, actual: u16, kind: ErrorKind) -> Result<(), Error>
+    ensures same { OnOk result (actual ≡ expected) }
+    ensures differ { IfErr result (λ e. (e ≡ refusal kind Fault.SeedHashMismatch) × (actual ≢ expected)) }
+{
+    if actual != expected {
+        return Err(Error::new(kind, Fault::SeedHashMismatch));
+    }
+    Ok(())
+}
+
+#[cfg(test)]
+mod tests {
+    use super::*;
+
+    #[test]
+    fn hashes_seeds(rt: HostRuntime) {
+        let kinds = [
+            ErrorKind::InvalidArgument,
+            ErrorKind::InvalidData,
+            ErrorKind::OutOfMemory,
+        ];
+        for kind in kinds {
+            let usual = compute_seed_hash(9001, kind).map_err(|e| e.fault());
+            assert_eq!(rt; usual, Ok(0x93CC));
+            // The least seed whose hash is 0.
+            let zero = compute_seed_hash(50541, kind).map_err(|e| (e.kind(), e.fault()));
+            assert_eq!(rt; zero, Err((kind, Fault::ZeroSeedHash)));
+            let differ = check_seed_hash(1, 2, kind).map_err(|e| (e.kind(), e.fault()));
+            assert_eq!(rt; differ, Err((kind, Fault::SeedHashMismatch)));
+            assert!(rt; check_seed_hash(2, 2, kind).is_ok());
+        }
+    }
+}

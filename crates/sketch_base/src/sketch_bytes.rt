@@ -1,0 +1,162 @@
+//! A buffer that is written at its end.
+ghost use Rattle.std.specs.Prelude.{◌≡◌, ◌+◌, ◌≤◌, [], ◌∷◌, ◌++◌, length, IfOk, OnOk, IfErr, OnErr, IsOk};
+ghost use Rattle.std.specs.Int.{w16, w32, w64, to_le_bytes, cast_unsigned};
+ghost use Rattle.sketch_base.specs.Errors.{no_memory};
+
+use crate::error::Error;
+use std::alloc::Global;
+use std::marker::Model;
+
+/// Bytes that are written in order.
+///
+/// A contract sees the bytes that were written, and the capacity: within it every write succeeds.
+/// A write past it takes memory, and where that is refused it answers
+/// [`NoMemory`](crate::Fault::NoMemory) of the kind [`OutOfMemory`](crate::ErrorKind::OutOfMemory),
+/// and leaves the bytes as they were.
+#[derive(Drop)]
+pub struct SketchBytes {
+    bytes: Vec<u8>,
+}
+
+impl Model for SketchBytes {
+    ghost use Rattle.std.specs.Prelude.{vec_capacity};
+    ghost use Rattle.sketch_base.specs.Buffer.{Buffer};
+
+    ghost Value = { Buffer };
+
+    ghost view = { λ s. record { bytes = s.bytes.items; capacity = vec_capacity s.bytes } };
+}
+
+impl SketchBytes {
+    /// No bytes yet, and room for `capacity` of them.
+    pub fn with_capacity(alloc: Global, capacity: usize) -> Result<Self, Error>
+        ensures empty { IfOk result (λ out. out.bytes ≡ []) }
+        ensures room { IfOk result (λ out. capacity ≤ out.capacity) }
+        ensures err { IfErr result (λ e. e ≡ no_memory) }
+    {
+        Ok(SketchBytes {
+            bytes: Vec::with_capacity(alloc, capacity)?,
+        })
+    }
+
+    /// Writes `part` at the end.
+    #[inline]
+    pub fn write(&mut self, part: &[u8]) -> Result<(), Error>
+        ensures ok { OnOk result (self.new.bytes ≡ self.old.bytes ++ part.now) }
+        ensures within { length self.old.bytes + length part.now ≤ self.old.capacity → IsOk result }
+        ensures capacity { self.old.capacity ≤ self.new.capacity }
+        ensures no_memory { IfErr result (λ e. e ≡ no_memory) }
+        ensures err { OnErr result (self.new.bytes ≡ self.old.bytes) }
+    {
+        self.bytes.extend_from_slice(part)?;
+        Ok(())
+    }
+
+    /// Writes a byte.
+    #[inline]
+    pub fn write_u8(&mut self, n: u8) -> Result<(), Error>
+        ensures ok { OnOk result (self.new.bytes ≡ self.old.bytes ++ n ∷ []) }
+        ensures within { length self.old.bytes + 1 ≤ self.old.capacity → IsOk result }
+        ensures capacity { self.old.capacity ≤ self.new.capacity }
+        ensures no_memory { IfErr result (λ e. e ≡ no_memory) }
+        ensures err { OnErr result (self.new.bytes ≡ self.old.bytes) }
+    {
+        self.write(&[n])
+    }
+
+    /// Writes an unsigned number of two bytes, the lowest first.
+    #[inline]
+    pub fn write_u16_le(&mut self, n: u16) -> Result<(), Error>
+        ensures ok { OnOk result (self.new.bytes ≡ self.old.bytes ++ to_le_bytes w16 n) }
+        ensures within { length self.old.bytes + 2 ≤ self.old.capacity → IsOk result }
+        ensures capacity { self.old.capacity ≤ self.new.capacity }
+        ensures no_memory { IfErr result (λ e. e ≡ no_memory) }
+        ensures err { OnErr result (self.new.bytes ≡ self.old.bytes) }
+    {
+        self.write(&u16::to_le_bytes(n))
+    }
+
+    /// Writes an unsigned number of four bytes, the lowest first.
+    #[inline]
+    pub fn write_u32_le(&mut self, n: u32) -> Result<(), Error>
+        ensures ok { OnOk result (self.new.bytes ≡ self.old.bytes ++ to_le_bytes w32 n) }
+        ensures within { length self.old.bytes + 4 ≤ self.old.capacity → IsOk result }
+        ensures capacity { self.old.capacity ≤ self.new.capacity }
+        ensures no_memory { IfErr result (λ e. e ≡ no_memory) }
+        ensures err { OnErr result (self.new.bytes ≡ self.old.bytes) }
+    {
+        self.write(&u32::to_le_bytes(n))
+    }
+
+    /// Writes a signed number of four bytes, the lowest first.
+    #[inline]
+    pub fn write_i32_le(&mut self, n: i32) -> Result<(), Error>
+        ensures ok { OnOk result (self.new.bytes ≡ self.old.bytes ++ to_le_bytes w32 (cast_unsigned w32 n)) }
+        ensures within { length self.old.bytes + 4 ≤ self.old.capacity → IsOk result }
+        ensures capacity { self.old.capacity ≤ self.new.capacity }
+        ensures no_memory { IfErr result (λ e. e ≡ no_memory) }
+        ensures err { OnErr result (self.new.bytes ≡ self.old.bytes) }
+    {
+        self.write(&i32::to_le_bytes(n))
+    }
+
+    /// Writes an unsigned number of eight bytes, the lowest first.
+    #[inline]
+    pub fn write_u64_le(&mut self, n: u64) -> Result<(), Error>
+        ensures ok { OnOk result (self.new.bytes ≡ self.old.bytes ++ to_le_bytes w64 n) }
+        ensures within { length self.old.bytes + 8 ≤ self.old.capacity → IsOk result }
+        ensures capacity { self.old.capacity ≤ self.new.capacity }
+        ensures no_memory { IfErr result (λ e. e ≡ no_memory) }
+        ensures err { OnErr result (self.new.bytes ≡ self.old.bytes) }
+    {
+        self.write(&u64::to_le_bytes(n))
+    }
+
+    /// Writes a signed number of eight bytes, the lowest first.
+    #[inline]
+    pub fn write_i64_le(&mut self, n: i64) -> Result<(), Error>
+        ensures ok { OnOk result (self.new.bytes ≡ self.old.bytes ++ to_le_bytes w64 (cast_unsigned w64 n)) }
+        ensures within { length self.old.bytes + 8 ≤ self.old.capacity → IsOk result }
+        ensures capacity { self.old.capacity ≤ self.new.capacity }
+        ensures no_memory { IfErr result (λ e. e ≡ no_memory) }
+        ensures err { OnErr result (self.new.bytes ≡ self.old.bytes) }
+    {
+        self.write(&i64::to_le_bytes(n))
+    }
+
+    /// The bytes that were written.
+    pub fn into_bytes(self) -> Vec<u8>
+        ensures { result.items ≡ self.bytes }
+    {
+        self.bytes
+    }
+}
+
+#[cfg(test)]
+mod tests {
+    use super::*;
+    use std::test::Fail;
+
+    #[test]
+    fn writes_the_lowest_byte_first(rt: HostRuntime) -> Result<(), Fail> {
+        let mut out = SketchBytes::with_capacity(rt.alloc(), 3)?;
+        out.write_u8(1)?;
+        out.write_u16_le(770)?;
+        assert_eq!(rt; out.into_bytes().as_slice(), [1, 2, 3].as_slice());
+        Ok(())
+    }
+
+    #[test]
+    fn writes_each_width(rt: HostRuntime) -> Result<(), Fail> {
+        let mut out = SketchBytes::with_capacity(rt.alloc(), 0)?;
+        out.write(b"ab")?;
+        out.write_u32_le(1)?;
+        out.write_i32_le(-2)?;
+        out.write_u64_le(3)?;
+        out.write_i64_le(-4)?;
+        let wanted =
+            b"ab\x01\0\0\0\xFE\xFF\xFF\xFF\x03\0\0\0\0\0\0\0\xFC\xFF\xFF\xFF\xFF\xFF\xFF\xFF";
+        assert_eq!(rt; out.into_bytes().as_slice(), wanted.as_slice());
+        Ok(())
+    }
+}

@@ -1,0 +1,200 @@
+//! A cursor over bytes that are read in order.
+ghost use Rattle.std.specs.Prelude.{◌≡◌, ◌<◌, ◌≤◌, length, take, drop, IfOk, OnOk, IfErr, OnErr};
+ghost use Rattle.std.specs.Int.{w16, w32, w64};
+ghost use Rattle.sketch_base.specs.Errors.{invalid_data};
+ghost use Rattle.sketch_base.specs.Fields.{byte_at, le_at, signed_le_at};
+
+use crate::error::{Error, ErrorKind, Fault};
+use std::marker::Model;
+
+/// A cursor over bytes that are read in order. A contract sees it as the list of the bytes that are still unread.
+///
+/// No call takes memory. A read of more bytes than are left answers
+/// [`InsufficientData`](Fault::InsufficientData) of the kind [`InvalidData`](ErrorKind::InvalidData),
+/// and leaves the cursor where it was.
+#[derive(Drop)]
+pub struct SketchSlice<'a> {
+    unread: &'a [u8],
+}
+
+impl<'a> Model for SketchSlice<'a> {
+    ghost use Rattle.std.specs.Prelude.{List, ℕ};
+
+    ghost Value = { List ℕ };
+
+    ghost view = { λ s. s.unread.now };
+}
+
+impl<'a> SketchSlice<'a> {
+    /// A cursor before the first of `bytes`.
+    #[inline]
+    pub fn new(bytes: &'a [u8]) -> Self
+        ensures { result ≡ bytes.now }
+    {
+        SketchSlice { unread: bytes }
+    }
+
+    /// The bytes that are still unread.
+    #[inline]
+    pub fn remaining(&self) -> &[u8]
+        ensures { result.now ≡ self.now }
+    {
+        self.unread
+    }
+
+    /// Goes past `n` bytes, which have to be there.
+    #[inline]
+    pub fn advance(&mut self, n: u64)
+        requires { n ≤ length self.old }
+        ensures { self.new ≡ drop n self.old }
+    {
+        self.unread = &self.unread[n as usize..];
+    }
+
+    /// Reads as many bytes as `out` holds. Where fewer are left, `out` stays as it was.
+    #[inline]
+    pub fn read_exact(&mut self, out: &mut [u8]) -> Result<(), Error>
+        ensures enough { OnOk result (length out.old ≤ length self.old) }
+        ensures value { OnOk result (out.new ≡ take (length out.old) self.old) }
+        ensures cursor { OnOk result (self.new ≡ drop (length out.old) self.old) }
+        ensures short { IfErr result
+            (λ e. (e ≡ invalid_data Fault.InsufficientData) × (length self.old < length out.old)) }
+        ensures err { OnErr result ((self.new ≡ self.old) × (out.new ≡ out.old)) }
+    {
+        if self.unread.len() < out.len() {
+            return Err(Error::new(ErrorKind::InvalidData, Fault::InsufficientData));
+        }
+        let (front, rest) = self.unread.split_at(out.len());
+        out.copy_from_slice(front);
+        self.unread = rest;
+        Ok(())
+    }
+
+    /// Reads a byte.
+    #[inline]
+    pub fn read_u8(&mut self) -> Result<u8, Error>
+        ensures enough { OnOk result (1 ≤ length self.old) }
+        ensures value { IfOk result (λ n. n ≡ byte_at self.old 0) }
+        ensures cursor { OnOk result (self.new ≡ drop 1 self.old) }
+        ensures short { IfErr result (λ e. (e ≡ invalid_data Fault.InsufficientData) × (length self.old < 1)) }
+        ensures err { OnErr result (self.new ≡ self.old) }
+    {
+        let mut bytes = [0; 1];
+        self.read_exact(&mut bytes)?;
+        Ok(bytes[0])
+    }
+
+    /// Reads an unsigned number of two bytes, the lowest first.
+    #[tactic(auto, unfolding(crate::specs::Fields::le_at))]
+    #[inline]
+    pub fn read_u16_le(&mut self) -> Result<u16, Error>
+        ensures enough { OnOk result (2 ≤ length self.old) }
+        ensures value { IfOk result (λ n. n ≡ le_at w16 self.old 0) }
+        ensures cursor { OnOk result (self.new ≡ drop 2 self.old) }
+        ensures short { IfErr result (λ e. (e ≡ invalid_data Fault.InsufficientData) × (length self.old < 2)) }
+        ensures err { OnErr result (self.new ≡ self.old) }
+    {
+        let mut bytes = [0; 2];
+        self.read_exact(&mut bytes)?;
+        Ok(u16::from_le_bytes(bytes))
+    }
+
+    /// Reads an unsigned number of four bytes, the lowest first.
+    #[tactic(auto, unfolding(crate::specs::Fields::le_at))]
+    #[inline]
+    pub fn read_u32_le(&mut self) -> Result<u32, Error>
+        ensures enough { OnOk result (4 ≤ length self.old) }
+        ensures value { IfOk result (λ n. n ≡ le_at w32 self.old 0) }
+        ensures cursor { OnOk result (self.new ≡ drop 4 self.old) }
+        ensures short { IfErr result (λ e. (e ≡ invalid_data Fault.InsufficientData) × (length self.old < 4)) }
+        ensures err { OnErr result (self.new ≡ self.old) }
+    {
+        let mut bytes = [0; 4];
+        self.read_exact(&mut bytes)?;
+        Ok(u32::from_le_bytes(bytes))
+    }
+
+    /// Reads a signed number of four bytes, the lowest first.
+    #[tactic(auto, unfolding(crate::specs::Fields::le_at))]
+    #[inline]
+    pub fn read_i32_le(&mut self) -> Result<i32, Error>
+        ensures enough { OnOk result (4 ≤ length self.old) }
+        ensures value { IfOk result (λ n. n ≡ signed_le_at w32 self.old 0) }
+        ensures cursor { OnOk result (self.new ≡ drop 4 self.old) }
+        ensures short { IfErr result (λ e. (e ≡ invalid_data Fault.InsufficientData) × (length self.old < 4)) }
+        ensures err { OnErr result (self.new ≡ self.old) }
+    {
+        let mut bytes = [0; 4];
+        self.read_exact(&mut bytes)?;
+        Ok(i32::from_le_bytes(bytes))
+    }
+
+    /// Reads an unsigned number of eight bytes, the lowest first.
+    #[tactic(auto, unfolding(crate::specs::Fields::le_at))]
+    #[inline]
+    pub fn read_u64_le(&mut self) -> Result<u64, Error>
+        ensures enough { OnOk result (8 ≤ length self.old) }
+        ensures value { IfOk result (λ n. n ≡ le_at w64 self.old 0) }
+        ensures cursor { OnOk result (self.new ≡ drop 8 self.old) }
+        ensures short { IfErr result (λ e. (e ≡ invalid_data Fault.InsufficientData) × (length self.old < 8)) }
+        ensures err { OnErr result (self.new ≡ self.old) }
+    {
+        let mut bytes = [0; 8];
+        self.read_exact(&mut bytes)?;
+        Ok(u64::from_le_bytes(bytes))
+    }
+
+    /// Reads a signed number of eight bytes, the lowest first.
+    #[tactic(auto, unfolding(crate::specs::Fields::le_at))]
+    #[inline]
+    pub fn read_i64_le(&mut self) -> Result<i64, Error>
+        ensures enough { OnOk result (8 ≤ length self.old) }
+        ensures value { IfOk result (λ n. n ≡ signed_le_at w64 self.old 0) }
+        ensures cursor { OnOk result (self.new ≡ drop 8 self.old) }
+        ensures short { IfErr result (λ e. (e ≡ invalid_data Fault.InsufficientData) × (length self.old < 8)) }
+        ensures err { OnErr result (self.new ≡ self.old) }
+    {
+        let mut bytes = [0; 8];
+        self.read_exact(&mut bytes)?;
+        Ok(i64::from_le_bytes(bytes))
+    }
+}
+
+#[cfg(test)]
+mod tests {
+    use super::*;
+    use std::test::Fail;
+
+    #[test]
+    fn stays_at_a_short_read(rt: HostRuntime) -> Result<(), Fail> {
+        let mut slice = SketchSlice::new(&[1, 2, 3]);
+        assert_eq!(rt; slice.read_u16_le()?, 513);
+        let short = slice.read_u32_le().map_err(|e| (e.kind(), e.fault()));
+        assert_eq!(rt;
+            short,
+            Err((ErrorKind::InvalidData, Fault::InsufficientData))
+        );
+        assert_eq!(rt; slice.remaining(), [3].as_slice());
+        assert_eq!(rt; slice.read_u8()?, 3);
+        Ok(())
+    }
+
+    #[test]
+    fn reads_each_width(rt: HostRuntime) -> Result<(), Fail> {
+        let mut bytes = [0xFF; 32];
+        bytes[0] = 7;
+        let mut slice = SketchSlice::new(&bytes);
+        assert_eq!(rt; slice.read_u32_le()?, 0xFFFF_FF07);
+        assert_eq!(rt; slice.read_i32_le()?, -1);
+        assert_eq!(rt; slice.read_u64_le()?, u64::MAX);
+        assert_eq!(rt; slice.read_i64_le()?, -1);
+        let mut two = [0; 2];
+        slice.read_exact(&mut two)?;
+        assert_eq!(rt; two, [0xFF, 0xFF]);
+        assert_eq!(rt; slice.remaining().len(), 6);
+        let mut slice = SketchSlice::new(&bytes);
+        slice.advance(1);
+        assert_eq!(rt; slice.remaining().len(), 31);
+        Ok(())
+    }
+}
