@@ -1,10 +1,13 @@
 -- The first word of a line, and the others.
-use Rattle.std.proofs.Common.{◌≡◌, ℕ, ◌-◌, ◌≤◌, List, [], ◌∷◌, length, get_or, take, drop, Result, Option, sym, ◌∙◌, ap, subst, arith}
+use Rattle.std.proofs.Common.{◌≡◌, ◌≢◌, ℕ, ◌-◌, ◌≤◌, List, [], ◌∷◌, length, get_or, take, drop, Result, Option, sym, ◌∙◌, ap, subst, arith}
 use Rattle.std.specs.Borrow.{Bor}
 use Rattle.std.specs.Result.{IfOk}
 use Rattle.std.proofs.lemmas.List.{take_all}
 use Rattle.datasketches_cli.specs.declared.command.Command.{Command}
-use Rattle.datasketches_cli.specs.Words.{IsMade}
+use Rattle.datasketches_cli.specs.declared.command.Command.TheVariants.{CreateFrequent, Add, Ask, GetStatus, ListRows}
+use Rattle.datasketches_cli.specs.declared.parse.Verb.{Verb}
+use Rattle.datasketches_cli.specs.declared.parse.Verb.TheVariants as verb
+use Rattle.datasketches_cli.specs.Words.{IsMade, Make, verb_word}
 use Rattle.datasketches_cli.specs.Said.{texts_of}
 
 -- what the first word and the others make, the words make
@@ -15,3 +18,12 @@ made_by_rest (word ∷ words) verb d r h e made =
     let same : verb ∷ texts_of (take (length (word ∷ words) - 1) words) ≡ word.now ∷ texts_of words =
     ap (λ (v : List ℕ). v ∷ texts_of (take (length (word ∷ words) - 1) words)) (sym e) ∙ ap (λ (l : List (Bor (List ℕ))). word.now ∷ texts_of l) all in
     subst (λ (l : List (List ℕ)). IfOk r (IsMade l)) same made
+
+-- a first word that is no verb makes no command
+pub made_by_none : (words : List (Bor (List ℕ))) (d : Bor (List ℕ)) → 1 ≤ length words → ((verb : Verb) → (get_or words 0 d).now ≢ verb_word verb) → (command : Command) → ¬ Make (texts_of words) command
+made_by_none [] d h none command made = absurd (omega arith)
+made_by_none (word ∷ words) d h none (CreateFrequent name max) (number, e, n) = none verb.Frequent cc
+made_by_none (word ∷ words) d h none (Add name item weight) (number, e, n) = none verb.Add cc
+made_by_none (word ∷ words) d h none (Ask name item) e = none verb.Ask cc
+made_by_none (word ∷ words) d h none (GetStatus name) e = none verb.Status cc
+made_by_none (word ∷ words) d h none (ListRows name error_type threshold) (number, e, n) = none verb.Rows cc

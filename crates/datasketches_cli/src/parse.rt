@@ -1,7 +1,7 @@
 //! Lines to commands.
-ghost use Rattle.std.specs.Prelude.{◌≡◌, ◌∷◌, IfOk, IfSome, take};
-ghost use Rattle.datasketches_cli.specs.Words.{words_of, number_of, verb_word, report_word, IsMade};
-ghost use Rattle.datasketches_cli.specs.Said.{IsSaid, texts_of, error_type_named, verb_named};
+ghost use Rattle.std.specs.Prelude.{◌≡◌, ◌∷◌, IfOk, take};
+ghost use Rattle.datasketches_cli.specs.Words.{words_of, number_of, verb_word, IsMade};
+ghost use Rattle.datasketches_cli.specs.Said.{IsSaid, IsVerbOf, IsReportOf, texts_of};
 
 use crate::command::Command;
 use sketch_frequencies::ErrorType;
@@ -79,8 +79,7 @@ fn command_of(alloc: Global, words: &[&str]) -> Result<Option<Command>, AllocErr
 
 /// The verb that a word is.
 fn verb_of(word: &str) -> Option<Verb>
-    ensures value { result ≡ verb_named word.now }
-    ensures named { IfSome result (λ verb. word.now ≡ verb_word verb) }
+    ensures { IsVerbOf word.now result }
 {
     match word {
         "frequent" => Some(Verb::Frequent),
@@ -167,8 +166,7 @@ fn rows(alloc: Global, words: &[&str]) -> Result<Option<Command>, AllocError>
 
 /// The kind of report that a word names.
 fn error_type_of(word: &str) -> Option<ErrorType>
-    ensures value { result ≡ error_type_named word.now }
-    ensures named { IfSome result (λ error_type. word.now ≡ report_word error_type) }
+    ensures { IsReportOf word.now result }
 {
     match word {
         "fn" => Some(ErrorType::NoFalseNegatives),

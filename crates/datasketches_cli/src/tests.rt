@@ -218,3 +218,34 @@ fn a_writer_that_fails(rt: HostRuntime) -> Result<(), Fail> {
     }
     Ok(())
 }
+
+/// Takes all bytes, and fails to pass them on.
+#[derive(Drop)]
+struct StuckWriter;
+
+impl Write for StuckWriter {
+    fn write(&mut self, buf: &[u8]) -> IoResult<usize> {
+        Ok(buf.len())
+    }
+
+    fn flush(&mut self) -> IoResult<()> {
+        Err(Error::from(ErrorKind::BrokenPipe))
+    }
+}
+
+#[test]
+fn counted_passes_calls_on(rt: HostRuntime) -> Result<(), Fail> {
+    let mut reader = Counted::new(Cursor::new(b"abc".as_slice()));
+    let mut buf = [0; 2];
+    assert_eq!(rt; reader.read(&mut buf)?, 2);
+    assert_eq!(rt; buf.as_slice(), b"ab".as_slice());
+    let mut writer = Counted::new(Vec::new(rt.alloc()));
+    assert_eq!(rt; writer.write(b"ab")?, 2);
+    assert_eq!(rt; writer.failures(), 0);
+    let mut reader = Counted::new(Cursor::new(SEVEN_ITEMS));
+    let mut writer = Counted::new(StuckWriter);
+    let ended = serve(rt.alloc(), &mut reader, &mut writer);
+    assert_eq!(rt; ended, Err(CliFault::Io));
+    assert_eq!(rt; writer.failures(), 1);
+    Ok(())
+}

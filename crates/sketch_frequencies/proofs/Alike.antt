@@ -1,13 +1,12 @@
 -- Sketches that are the same up to which of equal items they hold, and histories of equal items.
-use Rattle.std.proofs.Common.{◌≡◌, ℕ, ◌+◌, ◌-◌, ◌*◌, ◌<◌, ◌≤◌, Bool, true, cond, List, [], ◌∷◌, length, refl, ap, sym, ◌∙◌, subst, arith}
+use Rattle.std.proofs.Common.{◌≡◌, ℕ, ◌<◌, Bool, true, cond, List, [], ◌∷◌, refl, ap, sym, ◌∙◌, subst, arith}
 use Rattle.std.specs.Prelude.{IsTrue}
 use Rattle.std.specs.Int.{is_power_of_two}
 use Rattle.std.specs.Cmp.{IsEquivalence}
-use Rattle.std.specs.List.{list_any, AllZip}
-use Rattle.std.specs.Map.{keys_of}
+use Rattle.std.specs.List.{AllZip}
 use Rattle.std.proofs.lemmas.List.Sorted.{IsPermutation-refl}
-use Rattle.sketch_frequencies.specs.Tables.{count_of, sum_outside, IsSameEntry, IsSameMap}
-use Rattle.sketch_frequencies.specs.History.{FrequentHistory, true_weight, weight_outside, budget_size}
+use Rattle.sketch_frequencies.specs.Tables.{IsSameEntry, IsSameMap}
+use Rattle.sketch_frequencies.specs.History.{FrequentHistory}
 use Rattle.sketch_frequencies.specs.History.FrequentHistory.{Update}
 use Rattle.sketch_frequencies.specs.State.{FrequentState, IsState}
 use Rattle.sketch_frequencies.specs.Stands.{StandsFor, KeepsTailBudget}

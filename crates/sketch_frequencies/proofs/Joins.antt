@@ -1,5 +1,5 @@
 -- What a run of steps and a join keep.
-use Rattle.std.proofs.Common.{◌≡◌, ℕ, ◌+◌, ◌-◌, ◌*◌, ◌/◌, ◌<◌, ◌≤◌, min, Bool, true, false, cond, List, [], ◌∷◌, ◌++◌, length, refl, ap, sym, ◌∙◌, subst, arith, sum_by, ◌||◌, IsPermutation}
+use Rattle.std.proofs.Common.{◌≡◌, ℕ, ◌+◌, ◌-◌, ◌*◌, ◌/◌, ◌<◌, ◌≤◌, Bool, true, false, cond, List, [], ◌∷◌, ◌++◌, length, refl, ap, sym, ◌∙◌, subst, arith, sum_by, ◌||◌, IsPermutation}
 use Rattle.std.proofs.Math.Nat.{mul-le-mul_left}
 use Rattle.std.specs.Cmp.{IsEquivalence}
 use Rattle.std.specs.List.{list_any, All}
@@ -11,8 +11,8 @@ use Rattle.std.proofs.lemmas.List.Sorted.{sum_by-IsPermutation, IsPermutation-re
 use Rattle.std.proofs.lemmas.List.Folds.{list_any-append}
 use Rattle.std.proofs.lemmas.Map.Entries.{length-keys_of}
 use Rattle.std.proofs.lemmas.Map.Made.{length-le_from_is_member}
-use Rattle.sketch_frequencies.specs.Tables.{Table, count_of, is_tracked, put, purged, sum_of, sum_outside}
-use Rattle.sketch_frequencies.specs.History.{FrequentHistory, true_weight, total_weight, weight_outside, own_size, least_size, budget_size}
+use Rattle.sketch_frequencies.specs.Tables.{Table, count_of, is_tracked, put, sum_of, sum_outside}
+use Rattle.sketch_frequencies.specs.History.{FrequentHistory, true_weight, total_weight, weight_outside, budget_size}
 use Rattle.sketch_frequencies.specs.History.FrequentHistory.{New, Update, Merge, Reset, Restored}
 use Rattle.sketch_frequencies.specs.State.{FrequentState, IsState, capacity, sample_size}
 use Rattle.sketch_frequencies.specs.Stands.{StandsFor, KeepsTailBudget, Covers}

@@ -1,11 +1,11 @@
 -- What entries of equal items with the same counts have in common.
-use Rattle.std.proofs.Common.{◌≡◌, ℕ, ◌+◌, ◌<◌, Bool, true, false, cond, Option, List, [], ◌∷◌, length, refl, ap, sym, ◌∙◌, subst, arith, unwrap_or, is_some, Some, IsPermutation}
+use Rattle.std.proofs.Common.{◌≡◌, ℕ, ◌<◌, Bool, true, false, cond, List, [], ◌∷◌, length, refl, ap, sym, ◌∙◌, arith, unwrap_or, is_some}
 use Rattle.std.specs.Cmp.{IsEquivalence}
 use Rattle.std.specs.List.{All, AllByRecursion, AllZip, IsDistinct, list_any}
 use Rattle.std.specs.Map.{lookup, keys_of}
-use Rattle.std.proofs.lemmas.List.Elements.{All-nil, All-cons, All-head, All-tail}
+use Rattle.std.proofs.lemmas.List.Elements.{All-cons, All-head, All-tail}
 use Rattle.std.proofs.lemmas.List.Sums.{sum_by-cons}
-use Rattle.std.proofs.lemmas.List.Sorted.{IsPermutation-map, IsPermutation-refl, All-permutation, length_permutation, sum_by-IsPermutation}
+use Rattle.std.proofs.lemmas.List.Sorted.{IsPermutation-map, All-permutation, length_permutation, sum_by-IsPermutation}
 use Rattle.std.proofs.lemmas.Map.Keys.{IsDistinct-head, IsDistinct-tail, IsDistinct-cons, IsDistinct-IsPermutation}
 use Rattle.sketch_frequencies.specs.Tables.{count_of, is_tracked, sum_of, sum_outside, IsSameEntry, IsSameMap}
 use Rattle.sketch_frequencies.proofs.Orders.{count_of-permutation, is_tracked-permutation}

@@ -1,4 +1,4 @@
-use Rattle.std.proofs.Common.{arith, ap, subst, ◌<◌, ◌+◌, ◌^◌, IsPermutation}
+use Rattle.std.proofs.Common.{arith, ap, subst, IsPermutation}
 use Rattle.std.proofs.lemmas.Result.{err_from_is_err_and}
 use Rattle.sketch_frequencies.specs.State.{IsState}
 use Rattle.sketch_frequencies.proofs.Merges.{added_none, added_more, added_all, next_positive, next_fits}

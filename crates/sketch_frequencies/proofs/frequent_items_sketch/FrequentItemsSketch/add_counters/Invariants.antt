@@ -1,4 +1,3 @@
-use Rattle.std.proofs.Common.{◌≡◌}
 use Rattle.sketch_frequencies.specs.State.{IsState}
 use Rattle.sketch_frequencies.proofs.Merges.{AddedSoFar}
 use Rattle.sketch_frequencies.proofs.frequent_items_sketch.FrequentItemsSketch.add_counters.Given as goal

@@ -1,4 +1,4 @@
-use Rattle.std.proofs.Common.{arith, ap, sym, subst, ◌≡◌, ◌+◌, ◌≤◌, length, true, ◌∙◌, refl}
+use Rattle.std.proofs.Common.{arith, ap, sym, subst, ◌+◌, ◌≤◌, length, ◌∙◌, refl}
 use Rattle.std.proofs.lemmas.List.Sorted.{length_permutation}
 use Rattle.sketch_frequencies.specs.Tables.{put}
 use Rattle.sketch_frequencies.specs.State.{FrequentState, IsState, capacity}

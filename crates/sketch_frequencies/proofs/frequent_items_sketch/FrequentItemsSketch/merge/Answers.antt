@@ -1,7 +1,6 @@
-use Rattle.std.proofs.Common.{◌≡◌, ◌+◌, ◌<◌, arith, ap, sym, ◌∙◌, subst}
+use Rattle.std.proofs.Common.{◌+◌, ◌<◌, arith, ap, sym, ◌∙◌, subst}
 use Rattle.sketch_frequencies.specs.State.{IsState, FrequentState}
 use Rattle.sketch_frequencies.specs.Steps.{JoinsEqual}
-use Rattle.sketch_frequencies.specs.Stands.{StandsFor, KeepsTailBudget}
 use Rattle.sketch_frequencies.proofs.Merges.{settle_fits, joins_equal, joins_nothing, stands_joins_equal, budget_joins_equal}
 use Rattle.sketch_frequencies.proofs.frequent_items_sketch.FrequentItemsSketch.merge.Goals as goal
 

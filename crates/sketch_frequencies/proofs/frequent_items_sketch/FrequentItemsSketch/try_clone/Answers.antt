@@ -1,4 +1,4 @@
-use Rattle.std.proofs.Common.{◌≡◌, subst, refl}
+use Rattle.std.proofs.Common.{subst, refl}
 use Rattle.sketch_frequencies.specs.State.{FrequentState, IsState}
 use Rattle.sketch_frequencies.specs.Steps.{IsSameState}
 use Rattle.sketch_frequencies.proofs.Alike.{state_alike, stands_alike, budget_alike}
