@@ -4,7 +4,7 @@ use Rattle.std.specs.Borrow.{Bor}
 use Rattle.std.specs.Result.{IfOk}
 use Rattle.std.proofs.lemmas.List.{take_all}
 use Rattle.datasketches_cli.specs.declared.command.Command.{Command}
-use Rattle.datasketches_cli.specs.declared.command.Command.TheVariants.{CreateFrequent, Add, Ask, GetStatus, ListRows}
+use Rattle.datasketches_cli.specs.declared.command.Command.TheVariants.{CreateFrequent, Add, Merge, Reset, Ask, GetStatus, ListRows}
 use Rattle.datasketches_cli.specs.declared.parse.Verb.{Verb}
 use Rattle.datasketches_cli.specs.declared.parse.Verb.TheVariants as verb
 use Rattle.datasketches_cli.specs.Words.{IsMade, Make, verb_word}
@@ -24,6 +24,8 @@ pub made_by_none : (words : List (Bor (List ℕ))) (d : Bor (List ℕ)) → 1 �
 made_by_none [] d h none command made = absurd (omega arith)
 made_by_none (word ∷ words) d h none (CreateFrequent name max) (number, e, n) = none verb.Frequent cc
 made_by_none (word ∷ words) d h none (Add name item weight) (number, e, n) = none verb.Add cc
+made_by_none (word ∷ words) d h none (Merge into other) e = none verb.Merge cc
+made_by_none (word ∷ words) d h none (Reset name) e = none verb.Reset cc
 made_by_none (word ∷ words) d h none (Ask name item) e = none verb.Ask cc
 made_by_none (word ∷ words) d h none (GetStatus name) e = none verb.Status cc
 made_by_none (word ∷ words) d h none (ListRows name error_type threshold) (number, e, n) = none verb.Rows cc

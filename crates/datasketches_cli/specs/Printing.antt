@@ -21,6 +21,7 @@ labelled label number = codes " " ++ label ++ codes " " ++ decimal number
 abbrev pub refusal_name : Refusal → List ℕ
 refusal_name refusal.NoSuchName = codes "NoSuchName"
 refusal_name refusal.NameTaken = codes "NameTaken"
+refusal_name refusal.SameName = codes "SameName"
 refusal_name (refusal.Call error) = fault_name error.fault
 
 -- a sketch's kind and its numbers

@@ -1,5 +1,5 @@
 -- Sketches under names.
-use Rattle.std.specs.Prelude.{◌≡◌, ℕ, List, map, Option, Some, bytes_eq, if◌then◌else◌}
+use Rattle.std.specs.Prelude.{◌≡◌, ℕ, List, map, Option, Some, MatchOption, bytes_eq, if◌then◌else◌}
 use Rattle.std.specs.Map.{lookup}
 use Rattle.std.specs.String.{string_bytes}
 use Rattle.std.specs.declared.string.String.{String}
@@ -29,3 +29,7 @@ Puts name sketch old new = (other : List ℕ) → at_name other new ≡ (if byte
 -- each name has the sketch that it had
 abbrev pub AreSame : Sketches → Sketches → Type 0
 AreSame old new = (name : List ℕ) → at_name name new ≡ at_name name old
+
+-- the sketch of the name, where there is one, was exchanged for this one
+abbrev pub Exchanges : List ℕ → FrequentState Text → Sketches → FrequentState Text → Sketches → Type 0
+Exchanges name sketch old was new = MatchOption (at_name name old) ((was ≡ sketch) × AreSame old new) (λ stood. (was ≡ stood) × Puts name sketch old new)

@@ -7,7 +7,7 @@ use Rattle.std.specs.String.{string_bytes}
 use Rattle.sketch_frequencies.specs.declared.error_type.ErrorType.{ErrorType}
 use Rattle.sketch_frequencies.specs.declared.error_type.ErrorType.TheVariants.{NoFalseNegatives, NoFalsePositives}
 use Rattle.datasketches_cli.specs.declared.command.Command.{Command}
-use Rattle.datasketches_cli.specs.declared.command.Command.TheVariants.{CreateFrequent, Add, Ask, GetStatus, ListRows}
+use Rattle.datasketches_cli.specs.declared.command.Command.TheVariants.{CreateFrequent, Add, Merge, Reset, Ask, GetStatus, ListRows}
 use Rattle.datasketches_cli.specs.declared.parse.Verb.{Verb}
 use Rattle.datasketches_cli.specs.declared.parse.Verb.TheVariants as verb
 
@@ -25,6 +25,8 @@ number_of word =
 abbrev pub verb_word : Verb → List ℕ
 verb_word verb.Frequent = codes "frequent"
 verb_word verb.Add = codes "add"
+verb_word verb.Merge = codes "merge"
+verb_word verb.Reset = codes "reset"
 verb_word verb.Ask = codes "ask"
 verb_word verb.Status = codes "status"
 verb_word verb.Rows = codes "rows"
@@ -40,6 +42,8 @@ Make words (CreateFrequent name max_map_size) =
     (max : List ℕ) × (words ≡ verb_word verb.Frequent ∷ string_bytes name ∷ max ∷ []) × (number_of max ≡ Some max_map_size)
 Make words (Add name item weight) =
     (number : List ℕ) × (words ≡ verb_word verb.Add ∷ string_bytes name ∷ number ∷ string_bytes item ∷ []) × (number_of number ≡ Some weight)
+Make words (Merge into other) = words ≡ verb_word verb.Merge ∷ string_bytes into ∷ string_bytes other ∷ []
+Make words (Reset name) = words ≡ verb_word verb.Reset ∷ string_bytes name ∷ []
 Make words (Ask name item) = words ≡ verb_word verb.Ask ∷ string_bytes name ∷ string_bytes item ∷ []
 Make words (GetStatus name) = words ≡ verb_word verb.Status ∷ string_bytes name ∷ []
 Make words (ListRows name error_type threshold) =

@@ -15,6 +15,15 @@ pub enum Command {
         item: String,
         weight: u64,
     },
+    /// Merges one sketch into another.
+    Merge {
+        into: String,
+        other: String,
+    },
+    /// Empties a sketch.
+    Reset {
+        name: String,
+    },
     /// Asks for an item's estimate and bounds.
     Ask {
         name: String,

@@ -1,14 +1,19 @@
 //! Sketches under names.
-ghost use Rattle.std.specs.Prelude.{◌≡◌, [], string_bytes};
-ghost use Rattle.datasketches_cli.specs.Steps.{Creates, Adds, OnSketch, Answers, Lists, bounds, status, Step};
+ghost use Rattle.std.specs.Prelude.{◌≡◌, [], MatchOption, string_bytes};
+ghost use Rattle.datasketches_cli.specs.Sketches.{at_name, Exchanges};
+ghost use Rattle.datasketches_cli.specs.Steps.{Creates, Adds, Joins, Merges, Empties, OnSketch, Answers, Lists, bounds, status, Step};
 
 use crate::command::Command;
 use crate::reply::{Refusal, Reply, Status};
-use sketch_base::Error;
+use sketch_base::{Error, ErrorKind, Fault};
 use sketch_frequencies::{ErrorType, FrequentItemsSketch};
 use std::alloc::Global;
 use std::collections::HashMap;
 use std::marker::Model;
+use std::mem;
+
+/// The least size of a sketch.
+const LEAST_SIZE: usize = 8;
 
 /// Sketches under names.
 #[derive(Drop)]
@@ -47,6 +52,8 @@ impl Keeper {
                 self.create_frequent(name, max_map_size)
             }
             Command::Add { name, item, weight } => self.add(name.as_str(), item, weight),
+            Command::Merge { into, other } => self.merge(into.as_str(), other.as_str()),
+            Command::Reset { name } => self.reset(name.as_str()),
             Command::Ask { name, item } => self.ask(name.as_str(), &item),
             Command::GetStatus { name } => self.status(name.as_str()),
             Command::ListRows {
@@ -80,6 +87,72 @@ impl Keeper {
             return Reply::Refused(Refusal::NoSuchName);
         };
         add_to(sketch, item, weight)
+    }
+
+    fn merge(&mut self, into: &str, other: &str) -> Reply
+        ensures { Merges into.now other.now self.old result self.new }
+    {
+        let Some(sketch) = self.sketches.get(into) else {
+            return Reply::Refused(Refusal::NoSuchName);
+        };
+        let Some(from) = self.sketches.get(other) else {
+            return Reply::Refused(Refusal::NoSuchName);
+        };
+        if into == other {
+            return Reply::Refused(Refusal::SameName);
+        }
+        if from.total_weight() > u64::MAX - sketch.total_weight() {
+            return Reply::Refused(Refusal::Call(Error::new(
+                ErrorKind::InvalidArgument,
+                Fault::WeightOverflow,
+            )));
+        }
+        // the map lends one sketch at a time, so an empty one stands in its place meanwhile
+        let empty = match FrequentItemsSketch::new(self.alloc, LEAST_SIZE) {
+            Ok(empty) => empty,
+            Err(e) => return Reply::Refused(Refusal::Call(e)),
+        };
+        let mut merged = self.exchange(into, empty);
+        let reply = self.merge_into(&mut merged, other);
+        self.exchange(into, merged);
+        reply
+    }
+
+    /// Puts a sketch in the place of the name's, and gives that back.
+    fn exchange(
+        &mut self,
+        name: &str,
+        sketch: FrequentItemsSketch<String>,
+    ) -> FrequentItemsSketch<String>
+        ensures { Exchanges name.now sketch self.old result self.new }
+    {
+        let Some(place) = self.sketches.get_mut(name) else {
+            return sketch;
+        };
+        mem::replace(place, sketch)
+    }
+
+    /// Merges the sketch of a name into a sketch.
+    fn merge_into(&self, sketch: &mut FrequentItemsSketch<String>, other: &str) -> Reply
+        ensures { MatchOption (at_name other.now self.now) (sketch.new ≡ sketch.old) (λ from. Joins sketch.old from result sketch.new) }
+    {
+        let Some(from) = self.sketches.get(other) else {
+            return Reply::Refused(Refusal::NoSuchName);
+        };
+        match sketch.merge(from) {
+            Ok(()) => Reply::Done,
+            Err(e) => Reply::Refused(Refusal::Call(e)),
+        }
+    }
+
+    fn reset(&mut self, name: &str) -> Reply
+        ensures { OnSketch Empties name.now self.old result self.new }
+    {
+        let Some(sketch) = self.sketches.get_mut(name) else {
+            return Reply::Refused(Refusal::NoSuchName);
+        };
+        sketch.reset();
+        Reply::Done
     }
 
     fn ask(&self, name: &str, item: &String) -> Reply

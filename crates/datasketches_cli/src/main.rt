@@ -6,6 +6,8 @@
 //! |---|---|---|
 //! | `frequent NAME MAX` | a sketch of at most MAX slots, a power of two from 8 to 2^30 | `ok` |
 //! | `add NAME WEIGHT ITEM` | a weight to be added to an item | `ok` |
+//! | `merge INTO FROM` | a sketch to be merged into another | `ok` |
+//! | `reset NAME` | a sketch to be emptied | `ok` |
 //! | `ask NAME ITEM` | an item's estimate and the bounds of its true weight | `estimate E lower L upper U` |
 //! | `status NAME` | a sketch's numbers | `frequent active A error E total W size S max M capacity C` |
 //! | `rows NAME fn THRESHOLD` | the items above a threshold, none of them missing | `rows N`, and for each a space and `ITEM ESTIMATE LOWER UPPER` |
@@ -13,7 +15,7 @@
 //!
 //! A line ends at a line feed or at the end of input, and one carriage return before that is dropped. Words stand
 //! between spaces, and a line without a word gets no answer. A number is one or more digits, below 2^64. What cannot be
-//! done changes nothing, and is answered by `refused` and a name: `NoSuchName`, `NameTaken`, or a fault of the sketch, as
+//! done changes nothing, and is answered by `refused` and a name: `NoSuchName`, `NameTaken`, `SameName`, or a fault of the sketch, as
 //! `WeightOverflow` or `NoMemory`.
 //!
 //! A line that is not UTF-8 or no command is answered by `bad line` and its number, counted from 1 over all lines, and

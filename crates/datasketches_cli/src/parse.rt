@@ -23,6 +23,8 @@ pub enum Line {
 enum Verb {
     Frequent,
     Add,
+    Merge,
+    Reset,
     Ask,
     Status,
     Rows,
@@ -71,6 +73,8 @@ fn command_of(alloc: Global, words: &[&str]) -> Result<Option<Command>, AllocErr
     match verb {
         Verb::Frequent => frequent(alloc, rest),
         Verb::Add => add(alloc, rest),
+        Verb::Merge => merge(alloc, rest),
+        Verb::Reset => reset(alloc, rest),
         Verb::Ask => ask(alloc, rest),
         Verb::Status => status(alloc, rest),
         Verb::Rows => rows(alloc, rest),
@@ -84,6 +88,8 @@ fn verb_of(word: &str) -> Option<Verb>
     match word {
         "frequent" => Some(Verb::Frequent),
         "add" => Some(Verb::Add),
+        "merge" => Some(Verb::Merge),
+        "reset" => Some(Verb::Reset),
         "ask" => Some(Verb::Ask),
         "status" => Some(Verb::Status),
         "rows" => Some(Verb::Rows),
@@ -119,6 +125,29 @@ fn add(alloc: Global, words: &[&str]) -> Result<Option<Command>, AllocError>
         name: String::from_str(alloc, name)?,
         item: String::from_str(alloc, item)?,
         weight,
+    }))
+}
+
+fn merge(alloc: Global, words: &[&str]) -> Result<Option<Command>, AllocError>
+    ensures { IfOk result (IsMade (verb_word Verb.Merge ∷ texts_of words.now)) }
+{
+    let [into, other] = words else {
+        return Ok(None);
+    };
+    Ok(Some(Command::Merge {
+        into: String::from_str(alloc, into)?,
+        other: String::from_str(alloc, other)?,
+    }))
+}
+
+fn reset(alloc: Global, words: &[&str]) -> Result<Option<Command>, AllocError>
+    ensures { IfOk result (IsMade (verb_word Verb.Reset ∷ texts_of words.now)) }
+{
+    let [name] = words else {
+        return Ok(None);
+    };
+    Ok(Some(Command::Reset {
+        name: String::from_str(alloc, name)?,
     }))
 }
 

@@ -44,6 +44,8 @@ pub enum Refusal {
     NoSuchName,
     /// A sketch has the name already.
     NameTaken,
+    /// A sketch is not merged into itself.
+    SameName,
     /// The sketch's own call refused.
     Call(Error),
 }
@@ -81,6 +83,7 @@ impl fmt::Display for Refusal {
         match self {
             Refusal::NoSuchName => write!(f, "NoSuchName"),
             Refusal::NameTaken => write!(f, "NameTaken"),
+            Refusal::SameName => write!(f, "SameName"),
             Refusal::Call(error) => write!(f, "{}", name_of(error.fault())),
         }
     }

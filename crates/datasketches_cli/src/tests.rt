@@ -45,6 +45,20 @@ fn questions_after_seven_items(rt: HostRuntime) -> Result<(), Fail> {
 }
 
 #[test]
+fn merging_and_emptying(rt: HostRuntime) -> Result<(), Fail> {
+    let mut input = SEVEN_ITEMS.to_vec(rt.alloc())?;
+    input.extend_from_slice(
+        b"frequent t 64\nadd t 5 a\nmerge s t\nask s a\nstatus s\nmerge s s\nreset s\nstatus s\n",
+    )?;
+    input.extend_from_slice(
+        b"merge s u\nmerge u s\nmerge u u\nreset u\nadd t 18446744073709551610 b\nadd s 1 a\nmerge s t\nmerge t s\nask s a\nask t a\n",
+    )?;
+    let output =
+        b"ok\nok\nok\nok\nok\nok\nok\nok\nfrequent active 0 error 1 total 7 size 8 max 8 capacity 6\nok\nok\nok\nestimate 6 lower 5 upper 6\nfrequent active 1 error 1 total 12 size 8 max 8 capacity 6\nrefused SameName\nok\nfrequent active 0 error 0 total 0 size 8 max 8 capacity 6\nrefused NoSuchName\nrefused NoSuchName\nrefused NoSuchName\nrefused NoSuchName\nok\nok\nrefused WeightOverflow\nrefused WeightOverflow\nestimate 1 lower 1 upper 1\nestimate 5 lower 5 upper 5\n";
+    check(&rt, rt.alloc(), &input, output, Ended::All)
+}
+
+#[test]
 fn rows_descend_by_estimate(rt: HostRuntime) -> Result<(), Fail> {
     let input =
         b"frequent s 64\nadd s 1 b\nadd s 5 a\nrows s fn 0\nrows s fp 3\nrows s fp 5\nask s a\nask s c\n";

@@ -11,6 +11,14 @@ pub returns-in-Add : goal.returns-in-Add
 returns-in-Add c =
     made_by_rest c.args.words.now _ _ _ c.in-len1-up.len_at_least (c.in-Some.ensures ∙ ap verb_word c.in-Add.is) c.add.ensures
 
+pub returns-in-Merge : goal.returns-in-Merge
+returns-in-Merge c =
+    made_by_rest c.args.words.now _ _ _ c.in-len1-up.len_at_least (c.in-Some.ensures ∙ ap verb_word c.in-Merge.is) c.merge.ensures
+
+pub returns-in-Reset : goal.returns-in-Reset
+returns-in-Reset c =
+    made_by_rest c.args.words.now _ _ _ c.in-len1-up.len_at_least (c.in-Some.ensures ∙ ap verb_word c.in-Reset.is) c.reset.ensures
+
 pub returns-in-Ask : goal.returns-in-Ask
 returns-in-Ask c =
     made_by_rest c.args.words.now _ _ _ c.in-len1-up.len_at_least (c.in-Some.ensures ∙ ap verb_word c.in-Ask.is) c.ask.ensures

@@ -1,0 +1,185 @@
+-- Which numbers stand in words after a change.
+use Rattle.std.proofs.Common.{◌≡◌, ◌≢◌, inl, inr, ℕ, zero, suc, ◌+◌, ◌-◌, ◌*◌, ◌/◌, ◌%◌, ◌^◌, ◌<◌, ◌≤◌, ◌==◌, true, false, ◌&&◌, ◌||◌, not, List, [], ◌∷◌, length, get_or, set, min, max, bit_and, bit_or, w64, refl, sym, ap, ◌∙◌, arith, eq-eqb, replicate}
+use Rattle.std.specs.Int.{bit_at, bit_not}
+use Rattle.std.proofs.lemmas.List.{get_or-set_same, get_or-set_other}
+use Rattle.std.proofs.lemmas.Nat.Bits.{bit_at-lt, bit_at-zero, bit_at_and, bit_at_or, bit_at_not, bit_at_set_same, bit_at_set_other, same_from_bits_below}
+use Rattle.std.proofs.lemmas.Nat.{or_lt, and_le_l}
+use Rattle.std.proofs.lemmas.Bool.{cases_lt, cases_eq}
+use Rattle.std.proofs.lemmas.Bool.Decides.{nat_tests}
+use Rattle.std.proofs.Math.Nat.{div-add-mod}
+use Rattle.std.proofs.Math.ListN.{get_or-eq_default}
+use Rattle.std.specs.FinSet as numbers
+use lib.Lanes.{zip2}
+use Rattle.sketch_bloom.specs.Words.{bit_in, set_of, without}
+use Rattle.sketch_bloom.proofs.Sets.{same_members, contains-insert, contains-empty, contains-union, contains-intersection, contains-difference}
+use Rattle.sketch_bloom.proofs.Counting.{in_set_below, contains-set_of}
+
+-- what stands in the words is below 64 for each of them
+pub below_capacity : (words : List ℕ) (p : ℕ) → numbers.contains (set_of words) p ≡ true → p < 64 * length words
+unfolding set_of
+below_capacity words p h = (in_set_below words (64 * length words) p h).0
+
+-- the word at a place after an operation on each
+word_of_each : (f : ℕ → ℕ → ℕ) → f 0 0 ≡ 0 → (xs ys : List ℕ) → length xs ≡ length ys → (i : ℕ) → get_or (zip2 f xs ys) i 0 ≡ f (get_or xs i 0) (get_or ys i 0)
+word_of_each f z [] [] e i = sym z
+word_of_each f z [] (y ∷ ys) e i = absurd (omega arith)
+word_of_each f z (x ∷ xs) [] e i = absurd (omega arith)
+word_of_each f z (x ∷ xs) (y ∷ ys) e zero = refl
+word_of_each f z (x ∷ xs) (y ∷ ys) e (suc i) = word_of_each f z xs ys (omega arith) i
+
+-- a test on the bit, after such an operation
+bit_of_each : (f : ℕ → ℕ → ℕ) → f 0 0 ≡ 0 → (xs ys : List ℕ) → length xs ≡ length ys → (q : ℕ)
+    → numbers.contains (set_of (zip2 f xs ys)) q ≡ (bit_at (f (get_or xs (q / 64) 0) (get_or ys (q / 64) 0)) (q % 64) == 1)
+bit_of_each f z xs ys e q = contains-set_of (zip2 f xs ys) q ∙ ap (λ w. bit_at w (q % 64) == 1) (word_of_each f z xs ys e (q / 64))
+
+-- the greater of two bits is set where one is
+either_bit : (a b : ℕ) → a < 2 → b < 2 → (max a b == 1) ≡ ((a == 1) || (b == 1))
+either_bit a b l m = grind (arith, nat_tests)
+
+-- the smaller is set where both are
+both_bits : (a b : ℕ) → a < 2 → b < 2 → (min a b == 1) ≡ ((a == 1) && (b == 1))
+both_bits a b l m = grind (arith, nat_tests)
+
+-- the other bit is set where one is not
+other_bit : (b : ℕ) → b < 2 → ((1 - b) == 1) ≡ not (b == 1)
+other_bit zero l = refl
+other_bit (suc zero) l = refl
+other_bit (suc (suc b)) l = absurd (omega arith)
+
+-- `|` on each word unites
+pub set_of-or : (xs ys : List ℕ) → length xs ≡ length ys → set_of (zip2 bit_or xs ys) ≡ numbers.union (set_of xs) (set_of ys)
+set_of-or xs ys e = same_members (set_of (zip2 bit_or xs ys)) (numbers.union (set_of xs) (set_of ys)) (λ q.
+    let a : ℕ = get_or xs (q / 64) 0 in
+    let b : ℕ = get_or ys (q / 64) 0 in
+    bit_of_each bit_or refl xs ys e q
+    ∙ ap (λ n. n == 1) (bit_at_or a b (q % 64))
+    ∙ either_bit (bit_at a (q % 64)) (bit_at b (q % 64)) (bit_at-lt a (q % 64)) (bit_at-lt b (q % 64))
+    ∙ ap (λ t. t || bit_in ys q) (sym (contains-set_of xs q))
+    ∙ ap (λ t. numbers.contains (set_of xs) q || t) (sym (contains-set_of ys q))
+    ∙ sym (contains-union (set_of xs) (set_of ys) q))
+
+-- `&` on each word intersects
+pub set_of-and : (xs ys : List ℕ) → length xs ≡ length ys → set_of (zip2 bit_and xs ys) ≡ numbers.intersection (set_of xs) (set_of ys)
+set_of-and xs ys e = same_members (set_of (zip2 bit_and xs ys)) (numbers.intersection (set_of xs) (set_of ys)) (λ q.
+    let a : ℕ = get_or xs (q / 64) 0 in
+    let b : ℕ = get_or ys (q / 64) 0 in
+    bit_of_each bit_and refl xs ys e q
+    ∙ ap (λ n. n == 1) (bit_at_and a b (q % 64))
+    ∙ both_bits (bit_at a (q % 64)) (bit_at b (q % 64)) (bit_at-lt a (q % 64)) (bit_at-lt b (q % 64))
+    ∙ ap (λ t. t && bit_in ys q) (sym (contains-set_of xs q))
+    ∙ ap (λ t. numbers.contains (set_of xs) q && t) (sym (contains-set_of ys q))
+    ∙ sym (contains-intersection (set_of xs) (set_of ys) q))
+
+-- `& !` on each word takes away
+pub set_of-without : (xs ys : List ℕ) → length xs ≡ length ys → ((k : ℕ) → get_or ys k 0 < 2 ^ 64) → set_of (zip2 without xs ys) ≡ numbers.difference (set_of xs) (set_of ys)
+set_of-without xs ys e fits = same_members (set_of (zip2 without xs ys)) (numbers.difference (set_of xs) (set_of ys)) (λ q.
+    let a : ℕ = get_or xs (q / 64) 0 in
+    let b : ℕ = get_or ys (q / 64) 0 in
+    let k : ℕ = q % 64 in
+    let inside : q % 64 < 64 = omega arith in
+    let turned : bit_at (bit_not w64 b) (q % 64) ≡ 1 - bit_at b (q % 64) = bit_at_not w64 b (q % 64) (fits (q / 64)) inside in
+    bit_of_each without refl xs ys e q
+    ∙ ap (λ n. n == 1) (bit_at_and a (bit_not w64 b) (q % 64))
+    ∙ both_bits (bit_at a (q % 64)) (bit_at (bit_not w64 b) (q % 64)) (bit_at-lt a (q % 64)) (bit_at-lt (bit_not w64 b) (q % 64))
+    ∙ ap (λ n. (bit_at a (q % 64) == 1) && (n == 1)) turned
+    ∙ ap (λ t. (bit_at a (q % 64) == 1) && t) (other_bit (bit_at b (q % 64)) (bit_at-lt b (q % 64)))
+    ∙ ap (λ t. t && not (bit_in ys q)) (sym (contains-set_of xs q))
+    ∙ ap (λ t. numbers.contains (set_of xs) q && not t) (sym (contains-set_of ys q))
+    ∙ sym (contains-difference (set_of xs) (set_of ys) q))
+
+-- a bit is set at a number's place
+pub set_of-set : (words : List ℕ) (p : ℕ) → p < 64 * length words
+    → set_of (set words (p / 64) (bit_or (get_or words (p / 64) 0) (1 * 2 ^ (p % 64) % 2 ^ 64))) ≡ numbers.insert (set_of words) p
+set_of-set words p l =
+    let w : ℕ = get_or words (p / 64) 0 in
+    let v : ℕ = bit_or w (1 * 2 ^ (p % 64) % 2 ^ 64) in
+    let row : p / 64 < length words = omega arith in
+    let column : p % 64 < 64 = omega arith in
+    let new : List ℕ = set words (p / 64) v in
+    same_members (set_of new) (numbers.insert (set_of words) p) (λ q.
+    contains-set_of new q
+    ∙ (elim (cases_eq (q / 64) (p / 64)) as (λ _. bit_in new q ≡ ((q == p) || bit_in words q)) [
+      | inl same ↦
+          let read : get_or new (q / 64) 0 ≡ v = ap (λ i. get_or new i 0) same ∙ get_or-set_same words (p / 64) v 0 row in
+          let old : get_or words (q / 64) 0 ≡ w = ap (λ i. get_or words i 0) same in
+          ap (λ x. bit_at x (q % 64) == 1) read
+          ∙ (elim (cases_eq (q % 64) (p % 64)) as (λ _. (bit_at v (q % 64) == 1) ≡ ((q == p) || bit_in words q)) [
+            | inl k ↦
+                let whole : q ≡ p = omega (arith, div-add-mod q 64, div-add-mod p 64) in
+                ap (λ j. bit_at v j == 1) k
+                ∙ ap (λ n. n == 1) (bit_at_set_same w64 w (p % 64) column)
+                ∙ sym (ap (λ t. t || bit_in words q) (eq-eqb q p whole))
+            | inr k ↦
+                let inside : q % 64 < 64 = omega arith in
+                ap (λ n. n == 1) (bit_at_set_other w64 w (p % 64) column (q % 64) k)
+                ∙ ap (λ x. bit_at x (q % 64) == 1) (sym old)
+                ∙ sym (ap (λ t. t || bit_in words q) (differ q p (λ s. k (ap (λ n. n % 64) s))))
+          ])
+      | inr other ↦
+          ap (λ x. bit_at x (q % 64) == 1) (get_or-set_other words (p / 64) (q / 64) v 0 other)
+          ∙ sym (ap (λ t. t || bit_in words q) (differ q p (λ s. other (ap (λ n. n / 64) s))))
+    ])
+    ∙ ap (λ t. (q == p) || t) (sym (contains-set_of words q))
+    ∙ sym (contains-insert (set_of words) p q))
+  where
+    differ : (q p : ℕ) → q ≢ p → (q == p) ≡ false
+    differ q p h = grind (arith, nat_tests)
+
+-- words of zeros hold nothing
+pub set_of-zeros : (words : List ℕ) → ((i : ℕ) → get_or words i 0 ≡ 0) → set_of words ≡ numbers.empty
+set_of-zeros words zeros = same_members (set_of words) numbers.empty (λ q.
+    contains-set_of words q
+    ∙ ap (λ w. bit_at w (q % 64) == 1) (zeros (q / 64))
+    ∙ ap (λ n. n == 1) (bit_at-zero (q % 64))
+    ∙ sym (contains-empty q))
+
+-- two lists of one length that agree at each place
+pub same_lists : (xs ys : List ℕ) → length xs ≡ length ys → ((i : ℕ) → get_or xs i 0 ≡ get_or ys i 0) → xs ≡ ys
+same_lists [] [] e h = refl
+same_lists [] (y ∷ ys) e h = absurd (omega arith)
+same_lists (x ∷ xs) [] e h = absurd (omega arith)
+same_lists (x ∷ xs) (y ∷ ys) e h = ap (λ z. z ∷ xs) (h 0) ∙ ap (λ zs. y ∷ zs) (same_lists xs ys (omega arith) (λ i. h (suc i)))
+
+-- the same where they agree below their length
+pub same_lists_below : (xs ys : List ℕ) (n : ℕ) → length xs ≡ length ys → length xs ≤ n → ((i : ℕ) → i < n → get_or xs i 0 ≡ get_or ys i 0) → xs ≡ ys
+same_lists_below xs ys n e all h = same_lists xs ys e (λ i. elim (cases_lt i n) as (λ _. get_or xs i 0 ≡ get_or ys i 0) [
+  | inl l ↦ h i l
+  | inr g ↦ get_or-eq_default xs 0 (omega arith) ∙ sym (get_or-eq_default ys 0 (omega arith))
+])
+
+-- words are one to one with the set that stands in them
+pub same_words : (xs ys : List ℕ) → length xs ≡ length ys → ((k : ℕ) → get_or xs k 0 < 2 ^ 64) → ((k : ℕ) → get_or ys k 0 < 2 ^ 64) → set_of xs ≡ set_of ys → xs ≡ ys
+same_words xs ys e fx fy s = same_lists xs ys e (λ i. same_from_bits_below 64 (get_or xs i 0) (get_or ys i 0) (fx i) (fy i) (λ k l. same_bit i k l))
+  where
+    same_number : (a b : ℕ) → a < 2 → b < 2 → (a == 1) ≡ (b == 1) → a ≡ b
+    same_number a b l m t = grind (arith, nat_tests)
+
+    same_bit : (i k : ℕ) → k < 64 → bit_at (get_or xs i 0) k ≡ bit_at (get_or ys i 0) k
+    same_bit i k l =
+        let row : (64 * i + k) / 64 ≡ i = omega arith in
+        let column : (64 * i + k) % 64 ≡ k = omega arith in
+        let at_x : bit_in xs (64 * i + k) ≡ (bit_at (get_or xs i 0) k == 1) = ap (λ r. bit_at (get_or xs r 0) ((64 * i + k) % 64) == 1) row ∙ ap (λ j. bit_at (get_or xs i 0) j == 1) column in
+        let at_y : bit_in ys (64 * i + k) ≡ (bit_at (get_or ys i 0) k == 1) = ap (λ r. bit_at (get_or ys r 0) ((64 * i + k) % 64) == 1) row ∙ ap (λ j. bit_at (get_or ys i 0) j == 1) column in
+        let one : bit_in xs (64 * i + k) ≡ bit_in ys (64 * i + k) = sym (contains-set_of xs (64 * i + k)) ∙ ap (λ t. numbers.contains t (64 * i + k)) s ∙ contains-set_of ys (64 * i + k) in
+        same_number (bit_at (get_or xs i 0) k) (bit_at (get_or ys i 0) k) (bit_at-lt (get_or xs i 0) k) (bit_at-lt (get_or ys i 0) k) (sym at_x ∙ one ∙ at_y)
+
+-- what fits 64 bits on each side does so after an operation
+pub or_fits : (xs ys : List ℕ) → length xs ≡ length ys → ((k : ℕ) → get_or xs k 0 < 2 ^ 64) → ((k : ℕ) → get_or ys k 0 < 2 ^ 64) → (k : ℕ) → get_or (zip2 bit_or xs ys) k 0 < 2 ^ 64
+or_fits xs ys e fx fy k = omega (arith, word_of_each bit_or refl xs ys e k, or_lt 64 (get_or xs k 0) (get_or ys k 0) (fx k) (fy k))
+
+-- where the first side fits, `&` does
+pub and_fits : (xs ys : List ℕ) → length xs ≡ length ys → ((k : ℕ) → get_or xs k 0 < 2 ^ 64) → (k : ℕ) → get_or (zip2 bit_and xs ys) k 0 < 2 ^ 64
+and_fits xs ys e fx k = omega (arith, word_of_each bit_and refl xs ys e k, and_le_l (get_or xs k 0) (get_or ys k 0), fx k)
+
+-- and so does `& !`
+pub without_fits : (xs ys : List ℕ) → length xs ≡ length ys → ((k : ℕ) → get_or xs k 0 < 2 ^ 64) → (k : ℕ) → get_or (zip2 without xs ys) k 0 < 2 ^ 64
+without_fits xs ys e fx k = omega (arith, word_of_each without refl xs ys e k, and_le_l (get_or xs k 0) (bit_not w64 (get_or ys k 0)), fx k)
+
+-- a list of zeros is zero at each place
+pub zero_everywhere : (words : List ℕ) (n : ℕ) → words ≡ replicate n 0 → (i : ℕ) → get_or words i 0 ≡ 0
+zero_everywhere words n e i = ap (λ ws. get_or ws i 0) e ∙ of_copies n i
+  where
+    of_copies : (n i : ℕ) → get_or {A = ℕ} (replicate n 0) i 0 ≡ 0
+    of_copies zero i = refl
+    of_copies (suc n) zero = refl
+    of_copies (suc n) (suc i) = of_copies n i

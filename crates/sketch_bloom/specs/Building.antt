@@ -1,0 +1,26 @@
+-- What a builder is asked for, and when it refuses.
+use Rattle.std.specs.Prelude.{ℕ, ◌+◌, ◌/◌, nat_lt, ◌||◌, ◌==◌, Option, Some, None, if◌then◌else◌}
+use Rattle.sketch_base.specs.Errors.{ErrorValue, invalid_argument, no_memory}
+use Rattle.sketch_base.specs.declared.error.Fault.{Fault}
+use Rattle.sketch_base.specs.declared.error.Fault.TheVariants.{BadNumBits, BadNumHashes}
+
+-- the numbers of bits and hashes, and the seed
+pub record Request : Type 0 where
+  pub num_bits : ℕ
+  pub num_hashes : ℕ
+  pub seed : ℕ
+
+-- what is wrong with a request, if anything: 1 to 137438953152 bits, and 1 to 32767 hashes
+abbrev pub request_fault : Request → Option Fault
+request_fault r =
+    if (r.num_bits == 0) || nat_lt 137438953152 r.num_bits then Some BadNumBits
+    else (if (r.num_hashes == 0) || nat_lt 32767 r.num_hashes then Some BadNumHashes else None)
+
+-- how many words hold so many bits
+abbrev pub words_for : ℕ → ℕ
+words_for num_bits = (num_bits + 63) / 64
+
+-- the refusal for a fault, or else for want of memory
+abbrev pub refusal_of : Option Fault → ErrorValue
+refusal_of (Some fault) = invalid_argument fault
+refusal_of None = no_memory

@@ -1,0 +1,9 @@
+pub mod Words
+pub mod Fields
+pub mod Positions
+pub mod State
+pub mod Equality
+pub mod History
+pub mod Stands
+pub mod Building
+pub mod Laws

@@ -1,0 +1,79 @@
+//! What makes filters.
+ghost use Rattle.std.specs.Prelude.{◌≡◌, None, IfOk, IfErr, IsOk};
+ghost use Rattle.sketch_bloom.specs.Building.{request_fault, refusal_of, words_for};
+ghost use Rattle.sketch_bloom.specs.History.BloomHistory.{New};
+ghost use Rattle.sketch_bloom.specs.Stands.{StandsFor};
+ghost use Rattle.sketch_bloom.specs.State.{IsFilterState, empty_state};
+
+use crate::bloom_filter::BloomFilter;
+use sketch_base::{DEFAULT_UPDATE_SEED, Error, ErrorKind, Fault};
+use std::alloc::Global;
+use std::marker::Model;
+
+/// The most bits that a filter may be asked for.
+const GREATEST_NUM_BITS: u64 = 137438953152;
+
+/// The most hashes that a filter may be asked for.
+const GREATEST_NUM_HASHES: u16 = 32767;
+
+/// The number of bits and of hashes and the seed of a filter that is to be made.
+///
+/// Nothing is checked before [`build`](BloomFilterBuilder::build).
+#[derive(Debug, Clone, Drop)]
+pub struct BloomFilterBuilder {
+    num_bits: u64,
+    num_hashes: u16,
+    seed: u64,
+}
+
+impl Model for BloomFilterBuilder {
+    ghost use Rattle.sketch_bloom.specs.Building.{Request};
+
+    ghost Value = { Request };
+
+    ghost view = { λ b. record { num_bits = b.num_bits; num_hashes = b.num_hashes; seed = b.seed } };
+}
+
+impl BloomFilterBuilder {
+    /// A filter of at least `num_bits` bits, which takes `num_hashes` positions of each item. Its seed is 9001.
+    pub fn with_size(num_bits: u64, num_hashes: u16) -> Self
+        ensures { result ≡ record { num_bits = num_bits; num_hashes = num_hashes; seed = 9001 } }
+    {
+        BloomFilterBuilder {
+            num_bits,
+            num_hashes,
+            seed: DEFAULT_UPDATE_SEED,
+        }
+    }
+
+    /// The same with another seed.
+    pub fn seed(mut self, seed: u64) -> Self
+        ensures { result ≡ record self { seed = seed } }
+    {
+        self.seed = seed;
+        self
+    }
+
+    /// The filter, with nothing in it. It has as many words of 64 bits as the number of bits needs.
+    ///
+    /// # Errors
+    ///
+    /// `BadNumBits` unless the number of bits is from 1 to 137438953152, `BadNumHashes` unless the number of hashes is
+    /// from 1 to 32767, in this order, and `NoMemory` where there is no memory for the words.
+    pub fn build(self, alloc: Global) -> Result<BloomFilter, Error>
+        ensures ok { IfOk result (λ filter. filter ≡ empty_state (words_for self.num_bits) self.num_hashes self.seed) }
+        ensures state { IfOk result (λ filter. IsFilterState filter) }
+        ensures stands { IfOk result (λ filter. StandsFor filter (New (words_for self.num_bits) self.num_hashes self.seed)) }
+        ensures accepted { IsOk result → request_fault self ≡ None }
+        ensures refused { IfErr result (λ e. e ≡ refusal_of (request_fault self)) }
+    {
+        if self.num_bits == 0 || self.num_bits > GREATEST_NUM_BITS {
+            return Err(Error::new(ErrorKind::InvalidArgument, Fault::BadNumBits));
+        }
+        if self.num_hashes == 0 || self.num_hashes > GREATEST_NUM_HASHES {
+            return Err(Error::new(ErrorKind::InvalidArgument, Fault::BadNumHashes));
+        }
+        let num_words = self.num_bits.div_ceil(64) as usize;
+        BloomFilter::with_words(alloc, num_words, self.num_hashes, self.seed)
+    }
+}

@@ -1,0 +1,169 @@
+//! Sets of numbers in words of 64 bits.
+//!
+//! A number `p` stands in the words where bit `p % 64` of word `p / 64` is set.
+ghost use Rattle.std.specs.Prelude.{◌≡◌, ◌+◌, ◌*◌, ◌/◌, ◌%◌, ◌<◌, ◌≤◌, ◌==◌, ◌↔◌, IsTrue, length, take, drop, count_ones};
+ghost use Rattle.std.specs.List.{sum_by};
+ghost use Rattle.std.specs.FinSet as set;
+ghost use Rattle.sketch_bloom.specs.Words.{set_of};
+ghost use Rattle.sketch_bloom.specs.Positions.{positions};
+
+use sketch_base::Divisor;
+use std::simd::prelude::*;
+
+/// The position that a sum of hashes gives: its half, modulo the capacity.
+#[inline(always)]
+fn place_of(hash: u64, capacity: Divisor) -> u64
+    ensures value { result ≡ hash / 2 % capacity }
+    ensures below { result < capacity }
+{
+    capacity.rem(hash >> 1)
+}
+
+/// Whether all positions that two hashes give stand in the words. It stops at the first that does not.
+#[inline(always)]
+pub fn contains_positions(
+    words: &[u64],
+    capacity: Divisor,
+    num_hashes: u16,
+    h0: u64,
+    h1: u64,
+) -> bool
+    requires { capacity ≡ 64 * length words.now }
+    ensures { result ≡ set.is_subset (positions capacity num_hashes h0 h1) (set_of words.now) }
+{
+    let mut hash = h0;
+    'looks: for _i in 0..num_hashes {
+        hash = hash.wrapping_add(h1);
+        let place = place_of(hash, capacity);
+        let word = words[(place / 64) as usize];
+        if word >> (place % 64) & 1 == 0 {
+            return false;
+        }
+    }
+    true
+}
+
+/// Inserts all positions that two hashes give, and answers how many of them are new.
+#[inline(always)]
+pub fn insert_positions(
+    words: &mut [u64],
+    capacity: Divisor,
+    num_hashes: u16,
+    h0: u64,
+    h1: u64,
+) -> u64
+    requires { capacity ≡ 64 * length words.old }
+    ensures union { set_of words.new ≡ set.union (set_of words.old) (positions capacity num_hashes h0 h1) }
+    ensures added { set.len (set_of words.new) ≡ set.len (set_of words.old) + result }
+    ensures contained { set.is_subset (positions capacity num_hashes h0 h1) (set_of words.old) ≡ (result == 0) }
+{
+    let mut added = 0;
+    let mut hash = h0;
+    'inserts: for _i in 0..num_hashes {
+        hash = hash.wrapping_add(h1);
+        let place = place_of(hash, capacity);
+        let at = (place / 64) as usize;
+        let word = words[at];
+        words[at] = word | 1 << (place % 64);
+        added += 1 - (word >> (place % 64) & 1);
+    }
+    added
+}
+
+/// Whether the same numbers stand in both lists of words.
+pub fn is_same(words: &[u64], other: &[u64]) -> bool
+    requires { length words.now ≡ length other.now }
+    ensures { IsTrue result ↔ (set_of words.now ≡ set_of other.now) }
+{
+    for (i, word) in words.iter().enumerate() {
+        if *word != other[i] {
+            return false;
+        }
+    }
+    true
+}
+
+/// Takes all numbers out of the words.
+pub fn clear(words: &mut [u64])
+    ensures { set_of words.new ≡ set.empty }
+{
+    words.fill(0);
+}
+
+/// Unites with another set, four words at a time, and answers the size of the union.
+pub fn unite(words: &mut [u64], other: &[u64]) -> u64
+    requires same { length other.now ≡ length words.old }
+    requires few { length words.old ≤ 2147483647 }
+    ensures union { set_of words.new ≡ set.union (set_of words.old) (set_of other.now) }
+    ensures size { result ≡ set.len (set_of words.new) }
+{
+    let mut size = 0;
+    let blocks = words.len() / 4;
+    'fours: for b in 0..blocks {
+        let at = 4 * b;
+        let both = u64x4::from_slice(&words[at..]) | u64x4::from_slice(&other[at..]);
+        both.copy_to_slice(&mut words[at..]);
+        size += ones_of_four(words, at);
+    }
+    'rest: for i in 4 * blocks..words.len() {
+        words[i] |= other[i];
+        size += words[i].count_ones() as u64;
+    }
+    size
+}
+
+/// Intersects with another set, four words at a time, and answers the size of the intersection.
+pub fn intersect(words: &mut [u64], other: &[u64]) -> u64
+    requires same { length other.now ≡ length words.old }
+    requires few { length words.old ≤ 2147483647 }
+    ensures intersection { set_of words.new ≡ set.intersection (set_of words.old) (set_of other.now) }
+    ensures size { result ≡ set.len (set_of words.new) }
+{
+    let mut size = 0;
+    let blocks = words.len() / 4;
+    'fours: for b in 0..blocks {
+        let at = 4 * b;
+        let both = u64x4::from_slice(&words[at..]) & u64x4::from_slice(&other[at..]);
+        both.copy_to_slice(&mut words[at..]);
+        size += ones_of_four(words, at);
+    }
+    'rest: for i in 4 * blocks..words.len() {
+        words[i] &= other[i];
+        size += words[i].count_ones() as u64;
+    }
+    size
+}
+
+/// Takes another set away, four words at a time, and answers the size of what is left.
+pub fn subtract(words: &mut [u64], other: &[u64]) -> u64
+    requires same { length other.now ≡ length words.old }
+    requires few { length words.old ≤ 2147483647 }
+    ensures difference { set_of words.new ≡ set.difference (set_of words.old) (set_of other.now) }
+    ensures size { result ≡ set.len (set_of words.new) }
+{
+    let mut size = 0;
+    let blocks = words.len() / 4;
+    'fours: for b in 0..blocks {
+        let at = 4 * b;
+        let left = u64x4::from_slice(&words[at..]) & !u64x4::from_slice(&other[at..]);
+        left.copy_to_slice(&mut words[at..]);
+        size += ones_of_four(words, at);
+    }
+    'rest: for i in 4 * blocks..words.len() {
+        words[i] &= !other[i];
+        size += words[i].count_ones() as u64;
+    }
+    size
+}
+
+/// How many bits are set in the four words from a place on.
+#[inline(always)]
+fn ones_of_four(words: &[u64], at: usize) -> u64
+    requires { at + 4 ≤ length words.now }
+    ensures count { result ≡ sum_by count_ones (take 4 (drop at words.now)) }
+    ensures few { result ≤ 256 }
+{
+    let low = words[at].count_ones() + words[at + 1].count_ones();
+    let high = words[at + 2].count_ones() + words[at + 3].count_ones();
+    (low + high) as u64
+}

@@ -1,0 +1,57 @@
+-- The least cell of an item, and the bound above it.
+use Rattle.std.proofs.Common.{◌≡◌, ℕ, ◌<◌, List, length, map, ℤ, pos, sym, ap, ◌∙◌, subst, arith}
+use Rattle.std.specs.Prelude.{slice_index, ◌≤ℤ◌}
+use Rattle.std.specs.Int.{int_min}
+use Rattle.std.proofs.lemmas.Int.{ints, clamps, by_lt_z}
+use Rattle.std.proofs.lemmas.Nat.{mod_below}
+use Rattle.sketch_base.specs.Murmur3.{murmur3_x64_128}
+use Rattle.sketch_countmin.specs.Cells.{flat_at, IsLeastOf}
+use Rattle.sketch_countmin.specs.Values.{InRange}
+use Rattle.sketch_countmin.specs.Rows.{cell_at, rows_of}
+use Rattle.sketch_countmin.specs.Buckets.{row_seed, bucket_by, bucket_of}
+use Rattle.sketch_countmin.specs.State.{CountState, IsLeastCell}
+use Rattle.sketch_countmin.specs.Table.{IsTable, state_of}
+use Rattle.sketch_countmin.proofs.Tables.{read_rows}
+use Rattle.sketch_countmin.proofs.Updates.{row_bucket}
+
+-- a bucket is one of the buckets
+pub bucket_below : (d seed r : ℕ) (bytes : List ℕ) → 0 < d → bucket_of d seed r bytes < d
+unfolding bucket_of
+bucket_below d seed r bytes p = mod_below (murmur3_x64_128 bytes (row_seed r seed)).0 d p
+
+-- what a loop found over the lists that it was lent holds of the sketch's own
+pub least_own : {T : Type 0} (number : T → ℤ) (d : ℕ) (bytes : List ℕ) (row_seeds seeds : List ℕ) (items lent : List T) (z : ℤ) → seeds ≡ row_seeds → lent ≡ items
+    → IsLeastOf d (map number lent) (λ r. bucket_by d (slice_index seeds r) bytes) (length seeds) z
+    → IsLeastOf d (map number items) (λ r. bucket_by d (slice_index row_seeds r) bytes) (length row_seeds) z
+least_own number d bytes row_seeds seeds items lent z se le h =
+    subst (λ (l : List ℕ). IsLeastOf d (map number items) (λ r. bucket_by d (slice_index l r) bytes) (length l) z) se
+    (subst (λ (l : List _). IsLeastOf d (map number l) (λ r. bucket_by d (slice_index seeds r) bytes) (length seeds) z) le h)
+
+-- the least cell that the rows' seeds lead to is the item's least cell
+pub least_here : (greatest : ℕ) (row_seeds : List ℕ) (d seed : ℕ) (t : ℤ) (cells : List ℤ) (bytes : List ℕ) (z : ℤ) → IsTable greatest row_seeds d seed t cells
+    → IsLeastOf d cells (λ r. bucket_by d (slice_index row_seeds r) bytes) (length row_seeds) z → IsLeastCell (state_of row_seeds d seed t cells) bytes z
+least_here greatest row_seeds d seed t cells bytes z i h = record {
+  below = λ r lr. subst (λ (w : ℤ). z ≤ℤ w) (same r lr) (h.below r lr);
+  reached = let found = h.reached in (found.0, found.1, found.2 ∙ same found.0 found.1);
+}
+  where
+    same : (r : ℕ) → r < length row_seeds → flat_at d cells r (bucket_by d (slice_index row_seeds r) bytes) ≡ cell_at (rows_of (length row_seeds) d cells) r (bucket_of d seed r bytes)
+    same r lr = ap (λ (b : ℕ). flat_at d cells r b) (row_bucket row_seeds d seed r bytes (i.seeds r lr))
+        ∙ sym (read_rows (length row_seeds) d cells r (bucket_of d seed r bytes) lr (bucket_below d seed r bytes (omega (arith, i.some_buckets))))
+
+-- there is one least cell
+pub least_unique : (s : CountState) (bytes : List ℕ) (y z : ℤ) → IsLeastCell s bytes y → IsLeastCell s bytes z → y ≡ z
+least_unique s bytes y z a b =
+    let ra = a.reached in
+    let rb = b.reached in
+    let low : z ≤ℤ y = subst (λ (w : ℤ). z ≤ℤ w) (sym ra.2) (b.below ra.0 ra.1) in
+    let high : y ≤ℤ z = subst (λ (w : ℤ). y ≤ℤ w) (sym rb.2) (a.below rb.0 rb.1) in
+    omega (arith, ints, low, high)
+
+-- the lesser of two numbers, where the first is not above the second
+pub min_below : (v w g : ℤ) → v ≡ w → v ≤ℤ g → v ≡ int_min w g
+min_below v w g e le = omega (arith, ints, clamps, e, le)
+
+-- and where it is no number of a type that it can only be above
+pub min_above : (least w : ℤ) (g : ℕ) → least ≤ℤ w → ¬ InRange least g w → pos g ≡ int_min w (pos g)
+min_above least w g low none = by_lt_z (pos g) w (λ lt. omega (arith, ints, clamps, lt)) (λ le. absurd (none (low, le)))

@@ -1,0 +1,11 @@
+pub mod Numbers
+pub mod RowSteps
+pub mod CellMaps
+pub mod Tables
+pub mod Updates
+pub mod Merges
+pub mod Decays
+pub mod Estimates
+pub mod Standing
+pub mod Histories
+pub mod States

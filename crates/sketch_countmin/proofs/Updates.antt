@@ -1,0 +1,88 @@
+-- What one update leaves.
+use Rattle.std.proofs.Common.{◌≡◌, ℕ, ◌+◌, ◌*◌, ◌<◌, ◌≤◌, Bool, true, false, eqb, cond, List, length, get_or, map, ℤ, pos, ◌+ℤ◌, unsigned_abs, refl, sym, ap, ◌∙◌, subst, arith, ⊎_elim}
+use Rattle.std.specs.Prelude.{slice_index, ◌==◌, if◌then◌else◌}
+use Rattle.std.proofs.lemmas.Int.{ints}
+use Rattle.std.proofs.lemmas.Bool.{cases_lt}
+use Rattle.std.proofs.lemmas.List.{length-map}
+use Rattle.sketch_countmin.specs.Cells.{flat_at, RowsAdded}
+use Rattle.sketch_countmin.specs.Rows.{cell_at, rows_of}
+use Rattle.sketch_countmin.specs.Buckets.{row_seed, bucket_by, bucket_of}
+use Rattle.sketch_countmin.specs.State.{Counts}
+use Rattle.sketch_countmin.specs.Table.{IsTable, state_of}
+use Rattle.sketch_countmin.proofs.Tables.{by_place, read_rows}
+
+-- a sum is no further from zero than both together
+pub abs_sum : (x y : ℤ) → unsigned_abs (x +ℤ y) ≤ unsigned_abs x + unsigned_abs y
+abs_sum x y = omega (arith, ints)
+
+-- also where nothing is added
+abs_added : (x w : ℤ) (t : Bool) → unsigned_abs (x +ℤ cond t w (pos 0)) ≤ unsigned_abs x + unsigned_abs w
+abs_added x w true = abs_sum x w
+abs_added x w false = omega (arith, ints)
+
+-- what a loop did over the lists that it was lent, it did to the sketch's own
+pub rows_added_own : {T : Type 0} (number : T → ℤ) (d : ℕ) (w : ℤ) (bytes : List ℕ) (row_seeds seeds : List ℕ) (items before after whole : List T)
+    → seeds ≡ row_seeds → before ≡ items → whole ≡ after
+    → RowsAdded d w (λ r. bucket_by d (slice_index seeds r) bytes) (length seeds) (map number before) (map number after)
+    → RowsAdded d w (λ r. bucket_by d (slice_index row_seeds r) bytes) (length row_seeds) (map number items) (map number whole)
+rows_added_own number d w bytes row_seeds seeds items before after whole se be we h =
+    subst (λ (l : List ℕ). RowsAdded d w (λ r. bucket_by d (slice_index l r) bytes) (length l) (map number items) (map number whole)) se
+    (subst (λ (l : List _). RowsAdded d w (λ r. bucket_by d (slice_index seeds r) bytes) (length seeds) (map number l) (map number whole)) be
+    (subst (λ (l : List _). RowsAdded d w (λ r. bucket_by d (slice_index seeds r) bytes) (length seeds) (map number before) (map number l)) (sym we) h))
+
+-- and it kept its length
+pub length_own : {T : Type 0} (number : T → ℤ) (items before after whole : List T) → before ≡ items → whole ≡ after → length after ≡ length before → length (map number whole) ≡ length (map number items)
+length_own number items before after whole be we long = length-map whole number ∙ (ap length we ∙ (long ∙ (ap length be ∙ sym (length-map items number))))
+
+-- there is room in each cell for a weight for which there is room in the total
+pub room_here : (greatest : ℕ) (row_seeds : List ℕ) (d seed : ℕ) (t t' : ℤ) (cells lent : List ℤ) (w : ℤ) → IsTable greatest row_seeds d seed t cells → lent ≡ cells
+    → t' ≡ pos (unsigned_abs t + unsigned_abs w) → unsigned_abs t' ≤ greatest → (k : ℕ) → unsigned_abs (get_or lent k (pos 0) +ℤ w) ≤ greatest
+room_here greatest row_seeds d seed t t' cells lent w i e sum fits k =
+    rw e (omega (arith, abs_sum (get_or cells k (pos 0)) w, i.bounded k, ap unsigned_abs sum, fits))
+
+-- the parts are those of a sketch again
+pub updated : (greatest : ℕ) (row_seeds : List ℕ) (d seed : ℕ) (t t' : ℤ) (old new : List ℤ) (bucket : ℕ → ℕ) (w : ℤ)
+    → IsTable greatest row_seeds d seed t old → RowsAdded d w bucket (length row_seeds) old new → length new ≡ length old
+    → t' ≡ pos (unsigned_abs t + unsigned_abs w) → unsigned_abs t' ≤ greatest → IsTable greatest row_seeds d seed t' new
+updated greatest row_seeds d seed t t' old new bucket w i h long sum fits = record {
+  some_rows = i.some_rows;
+  few_rows = i.few_rows;
+  some_buckets = i.some_buckets;
+  few_cells = i.few_cells;
+  seeded = i.seeded;
+  seeds = i.seeds;
+  size = long ∙ i.size;
+  total_is = sum ∙ ap pos (sym total);
+  fits = fits;
+  bounded = λ k. ⊎_elim (λ (lt : k < length row_seeds * d). within k lt) (λ (le : length row_seeds * d ≤ k). past k le) (cases_lt k (length row_seeds * d));
+}
+  where
+    total : unsigned_abs t' ≡ unsigned_abs t + unsigned_abs w
+    total = ap unsigned_abs sum
+
+    at : (r : ℕ) → r < length row_seeds → (b : ℕ) → b < d → unsigned_abs (get_or new (r * d + b) (pos 0)) ≤ unsigned_abs t'
+    at r lr b lb = rw (h.done r lr b lb) (omega (arith, abs_added (flat_at d old r b) w (eqb (bucket r) b), i.bounded (r * d + b), total))
+
+    within : (k : ℕ) → k < length row_seeds * d → unsigned_abs (get_or new k (pos 0)) ≤ unsigned_abs t'
+    within k lt = by_place (λ (k : ℕ). unsigned_abs (get_or new k (pos 0)) ≤ unsigned_abs t') d (length row_seeds) (omega (arith, i.some_buckets)) at k lt
+
+    past : (k : ℕ) → length row_seeds * d ≤ k → unsigned_abs (get_or new k (pos 0)) ≤ unsigned_abs t'
+    past k le = rw (h.rest k le) (omega (arith, i.bounded k, total))
+
+-- the bucket by the seed of a row is the row's bucket
+pub row_bucket : (row_seeds : List ℕ) (d seed r : ℕ) (bytes : List ℕ) → slice_index row_seeds r ≡ row_seed r seed → bucket_by d (slice_index row_seeds r) bytes ≡ bucket_of d seed r bytes
+unfolding bucket_of
+row_bucket row_seeds d seed r bytes e = ap (λ (s : ℕ). bucket_by d s bytes) e
+
+-- and the sketch that they make has counted the weight
+pub counts_here : (greatest : ℕ) (row_seeds : List ℕ) (d seed : ℕ) (t t' : ℤ) (old new : List ℤ) (bytes : List ℕ) (w : ℤ)
+    → IsTable greatest row_seeds d seed t old → RowsAdded d w (λ r. bucket_by d (slice_index row_seeds r) bytes) (length row_seeds) old new
+    → unsigned_abs t' ≡ unsigned_abs t + unsigned_abs w → Counts (state_of row_seeds d seed t old) bytes w (state_of row_seeds d seed t' new)
+counts_here greatest row_seeds d seed t t' old new bytes w i h total = record {
+  shape = record { hashes = refl; buckets = refl; seed = refl };
+  total = total;
+  cells = λ r lr b lb.
+      read_rows (length row_seeds) d new r b lr lb ∙ (h.done r lr b lb
+      ∙ (ap (λ (z : ℤ). z +ℤ (if bucket_by d (slice_index row_seeds r) bytes == b then w else pos 0)) (sym (read_rows (length row_seeds) d old r b lr lb))
+      ∙ ap (λ (c : ℕ). cell_at (rows_of (length row_seeds) d old) r b +ℤ (if c == b then w else pos 0)) (row_bucket row_seeds d seed r bytes (i.seeds r lr))));
+}

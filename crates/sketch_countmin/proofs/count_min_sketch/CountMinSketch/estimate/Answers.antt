@@ -1,0 +1,20 @@
+use Rattle.std.proofs.Common.{arith, subst, ℕ, ◌<◌, List}
+use Rattle.sketch_base.specs.Hashes.{fed_bytes}
+use Rattle.sketch_countmin.specs.State.{CountState, IsLeastCell}
+use Rattle.sketch_countmin.proofs.Estimates.{least_own, least_here}
+use Rattle.sketch_countmin.proofs.Histories.{enclosed}
+use Rattle.sketch_countmin.proofs.count_min_sketch.CountMinSketch.estimate.Goals as goal
+
+pub returns-clause-least : goal.returns-clause-least
+returns-clause-least g c =
+    let number = g.T.CountMinValue.number in
+    let i = c.self.inside in
+    let bytes : List ℕ = fed_bytes g.I.Hash.hash_input c.args.item in
+    subst (λ (s : CountState). IsLeastCell s bytes (number c.least_cell.result)) c.self.view_is
+    (least_here _ _ _ _ _ _ bytes (number c.least_cell.result) c.self.invariant
+    (least_own number i.buckets bytes i.row_seeds.items c.deref-2.result.now i.counts.items c.deref.result.now (number c.least_cell.result) c.deref-2.ensures.value c.deref.ensures.value c.least_cell.ensures))
+
+pub returns-clause-encloses : goal.returns-clause-encloses
+returns-clause-encloses g c =
+    let buckets : 0 < c.args.self.now.buckets = subst (λ (s : CountState). 0 < s.buckets) c.self.view_is (omega (arith, c.self.invariant.some_buckets)) in
+    λ h stands nonnegative. enclosed c.args.self.now h (fed_bytes g.I.Hash.hash_input c.args.item) (g.T.CountMinValue.number c.least_cell.result) buckets (returns-clause-least g c) stands nonnegative

@@ -1,0 +1,16 @@
+-- Where an item is counted.
+use Rattle.std.specs.Prelude.{ℕ, ◌%◌, List}
+use Rattle.sketch_base.specs.Hashes.{le64}
+use Rattle.sketch_base.specs.Murmur3.{murmur3_x64_128}
+
+-- the seed of a row: the first half of the hash of its number under the seed of the sketch
+unfoldable pub row_seed : ℕ → ℕ → ℕ
+row_seed r seed = (murmur3_x64_128 (le64 r) seed).0
+
+-- the bucket of a byte list in a row of this seed: the first half of its hash, by the remainder
+abbrev pub bucket_by : ℕ → ℕ → List ℕ → ℕ
+bucket_by buckets row_seed bytes = (murmur3_x64_128 bytes row_seed).0 % buckets
+
+-- the bucket of a byte list in a row
+unfoldable pub bucket_of : ℕ → ℕ → ℕ → List ℕ → ℕ
+bucket_of buckets seed r bytes = bucket_by buckets (row_seed r seed) bytes

@@ -1,0 +1,92 @@
+-- What was counted in a Count-Min sketch.
+use Rattle.std.specs.Prelude.{ℕ, ◌+◌, ◌*◌, ◌/◌, ◌==◌, Bool, if◌then◌else◌, List, ℤ, pos, ◌+ℤ◌, ◌≤ℤ◌, unsigned_abs}
+use Rattle.std.specs.Str.{bytes_eq}
+use Rattle.sketch_countmin.specs.Values.{scaled, halved}
+use Rattle.sketch_countmin.specs.Buckets.{bucket_of}
+
+-- how a sketch came about; an item is the bytes that its Hash feeds
+pub data CountHistory : Type 0 where
+  New : (hashes buckets seed : ℕ) → CountHistory
+  Update : CountHistory → (bytes : List ℕ) → (weight : ℤ) → CountHistory
+  Merge : CountHistory → CountHistory → CountHistory
+  Halve : CountHistory → CountHistory
+  Decay : CountHistory → (numerator denominator : ℕ) → CountHistory
+  Restored : CountHistory → CountHistory
+
+-- the value over the byte lists that pass a test
+abbrev pub value_over : CountHistory → (List ℕ → Bool) → ℤ
+value_over (New hashes buckets seed) f = pos 0
+value_over (Update h bytes weight) f = value_over h f +ℤ (if f bytes then weight else pos 0)
+value_over (Merge g h) f = value_over g f +ℤ value_over h f
+value_over (Halve h) f = halved (value_over h f)
+value_over (Decay h n d) f = scaled n d (value_over h f)
+value_over (Restored h) f = value_over h f
+
+-- the value over these bytes alone
+abbrev pub own_value : CountHistory → List ℕ → ℤ
+own_value h bytes = value_over h (bytes_eq bytes)
+
+-- the value over all byte lists whose bucket in the row r is b
+abbrev pub cell_share : ℕ → ℕ → CountHistory → ℕ → ℕ → ℤ
+cell_share buckets seed h r b = value_over h (λ bytes. bucket_of buckets seed r bytes == b)
+
+-- the value over all byte lists, with each weight as its distance from zero
+abbrev pub absolute_weight : CountHistory → ℕ
+absolute_weight (New hashes buckets seed) = 0
+absolute_weight (Update h bytes weight) = absolute_weight h + unsigned_abs weight
+absolute_weight (Merge g h) = absolute_weight g + absolute_weight h
+absolute_weight (Halve h) = absolute_weight h / 2
+absolute_weight (Decay h n d) = absolute_weight h * n / d
+absolute_weight (Restored h) = absolute_weight h
+
+-- the shape and the seed, which a merge has from its receiver
+abbrev pub hashes_of : CountHistory → ℕ
+hashes_of (New hashes buckets seed) = hashes
+hashes_of (Update h bytes weight) = hashes_of h
+hashes_of (Merge g h) = hashes_of g
+hashes_of (Halve h) = hashes_of h
+hashes_of (Decay h n d) = hashes_of h
+hashes_of (Restored h) = hashes_of h
+
+abbrev pub buckets_of : CountHistory → ℕ
+buckets_of (New hashes buckets seed) = buckets
+buckets_of (Update h bytes weight) = buckets_of h
+buckets_of (Merge g h) = buckets_of g
+buckets_of (Halve h) = buckets_of h
+buckets_of (Decay h n d) = buckets_of h
+buckets_of (Restored h) = buckets_of h
+
+abbrev pub seed_of : CountHistory → ℕ
+seed_of (New hashes buckets seed) = seed
+seed_of (Update h bytes weight) = seed_of h
+seed_of (Merge g h) = seed_of g
+seed_of (Halve h) = seed_of h
+seed_of (Decay h n d) = seed_of h
+seed_of (Restored h) = seed_of h
+
+-- no weight is below zero
+abbrev pub IsNonnegative : CountHistory → Type 0
+IsNonnegative (New hashes buckets seed) = Unit {0}
+IsNonnegative (Update h bytes weight) = IsNonnegative h × (pos 0 ≤ℤ weight)
+IsNonnegative (Merge g h) = IsNonnegative g × IsNonnegative h
+IsNonnegative (Halve h) = IsNonnegative h
+IsNonnegative (Decay h n d) = IsNonnegative h
+IsNonnegative (Restored h) = IsNonnegative h
+
+-- nothing was halved or decayed
+abbrev pub IsExact : CountHistory → Type 0
+IsExact (New hashes buckets seed) = Unit {0}
+IsExact (Update h bytes weight) = IsExact h
+IsExact (Merge g h) = IsExact g × IsExact h
+IsExact (Halve h) = ⊥
+IsExact (Decay h n d) = ⊥
+IsExact (Restored h) = IsExact h
+
+-- one history, and then what came in another after its beginning
+abbrev pub followed_by : CountHistory → CountHistory → CountHistory
+followed_by g (New hashes buckets seed) = g
+followed_by g (Update h bytes weight) = Update (followed_by g h) bytes weight
+followed_by g (Merge h k) = followed_by (followed_by g h) k
+followed_by g (Halve h) = Halve (followed_by g h)
+followed_by g (Decay h n d) = Decay (followed_by g h) n d
+followed_by g (Restored h) = followed_by g h

@@ -1,0 +1,11 @@
+pub mod Buckets
+pub mod Cells
+pub mod Equality
+pub mod History
+pub mod Rows
+pub mod Shapes
+pub mod Stands
+pub mod State
+pub mod Table
+pub mod ValueLaws
+pub mod Values

@@ -1,0 +1,79 @@
+-- A Count-Min sketch as its numbers, and what each call does to it.
+use Rattle.std.specs.Prelude.{◌≡◌, ◌≢◌, ℕ, ◌+◌, ◌*◌, ◌/◌, ◌^◌, ◌<◌, ◌≤◌, ◌==◌, if◌then◌else◌, List, length, map, replicate, All, ℤ, pos, ◌+ℤ◌, ◌≤ℤ◌, unsigned_abs}
+use Rattle.std.specs.Int.{int_min}
+use Rattle.sketch_base.specs.Hashes.{seed_hash}
+use Rattle.sketch_countmin.specs.Values.{scaled, halved}
+use Rattle.sketch_countmin.specs.Rows.{cell_at}
+use Rattle.sketch_countmin.specs.Buckets.{bucket_of}
+
+-- how many hashes and buckets there are, the seed, the total weight, and the cells: a row for each hash,
+-- with a cell for each bucket
+pub record CountState : Type 0 where
+  pub hashes : ℕ
+  pub buckets : ℕ
+  pub seed : ℕ
+  pub total : ℕ
+  pub rows : List (List ℤ)
+
+-- what holds of every sketch over a type with this greatest number
+pub record IsCountState (greatest : ℕ) (s : CountState) : Type 0 where
+  pub some_hashes : 0 < s.hashes
+  pub few_hashes : s.hashes ≤ 255
+  pub some_buckets : 3 ≤ s.buckets
+  pub few_cells : s.hashes * s.buckets < 2 ^ 30
+  pub seeded : seed_hash s.seed ≢ 0
+  pub height : length s.rows ≡ s.hashes
+  pub width : All (λ row. length row ≡ s.buckets) s.rows
+  pub fits : s.total ≤ greatest
+  -- no cell is further from zero than the total
+  pub bounded : (r b : ℕ) → unsigned_abs (cell_at s.rows r b) ≤ s.total
+
+-- two sketches with equal hashes, buckets and seeds
+pub record SameShape (s t : CountState) : Type 0 where
+  pub hashes : s.hashes ≡ t.hashes
+  pub buckets : s.buckets ≡ t.buckets
+  pub seed : s.seed ≡ t.seed
+
+-- an empty sketch
+abbrev pub empty_state : ℕ → ℕ → ℕ → CountState
+empty_state hashes buckets seed = record { hashes = hashes; buckets = buckets; seed = seed; total = 0; rows = replicate hashes (replicate buckets (pos 0)) }
+
+-- new is old after a weight was counted for a byte list: in each row one cell has that much more
+pub record Counts (old : CountState) (bytes : List ℕ) (weight : ℤ) (new : CountState) : Type 0 where
+  pub shape : SameShape new old
+  pub total : new.total ≡ old.total + unsigned_abs weight
+  pub cells : (r : ℕ) → r < old.hashes → (b : ℕ) → b < old.buckets
+      → cell_at new.rows r b ≡ cell_at old.rows r b +ℤ (if bucket_of old.buckets old.seed r bytes == b then weight else pos 0)
+
+-- new is old with each cell and the total of another of its shape added
+pub record Joins (old other new : CountState) : Type 0 where
+  pub same : SameShape old other
+  pub shape : SameShape new old
+  pub total : new.total ≡ old.total + other.total
+  pub cells : (r : ℕ) → r < old.hashes → (b : ℕ) → b < old.buckets → cell_at new.rows r b ≡ cell_at old.rows r b +ℤ cell_at other.rows r b
+
+-- half of each cell and of the total, rounded down
+abbrev pub halved_state : CountState → CountState
+halved_state s = record s { total = s.total / 2; rows = map (map halved) s.rows }
+
+-- each cell and the total times n over d, rounded down
+abbrev pub decayed_state : ℕ → ℕ → CountState → CountState
+decayed_state n d s = record s { total = s.total * n / d; rows = map (map (scaled n d)) s.rows }
+
+-- the cell of a byte list in a row
+abbrev pub item_cell : CountState → List ℕ → ℕ → ℤ
+item_cell s bytes r = cell_at s.rows r (bucket_of s.buckets s.seed r bytes)
+
+-- z is the least of the cells of a byte list, of which each row has one
+pub record IsLeastCell (s : CountState) (bytes : List ℕ) (z : ℤ) : Type 0 where
+  pub below : (r : ℕ) → r < s.hashes → z ≤ℤ item_cell s bytes r
+  pub reached : (r : ℕ) × (r < s.hashes) × (z ≡ item_cell s bytes r)
+
+-- how far an upper bound is above the estimate: the total by e over the buckets, for which a fraction of whole numbers
+-- stands, rounded down
+abbrev pub margin : CountState → ℕ
+margin s = s.total * 2718281828459045235 / (1000000000000000000 * s.buckets)
+
+-- the estimate and the margin, or the greatest number of the type where that would pass it
+abbrev pub upper_bound_of : ℕ → CountState → ℤ → ℤ
+upper_bound_of greatest s estimate = int_min (estimate +ℤ pos (margin s)) (pos greatest)

@@ -1,0 +1,64 @@
+-- The laws of the value types, for all widths at once.
+use Rattle.std.proofs.Common.{◌≡◌, ℕ, ◌<◌, ◌≤◌, ◌^◌, refl, ap, ◌∙◌, arith}
+use Rattle.std.specs.Prelude.{ℤ, pos, negsuc, ◌≤ℤ◌, ◌<ℤ◌, unsigned_abs}
+use Rattle.std.specs.Int.{w64, cast_signed, cast_unsigned}
+use Rattle.std.specs.declared.cmp.Ordering.TheVariants.{Less, Equal, Greater}
+use Rattle.std.specs.declared.cmp.Ordering.{Ordering}
+use Rattle.std.specs.Ordering.{nat_cmp, int_cmp, MatchOrdering}
+use mir.Val.{SFits}
+use Rattle.std.proofs.lemmas.Int.{ints, to_z-of_z}
+use Rattle.std.proofs.lemmas.Nat.{from_le_bytes-to_le_bytes_8}
+use Rattle.std.proofs.lemmas.Cmp.{ranked, int_ranked}
+use Rattle.sketch_countmin.specs.Values.{InRange, bytes_of, number_in}
+
+-- a signed type has each number that is no further from zero than its greatest
+pub signed_fits : (g : ℕ) (z : ℤ) → unsigned_abs z ≤ g → InRange (negsuc g) g z
+signed_fits g (pos n) h = (omega (arith, ints), omega (arith, ints))
+signed_fits g (negsuc n) h = (omega (arith, ints), omega (arith, ints))
+
+-- an unsigned type has each number up to its greatest
+pub unsigned_fits : (g n : ℕ) → n ≤ g → InRange (pos 0) g (pos n)
+unsigned_fits g n h = (omega (arith, ints), omega (arith, ints))
+
+-- a signed type has zero
+pub zero_in_signed : (g : ℕ) → negsuc g ≤ℤ pos 0
+zero_in_signed g = omega (arith, ints)
+
+-- a natural number is not negative
+pub not_negative : (n : ℕ) → pos 0 ≤ℤ pos n
+not_negative n = omega (arith, ints)
+
+-- the order of signed types is that of the numbers
+pub signed_order : (x y : ℤ) → MatchOrdering (int_cmp x y) (x <ℤ y) (x ≡ y) (y <ℤ x)
+signed_order x y = int_ranked x y (int_cmp x y) refl
+
+-- an order of natural numbers is one of whole numbers
+lifted : (x y : ℕ) (o : Ordering) → MatchOrdering o (x < y) (x ≡ y) (y < x) → MatchOrdering o (pos x <ℤ pos y) (pos x ≡ pos y) (pos y <ℤ pos x)
+lifted x y Less h = omega (arith, ints)
+lifted x y Equal h = ap pos h
+lifted x y Greater h = omega (arith, ints)
+
+-- the order of unsigned types is that of the numbers
+pub unsigned_order : (x y : ℕ) → MatchOrdering (nat_cmp x y) (pos x <ℤ pos y) (pos x ≡ pos y) (pos y <ℤ pos x)
+unsigned_order x y = lifted x y (nat_cmp x y) (ranked x y (nat_cmp x y) refl)
+
+-- the numbers of a signed type of at most 64 bits fit that width
+fits_64 : (g : ℕ) → g < 2 ^ 63 → (z : ℤ) → InRange (negsuc g) g z → SFits w64 z
+fits_64 g small (pos n) h = record { sfits = omega (arith, ints) }
+fits_64 g small (negsuc n) h = record { sfits = omega (arith, ints) }
+
+-- the bits of a number are below the width
+bits_below : (z : ℤ) → SFits w64 z → cast_unsigned w64 z < 2 ^ 64
+bits_below (pos n) h = omega (arith, h.sfits)
+bits_below (negsuc n) h = omega arith
+
+-- a number of a signed type comes back from its bytes
+pub signed_bytes : (g : ℕ) → g < 2 ^ 63 → (z : ℤ) → InRange (negsuc g) g z → number_in (negsuc g) (bytes_of z) ≡ z
+signed_bytes g small z h =
+    let fits : SFits w64 z = fits_64 g small z h in
+    ap (λ (n : ℕ). cast_signed w64 n) (from_le_bytes-to_le_bytes_8 (cast_unsigned w64 z) (bits_below z fits)) ∙ to_z-of_z w64 z fits
+
+-- a number of an unsigned type comes back from its bytes
+pub unsigned_bytes : (g : ℕ) → g < 2 ^ 64 → (z : ℤ) → InRange (pos 0) g z → number_in (pos 0) (bytes_of z) ≡ z
+unsigned_bytes g small (pos n) h = ap pos (from_le_bytes-to_le_bytes_8 n (omega (arith, ints)))
+unsigned_bytes g small (negsuc n) h = absurd (omega (arith, ints))

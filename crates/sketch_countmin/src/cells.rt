@@ -1,0 +1,136 @@
+//! Loops over the cells of a sketch, which lie row by row in one slice.
+ghost use Rattle.std.specs.Prelude.{◌≡◌, ℕ, ◌+◌, ◌*◌, ◌<◌, ◌≤◌, map, length, slice_index, slice_index_or, slice_set, pos, ◌+ℤ◌, unsigned_abs, replicate, vec_len, IfOk, IsTrue, ◌↔◌};
+ghost use Rattle.sketch_base.specs.Hashes.{fed_bytes};
+ghost use Rattle.sketch_countmin.specs.Values.{scaled, halved};
+ghost use Rattle.sketch_countmin.specs.Cells.{flat_at, RowsAdded, IsLeastOf};
+ghost use Rattle.sketch_countmin.specs.Buckets.{row_seed, bucket_by};
+
+use crate::count_min_value::CountMinValue;
+use crate::unsigned_count_min_value::UnsignedCountMinValue;
+use sketch_base::{Divisor, murmur3_of, murmur3_of_u64};
+use std::alloc::{AllocError, Global};
+use std::hash::Hash;
+
+/// The seeds of the rows.
+pub fn row_seeds(alloc: Global, rows: u8, seed: u64) -> Result<Vec<u64>, AllocError>
+    ensures size { IfOk result (λ v. vec_len v ≡ rows) }
+    ensures seeds { IfOk result (λ v. (r : ℕ) → r < rows → slice_index v.items r ≡ row_seed r seed) }
+{
+    let mut seeds = Vec::with_capacity(alloc, rows as usize)?;
+    for row in 0..rows {
+        seeds.push(murmur3_of_u64(row as u64, seed).0)?;
+    }
+    Ok(seeds)
+}
+
+/// As many zeros.
+pub fn zeros<T: CountMinValue>(alloc: Global, size: usize) -> Result<Vec<T>, AllocError>
+    ensures { IfOk result (λ v. map T.number v.items ≡ replicate size (pos 0)) }
+{
+    let mut counts = Vec::with_capacity(alloc, size)?;
+    while counts.len() < size {
+        counts.push(T::ZERO)?;
+    }
+    Ok(counts)
+}
+
+/// Adds the weight to the cell at a place.
+#[inline(always)]
+fn add_at<T: CountMinValue>(counts: &mut [T], place: usize, weight: T)
+    requires bounds { place < length counts.old }
+    requires room { unsigned_abs (slice_index_or (map T.number counts.old) place (pos 0) +ℤ T.number weight) ≤ T.greatest }
+    ensures { map T.number counts.new ≡ slice_set (map T.number counts.old) place (slice_index_or (map T.number counts.old) place (pos 0) +ℤ T.number weight) }
+{
+    match counts[place].checked_add(weight) {
+        Some(sum) => counts[place] = sum,
+        None => unreachable!(),
+    }
+}
+
+/// Adds the weight at the item's bucket of each row.
+#[inline]
+pub fn add_to_rows<T: CountMinValue, I: Hash>(
+    counts: &mut [T],
+    buckets: Divisor,
+    row_seeds: &[u64],
+    item: &I,
+    weight: T,
+)
+    requires shape { length counts.old ≡ length row_seeds.now * buckets }
+    requires room { (k : ℕ) → unsigned_abs (slice_index_or (map T.number counts.old) k (pos 0) +ℤ T.number weight) ≤ T.greatest }
+    ensures { RowsAdded buckets (T.number weight) (λ r. bucket_by buckets (slice_index row_seeds.now r) (fed_bytes I.hash_input item.now)) (length row_seeds.now) (map T.number counts.old) (map T.number counts.new) }
+{
+    let columns = buckets.divisor() as usize;
+    for (row, seed) in row_seeds.iter().enumerate() {
+        let place = row * columns + buckets.rem(murmur3_of(item, *seed).0) as usize;
+        add_at(counts, place, weight);
+    }
+}
+
+/// Adds the cells of another table, place by place.
+pub fn add_all<T: CountMinValue>(counts: &mut [T], other: &[T])
+    requires same { length counts.old ≡ length other.now }
+    requires room { (k : ℕ) → unsigned_abs (slice_index_or (map T.number counts.old) k (pos 0) +ℤ slice_index_or (map T.number other.now) k (pos 0)) ≤ T.greatest }
+    ensures { (k : ℕ) → slice_index_or (map T.number counts.new) k (pos 0) ≡ slice_index_or (map T.number counts.old) k (pos 0) +ℤ slice_index_or (map T.number other.now) k (pos 0) }
+{
+    for place in 0..other.len() {
+        add_at(counts, place, other[place]);
+    }
+}
+
+/// Halves each cell.
+pub fn halve_all<T: UnsignedCountMinValue>(counts: &mut [T])
+    ensures { map T.number counts.new ≡ map halved (map T.number counts.old) }
+{
+    for value in counts.iter_mut() {
+        *value = value.halve();
+    }
+}
+
+/// Scales each cell.
+pub fn scale_all<T: UnsignedCountMinValue>(counts: &mut [T], numerator: u64, denominator: u64)
+    requires positive { 0 < numerator }
+    requires at_most_one { numerator ≤ denominator }
+    ensures { map T.number counts.new ≡ map (scaled numerator denominator) (map T.number counts.old) }
+{
+    for value in counts.iter_mut() {
+        *value = value.scale_nonnegative(numerator, denominator as u128);
+    }
+}
+
+/// The least of the item's cells.
+#[inline]
+pub fn least_cell<T: CountMinValue, I: Hash>(
+    counts: &[T],
+    buckets: Divisor,
+    row_seeds: &[u64],
+    item: &I,
+) -> T
+    requires shape { length counts.now ≡ length row_seeds.now * buckets }
+    requires rows { 0 < length row_seeds.now }
+    ensures { IsLeastOf buckets (map T.number counts.now) (λ r. bucket_by buckets (slice_index row_seeds.now r) (fed_bytes I.hash_input item.now)) (length row_seeds.now) (T.number result) }
+{
+    let columns = buckets.divisor() as usize;
+    let first = buckets.rem(murmur3_of(item, row_seeds[0]).0) as usize;
+    let mut least = counts[first];
+    for row in 1..row_seeds.len() {
+        let place = row * columns + buckets.rem(murmur3_of(item, row_seeds[row]).0) as usize;
+        least = least.min(counts[place]);
+    }
+    least
+}
+
+/// Whether two tables have the same numbers.
+pub fn same_cells<T: CountMinValue>(first: &[T], second: &[T]) -> bool
+    ensures { IsTrue result ↔ (map T.number first.now ≡ map T.number second.now) }
+{
+    if first.len() != second.len() {
+        return false;
+    }
+    for place in 0..first.len() {
+        if first[place].to_number() != second[place].to_number() {
+            return false;
+        }
+    }
+    true
+}

@@ -1,0 +1,388 @@
+//! The Count-Min sketch.
+ghost use Rattle.std.specs.Prelude.{◌≡◌, ℕ, ◌+◌, ◌*◌, ◌<◌, ◌≤◌, ◌↔◌, None, ℤ, pos, ◌≤ℤ◌, unsigned_abs, OnOk, OnErr, IfOk, IfErr, IsOk, IsTrue, IsErrOf};
+ghost use Rattle.sketch_base.specs.Errors.{invalid_argument, no_memory};
+ghost use Rattle.sketch_base.specs.Hashes.{fed_bytes};
+ghost use Rattle.sketch_countmin.specs.History.{CountHistory, IsNonnegative, own_value};
+ghost use Rattle.sketch_countmin.specs.History.CountHistory.{New, Update, Merge, Halve, Decay};
+ghost use Rattle.sketch_countmin.specs.Rows.{cell_at};
+ghost use Rattle.sketch_countmin.specs.Shapes.{shape_fault, refusal_of};
+ghost use Rattle.sketch_countmin.specs.Stands.{StandsFor};
+ghost use Rattle.sketch_countmin.specs.State.{IsCountState, SameShape, Counts, Joins, IsLeastCell, empty_state, halved_state, decayed_state, upper_bound_of};
+
+use crate::cells::{
+    add_all, add_to_rows, halve_all, least_cell, row_seeds, same_cells, scale_all, zeros,
+};
+use crate::count_min_value::CountMinValue;
+use crate::unsigned_count_min_value::UnsignedCountMinValue;
+use sketch_base::{DEFAULT_UPDATE_SEED, Divisor, Error, ErrorKind, Fault, compute_seed_hash};
+use std::alloc::Global;
+use std::fmt;
+use std::hash::Hash;
+use std::marker::Model;
+
+/// The number of cells that a sketch stays below.
+const MAX_TABLE_ENTRIES: usize = 1 << 30;
+
+/// The fraction that stands for e, the base of natural logarithms, in an upper bound.
+const E_NUMERATOR: u128 = 2_718_281_828_459_045_235;
+
+const E_DENOMINATOR: u128 = 1_000_000_000_000_000_000;
+
+/// A sketch of the weights of items, in a table with a row of cells for each of a few hashes.
+///
+/// An item has one cell in each row, its bucket: the first half of MurmurHash3 x64 128 of the bytes that its `Hash`
+/// feeds, under the row's seed, modulo the number of buckets. The seed of a row is the first half of that hash of the
+/// eight bytes of its number, the lowest first, under the sketch's seed; rows are numbered from 0. Items that feed the
+/// same bytes are the same item.
+///
+/// No cell is further from zero than the total weight.
+#[derive(Drop)]
+pub struct CountMinSketch<T: CountMinValue> {
+    buckets: Divisor,
+    row_seeds: Vec<u64>,
+    counts: Vec<T>,
+    total: T,
+    seed: u64,
+}
+
+impl<T: CountMinValue> Model for CountMinSketch<T> {
+    ghost use Rattle.std.specs.Prelude.{map};
+    ghost use Rattle.sketch_countmin.specs.State.{CountState};
+    ghost use Rattle.sketch_countmin.specs.Table.{IsTable, state_of};
+
+    ghost Value = { CountState };
+
+    ghost view = { λ a. state_of a.row_seeds.items a.buckets a.seed (T.number a.total) (map T.number a.counts.items) };
+
+    ghost invariant = { λ a. IsTable T.greatest a.row_seeds.items a.buckets a.seed (T.number a.total) (map T.number a.counts.items) };
+}
+
+impl<T: CountMinValue> CountMinSketch<T> {
+    /// An empty sketch under the usual seed, 9001. As [`with_seed`](Self::with_seed).
+    pub fn new(alloc: Global, num_hashes: u8, num_buckets: u32) -> Result<Self, Error>
+        ensures ok { IfOk result (λ sketch. sketch ≡ empty_state num_hashes num_buckets DEFAULT_UPDATE_SEED) }
+        ensures state { IfOk result (λ sketch. IsCountState T.greatest sketch) }
+        ensures stands { IfOk result (λ sketch. StandsFor sketch (New num_hashes num_buckets DEFAULT_UPDATE_SEED)) }
+        ensures accepted { IsOk result → shape_fault num_hashes num_buckets DEFAULT_UPDATE_SEED ≡ None }
+        ensures refused { IfErr result (λ e. e ≡ refusal_of (shape_fault num_hashes num_buckets DEFAULT_UPDATE_SEED)) }
+    {
+        Self::with_seed(alloc, num_hashes, num_buckets, DEFAULT_UPDATE_SEED)
+    }
+
+    /// An empty sketch with a row for each of `num_hashes` hashes and `num_buckets` cells in each row.
+    ///
+    /// # Errors
+    ///
+    /// In this order: `BadNumHashes` for 0 hashes, `BadNumBuckets` below 3 buckets, `TableTooLarge` for 2^30 cells or
+    /// more, `ZeroSeedHash` where the 16-bit hash of the seed is 0, and `NoMemory` where there is no memory for the
+    /// cells.
+    pub fn with_seed(
+        alloc: Global,
+        num_hashes: u8,
+        num_buckets: u32,
+        seed: u64,
+    ) -> Result<Self, Error>
+        ensures ok { IfOk result (λ sketch. sketch ≡ empty_state num_hashes num_buckets seed) }
+        ensures state { IfOk result (λ sketch. IsCountState T.greatest sketch) }
+        ensures stands { IfOk result (λ sketch. StandsFor sketch (New num_hashes num_buckets seed)) }
+        ensures accepted { IsOk result → shape_fault num_hashes num_buckets seed ≡ None }
+        ensures refused { IfErr result (λ e. e ≡ refusal_of (shape_fault num_hashes num_buckets seed)) }
+    {
+        if num_hashes == 0 {
+            return Err(Error::new(ErrorKind::InvalidArgument, Fault::BadNumHashes));
+        }
+        if num_buckets < 3 {
+            return Err(Error::new(ErrorKind::InvalidArgument, Fault::BadNumBuckets));
+        }
+        let size = num_hashes as usize * num_buckets as usize;
+        if size >= MAX_TABLE_ENTRIES {
+            return Err(Error::new(ErrorKind::InvalidArgument, Fault::TableTooLarge));
+        }
+        compute_seed_hash(seed, ErrorKind::InvalidArgument)?;
+        let row_seeds = row_seeds(alloc, num_hashes, seed)?;
+        let counts = zeros(alloc, size)?;
+        Ok(CountMinSketch {
+            buckets: bucket_count(num_buckets),
+            row_seeds,
+            counts,
+            total: T::ZERO,
+            seed,
+        })
+    }
+
+    /// The number of hashes, which is that of rows.
+    pub fn num_hashes(&self) -> u8
+        ensures hashes { result ≡ self.now.hashes }
+
+        // What holds of every sketch.
+        ensures state { IsCountState T.greatest self.now }
+    {
+        self.row_seeds.len() as u8
+    }
+
+    /// The number of cells in a row.
+    pub fn num_buckets(&self) -> u32
+        ensures { result ≡ self.now.buckets }
+    {
+        self.buckets.divisor() as u32
+    }
+
+    /// The seed.
+    pub fn seed(&self) -> u64
+        ensures { result ≡ self.now.seed }
+    {
+        self.seed
+    }
+
+    /// The weight of all updates, each as its distance from zero, halved and decayed as the cells were.
+    pub fn total_weight(&self) -> T
+        ensures { T.number result ≡ pos self.now.total }
+    {
+        self.total
+    }
+
+    /// Whether the total weight is 0; then every cell is 0.
+    pub fn is_empty(&self) -> bool
+        ensures empty { IsTrue result ↔ (self.now.total ≡ 0) }
+        ensures cells { self.now.total ≡ 0 → (r b : ℕ) → cell_at self.now.rows r b ≡ pos 0 }
+    {
+        self.total.to_number() == 0
+    }
+
+    /// Counts the item with a weight of 1. As [`update_with_weight`](Self::update_with_weight).
+    #[inline]
+    pub fn update<I: Hash + Drop>(&mut self, item: I) -> Result<(), Error>
+        ensures counted { OnOk result (Counts self.old (fed_bytes I.hash_input item) (pos 1) self.new) }
+        ensures state { IsCountState T.greatest self.new }
+        ensures stands { OnOk result ((h : CountHistory) → StandsFor self.old h → StandsFor self.new (Update h (fed_bytes I.hash_input item) (pos 1))) }
+        ensures err { OnErr result (self.new ≡ self.old) }
+        ensures overflow { T.greatest < self.old.total + 1 → IsErrOf result (invalid_argument Fault.WeightOverflow) }
+        ensures succeeds { self.old.total + 1 ≤ T.greatest → IsOk result }
+    {
+        self.update_with_weight(item, T::ONE)
+    }
+
+    /// Counts the item with a weight: adds it to the item's cell in each row, and its distance from zero to the total.
+    /// A weight of 0 does nothing. It takes no memory.
+    ///
+    /// # Errors
+    ///
+    /// `WeightOverflow` where the distance from zero is not in the type, or the total would pass the type's greatest
+    /// value. The sketch is then as it was.
+    #[inline]
+    pub fn update_with_weight<I: Hash + Drop>(&mut self, item: I, weight: T) -> Result<(), Error>
+        ensures zero { T.number weight ≡ pos 0 → IsOk result × (self.new ≡ self.old) }
+        ensures counted { OnOk result (Counts self.old (fed_bytes I.hash_input item) (T.number weight) self.new) }
+        ensures state { IsCountState T.greatest self.new }
+
+        // What stood for a history stands for the extended one.
+        ensures stands { OnOk result ((h : CountHistory) → StandsFor self.old h → StandsFor self.new (Update h (fed_bytes I.hash_input item) (T.number weight))) }
+
+        // A refusal changes nothing, and stands exactly where the total would pass the greatest value.
+        ensures err { OnErr result (self.new ≡ self.old) }
+        ensures overflow { T.greatest < self.old.total + unsigned_abs (T.number weight) → IsErrOf result (invalid_argument Fault.WeightOverflow) }
+        ensures succeeds { self.old.total + unsigned_abs (T.number weight) ≤ T.greatest → IsOk result }
+    {
+        let total = self.total;
+        if weight.to_number() == 0 {
+            return Ok(());
+        }
+        let Some(size) = weight.checked_abs() else {
+            return Err(Error::new(ErrorKind::InvalidArgument, Fault::WeightOverflow));
+        };
+        let Some(total) = total.checked_add(size) else {
+            return Err(Error::new(ErrorKind::InvalidArgument, Fault::WeightOverflow));
+        };
+        add_to_rows(
+            &mut self.counts,
+            self.buckets,
+            &self.row_seeds,
+            &item,
+            weight,
+        );
+        self.total = total;
+        Ok(())
+    }
+
+    /// The least of the item's cells. It takes no memory.
+    ///
+    /// Where no weight was below zero, this is at least the item's own weight and at most the total.
+    #[inline]
+    pub fn estimate<I: Hash + Drop>(&self, item: I) -> T
+        ensures least { IsLeastCell self.now (fed_bytes I.hash_input item) (T.number result) }
+
+        // Where no weight was below zero, the item's own share of the history is at most the estimate, and that is at
+        // most the total.
+        ensures encloses { (h : CountHistory) → StandsFor self.now h → IsNonnegative h → (own_value h (fed_bytes I.hash_input item) ≤ℤ T.number result) × (T.number result ≤ℤ pos self.now.total) }
+    {
+        least_cell(&self.counts, self.buckets, &self.row_seeds, &item)
+    }
+
+    /// The estimate. It is no lower bound of the item's true weight: collisions can raise it above that.
+    #[inline]
+    pub fn lower_bound<I: Hash + Drop>(&self, item: I) -> T
+        ensures { IsLeastCell self.now (fed_bytes I.hash_input item) (T.number result) }
+    {
+        self.estimate(item)
+    }
+
+    /// The estimate and a margin, or the greatest value of the type where that would pass it.
+    ///
+    /// The margin is `total * 2718281828459045235 / (10^18 * buckets)`, rounded down: e times the mean weight of a
+    /// bucket.
+    pub fn upper_bound<I: Hash + Drop>(&self, item: I) -> T
+        ensures { (estimate : ℤ) → IsLeastCell self.now (fed_bytes I.hash_input item) estimate → T.number result ≡ upper_bound_of T.greatest self.now estimate }
+    {
+        let scale = E_DENOMINATOR * self.buckets.divisor() as u128;
+        let margin = self.total.to_number() as u128 * E_NUMERATOR / scale;
+        let bound = self.estimate(item).to_number() + margin as i128;
+        match T::from_number(bound) {
+            Some(value) => value,
+            None => T::MAX,
+        }
+    }
+
+    /// Adds the cells and the total of another sketch of the same shape and seed. It takes no memory.
+    ///
+    /// # Errors
+    ///
+    /// `Mismatch` where the hashes, the buckets or the seeds differ, and then `WeightOverflow` where the totals
+    /// together pass the type's greatest value. The sketch is then as it was.
+    pub fn merge(&mut self, other: &CountMinSketch<T>) -> Result<(), Error>
+        ensures joined { OnOk result (Joins self.old other.now self.new) }
+        ensures state { IsCountState T.greatest self.new }
+
+        // What stood for two histories stands for the merged one.
+        ensures stands { OnOk result ((g h : CountHistory) → StandsFor self.old g → StandsFor other.now h → StandsFor self.new (Merge g h)) }
+
+        ensures err { OnErr result (self.new ≡ self.old) }
+        ensures mismatch { ¬ SameShape self.old other.now → IsErrOf result (invalid_argument Fault.Mismatch) }
+        ensures overflow { SameShape self.old other.now → T.greatest < self.old.total + other.now.total → IsErrOf result (invalid_argument Fault.WeightOverflow) }
+        ensures succeeds { SameShape self.old other.now → self.old.total + other.now.total ≤ T.greatest → IsOk result }
+    {
+        let total = self.total;
+        if !self.has_shape_of(other) {
+            return Err(Error::new(ErrorKind::InvalidArgument, Fault::Mismatch));
+        }
+        let Some(total) = total.checked_add(other.total) else {
+            return Err(Error::new(ErrorKind::InvalidArgument, Fault::WeightOverflow));
+        };
+        add_all(&mut self.counts, &other.counts);
+        self.total = total;
+        Ok(())
+    }
+
+    /// Whether hashes, buckets and seed are those of another sketch.
+    fn has_shape_of(&self, other: &CountMinSketch<T>) -> bool
+        ensures { IsTrue result ↔ SameShape self.now other.now }
+    {
+        self.row_seeds.len() == other.row_seeds.len()
+            && self.buckets.divisor() == other.buckets.divisor()
+            && self.seed == other.seed
+    }
+
+    /// The bytes of the cells and of the seeds of the rows: hashes times buckets times the size of `T`, and 8 for each
+    /// hash.
+    pub fn estimated_size(&self) -> usize
+        ensures { result ≡ self.now.hashes * self.now.buckets * T.SIZE + 8 * self.now.hashes }
+    {
+        self.counts.len() * T::SIZE + 8 * self.row_seeds.len()
+    }
+
+    /// A sketch that equals this one.
+    ///
+    /// # Errors
+    ///
+    /// `NoMemory` where there is no memory for it.
+    pub fn try_clone(&self) -> Result<Self, Error>
+        ensures same { IfOk result (λ copy. copy ≡ self.now) }
+        ensures err { IfErr result (λ e. e ≡ no_memory) }
+    {
+        let alloc = *self.counts.allocator();
+        let row_seeds = Vec::from_slice(alloc, &self.row_seeds)?;
+        let counts = Vec::from_slice(alloc, &self.counts)?;
+        Ok(CountMinSketch {
+            buckets: self.buckets,
+            row_seeds,
+            counts,
+            total: self.total,
+            seed: self.seed,
+        })
+    }
+}
+
+impl<T: UnsignedCountMinValue> CountMinSketch<T> {
+    /// Halves each cell and the total, rounded down. It takes no memory.
+    pub fn halve(&mut self)
+        ensures value { self.new ≡ halved_state self.old }
+        ensures state { IsCountState T.greatest self.new }
+        ensures stands { (h : CountHistory) → StandsFor self.old h → StandsFor self.new (Halve h) }
+    {
+        halve_all(&mut self.counts);
+        self.total = self.total.halve();
+    }
+
+    /// Multiplies each cell and the total by `numerator / denominator`, rounded down, where
+    /// `0 < numerator <= denominator`. It takes no memory.
+    pub fn decay(&mut self, numerator: u64, denominator: u64)
+        requires positive { 0 < numerator }
+        requires at_most_one { numerator ≤ denominator }
+        ensures value { self.new ≡ decayed_state numerator denominator self.old }
+        ensures state { IsCountState T.greatest self.new }
+        ensures stands { (h : CountHistory) → StandsFor self.old h → StandsFor self.new (Decay h numerator denominator) }
+    {
+        scale_all(&mut self.counts, numerator, denominator);
+        self.total = self.total.scale_nonnegative(numerator, denominator as u128);
+    }
+}
+
+/// The number of buckets as a sketch keeps it: the bucket of a hash is its remainder, found without a division.
+fn bucket_count(num_buckets: u32) -> Divisor
+    requires { 1 < num_buckets }
+    ensures { result ≡ num_buckets }
+{
+    Divisor::new(num_buckets as u64)
+}
+
+/// Two sketches are equal where their shape, seed, total and cells are.
+impl<T: CountMinValue> PartialEq for CountMinSketch<T> {
+    ghost use Rattle.std.specs.Prelude.{◌≡◌, ◌↔◌, IsTrue};
+    ghost use Rattle.sketch_countmin.specs.Equality.{same_state, same_state_partial};
+
+    ghost eq = { same_state };
+
+    ghost laws = { same_state_partial };
+
+    fn eq(&self, other: &CountMinSketch<T>) -> bool
+        ensures value { result ≡ same_state self.now other.now }
+        ensures same { IsTrue result ↔ (self.now ≡ other.now) }
+    {
+        if !self.has_shape_of(other) || self.total.to_number() != other.total.to_number() {
+            return false;
+        }
+        same_cells(&self.counts, &other.counts)
+    }
+}
+
+impl<T: CountMinValue> Eq for CountMinSketch<T> {
+    ghost use Rattle.sketch_countmin.specs.Equality.{same_state_equivalence};
+
+    ghost laws = { same_state_equivalence };
+}
+
+impl<T: CountMinValue + fmt::Debug> fmt::Debug for CountMinSketch<T> {
+    fn fmt<W: fmt::Write>(&self, f: &mut fmt::Formatter<W>) -> fmt::Result {
+        let hashes = self.row_seeds.len();
+        let buckets = self.buckets.divisor();
+        let seed = self.seed;
+        let total = self.total;
+        let counts = &self.counts;
+        write!(
+            f,
+            "CountMinSketch {{ num_hashes: {hashes}, num_buckets: {buckets}, seed: {seed}, total_weight: {total:?}, counts: {counts:?} }}"
+        )
+    }
+}
+
+#[cfg(test)]
+mod tests;

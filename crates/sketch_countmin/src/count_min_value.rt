@@ -1,0 +1,137 @@
+//! What a sketch needs of the type that it counts in.
+ghost use Rattle.std.specs.Prelude.{◌≡◌, ℕ, ◌+◌, ◌^◌, ◌<◌, ◌≤◌, ℤ, pos, negsuc, ◌≤ℤ◌, ◌<ℤ◌, ◌+ℤ◌, unsigned_abs, MatchResult};
+ghost use Rattle.std.specs.Ordering.{MatchOrdering};
+ghost use Rattle.sketch_base.specs.Errors.{invalid_data};
+ghost use Rattle.sketch_countmin.specs.Values.{InRange, Checks, scaled, bytes_of, number_in};
+
+use sketch_base::{Error, ErrorKind, Fault};
+
+/// A type of whole numbers that a [`CountMinSketch`](crate::CountMinSketch) can count in: `i8` to `i64` and `u8` to
+/// `u64`.
+///
+/// To a contract `number` is the number of a value, and `least` and `greatest` are the least and the greatest number
+/// of the type.
+pub trait CountMinValue: Copy + Ord {
+    /// Zero.
+    const ZERO: Self;
+    /// One.
+    const ONE: Self;
+    /// The greatest value of the type.
+    const MAX: Self;
+    /// The least value of the type.
+    const MIN: Self;
+    /// The number of bytes that a value takes.
+    const SIZE: usize;
+
+    ghost ZERO: { Self };
+
+    ghost ONE: { Self };
+
+    ghost MAX: { Self };
+
+    ghost MIN: { Self };
+
+    ghost SIZE: { ℕ };
+
+    ghost number: { Self → ℤ };
+
+    ghost least: { ℤ };
+
+    ghost greatest: { ℕ };
+
+    /// The number of the value.
+    fn to_number(self) -> i128
+        ensures value { result ≡ number self }
+        ensures in_range { InRange least greatest (number self) }
+        ensures narrow { unsigned_abs result < 2 ^ 64 };
+
+    /// The value of a number, or `None` exactly where the type has none.
+    fn from_number(whole: i128) -> Option<Self>
+        ensures { Checks number least greatest whole result };
+
+    /// The distance from zero, or `None` exactly for the least value of a signed type.
+    #[inline(always)]
+    fn checked_abs(self) -> Option<Self>
+        ensures { Checks number least greatest (pos (unsigned_abs (number self))) result }
+    {
+        Self::from_number(self.to_number().abs())
+    }
+
+    /// The sum, or `None` exactly where that is out of the type's range.
+    #[inline(always)]
+    fn checked_add(self, other: Self) -> Option<Self>
+        ensures { Checks number least greatest (number self +ℤ number other) result }
+    {
+        Self::from_number(self.to_number() + other.to_number())
+    }
+
+    /// The value times `numerator / denominator`, rounded down, as computed in 128 bits.
+    ///
+    /// The value is not negative, and `0 < numerator <= denominator`.
+    #[inline]
+    fn scale_nonnegative(self, numerator: u64, denominator: u128) -> Self
+        requires nonnegative { pos 0 ≤ℤ number self }
+        requires positive { 0 < numerator }
+        requires at_most_one { numerator ≤ denominator }
+        ensures { number result ≡ scaled numerator denominator (number self) }
+    {
+        let product = self.to_number() as u128 * numerator as u128;
+        match Self::from_number((product / denominator) as i128) {
+            Some(value) => value,
+            None => unreachable!(),
+        }
+    }
+
+    /// The value as an `i64`, or as a `u64` where the type is unsigned: its eight bytes, the lowest first.
+    #[inline]
+    fn to_bytes(self) -> [u8; 8]
+        ensures value { result ≡ bytes_of (number self) }
+        ensures reads_back { number_in least result ≡ number self }
+        ensures in_range { InRange least greatest (number self) }
+    {
+        let low = self.to_number().cast_unsigned() & 0xFFFF_FFFF_FFFF_FFFF;
+        (low as u64).to_le_bytes()
+    }
+
+    /// The value that eight bytes hold, as [`to_bytes`](CountMinValue::to_bytes) writes them.
+    ///
+    /// # Errors
+    ///
+    /// [`ValueOutOfRange`](Fault::ValueOutOfRange) where the type has no such value.
+    #[inline]
+    fn try_from_bytes(bytes: [u8; 8]) -> Result<Self, Error>
+        ensures { MatchResult result (λ v. (number v ≡ number_in least bytes) × InRange least greatest (number_in least bytes)) (λ e. (e ≡ invalid_data Fault.ValueOutOfRange) × ¬ InRange least greatest (number_in least bytes)) }
+    {
+        let word = u64::from_le_bytes(bytes);
+        let number = if Self::MIN.to_number() < 0 {
+            word.cast_signed() as i128
+        } else {
+            word as i128
+        };
+        match Self::from_number(number) {
+            Some(value) => Ok(value),
+            None => Err(Error::new(ErrorKind::InvalidData, Fault::ValueOutOfRange)),
+        }
+    }
+
+    ghost zero_is: { number ZERO ≡ pos 0 };
+
+    ghost one_is: { number ONE ≡ pos 1 };
+
+    ghost max_is: { number MAX ≡ pos greatest };
+
+    ghost min_is: { number MIN ≡ least };
+
+    ghost size_fits: { SIZE ≤ 8 };
+
+    // Values are ordered as their numbers.
+    ghost ordered: { (x y : Self) → MatchOrdering (Self.cmp x y) (number x <ℤ number y) (number x ≡ number y) (number y <ℤ number x) };
+
+    // A type has zero, and each sum that is no further from zero than its greatest number.
+    ghost zero_fits: { least ≤ℤ pos 0 };
+
+    ghost sum_fits: { (x y : Self) → unsigned_abs (number x +ℤ number y) ≤ greatest → InRange least greatest (number x +ℤ number y) };
+
+    // Each number of the type comes back from its bytes.
+    ghost bytes_fit: { (z : ℤ) → InRange least greatest z → number_in least (bytes_of z) ≡ z };
+}

@@ -1,0 +1,31 @@
+//! Laws that follow from the contracts of the calls.
+ghost use Rattle.std.specs.Prelude.{◌≡◌, ◌≤ℤ◌, IfOk, IsTrue, IsOkAnd};
+ghost use Rattle.sketch_countmin.specs.History.{CountHistory, IsExact, followed_by};
+ghost use Rattle.sketch_countmin.specs.Stands.{StandsFor};
+
+use crate::count_min_sketch::CountMinSketch;
+use crate::count_min_value::CountMinValue;
+use sketch_base::Error;
+
+/// Merges two sketches, and answers whether the result equals the sketch of one stream.
+///
+/// Where the merge is accepted and nothing in the second stream was halved or decayed, it equals the sketch of the
+/// first stream followed by the second.
+pub fn merge_as_one_stream<T: CountMinValue>(
+    first: &mut CountMinSketch<T>,
+    second: &CountMinSketch<T>,
+    stream: &CountMinSketch<T>,
+) -> Result<bool, Error>
+    ensures { IfOk result (λ same. (g h : CountHistory) → StandsFor first.old g → StandsFor second.now h → IsExact h → StandsFor stream.now (followed_by g h) → IsTrue same) }
+{
+    first.merge(second)?;
+    let _ = stream.num_hashes();
+    Ok(*first == *stream)
+}
+
+/// Writes a value as bytes and reads it back: it is the same number.
+pub fn restored_from_bytes<T: CountMinValue>(value: T) -> Result<T, Error>
+    ensures { IsOkAnd result (λ v. T.number v ≡ T.number value) }
+{
+    T::try_from_bytes(value.to_bytes())
+}

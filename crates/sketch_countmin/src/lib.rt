@@ -1,0 +1,17 @@
+//! Count-Min sketches: the weights of items in a table with a row for each of a few hashes.
+//!
+//! Each item has one cell in each row. An update adds its weight to these cells, and the least of them is the estimate.
+//! Where no weight is below zero, an estimate is never below the true weight.
+#![tactic(auto)]
+
+mod cells;
+mod count_min_sketch;
+mod count_min_value;
+mod laws;
+mod number_types;
+mod unsigned_count_min_value;
+
+pub use count_min_sketch::CountMinSketch;
+pub use count_min_value::CountMinValue;
+pub use laws::{merge_as_one_stream, restored_from_bytes};
+pub use unsigned_count_min_value::UnsignedCountMinValue;

@@ -1,0 +1,22 @@
+//! What halving and decay need of the type that a sketch counts in.
+ghost use Rattle.std.specs.Prelude.{◌≡◌, pos, ◌≤ℤ◌};
+ghost use Rattle.sketch_countmin.specs.Values.{halved};
+
+use crate::count_min_value::CountMinValue;
+
+/// A type without negative numbers that a [`CountMinSketch`](crate::CountMinSketch) can count in: `u8` to `u64`.
+pub trait UnsignedCountMinValue: CountMinValue {
+    /// Half of the value, rounded down.
+    #[inline(always)]
+    fn halve(self) -> Self
+        ensures { Self.number result ≡ halved (Self.number self) }
+    {
+        let half = self.to_number() as u128 / 2;
+        match Self::from_number(half as i128) {
+            Some(value) => value,
+            None => unreachable!(),
+        }
+    }
+
+    ghost unsigned: { (x : Self) → pos 0 ≤ℤ Self.number x };
+}
