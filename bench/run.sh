@@ -4,6 +4,7 @@ set -eu
 cd "$(dirname "$0")"
 crates=out/crates
 mkdir -p "$crates/sketch_base" "$crates/hash_loops/src" "$crates/hash_loops/specs" "$crates/hash_loops/proofs"
+rm -rf "$crates/sketch_base/src" "$crates/sketch_base/specs" "$crates/sketch_base/proofs"
 (cd ../crates/sketch_base && tar -c --exclude=./out --exclude=./must-fail .) | tar -x -C "$crates/sketch_base"
 cp hash_loops.rt.txt "$crates/hash_loops/src/lib.rt"
 printf 'sketch_base:\nhash_loops staticlib: sketch_base\n' >out/crates.txt

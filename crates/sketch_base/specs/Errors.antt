@@ -1,5 +1,5 @@
 -- Refusals, and the texts of their faults.
-use Rattle.std.specs.Prelude.{ℕ, List, codes}
+use Rattle.std.specs.Prelude.{ℕ, List, Option, Some, None, codes}
 use Rattle.sketch_base.specs.declared.error.ErrorKind.{ErrorKind}
 use Rattle.sketch_base.specs.declared.error.ErrorKind.TheVariants.{InvalidArgument, InvalidData, OutOfMemory}
 use Rattle.sketch_base.specs.declared.error.Fault.{Fault}
@@ -25,6 +25,11 @@ invalid_data fault = record { kind = InvalidData; fault = fault }
 -- memory was refused
 abbrev pub no_memory : ErrorValue
 no_memory = record { kind = OutOfMemory; fault = NoMemory }
+
+-- the refusal for a fault in what was asked for, or else for want of memory
+abbrev pub refusal_of : Option Fault → ErrorValue
+refusal_of (Some fault) = invalid_argument fault
+refusal_of None = no_memory
 
 -- what a fault prints
 abbrev pub fault_text : Fault → List ℕ

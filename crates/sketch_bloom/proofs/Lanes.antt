@@ -35,32 +35,32 @@ pub first_with_all : (f : ℕ → ℕ → ℕ) (n : ℕ) (xs ys : List ℕ) → 
 unfolding first_with
 first_with_all f n xs ys a b = rw (take_all n xs a, take_all n ys b, drop_all n xs a, append-nil) refl
 
--- four words more
-pub first_with_block : (f : ℕ → ℕ → ℕ) (i : ℕ) (xs ys : List ℕ) → length ys ≡ length xs → i + 4 ≤ length xs
-    → put_chunk i (first_with f i xs ys) (zip2 f (chunk i 4 (first_with f i xs ys)) (chunk i 4 ys)) ≡ first_with f (i + 4) xs ys
+-- a block of k words more
+pub first_with_block : (f : ℕ → ℕ → ℕ) (k i : ℕ) (xs ys : List ℕ) → length ys ≡ length xs → i + k ≤ length xs
+    → put_chunk i (first_with f i xs ys) (zip2 f (chunk i k (first_with f i xs ys)) (chunk i k ys)) ≡ first_with f (i + k) xs ys
 unfolding first_with
-first_with_block f i xs ys same fits =
+first_with_block f k i xs ys same fits =
     let a : List ℕ = zip2 f (take i xs) (take i ys) in
     let lx : length (take i xs) ≡ i = length-take-le i xs (omega arith) in
     let ly : length (take i ys) ≡ i = length-take-le i ys (omega arith) in
     let la : length a ≡ i = length-zip2 f (take i xs) (take i ys) (lx ∙ sym ly) ∙ lx in
     let back : drop i (a ++ drop i xs) ≡ drop i xs = drop_at a (drop i xs) i la in
-    let cx : length (chunk i 4 xs) ≡ 4 = length-chunk i 4 xs fits in
-    let cy : length (chunk i 4 ys) ≡ 4 = length-chunk i 4 ys (omega arith) in
-    let b : List ℕ = zip2 f (chunk i 4 xs) (chunk i 4 ys) in
-    let lb : length b ≡ 4 = length-zip2 f (chunk i 4 xs) (chunk i 4 ys) (cx ∙ sym cy) ∙ cx in
+    let cx : length (chunk i k xs) ≡ k = length-chunk i k xs fits in
+    let cy : length (chunk i k ys) ≡ k = length-chunk i k ys (omega arith) in
+    let b : List ℕ = zip2 f (chunk i k xs) (chunk i k ys) in
+    let lb : length b ≡ k = length-zip2 f (chunk i k xs) (chunk i k ys) (cx ∙ sym cy) ∙ cx in
     let whole : length (a ++ drop i xs) ≡ length xs = length-append a (drop i xs) ∙ omega (arith, length-drop i xs) in
-    ap (λ (d : List ℕ). put_chunk i (a ++ drop i xs) (zip2 f (take 4 d) (chunk i 4 ys))) back
+    ap (λ (d : List ℕ). put_chunk i (a ++ drop i xs) (zip2 f (take k d) (chunk i k ys))) back
     ∙ (put_chunk_is i (a ++ drop i xs) b (omega arith)
     ∙ (ap (λ (n : ℕ). take i (a ++ drop i xs) ++ (b ++ drop n (drop i (a ++ drop i xs)))) lb
-    ∙ (ap (λ (d : List ℕ). take i (a ++ drop i xs) ++ (b ++ drop 4 d)) back
-    ∙ (ap (λ (t : List ℕ). t ++ (b ++ drop 4 (drop i xs))) (take_at a (drop i xs) i la)
-    ∙ (sym (append_assoc a b (drop 4 (drop i xs)))
-    ∙ (ap (λ (d : List ℕ). (a ++ b) ++ d) (drop-drop 4 i xs)
-    ∙ ap (λ (z : List ℕ). z ++ drop (i + 4) xs)
-    (sym (ap (λ (u : List ℕ). zip2 f u (take (i + 4) ys)) (take_part xs i 4)
-    ∙ (ap (λ (u : List ℕ). zip2 f (take i xs ++ chunk i 4 xs) u) (take_part ys i 4)
-    ∙ zip2-append f (take i xs) (take i ys) (chunk i 4 xs) (chunk i 4 ys) (lx ∙ sym ly))))))))))
+    ∙ (ap (λ (d : List ℕ). take i (a ++ drop i xs) ++ (b ++ drop k d)) back
+    ∙ (ap (λ (t : List ℕ). t ++ (b ++ drop k (drop i xs))) (take_at a (drop i xs) i la)
+    ∙ (sym (append_assoc a b (drop k (drop i xs)))
+    ∙ (ap (λ (d : List ℕ). (a ++ b) ++ d) (drop-drop k i xs)
+    ∙ ap (λ (z : List ℕ). z ++ drop (i + k) xs)
+    (sym (ap (λ (u : List ℕ). zip2 f u (take (i + k) ys)) (take_part xs i k)
+    ∙ (ap (λ (u : List ℕ). zip2 f (take i xs ++ chunk i k xs) u) (take_part ys i k)
+    ∙ zip2-append f (take i xs) (take i ys) (chunk i k xs) (chunk i k ys) (lx ∙ sym ly))))))))))
 
 -- one word more
 pub first_with_word : (f : ℕ → ℕ → ℕ) (i : ℕ) (xs ys : List ℕ) → length ys ≡ length xs → i < length xs
@@ -105,23 +105,23 @@ combined_none f n xs ys e fits = record {
   fits = fits;
 }
 
--- four words more
-pub combined_four : (f : ℕ → ℕ → ℕ) (i m : ℕ) (xs ys words new : List ℕ) (size ones : ℕ) → m ≡ i + 4 → length ys ≡ length xs → i + 4 ≤ length xs → length words ≡ length xs → Combined f i xs ys words size
-    → new ≡ put_chunk i words (zip2 f (chunk i 4 words) (chunk i 4 ys)) → ones ≡ sum_by count_ones (take 4 (drop i new)) → ones ≤ 256 → Combined f m xs ys new (size + ones)
-combined_four f i m xs ys words new size ones e same fits len before is counts small =
-    let c : List ℕ = zip2 f (chunk i 4 words) (chunk i 4 ys) in
-    let lx : length (chunk i 4 words) ≡ 4 = length-chunk i 4 words (omega arith) in
-    let ly : length (chunk i 4 ys) ≡ 4 = length-chunk i 4 ys (omega arith) in
-    let lc : length c ≡ 4 = length-zip2 f (chunk i 4 words) (chunk i 4 ys) (lx ∙ sym ly) ∙ lx in
-    let front : take (i + 4) new ≡ take i words ++ c = ap (take (i + 4)) is ∙ take_more_put_chunk i words c (i + 4) (omega arith) (omega arith) in
+-- a block of k words more
+pub combined_block : (f : ℕ → ℕ → ℕ) (k i m : ℕ) (xs ys words new : List ℕ) (size ones : ℕ) → m ≡ i + k → length ys ≡ length xs → i + k ≤ length xs → length words ≡ length xs → Combined f i xs ys words size
+    → new ≡ put_chunk i words (zip2 f (chunk i k words) (chunk i k ys)) → ones ≡ sum_by count_ones (take k (drop i new)) → ones ≤ 64 * k → Combined f m xs ys new (size + ones)
+combined_block f k i m xs ys words new size ones e same fits len before is counts small =
+    let c : List ℕ = zip2 f (chunk i k words) (chunk i k ys) in
+    let lx : length (chunk i k words) ≡ k = length-chunk i k words (omega arith) in
+    let ly : length (chunk i k ys) ≡ k = length-chunk i k ys (omega arith) in
+    let lc : length c ≡ k = length-zip2 f (chunk i k words) (chunk i k ys) (lx ∙ sym ly) ∙ lx in
+    let front : take (i + k) new ≡ take i words ++ c = ap (take (i + k)) is ∙ take_more_put_chunk i words c (i + k) (omega arith) (omega arith) in
     let li : length (take i words) ≡ i = length-take-le i words (omega arith) in
-    let kept : take i new ≡ take i words = sym (take-take i (i + 4) new (omega arith)) ∙ (ap (take i) front ∙ take_at (take i words) c i li) in
-    let sums : sum_by count_ones (take (i + 4) new) ≡ sum_by count_ones (take i new) + sum_by count_ones (take 4 (drop i new)) = ap (sum_by count_ones) (take_part new i 4) ∙ sum_by-append count_ones (take i new) (take 4 (drop i new)) in
+    let kept : take i new ≡ take i words = sym (take-take i (i + k) new (omega arith)) ∙ (ap (take i) front ∙ take_at (take i words) c i li) in
+    let sums : sum_by count_ones (take (i + k) new) ≡ sum_by count_ones (take i new) + sum_by count_ones (take k (drop i new)) = ap (sum_by count_ones) (take_part new i k) ∙ sum_by-append count_ones (take i new) (take k (drop i new)) in
     let old : sum_by count_ones (take i new) ≡ sum_by count_ones (take i words) = ap (sum_by count_ones) kept in
     let was : size ≡ sum_by count_ones (take i words) = before.counted in
-    let total : size + ones ≡ sum_by count_ones (take (i + 4) new) = omega arith in
+    let total : size + ones ≡ sum_by count_ones (take (i + k) new) = omega arith in
     record {
-      combined = is ∙ (ap (λ (w : List ℕ). put_chunk i w (zip2 f (chunk i 4 w) (chunk i 4 ys))) before.combined ∙ (first_with_block f i xs ys same fits ∙ ap (λ (n : ℕ). first_with f n xs ys) (sym e)));
+      combined = is ∙ (ap (λ (w : List ℕ). put_chunk i w (zip2 f (chunk i k w) (chunk i k ys))) before.combined ∙ (first_with_block f k i xs ys same fits ∙ ap (λ (n : ℕ). first_with f n xs ys) (sym e)));
       counted = total ∙ ap (λ (n : ℕ). sum_by count_ones (take n new)) (sym e);
       few = omega (arith, before.few);
       fits = before.fits;

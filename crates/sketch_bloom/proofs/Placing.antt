@@ -1,5 +1,6 @@
 -- The positions that two hashes give, one after another.
-use Rattle.std.proofs.Common.{◌≡◌, ◌≢◌, inl, inr, ℕ, zero, suc, ◌+◌, ◌*◌, ◌/◌, ◌%◌, ◌^◌, ◌<◌, ◌==◌, eqb-true, Bool, true, false, ◌&&◌, ◌||◌, map, refl, sym, ap, ◌∙◌, arith, List, ◌-◌, length, get_or, set as put, bit_and, bit_or, cond, add-zero, subst}
+use Rattle.std.proofs.Common.{◌≡◌, ◌≢◌, inl, inr, ℕ, zero, suc, ◌+◌, ◌*◌, ◌/◌, ◌%◌, ◌^◌, ◌<◌, ◌≤◌, ◌==◌, eqb-true, Bool, true, false, ◌&&◌, ◌||◌, map, refl, sym, ap, ◌∙◌, arith, List, length, get_or, set as put, bit_and, bit_or, cond, add-zero, subst}
+use mir.Val.{bool_byte}
 use Rattle.std.specs.Int.{bit_at}
 use Rattle.std.proofs.lemmas.Nat.Bits.{bit_at-lt, shr_and_one}
 use Rattle.std.proofs.lemmas.Bool.Decides.{nat_tests}
@@ -118,23 +119,28 @@ inserts_absent old placed words new added p before is lacks = record {
     never_zero : (n : ℕ) → (n + 1 == 0) ≡ false
     never_zero n = grind (arith, nat_tests)
 
+-- a test counts as one at most
+pub counted_test : (b : Bool) → bool_byte b ≤ 1
+counted_test true = omega arith
+counted_test false = omega arith
+
 -- one position more
 pub inserts_one : (old : List ℕ) (placed : Numbers) (words : List ℕ) (added p : ℕ) → p < 64 * length words → Inserts old placed words added
-    → Inserts old (set.insert placed p) (put words (p / 64) (bit_or (get_or words (p / 64) 0) (1 * 2 ^ (p % 64) % 2 ^ 64))) (added + (1 - bit_and (get_or words (p / 64) 0 / 2 ^ (p % 64)) 1))
+    → Inserts old (set.insert placed p) (put words (p / 64) (bit_or (get_or words (p / 64) 0) (1 * 2 ^ (p % 64) % 2 ^ 64))) (added + bool_byte (bit_and (get_or words (p / 64) 0 / 2 ^ (p % 64)) 1 == 0))
 inserts_one old placed words added p l before =
     let w : ℕ = get_or words (p / 64) 0 in
     let new : List ℕ = put words (p / 64) (bit_or w (1 * 2 ^ (p % 64) % 2 ^ 64)) in
     let is : set_of new ≡ set.insert (set_of words) p = set_of-set words p l in
     let bit : bit_and (w / 2 ^ (p % 64)) 1 ≡ bit_at w (p % 64) = shr_and_one w (p % 64) in
     let low : bit_at w (p % 64) < 2 = bit_at-lt w (p % 64) in
-    elim (bit_at w (p % 64) == 1) as (λ b. (bit_at w (p % 64) == 1) ≡ b → Inserts old (set.insert placed p) new (added + (1 - bit_and (w / 2 ^ (p % 64)) 1))) [
+    elim (bit_at w (p % 64) == 1) as (λ b. (bit_at w (p % 64) == 1) ≡ b → Inserts old (set.insert placed p) new (added + bool_byte (bit_and (w / 2 ^ (p % 64)) 1 == 0))) [
       | true ↦ λ e.
           let one : bit_at w (p % 64) ≡ 1 = eqb-true (bit_at w (p % 64)) 1 e in
-          let same : added ≡ added + (1 - bit_and (w / 2 ^ (p % 64)) 1) = omega arith in
+          let same : added ≡ added + bool_byte (bit_and (w / 2 ^ (p % 64)) 1 == 0) = sym (add-zero added) ∙ ap (λ n. added + bool_byte (n == 0)) (sym (bit ∙ one)) in
           subst (λ n. Inserts old (set.insert placed p) new n) same (inserts_present old placed words new added p before is (contains-set_of words p ∙ e))
       | false ↦ λ e.
           let none : bit_at w (p % 64) ≡ 0 = not_one (bit_at w (p % 64)) low e in
-          let more : added + 1 ≡ added + (1 - bit_and (w / 2 ^ (p % 64)) 1) = omega arith in
+          let more : added + 1 ≡ added + bool_byte (bit_and (w / 2 ^ (p % 64)) 1 == 0) = ap (λ n. added + bool_byte (n == 0)) (sym (bit ∙ none)) in
           subst (λ n. Inserts old (set.insert placed p) new n) more (inserts_absent old placed words new added p before is (contains-set_of words p ∙ e))
     ] refl
   where

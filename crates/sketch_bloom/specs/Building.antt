@@ -1,6 +1,5 @@
 -- What a builder is asked for, and when it refuses.
 use Rattle.std.specs.Prelude.{ℕ, ◌+◌, ◌/◌, nat_lt, ◌||◌, ◌==◌, Option, Some, None, if◌then◌else◌}
-use Rattle.sketch_base.specs.Errors.{ErrorValue, invalid_argument, no_memory}
 use Rattle.sketch_base.specs.declared.error.Fault.{Fault}
 use Rattle.sketch_base.specs.declared.error.Fault.TheVariants.{BadNumBits, BadNumHashes}
 
@@ -19,8 +18,3 @@ request_fault r =
 -- how many words hold so many bits
 abbrev pub words_for : ℕ → ℕ
 words_for num_bits = (num_bits + 63) / 64
-
--- the refusal for a fault, or else for want of memory
-abbrev pub refusal_of : Option Fault → ErrorValue
-refusal_of (Some fault) = invalid_argument fault
-refusal_of None = no_memory

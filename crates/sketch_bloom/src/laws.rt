@@ -1,6 +1,7 @@
 //! The laws of set algebra and of equality. No function here does anything: what it ensures is the law.
 //!
-//! The laws speak of the states that the calls of [`BloomFilter`](crate::BloomFilter) leave, as their contracts name them.
+//! The laws speak of the states that the calls of [`BloomFilter`](crate::BloomFilter) leave, as their contracts
+//! name them.
 ghost use Rattle.sketch_bloom.specs.Laws.{UnionCommutes, UnionAssociates, UnionIsIdempotent, EmptyContainsNothing, InsertedIsContained, DifferenceTakesAway, DifferenceAddsNothing, DifferenceLeaves, EqualByParts, EqualityIsReflexive, EqualityIsSymmetric, EqualityIsTransitive};
 
 /// A union of compatible filters does not depend on their order, and a filter united with itself is as it was.

@@ -124,33 +124,46 @@ fn has_the_known_positions(rt: HostRuntime) -> Result<(), Fail> {
     Ok(())
 }
 
-// The sizes are those of the same program.
+// The sizes are those of the same program: of each filter, and then of the union, the intersection and the difference.
 #[test]
 fn combines_sets(rt: HostRuntime) -> Result<(), Fail> {
-    let mut left = filter(rt.alloc(), 640, 3, 9001)?;
-    for item in 0..60u64 {
-        left.insert(item);
-    }
-    let mut right = filter(rt.alloc(), 640, 3, 9001)?;
-    for item in 40..100u64 {
-        right.insert(item);
-    }
-    assert_eq!(rt; left.bits_used(), 158);
-    assert_eq!(rt; right.bits_used(), 163);
+    let rows = [
+        (1, 17, 16, 26, 7, 10),
+        (3, 48, 46, 70, 24, 24),
+        (4, 64, 55, 92, 27, 37),
+        (5, 77, 82, 120, 39, 38),
+        (8, 124, 127, 192, 59, 65),
+        (9, 131, 139, 206, 64, 67),
+        (10, 158, 163, 249, 72, 86),
+        (12, 185, 197, 294, 88, 97),
+        (13, 206, 207, 318, 95, 111),
+    ];
+    for (num_words, mine, theirs, either, both, mine_alone) in rows {
+        let mut left = filter(rt.alloc(), 64 * num_words, 3, 9001)?;
+        for item in 0..6 * num_words {
+            left.insert(item);
+        }
+        let mut right = filter(rt.alloc(), 64 * num_words, 3, 9001)?;
+        for item in 4 * num_words..10 * num_words {
+            right.insert(item);
+        }
+        assert_eq!(rt; left.bits_used(), mine, "{num_words}");
+        assert_eq!(rt; right.bits_used(), theirs, "{num_words}");
 
-    let mut united = left.try_clone()?;
-    united.union(&right)?;
-    assert_eq!(rt; united.bits_used(), 249);
-    let mut common = left.try_clone()?;
-    common.intersect(&right)?;
-    assert_eq!(rt; common.bits_used(), 72);
-    let mut rest = left.try_clone()?;
-    rest.difference(&right)?;
-    assert_eq!(rt; rest.bits_used(), 86);
+        let mut united = left.try_clone()?;
+        united.union(&right)?;
+        assert_eq!(rt; united.bits_used(), either, "{num_words}");
+        let mut common = left.try_clone()?;
+        common.intersect(&right)?;
+        assert_eq!(rt; common.bits_used(), both, "{num_words}");
+        let mut rest = left.try_clone()?;
+        rest.difference(&right)?;
+        assert_eq!(rt; rest.bits_used(), mine_alone, "{num_words}");
 
-    rest.union(&common)?;
-    assert!(rt; rest == left);
-    assert!(rt; rest != united);
+        rest.union(&common)?;
+        assert!(rt; rest == left, "{num_words}");
+        assert!(rt; rest != united, "{num_words}");
+    }
     Ok(())
 }
 

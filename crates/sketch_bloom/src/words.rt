@@ -1,6 +1,7 @@
 //! Sets of numbers in words of 64 bits.
 //!
-//! A number `p` stands in the words where bit `p % 64` of word `p / 64` is set.
+//! A number `p` stands in the words where bit `p % 64` of word `p / 64` is set. Two sets are combined eight words at a time,
+//! then four where so many are left, and the last three at most one by one.
 ghost use Rattle.std.specs.Prelude.{◌≡◌, ◌+◌, ◌*◌, ◌/◌, ◌%◌, ◌<◌, ◌≤◌, ◌==◌, ◌↔◌, IsTrue, length, take, drop, count_ones};
 ghost use Rattle.std.specs.List.{sum_by};
 ghost use Rattle.std.specs.FinSet as set;
@@ -53,9 +54,11 @@ pub fn insert_positions(
     h1: u64,
 ) -> u64
     requires { capacity ≡ 64 * length words.old }
-    ensures union { set_of words.new ≡ set.union (set_of words.old) (positions capacity num_hashes h0 h1) }
+    ensures union { set_of words.new
+        ≡ set.union (set_of words.old) (positions capacity num_hashes h0 h1) }
     ensures added { set.len (set_of words.new) ≡ set.len (set_of words.old) + result }
-    ensures contained { set.is_subset (positions capacity num_hashes h0 h1) (set_of words.old) ≡ (result == 0) }
+    ensures contained { set.is_subset (positions capacity num_hashes h0 h1) (set_of words.old)
+        ≡ (result == 0) }
 {
     let mut added = 0;
     let mut hash = h0;
@@ -65,7 +68,7 @@ pub fn insert_positions(
         let at = (place / 64) as usize;
         let word = words[at];
         words[at] = word | 1 << (place % 64);
-        added += 1 - (word >> (place % 64) & 1);
+        added += (word >> (place % 64) & 1 == 0) as u64;
     }
     added
 }
@@ -90,7 +93,7 @@ pub fn clear(words: &mut [u64])
     words.fill(0);
 }
 
-/// Unites with another set, four words at a time, and answers the size of the union.
+/// Unites with another set, eight words at a time, then four, and answers the size of the union.
 pub fn unite(words: &mut [u64], other: &[u64]) -> u64
     requires same { length other.now ≡ length words.old }
     requires few { length words.old ≤ 2147483647 }
@@ -98,21 +101,28 @@ pub fn unite(words: &mut [u64], other: &[u64]) -> u64
     ensures size { result ≡ set.len (set_of words.new) }
 {
     let mut size = 0;
-    let blocks = words.len() / 4;
-    'fours: for b in 0..blocks {
+    let eights = words.len() / 8;
+    'eights: for b in 0..eights {
+        let at = 8 * b;
+        let both = u64x8::from_slice(&words[at..]) | u64x8::from_slice(&other[at..]);
+        both.copy_to_slice(&mut words[at..]);
+        size += ones_of_eight(words, at);
+    }
+    let fours = words.len() / 4;
+    'fours: for b in 2 * eights..fours {
         let at = 4 * b;
         let both = u64x4::from_slice(&words[at..]) | u64x4::from_slice(&other[at..]);
         both.copy_to_slice(&mut words[at..]);
         size += ones_of_four(words, at);
     }
-    'rest: for i in 4 * blocks..words.len() {
+    'rest: for i in 4 * fours..words.len() {
         words[i] |= other[i];
         size += words[i].count_ones() as u64;
     }
     size
 }
 
-/// Intersects with another set, four words at a time, and answers the size of the intersection.
+/// Intersects with another set, eight words at a time, then four, and answers the size of the intersection.
 pub fn intersect(words: &mut [u64], other: &[u64]) -> u64
     requires same { length other.now ≡ length words.old }
     requires few { length words.old ≤ 2147483647 }
@@ -120,21 +130,28 @@ pub fn intersect(words: &mut [u64], other: &[u64]) -> u64
     ensures size { result ≡ set.len (set_of words.new) }
 {
     let mut size = 0;
-    let blocks = words.len() / 4;
-    'fours: for b in 0..blocks {
+    let eights = words.len() / 8;
+    'eights: for b in 0..eights {
+        let at = 8 * b;
+        let both = u64x8::from_slice(&words[at..]) & u64x8::from_slice(&other[at..]);
+        both.copy_to_slice(&mut words[at..]);
+        size += ones_of_eight(words, at);
+    }
+    let fours = words.len() / 4;
+    'fours: for b in 2 * eights..fours {
         let at = 4 * b;
         let both = u64x4::from_slice(&words[at..]) & u64x4::from_slice(&other[at..]);
         both.copy_to_slice(&mut words[at..]);
         size += ones_of_four(words, at);
     }
-    'rest: for i in 4 * blocks..words.len() {
+    'rest: for i in 4 * fours..words.len() {
         words[i] &= other[i];
         size += words[i].count_ones() as u64;
     }
     size
 }
 
-/// Takes another set away, four words at a time, and answers the size of what is left.
+/// Takes another set away, eight words at a time, then four, and answers the size of what is left.
 pub fn subtract(words: &mut [u64], other: &[u64]) -> u64
     requires same { length other.now ≡ length words.old }
     requires few { length words.old ≤ 2147483647 }
@@ -142,18 +159,39 @@ pub fn subtract(words: &mut [u64], other: &[u64]) -> u64
     ensures size { result ≡ set.len (set_of words.new) }
 {
     let mut size = 0;
-    let blocks = words.len() / 4;
-    'fours: for b in 0..blocks {
+    let eights = words.len() / 8;
+    'eights: for b in 0..eights {
+        let at = 8 * b;
+        let left = u64x8::from_slice(&words[at..]) & !u64x8::from_slice(&other[at..]);
+        left.copy_to_slice(&mut words[at..]);
+        size += ones_of_eight(words, at);
+    }
+    let fours = words.len() / 4;
+    'fours: for b in 2 * eights..fours {
         let at = 4 * b;
         let left = u64x4::from_slice(&words[at..]) & !u64x4::from_slice(&other[at..]);
         left.copy_to_slice(&mut words[at..]);
         size += ones_of_four(words, at);
     }
-    'rest: for i in 4 * blocks..words.len() {
+    'rest: for i in 4 * fours..words.len() {
         words[i] &= !other[i];
         size += words[i].count_ones() as u64;
     }
     size
+}
+
+/// How many bits are set in the eight words from a place on.
+#[inline(always)]
+fn ones_of_eight(words: &[u64], at: usize) -> u64
+    requires { at + 8 ≤ length words.now }
+    ensures count { result ≡ sum_by count_ones (take 8 (drop at words.now)) }
+    ensures few { result ≤ 512 }
+{
+    let first = words[at].count_ones() + words[at + 1].count_ones();
+    let second = words[at + 2].count_ones() + words[at + 3].count_ones();
+    let third = words[at + 4].count_ones() + words[at + 5].count_ones();
+    let fourth = words[at + 6].count_ones() + words[at + 7].count_ones();
+    (first + second + (third + fourth)) as u64
 }
 
 /// How many bits are set in the four words from a place on.

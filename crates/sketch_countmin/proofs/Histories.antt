@@ -1,6 +1,6 @@
 -- What follows of histories where no weight is below zero, and of those without halving and decay.
 use Rattle.std.proofs.Common.{◌≡◌, ℕ, zero, suc, ◌+◌, ◌*◌, ◌/◌, ◌<◌, ◌≤◌, Bool, true, false, cond, List, ℤ, pos, negsuc, ◌+ℤ◌, unsigned_abs, refl, sym, ap, ◌∙◌, subst, arith}
-use Rattle.std.specs.Prelude.{◌≤ℤ◌, ◌==◌}
+use Rattle.std.specs.Prelude.{◌≤ℤ◌, ◌==◌, ◌&&◌, not, ◌-ℤ◌}
 use Rattle.std.specs.Str.{bytes_eq}
 use Rattle.std.proofs.Math.Nat.{div-zero}
 use Rattle.std.proofs.lemmas.Int.{ints}
@@ -9,8 +9,8 @@ use Rattle.std.proofs.lemmas.Bool.{eq-eqb, false≢true}
 use Rattle.std.proofs.lemmas.Slice.Eq.{bytes_eq-Decides}
 use Rattle.sketch_countmin.specs.Values.{scaled, halved}
 use Rattle.sketch_countmin.specs.Buckets.{bucket_of}
-use Rattle.sketch_countmin.specs.State.{CountState, IsLeastCell}
-use Rattle.sketch_countmin.specs.History.{CountHistory, value_over, own_value, cell_share, absolute_weight, hashes_of, buckets_of, seed_of, IsNonnegative, IsExact, followed_by}
+use Rattle.sketch_countmin.specs.State.{CountState, IsLeast, IsLeastCell, item_cell}
+use Rattle.sketch_countmin.specs.History.{CountHistory, value_over, own_value, others_share, cell_share, absolute_weight, hashes_of, buckets_of, seed_of, IsNonnegative, IsExact, followed_by}
 use Rattle.sketch_countmin.specs.History.CountHistory.{New, Update, Merge, Halve, Decay, Restored}
 use Rattle.sketch_countmin.specs.Stands.{StandsFor}
 use Rattle.sketch_countmin.proofs.Decays.{div_le}
@@ -99,6 +99,57 @@ enclosed s h bytes z p least stands i =
     let low : own_value h bytes ≤ℤ cell_share s.buckets s.seed h r b = value_mono h (bytes_eq bytes) (λ other. bucket_of s.buckets s.seed r other == b) i (own_bucket s.buckets s.seed r bytes) in
     let high : cell_share s.buckets s.seed h r b ≤ℤ pos (absolute_weight h) = value_most h (λ other. bucket_of s.buckets s.seed r other == b) i in
     (subst (λ (w : ℤ). own_value h bytes ≤ℤ w) (sym share) low, subst (λ (t : ℕ). z ≤ℤ pos t) (sym stands.total) (subst (λ (w : ℤ). w ≤ℤ pos (absolute_weight h)) (sym share) high))
+
+-- ---- the own value and that of the others
+
+-- tests that answer alike have one value
+value_same : (h : CountHistory) (f k : List ℕ → Bool) → ((bytes : List ℕ) → f bytes ≡ k bytes) → value_over h f ≡ value_over h k
+value_same (New m d s) f k e = refl
+value_same (Update h bytes w) f k e = ap (λ (z : ℤ). z +ℤ cond (f bytes) w (pos 0)) (value_same h f k e) ∙ ap (λ (t : Bool). value_over h k +ℤ cond t w (pos 0)) (e bytes)
+value_same (Merge g h) f k e = ap (λ (z : ℤ). z +ℤ value_over h f) (value_same g f k e) ∙ ap (λ (z : ℤ). value_over g k +ℤ z) (value_same h f k e)
+value_same (Halve h) f k e = ap halved (value_same h f k e)
+value_same (Decay h n d) f k e = ap (scaled n d) (value_same h f k e)
+value_same (Restored h) f k e = value_same h f k e
+
+-- a weight goes to one of two parts
+weight_split : (s t : Bool) (w : ℤ) → cond s w (pos 0) ≡ cond (s && t) w (pos 0) +ℤ cond (s && not t) w (pos 0)
+weight_split true true w = omega (arith, ints)
+weight_split true false w = omega (arith, ints)
+weight_split false t w = omega (arith, ints)
+
+-- and so does a value, where nothing was rounded
+value_split : (h : CountHistory) (f k : List ℕ → Bool) → IsExact h → value_over h f ≡ value_over h (λ bytes. f bytes && k bytes) +ℤ value_over h (λ bytes. f bytes && not (k bytes))
+value_split (New m d s) f k i = omega (arith, ints)
+value_split (Update h bytes w) f k i = let a = value_split h f k i in let b = weight_split (f bytes) (k bytes) w in omega (arith, ints, a, b)
+value_split (Merge g h) f k i = let a = value_split g f k i.0 in let b = value_split h f k i.1 in omega (arith, ints, a, b)
+value_split (Restored h) f k i = value_split h f k i
+value_split (Halve h) f k i = absurd i
+value_split (Decay h n d) f k i = absurd i
+
+-- a test that follows from another adds nothing to it
+and_follows : (s t : Bool) → (t ≡ true → s ≡ true) → (s && t) ≡ t
+and_follows true t h = refl
+and_follows false true h = absurd (false≢true (h refl))
+and_follows false false h = refl
+
+-- the share of the bytes' own cell
+own_share : (d seed : ℕ) (h : CountHistory) (bytes : List ℕ) (r : ℕ) → IsExact h → cell_share d seed h r (bucket_of d seed r bytes) ≡ own_value h bytes +ℤ others_share d seed h bytes r
+own_share d seed h bytes r i =
+    let inside : List ℕ → Bool = λ other. bucket_of d seed r other == bucket_of d seed r bytes in
+    value_split h inside (bytes_eq bytes) i
+    ∙ ap (λ (z : ℤ). z +ℤ others_share d seed h bytes r)
+    (value_same h (λ other. inside other && bytes_eq bytes other) (bytes_eq bytes) (λ other. and_follows (inside other) (bytes_eq bytes other) (own_bucket d seed r bytes other)))
+
+-- where nothing was rounded, the least cell is above the own value by the least share of the others
+pub raised_by_others : (s : CountState) (h : CountHistory) (bytes : List ℕ) (z : ℤ) → 0 < s.buckets → IsLeastCell s bytes z → StandsFor s h → IsExact h
+    → IsLeast s.hashes (others_share s.buckets s.seed h bytes) (z -ℤ own_value h bytes)
+raised_by_others s h bytes z p least stands i = record {
+  below = λ r lr. let low = least.below r lr in let share = cell r lr in omega (arith, ints, low, share);
+  reached = let row = least.reached in let share = cell row.0 row.1 in (row.0, row.1, omega (arith, ints, row.2, share));
+}
+  where
+    cell : (r : ℕ) → r < s.hashes → item_cell s bytes r ≡ own_value h bytes +ℤ others_share s.buckets s.seed h bytes r
+    cell r lr = stands.cells r lr (bucket_of s.buckets s.seed r bytes) (bucket_below s.buckets s.seed r bytes p) ∙ own_share s.buckets s.seed h bytes r i
 
 -- ---- one stream followed by another
 

@@ -1,5 +1,5 @@
 -- What was counted in a Count-Min sketch.
-use Rattle.std.specs.Prelude.{ℕ, ◌+◌, ◌*◌, ◌/◌, ◌==◌, Bool, if◌then◌else◌, List, ℤ, pos, ◌+ℤ◌, ◌≤ℤ◌, unsigned_abs}
+use Rattle.std.specs.Prelude.{ℕ, ◌+◌, ◌*◌, ◌/◌, ◌==◌, ◌&&◌, not, Bool, if◌then◌else◌, List, ℤ, pos, ◌+ℤ◌, ◌≤ℤ◌, unsigned_abs}
 use Rattle.std.specs.Str.{bytes_eq}
 use Rattle.sketch_countmin.specs.Values.{scaled, halved}
 use Rattle.sketch_countmin.specs.Buckets.{bucket_of}
@@ -29,6 +29,10 @@ own_value h bytes = value_over h (bytes_eq bytes)
 -- the value over all byte lists whose bucket in the row r is b
 abbrev pub cell_share : ℕ → ℕ → CountHistory → ℕ → ℕ → ℤ
 cell_share buckets seed h r b = value_over h (λ bytes. bucket_of buckets seed r bytes == b)
+
+-- the value over the other byte lists that are in the row r in the bucket of these
+abbrev pub others_share : ℕ → ℕ → CountHistory → List ℕ → ℕ → ℤ
+others_share buckets seed h bytes r = value_over h (λ other. (bucket_of buckets seed r other == bucket_of buckets seed r bytes) && not (bytes_eq bytes other))
 
 -- the value over all byte lists, with each weight as its distance from zero
 abbrev pub absolute_weight : CountHistory → ℕ

@@ -1,6 +1,5 @@
 -- Which shapes and seeds a sketch may have.
 use Rattle.std.specs.Prelude.{ℕ, ◌*◌, ◌^◌, ◌==◌, nat_lt, nat_le, Option, Some, None, if◌then◌else◌}
-use Rattle.sketch_base.specs.Errors.{ErrorValue, invalid_argument, no_memory}
 use Rattle.sketch_base.specs.Hashes.{seed_hash}
 use Rattle.sketch_base.specs.declared.error.Fault.{Fault}
 use Rattle.sketch_base.specs.declared.error.Fault.TheVariants.{BadNumHashes, BadNumBuckets, TableTooLarge, ZeroSeedHash}
@@ -12,8 +11,3 @@ shape_fault hashes buckets seed =
     (if nat_lt buckets 3 then Some BadNumBuckets else
     (if nat_le (2 ^ 30) (hashes * buckets) then Some TableTooLarge else
     (if seed_hash seed == 0 then Some ZeroSeedHash else None)))
-
--- the refusal for a fault, or else for want of memory
-abbrev pub refusal_of : Option Fault → ErrorValue
-refusal_of (Some fault) = invalid_argument fault
-refusal_of None = no_memory

@@ -64,10 +64,14 @@ decayed_state n d s = record s { total = s.total * n / d; rows = map (map (scale
 abbrev pub item_cell : CountState → List ℕ → ℕ → ℤ
 item_cell s bytes r = cell_at s.rows r (bucket_of s.buckets s.seed r bytes)
 
+-- z is the least of the first n numbers
+pub record IsLeast (n : ℕ) (f : ℕ → ℤ) (z : ℤ) : Type 0 where
+  pub below : (r : ℕ) → r < n → z ≤ℤ f r
+  pub reached : (r : ℕ) × (r < n) × (z ≡ f r)
+
 -- z is the least of the cells of a byte list, of which each row has one
-pub record IsLeastCell (s : CountState) (bytes : List ℕ) (z : ℤ) : Type 0 where
-  pub below : (r : ℕ) → r < s.hashes → z ≤ℤ item_cell s bytes r
-  pub reached : (r : ℕ) × (r < s.hashes) × (z ≡ item_cell s bytes r)
+abbrev pub IsLeastCell : CountState → List ℕ → ℤ → Type 0
+IsLeastCell s bytes z = IsLeast s.hashes (item_cell s bytes) z
 
 -- how far an upper bound is above the estimate: the total by e over the buckets, for which a fraction of whole numbers
 -- stands, rounded down

@@ -41,10 +41,8 @@ fn add_at<T: CountMinValue>(counts: &mut [T], place: usize, weight: T)
     requires room { unsigned_abs (slice_index_or (map T.number counts.old) place (pos 0) +ℤ T.number weight) ≤ T.greatest }
     ensures { map T.number counts.new ≡ slice_set (map T.number counts.old) place (slice_index_or (map T.number counts.old) place (pos 0) +ℤ T.number weight) }
 {
-    match counts[place].checked_add(weight) {
-        Some(sum) => counts[place] = sum,
-        None => unreachable!(),
-    }
+    let sum = counts[place].to_number() + weight.to_number();
+    counts[place] = T::from_number_in_range(sum);
 }
 
 /// Adds the weight at the item's bucket of each row.

@@ -1,13 +1,13 @@
 //! The Count-Min sketch.
-ghost use Rattle.std.specs.Prelude.{◌≡◌, ℕ, ◌+◌, ◌*◌, ◌<◌, ◌≤◌, ◌↔◌, None, ℤ, pos, ◌≤ℤ◌, unsigned_abs, OnOk, OnErr, IfOk, IfErr, IsOk, IsTrue, IsErrOf};
-ghost use Rattle.sketch_base.specs.Errors.{invalid_argument, no_memory};
+ghost use Rattle.std.specs.Prelude.{◌≡◌, ℕ, ◌+◌, ◌*◌, ◌<◌, ◌≤◌, ◌↔◌, None, ℤ, pos, ◌≤ℤ◌, ◌-ℤ◌, unsigned_abs, OnOk, OnErr, IfOk, IfErr, IsOk, IsTrue, IsErrOf};
+ghost use Rattle.sketch_base.specs.Errors.{invalid_argument, no_memory, refusal_of};
 ghost use Rattle.sketch_base.specs.Hashes.{fed_bytes};
-ghost use Rattle.sketch_countmin.specs.History.{CountHistory, IsNonnegative, own_value};
+ghost use Rattle.sketch_countmin.specs.History.{CountHistory, IsNonnegative, IsExact, own_value, others_share};
 ghost use Rattle.sketch_countmin.specs.History.CountHistory.{New, Update, Merge, Halve, Decay};
 ghost use Rattle.sketch_countmin.specs.Rows.{cell_at};
-ghost use Rattle.sketch_countmin.specs.Shapes.{shape_fault, refusal_of};
+ghost use Rattle.sketch_countmin.specs.Shapes.{shape_fault};
 ghost use Rattle.sketch_countmin.specs.Stands.{StandsFor};
-ghost use Rattle.sketch_countmin.specs.State.{IsCountState, SameShape, Counts, Joins, IsLeastCell, empty_state, halved_state, decayed_state, upper_bound_of};
+ghost use Rattle.sketch_countmin.specs.State.{IsCountState, SameShape, Counts, Joins, IsLeast, IsLeastCell, empty_state, halved_state, decayed_state, upper_bound_of};
 
 use crate::cells::{
     add_all, add_to_rows, halve_all, least_cell, row_seeds, same_cells, scale_all, zeros,
@@ -214,6 +214,10 @@ impl<T: CountMinValue> CountMinSketch<T> {
         // Where no weight was below zero, the item's own share of the history is at most the estimate, and that is at
         // most the total.
         ensures encloses { (h : CountHistory) → StandsFor self.now h → IsNonnegative h → (own_value h (fed_bytes I.hash_input item) ≤ℤ T.number result) × (T.number result ≤ℤ pos self.now.total) }
+
+        // Where nothing was halved or decayed, the estimate is above the item's own share by the least, over the rows,
+        // of what the other items of its buckets share.
+        ensures raised { (h : CountHistory) → StandsFor self.now h → IsExact h → IsLeast self.now.hashes (others_share self.now.buckets self.now.seed h (fed_bytes I.hash_input item)) (T.number result -ℤ own_value h (fed_bytes I.hash_input item)) }
     {
         least_cell(&self.counts, self.buckets, &self.row_seeds, &item)
     }

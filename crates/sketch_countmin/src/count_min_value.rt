@@ -49,6 +49,11 @@ pub trait CountMinValue: Copy + Ord {
     fn from_number(whole: i128) -> Option<Self>
         ensures { Checks number least greatest whole result };
 
+    /// The value of a number that the type has.
+    fn from_number_in_range(whole: i128) -> Self
+        requires { InRange least greatest whole }
+        ensures { number result ≡ whole };
+
     /// The distance from zero, or `None` exactly for the least value of a signed type.
     #[inline(always)]
     fn checked_abs(self) -> Option<Self>
@@ -76,10 +81,7 @@ pub trait CountMinValue: Copy + Ord {
         ensures { number result ≡ scaled numerator denominator (number self) }
     {
         let product = self.to_number() as u128 * numerator as u128;
-        match Self::from_number((product / denominator) as i128) {
-            Some(value) => value,
-            None => unreachable!(),
-        }
+        Self::from_number_in_range((product / denominator) as i128)
     }
 
     /// The value as an `i64`, or as a `u64` where the type is unsigned: its eight bytes, the lowest first.

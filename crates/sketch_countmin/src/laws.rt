@@ -1,13 +1,16 @@
 //! Laws that follow from the contracts of the calls.
-ghost use Rattle.std.specs.Prelude.{◌≡◌, ◌≤ℤ◌, IfOk, IsTrue, IsOkAnd};
+ghost use Rattle.std.specs.Prelude.{◌≡◌, ◌+◌, ◌<◌, ◌≤◌, ◌↔◌, IfOk, OnOk, OnErr, IsOk, IsErrOf, IsTrue, IsOkAnd};
+ghost use Rattle.sketch_base.specs.Errors.{invalid_argument};
 ghost use Rattle.sketch_countmin.specs.History.{CountHistory, IsExact, followed_by};
 ghost use Rattle.sketch_countmin.specs.Stands.{StandsFor};
+ghost use Rattle.sketch_countmin.specs.State.{SameShape, Joins};
 
 use crate::count_min_sketch::CountMinSketch;
 use crate::count_min_value::CountMinValue;
-use sketch_base::Error;
+use sketch_base::{Error, Fault};
 
-/// Merges two sketches, and answers whether the result equals the sketch of one stream.
+/// Merges two sketches, and answers whether the result equals the sketch of one stream. It refuses as
+/// [`merge`](CountMinSketch::merge) does.
 ///
 /// Where the merge is accepted and nothing in the second stream was halved or decayed, it equals the sketch of the
 /// first stream followed by the second.
@@ -16,7 +19,13 @@ pub fn merge_as_one_stream<T: CountMinValue>(
     second: &CountMinSketch<T>,
     stream: &CountMinSketch<T>,
 ) -> Result<bool, Error>
-    ensures { IfOk result (λ same. (g h : CountHistory) → StandsFor first.old g → StandsFor second.now h → IsExact h → StandsFor stream.now (followed_by g h) → IsTrue same) }
+    ensures value { IfOk result (λ same. IsTrue same ↔ (first.new ≡ stream.now)) }
+    ensures one_stream { IfOk result (λ same. (g h : CountHistory) → StandsFor first.old g → StandsFor second.now h → IsExact h → StandsFor stream.now (followed_by g h) → IsTrue same) }
+    ensures joined { OnOk result (Joins first.old second.now first.new) }
+    ensures err { OnErr result (first.new ≡ first.old) }
+    ensures mismatch { ¬ SameShape first.old second.now → IsErrOf result (invalid_argument Fault.Mismatch) }
+    ensures overflow { SameShape first.old second.now → T.greatest < first.old.total + second.now.total → IsErrOf result (invalid_argument Fault.WeightOverflow) }
+    ensures succeeds { SameShape first.old second.now → first.old.total + second.now.total ≤ T.greatest → IsOk result }
 {
     first.merge(second)?;
     let _ = stream.num_hashes();

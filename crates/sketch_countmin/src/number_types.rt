@@ -43,6 +43,11 @@ impl CountMinValue for i8 {
         i8::try_from(whole).ok()
     }
 
+    #[inline(always)]
+    fn from_number_in_range(whole: i128) -> i8 {
+        whole as i8
+    }
+
     ghost zero_is = { refl };
 
     ghost one_is = { refl };
@@ -97,6 +102,11 @@ impl CountMinValue for i16 {
     #[inline(always)]
     fn from_number(whole: i128) -> Option<i16> {
         i16::try_from(whole).ok()
+    }
+
+    #[inline(always)]
+    fn from_number_in_range(whole: i128) -> i16 {
+        whole as i16
     }
 
     ghost zero_is = { refl };
@@ -155,6 +165,11 @@ impl CountMinValue for i32 {
         i32::try_from(whole).ok()
     }
 
+    #[inline(always)]
+    fn from_number_in_range(whole: i128) -> i32 {
+        whole as i32
+    }
+
     ghost zero_is = { refl };
 
     ghost one_is = { refl };
@@ -211,6 +226,11 @@ impl CountMinValue for i64 {
         i64::try_from(whole).ok()
     }
 
+    #[inline(always)]
+    fn from_number_in_range(whole: i128) -> i64 {
+        whole as i64
+    }
+
     ghost zero_is = { refl };
 
     ghost one_is = { refl };
@@ -265,6 +285,11 @@ impl CountMinValue for u8 {
     #[inline(always)]
     fn from_number(whole: i128) -> Option<u8> {
         u8::try_from(whole).ok()
+    }
+
+    #[inline(always)]
+    fn from_number_in_range(whole: i128) -> u8 {
+        whole as u8
     }
 
     ghost zero_is = { refl };
@@ -327,6 +352,11 @@ impl CountMinValue for u16 {
         u16::try_from(whole).ok()
     }
 
+    #[inline(always)]
+    fn from_number_in_range(whole: i128) -> u16 {
+        whole as u16
+    }
+
     ghost zero_is = { refl };
 
     ghost one_is = { refl };
@@ -387,6 +417,11 @@ impl CountMinValue for u32 {
         u32::try_from(whole).ok()
     }
 
+    #[inline(always)]
+    fn from_number_in_range(whole: i128) -> u32 {
+        whole as u32
+    }
+
     ghost zero_is = { refl };
 
     ghost one_is = { refl };
@@ -445,6 +480,11 @@ impl CountMinValue for u64 {
     #[inline(always)]
     fn from_number(whole: i128) -> Option<u64> {
         u64::try_from(whole).ok()
+    }
+
+    #[inline(always)]
+    fn from_number_in_range(whole: i128) -> u64 {
+        whole as u64
     }
 
     ghost zero_is = { refl };

@@ -12,10 +12,7 @@ pub trait UnsignedCountMinValue: CountMinValue {
         ensures { Self.number result ≡ halved (Self.number self) }
     {
         let half = self.to_number() as u128 / 2;
-        match Self::from_number(half as i128) {
-            Some(value) => value,
-            None => unreachable!(),
-        }
+        Self::from_number_in_range(half as i128)
     }
 
     ghost unsigned: { (x : Self) → pos 0 ≤ℤ Self.number x };

@@ -1,15 +1,9 @@
 -- Which greatest sizes a sketch may have.
 use Rattle.std.specs.Prelude.{ℕ, ◌^◌, nat_lt, not, Option, Some, None, if◌then◌else◌}
 use Rattle.std.specs.Int.{is_power_of_two}
-use Rattle.sketch_base.specs.Errors.{ErrorValue, invalid_argument, no_memory}
 use Rattle.sketch_base.specs.declared.error.Fault.{Fault}
 use Rattle.sketch_base.specs.declared.error.Fault.TheVariants.{MapSizeNotPowerOfTwo, MapSizeTooSmall, MapSizeTooLarge}
 
 -- what is wrong with a greatest size, if anything: it is a power of two from 8 to 2 ^ 30
 abbrev pub size_fault : ℕ → Option Fault
 size_fault n = if not (is_power_of_two n) then Some MapSizeNotPowerOfTwo else (if nat_lt n 8 then Some MapSizeTooSmall else (if nat_lt (2 ^ 30) n then Some MapSizeTooLarge else None))
-
--- the refusal for a fault, or else for want of memory
-abbrev pub refusal_of : Option Fault → ErrorValue
-refusal_of (Some fault) = invalid_argument fault
-refusal_of None = no_memory

@@ -1,11 +1,11 @@
 //! The sketch of frequent items.
 ghost use Rattle.std.specs.Prelude.{◌≡◌, ℕ, ◌+◌, ◌*◌, ◌/◌, ◌<◌, ◌≤◌, ◌^◌, ◌↔◌, true, false, None, length, max, IfOk, IfErr, IsOk, IsTrue, OnOk, OnErr, IsErrOf};
-ghost use Rattle.sketch_base.specs.Errors.{invalid_argument, no_memory};
+ghost use Rattle.sketch_base.specs.Errors.{invalid_argument, no_memory, refusal_of};
 ghost use Rattle.sketch_frequencies.specs.Growth.{MakesRoom, Adds, AddsCounters};
 ghost use Rattle.sketch_frequencies.specs.History.{FrequentHistory, least_size, total_weight};
 ghost use Rattle.sketch_frequencies.specs.History.FrequentHistory.{New, Update, Merge, Reset};
 ghost use Rattle.sketch_frequencies.specs.Rows.{ShowsExactly, Descends, MissesNone, ShowsNoneBelow};
-ghost use Rattle.sketch_frequencies.specs.Sizes.{size_fault, refusal_of};
+ghost use Rattle.sketch_frequencies.specs.Sizes.{size_fault};
 ghost use Rattle.sketch_frequencies.specs.Stands.{StandsFor, KeepsTailBudget, HasTableSize};
 ghost use Rattle.sketch_frequencies.specs.State.{IsState, capacity, empty_state, estimate_of, must_double, must_grow};
 ghost use Rattle.sketch_frequencies.specs.Steps.{Steps, StepsEqual, IsSameState, JoinsEqual};

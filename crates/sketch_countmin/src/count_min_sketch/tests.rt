@@ -280,5 +280,8 @@ fn takes_eight_types_of_numbers(rt: HostRuntime) -> Result<(), Fail> {
     assert_eq!(rt; restored_from_bytes(77u16).map_err(|e| e.fault()), Ok(77));
     assert_eq!(rt; <u8 as CountMinValue>::from_number(256), None);
     assert_eq!(rt; <i32 as CountMinValue>::from_number(-5), Some(-5));
+    assert_eq!(rt; i8::from_number_in_range(-128), -128);
+    assert_eq!(rt; i16::from_number_in_range(-5), -5);
+    assert_eq!(rt; u64::from_number_in_range(u64::MAX as i128), u64::MAX);
     Ok(())
 }

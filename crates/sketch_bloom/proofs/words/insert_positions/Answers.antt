@@ -1,9 +1,10 @@
-use Rattle.std.proofs.Common.{◌≡◌, ℕ, List, ◌+◌, ◌-◌, ◌*◌, ◌/◌, ◌%◌, ◌^◌, ◌<◌, length, get_or, set, bit_and, bit_or, sym, ap, subst, ◌∙◌, arith}
+use Rattle.std.proofs.Common.{◌≡◌, ℕ, List, ◌+◌, ◌*◌, ◌/◌, ◌%◌, ◌^◌, ◌<◌, ◌==◌, length, get_or, set, bit_and, bit_or, sym, ap, subst, ◌∙◌, arith}
+use mir.Val.{bool_byte}
 use Rattle.std.proofs.Math.Nat.{mod-eq_of_lt}
 use Rattle.std.specs.FinSet as numbers
 use Rattle.sketch_bloom.specs.Words.{Numbers}
 use Rattle.sketch_bloom.specs.Positions.{position, positions}
-use Rattle.sketch_bloom.proofs.Placing.{Inserts, inserts_none, inserts_one, positions-zero, positions-suc, running_sum, place_is}
+use Rattle.sketch_bloom.proofs.Placing.{Inserts, counted_test, inserts_none, inserts_one, positions-zero, positions-suc, running_sum, place_is}
 use Rattle.sketch_bloom.proofs.words.insert_positions.Goals as goal
 
 pub inserts-init : goal.inserts-init
@@ -24,8 +25,8 @@ inserts-preserved c =
     let below : c.place_of-place.result < 64 * length c.inserts.words = omega arith in
     let next : numbers.insert placed p ≡ positions c.args.capacity (c.inserts._i + 1) c.args.h0 c.args.h1 = ap (numbers.insert placed) place ∙ sym (positions-suc c.args.capacity c.inserts._i c.args.h0 c.args.h1) in (
       running_sum c.args.h0 c.args.h1 c.inserts._i c.inserts.hash c.inserts.invariant.0,
-      omega arith,
-      subst (λ (s : Numbers). Inserts old s (set words (p / 64) (bit_or (get_or words (p / 64) 0) (1 * 2 ^ (p % 64) % 2 ^ 64))) (c.inserts.added + (1 - bit_and (get_or words (p / 64) 0 / 2 ^ (p % 64)) 1))) next
+      omega (arith, counted_test (bit_and (get_or words (p / 64) 0 / 2 ^ (p % 64)) 1 == 0)),
+      subst (λ (s : Numbers). Inserts old s (set words (p / 64) (bit_or (get_or words (p / 64) 0) (1 * 2 ^ (p % 64) % 2 ^ 64))) (c.inserts.added + bool_byte (bit_and (get_or words (p / 64) 0 / 2 ^ (p % 64)) 1 == 0))) next
           (inserts_one old placed words c.inserts.added p below c.inserts.invariant.2),
     )
 

@@ -5,16 +5,22 @@ use Rattle.std.proofs.lemmas.Nat.{ones-le}
 use lib.Lanes.{zip2, chunk, put_chunk}
 use Rattle.sketch_bloom.specs.Words.{set_of, without}
 use Rattle.sketch_bloom.proofs.Counting.{len-set_of}
-use Rattle.sketch_bloom.proofs.Lanes.{combined_none, combined_four, combined_word, combined_all, counted_all, zip2-map_right}
+use Rattle.sketch_bloom.proofs.Lanes.{combined_none, combined_block, combined_word, combined_all, counted_all, zip2-map_right}
 use Rattle.sketch_bloom.proofs.Members.{set_of-without, without_fits}
 use Rattle.sketch_bloom.proofs.words.subtract.Goals as goal
 
-pub fours-init : goal.fours-init
-fours-init c = combined_none without 0 c.args.words.now c.args.other.now refl (λ k. (c.type_inv.words k).fits)
+pub eights-init : goal.eights-init
+eights-init c = combined_none without 0 c.args.words.now c.args.other.now refl (λ k. (c.type_inv.words k).fits)
+
+pub eights-preserved : goal.eights-preserved
+eights-preserved c =
+    combined_block without 8 (8 * c.eights.b) (8 * (c.eights.b + 1)) c.args.words.now c.args.other.now c.eights.words _ c.eights.size c.ones_of_eight-size.result
+    (omega arith) c.requires.same (omega arith) (omega arith) c.eights.invariant
+    (ap (put_chunk (8 * c.eights.b) c.eights.words) (zip2-map_right bit_and (bit_not w64) (chunk (8 * c.eights.b) 8 c.eights.words) (chunk (8 * c.eights.b) 8 c.args.other.now))) c.ones_of_eight-size.ensures.count c.ones_of_eight-size.ensures.few
 
 pub fours-preserved : goal.fours-preserved
 fours-preserved c =
-    combined_four without (4 * c.fours.b) (4 * (c.fours.b + 1)) c.args.words.now c.args.other.now c.fours.words _ c.fours.size c.ones_of_four-size.result
+    combined_block without 4 (4 * c.fours.b) (4 * (c.fours.b + 1)) c.args.words.now c.args.other.now c.fours.words _ c.fours.size c.ones_of_four-size.result
     (omega arith) c.requires.same (omega arith) (omega arith) c.fours.invariant
     (ap (put_chunk (4 * c.fours.b) c.fours.words) (zip2-map_right bit_and (bit_not w64) (chunk (4 * c.fours.b) 4 c.fours.words) (chunk (4 * c.fours.b) 4 c.args.other.now))) c.ones_of_four-size.ensures.count c.ones_of_four-size.ensures.few
 

@@ -4,16 +4,22 @@ use Rattle.std.proofs.lemmas.Nat.{ones-le}
 use lib.Lanes.{zip2}
 use Rattle.sketch_bloom.specs.Words.{set_of}
 use Rattle.sketch_bloom.proofs.Counting.{len-set_of}
-use Rattle.sketch_bloom.proofs.Lanes.{combined_none, combined_four, combined_word, combined_all, counted_all}
+use Rattle.sketch_bloom.proofs.Lanes.{combined_none, combined_block, combined_word, combined_all, counted_all}
 use Rattle.sketch_bloom.proofs.Members.{set_of-or, or_fits}
 use Rattle.sketch_bloom.proofs.words.unite.Goals as goal
 
-pub fours-init : goal.fours-init
-fours-init c = combined_none bit_or 0 c.args.words.now c.args.other.now refl (λ k. (c.type_inv.words k).fits)
+pub eights-init : goal.eights-init
+eights-init c = combined_none bit_or 0 c.args.words.now c.args.other.now refl (λ k. (c.type_inv.words k).fits)
+
+pub eights-preserved : goal.eights-preserved
+eights-preserved c =
+    combined_block bit_or 8 (8 * c.eights.b) (8 * (c.eights.b + 1)) c.args.words.now c.args.other.now c.eights.words _ c.eights.size c.ones_of_eight-size.result
+    (omega arith) c.requires.same (omega arith) (omega arith) c.eights.invariant
+    (refl) c.ones_of_eight-size.ensures.count c.ones_of_eight-size.ensures.few
 
 pub fours-preserved : goal.fours-preserved
 fours-preserved c =
-    combined_four bit_or (4 * c.fours.b) (4 * (c.fours.b + 1)) c.args.words.now c.args.other.now c.fours.words _ c.fours.size c.ones_of_four-size.result
+    combined_block bit_or 4 (4 * c.fours.b) (4 * (c.fours.b + 1)) c.args.words.now c.args.other.now c.fours.words _ c.fours.size c.ones_of_four-size.result
     (omega arith) c.requires.same (omega arith) (omega arith) c.fours.invariant
     (refl) c.ones_of_four-size.ensures.count c.ones_of_four-size.ensures.few
 

@@ -1,12 +1,20 @@
-use Rattle.std.proofs.Common.{subst, ◌≤◌, ℤ, ◌+ℤ◌, unsigned_abs}
+use Rattle.std.proofs.Common.{arith, subst, sym, ◌≡◌, ◌≤◌, ℤ, ◌+ℤ◌, unsigned_abs, to_z, of_z}
+use Rattle.std.specs.Int.{w128}
+use Rattle.std.proofs.lemmas.Int.{ints}
+use Rattle.sketch_countmin.specs.Values.{InRange}
 use Rattle.sketch_countmin.proofs.RowSteps.{read_cell, added_at}
 use Rattle.sketch_countmin.proofs.cells.add_at.Goals as goal
 
-pub unreachable-requires : goal.unreachable-requires
-unreachable-requires g c =
+pub from_number_in_range-requires : goal.from_number_in_range-requires
+from_number_in_range-requires g c =
     let num = g.T.CountMinValue.number in
-    c.in-None.ensures (g.met.T.CountMinValue.sum_fits c.index-counts-place.result c.args.weight
+    let whole : to_z w128 (of_z w128 (to_z w128 (of_z w128 c.to_number.result) +ℤ to_z w128 (of_z w128 c.to_number-2.result))) ≡ num c.index-counts-place.result +ℤ num c.args.weight = omega (arith, ints) in
+    subst (λ (z : ℤ). InRange g.T.CountMinValue.least g.T.CountMinValue.greatest z) (sym whole)
+    (g.met.T.CountMinValue.sum_fits c.index-counts-place.result c.args.weight
     (subst (λ (z : ℤ). unsigned_abs (z +ℤ num c.args.weight) ≤ g.T.CountMinValue.greatest) (read_cell num c.args.counts.now c.args.place c.index-counts-place.result c.requires.bounds c.index-counts-place.is) c.requires.room))
 
 pub returns : goal.returns
-returns g c = added_at g.T.CountMinValue.number c.args.counts.now c.args.place c.index-counts-place.result c.in-Some.sum _ c.requires.bounds c.index-counts-place.is c.in-Some.ensures.0
+returns g c =
+    let num = g.T.CountMinValue.number in
+    let sum : num c.from_number_in_range.result ≡ num c.index-counts-place.result +ℤ num c.args.weight = omega (arith, ints) in
+    added_at num c.args.counts.now c.args.place c.index-counts-place.result c.from_number_in_range.result (num c.args.weight) c.requires.bounds c.index-counts-place.is sum

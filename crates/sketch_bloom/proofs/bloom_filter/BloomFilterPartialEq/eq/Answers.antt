@@ -1,20 +1,19 @@
-use Rattle.std.proofs.Common.{◌≡◌, refl, sym, ap, ◌∙◌}
+use Rattle.std.proofs.Common.{◌≡◌, sym, ap, refl, ◌∙◌}
 use Rattle.std.proofs.lemmas.Bool.Decides.{same_from_decides}
-use Rattle.sketch_bloom.specs.Words.{set_of}
-use Rattle.sketch_bloom.specs.State.{FilterState, IsCompatible, same_filter}
 use Rattle.sketch_bloom.specs.Equality.{same_states, equal_by_parts, equal_from_same}
+use Rattle.sketch_bloom.specs.State.{FilterState, IsCompatible, same_filter}
+use Rattle.sketch_bloom.specs.Words.{set_of}
 use Rattle.sketch_bloom.proofs.bloom_filter.BloomFilterPartialEq.eq.Goals as goal
 
-pub returns-then-is_compatible-clause-same : goal.returns-then-is_compatible-clause-same
-returns-then-is_compatible-clause-same c =
+pub returns-then-is_compatible : goal.returns-then-is_compatible
+returns-then-is_compatible c =
     let a : FilterState = c.args.self.now in
     let b : FilterState = c.args.other.now in
     let alike : IsCompatible c.args.self.now c.args.other.now = c.if-is_compatible.ensures.0 refl in
     let mine : set_of c.deref.result.now ≡ a.set = ap set_of c.deref.ensures.value ∙ ap (λ (s : FilterState). s.set) c.self.view_is in
-    let theirs : set_of c.deref-then-is_compatible.result.now ≡ b.set = ap set_of c.deref-then-is_compatible.ensures.value ∙ ap (λ (s : FilterState). s.set) c.other.view_is in (
+    let theirs : set_of c.deref-then-is_compatible.result.now ≡ b.set = ap set_of c.deref-then-is_compatible.ensures.value ∙ ap (λ (s : FilterState). s.set) c.other.view_is in
+    same_from_decides c.is_same.result (same_filter a b) (
       (λ t. same_states a b alike.num_words alike.num_hashes alike.seed (sym mine ∙ c.is_same.ensures.0 t ∙ theirs)),
       (λ e. c.is_same.ensures.1 (mine ∙ ap (λ (s : FilterState). s.set) e ∙ sym theirs)),
     )
-
-pub returns-then-is_compatible-clause-eq : goal.returns-then-is_compatible-clause-eq
-returns-then-is_compatible-clause-eq c = same_from_decides c.is_same.result (same_filter c.args.self.now c.args.other.now) (returns-then-is_compatible-clause-same c) (equal_by_parts c.args.self.now c.args.other.now, equal_from_same c.args.self.now c.args.other.now)
+    (equal_by_parts a b, equal_from_same a b)
