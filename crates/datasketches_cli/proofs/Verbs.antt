@@ -4,9 +4,11 @@ use Rattle.std.specs.Borrow.{Bor}
 use Rattle.std.specs.Result.{IfOk}
 use Rattle.std.proofs.lemmas.List.{take_all}
 use Rattle.datasketches_cli.specs.declared.command.Command.{Command}
-use Rattle.datasketches_cli.specs.declared.command.Command.TheVariants.{CreateFrequent, Add, Merge, Reset, Ask, GetStatus, ListRows}
+use Rattle.datasketches_cli.specs.declared.command.Command.TheVariants as command
 use Rattle.datasketches_cli.specs.declared.parse.Verb.{Verb}
 use Rattle.datasketches_cli.specs.declared.parse.Verb.TheVariants as verb
+use Rattle.datasketches_cli.specs.declared.sketch.Change.TheVariants as change
+use Rattle.datasketches_cli.specs.declared.sketch.Shape.TheVariants as shape
 use Rattle.datasketches_cli.specs.Words.{IsMade, Make, verb_word}
 use Rattle.datasketches_cli.specs.Said.{texts_of}
 
@@ -22,10 +24,17 @@ made_by_rest (word ∷ words) verb d r h e made =
 -- a first word that is no verb makes no command
 pub made_by_none : (words : List (Bor (List ℕ))) (d : Bor (List ℕ)) → 1 ≤ length words → ((verb : Verb) → (get_or words 0 d).now ≢ verb_word verb) → (command : Command) → ¬ Make (texts_of words) command
 made_by_none [] d h none command made = absurd (omega arith)
-made_by_none (word ∷ words) d h none (CreateFrequent name max) (number, e, n) = none verb.Frequent cc
-made_by_none (word ∷ words) d h none (Add name item weight) (number, e, n) = none verb.Add cc
-made_by_none (word ∷ words) d h none (Merge into other) e = none verb.Merge cc
-made_by_none (word ∷ words) d h none (Reset name) e = none verb.Reset cc
-made_by_none (word ∷ words) d h none (Ask name item) e = none verb.Ask cc
-made_by_none (word ∷ words) d h none (GetStatus name) e = none verb.Status cc
-made_by_none (word ∷ words) d h none (ListRows name error_type threshold) (number, e, n) = none verb.Rows cc
+made_by_none (word ∷ words) d h none (command.Create name (shape.Frequent max)) (number, e, n) = none verb.Frequent cc
+made_by_none (word ∷ words) d h none (command.Create name (shape.CountI64 hashes buckets seed)) (w, b, s, e, x, y, z) = none verb.CountI64 cc
+made_by_none (word ∷ words) d h none (command.Create name (shape.CountU64 hashes buckets seed)) (w, b, s, e, x, y, z) = none verb.CountU64 cc
+made_by_none (word ∷ words) d h none (command.Create name (shape.Bloom bits hashes seed)) (w, b, s, e, x, y, z) = none verb.Bloom cc
+made_by_none (word ∷ words) d h none (command.Change name (change.Add item weight)) (number, e, n) = none verb.Add cc
+made_by_none (word ∷ words) d h none (command.Change name (change.AddSigned item weight)) (number, e, n) = none verb.AddSigned cc
+made_by_none (word ∷ words) d h none (command.Change name (change.Insert item)) e = none verb.Insert cc
+made_by_none (word ∷ words) d h none (command.Change name change.Reset) e = none verb.Reset cc
+made_by_none (word ∷ words) d h none (command.Change name change.Halve) e = none verb.Halve cc
+made_by_none (word ∷ words) d h none (command.Change name (change.Decay numerator denominator)) (n, m, e, x, y) = none verb.Decay cc
+made_by_none (word ∷ words) d h none (command.Join into other join) e = none (verb.Join join) cc
+made_by_none (word ∷ words) d h none (command.Ask name item) e = none verb.Ask cc
+made_by_none (word ∷ words) d h none (command.GetStatus name) e = none verb.Status cc
+made_by_none (word ∷ words) d h none (command.ListRows name error_type threshold) (number, e, n) = none verb.Rows cc

@@ -1,9 +1,16 @@
+pub mod Answering
+pub mod Changing
 pub mod Counts
 pub mod FaultNames
+pub mod Joining
+pub mod Places
 pub mod Printing
+pub mod Replies
 pub mod Said
 pub mod Serving
+pub mod Shapes
 pub mod Sketches
 pub mod Steps
+pub mod Texts
 pub mod Transcript
 pub mod Words

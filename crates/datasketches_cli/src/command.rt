@@ -1,30 +1,27 @@
 //! What a line may ask for.
+use crate::sketch::{Change, Join, Shape};
 use sketch_frequencies::ErrorType;
 
 /// A command on named sketches.
 #[derive(Drop)]
 pub enum Command {
-    /// Makes a frequent-items sketch.
-    CreateFrequent {
+    /// Makes a sketch of a kind.
+    Create {
         name: String,
-        max_map_size: usize,
+        shape: Shape,
     },
-    /// Adds an item with a weight.
-    Add {
+    /// Changes a sketch.
+    Change {
         name: String,
-        item: String,
-        weight: u64,
+        change: Change,
     },
-    /// Merges one sketch into another.
-    Merge {
+    /// Joins one sketch to another.
+    Join {
         into: String,
         other: String,
+        join: Join,
     },
-    /// Empties a sketch.
-    Reset {
-        name: String,
-    },
-    /// Asks for an item's estimate and bounds.
+    /// Asks for an item's estimate and bounds, or whether it is contained.
     Ask {
         name: String,
         item: String,

@@ -1,25 +1,25 @@
 //! Sketches under names.
-ghost use Rattle.std.specs.Prelude.{◌≡◌, [], MatchOption, string_bytes};
-ghost use Rattle.datasketches_cli.specs.Sketches.{at_name, Exchanges};
-ghost use Rattle.datasketches_cli.specs.Steps.{Creates, Adds, Joins, Merges, Empties, OnSketch, Answers, Lists, bounds, status, Step};
+ghost use Rattle.std.specs.Prelude.{◌≡◌, ◌≢◌, ◌<◌, [], length, string_bytes};
+ghost use Rattle.datasketches_cli.specs.Answering.{Tells, Lists, status_of};
+ghost use Rattle.datasketches_cli.specs.Changing.{Changes};
+ghost use Rattle.datasketches_cli.specs.Places.{place_of, JoinsAt};
+ghost use Rattle.datasketches_cli.specs.Steps.{Creates, OnSketch, JoinsNamed, Answers, Step};
 
 use crate::command::Command;
-use crate::reply::{Refusal, Reply, Status};
-use sketch_base::{Error, ErrorKind, Fault};
-use sketch_frequencies::{ErrorType, FrequentItemsSketch};
+use crate::reply::{Refusal, Reply};
+use crate::sketch::{Change, Join, Shape, Sketch};
+use sketch_base::Error;
+use sketch_frequencies::ErrorType;
 use std::alloc::Global;
 use std::collections::HashMap;
 use std::marker::Model;
-use std::mem;
 
-/// The least size of a sketch.
-const LEAST_SIZE: usize = 8;
-
-/// Sketches under names.
+/// Sketches under names: the sketches in the order in which they were made, and the place of each name's.
 #[derive(Drop)]
 pub struct Keeper {
     alloc: Global,
-    sketches: HashMap<String, FrequentItemsSketch<String>>,
+    places: HashMap<String, usize>,
+    sketches: Vec<Sketch>,
 }
 
 impl Model for Keeper {
@@ -27,9 +27,17 @@ impl Model for Keeper {
 
     ghost Value = { Sketches };
 
-    ghost use Rattle.datasketches_cli.specs.Sketches.{named};
+    ghost use Rattle.std.specs.Coded.{codes};
+    ghost use Rattle.sketch_bloom.specs.State.{state_code};
 
-    ghost view = { λ k. named k.sketches.entries };
+    ghost coded = { Prim.hlevel (codes, state_code) };
+
+    ghost use Rattle.std.specs.Prelude.{length};
+    ghost use Rattle.datasketches_cli.specs.Places.{listed, ArePlaces};
+
+    ghost view = { λ k. listed k.places.entries k.sketches.items };
+
+    ghost invariant = { λ k. ArePlaces k.places.entries (length k.sketches.items) };
 }
 
 impl Keeper {
@@ -39,7 +47,8 @@ impl Keeper {
     {
         Keeper {
             alloc,
-            sketches: HashMap::new(alloc),
+            places: HashMap::new(alloc),
+            sketches: Vec::new(alloc),
         }
     }
 
@@ -48,12 +57,9 @@ impl Keeper {
         ensures { Step self.old command result self.new }
     {
         match command {
-            Command::CreateFrequent { name, max_map_size } => {
-                self.create_frequent(name, max_map_size)
-            }
-            Command::Add { name, item, weight } => self.add(name.as_str(), item, weight),
-            Command::Merge { into, other } => self.merge(into.as_str(), other.as_str()),
-            Command::Reset { name } => self.reset(name.as_str()),
+            Command::Create { name, shape } => self.create(name, shape),
+            Command::Change { name, change } => self.change(name.as_str(), change),
+            Command::Join { into, other, join } => self.join(into.as_str(), other.as_str(), join),
             Command::Ask { name, item } => self.ask(name.as_str(), &item),
             Command::GetStatus { name } => self.status(name.as_str()),
             Command::ListRows {
@@ -64,145 +70,100 @@ impl Keeper {
         }
     }
 
-    fn create_frequent(&mut self, name: String, max_map_size: usize) -> Reply
-        ensures { Creates (string_bytes name) max_map_size self.old result self.new }
+    fn create(&mut self, name: String, shape: Shape) -> Reply
+        ensures { Creates (string_bytes name) shape self.old result self.new }
     {
-        if self.sketches.contains_key(name.as_str()) {
+        if self.places.contains_key(name.as_str()) {
             return Reply::Refused(Refusal::NameTaken);
         }
-        let sketch = match FrequentItemsSketch::new(self.alloc, max_map_size) {
+        let sketch = match Sketch::new(self.alloc, shape) {
             Ok(sketch) => sketch,
             Err(e) => return Reply::Refused(Refusal::Call(e)),
         };
-        match self.sketches.insert(name, sketch) {
+        let place = self.sketches.len();
+        if let Err(e) = self.sketches.push(sketch) {
+            return Reply::Refused(Refusal::Call(Error::from(e)));
+        }
+        match self.places.insert(name, place) {
             Ok(_) => Reply::Done,
-            Err(e) => Reply::Refused(Refusal::Call(Error::from(e))),
+            Err(e) => {
+                self.sketches.truncate(place);
+                Reply::Refused(Refusal::Call(Error::from(e)))
+            }
         }
     }
 
-    fn add(&mut self, name: &str, item: String, weight: u64) -> Reply
-        ensures { OnSketch (Adds item weight) name.now self.old result self.new }
+    fn change(&mut self, name: &str, change: Change) -> Reply
+        ensures { OnSketch (Changes change) name.now self.old result self.new }
     {
-        let Some(sketch) = self.sketches.get_mut(name) else {
-            return Reply::Refused(Refusal::NoSuchName);
-        };
-        add_to(sketch, item, weight)
+        match place_of(&self.places, name) {
+            None => Reply::Refused(Refusal::NoSuchName),
+            Some(place) => self.sketches[place].change(change),
+        }
     }
 
-    fn merge(&mut self, into: &str, other: &str) -> Reply
-        ensures { Merges into.now other.now self.old result self.new }
+    fn join(&mut self, into: &str, other: &str, join: Join) -> Reply
+        ensures { JoinsNamed join into.now other.now self.old result self.new }
     {
-        let Some(sketch) = self.sketches.get(into) else {
+        let Some(place) = place_of(&self.places, into) else {
             return Reply::Refused(Refusal::NoSuchName);
         };
-        let Some(from) = self.sketches.get(other) else {
+        let Some(from) = place_of(&self.places, other) else {
             return Reply::Refused(Refusal::NoSuchName);
         };
-        if into == other {
+        if place == from {
             return Reply::Refused(Refusal::SameName);
         }
-        if from.total_weight() > u64::MAX - sketch.total_weight() {
-            return Reply::Refused(Refusal::Call(Error::new(
-                ErrorKind::InvalidArgument,
-                Fault::WeightOverflow,
-            )));
-        }
-        // the map lends one sketch at a time, so an empty one stands in its place meanwhile
-        let empty = match FrequentItemsSketch::new(self.alloc, LEAST_SIZE) {
-            Ok(empty) => empty,
-            Err(e) => return Reply::Refused(Refusal::Call(e)),
-        };
-        let mut merged = self.exchange(into, empty);
-        let reply = self.merge_into(&mut merged, other);
-        self.exchange(into, merged);
-        reply
-    }
-
-    /// Puts a sketch in the place of the name's, and gives that back.
-    fn exchange(
-        &mut self,
-        name: &str,
-        sketch: FrequentItemsSketch<String>,
-    ) -> FrequentItemsSketch<String>
-        ensures { Exchanges name.now sketch self.old result self.new }
-    {
-        let Some(place) = self.sketches.get_mut(name) else {
-            return sketch;
-        };
-        mem::replace(place, sketch)
-    }
-
-    /// Merges the sketch of a name into a sketch.
-    fn merge_into(&self, sketch: &mut FrequentItemsSketch<String>, other: &str) -> Reply
-        ensures { MatchOption (at_name other.now self.now) (sketch.new ≡ sketch.old) (λ from. Joins sketch.old from result sketch.new) }
-    {
-        let Some(from) = self.sketches.get(other) else {
-            return Reply::Refused(Refusal::NoSuchName);
-        };
-        match sketch.merge(from) {
-            Ok(()) => Reply::Done,
-            Err(e) => Reply::Refused(Refusal::Call(e)),
-        }
-    }
-
-    fn reset(&mut self, name: &str) -> Reply
-        ensures { OnSketch Empties name.now self.old result self.new }
-    {
-        let Some(sketch) = self.sketches.get_mut(name) else {
-            return Reply::Refused(Refusal::NoSuchName);
-        };
-        sketch.reset();
-        Reply::Done
+        join_at(&mut self.sketches, place, from, join)
     }
 
     fn ask(&self, name: &str, item: &String) -> Reply
-        ensures { Answers (λ s r. r ≡ bounds item.now s) name.now self.now result self.now }
+        ensures { Answers (Tells item.now) name.now self.now result self.now }
     {
-        match self.sketches.get(name) {
+        match place_of(&self.places, name) {
             None => Reply::Refused(Refusal::NoSuchName),
-            Some(sketch) => Reply::Bounds {
-                estimate: sketch.estimate(item),
-                lower: sketch.lower_bound(item),
-                upper: sketch.upper_bound(item),
-            },
+            Some(place) => self.sketches[place].ask(item),
         }
     }
 
     fn status(&self, name: &str) -> Reply
-        ensures { Answers (λ s r. r ≡ status s) name.now self.now result self.now }
+        ensures { Answers (λ sketch r. r ≡ Reply.Status (status_of sketch)) name.now self.now result self.now }
     {
-        match self.sketches.get(name) {
+        match place_of(&self.places, name) {
             None => Reply::Refused(Refusal::NoSuchName),
-            Some(sketch) => Reply::Status(Status::Frequent {
-                active: sketch.num_active_items(),
-                error: sketch.maximum_error(),
-                total: sketch.total_weight(),
-                size: 1 << sketch.lg_cur_map_size(),
-                max: sketch.max_map_size(),
-                capacity: sketch.current_map_capacity(),
-            }),
+            Some(place) => Reply::Status(self.sketches[place].status()),
         }
     }
 
     fn rows(&self, name: &str, error_type: ErrorType, threshold: u64) -> Reply
         ensures { Answers (Lists error_type threshold) name.now self.now result self.now }
     {
-        match self.sketches.get(name) {
+        match place_of(&self.places, name) {
             None => Reply::Refused(Refusal::NoSuchName),
-            Some(sketch) => match sketch.frequent_items_with_threshold(error_type, threshold) {
-                Ok(rows) => Reply::Rows(rows),
-                Err(e) => Reply::Refused(Refusal::Call(e)),
-            },
+            Some(place) => self.sketches[place].rows(error_type, threshold),
         }
     }
 }
 
-/// Adds an item to a sketch.
-fn add_to(sketch: &mut FrequentItemsSketch<String>, item: String, weight: u64) -> Reply
-    ensures { Adds item weight sketch.old result sketch.new }
+/// Where the sketch of the name stands, if there is one.
+fn place_of(places: &HashMap<String, usize>, name: &str) -> Option<usize>
+    ensures { result ≡ place_of name.now places.now.entries }
 {
-    match sketch.update_with_count(item, weight) {
-        Ok(()) => Reply::Done,
-        Err(e) => Reply::Refused(Refusal::Call(e)),
+    places.get(name).copied()
+}
+
+/// Joins the sketch at one place to that at another.
+fn join_at(sketches: &mut [Sketch], into: usize, other: usize, join: Join) -> Reply
+    requires into_below { into < length sketches.old }
+    requires other_below { other < length sketches.old }
+    requires apart { into ≢ other }
+    ensures { JoinsAt join sketches.old into other result sketches.new }
+{
+    if into < other {
+        let (front, back) = sketches.split_at_mut(other);
+        front[into].join(join, &back[0])
+    } else {
+        let (front, back) = sketches.split_at_mut(into);
+        back[0].join(join, &front[other])
     }
 }

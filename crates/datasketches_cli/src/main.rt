@@ -1,21 +1,32 @@
-//! Sketches of frequent items, driven by lines.
+//! Sketches under names, driven by lines.
 //!
 //! The program takes no arguments. It reads lines from standard input, and writes a line for each to standard output:
 //!
 //! | line | asks for | answer |
 //! |---|---|---|
-//! | `frequent NAME MAX` | a sketch of at most MAX slots, a power of two from 8 to 2^30 | `ok` |
-//! | `add NAME WEIGHT ITEM` | a weight to be added to an item | `ok` |
-//! | `merge INTO FROM` | a sketch to be merged into another | `ok` |
-//! | `reset NAME` | a sketch to be emptied | `ok` |
+//! | `frequent NAME MAX` | a sketch of frequent items of at most MAX slots, a power of two from 8 to 2^30 | `ok` |
+//! | `counti NAME HASHES BUCKETS SEED` | a Count-Min sketch of weights below zero and above | `ok` |
+//! | `countu NAME HASHES BUCKETS SEED` | a Count-Min sketch of weights of zero and above | `ok` |
+//! | `bloom NAME BITS HASHES SEED` | a Bloom filter | `ok` |
+//! | `add NAME WEIGHT ITEM` | a weight to be added to an item, of frequent items or `countu` | `ok` |
+//! | `adds NAME WEIGHT ITEM` | the same with a sign, of `counti` | `ok` |
+//! | `insert NAME ITEM` | an item to be inserted into a filter | `ok` |
+//! | `merge INTO FROM` | a sketch to be merged into another of its kind | `ok` |
+//! | `union INTO FROM`, `intersect INTO FROM`, `difference INTO FROM` | the same of filters | `ok` |
+//! | `reset NAME` | a sketch of frequent items or a filter to be emptied | `ok` |
+//! | `halve NAME`, `decay NAME NUMERATOR DENOMINATOR` | all weights of `countu` to be scaled | `ok` |
 //! | `ask NAME ITEM` | an item's estimate and the bounds of its true weight | `estimate E lower L upper U` |
+//! | | whether a filter contains an item | `yes` or `no` |
 //! | `status NAME` | a sketch's numbers | `frequent active A error E total W size S max M capacity C` |
-//! | `rows NAME fn THRESHOLD` | the items above a threshold, none of them missing | `rows N`, and for each a space and `ITEM ESTIMATE LOWER UPPER` |
+//! | | | `counti total W hashes H buckets B seed S`, or `countu` |
+//! | | | `bloom bits N capacity C hashes H seed S` |
+//! | `rows NAME fn THRESHOLD` | the frequent items above a threshold, none of them missing | `rows N`, and for each a space and `ITEM ESTIMATE LOWER UPPER` |
 //! | `rows NAME fp THRESHOLD` | the same, none of the others shown | the same |
 //!
 //! A line ends at a line feed or at the end of input, and one carriage return before that is dropped. Words stand
-//! between spaces, and a line without a word gets no answer. A number is one or more digits, below 2^64. What cannot be
-//! done changes nothing, and is answered by `refused` and a name: `NoSuchName`, `NameTaken`, `SameName`, or a fault of the sketch, as
+//! between spaces, and a line without a word gets no answer. A number is one or more digits, with a value in its type;
+//! the one of `adds` may have a minus sign in front. What cannot be done changes nothing, and is answered by `refused` and
+//! a name: `NoSuchName`, `NameTaken`, `WrongKind`, `SameName`, `BadFraction`, or a fault of the sketch, as
 //! `WeightOverflow` or `NoMemory`.
 //!
 //! A line that is not UTF-8 or no command is answered by `bad line` and its number, counted from 1 over all lines, and
@@ -30,6 +41,7 @@ mod keeper;
 mod parse;
 mod reply;
 mod serve;
+mod sketch;
 #[cfg(test)]
 mod tests;
 

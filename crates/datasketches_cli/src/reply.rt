@@ -11,10 +11,12 @@ pub enum Reply {
     Done,
     /// An item's estimate and bounds.
     Bounds {
-        estimate: u64,
-        lower: u64,
-        upper: u64,
+        estimate: i128,
+        lower: i128,
+        upper: i128,
     },
+    /// Whether an item is contained.
+    Contains(bool),
     /// A sketch's numbers.
     Status(Status),
     /// The items above a threshold.
@@ -35,6 +37,31 @@ pub enum Status {
         max: usize,
         capacity: usize,
     },
+    /// Those of a Count-Min sketch of weights below zero and above.
+    CountI64 {
+        total: i64,
+        hashes: u8,
+        buckets: u32,
+        seed: u64,
+    },
+    /// Those of a Count-Min sketch of weights of zero and above.
+    CountU64 {
+        total: u64,
+        hashes: u8,
+        buckets: u32,
+        seed: u64,
+    },
+    /// Those of a Bloom filter.
+    Bloom(FilterStatus),
+}
+
+/// A Bloom filter's numbers.
+#[derive(Clone, Copy)]
+pub struct FilterStatus {
+    pub bits: u64,
+    pub capacity: usize,
+    pub hashes: u16,
+    pub seed: u64,
 }
 
 /// Why a command was refused.
@@ -44,8 +71,12 @@ pub enum Refusal {
     NoSuchName,
     /// A sketch has the name already.
     NameTaken,
-    /// A sketch is not merged into itself.
+    /// The sketch is of a kind that does not know the command, or the two are of different kinds.
+    WrongKind,
+    /// A sketch is not joined to itself.
     SameName,
+    /// The fraction is not above 0 and at most 1.
+    BadFraction,
     /// The sketch's own call refused.
     Call(Error),
 }
@@ -69,7 +100,41 @@ impl fmt::Display for Status {
                 f,
                 "frequent active {active} error {error} total {total} size {size} max {max} capacity {capacity}"
             ),
+            Status::CountI64 {
+                total,
+                hashes,
+                buckets,
+                seed,
+            } => write!(
+                f,
+                "counti total {total} hashes {hashes} buckets {buckets} seed {seed}"
+            ),
+            Status::CountU64 {
+                total,
+                hashes,
+                buckets,
+                seed,
+            } => write!(
+                f,
+                "countu total {total} hashes {hashes} buckets {buckets} seed {seed}"
+            ),
+            Status::Bloom(filter) => write!(f, "{filter}"),
         }
+    }
+}
+
+impl fmt::Display for FilterStatus {
+    ghost use Rattle.std.specs.Prelude.{Some};
+    ghost use Rattle.datasketches_cli.specs.Printing.{filter_text};
+
+    ghost output = { λ filter. Some (filter_text filter) };
+
+    fn fmt<W: fmt::Write>(&self, f: &mut fmt::Formatter<W>) -> fmt::Result {
+        write!(
+            f,
+            "bloom bits {} capacity {} hashes {} seed {}",
+            self.bits, self.capacity, self.hashes, self.seed
+        )
     }
 }
 
@@ -83,7 +148,9 @@ impl fmt::Display for Refusal {
         match self {
             Refusal::NoSuchName => write!(f, "NoSuchName"),
             Refusal::NameTaken => write!(f, "NameTaken"),
+            Refusal::WrongKind => write!(f, "WrongKind"),
             Refusal::SameName => write!(f, "SameName"),
+            Refusal::BadFraction => write!(f, "BadFraction"),
             Refusal::Call(error) => write!(f, "{}", name_of(error.fault())),
         }
     }
@@ -103,6 +170,8 @@ impl fmt::Display for Reply {
                 lower,
                 upper,
             } => write!(f, "estimate {estimate} lower {lower} upper {upper}"),
+            Reply::Contains(true) => write!(f, "yes"),
+            Reply::Contains(false) => write!(f, "no"),
             Reply::Status(status) => write!(f, "{status}"),
             Reply::Rows(rows) => {
                 write!(f, "rows {}", rows.len())?;

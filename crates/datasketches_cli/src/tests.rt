@@ -59,6 +59,48 @@ fn merging_and_emptying(rt: HostRuntime) -> Result<(), Fail> {
 }
 
 #[test]
+fn bloom_filters(rt: HostRuntime) -> Result<(), Fail> {
+    let input =
+        b"bloom f 65 1 9001\nask f a\ninsert f a\nstatus f\nunion f f\nadd f 1 a\nbloom g 0 1 9001\nask f a\nbloom g 128 1 9001\nunion g f\nask g a\nintersect g f\nask g a\ndifference g f\nask g a\nstatus g\nreset f\nask f a\nstatus f\n";
+    let output =
+        b"ok\nno\nok\nbloom bits 1 capacity 128 hashes 1 seed 9001\nrefused SameName\nrefused WrongKind\nrefused BadNumBits\nyes\nok\nok\nyes\nok\nyes\nok\nno\nbloom bits 0 capacity 128 hashes 1 seed 9001\nok\nno\nbloom bits 0 capacity 128 hashes 1 seed 9001\n";
+    check(&rt, rt.alloc(), input, output, Ended::All)
+}
+
+#[test]
+fn count_min_sketches(rt: HostRuntime) -> Result<(), Fail> {
+    let input =
+        b"countu c 4 128 9001\nadd c 100 x\ndecay c 99 100\nask c x\nstatus c\ndecay c 0 5\ndecay c 2 1\nhalve c\nask c x\ncounti d 4 128 9001\nadds d -3 x\nask d x\nmerge c d\nadd d 1 x\nmerge c nobody\nstatus d\n";
+    let output =
+        b"ok\nok\nok\nestimate 99 lower 99 upper 101\ncountu total 99 hashes 4 buckets 128 seed 9001\nrefused BadFraction\nrefused BadFraction\nok\nestimate 49 lower 49 upper 50\nok\nok\nestimate -3 lower -3 upper -3\nrefused WrongKind\nrefused WrongKind\nrefused NoSuchName\ncounti total 3 hashes 4 buckets 128 seed 9001\n";
+    check(&rt, rt.alloc(), input, output, Ended::All)
+}
+
+#[test]
+fn every_kind_refuses_what_it_does_not_know(rt: HostRuntime) -> Result<(), Fail> {
+    let input =
+        b"frequent s 8\ncounti i 1 3 9001\ncountu u 1 3 9001\nbloom f 64 1 9001\nadds s 1 a\ninsert s a\nhalve s\ndecay s 1 2\nadd i 1 a\ninsert i a\nreset i\nhalve i\ndecay i 0 1\nrows i fn 0\nadds u 1 a\ninsert u a\nreset u\nrows u fp 0\nadd f 1 a\nadds f 1 a\nhalve f\ndecay f 1 1\nrows f fn 0\nmerge s i\nmerge i u\nmerge f f\nmerge f s\nunion s f\nunion f s\nintersect i u\ndifference f u\n";
+    let mut output = b"ok\nok\nok\nok\n".to_vec(rt.alloc())?;
+    for _ in 0..21 {
+        output.extend_from_slice(b"refused WrongKind\n")?;
+    }
+    output.extend_from_slice(b"refused SameName\n")?;
+    for _ in 0..5 {
+        output.extend_from_slice(b"refused WrongKind\n")?;
+    }
+    check(&rt, rt.alloc(), input, &output, Ended::All)
+}
+
+#[test]
+fn calls_of_filters_and_counts_that_refuse(rt: HostRuntime) -> Result<(), Fail> {
+    let input =
+        b"bloom f 137438953153 1 1\nbloom f 64 0 1\nbloom f 64 32768 1\nbloom f 64 1 1\nbloom g 128 1 1\nunion f g\nintersect f g\ndifference f g\ncounti c 0 3 1\ncounti c 1 2 1\ncountu c 4 268435456 1\ncounti c 1 3 1\ncounti c 1 2 1\nadds c -9223372036854775808 a\nadds c -9223372036854775807 a\nadds c 1 a\nask c a\nadds c -0 b\ncounti d 1 4 1\nmerge c d\ncountu u 1 3 1\ncountu v 1 3 1\nadd u 18446744073709551615 a\nadd v 1 a\nmerge u v\nmerge v u\nask u a\nhalve u\nmerge u v\nstatus u\n";
+    let output =
+        b"refused BadNumBits\nrefused BadNumHashes\nrefused BadNumHashes\nok\nok\nrefused Mismatch\nrefused Mismatch\nrefused Mismatch\nrefused BadNumHashes\nrefused BadNumBuckets\nrefused TableTooLarge\nok\nrefused NameTaken\nrefused WeightOverflow\nok\nrefused WeightOverflow\nestimate -9223372036854775807 lower -9223372036854775807 upper -866130501888233029\nok\nok\nrefused Mismatch\nok\nok\nok\nok\nrefused WeightOverflow\nrefused WeightOverflow\nestimate 18446744073709551615 lower 18446744073709551615 upper 18446744073709551615\nok\nok\ncountu total 9223372036854775808 hashes 1 buckets 3 seed 1\n";
+    check(&rt, rt.alloc(), input, output, Ended::All)
+}
+
+#[test]
 fn rows_descend_by_estimate(rt: HostRuntime) -> Result<(), Fail> {
     let input =
         b"frequent s 64\nadd s 1 b\nadd s 5 a\nrows s fn 0\nrows s fp 3\nrows s fp 5\nask s a\nask s c\n";
@@ -97,7 +139,19 @@ fn lines_that_are_no_command(rt: HostRuntime) -> Result<(), Fail> {
         b"rows s f 0",
         b"rows s fn",
         b"rows s fn 1 1",
-        b"bloom f 65 1 9001",
+        b"bloom f 65 1",
+        b"bloom f 65 65536 9001",
+        b"counti c 256 3 9001",
+        b"countu c 4 4294967296 9001",
+        b"countu c 4 3 -1",
+        b"adds s 9223372036854775808 a",
+        b"adds s -9223372036854775809 a",
+        b"adds s +1 a",
+        b"adds s --1 a",
+        b"adds s - a",
+        b"insert s",
+        b"decay s 1",
+        b"save s p",
         b"\xff",
         b"ask s \xc3\x28",
         b"\r x",

@@ -1,19 +1,14 @@
-use Rattle.std.proofs.Common.{refl, ap, inl, inr}
-use Rattle.datasketches_cli.specs.Steps.{refused}
-use Rattle.datasketches_cli.proofs.Names.{at_name_found}
+use Rattle.std.proofs.Common.{Some, sym, ◌∙◌, ap}
+use Rattle.datasketches_cli.specs.Answering.{Lists}
+use Rattle.datasketches_cli.proofs.Names.{sketch_found, sketch_missing}
+use Rattle.datasketches_cli.proofs.Steps.{answers_none, answers_some}
 use Rattle.datasketches_cli.proofs.keeper.Keeper.rows.Goals as goal
 
 pub returns-in-None : goal.returns-in-None
 returns-in-None c =
-    let found = at_name_found c.args.name.now _ _ _ c.self.view_is c.in-None.ensures.value in
-    (λ _. refl, rw found refl)
+    answers_none (Lists c.args.error_type c.args.threshold) c.args.name.now c.args.self.now (sketch_missing _ _ _ c.args.name.now c.self.invariant c.self.view_is c.in-None.ensures)
 
-pub returns-in-Ok : goal.returns-in-Ok
-returns-in-Ok c =
-    let found = at_name_found c.args.name.now _ _ _ c.self.view_is c.in-Some.ensures.value in
-    (λ _. refl, rw found (inl (c.in-Ok.rows, refl, c.in-Ok.ensures.exact, c.in-Ok.ensures.descending)))
-
-pub returns-in-Err : goal.returns-in-Err
-returns-in-Err c =
-    let found = at_name_found c.args.name.now _ _ _ c.self.view_is c.in-Some.ensures.value in
-    (λ _. refl, rw found (inr (ap refused c.in-Err.ensures.err)))
+pub returns-in-Some : goal.returns-in-Some
+returns-in-Some c =
+    let found = sketch_found _ _ _ c.args.name.now c.in-Some.place c.index.result.now c.self.invariant c.self.view_is c.in-Some.ensures in
+    answers_some (Lists c.args.error_type c.args.threshold) c.args.name.now c.args.self.now _ c.index.result.now (found ∙ ap Some (sym c.index.ensures)) c.rows.ensures
