@@ -8,6 +8,8 @@ kit=$(dirname "$(rt doc)")
 mkdir -p "$crates/filter_loops/src" "$crates/filter_loops/specs" "$crates/filter_loops/proofs"
 for name in sketch_base sketch_bloom; do
     mkdir -p "$crates/$name"
+    # A file that is gone must not stay in the copy.
+    rm -rf "$crates/$name/src" "$crates/$name/specs" "$crates/$name/proofs"
     (cd "../../crates/$name" && tar -c --exclude=./out --exclude=./must-fail .) | tar -x -C "$crates/$name"
 done
 cp filter_loops.rt.txt "$crates/filter_loops/src/lib.rt"
