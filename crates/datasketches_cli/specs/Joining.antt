@@ -19,6 +19,7 @@ use Rattle.datasketches_cli.specs.Texts.{Text}
 
 -- another sketch of frequent items was merged in, or refused
 pub record JoinsFrequent (other old : FrequentState Text) (reply : Reply) (new : FrequentState Text) : Type 0 where
+  pub nothing : other.total ≡ 0 → (reply ≡ Done) × (new ≡ old)
   pub overflow : 2 ^ 64 ≤ old.total + other.total → (reply ≡ refused (invalid_argument WeightOverflow)) × (new ≡ old)
   pub joined : old.total + other.total < 2 ^ 64 → ((reply ≡ Done) × JoinsEqual string_eq old other new) ⊎ ((reply ≡ refused no_memory) × (new ≡ old))
 
