@@ -4,7 +4,7 @@ use Rattle.std.specs.Prelude.{◌↔◌, ⊤, OnOk, OnErr, IfErr, IsOk}
 use Rattle.std.specs.List.{slice_get}
 use Rattle.std.proofs.lemmas.Bool.{false≢true}
 use Rattle.std.proofs.lemmas.List.{length-append, set-append_left, set-append_right, get_or_append_left, get_or-append_right}
-use Rattle.sketch_base.specs.declared.error.Fault.TheVariants.{Mismatch}
+use Rattle.sketch_base.specs.declared.fault.Fault.TheVariants.{Mismatch}
 use Rattle.sketch_base.specs.Errors.{ErrorValue, invalid_argument}
 use Rattle.sketch_bloom.specs.State.{FilterState, IsCompatible}
 use Rattle.datasketches_cli.specs.declared.reply.Reply.{Reply}

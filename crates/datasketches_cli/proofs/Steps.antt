@@ -2,7 +2,7 @@
 use Rattle.std.proofs.Common.{◌≡◌, ◌≢◌, ℕ, true, false, List, Option, Some, None, inr, refl, sym, ap}
 use Rattle.std.specs.Option.{MatchOption, is_some}
 use Rattle.std.proofs.lemmas.Bool.{true≢false}
-use Rattle.sketch_base.specs.declared.error.Fault.{Fault}
+use Rattle.sketch_base.specs.declared.fault.Fault.{Fault}
 use Rattle.sketch_base.specs.Errors.{ErrorValue, invalid_argument, refusal_of}
 use Rattle.datasketches_cli.specs.declared.reply.Reply.{Reply}
 use Rattle.datasketches_cli.specs.declared.reply.Reply.TheVariants.{Refused}

@@ -2,7 +2,7 @@
 use Rattle.std.specs.Prelude.{◌≡◌, ℕ, ◌+◌, ◌^◌, ◌<◌, ◌≤◌, ◌⊎◌, IsTrue, List, ℤ, pos, unsigned_abs}
 use Rattle.std.specs.String.{string_eq}
 use Rattle.sketch_base.specs.Errors.{invalid_argument, no_memory}
-use Rattle.sketch_base.specs.declared.error.Fault.TheVariants.{WeightOverflow}
+use Rattle.sketch_base.specs.declared.fault.Fault.TheVariants.{WeightOverflow}
 use Rattle.sketch_frequencies.specs.State.{FrequentState, empty_state, must_double}
 use Rattle.sketch_frequencies.specs.Steps.{Steps}
 use Rattle.sketch_countmin.specs.State.{CountState, Counts, halved_state, decayed_state}

@@ -1,7 +1,7 @@
 -- The names of faults.
 use Rattle.std.specs.Prelude.{ℕ, List, codes}
-use Rattle.sketch_base.specs.declared.error.Fault.{Fault}
-use Rattle.sketch_base.specs.declared.error.Fault.TheVariants.{BadNumBits, BadNumHashes, BadNumBuckets, TableTooLarge, ZeroSeedHash, Mismatch, WeightOverflow, MapSizeNotPowerOfTwo, MapSizeTooSmall, MapSizeTooLarge, ItemTooLong, InsufficientData, BadFamily, BadVersion, BadPreamble, BadNumWords, BadBitCount, SeedHashMismatch, ValueOutOfRange, NegativeTotal, CellAboveTotal, LgCurTooSmall, LgMaxTooLarge, LgCurAboveMax, EmptyFlagMismatch, TooManyActive, ZeroTotal, WeightsExceedTotal, ErrorExceedsTotal, InvalidUtf8, BadItem, NoMemory}
+use Rattle.sketch_base.specs.declared.fault.Fault.{Fault}
+use Rattle.sketch_base.specs.declared.fault.Fault.TheVariants.{BadNumBits, BadNumHashes, BadNumBuckets, TableTooLarge, ZeroSeedHash, Mismatch, WeightOverflow, MapSizeNotPowerOfTwo, MapSizeTooSmall, MapSizeTooLarge, ItemTooLong, InsufficientData, BadFamily, BadVersion, BadPreamble, BadNumWords, BadBitCount, SeedHashMismatch, ValueOutOfRange, NegativeTotal, CellAboveTotal, LgCurTooSmall, LgMaxTooLarge, LgCurAboveMax, EmptyFlagMismatch, TooManyActive, ZeroTotal, WeightsExceedTotal, ErrorExceedsTotal, InvalidUtf8, BadItem, NoMemory}
 
 -- a fault's name
 abbrev pub fault_name : Fault → List ℕ

@@ -2,7 +2,7 @@
 use Rattle.std.specs.Prelude.{◌≡◌, ℕ, ◌+◌, ◌^◌, ◌<◌, ◌≤◌, ◌⊎◌}
 use Rattle.std.specs.String.{string_eq}
 use Rattle.sketch_base.specs.Errors.{invalid_argument, no_memory}
-use Rattle.sketch_base.specs.declared.error.Fault.TheVariants.{Mismatch, WeightOverflow}
+use Rattle.sketch_base.specs.declared.fault.Fault.TheVariants.{Mismatch, WeightOverflow}
 use Rattle.sketch_frequencies.specs.State.{FrequentState}
 use Rattle.sketch_frequencies.specs.Steps.{JoinsEqual}
 use Rattle.sketch_countmin.specs.State.{CountState, SameShape}

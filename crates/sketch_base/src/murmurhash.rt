@@ -92,7 +92,7 @@ fn finalization(h: (u64, u64), rest: &[u8], len: u64) -> (u64, u64)
 ///
 /// It has a fixed size and takes no memory. However the bytes are cut into pieces, the hash is that of all of them.
 /// The hash function is Austin Appleby's, of the file `MurmurHash3.cpp`, with both halves started at the seed.
-#[derive(Drop)]
+#[derive(Clone, Debug, Drop)]
 pub struct MurmurHash3X64128 {
     halves: (u64, u64),
     // The bytes since the last whole block, and zeros.
@@ -227,53 +227,5 @@ impl Hasher for MurmurHash3X64128 {
             → pieces.HasFed seed (before ++ bytes.now) self.new }
     {
         self.take_in(bytes);
-    }
-}
-
-#[cfg(test)]
-mod tests {
-    use super::*;
-
-    fn hash_in_two(text: &[u8], at: usize) -> (u64, u64)
-        requires { at ≤ length text.now }
-    {
-        let mut hasher = MurmurHash3X64128::with_seed(0);
-        hasher.write(&text[..at]);
-        hasher.write(&text[at..]);
-        hasher.finish128()
-    }
-
-    fn hash_byte_by_byte(text: &[u8]) -> (u64, u64) {
-        let mut hasher = MurmurHash3X64128::with_seed(0);
-        for byte in text {
-            hasher.write_u8(*byte);
-        }
-        hasher.finish128()
-    }
-
-    // The published numbers, whatever the cuts.
-    #[test]
-    fn gives_the_published_hashes(rt: HostRuntime) {
-        let vectors: [(&[u8], (u64, u64)); 2] = [
-            (b"", (0, 0)),
-            (
-                b"The quick brown fox jumps over the lazy dog",
-                (0xE34B_BC7B_BC07_1B6C, 0x7A43_3CA9_C49A_9347),
-            ),
-        ];
-        for (text, wanted) in vectors {
-            assert_eq!(rt; hash_byte_by_byte(text), wanted);
-            for at in 0..=text.len() {
-                assert_eq!(rt; hash_in_two(text, at), wanted, "cut at {at}");
-            }
-        }
-    }
-
-    // The number is that of a program in another language, written from the public description.
-    #[test]
-    fn starts_at_the_default_seed(rt: HostRuntime) {
-        let mut hasher = MurmurHash3X64128::default();
-        hasher.write(b"abc");
-        assert_eq!(rt; hasher.finish(), 0xCB57_126D_D887_8D21);
     }
 }

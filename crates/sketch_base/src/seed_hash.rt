@@ -3,7 +3,8 @@ ghost use Rattle.std.specs.Prelude.{◌≡◌, ◌≢◌, OnOk, IfOk, IfErr};
 ghost use Rattle.sketch_base.specs.Errors.{refusal};
 ghost use Rattle.sketch_base.specs.Hashes.{seed_hash};
 
-use crate::error::{Error, ErrorKind, Fault};
+use crate::error::{Error, ErrorKind};
+use crate::fault::Fault;
 use crate::item_hash::murmur3_of_u64;
 
 /// The hash of a seed: the low 16 bits of the first half of MurmurHash3 x64 128, under the seed 0, of the eight bytes
@@ -36,28 +37,4 @@ pub fn check_seed_hash(expected: u16, actual: u16, kind: ErrorKind) -> Result<()
         return Err(Error::new(kind, Fault::SeedHashMismatch));
     }
     Ok(())
-}
-
-#[cfg(test)]
-mod tests {
-    use super::*;
-
-    #[test]
-    fn hashes_seeds(rt: HostRuntime) {
-        let kinds = [
-            ErrorKind::InvalidArgument,
-            ErrorKind::InvalidData,
-            ErrorKind::OutOfMemory,
-        ];
-        for kind in kinds {
-            let usual = compute_seed_hash(9001, kind).map_err(|e| e.fault());
-            assert_eq!(rt; usual, Ok(0x93CC));
-            // The least seed whose hash is 0.
-            let zero = compute_seed_hash(50541, kind).map_err(|e| (e.kind(), e.fault()));
-            assert_eq!(rt; zero, Err((kind, Fault::ZeroSeedHash)));
-            let differ = check_seed_hash(1, 2, kind).map_err(|e| (e.kind(), e.fault()));
-            assert_eq!(rt; differ, Err((kind, Fault::SeedHashMismatch)));
-            assert!(rt; check_seed_hash(2, 2, kind).is_ok());
-        }
-    }
 }

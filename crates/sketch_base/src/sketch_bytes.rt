@@ -13,7 +13,7 @@ use std::marker::Model;
 /// A write past it takes memory, and where that is refused it answers
 /// [`NoMemory`](crate::Fault::NoMemory) of the kind [`OutOfMemory`](crate::ErrorKind::OutOfMemory),
 /// and leaves the bytes as they were.
-#[derive(Drop)]
+#[derive(Debug, Drop)]
 pub struct SketchBytes {
     bytes: Vec<u8>,
 }
@@ -129,34 +129,5 @@ impl SketchBytes {
         ensures { result.items ≡ self.bytes }
     {
         self.bytes
-    }
-}
-
-#[cfg(test)]
-mod tests {
-    use super::*;
-    use std::test::Fail;
-
-    #[test]
-    fn writes_the_lowest_byte_first(rt: HostRuntime) -> Result<(), Fail> {
-        let mut out = SketchBytes::with_capacity(rt.alloc(), 3)?;
-        out.write_u8(1)?;
-        out.write_u16_le(770)?;
-        assert_eq!(rt; out.into_bytes().as_slice(), [1, 2, 3].as_slice());
-        Ok(())
-    }
-
-    #[test]
-    fn writes_each_width(rt: HostRuntime) -> Result<(), Fail> {
-        let mut out = SketchBytes::with_capacity(rt.alloc(), 0)?;
-        out.write(b"ab")?;
-        out.write_u32_le(1)?;
-        out.write_i32_le(-2)?;
-        out.write_u64_le(3)?;
-        out.write_i64_le(-4)?;
-        let wanted =
-            b"ab\x01\0\0\0\xFE\xFF\xFF\xFF\x03\0\0\0\0\0\0\0\xFC\xFF\xFF\xFF\xFF\xFF\xFF\xFF";
-        assert_eq!(rt; out.into_bytes().as_slice(), wanted.as_slice());
-        Ok(())
     }
 }

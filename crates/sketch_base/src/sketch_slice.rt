@@ -4,15 +4,16 @@ ghost use Rattle.std.specs.Int.{w16, w32, w64};
 ghost use Rattle.sketch_base.specs.Errors.{invalid_data};
 ghost use Rattle.sketch_base.specs.Fields.{byte_at, le_at, signed_le_at};
 
-use crate::error::{Error, ErrorKind, Fault};
+use crate::error::Error;
+use crate::fault::Fault;
 use std::marker::Model;
 
 /// A cursor over bytes that are read in order. A contract sees it as the list of the bytes that are still unread.
 ///
 /// No call takes memory. A read of more bytes than are left answers
-/// [`InsufficientData`](Fault::InsufficientData) of the kind [`InvalidData`](ErrorKind::InvalidData),
+/// [`InsufficientData`](Fault::InsufficientData) of the kind [`InvalidData`](crate::ErrorKind::InvalidData),
 /// and leaves the cursor where it was.
-#[derive(Drop)]
+#[derive(Clone, Debug, Drop)]
 pub struct SketchSlice<'a> {
     unread: &'a [u8],
 }
@@ -62,7 +63,7 @@ impl<'a> SketchSlice<'a> {
         ensures err { OnErr result ((self.new ≡ self.old) × (out.new ≡ out.old)) }
     {
         if self.unread.len() < out.len() {
-            return Err(Error::new(ErrorKind::InvalidData, Fault::InsufficientData));
+            return Err(Error::invalid_data(Fault::InsufficientData));
         }
         let (front, rest) = self.unread.split_at(out.len());
         out.copy_from_slice(front);
@@ -157,44 +158,5 @@ impl<'a> SketchSlice<'a> {
         let mut bytes = [0; 8];
         self.read_exact(&mut bytes)?;
         Ok(i64::from_le_bytes(bytes))
-    }
-}
-
-#[cfg(test)]
-mod tests {
-    use super::*;
-    use std::test::Fail;
-
-    #[test]
-    fn stays_at_a_short_read(rt: HostRuntime) -> Result<(), Fail> {
-        let mut slice = SketchSlice::new(&[1, 2, 3]);
-        assert_eq!(rt; slice.read_u16_le()?, 513);
-        let short = slice.read_u32_le().map_err(|e| (e.kind(), e.fault()));
-        assert_eq!(rt;
-            short,
-            Err((ErrorKind::InvalidData, Fault::InsufficientData))
-        );
-        assert_eq!(rt; slice.remaining(), [3].as_slice());
-        assert_eq!(rt; slice.read_u8()?, 3);
-        Ok(())
-    }
-
-    #[test]
-    fn reads_each_width(rt: HostRuntime) -> Result<(), Fail> {
-        let mut bytes = [0xFF; 32];
-        bytes[0] = 7;
-        let mut slice = SketchSlice::new(&bytes);
-        assert_eq!(rt; slice.read_u32_le()?, 0xFFFF_FF07);
-        assert_eq!(rt; slice.read_i32_le()?, -1);
-        assert_eq!(rt; slice.read_u64_le()?, u64::MAX);
-        assert_eq!(rt; slice.read_i64_le()?, -1);
-        let mut two = [0; 2];
-        slice.read_exact(&mut two)?;
-        assert_eq!(rt; two, [0xFF, 0xFF]);
-        assert_eq!(rt; slice.remaining().len(), 6);
-        let mut slice = SketchSlice::new(&bytes);
-        slice.advance(1);
-        assert_eq!(rt; slice.remaining().len(), 31);
-        Ok(())
     }
 }

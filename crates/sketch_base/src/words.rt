@@ -1,7 +1,7 @@
 //! Words of 64 bits: those in a slice of bytes, lowest byte first, and their rotation.
 ghost use Rattle.std.specs.Prelude.{◌≡◌, ◌+◌, ◌<◌, ◌≤◌, length};
 ghost use Rattle.std.specs.Int.{w64, rotate_left};
-ghost use Rattle.sketch_base.specs.Words as spec;
+ghost use Rattle.sketch_base.specs.MachineWords as spec;
 
 /// The number of the eight bytes from `at` on.
 #[inline(always)]

@@ -184,7 +184,7 @@ fn finalization(h: u64, rest: &[u8]) -> u64
 ///
 /// It has a fixed size and takes no memory. However the bytes are cut into pieces, the hash is that of all of them.
 /// The hash function is Yann Collet's, of the description 'xxHash fast digest algorithm'.
-#[derive(Drop)]
+#[derive(Clone, Debug, Drop)]
 pub struct XxHash64 {
     seed: u64,
     accumulators: Accumulators,
@@ -309,46 +309,5 @@ impl Hasher for XxHash64 {
             → pieces.HasFed seed (before ++ bytes.now) self.new }
     {
         self.take_in(bytes);
-    }
-}
-
-#[cfg(test)]
-mod tests {
-    use super::*;
-
-    fn hash_in_two(text: &[u8], at: usize) -> u64
-        requires { at ≤ length text.now }
-    {
-        let mut hasher = XxHash64::with_seed(0);
-        hasher.write(&text[..at]);
-        hasher.write(&text[at..]);
-        hasher.finish()
-    }
-
-    fn hash_byte_by_byte(text: &[u8]) -> u64 {
-        let mut hasher = XxHash64::with_seed(0);
-        for byte in text {
-            hasher.write_u8(*byte);
-        }
-        hasher.finish()
-    }
-
-    // The published numbers, whatever the cuts.
-    #[test]
-    fn gives_the_published_hashes(rt: HostRuntime) {
-        let vectors: [(&[u8], u64); 3] = [
-            (b"", 0xEF46_DB37_51D8_E999),
-            (b"abc", 0x44BC_2CF5_AD77_0999),
-            (
-                b"Nobody inspects the spammish repetition",
-                0xFBCE_A83C_8A37_8BF1,
-            ),
-        ];
-        for (text, wanted) in vectors {
-            assert_eq!(rt; hash_byte_by_byte(text), wanted);
-            for at in 0..=text.len() {
-                assert_eq!(rt; hash_in_two(text, at), wanted, "cut at {at}");
-            }
-        }
     }
 }

@@ -1,7 +1,7 @@
 -- What a builder is asked for, and when it refuses.
 use Rattle.std.specs.Prelude.{ℕ, ◌+◌, ◌/◌, nat_lt, ◌||◌, ◌==◌, Option, Some, None, if◌then◌else◌}
-use Rattle.sketch_base.specs.declared.error.Fault.{Fault}
-use Rattle.sketch_base.specs.declared.error.Fault.TheVariants.{BadNumBits, BadNumHashes}
+use Rattle.sketch_base.specs.declared.fault.Fault.{Fault}
+use Rattle.sketch_base.specs.declared.fault.Fault.TheVariants.{BadNumBits, BadNumHashes}
 
 -- the numbers of bits and hashes, and the seed
 pub record Request : Type 0 where

@@ -1,8 +1,8 @@
 -- Which shapes and seeds a sketch may have.
 use Rattle.std.specs.Prelude.{ℕ, ◌*◌, ◌^◌, ◌==◌, nat_lt, nat_le, Option, Some, None, if◌then◌else◌}
 use Rattle.sketch_base.specs.Hashes.{seed_hash}
-use Rattle.sketch_base.specs.declared.error.Fault.{Fault}
-use Rattle.sketch_base.specs.declared.error.Fault.TheVariants.{BadNumHashes, BadNumBuckets, TableTooLarge, ZeroSeedHash}
+use Rattle.sketch_base.specs.declared.fault.Fault.{Fault}
+use Rattle.sketch_base.specs.declared.fault.Fault.TheVariants.{BadNumHashes, BadNumBuckets, TableTooLarge, ZeroSeedHash}
 
 -- what is wrong first with a shape and a seed, if anything
 abbrev pub shape_fault : ℕ → ℕ → ℕ → Option Fault

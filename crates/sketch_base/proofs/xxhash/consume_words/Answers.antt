@@ -1,6 +1,6 @@
 use Rattle.std.proofs.Common.{◌*◌, ℕ, refl, ap, sym, ◌∙◌, add-one}
 use Rattle.sketch_base.specs.Xxh64.{consume_word, consume_words}
-use Rattle.sketch_base.specs.Words.{word_at}
+use Rattle.sketch_base.specs.MachineWords.{word_at}
 use Rattle.sketch_base.proofs.xxhash.consume_words.Goals as goal
 
 pub each-init : goal.each-init

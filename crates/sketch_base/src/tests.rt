@@ -1,0 +1,253 @@
+//! Published hashes, worked examples, and a larger run of the hash functions and the cursors.
+//!
+//! A number that is not published is that of a program in another language, written from the public descriptions.
+ghost use Rattle.std.specs.Prelude.{◌<◌};
+
+use crate::{
+    Divisor, Error, ErrorKind, Family, Fault, MurmurHash3X64128, SketchBytes, SketchSlice,
+    XxHash64, check_seed_hash, compute_seed_hash, murmur3_of, murmur3_of_u64, xxh64_of,
+};
+use std::alloc::Global;
+use std::hash::Hasher;
+use std::test::Fail;
+
+/// Feeds a text in two pieces, or byte by byte where it is shorter than the first.
+fn feed<H: Hasher>(hasher: &mut H, text: &[u8], at: usize) {
+    if at <= text.len() {
+        hasher.write(&text[..at]);
+        hasher.write(&text[at..]);
+    } else {
+        for byte in text {
+            hasher.write_u8(*byte);
+        }
+    }
+}
+
+fn xxh64(text: &[u8], seed: u64, at: usize) -> u64 {
+    let mut hasher = XxHash64::with_seed(seed);
+    feed(&mut hasher, text, at);
+    hasher.finish()
+}
+
+fn murmur3(text: &[u8], seed: u64, at: usize) -> (u64, u64) {
+    let mut hasher = MurmurHash3X64128::with_seed(seed);
+    feed(&mut hasher, text, at);
+    hasher.finish128()
+}
+
+// Fed whole, cut at every place, and byte by byte.
+#[test]
+fn gives_the_published_hashes(rt: HostRuntime) {
+    let vectors: [(&[u8], u64); 3] = [
+        (b"", 0xEF46_DB37_51D8_E999),
+        (b"abc", 0x44BC_2CF5_AD77_0999),
+        (
+            b"Nobody inspects the spammish repetition",
+            0xFBCE_A83C_8A37_8BF1,
+        ),
+    ];
+    for (text, wanted) in vectors {
+        for at in 0..50 {
+            assert!(rt; xxh64(text, 0, at) == wanted);
+        }
+    }
+    let vectors: [(&[u8], (u64, u64)); 2] = [
+        (b"", (0, 0)),
+        (
+            b"The quick brown fox jumps over the lazy dog",
+            (0xE34B_BC7B_BC07_1B6C, 0x7A43_3CA9_C49A_9347),
+        ),
+    ];
+    for (text, wanted) in vectors {
+        for at in 0..50 {
+            assert!(rt; murmur3(text, 0, at) == wanted);
+        }
+    }
+}
+
+#[test]
+fn hashes_items_and_seeds(rt: HostRuntime) -> Result<(), Fail> {
+    let text = String::from_str(rt.alloc(), "abc")?;
+    assert!(rt; xxh64_of(&text, 9001) == 0x078E_021E_CB9F_9EE2);
+    assert!(rt; xxh64_of(&-1i64, 3) == 0x84CD_946D_2475_5F42);
+    assert!(rt; murmur3_of(&text, 9001) == (0xECDD_B6A3_DE68_9B90, 0xF917_2DCC_678B_ED57));
+    assert!(rt; murmur3_of_u64(7, 9001) == (0xF987_0733_D517_E9C1, 0xB121_4042_AB4D_FAD7));
+    let mut hasher = MurmurHash3X64128::default();
+    hasher.write(b"abc");
+    assert!(rt; hasher.clone()?.finish() == 0xCB57_126D_D887_8D21);
+    // The second is the least seed whose hash is 0.
+    assert!(rt; compute_seed_hash(9001, ErrorKind::InvalidArgument) == Ok(0x93CC));
+    let zero = Error::new(ErrorKind::InvalidData, Fault::ZeroSeedHash);
+    assert!(rt; compute_seed_hash(50541, ErrorKind::InvalidData) == Err(zero));
+    let differ = Error::new(ErrorKind::InvalidData, Fault::SeedHashMismatch);
+    assert!(rt; check_seed_hash(1, 2, ErrorKind::InvalidData) == Err(differ));
+    assert!(rt; check_seed_hash(2, 2, ErrorKind::InvalidData) == Ok(()));
+    Ok(())
+}
+
+#[test]
+fn names_families_and_faults(rt: HostRuntime) -> Result<(), Fail> {
+    let other = Error::invalid_data(Fault::BadFamily);
+    assert!(rt; Family::BLOOMFILTER.validate_id(18) == Err(other));
+    for (family, id) in [
+        (Family::BLOOMFILTER, 21),
+        (Family::COUNTMIN, 18),
+        (Family::FREQUENCY, 10),
+    ] {
+        assert!(rt; family.validate_id(id) == Ok(()));
+    }
+    let error = Error::invalid_argument(Fault::MapSizeTooSmall);
+    assert!(rt; error.kind() == ErrorKind::InvalidArgument);
+    assert!(rt; error.fault().name() == "MapSizeTooSmall");
+    assert!(rt; format!(in rt.alloc(); "{error}")?.as_str() == "map size below 8");
+    Ok(())
+}
+
+#[test]
+fn stays_at_a_short_read(rt: HostRuntime) -> Result<(), Fail> {
+    let mut slice = SketchSlice::new(&[1, 2, 3]);
+    assert!(rt; slice.read_u16_le() == Ok(513));
+    let short = Error::invalid_data(Fault::InsufficientData);
+    assert!(rt; slice.read_u32_le() == Err(short));
+    assert!(rt; slice.remaining() == [3].as_slice());
+    assert!(rt; slice.read_u8() == Ok(3));
+    Ok(())
+}
+
+/// A byte, and one number of each width.
+fn written(alloc: Global) -> Result<Vec<u8>, Error> {
+    let mut out = SketchBytes::with_capacity(alloc, 3)?;
+    out.write_u8(1)?;
+    out.write_u16_le(770)?;
+    out.write(b"ab")?;
+    out.write_u32_le(1)?;
+    out.write_i32_le(-2)?;
+    out.write_u64_le(3)?;
+    out.write_i64_le(-4)?;
+    Ok(out.into_bytes())
+}
+
+/// The numbers of four and eight bytes in what `written` wrote, and how many bytes are left.
+fn read_back(bytes: &[u8]) -> Result<(u32, i32, u64, i64, usize), Error> {
+    let mut slice = SketchSlice::new(bytes);
+    let mut front = [0; 5];
+    slice.read_exact(&mut front)?;
+    Ok((
+        slice.read_u32_le()?,
+        slice.read_i32_le()?,
+        slice.read_u64_le()?,
+        slice.read_i64_le()?,
+        slice.remaining().len(),
+    ))
+}
+
+#[test]
+fn writes_and_reads_each_width(rt: HostRuntime) -> Result<(), Fail> {
+    let bytes = written(rt.alloc())?;
+    let wanted =
+        b"\x01\x02\x03ab\x01\0\0\0\xFE\xFF\xFF\xFF\x03\0\0\0\0\0\0\0\xFC\xFF\xFF\xFF\xFF\xFF\xFF\xFF";
+    assert!(rt; bytes.as_slice() == wanted.as_slice());
+    assert!(rt; read_back(&bytes) == Ok((1, -2, 3, -4, 0)));
+    let mut slice = SketchSlice::new(wanted);
+    slice.advance(1);
+    assert!(rt; slice.remaining().len() == 28);
+    Ok(())
+}
+
+/// The first multiples of an odd number, eight bytes each.
+fn multiples(alloc: Global, count: usize) -> Result<Vec<u8>, Error> {
+    let mut out = SketchBytes::with_capacity(alloc, 0)?;
+    let mut next = 0u64;
+    for _ in 0..count {
+        out.write_u64_le(next)?;
+        next = next.wrapping_add(0x9E37_79B9_7F4A_7C15);
+    }
+    Ok(out.into_bytes())
+}
+
+/// All numbers of eight bytes, each added to 31 times what was there.
+fn sum_of(bytes: &[u8]) -> Result<u64, Error> {
+    let mut slice = SketchSlice::new(bytes);
+    let mut sum = 0u64;
+    for _ in 0..bytes.len() / 8 {
+        sum = sum.wrapping_mul(31).wrapping_add(slice.read_u64_le()?);
+    }
+    Ok(sum)
+}
+
+#[test]
+fn takes_a_hundred_kilobytes(rt: HostRuntime) -> Result<(), Fail> {
+    let bytes = multiples(rt.alloc(), 12800)?;
+    assert!(rt; sum_of(&bytes) == Ok(0x53BA_6E12_8504_0D00));
+    for at in [0, 50_001, 102_400, 200_000] {
+        assert!(rt; xxh64(&bytes, 9001, at) == 0x78EC_E52D_998E_589E);
+        assert!(rt; murmur3(&bytes, 9001, at) == (0x2AB5_0BD8_50C9_2BED, 0xFDF5_04F5_900E_F6AE));
+    }
+    Ok(())
+}
+
+/// How many of the numbers have another remainder than `%` gives.
+fn misses(d: u64, numbers: &[u64]) -> usize
+    requires { 1 < d }
+{
+    let divisor = Divisor::new(d);
+    numbers
+        .iter()
+        .filter(|a| divisor.rem(**a) != **a % d)
+        .count()
+}
+
+/// The same of 10,000 numbers of a generator, which goes on from `x`.
+fn misses_of_generated(d: u64, x: &mut u64) -> u64
+    requires { 1 < d }
+{
+    let divisor = Divisor::new(d);
+    let mut missed = 0u64;
+    for _ in 0..10000 {
+        *x ^= *x << 13;
+        *x ^= *x >> 7;
+        *x ^= *x << 17;
+        missed |= divisor.rem(*x) ^ *x % d;
+    }
+    missed
+}
+
+#[test]
+fn gives_the_known_remainders(rt: HostRuntime) {
+    let most = 1u64 << 63;
+    let numbers = [0, 1, u64::MAX, u64::MAX - 1, most, 4294967295, 4294967296];
+    let rows = [
+        (3, [0, 1, 0, 2, 2, 0, 1]),
+        (5, [0, 1, 0, 4, 3, 0, 1]),
+        (7, [0, 1, 1, 0, 1, 3, 4]),
+        (1000, [0, 1, 615, 614, 808, 295, 296]),
+        (20000, [0, 1, 11615, 11614, 15808, 7295, 7296]),
+        (65537, [0, 1, 0, 65536, 32769, 0, 1]),
+        (4294967294, [0, 1, 3, 2, 2, 1, 2]),
+        (4294967295, [0, 1, 0, 4294967294, 2147483648, 0, 1]),
+    ];
+    let mut x = 0x9E37_79B9_7F4A_7C15;
+    for (d, wanted) in rows {
+        assert!(rt; 1 < d);
+        let divisor = Divisor::new(d);
+        assert!(rt; numbers.map(|a| divisor.rem(a)) == wanted);
+        assert!(rt; misses_of_generated(d, &mut x) == 0);
+    }
+    for d in [
+        64,
+        128,
+        960,
+        1 << 37,
+        (1 << 37) - 64,
+        most - 1,
+        most,
+        u64::MAX,
+    ] {
+        assert!(rt; 1 < d);
+        assert!(rt; misses(d, &numbers) == 0);
+    }
+    for k in 0..4295u64 {
+        let d = 3 + 1_000_003 * k;
+        assert!(rt; misses(d, &[u64::MAX, d * 12345 + 7]) == 0);
+    }
+}
