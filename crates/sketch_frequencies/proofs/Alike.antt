@@ -9,7 +9,7 @@ use Rattle.sketch_frequencies.specs.Tables.{IsSameEntry, IsSameMap}
 use Rattle.sketch_frequencies.specs.History.{FrequentHistory}
 use Rattle.sketch_frequencies.specs.History.FrequentHistory.{Update}
 use Rattle.sketch_frequencies.specs.State.{FrequentState, IsState}
-use Rattle.sketch_frequencies.specs.Stands.{StandsFor, KeepsTailBudget}
+use Rattle.sketch_frequencies.specs.Stands.{StandsFor, KeepsTailBudget, HasFewItems, Extends, ExtendsBudget}
 use Rattle.sketch_frequencies.specs.Steps.{StepsEqual, IsSameState}
 use Rattle.sketch_frequencies.proofs.Enclosure.{stands_after}
 use Rattle.sketch_frequencies.proofs.Tail.{budget_after}
@@ -51,7 +51,9 @@ module _ {T : Type 0} {eq : T → T → Bool} (laws : IsEquivalence eq) where
         total = same.total ∙ stands.total;
         at_least = λ y. omega (arith, count y, stands.at_least y);
         at_most = λ y. omega (arith, count y, stands.at_most y, same.error);
-        exact = λ few short covers. same.error ∙ stands.exact few short covers;
+        exact = λ few. same.error ∙ stands.exact few;
+        least = stands.least;
+        power = stands.power;
       }
 
   -- and keeps the same budgets
@@ -68,7 +70,11 @@ module _ {T : Type 0} {eq : T → T → Bool} (laws : IsEquivalence eq) where
     total = stands.total;
     at_least = λ z. omega (arith, stands.at_least z, weight_alike x y z w same);
     at_most = λ z. omega (arith, stands.at_most z, weight_alike x y z w same);
-    exact = λ few short covers. stands.exact few short (λ z some. covers z (omega (arith, some, weight_alike x y z w same)));
+    exact = λ few.
+        let alike : HasFewItems eq (Update h y w) = record { items = few.items; fit = few.fit; cover = λ z some. few.cover z (omega (arith, some, weight_alike x y z w same)) } in
+        stands.exact alike;
+    least = stands.least;
+    power = stands.power;
   }
 
   budget_equal : (s : FrequentState T) (h : FrequentHistory T) (x y : T) (w : ℕ) → eq x y ≡ true → KeepsTailBudget eq s (Update h y w) → KeepsTailBudget eq s (Update h x w)

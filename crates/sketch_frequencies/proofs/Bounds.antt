@@ -9,7 +9,7 @@ use Rattle.sketch_frequencies.specs.Tables.{sum_outside}
 use Rattle.sketch_frequencies.specs.History.{FrequentHistory, total_weight, weight_outside, least_size, budget_size}
 use Rattle.sketch_frequencies.specs.History.FrequentHistory.{New, Update, Merge, Reset, Restored}
 use Rattle.sketch_frequencies.specs.State.{FrequentState}
-use Rattle.sketch_frequencies.specs.Stands.{KeepsTailBudget, HasTableSize}
+use Rattle.sketch_frequencies.specs.Stands.{StandsFor, KeepsTailBudget}
 use Rattle.sketch_frequencies.proofs.Cases.{by_cases}
 use Rattle.sketch_frequencies.proofs.Powers.{power_of, power_twice, eight_is_power, doubled_fits}
 
@@ -42,17 +42,17 @@ big_power : IsTrue (is_power_of_two 1024)
 big_power = power_twice 512 (power_twice 256 (power_twice 128 (power_twice 64 (power_twice 32 (power_twice 16 (power_twice 8 eight_is_power))))))
 
 -- up to 1024
-pub error_small : {T : Type 0} (eq : T → T → Bool) (s : FrequentState T) (h : FrequentHistory T) → KeepsTailBudget eq s h → HasTableSize h → least_size h ≤ 1024 → 3 * least_size h * s.error ≤ 8 * total_weight h
-error_small eq s h keeps size small =
+pub error_small : {T : Type 0} (eq : T → T → Bool) (s : FrequentState T) (h : FrequentHistory T) → StandsFor eq s h → KeepsTailBudget eq s h → least_size h ≤ 1024 → 3 * least_size h * s.error ≤ 8 * total_weight h
+error_small eq s h stands keeps small =
     let k = least_size h / 8 in
-    let e : least_size h ≡ 8 * k = eighths (least_size h) size.0 size.1 in
+    let e : least_size h ≡ 8 * k = eighths (least_size h) stands.power stands.least in
     let b : budget_size h ≡ 3 * k = omega (arith, e, small) in
     let all : 3 * k * s.error ≤ total_weight h = subst (λ (n : ℕ). n * s.error ≤ total_weight h) b (budget_of_all eq s h keeps) in
     rw e (omega (arith, all))
 
 -- above
-pub error_large : {T : Type 0} (eq : T → T → Bool) (s : FrequentState T) (h : FrequentHistory T) → KeepsTailBudget eq s h → HasTableSize h → 1024 < least_size h → 512 * s.error ≤ total_weight h
-error_large eq s h keeps size large =
-    let twice = doubled_fits 1024 (least_size h) big_power size.0 large in
+pub error_large : {T : Type 0} (eq : T → T → Bool) (s : FrequentState T) (h : FrequentHistory T) → StandsFor eq s h → KeepsTailBudget eq s h → 1024 < least_size h → 512 * s.error ≤ total_weight h
+error_large eq s h stands keeps large =
+    let twice = doubled_fits 1024 (least_size h) big_power stands.power large in
     let b : budget_size h ≡ 512 = omega (arith, twice) in
     subst (λ (n : ℕ). n * s.error ≤ total_weight h) b (budget_of_all eq s h keeps)

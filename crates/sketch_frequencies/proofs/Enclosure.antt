@@ -9,7 +9,7 @@ use Rattle.sketch_frequencies.specs.Tables.{count_of, put, purged}
 use Rattle.sketch_frequencies.specs.History.{FrequentHistory, own_size, least_size}
 use Rattle.sketch_frequencies.specs.History.FrequentHistory.{New, Update, Merge, Reset, Restored}
 use Rattle.sketch_frequencies.specs.State.{FrequentState, IsState, capacity}
-use Rattle.sketch_frequencies.specs.Stands.{StandsFor, Covers}
+use Rattle.sketch_frequencies.specs.Stands.{StandsFor, HasFewItems}
 use Rattle.sketch_frequencies.specs.Steps.{Steps}
 use Rattle.sketch_frequencies.proofs.Cases.{by_cases}
 use Rattle.sketch_frequencies.proofs.Puts.{count_of-put, IsDistinct-put, positive-put, positive_from_tracked}
@@ -43,19 +43,23 @@ least_le_own (Merge h g) = omega (arith, least_le_own h)
 least_le_own (Reset h) = omega arith
 least_le_own (Restored h) = least_le_own h
 
+-- few items after an update are few before it
+few_before : {T : Type 0} {eq : T → T → Bool} (h : FrequentHistory T) (x : T) (w : ℕ) → HasFewItems eq (Update h x w) → HasFewItems eq h
+few_before h x w few = record { items = few.items; fit = few.fit; cover = λ y p. few.cover y (omega (arith, p)) }
+
 -- every tracked item has a true weight above 0, so it is covered
-exact_after : {T : Type 0} {eq : T → T → Bool} → IsEquivalence eq → (old new : FrequentState T) (x : T) (w : ℕ) → 0 < w → IsState eq old → Steps eq old x w new → (h : FrequentHistory T) → StandsFor eq old h → (few : List T) → length few ≤ 3 * least_size h / 4 → Covers eq few (Update h x w) → new.error ≡ 0
-exact_after {eq = eq} laws old new x w pos ok step h s few short covers =
+exact_after : {T : Type 0} {eq : T → T → Bool} → IsEquivalence eq → (old new : FrequentState T) (x : T) (w : ℕ) → 0 < w → IsState eq old → Steps eq old x w new → (h : FrequentHistory T) → StandsFor eq old h → HasFewItems eq (Update h x w) → new.error ≡ 0
+exact_after {eq = eq} laws old new x w pos ok step h s few =
     let c1 = put eq old.counters x w in
     let apart = IsDistinct-put laws old.counters x w ok.distinct in
     let positive = positive-put eq old.counters x w pos ok.positive in
-    let none : old.error ≡ 0 = s.exact few short (λ y p. covers y (omega arith)) in
+    let none : old.error ≡ 0 = s.exact (few_before h x w few) in
     let true_of = λ (y : _). count_of-put laws old.counters x w y in
-    let fits : length (keys_of c1) ≤ length few = length-le_from_is_member laws (keys_of c1) few apart (λ q there. covers q (grind (arith, positive_from_tracked eq c1 q positive there, true_of q, s.at_least q))) in
+    let fits : length (keys_of c1) ≤ length few.items = length-le_from_is_member laws (keys_of c1) few.items apart (λ q there. few.cover q (grind (arith, positive_from_tracked eq c1 q positive there, true_of q, s.at_least q))) in
     by_cases (cases_lt (capacity old.size) (length c1))
     (λ over. by_cases (cases_lt old.size old.max_size)
     (λ below. omega (arith, (step.doubled over below).error, none))
-    (λ at. absurd (omega (arith, least_le_own h, length-keys_of c1))))
+    (λ at. absurd (omega (arith, over, at, fits, few.fit, s.max_size, ok.within, least_le_own h, length-keys_of c1))))
     (λ room. omega (arith, (step.kept room).error, none))
 
 pub stands_after : {T : Type 0} {eq : T → T → Bool} → IsEquivalence eq → (old new : FrequentState T) (x : T) (w : ℕ) → 0 < w → IsState eq old → Steps eq old x w new → (h : FrequentHistory T) → StandsFor eq old h → StandsFor eq new (Update h x w)
@@ -66,5 +70,7 @@ stands_after {eq = eq} laws old new x w pos ok step h s =
       total = step.total ∙ ap (λ n. n + w) s.total;
       at_least = λ y. omega (arith, now.low y, s.at_least y);
       at_most = λ y. omega (arith, now.high y, s.at_most y);
-      exact = λ few short covers. exact_after laws old new x w pos ok step h s few short covers;
+      exact = λ few. exact_after laws old new x w pos ok step h s few;
+      least = s.least;
+      power = s.power;
     }

@@ -1,9 +1,11 @@
 -- What a count says of an estimate.
-use Rattle.std.proofs.Common.{◌≡◌, ℕ, ◌+◌, ◌<◌, Bool, true, Option, None, Some, is_some, unwrap_or, refl}
+use Rattle.std.proofs.Common.{◌≡◌, ℕ, ◌+◌, ◌<◌, ◌≤◌, Bool, true, Option, None, Some, is_some, unwrap_or, refl, ◌∙◌, arith}
 use Rattle.std.specs.List.{All}
 use Rattle.std.specs.Map.{lookup}
 use Rattle.sketch_frequencies.specs.Tables.{count_of}
+use Rattle.std.specs.Prelude.{if◌then◌else◌}
 use Rattle.sketch_frequencies.specs.State.{FrequentState, estimate_of}
+use Rattle.sketch_frequencies.specs.Stands.{IsExactOfFew}
 use Rattle.sketch_frequencies.proofs.Puts.{absent_from_zero}
 
 pub some_from_count : (o : Option ℕ) → (unwrap_or o 0 ≡ 0 → ⊥) → is_some o ≡ true
@@ -17,3 +19,11 @@ estimate_none eq s x all h = rw (absent_from_zero eq s.counters x all h) refl
 -- another says that it is
 pub estimate_some : {T : Type 0} (eq : T → T → Bool) (s : FrequentState T) (x : T) → (count_of eq s.counters x ≡ 0 → ⊥) → count_of eq s.counters x + s.error ≡ estimate_of eq s x
 estimate_some eq s x h = rw (some_from_count (lookup (eq x) s.counters) h) refl
+
+exact_by_cases : (o : Option ℕ) (e t : ℕ) → e ≡ 0 → unwrap_or o 0 ≤ t → t ≤ unwrap_or o 0 + e → (if is_some o then unwrap_or o 0 + e else 0) ≡ t
+exact_by_cases None e t none low high = omega (arith, none, low, high)
+exact_by_cases (Some v) e t none low high = omega (arith, none, low, high)
+
+-- with no error it is the true weight
+pub estimate_exact : {T : Type 0} (eq : T → T → Bool) (s : FrequentState T) (x : T) (n : ℕ) → n ≡ estimate_of eq s x → IsExactOfFew eq s x n
+estimate_exact eq s x n is = λ h stands few. is ∙ exact_by_cases (lookup (eq x) s.counters) s.error _ (stands.exact few) (stands.at_least x) (stands.at_most x)

@@ -12,16 +12,16 @@ use Rattle.std.proofs.lemmas.List.Folds.{list_any-append}
 use Rattle.std.proofs.lemmas.Map.Entries.{length-keys_of}
 use Rattle.std.proofs.lemmas.Map.Made.{length-le_from_is_member}
 use Rattle.sketch_frequencies.specs.Tables.{Table, count_of, is_tracked, put, sum_of, sum_outside}
-use Rattle.sketch_frequencies.specs.History.{FrequentHistory, true_weight, total_weight, weight_outside, budget_size}
+use Rattle.sketch_frequencies.specs.History.{FrequentHistory, true_weight, total_weight, weight_outside, least_size, budget_size}
 use Rattle.sketch_frequencies.specs.History.FrequentHistory.{New, Update, Merge, Reset, Restored}
 use Rattle.sketch_frequencies.specs.State.{FrequentState, IsState, capacity, sample_size}
-use Rattle.sketch_frequencies.specs.Stands.{StandsFor, KeepsTailBudget, Covers}
+use Rattle.sketch_frequencies.specs.Stands.{StandsFor, KeepsTailBudget, HasFewItems}
 use Rattle.sketch_frequencies.specs.Steps.{Steps, StepsAlong, AddsAll, Joins}
 use Rattle.sketch_frequencies.specs.Growth.{Adds}
 use Rattle.sketch_frequencies.proofs.Cases.{by_test, by_cases}
 use Rattle.sketch_frequencies.proofs.Enclosure.{counted, least_le_own}
 use Rattle.sketch_frequencies.proofs.Orders.{share, share_is, count_is_sum, count_of-permutation}
-use Rattle.sketch_frequencies.proofs.Powers.{doubled_fits}
+use Rattle.sketch_frequencies.proofs.Powers.{doubled_fits, lesser_power}
 use Rattle.sketch_frequencies.proofs.Reports.{or_true, or_false}
 use Rattle.sketch_frequencies.proofs.Puts.{is_tracked-keys, keys_of-put, same_set_test, IsDistinct-put, length_put_le, positive_from_tracked}
 use Rattle.sketch_frequencies.proofs.States.{state_after, state_made, length_le_sum}
@@ -144,6 +144,13 @@ steps_budget {T} {eq} laws old new (p ∷ ps) ok pos run n half set short b held
 less_of_more : (d d' e : ℕ) → d ≤ d' → d * e ≤ d' * e
 less_of_more d d' e h = omega (arith, mul-le-mul_left e h)
 
+-- few items in both are few in each
+abbrev few_in_own : {T : Type 0} {eq : T → T → Bool} (h g : FrequentHistory T) → HasFewItems eq (Merge h g) → HasFewItems eq h
+few_in_own h g few = record { items = few.items; fit = omega (arith, few.fit); cover = λ y p. few.cover y (omega (arith, p)) }
+
+abbrev few_in_other : {T : Type 0} {eq : T → T → Bool} (h g : FrequentHistory T) → HasFewItems eq (Merge h g) → HasFewItems eq g
+few_in_other h g few = record { items = few.items; fit = omega (arith, few.fit); cover = λ y p. few.cover y (omega (arith, p)) }
+
 module _ {T : Type 0} {eq : T → T → Bool} (laws : IsEquivalence eq) (old other new : FrequentState T) (ok : IsState eq old) (other_ok : IsState eq other) (join : Joins eq old other new) (h g : FrequentHistory T) (s : StandsFor eq old h) (t : StandsFor eq other g) where
   -- the other's counters in the order of the join
   positive_in_order : (j : AddsAll eq old other new) → All (λ p. 0 < p.1) j.order
@@ -173,11 +180,11 @@ module _ {T : Type 0} {eq : T → T → Bool} (laws : IsEquivalence eq) (old oth
       subst (λ (n : FrequentState T). sum_outside eq set n.counters + d * n.error ≤ weight_outside eq set h + weight_outside eq set g) (sym same) (omega (arith, start)))
 
   -- a tracked item is among those that cover the history
-  among_old : (few : List T) → Covers eq few h → IsAmong eq few old
-  among_old few covers y there = covers y (omega (arith, positive_from_tracked eq old.counters y ok.positive (sym (is_tracked-keys eq old.counters y) ∙ there), s.at_least y))
+  among_old : (few : HasFewItems eq h) → IsAmong eq few.items old
+  among_old few y there = few.cover y (omega (arith, positive_from_tracked eq old.counters y ok.positive (sym (is_tracked-keys eq old.counters y) ∙ there), s.at_least y))
 
-  among_other : (few : List T) → Covers eq few g → All (λ p. list_any (eq p.0) few ≡ true) other.counters
-  among_other few covers = All-weaker (λ (p : T × ℕ). list_any (eq p.0) (keys_of other.counters) ≡ true) (λ p. list_any (eq p.0) few ≡ true) (λ p there. covers p.0 (omega (arith, positive_from_tracked eq other.counters p.0 other_ok.positive there, t.at_least p.0))) other.counters (keys_found laws other.counters)
+  among_other : (few : HasFewItems eq g) → All (λ p. list_any (eq p.0) few.items ≡ true) other.counters
+  among_other few = All-weaker (λ (p : T × ℕ). list_any (eq p.0) (keys_of other.counters) ≡ true) (λ p. list_any (eq p.0) few.items ≡ true) (λ p there. few.cover p.0 (omega (arith, positive_from_tracked eq other.counters p.0 other_ok.positive there, t.at_least p.0))) other.counters (keys_found laws other.counters)
 
   -- what a join leaves stands for both histories
   stands_joined : AddsAll eq old other new → StandsFor eq new (Merge h g)
@@ -190,14 +197,14 @@ module _ {T : Type 0} {eq : T → T → Bool} (laws : IsEquivalence eq) (old oth
         total = omega (arith, j.total, s.total, t.total);
         at_least = λ y. omega (arith, moved y, r.low y, shared y, s.at_least y, t.at_least y);
         at_most = λ y. omega (arith, moved y, r.high y, shared y, s.at_most y, t.at_most y, j.left.error);
-        exact = λ few short covers.
-            let own_covers : Covers eq few h = λ y p. covers y (omega (arith, p)) in
-            let other_covers : Covers eq few g = λ y p. covers y (omega (arith, p)) in
-            let none = s.exact few (omega (arith, short)) own_covers in
-            let none' = t.exact few (omega (arith, short)) other_covers in
-            let here = All-permutation (λ p. list_any (eq p.0) few ≡ true) other.counters j.order j.whole (among_other few other_covers) in
-            let last = exact_run laws old j.last j.order ok (positive_in_order j) j.steps none few (omega (arith, short, least_le_own h, s.max_size)) (among_old few own_covers) here in
+        exact = λ few.
+            let none = s.exact (few_in_own h g few) in
+            let none' = t.exact (few_in_other h g few) in
+            let here = All-permutation (λ p. list_any (eq p.0) few.items ≡ true) other.counters j.order j.whole (among_other (few_in_other h g few)) in
+            let last = exact_run laws old j.last j.order ok (positive_in_order j) j.steps none few.items (omega (arith, few.fit, least_le_own h, s.max_size)) (among_old (few_in_own h g few)) here in
             omega (arith, j.left.error, last, none');
+        least = omega (arith, s.least, t.least);
+        power = lesser_power (least_size h) (least_size g) s.power t.power;
       }
 
   pub stands_merged : StandsFor eq new (Merge h g)
@@ -209,5 +216,7 @@ module _ {T : Type 0} {eq : T → T → Bool} (laws : IsEquivalence eq) (old oth
         total = omega (arith, s.total, t.total, none);
         at_least = λ y. omega (arith, s.at_least y);
         at_most = λ y. omega (arith, s.at_most y, true_le_total eq g y, t.total, none);
-        exact = λ few short covers. s.exact few (omega (arith, short)) (λ y p. covers y (omega (arith, p)));
+        exact = λ few. s.exact (few_in_own h g few);
+        least = omega (arith, s.least, t.least);
+        power = lesser_power (least_size h) (least_size g) s.power t.power;
       }))

@@ -4,12 +4,13 @@ use Rattle.std.specs.Cmp.{IsEquivalence}
 use Rattle.std.proofs.lemmas.Bool.{cases_lt, le-ltb}
 use Rattle.std.proofs.lemmas.Bool.Decides.{nat_tests}
 use Rattle.std.proofs.lemmas.List.Sorted.{length_permutation, IsPermutation-trans}
-use Rattle.sketch_frequencies.specs.Tables.{is_tracked, put, IsSampleMiddle}
+use Rattle.sketch_frequencies.specs.Tables.{Table, is_tracked, put, IsSampleMiddle}
 use Rattle.sketch_frequencies.specs.State.{FrequentState, IsState, capacity, sample_size, must_grow, must_double}
 use Rattle.sketch_frequencies.specs.Steps.{Steps}
 use Rattle.sketch_frequencies.specs.Growth.{MakesRoom, Adds}
 use Rattle.sketch_frequencies.proofs.Cases.{by_cases}
 use Rattle.sketch_frequencies.proofs.Puts.{length-put}
+use Rattle.sketch_frequencies.proofs.States.{adds_kept}
 use Rattle.sketch_frequencies.proofs.Orders.{put-permutation, purged-permutation, IsSampleMiddle-permutation}
 
 -- the table must grow where all its places are taken and it may
@@ -39,6 +40,10 @@ length_tracked eq es x w there = grind (arith, length-put eq es x w, there)
 -- a new one takes one
 pub length_new : {T : Type 0} (eq : T → T → Bool) (es : List (T × ℕ)) (x : T) (w : ℕ) → is_tracked eq es x ≡ false → length (put eq es x w) ≡ length es + 1
 length_new eq es x w new = grind (arith, length-put eq es x w, new)
+
+-- from what the table's call says of a tracked item
+pub adds_tracked : {T : Type 0} (eq : T → T → Bool) (old : FrequentState T) (x : T) (w : ℕ) (t : Table T) → IsState eq old → is_tracked eq old.counters x ≡ true → IsPermutation (put eq old.counters x w) t.entries → t.size ≡ old.size → Adds eq old x w (record { counters = t.entries; error = old.error; total = old.total + w; max_size = old.max_size; size = t.size })
+adds_tracked eq old x w t ok there p size = adds_kept eq old x w t p size (omega (arith, length_permutation (put eq old.counters x w) t.entries p, length_tracked eq old.counters x w there, ok.few, size))
 
 -- the step of a tracked item
 pub step_tracked : {T : Type 0} (eq : T → T → Bool) (old new : FrequentState T) (x : T) (w : ℕ) → IsState eq old → is_tracked eq old.counters x ≡ true → Adds eq old x w new → Steps eq old x w new

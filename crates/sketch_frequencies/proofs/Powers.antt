@@ -1,6 +1,6 @@
 -- A number with one bit set is a power of two.
 use Rattle.std.proofs.Common.{◌≡◌, ℕ, zero, suc, ◌*◌, ◌/◌, ◌%◌, ◌<◌, ◌≤◌, ◌^◌, ap, sym, subst, arith, refl}
-use Rattle.std.specs.Prelude.{IsTrue, count_ones, ◌==◌}
+use Rattle.std.specs.Prelude.{IsTrue, count_ones, min, ◌==◌}
 use Rattle.std.proofs.Math.Pow.{pow_mono}
 use Rattle.std.proofs.lemmas.Bool.{cases_lt, eqb-true}
 use Rattle.std.proofs.lemmas.Nat.{zero_from_ones, pow_pos}
@@ -52,6 +52,13 @@ doubled_fits s m p q h =
     by_cases (cases_lt a.0 b.0)
     (λ below. let up : 2 ^ suc a.0 ≤ 2 ^ b.0 = pow_mono (omega (arith, below)) in omega (arith, up, a.1, b.1, pow_twice a.0))
     (λ above. let down : 2 ^ b.0 ≤ 2 ^ a.0 = pow_mono above in absurd (omega (arith, down, a.1, b.1, h)))
+
+-- the lesser of two is one
+pub lesser_power : (m n : ℕ) → IsTrue (is_power_of_two m) → IsTrue (is_power_of_two n) → IsTrue (is_power_of_two (min m n))
+lesser_power m n p q =
+    by_cases (cases_lt m n)
+    (λ below. let same : m ≡ min m n = omega (arith, below) in subst (λ (k : ℕ). IsTrue (is_power_of_two k)) same p)
+    (λ above. let same : n ≡ min m n = omega (arith, above) in subst (λ (k : ℕ). IsTrue (is_power_of_two k)) same q)
 
 -- the greatest power of two in a power of two is itself
 pub greatest_power : (n r : ℕ) → IsTrue (is_power_of_two n) → 2 ^ r ≤ n → n < 2 * 2 ^ r → 2 ^ r ≡ n

@@ -18,15 +18,15 @@ untracked_count : {T : Type 0} (eq : T → T → Bool) (s : FrequentState T) (x 
 untracked_count eq s x some = some_from_count (lookup (eq x) s.counters) (λ none. absurd (omega (arith, some, none)))
 
 -- an item of a true weight above the threshold and the error is tracked, and its upper bound is above them
-pub misses_none : {T : Type 0} (eq : T → T → Bool) (kind : ErrorType) (threshold : ℕ) (s : FrequentState T) (rows : List (RowValue T)) → kind ≡ NoFalseNegatives → ShowsExactly eq kind threshold s rows → (h : FrequentHistory T) → StandsFor eq s h → MissesNone eq (max threshold s.error) h rows
-misses_none eq kind threshold s rows is exact h stands = λ x heavy.
+pub misses_none : {T : Type 0} (eq : T → T → Bool) (kind : ErrorType) (threshold : ℕ) (s : FrequentState T) (rows : List (RowValue T)) → kind ≡ NoFalseNegatives → ShowsExactly eq kind threshold s rows → MissesNone eq threshold s rows
+misses_none eq kind threshold s rows is exact = λ h stands x heavy.
     let some : 0 < count_of eq s.counters x = omega (arith, heavy, stands.at_most x) in
     let pass : passes NoFalseNegatives threshold s (count_of eq s.counters x) ≡ true = lt-ltb _ _ (omega (arith, heavy, stands.at_most x)) in
     exact.whole x (untracked_count eq s x some) (ap (λ k. passes k threshold s (count_of eq s.counters x)) is ∙ pass)
 
 -- an item whose lower bound is above them has such a true weight
-pub shows_none_below : {T : Type 0} (eq : T → T → Bool) (kind : ErrorType) (threshold : ℕ) (s : FrequentState T) (rows : List (RowValue T)) → kind ≡ NoFalsePositives → ShowsExactly eq kind threshold s rows → (h : FrequentHistory T) → StandsFor eq s h → ShowsNoneBelow eq (max threshold s.error) h rows
-shows_none_below {T} eq kind threshold s rows is exact h stands =
+pub shows_none_below : {T : Type 0} (eq : T → T → Bool) (kind : ErrorType) (threshold : ℕ) (s : FrequentState T) (rows : List (RowValue T)) → kind ≡ NoFalsePositives → ShowsExactly eq kind threshold s rows → ShowsNoneBelow eq threshold s rows
+shows_none_below {T} eq kind threshold s rows is exact = λ h stands.
     All-weaker (Shows eq kind threshold s) (λ (row : RowValue T). max threshold s.error < true_weight eq h row.item)
     (λ row shown.
     let pass : passes NoFalsePositives threshold s (count_of eq s.counters row.item) ≡ true = ap (λ k. passes k threshold s (count_of eq s.counters row.item)) (sym is) ∙ shown.passing in

@@ -77,7 +77,7 @@ adds_kept eq old x w t p size few = record {
   purge = λ over. absurd (omega (arith, over, few, length_permutation (put eq old.counters x w) t.entries p, size));
 }
 
-pub adds_purged : {T : Type 0} (eq : T → T → Bool) (old : FrequentState T) (x : T) (w : ℕ) (t u : Table T) (m n : ℕ) → IsPermutation (put eq old.counters x w) t.entries → t.size ≡ old.size → capacity t.size < length t.entries → old.size ≡ old.max_size → n ≡ sample_size old.max_size → IsSampleMiddle (min n (min (length t.entries) 1024)) t.entries m → IsPermutation (purged m t.entries) u.entries → u.size ≡ t.size → Adds eq old x w (record { counters = u.entries; error = old.error + m; total = old.total + w; max_size = old.max_size; size = u.size })
+pub adds_purged : {T : Type 0} (eq : T → T → Bool) (old : FrequentState T) (x : T) (w : ℕ) (t u : Table T) (m n : ℕ) → IsPermutation (put eq old.counters x w) t.entries → t.size ≡ old.size → capacity t.size < length t.entries → old.size ≡ old.max_size → n ≡ capacity old.max_size → IsSampleMiddle (min n (min (length t.entries) 1024)) t.entries m → IsPermutation (purged m t.entries) u.entries → u.size ≡ t.size → Adds eq old x w (record { counters = u.entries; error = old.error + m; total = old.total + w; max_size = old.max_size; size = u.size })
 adds_purged {T} eq old x w t u m n p size over same sample middle q size' =
     let c1 = put eq old.counters x w in
     let is : min n (min (length t.entries) 1024) ≡ sample_size old.max_size = omega (arith, size, over, same, sample) in

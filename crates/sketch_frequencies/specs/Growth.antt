@@ -13,15 +13,20 @@ pub record MakesRoom {T : Type 0} (old new : FrequentState T) : Type 0 where
   pub doubled : must_grow old ≡ true → new.size ≡ 2 * old.size
   pub stays : must_grow old ≡ false → new.size ≡ old.size
 
--- new is old after w was added at x, purged where that was one counter too many
-pub record Adds {T : Type 0} (eq : T → T → Bool) (old : FrequentState T) (x : T) (w : ℕ) (new : FrequentState T) : Type 0 where
-  pub total : new.total ≡ old.total + w
-  pub max_size : new.max_size ≡ old.max_size
-  pub kept : length (put eq old.counters x w) ≤ capacity old.size → Becomes (put eq old.counters x w) old.error old.size new
-  pub purge : capacity old.size < length (put eq old.counters x w) → Purges old (put eq old.counters x w) new
+module _ {T : Type 0} (eq : T → T → Bool) where
+  -- new is old after w was added at x, purged where that was one counter too many
+  pub record Adds (old : FrequentState T) (x : T) (w : ℕ) (new : FrequentState T) : Type 0 where
+    pub total : new.total ≡ old.total + w
+    pub max_size : new.max_size ≡ old.max_size
+    pub kept :
+        length (put eq old.counters x w) ≤ capacity old.size →
+        Becomes (put eq old.counters x w) old.error old.size new
+    pub purge :
+        capacity old.size < length (put eq old.counters x w) →
+        Purges old (put eq old.counters x w) new
 
--- the counters were added, one after another, with items equal to theirs
-pub record AddsCounters {T : Type 0} (eq : T → T → Bool) (old : FrequentState T) (counters : List (T × ℕ)) (new : FrequentState T) : Type 0 where
-  pub order : List (T × ℕ)
-  pub same : IsSameMap eq counters order
-  pub steps : StepsAlong eq old order new
+  -- the counters were added, one after another, with items equal to theirs
+  pub record AddsCounters (old : FrequentState T) (counters : List (T × ℕ)) (new : FrequentState T) : Type 0 where
+    pub order : List (T × ℕ)
+    pub same : IsSameMap eq counters order
+    pub steps : StepsAlong eq old order new

@@ -1,8 +1,10 @@
 -- What was fed into a frequent-items sketch.
-use Rattle.std.specs.Prelude.{ℕ, ◌+◌, ◌*◌, ◌/◌, min, Bool, cond, List}
+use Rattle.std.specs.Prelude.{ℕ, ◌+◌, ◌/◌, min, Bool, cond, List}
 use Rattle.std.specs.List.{list_any}
+use Rattle.sketch_frequencies.specs.State.{sample_size}
 
--- a new sketch of this greatest size, a weight above 0 added at an item, another sketch merged in, all cleared, or the sketch as its image gave it back
+-- a new sketch of this greatest size, a weight above 0 added at an item, another sketch merged in, all cleared, or the
+-- sketch as its image gave it back
 pub data FrequentHistory (T : Type 0) : Type 0 where
   New : ℕ → FrequentHistory T
   Update : FrequentHistory T → T → ℕ → FrequentHistory T
@@ -10,46 +12,48 @@ pub data FrequentHistory (T : Type 0) : Type 0 where
   Reset : FrequentHistory T → FrequentHistory T
   Restored : FrequentHistory T → FrequentHistory T
 
--- the true weight of an item: what was added at items equal to it
-abbrev pub true_weight : {T : Type 0} → (T → T → Bool) → FrequentHistory T → T → ℕ
-true_weight eq (New m) y = 0
-true_weight eq (Update h x w) y = true_weight eq h y + cond (eq x y) w 0
-true_weight eq (Merge h g) y = true_weight eq h y + true_weight eq g y
-true_weight eq (Reset h) y = 0
-true_weight eq (Restored h) y = true_weight eq h y
+module _ {T : Type 0} (eq : T → T → Bool) where
+  -- the true weight of an item: what was added at items equal to it
+  abbrev pub true_weight : FrequentHistory T → T → ℕ
+  true_weight (New m) y = 0
+  true_weight (Update h x w) y = true_weight h y + cond (eq x y) w 0
+  true_weight (Merge h g) y = true_weight h y + true_weight g y
+  true_weight (Reset h) y = 0
+  true_weight (Restored h) y = true_weight h y
 
--- the weight of all items
-abbrev pub total_weight : {T : Type 0} → FrequentHistory T → ℕ
-total_weight (New m) = 0
-total_weight (Update h x w) = total_weight h + w
-total_weight (Merge h g) = total_weight h + total_weight g
-total_weight (Reset h) = 0
-total_weight (Restored h) = total_weight h
+  -- the weight of the items that are equal to none of the set
+  abbrev pub weight_outside : List T → FrequentHistory T → ℕ
+  weight_outside set (New m) = 0
+  weight_outside set (Update h x w) = weight_outside set h + cond (list_any (eq x) set) 0 w
+  weight_outside set (Merge h g) = weight_outside set h + weight_outside set g
+  weight_outside set (Reset h) = 0
+  weight_outside set (Restored h) = weight_outside set h
 
--- the weight of the items that are equal to none of the set
-abbrev pub weight_outside : {T : Type 0} → (T → T → Bool) → List T → FrequentHistory T → ℕ
-weight_outside eq set (New m) = 0
-weight_outside eq set (Update h x w) = weight_outside eq set h + cond (list_any (eq x) set) 0 w
-weight_outside eq set (Merge h g) = weight_outside eq set h + weight_outside eq set g
-weight_outside eq set (Reset h) = 0
-weight_outside eq set (Restored h) = weight_outside eq set h
+module _ {T : Type 0} where
+  -- the weight of all items
+  abbrev pub total_weight : FrequentHistory T → ℕ
+  total_weight (New m) = 0
+  total_weight (Update h x w) = total_weight h + w
+  total_weight (Merge h g) = total_weight h + total_weight g
+  total_weight (Reset h) = 0
+  total_weight (Restored h) = total_weight h
 
--- the sketch's own greatest table size
-abbrev pub own_size : {T : Type 0} → FrequentHistory T → ℕ
-own_size (New m) = m
-own_size (Update h x w) = own_size h
-own_size (Merge h g) = own_size h
-own_size (Reset h) = own_size h
-own_size (Restored h) = own_size h
+  -- the sketch's own greatest table size
+  abbrev pub own_size : FrequentHistory T → ℕ
+  own_size (New m) = m
+  own_size (Update h x w) = own_size h
+  own_size (Merge h g) = own_size h
+  own_size (Reset h) = own_size h
+  own_size (Restored h) = own_size h
 
--- the least greatest table size that took part since the last reset
-abbrev pub least_size : {T : Type 0} → FrequentHistory T → ℕ
-least_size (New m) = m
-least_size (Update h x w) = least_size h
-least_size (Merge h g) = min (least_size h) (least_size g)
-least_size (Reset h) = own_size h
-least_size (Restored h) = least_size h
+  -- the least greatest table size that took part since the last reset
+  abbrev pub least_size : FrequentHistory T → ℕ
+  least_size (New m) = m
+  least_size (Update h x w) = least_size h
+  least_size (Merge h g) = min (least_size h) (least_size g)
+  least_size (Reset h) = own_size h
+  least_size (Restored h) = least_size h
 
--- how many items may be set aside in the tail budget: half of what a purge of the least size samples
-abbrev pub budget_size : {T : Type 0} → FrequentHistory T → ℕ
-budget_size h = min 1024 (3 * least_size h / 4) / 2
+  -- how many items may be set aside in the tail budget: half of what a purge of the least size samples
+  abbrev pub budget_size : FrequentHistory T → ℕ
+  budget_size h = sample_size (least_size h) / 2

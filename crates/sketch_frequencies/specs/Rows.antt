@@ -4,6 +4,7 @@ use Rattle.std.specs.List.{list_any, IsDistinct}
 use Rattle.sketch_frequencies.specs.Above.{is_above}
 use Rattle.sketch_frequencies.specs.History.{FrequentHistory, true_weight}
 use Rattle.sketch_frequencies.specs.RowValue.{RowValue}
+use Rattle.sketch_frequencies.specs.Stands.{StandsFor}
 use Rattle.sketch_frequencies.specs.State.{FrequentState, estimate_of}
 use Rattle.sketch_frequencies.specs.Tables.{count_of, is_tracked}
 use Rattle.sketch_frequencies.specs.declared.error_type.ErrorType.{ErrorType}
@@ -12,28 +13,36 @@ use Rattle.sketch_frequencies.specs.declared.error_type.ErrorType.{ErrorType}
 abbrev pub passes : {T : Type 0} → ErrorType → ℕ → FrequentState T → ℕ → Bool
 passes kind threshold s count = is_above kind (max threshold s.error) count (count + s.error)
 
--- the row shows a tracked item that passes, with the sketch's own estimate and bounds
-pub record Shows {T : Type 0} (eq : T → T → Bool) (kind : ErrorType) (threshold : ℕ) (s : FrequentState T) (row : RowValue T) : Type 0 where
-  pub tracked : is_tracked eq s.counters row.item ≡ true
-  pub passing : passes kind threshold s (count_of eq s.counters row.item) ≡ true
-  pub estimate : row.estimate ≡ estimate_of eq s row.item
-  pub upper_bound : row.upper_bound ≡ count_of eq s.counters row.item + s.error
-  pub lower_bound : row.lower_bound ≡ count_of eq s.counters row.item
-
--- the rows are exactly the tracked items that pass, each once
-pub record ShowsExactly {T : Type 0} (eq : T → T → Bool) (kind : ErrorType) (threshold : ℕ) (s : FrequentState T) (rows : List (RowValue T)) : Type 0 where
-  pub shown : All (Shows eq kind threshold s) rows
-  pub once : IsDistinct eq (map (λ row. row.item) rows)
-  pub whole : (x : T) → is_tracked eq s.counters x ≡ true → passes kind threshold s (count_of eq s.counters x) ≡ true → list_any (λ row. eq x row.item) rows ≡ true
-
 -- no estimate is above the one before it
 abbrev pub Descends : {T : Type 0} → List (RowValue T) → Type 0
 Descends {T} rows = AllPairs (λ (earlier later : RowValue T). later.estimate ≤ earlier.estimate) rows
 
--- no item of a true weight above the threshold and the error is missing
-abbrev pub MissesNone : {T : Type 0} → (T → T → Bool) → ℕ → FrequentHistory T → List (RowValue T) → Type 0
-MissesNone {T} eq floor h rows = (x : T) → floor < true_weight eq h x → list_any (λ row. eq x row.item) rows ≡ true
+module _ {T : Type 0} (eq : T → T → Bool) where
+  -- the row shows a tracked item that passes, with the sketch's own estimate and bounds
+  pub record Shows (kind : ErrorType) (threshold : ℕ) (s : FrequentState T) (row : RowValue T) : Type 0 where
+    pub tracked : is_tracked eq s.counters row.item ≡ true
+    pub passing : passes kind threshold s (count_of eq s.counters row.item) ≡ true
+    pub estimate : row.estimate ≡ estimate_of eq s row.item
+    pub upper_bound : row.upper_bound ≡ count_of eq s.counters row.item + s.error
+    pub lower_bound : row.lower_bound ≡ count_of eq s.counters row.item
 
--- every item that is shown has a true weight above the threshold and the error
-abbrev pub ShowsNoneBelow : {T : Type 0} → (T → T → Bool) → ℕ → FrequentHistory T → List (RowValue T) → Type 0
-ShowsNoneBelow eq floor h rows = All (λ row. floor < true_weight eq h row.item) rows
+  -- the rows are exactly the tracked items that pass, each once
+  pub record ShowsExactly (kind : ErrorType) (threshold : ℕ) (s : FrequentState T) (rows : List (RowValue T))
+      : Type 0 where
+    pub shown : All (Shows kind threshold s) rows
+    pub once : IsDistinct eq (map (λ row. row.item) rows)
+    pub whole :
+        (x : T) → is_tracked eq s.counters x ≡ true → passes kind threshold s (count_of eq s.counters x) ≡ true →
+        list_any (λ row. eq x row.item) rows ≡ true
+
+  -- whatever the sketch stands for, no item of a true weight above the threshold and the error is missing
+  abbrev pub MissesNone : ℕ → FrequentState T → List (RowValue T) → Type 0
+  MissesNone threshold s rows =
+      (h : FrequentHistory T) → StandsFor eq s h → (x : T) → max threshold s.error < true_weight eq h x →
+      list_any (λ row. eq x row.item) rows ≡ true
+
+  -- whatever the sketch stands for, every item that is shown has a true weight above the threshold and the error
+  abbrev pub ShowsNoneBelow : ℕ → FrequentState T → List (RowValue T) → Type 0
+  ShowsNoneBelow threshold s rows =
+      (h : FrequentHistory T) → StandsFor eq s h →
+      All (λ row. max threshold s.error < true_weight eq h row.item) rows

@@ -6,4 +6,7 @@ use Rattle.sketch_base.specs.declared.fault.Fault.TheVariants.{MapSizeNotPowerOf
 
 -- what is wrong with a greatest size, if anything: it is a power of two from 8 to 2 ^ 30
 abbrev pub size_fault : ℕ → Option Fault
-size_fault n = if not (is_power_of_two n) then Some MapSizeNotPowerOfTwo else (if nat_lt n 8 then Some MapSizeTooSmall else (if nat_lt (2 ^ 30) n then Some MapSizeTooLarge else None))
+size_fault n =
+    if not (is_power_of_two n) then Some MapSizeNotPowerOfTwo
+    else (if nat_lt n 8 then Some MapSizeTooSmall
+    else (if nat_lt (2 ^ 30) n then Some MapSizeTooLarge else None))

@@ -3,7 +3,7 @@ use Rattle.std.specs.Prelude.{◌≡◌, ℕ, ◌+◌, ◌*◌, ◌/◌, ◌^◌
 use Rattle.std.specs.Int.{is_power_of_two}
 use Rattle.std.specs.List.{IsDistinct}
 use Rattle.std.specs.Map.{keys_of}
-use Rattle.sketch_frequencies.specs.Tables.{count_of, is_tracked, sum_of}
+use Rattle.sketch_frequencies.specs.Tables.{Table, count_of, is_tracked, sum_of}
 
 -- the counters in some order, the error, the total, and the greatest and the current size of the table
 pub record FrequentState (T : Type 0) : Type 0 where
@@ -13,6 +13,11 @@ pub record FrequentState (T : Type 0) : Type 0 where
   pub max_size : ℕ
   pub size : ℕ
 
+-- the counters of a table, with the other numbers
+abbrev pub state_of : {T : Type 0} → Table T → ℕ → ℕ → ℕ → FrequentState T
+state_of map error total max_size =
+    record { counters = map.entries; error = error; total = total; max_size = max_size; size = map.size }
+
 -- how many counters a table of this size may hold: three quarters
 abbrev pub capacity : ℕ → ℕ
 capacity size = size * 3 / 4
@@ -20,6 +25,14 @@ capacity size = size * 3 / 4
 -- how many counters a purge samples, by the greatest size
 abbrev pub sample_size : ℕ → ℕ
 sample_size max_size = min 1024 (capacity max_size)
+
+-- so much more weight would make the total pass the greatest `u64`
+abbrev pub Overflows : {T : Type 0} → FrequentState T → ℕ → Type 0
+Overflows s weight = 2 ^ 64 ≤ s.total + weight
+
+-- so much more weight fits
+abbrev pub Fits : {T : Type 0} → FrequentState T → ℕ → Type 0
+Fits s weight = s.total + weight < 2 ^ 64
 
 -- what holds of every sketch
 pub record IsState {T : Type 0} (eq : T → T → Bool) (s : FrequentState T) : Type 0 where

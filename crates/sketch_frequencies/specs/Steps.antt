@@ -3,67 +3,75 @@ use Rattle.std.specs.Prelude.{◌≡◌, ℕ, ◌+◌, ◌*◌, ◌<◌, ◌≤�
 use Rattle.sketch_frequencies.specs.Tables.{put, purged, IsSampleMiddle, IsSameMap}
 use Rattle.sketch_frequencies.specs.State.{FrequentState, capacity, sample_size}
 
--- these are the new sketch's counters, in some order, and its error and its size are e and n
-pub record Becomes {T : Type 0} (all : List (T × ℕ)) (e n : ℕ) (new : FrequentState T) : Type 0 where
-  pub counters : IsPermutation all new.counters
-  pub error : new.error ≡ e
-  pub size : new.size ≡ n
+module _ {T : Type 0} where
+  -- these are the new sketch's counters, in some order, and its error and its size are e and n
+  pub record Becomes (all : List (T × ℕ)) (e n : ℕ) (new : FrequentState T) : Type 0 where
+    pub counters : IsPermutation all new.counters
+    pub error : new.error ≡ e
+    pub size : new.size ≡ n
 
--- m stood in the middle of a sample: each count lost m, those at or below it went, and the error grew by m
-pub record Purges {T : Type 0} (old : FrequentState T) (all : List (T × ℕ)) (new : FrequentState T) : Type 0 where
-  pub m : ℕ
-  pub middle : IsSampleMiddle (sample_size old.max_size) all m
-  pub left : Becomes (purged m all) (old.error + m) old.size new
+  -- m stood in the middle of a sample: each count lost m, those at or below it went, and the error grew by m
+  pub record Purges (old : FrequentState T) (all : List (T × ℕ)) (new : FrequentState T) : Type 0 where
+    pub m : ℕ
+    pub middle : IsSampleMiddle (sample_size old.max_size) all m
+    pub left : Becomes (purged m all) (old.error + m) old.size new
 
--- new is old after the weight w above 0 was added at x
-pub record Steps {T : Type 0} (eq : T → T → Bool) (old : FrequentState T) (x : T) (w : ℕ) (new : FrequentState T) : Type 0 where
-  pub total : new.total ≡ old.total + w
-  pub max_size : new.max_size ≡ old.max_size
-  -- the counters fit
-  pub kept : length (put eq old.counters x w) ≤ capacity old.size → Becomes (put eq old.counters x w) old.error old.size new
-  -- they do not, and the table doubles
-  pub doubled : capacity old.size < length (put eq old.counters x w) → old.size < old.max_size → Becomes (put eq old.counters x w) old.error (2 * old.size) new
-  -- they do not, the table is at its greatest size, and is purged
-  pub purge : capacity old.size < length (put eq old.counters x w) → old.size ≡ old.max_size → Purges old (put eq old.counters x w) new
+module _ {T : Type 0} (eq : T → T → Bool) where
+  -- new is old after the weight w above 0 was added at x
+  pub record Steps (old : FrequentState T) (x : T) (w : ℕ) (new : FrequentState T) : Type 0 where
+    pub total : new.total ≡ old.total + w
+    pub max_size : new.max_size ≡ old.max_size
+    -- the counters fit
+    pub kept :
+        length (put eq old.counters x w) ≤ capacity old.size →
+        Becomes (put eq old.counters x w) old.error old.size new
+    -- they do not, and the table doubles
+    pub doubled :
+        capacity old.size < length (put eq old.counters x w) → old.size < old.max_size →
+        Becomes (put eq old.counters x w) old.error (2 * old.size) new
+    -- they do not, the table is at its greatest size, and is purged
+    pub purge :
+        capacity old.size < length (put eq old.counters x w) → old.size ≡ old.max_size →
+        Purges old (put eq old.counters x w) new
 
--- w was added at an item equal to x
-pub record StepsEqual {T : Type 0} (eq : T → T → Bool) (old : FrequentState T) (x : T) (w : ℕ) (new : FrequentState T) : Type 0 where
-  pub item : T
-  pub equal : eq x item ≡ true
-  pub step : Steps eq old item w new
+  -- w was added at an item equal to x
+  pub record StepsEqual (old : FrequentState T) (x : T) (w : ℕ) (new : FrequentState T) : Type 0 where
+    pub item : T
+    pub equal : eq x item ≡ true
+    pub step : Steps old item w new
 
--- a step for each pair, in turn
-abbrev pub StepsAlong : {T : Type 0} → (T → T → Bool) → FrequentState T → List (T × ℕ) → FrequentState T → Type 0
-StepsAlong eq old [] new = new ≡ old
-StepsAlong {T} eq old (p ∷ ps) new = (mid : FrequentState T) × Steps eq old p.0 p.1 mid × StepsAlong eq mid ps new
+  -- a step for each pair, in turn
+  abbrev pub StepsAlong : FrequentState T → List (T × ℕ) → FrequentState T → Type 0
+  StepsAlong old [] new = new ≡ old
+  StepsAlong old (p ∷ ps) new = (mid : FrequentState T) × Steps old p.0 p.1 mid × StepsAlong mid ps new
 
--- the other's counters were added in some order, and then its error and its total
-pub record AddsAll {T : Type 0} (eq : T → T → Bool) (old other new : FrequentState T) : Type 0 where
-  pub order : List (T × ℕ)
-  pub whole : IsPermutation other.counters order
-  pub last : FrequentState T
-  pub steps : StepsAlong eq old order last
-  pub left : Becomes last.counters (last.error + other.error) last.size new
-  pub total : new.total ≡ old.total + other.total
-  pub max_size : new.max_size ≡ old.max_size
+  -- the other's counters were added in some order, and then its error and its total
+  pub record AddsAll (old other new : FrequentState T) : Type 0 where
+    pub order : List (T × ℕ)
+    pub whole : IsPermutation other.counters order
+    pub last : FrequentState T
+    pub steps : StepsAlong old order last
+    pub left : Becomes last.counters (last.error + other.error) last.size new
+    pub total : new.total ≡ old.total + other.total
+    pub max_size : new.max_size ≡ old.max_size
 
--- new is old after the other was merged into it; an other into which nothing was fed changes nothing
-pub record Joins {T : Type 0} (eq : T → T → Bool) (old other new : FrequentState T) : Type 0 where
-  pub nothing : other.total ≡ 0 → new ≡ old
-  pub added : 0 < other.total → AddsAll eq old other new
+  -- new is old after the other was merged into it; an other into which nothing was fed changes nothing
+  pub record Joins (old other new : FrequentState T) : Type 0 where
+    pub nothing : other.total ≡ 0 → new ≡ old
+    pub added : 0 < other.total → AddsAll old other new
 
--- the same sketch, up to which of equal items it holds
-pub record IsSameState {T : Type 0} (eq : T → T → Bool) (s t : FrequentState T) : Type 0 where
-  pub counters : IsSameMap eq s.counters t.counters
-  pub error : t.error ≡ s.error
-  pub total : t.total ≡ s.total
-  pub max_size : t.max_size ≡ s.max_size
-  pub size : t.size ≡ s.size
+  -- the same sketch, up to which of equal items it holds
+  pub record IsSameState (s t : FrequentState T) : Type 0 where
+    pub counters : IsSameMap eq s.counters t.counters
+    pub error : t.error ≡ s.error
+    pub total : t.total ≡ s.total
+    pub max_size : t.max_size ≡ s.max_size
+    pub size : t.size ≡ s.size
 
--- the other was merged in, both with items equal to theirs
-pub record JoinsEqual {T : Type 0} (eq : T → T → Bool) (old other new : FrequentState T) : Type 0 where
-  pub own : FrequentState T
-  pub same_own : IsSameState eq old own
-  pub more : FrequentState T
-  pub same_more : IsSameState eq other more
-  pub join : Joins eq own more new
+  -- the other was merged in, both with items equal to theirs
+  pub record JoinsEqual (old other new : FrequentState T) : Type 0 where
+    pub own : FrequentState T
+    pub same_own : IsSameState old own
+    pub more : FrequentState T
+    pub same_more : IsSameState other more
+    pub join : Joins own more new

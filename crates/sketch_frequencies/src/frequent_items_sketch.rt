@@ -1,13 +1,13 @@
 //! The sketch of frequent items.
-ghost use Rattle.std.specs.Prelude.{◌≡◌, ℕ, ◌+◌, ◌*◌, ◌/◌, ◌<◌, ◌≤◌, ◌^◌, ◌↔◌, true, false, None, length, max, IfOk, IfErr, IsOk, IsTrue, OnOk, OnErr, IsErrOf};
+ghost use Rattle.std.specs.Prelude.{◌≡◌, ℕ, ◌+◌, ◌*◌, ◌<◌, ◌≤◌, ◌^◌, ◌↔◌, true, false, None, length, IfOk, IfErr, IsOk, IsTrue, OnOk, OnErr, IsErrOf};
 ghost use Rattle.sketch_base.specs.Errors.{invalid_argument, no_memory, refusal_of};
 ghost use Rattle.sketch_frequencies.specs.Growth.{MakesRoom, Adds, AddsCounters};
 ghost use Rattle.sketch_frequencies.specs.History.{FrequentHistory, least_size, total_weight};
 ghost use Rattle.sketch_frequencies.specs.History.FrequentHistory.{New, Update, Merge, Reset};
 ghost use Rattle.sketch_frequencies.specs.Rows.{ShowsExactly, Descends, MissesNone, ShowsNoneBelow};
 ghost use Rattle.sketch_frequencies.specs.Sizes.{size_fault};
-ghost use Rattle.sketch_frequencies.specs.Stands.{StandsFor, KeepsTailBudget, HasTableSize};
-ghost use Rattle.sketch_frequencies.specs.State.{IsState, capacity, empty_state, estimate_of, must_double, must_grow};
+ghost use Rattle.sketch_frequencies.specs.Stands.{StandsFor, KeepsTailBudget, Extends, ExtendsBudget, ExtendsBoth, ExtendsBothBudgets, IsLowerBound, IsUpperBound, IsExactOfFew};
+ghost use Rattle.sketch_frequencies.specs.State.{IsState, capacity, empty_state, estimate_of, must_double, must_grow, Overflows, Fits};
 ghost use Rattle.sketch_frequencies.specs.Steps.{Steps, StepsEqual, IsSameState, JoinsEqual};
 ghost use Rattle.sketch_frequencies.specs.Tables.{count_of, is_tracked, put, sum_of};
 
@@ -25,9 +25,6 @@ const LEAST_MAP_SIZE: usize = 8;
 /// The most slots that a table may have.
 const GREATEST_MAP_SIZE: usize = 1 << 30;
 
-/// The most counts that a purge samples.
-const MAX_SAMPLE_SIZE: usize = 1024;
-
 /// A sketch of the items that weigh most in a stream, in bounded memory.
 ///
 /// It keeps at most three quarters of its greatest table size in counters. Where one more would be too many, it takes
@@ -43,13 +40,13 @@ pub struct FrequentItemsSketch<T: Eq + Hash + Drop> {
 }
 
 impl<T: Eq + Hash + Drop> Model for FrequentItemsSketch<T> {
-    ghost use Rattle.sketch_frequencies.specs.State.{FrequentState, IsState};
+    ghost use Rattle.sketch_frequencies.specs.State.{FrequentState, IsState, state_of};
 
     ghost Value = { FrequentState T };
 
-    ghost view = { λ a. record { counters = a.map.entries; error = a.error; total = a.total; max_size = a.max_size; size = a.map.size } };
+    ghost view = { λ a. state_of a.map a.error a.total a.max_size };
 
-    ghost invariant = { λ a. IsState T.eq (record { counters = a.map.entries; error = a.error; total = a.total; max_size = a.max_size; size = a.map.size }) };
+    ghost invariant = { λ a. IsState T.eq (state_of a.map a.error a.total a.max_size) };
 }
 
 impl<T: Eq + Hash + Drop> FrequentItemsSketch<T> {
@@ -89,12 +86,12 @@ impl<T: Eq + Hash + Drop> FrequentItemsSketch<T> {
     pub fn update(&mut self, item: T) -> Result<(), Error>
         ensures step { OnOk result (Steps T.eq self.old item 1 self.new) }
         ensures state { IsState T.eq self.new }
-        ensures stands { OnOk result ((h : FrequentHistory T) → StandsFor T.eq self.old h → StandsFor T.eq self.new (Update h item 1)) }
-        ensures budget { OnOk result ((h : FrequentHistory T) → StandsFor T.eq self.old h → KeepsTailBudget T.eq self.old h → KeepsTailBudget T.eq self.new (Update h item 1)) }
+        ensures stands { OnOk result (Extends T.eq self.old self.new (λ h. Update h item 1)) }
+        ensures budget { OnOk result (ExtendsBudget T.eq self.old self.new (λ h. Update h item 1)) }
         ensures err { OnErr result (self.new ≡ self.old) }
-        ensures overflow { 2 ^ 64 ≤ self.old.total + 1 → IsErrOf result (invalid_argument Fault.WeightOverflow) }
-        ensures memory { self.old.total + 1 < 2 ^ 64 → IfErr result (λ e. e ≡ no_memory) }
-        ensures succeeds { self.old.total + 1 < 2 ^ 64 → must_double T.eq self.old item ≡ false → IsOk result }
+        ensures overflow { Overflows self.old 1 → IsErrOf result (invalid_argument Fault.WeightOverflow) }
+        ensures memory { Fits self.old 1 → IfErr result (λ e. e ≡ no_memory) }
+        ensures succeeds { Fits self.old 1 → must_double T.eq self.old item ≡ false → IsOk result }
     {
         self.update_with_count(item, 1)
     }
@@ -112,14 +109,14 @@ impl<T: Eq + Hash + Drop> FrequentItemsSketch<T> {
         ensures state { IsState T.eq self.new }
 
         // What stood for a history stands for the extended one, and keeps its tail budget.
-        ensures stands { OnOk result (0 < count → (h : FrequentHistory T) → StandsFor T.eq self.old h → StandsFor T.eq self.new (Update h item count)) }
-        ensures budget { OnOk result (0 < count → (h : FrequentHistory T) → StandsFor T.eq self.old h → KeepsTailBudget T.eq self.old h → KeepsTailBudget T.eq self.new (Update h item count)) }
+        ensures stands { OnOk result (0 < count → Extends T.eq self.old self.new (λ h. Update h item count)) }
+        ensures budget { OnOk result (0 < count → ExtendsBudget T.eq self.old self.new (λ h. Update h item count)) }
 
-        // A refusal changes nothing. Want of memory stands only where the table must double.
+        // A refusal changes nothing. Memory is refused only where the table must double.
         ensures err { OnErr result (self.new ≡ self.old) }
-        ensures overflow { 2 ^ 64 ≤ self.old.total + count → IsErrOf result (invalid_argument Fault.WeightOverflow) }
-        ensures memory { self.old.total + count < 2 ^ 64 → IfErr result (λ e. e ≡ no_memory) }
-        ensures succeeds { self.old.total + count < 2 ^ 64 → must_double T.eq self.old item ≡ false → IsOk result }
+        ensures overflow { Overflows self.old count → IsErrOf result (invalid_argument Fault.WeightOverflow) }
+        ensures memory { Fits self.old count → IfErr result (λ e. e ≡ no_memory) }
+        ensures succeeds { Fits self.old count → must_double T.eq self.old item ≡ false → IsOk result }
     {
         if count > u64::MAX - self.total {
             return Err(Error::new(ErrorKind::InvalidArgument, Fault::WeightOverflow));
@@ -130,8 +127,7 @@ impl<T: Eq + Hash + Drop> FrequentItemsSketch<T> {
         if self.adjust(&item, count) {
             return Ok(());
         }
-        self.make_room()?;
-        self.insert(item, count);
+        self.track(item, count)?;
         Ok(())
     }
 
@@ -142,12 +138,12 @@ impl<T: Eq + Hash + Drop> FrequentItemsSketch<T> {
         requires clones { (x y : T) → T.is_clone x y → IsTrue (T.eq x y) }
         ensures step { OnOk result (StepsEqual T.eq self.old item.now 1 self.new) }
         ensures state { IsState T.eq self.new }
-        ensures stands { OnOk result ((h : FrequentHistory T) → StandsFor T.eq self.old h → StandsFor T.eq self.new (Update h item.now 1)) }
-        ensures budget { OnOk result ((h : FrequentHistory T) → StandsFor T.eq self.old h → KeepsTailBudget T.eq self.old h → KeepsTailBudget T.eq self.new (Update h item.now 1)) }
+        ensures stands { OnOk result (Extends T.eq self.old self.new (λ h. Update h item.now 1)) }
+        ensures budget { OnOk result (ExtendsBudget T.eq self.old self.new (λ h. Update h item.now 1)) }
         ensures err { OnErr result (self.new ≡ self.old) }
-        ensures overflow { 2 ^ 64 ≤ self.old.total + 1 → IsErrOf result (invalid_argument Fault.WeightOverflow) }
-        ensures memory { self.old.total + 1 < 2 ^ 64 → IfErr result (λ e. e ≡ no_memory) }
-        ensures succeeds { self.old.total + 1 < 2 ^ 64 → is_tracked T.eq self.old.counters item.now ≡ true → IsOk result }
+        ensures overflow { Overflows self.old 1 → IsErrOf result (invalid_argument Fault.WeightOverflow) }
+        ensures memory { Fits self.old 1 → IfErr result (λ e. e ≡ no_memory) }
+        ensures succeeds { Fits self.old 1 → is_tracked T.eq self.old.counters item.now ≡ true → IsOk result }
     {
         self.update_with_count_ref(item, 1)
     }
@@ -157,9 +153,9 @@ impl<T: Eq + Hash + Drop> FrequentItemsSketch<T> {
     ///
     /// # Errors
     ///
-    /// `WeightOverflow` where the weight of all items would pass the greatest `u64`, and `NoMemory` where the item is not
-    /// tracked and there is no memory for its clone, or for a table of twice the size where it must double. The sketch is
-    /// then as it was.
+    /// `WeightOverflow` where the weight of all items would pass the greatest `u64`, and `NoMemory` where the item is
+    /// not tracked and there is no memory for its clone, or for a table of twice the size where it must double. The
+    /// sketch is then as it was.
     pub fn update_with_count_ref(&mut self, item: &T, count: u64) -> Result<(), Error>
     where
         T: Clone,
@@ -169,16 +165,16 @@ impl<T: Eq + Hash + Drop> FrequentItemsSketch<T> {
         ensures state { IsState T.eq self.new }
 
         // What stood for a history stands for the extended one, and keeps its tail budget.
-        ensures stands { OnOk result (0 < count → (h : FrequentHistory T) → StandsFor T.eq self.old h → StandsFor T.eq self.new (Update h item.now count)) }
-        ensures budget { OnOk result (0 < count → (h : FrequentHistory T) → StandsFor T.eq self.old h → KeepsTailBudget T.eq self.old h → KeepsTailBudget T.eq self.new (Update h item.now count)) }
+        ensures stands { OnOk result (0 < count → Extends T.eq self.old self.new (λ h. Update h item.now count)) }
+        ensures budget { OnOk result (0 < count → ExtendsBudget T.eq self.old self.new (λ h. Update h item.now count)) }
 
-        // A refusal changes nothing. Want of memory stands only for an item that is not tracked.
+        // A refusal changes nothing. Memory is refused only for an item that is not tracked.
         ensures err { OnErr result (self.new ≡ self.old) }
-        ensures overflow { 2 ^ 64 ≤ self.old.total + count → IsErrOf result (invalid_argument Fault.WeightOverflow) }
-        ensures memory { self.old.total + count < 2 ^ 64 → IfErr result (λ e. e ≡ no_memory) }
-        ensures succeeds { self.old.total + count < 2 ^ 64 → is_tracked T.eq self.old.counters item.now ≡ true → IsOk result }
+        ensures overflow { Overflows self.old count → IsErrOf result (invalid_argument Fault.WeightOverflow) }
+        ensures memory { Fits self.old count → IfErr result (λ e. e ≡ no_memory) }
+        ensures succeeds { Fits self.old count → is_tracked T.eq self.old.counters item.now ≡ true → IsOk result }
     {
-        if self.total > u64::MAX - count {
+        if count > u64::MAX - self.total {
             return Err(Error::new(ErrorKind::InvalidArgument, Fault::WeightOverflow));
         }
         if count == 0 {
@@ -187,17 +183,16 @@ impl<T: Eq + Hash + Drop> FrequentItemsSketch<T> {
         if self.adjust(item, count) {
             return Ok(());
         }
-        let twin = item.clone()?;
-        self.make_room()?;
-        self.insert(twin, count);
+        let cloned = item.clone()?;
+        self.track(cloned, count)?;
         Ok(())
     }
 
     /// Merges another sketch into this one, which then stands for both streams and keeps its own greatest size.
     ///
-    /// Each counter of the other is added as an update, in an order that is left open, and then its error and its total.
-    /// The result is built aside and put in place at the end. An other into which nothing was fed changes nothing and
-    /// takes no memory. Clones of the items have to equal them.
+    /// Each counter of the other is added as an update, in an order that is left open, and then its error and its
+    /// total. The result is built aside and put in place at the end. An other into which nothing was fed changes
+    /// nothing and takes no memory. Clones of the items have to equal them.
     ///
     /// # Errors
     ///
@@ -212,13 +207,13 @@ impl<T: Eq + Hash + Drop> FrequentItemsSketch<T> {
         ensures state { IsState T.eq self.new }
 
         // What stood for two histories stands for the merged one, and keeps its tail budget.
-        ensures stands { OnOk result ((h g : FrequentHistory T) → StandsFor T.eq self.old h → StandsFor T.eq other.now g → StandsFor T.eq self.new (Merge h g)) }
-        ensures budget { OnOk result ((h g : FrequentHistory T) → StandsFor T.eq self.old h → StandsFor T.eq other.now g → KeepsTailBudget T.eq self.old h → KeepsTailBudget T.eq other.now g → KeepsTailBudget T.eq self.new (Merge h g)) }
+        ensures stands { OnOk result (ExtendsBoth T.eq self.old other.now self.new Merge) }
+        ensures budget { OnOk result (ExtendsBothBudgets T.eq self.old other.now self.new Merge) }
 
         // A refusal changes nothing.
         ensures err { OnErr result (self.new ≡ self.old) }
-        ensures overflow { 2 ^ 64 ≤ self.old.total + other.now.total → IsErrOf result (invalid_argument Fault.WeightOverflow) }
-        ensures memory { self.old.total + other.now.total < 2 ^ 64 → IfErr result (λ e. e ≡ no_memory) }
+        ensures overflow { Overflows self.old other.now.total → IsErrOf result (invalid_argument Fault.WeightOverflow) }
+        ensures memory { Fits self.old other.now.total → IfErr result (λ e. e ≡ no_memory) }
     {
         if other.total > u64::MAX - self.total {
             return Err(Error::new(ErrorKind::InvalidArgument, Fault::WeightOverflow));
@@ -238,8 +233,8 @@ impl<T: Eq + Hash + Drop> FrequentItemsSketch<T> {
     pub fn reset(&mut self)
         ensures empty { self.new ≡ empty_state self.old.max_size }
         ensures state { IsState T.eq self.new }
-        ensures stands { (h : FrequentHistory T) → StandsFor T.eq self.old h → StandsFor T.eq self.new (Reset h) }
-        ensures budget { (h : FrequentHistory T) → StandsFor T.eq self.old h → KeepsTailBudget T.eq self.new (Reset h) }
+        ensures stands { Extends T.eq self.old self.new Reset }
+        ensures budget { (h : FrequentHistory T) → KeepsTailBudget T.eq self.new (Reset h) }
     {
         self.map.clear(LEAST_MAP_SIZE);
         self.error = 0;
@@ -247,10 +242,14 @@ impl<T: Eq + Hash + Drop> FrequentItemsSketch<T> {
     }
 
     /// The best single guess of the item's weight: its count and the error where it is tracked, else 0.
+    ///
+    /// It is the true weight where no more distinct items came than three quarters of the greatest table size, the
+    /// least of all that took part.
     pub fn estimate(&self, item: &T) -> u64
-        ensures { result ≡ estimate_of T.eq self.now item.now }
+        ensures value { result ≡ estimate_of T.eq self.now item.now }
+        ensures exact { IsExactOfFew T.eq self.now item.now result }
     {
-        // the sum is at most the total, which fits
+        // for the prover: the sum is at most the total, which fits
         let _total = self.total;
         let count = self.map.get(item);
         if count == 0 { 0 } else { count + self.error }
@@ -258,16 +257,18 @@ impl<T: Eq + Hash + Drop> FrequentItemsSketch<T> {
 
     /// A bound that the item's true weight reaches: its count, or 0 where it is not tracked.
     pub fn lower_bound(&self, item: &T) -> u64
-        ensures { result ≡ count_of T.eq self.now.counters item.now }
+        ensures value { result ≡ count_of T.eq self.now.counters item.now }
+        ensures bound { IsLowerBound T.eq self.now item.now result }
     {
         self.map.get(item)
     }
 
     /// A bound that the item's true weight does not pass: its count, or 0 where it is not tracked, and the error.
     pub fn upper_bound(&self, item: &T) -> u64
-        ensures { result ≡ count_of T.eq self.now.counters item.now + self.now.error }
+        ensures value { result ≡ count_of T.eq self.now.counters item.now + self.now.error }
+        ensures bound { IsUpperBound T.eq self.now item.now result }
     {
-        // the sum is at most the total, which fits
+        // for the prover: the sum is at most the total, which fits
         let _total = self.total;
         self.map.get(item) + self.error
     }
@@ -278,8 +279,12 @@ impl<T: Eq + Hash + Drop> FrequentItemsSketch<T> {
     /// is up to 1024, and at most 1 / 512 of it above.
     pub fn maximum_error(&self) -> u64
         ensures value { result ≡ self.now.error }
-        ensures small { (h : FrequentHistory T) → KeepsTailBudget T.eq self.now h → HasTableSize h → least_size h ≤ 1024 → 3 * least_size h * result ≤ 8 * total_weight h }
-        ensures large { (h : FrequentHistory T) → KeepsTailBudget T.eq self.now h → HasTableSize h → 1024 < least_size h → 512 * result ≤ total_weight h }
+
+        // What the tail budget of a history says of it.
+        ensures small { (h : FrequentHistory T) → StandsFor T.eq self.now h → KeepsTailBudget T.eq self.now h
+            → least_size h ≤ 1024 → 3 * least_size h * result ≤ 8 * total_weight h }
+        ensures large { (h : FrequentHistory T) → StandsFor T.eq self.now h → KeepsTailBudget T.eq self.now h
+            → 1024 < least_size h → 512 * result ≤ total_weight h }
     {
         self.error
     }
@@ -311,14 +316,14 @@ impl<T: Eq + Hash + Drop> FrequentItemsSketch<T> {
 
     /// The most items that are ever tracked: three quarters of the greatest table size.
     pub fn maximum_map_capacity(&self) -> usize
-        ensures { result ≡ 3 * self.now.max_size / 4 }
+        ensures { result ≡ capacity self.now.max_size }
     {
         self.max_size * 3 / 4
     }
 
     /// The most items that are tracked at the table's current size: three quarters of it.
     pub fn current_map_capacity(&self) -> usize
-        ensures { result ≡ 3 * self.now.size / 4 }
+        ensures { result ≡ capacity self.now.size }
     {
         self.map.capacity()
     }
@@ -344,8 +349,8 @@ impl<T: Eq + Hash + Drop> FrequentItemsSketch<T> {
         self.map.lg_length()
     }
 
-    /// How many bytes the table takes: for each slot those of an `Option<T>` and 12 more, or the greatest `usize` where
-    /// that passes it.
+    /// An estimate of the table's bytes by a fixed formula: for each slot those of an `Option<T>` and 12 more, or the
+    /// greatest `usize` where that passes it.
     pub fn estimated_size(&self) -> usize {
         self.map.estimated_size()
     }
@@ -361,8 +366,9 @@ impl<T: Eq + Hash + Drop> FrequentItemsSketch<T> {
         requires clones { (x y : T) → T.is_clone x y → IsTrue (T.eq x y) }
         ensures same { IfOk result (λ sketch. IsSameState T.eq self.now sketch) }
         ensures state { IfOk result (λ sketch. IsState T.eq sketch) }
-        ensures stands { IfOk result (λ sketch. (h : FrequentHistory T) → StandsFor T.eq self.now h → StandsFor T.eq sketch h) }
-        ensures budget { IfOk result (λ sketch. (h : FrequentHistory T) → KeepsTailBudget T.eq self.now h → KeepsTailBudget T.eq sketch h) }
+        ensures stands { IfOk result (λ sketch. Extends T.eq self.now sketch (λ h. h)) }
+        ensures budget { IfOk result (λ sketch.
+            (h : FrequentHistory T) → KeepsTailBudget T.eq self.now h → KeepsTailBudget T.eq sketch h) }
         ensures err { IfErr result (λ e. e ≡ no_memory) }
     {
         let map = self.map.try_clone()?;
@@ -407,8 +413,10 @@ impl<T: Eq + Hash + Drop> FrequentItemsSketch<T> {
         ensures descending { IfOk result (λ rows. Descends rows.items) }
 
         // What the rows say of every history for which the sketch stands.
-        ensures none_missing { IfOk result (λ rows. error_type ≡ ErrorType.NoFalseNegatives → (h : FrequentHistory T) → StandsFor T.eq self.now h → MissesNone T.eq (max threshold self.now.error) h rows.items) }
-        ensures none_below { IfOk result (λ rows. error_type ≡ ErrorType.NoFalsePositives → (h : FrequentHistory T) → StandsFor T.eq self.now h → ShowsNoneBelow T.eq (max threshold self.now.error) h rows.items) }
+        ensures none_missing { IfOk result (λ rows.
+            error_type ≡ ErrorType.NoFalseNegatives → MissesNone T.eq threshold self.now rows.items) }
+        ensures none_below { IfOk result (λ rows.
+            error_type ≡ ErrorType.NoFalsePositives → ShowsNoneBelow T.eq threshold self.now rows.items) }
         ensures err { IfErr result (λ e. e ≡ no_memory) }
     {
         let mut rows = self.passing_rows(error_type, threshold)?;
@@ -424,7 +432,7 @@ impl<T: Eq + Hash + Drop> FrequentItemsSketch<T> {
         ensures exact { IfOk result (λ rows. ShowsExactly T.eq error_type threshold self.now rows.items) }
         ensures err { IfErr result (λ e. e ≡ no_memory) }
     {
-        // each count and the error are at most the total, which fits
+        // for the prover: each count and the error are at most the total, which fits
         let _total = self.total;
         let error = self.error;
         let floor = threshold.max(error);
@@ -441,9 +449,9 @@ impl<T: Eq + Hash + Drop> FrequentItemsSketch<T> {
     /// Adds to the item's count where it is tracked, and answers whether it is.
     fn adjust(&mut self, item: &T, count: u64) -> bool
         requires positive { 0 < count }
-        requires fits { self.old.total + count < 2 ^ 64 }
+        requires fits { Fits self.old count }
         ensures tracked { result ≡ is_tracked T.eq self.old.counters item.now }
-        ensures present { result ≡ true → Adds T.eq self.old item.now count self.new }
+        ensures present { result ≡ true → Steps T.eq self.old item.now count self.new }
         ensures absent { result ≡ false → self.new ≡ self.old }
         ensures state { IsState T.eq self.new }
     {
@@ -452,6 +460,24 @@ impl<T: Eq + Hash + Drop> FrequentItemsSketch<T> {
         }
         self.total += count;
         true
+    }
+
+    /// Tracks an item that is not tracked.
+    fn track(&mut self, item: T, count: u64) -> Result<(), Error>
+        requires absent { is_tracked T.eq self.old.counters item ≡ false }
+        requires positive { 0 < count }
+        requires fits { Fits self.old count }
+        ensures step { OnOk result (Steps T.eq self.old item count self.new) }
+        ensures state { IsState T.eq self.new }
+        ensures err { OnErr result (self.new ≡ self.old) }
+        ensures memory { IfErr result (λ e. e ≡ no_memory) }
+        ensures succeeds { must_grow self.old ≡ false → IsOk result }
+    {
+        // for the prover: a look at a field brings in what holds of every sketch
+        let _ = &self.map;
+        self.make_room()?;
+        self.insert(item, count);
+        Ok(())
     }
 
     /// Doubles the table where it must grow for one more counter.
@@ -466,7 +492,7 @@ impl<T: Eq + Hash + Drop> FrequentItemsSketch<T> {
         if size == self.max_size {
             return Ok(());
         }
-        if self.map.num_active() < size * 3 / 4 {
+        if self.map.num_active() < self.map.capacity() {
             return Ok(());
         }
         self.map.resize(2 * size)?;
@@ -477,15 +503,16 @@ impl<T: Eq + Hash + Drop> FrequentItemsSketch<T> {
     fn insert(&mut self, item: T, count: u64)
         requires absent { is_tracked T.eq self.old.counters item ≡ false }
         requires positive { 0 < count }
-        requires fits { self.old.total + count < 2 ^ 64 }
-        requires room { capacity self.old.size < length (put T.eq self.old.counters item count) → self.old.size ≡ self.old.max_size }
+        requires fits { Fits self.old count }
+        requires room { capacity self.old.size < length (put T.eq self.old.counters item count)
+            → self.old.size ≡ self.old.max_size }
         ensures adds { Adds T.eq self.old item count self.new }
         ensures state { IsState T.eq self.new }
     {
+        let sample_size = self.maximum_map_capacity();
         self.map.insert(item, count);
         self.total += count;
-        if self.map.num_active() > self.map.len() * 3 / 4 {
-            let sample_size = (self.max_size * 3 / 4).min(MAX_SAMPLE_SIZE);
+        if self.map.num_active() > self.map.capacity() {
             self.error += self.map.purge(sample_size);
         }
     }
@@ -495,11 +522,12 @@ impl<T: Eq + Hash + Drop> FrequentItemsSketch<T> {
     where
         T: Clone,
         requires clones { (x y : T) → T.is_clone x y → IsTrue (T.eq x y) }
-        requires fits { self.old.total + other.now.total < 2 ^ 64 }
+        requires fits { Fits self.old other.now.total }
         ensures ok { OnOk result (AddsCounters T.eq self.old other.now.counters self.new) }
         ensures state { IsState T.eq self.new }
         ensures err { IfErr result (λ e. e ≡ no_memory) }
     {
+        // for the prover: a look at a field brings in what holds of every sketch
         let _ = &self.map;
         for (item, count) in other.map.iter() {
             self.update_with_count_ref(item, count)?;

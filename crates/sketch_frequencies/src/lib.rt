@@ -2,9 +2,9 @@
 //!
 //! [`FrequentItemsSketch`] adds up the weights of a stream's items in bounded memory. It never holds more counters than
 //! three quarters of its greatest table size, so it drops the light items now and then; what it takes from every
-//! counter to do so is its error. Each item's true weight lies between `lower_bound` and `upper_bound`, and the error is
-//! paid for by the tail: whichever few items are set aside, it is at most the weight of all the others divided by what
-//! is left of half a purge's sample.
+//! counter to do so is its error. Each item's true weight lies between `lower_bound` and `upper_bound`, and the error
+//! is paid for by the tail: whichever few items are set aside, it is at most the weight of all the others divided by
+//! what is left of half a purge's sample.
 //!
 //! [`ReversePurgeItemHashMap`] is the table of counters under it.
 #![tactic(auto)]

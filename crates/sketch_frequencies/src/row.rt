@@ -20,15 +20,30 @@ impl<T> Model for Row<T> {
 
     ghost Value = { RowValue T };
 
-    ghost view = { λ r. record { item = r.item; estimate = r.estimate; upper_bound = r.upper_bound; lower_bound = r.lower_bound } };
+    ghost view = { λ r. record {
+      item = r.item;
+      estimate = r.estimate;
+      upper_bound = r.upper_bound;
+      lower_bound = r.lower_bound;
+    } };
 
-    ghost inverse = { λ v. record { item = v.item; estimate = v.estimate; upper_bound = v.upper_bound; lower_bound = v.lower_bound } };
+    ghost inverse = { λ v. record {
+      item = v.item;
+      estimate = v.estimate;
+      upper_bound = v.upper_bound;
+      lower_bound = v.lower_bound;
+    } };
 }
 
 impl<T> Row<T> {
     /// A row of an item with this estimate and these bounds.
     pub(crate) fn new(item: T, estimate: u64, upper_bound: u64, lower_bound: u64) -> Self
-        ensures { result ≡ record { item = item; estimate = estimate; upper_bound = upper_bound; lower_bound = lower_bound } }
+        ensures { result ≡ record {
+          item = item;
+          estimate = estimate;
+          upper_bound = upper_bound;
+          lower_bound = lower_bound;
+        } }
     {
         Row {
             item,
@@ -38,8 +53,9 @@ impl<T> Row<T> {
         }
     }
 
-    /// The same row with a clone of the item, which has to equal it. Answers `NoMemory` where there is no memory for the
-    /// clone.
+    /// The same row with a clone of the item, which has to equal it.
+    ///
+    /// Answers `NoMemory` where there is no memory for the clone.
     pub fn try_clone(&self) -> Result<Self, Error>
     where
         T: PartialEq + Clone,

@@ -1,11 +1,9 @@
-use Rattle.std.proofs.Common.{arith, ap, sym, subst, ◌+◌, ◌≤◌, length, ◌∙◌, refl}
-use Rattle.std.proofs.lemmas.List.Sorted.{length_permutation}
-use Rattle.sketch_frequencies.specs.Tables.{put}
-use Rattle.sketch_frequencies.specs.State.{FrequentState, IsState, capacity}
-use Rattle.sketch_frequencies.specs.Growth.{Adds}
-use Rattle.sketch_frequencies.proofs.Parts.{length_tracked}
+use Rattle.std.proofs.Common.{arith, ap, sym, subst, ◌+◌, ◌∙◌}
+use Rattle.sketch_frequencies.specs.State.{FrequentState, state_of}
+use Rattle.sketch_frequencies.specs.Steps.{Steps}
+use Rattle.sketch_frequencies.proofs.Parts.{adds_tracked, step_tracked}
 use Rattle.sketch_frequencies.proofs.Puts.{count_le_sum}
-use Rattle.sketch_frequencies.proofs.States.{state_after, adds_kept}
+use Rattle.sketch_frequencies.proofs.States.{state_after}
 use Rattle.sketch_frequencies.proofs.frequent_items_sketch.FrequentItemsSketch.adjust.Goals as goal
 
 pub adjust-requires : goal.adjust-requires
@@ -14,16 +12,18 @@ adjust-requires g c = λ _. omega (arith, count_le_sum g.T.PartialEq.eq c.self.i
 pub returns-clause-present : goal.returns-clause-present
 returns-clause-present g c = λ _.
     let eq = g.T.PartialEq.eq in
-    let old : FrequentState g.row.T.Denot = record { counters = c.self.inside.map.entries; error = c.self.inside.error; total = c.self.inside.total; max_size = c.self.inside.max_size; size = c.self.inside.map.size } in
+    let old = state_of c.self.inside.map c.self.inside.error c.self.inside.total c.self.inside.max_size in
     let t = c.adjust.new.self in
-    let entries = c.adjust.ensures.present c.if-not-adjust.false in
     let new : FrequentState g.row.T.Denot = record { counters = t.entries; error = old.error; total = old.total + c.args.count; max_size = old.max_size; size = t.size } in
     let there = sym c.adjust.ensures.tracked ∙ c.if-not-adjust.false in
-    let few : length t.entries ≤ capacity t.size = omega (arith, length_permutation (put eq old.counters c.args.item.now c.args.count) t.entries entries, length_tracked eq old.counters c.args.item.now c.args.count there, c.self.invariant.few, c.adjust.ensures.size) in
-    subst (λ s. Adds eq s c.args.item.now c.args.count new) c.self.view_is (adds_kept eq old c.args.item.now c.args.count t entries c.adjust.ensures.size few)
+    subst (λ s. Steps eq s c.args.item.now c.args.count new) c.self.view_is
+    (step_tracked eq old new c.args.item.now c.args.count c.self.invariant there (adds_tracked eq old c.args.item.now c.args.count t c.self.invariant there (c.adjust.ensures.present c.if-not-adjust.false) c.adjust.ensures.size))
 
 pub invariant_of-self-2 : goal.invariant_of-self-2
-invariant_of-self-2 g c = state_after g.met.T.Eq.laws c.args.self.now _ c.args.item.now c.args.count c.requires.positive (subst (λ s. IsState g.T.PartialEq.eq s) c.self.view_is c.self.invariant) (returns-clause-present g c refl)
+invariant_of-self-2 g c =
+    let old = state_of c.self.inside.map c.self.inside.error c.self.inside.total c.self.inside.max_size in
+    let there = sym c.adjust.ensures.tracked ∙ c.if-not-adjust.false in
+    state_after g.met.T.Eq.laws old _ c.args.item.now c.args.count c.requires.positive c.self.invariant (adds_tracked g.T.PartialEq.eq old c.args.item.now c.args.count c.adjust.new.self c.self.invariant there (c.adjust.ensures.present c.if-not-adjust.false) c.adjust.ensures.size)
 
 pub returns-clause-state : goal.returns-clause-state
 returns-clause-state g c = invariant_of-self-2 g c

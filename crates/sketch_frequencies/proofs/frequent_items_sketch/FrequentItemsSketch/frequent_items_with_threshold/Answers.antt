@@ -11,7 +11,7 @@ pub returns-clause-descending : goal.returns-clause-descending
 returns-clause-descending g c = descends_from_sort _ c.sort_unstable_by.ensures.sorted (λ a r f' k. search rules)
 
 pub returns-clause-none_missing : goal.returns-clause-none_missing
-returns-clause-none_missing g c = λ kind h s. misses_none g.T.PartialEq.eq c.args.error_type c.args.threshold c.args.self.now _ kind (returns-clause-exact g c) h s
+returns-clause-none_missing g c = λ kind. misses_none g.T.PartialEq.eq c.args.error_type c.args.threshold c.args.self.now _ kind (returns-clause-exact g c)
 
 pub returns-clause-none_below : goal.returns-clause-none_below
-returns-clause-none_below g c = λ kind h s. shows_none_below g.T.PartialEq.eq c.args.error_type c.args.threshold c.args.self.now _ kind (returns-clause-exact g c) h s
+returns-clause-none_below g c = λ kind. shows_none_below g.T.PartialEq.eq c.args.error_type c.args.threshold c.args.self.now _ kind (returns-clause-exact g c)

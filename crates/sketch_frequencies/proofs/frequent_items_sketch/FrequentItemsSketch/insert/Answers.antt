@@ -1,7 +1,7 @@
 use Rattle.std.proofs.Common.{arith, ap, sym, subst, ◌≡◌, ◌<◌, ◌+◌, length, ℕ, min, ◌∙◌}
 use Rattle.std.proofs.lemmas.List.Sorted.{length_permutation, sum_by-IsPermutation}
 use Rattle.sketch_frequencies.specs.Tables.{is_tracked, put}
-use Rattle.sketch_frequencies.specs.State.{FrequentState, IsState, capacity}
+use Rattle.sketch_frequencies.specs.State.{FrequentState, IsState, capacity, state_of}
 use Rattle.sketch_frequencies.specs.Growth.{Adds}
 use Rattle.sketch_frequencies.proofs.Puts.{sum_of-put}
 use Rattle.sketch_frequencies.proofs.States.{state_after, adds_kept, adds_purged, sum_of-purged}
@@ -10,43 +10,43 @@ use Rattle.sketch_frequencies.proofs.frequent_items_sketch.FrequentItemsSketch.i
 pub insert-requires-clause-absent : goal.insert-requires-clause-absent
 insert-requires-clause-absent g c = ap (λ (s : FrequentState g.row.T.Denot). is_tracked g.T.PartialEq.eq s.counters c.args.item) c.self.view_is ∙ c.requires.absent
 
-pub returns-then-num_active-len-clause-adds : goal.returns-then-num_active-len-clause-adds
-returns-then-num_active-len-clause-adds g c =
+pub returns-then-num_active-capacity-clause-adds : goal.returns-then-num_active-capacity-clause-adds
+returns-then-num_active-capacity-clause-adds g c =
     let eq = g.T.PartialEq.eq in
-    let old : FrequentState g.row.T.Denot = record { counters = c.self.inside.map.entries; error = c.self.inside.error; total = c.self.inside.total; max_size = c.self.inside.max_size; size = c.self.inside.map.size } in
+    let old = state_of c.self.inside.map c.self.inside.error c.self.inside.total c.self.inside.max_size in
     let t = c.insert.new.self in
     let u = c.purge.new.self in
     let new : FrequentState g.row.T.Denot = record { counters = u.entries; error = old.error + c.purge.result; total = old.total + c.args.count; max_size = old.max_size; size = u.size } in
-    let over : capacity t.size < length t.entries = omega (arith, c.if-num_active-len.true, c.num_active.ensures.active, c.len.ensures.size) in
+    let over : capacity t.size < length t.entries = omega (arith, c.if-num_active-capacity.true, c.num_active.ensures.active, c.capacity.ensures) in
     let room : capacity old.size < length (put eq old.counters c.args.item c.args.count) → old.size ≡ old.max_size = subst (λ (s : FrequentState g.row.T.Denot). capacity s.size < length (put eq s.counters c.args.item c.args.count) → s.size ≡ s.max_size) (sym c.self.view_is) c.requires.room in
     let same : old.size ≡ old.max_size = room (omega (arith, over, length_permutation (put eq old.counters c.args.item c.args.count) t.entries c.insert.ensures.entries, c.insert.ensures.size)) in
     subst (λ s. Adds eq s c.args.item c.args.count new) c.self.view_is
-    (adds_purged eq old c.args.item c.args.count t u c.purge.result c.min-sample_size.result c.insert.ensures.entries c.insert.ensures.size over same (omega (arith, c.min-sample_size.ensures)) c.purge.ensures.middle c.purge.ensures.entries c.purge.ensures.size)
+    (adds_purged eq old c.args.item c.args.count t u c.purge.result c.maximum_map_capacity-sample_size.result c.insert.ensures.entries c.insert.ensures.size over same (c.maximum_map_capacity-sample_size.ensures ∙ ap (λ s. capacity s.max_size) (sym c.self.view_is)) c.purge.ensures.middle c.purge.ensures.entries c.purge.ensures.size)
 
-pub returns-else-num_active-len-clause-adds : goal.returns-else-num_active-len-clause-adds
-returns-else-num_active-len-clause-adds g c =
+pub returns-else-num_active-capacity-clause-adds : goal.returns-else-num_active-capacity-clause-adds
+returns-else-num_active-capacity-clause-adds g c =
     let eq = g.T.PartialEq.eq in
-    let old : FrequentState g.row.T.Denot = record { counters = c.self.inside.map.entries; error = c.self.inside.error; total = c.self.inside.total; max_size = c.self.inside.max_size; size = c.self.inside.map.size } in
+    let old = state_of c.self.inside.map c.self.inside.error c.self.inside.total c.self.inside.max_size in
     let t = c.insert.new.self in
     let new : FrequentState g.row.T.Denot = record { counters = t.entries; error = old.error; total = old.total + c.args.count; max_size = old.max_size; size = t.size } in
     subst (λ s. Adds eq s c.args.item c.args.count new) c.self.view_is
-    (adds_kept eq old c.args.item c.args.count t c.insert.ensures.entries c.insert.ensures.size (omega (arith, c.if-num_active-len.false, c.num_active.ensures.active, c.len.ensures.size)))
+    (adds_kept eq old c.args.item c.args.count t c.insert.ensures.entries c.insert.ensures.size (omega (arith, c.if-num_active-capacity.false, c.num_active.ensures.active, c.capacity.ensures)))
 
-pub overflow_add-self-then-num_active-len : goal.overflow_add-self-then-num_active-len
-overflow_add-self-then-num_active-len g c =
+pub overflow_add-self-then-num_active-capacity : goal.overflow_add-self-then-num_active-capacity
+overflow_add-self-then-num_active-capacity g c =
     let t = c.insert.new.self in
     let es = put g.T.PartialEq.eq c.self.inside.map.entries c.args.item c.args.count in
-    let least : 0 < min c.min-sample_size.result (min (length t.entries) 1024) = omega (arith, c.min-sample_size.ensures, c.if-num_active-len.true, c.num_active.ensures.active, c.self.invariant.least, c.self.invariant.within) in
-    omega (arith, sum_of-purged g.T.PartialEq.eq (min c.min-sample_size.result (min (length t.entries) 1024)) c.purge.result t.entries least c.purge.ensures.middle, sum_by-IsPermutation (λ (e : g.row.T.Denot × ℕ). e.1) es t.entries c.insert.ensures.entries, sum_of-put g.T.PartialEq.eq c.self.inside.map.entries c.args.item c.args.count, c.self.invariant.sum, c.requires.fits, ap (λ s. s.total) c.self.view_is)
+    let least : 0 < min c.maximum_map_capacity-sample_size.result (min (length t.entries) 1024) = omega (arith, c.maximum_map_capacity-sample_size.ensures, ap (λ s. s.max_size) c.self.view_is, c.if-num_active-capacity.true, c.num_active.ensures.active, c.self.invariant.least, c.self.invariant.within) in
+    omega (arith, sum_of-purged g.T.PartialEq.eq (min c.maximum_map_capacity-sample_size.result (min (length t.entries) 1024)) c.purge.result t.entries least c.purge.ensures.middle, sum_by-IsPermutation (λ (e : g.row.T.Denot × ℕ). e.1) es t.entries c.insert.ensures.entries, sum_of-put g.T.PartialEq.eq c.self.inside.map.entries c.args.item c.args.count, c.self.invariant.sum, c.requires.fits, ap (λ s. s.total) c.self.view_is)
 
 pub invariant_of-self : goal.invariant_of-self
-invariant_of-self g c = state_after g.met.T.Eq.laws c.args.self.now _ c.args.item c.args.count c.requires.positive (subst (λ s. IsState g.T.PartialEq.eq s) c.self.view_is c.self.invariant) (returns-then-num_active-len-clause-adds g c)
+invariant_of-self g c = state_after g.met.T.Eq.laws c.args.self.now _ c.args.item c.args.count c.requires.positive (subst (λ s. IsState g.T.PartialEq.eq s) c.self.view_is c.self.invariant) (returns-then-num_active-capacity-clause-adds g c)
 
-pub invariant_of-self-else-num_active-len : goal.invariant_of-self-else-num_active-len
-invariant_of-self-else-num_active-len g c = state_after g.met.T.Eq.laws c.args.self.now _ c.args.item c.args.count c.requires.positive (subst (λ s. IsState g.T.PartialEq.eq s) c.self.view_is c.self.invariant) (returns-else-num_active-len-clause-adds g c)
+pub invariant_of-self-else-num_active-capacity : goal.invariant_of-self-else-num_active-capacity
+invariant_of-self-else-num_active-capacity g c = state_after g.met.T.Eq.laws c.args.self.now _ c.args.item c.args.count c.requires.positive (subst (λ s. IsState g.T.PartialEq.eq s) c.self.view_is c.self.invariant) (returns-else-num_active-capacity-clause-adds g c)
 
-pub returns-then-num_active-len-clause-state : goal.returns-then-num_active-len-clause-state
-returns-then-num_active-len-clause-state g c = invariant_of-self g c
+pub returns-then-num_active-capacity-clause-state : goal.returns-then-num_active-capacity-clause-state
+returns-then-num_active-capacity-clause-state g c = invariant_of-self g c
 
-pub returns-else-num_active-len-clause-state : goal.returns-else-num_active-len-clause-state
-returns-else-num_active-len-clause-state g c = invariant_of-self-else-num_active-len g c
+pub returns-else-num_active-capacity-clause-state : goal.returns-else-num_active-capacity-clause-state
+returns-else-num_active-capacity-clause-state g c = invariant_of-self-else-num_active-capacity g c

@@ -13,7 +13,7 @@ pub returns-clause-state : goal.returns-clause-state
 returns-clause-state g c = invariant_of-self g c
 
 pub returns-clause-stands : goal.returns-clause-stands
-returns-clause-stands g c = λ h s. rw c.clear.ensures (reset_stands g.T.PartialEq.eq c.self.inside.max_size h (ap (λ s. s.max_size) c.self.view_is ∙ s.max_size))
+returns-clause-stands g c = λ h s. rw c.clear.ensures (reset_stands g.T.PartialEq.eq c.self.inside.max_size (omega (arith, c.self.invariant.least, c.self.invariant.within)) c.self.invariant.max_size_power h (ap (λ s. s.max_size) c.self.view_is ∙ s.max_size))
 
 pub returns-clause-budget : goal.returns-clause-budget
-returns-clause-budget g c = λ h s. rw c.clear.ensures (reset_budget g.T.PartialEq.eq c.self.inside.max_size h)
+returns-clause-budget g c = λ h. rw c.clear.ensures (reset_budget g.T.PartialEq.eq c.self.inside.max_size h)

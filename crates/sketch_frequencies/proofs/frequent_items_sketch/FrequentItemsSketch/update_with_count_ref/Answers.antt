@@ -1,18 +1,13 @@
-use Rattle.std.proofs.Common.{sym, ◌∙◌, subst}
-use Rattle.sketch_frequencies.specs.Growth.{MakesRoom}
+use Rattle.std.proofs.Common.{ap, sym, ◌∙◌, subst}
 use Rattle.sketch_frequencies.specs.State.{IsState}
+use Rattle.sketch_frequencies.specs.Steps.{Steps}
+use Rattle.sketch_frequencies.specs.Tables.{is_tracked}
 use Rattle.sketch_frequencies.proofs.Alike.{stands_step, budget_step_equal}
 use Rattle.sketch_frequencies.proofs.Lookups.{tracked_alike}
-use Rattle.sketch_frequencies.proofs.Orders.{is_tracked-permutation}
-use Rattle.sketch_frequencies.proofs.Parts.{room_made, step_from, step_tracked}
 use Rattle.sketch_frequencies.proofs.frequent_items_sketch.FrequentItemsSketch.update_with_count_ref.Goals as goal
 
 pub returns-then-adjust-clause-step : goal.returns-then-adjust-clause-step
-returns-then-adjust-clause-step g c = λ _. record {
-  item = c.args.item.now;
-  equal = g.met.T.Eq.laws.refl c.args.item.now;
-  step = step_tracked g.T.PartialEq.eq c.args.self.now c.adjust.new.self c.args.item.now c.args.count (subst (λ s. IsState g.T.PartialEq.eq s) c.self.view_is c.self.invariant) (sym c.adjust.ensures.tracked ∙ c.if-adjust.true) (c.adjust.ensures.present c.if-adjust.true);
-}
+returns-then-adjust-clause-step g c = λ _. record { item = c.args.item.now; equal = g.met.T.Eq.laws.refl c.args.item.now; step = c.adjust.ensures.present c.if-adjust.true }
 
 pub returns-then-adjust-clause-stands : goal.returns-then-adjust-clause-stands
 returns-then-adjust-clause-stands g c = λ pos h s. stands_step g.met.T.Eq.laws c.args.self.now c.adjust.new.self c.args.item.now c.args.count pos (subst (λ s. IsState g.T.PartialEq.eq s) c.self.view_is c.self.invariant) (returns-then-adjust-clause-step g c pos) h s
@@ -20,23 +15,18 @@ returns-then-adjust-clause-stands g c = λ pos h s. stands_step g.met.T.Eq.laws 
 pub returns-then-adjust-clause-budget : goal.returns-then-adjust-clause-budget
 returns-then-adjust-clause-budget g c = λ pos h s keeps. budget_step_equal g.met.T.Eq.laws c.args.self.now c.adjust.new.self c.args.item.now c.args.count (subst (λ s. IsState g.T.PartialEq.eq s) c.self.view_is c.self.invariant) (returns-then-adjust-clause-step g c pos) h s keeps
 
-pub insert-requires-clause-absent : goal.insert-requires-clause-absent
-insert-requires-clause-absent g c =
-    let made = (subst (λ s. MakesRoom s c.make_room.new.self) (c.adjust.ensures.absent c.if-adjust.false) c.in_ok-make_room.ensures.ok) in
-    is_tracked-permutation g.met.T.Eq.laws c.args.self.now.counters c.make_room.new.self.counters c.in_ok-twin.twin made.counters ∙ (tracked_alike g.met.T.Eq.laws c.args.self.now.counters c.args.item.now c.in_ok-twin.twin (c.requires.clones c.args.item.now c.in_ok-twin.twin c.in_ok-twin.ensures.cases) ∙ (sym c.adjust.ensures.tracked ∙ c.if-adjust.false))
-
-pub insert-requires-clause-room : goal.insert-requires-clause-room
-insert-requires-clause-room g c = room_made g.met.T.Eq.laws c.args.self.now c.make_room.new.self c.in_ok-twin.twin c.args.count (subst (λ s. IsState g.T.PartialEq.eq s) c.self.view_is c.self.invariant) (tracked_alike g.met.T.Eq.laws c.args.self.now.counters c.args.item.now c.in_ok-twin.twin (c.requires.clones c.args.item.now c.in_ok-twin.twin c.in_ok-twin.ensures.cases) ∙ (sym c.adjust.ensures.tracked ∙ c.if-adjust.false)) (subst (λ s. MakesRoom s c.make_room.new.self) (c.adjust.ensures.absent c.if-adjust.false) c.in_ok-make_room.ensures.ok)
+pub track-requires-clause-absent : goal.track-requires-clause-absent
+track-requires-clause-absent g c = tracked_alike g.met.T.Eq.laws c.adjust.new.self.counters c.args.item.now c.in_ok-cloned.cloned (c.requires.clones c.args.item.now c.in_ok-cloned.cloned c.in_ok-cloned.ensures.cases) ∙ (ap (λ s. is_tracked g.T.PartialEq.eq s.counters c.args.item.now) (c.adjust.ensures.absent c.if-adjust.false) ∙ (sym c.adjust.ensures.tracked ∙ c.if-adjust.false))
 
 pub returns-clause-step : goal.returns-clause-step
 returns-clause-step g c = λ _. record {
-  item = c.in_ok-twin.twin;
-  equal = (c.requires.clones c.args.item.now c.in_ok-twin.twin c.in_ok-twin.ensures.cases);
-  step = step_from g.met.T.Eq.laws c.args.self.now c.make_room.new.self c.in_ok-twin.twin c.args.count (subst (λ s. IsState g.T.PartialEq.eq s) c.self.view_is c.self.invariant) (tracked_alike g.met.T.Eq.laws c.args.self.now.counters c.args.item.now c.in_ok-twin.twin (c.requires.clones c.args.item.now c.in_ok-twin.twin c.in_ok-twin.ensures.cases) ∙ (sym c.adjust.ensures.tracked ∙ c.if-adjust.false)) (subst (λ s. MakesRoom s c.make_room.new.self) (c.adjust.ensures.absent c.if-adjust.false) c.in_ok-make_room.ensures.ok) c.insert.new.self c.insert.ensures.adds;
+  item = c.in_ok-cloned.cloned;
+  equal = c.requires.clones c.args.item.now c.in_ok-cloned.cloned c.in_ok-cloned.ensures.cases;
+  step = subst (λ s. Steps g.T.PartialEq.eq s c.in_ok-cloned.cloned c.args.count c.track.new.self) (c.adjust.ensures.absent c.if-adjust.false) c.in_ok-track.ensures.step;
 }
 
 pub returns-clause-stands : goal.returns-clause-stands
-returns-clause-stands g c = λ pos h s. stands_step g.met.T.Eq.laws c.args.self.now c.insert.new.self c.args.item.now c.args.count pos (subst (λ s. IsState g.T.PartialEq.eq s) c.self.view_is c.self.invariant) (returns-clause-step g c pos) h s
+returns-clause-stands g c = λ pos h s. stands_step g.met.T.Eq.laws c.args.self.now c.track.new.self c.args.item.now c.args.count pos (subst (λ s. IsState g.T.PartialEq.eq s) c.self.view_is c.self.invariant) (returns-clause-step g c pos) h s
 
 pub returns-clause-budget : goal.returns-clause-budget
-returns-clause-budget g c = λ pos h s keeps. budget_step_equal g.met.T.Eq.laws c.args.self.now c.insert.new.self c.args.item.now c.args.count (subst (λ s. IsState g.T.PartialEq.eq s) c.self.view_is c.self.invariant) (returns-clause-step g c pos) h s keeps
+returns-clause-budget g c = λ pos h s keeps. budget_step_equal g.met.T.Eq.laws c.args.self.now c.track.new.self c.args.item.now c.args.count (subst (λ s. IsState g.T.PartialEq.eq s) c.self.view_is c.self.invariant) (returns-clause-step g c pos) h s keeps
