@@ -14,7 +14,7 @@ ghost use Rattle.sketch_frequencies.specs.Tables.{count_of, is_tracked, put, sum
 use crate::error_type::ErrorType;
 use crate::reverse_purge_item_hash_map::ReversePurgeItemHashMap;
 use crate::row::Row;
-use sketch_base::{Error, ErrorKind, Fault};
+use sketch_base::{Error, Fault};
 use std::alloc::Global;
 use std::hash::Hash;
 use std::marker::Model;
@@ -65,13 +65,13 @@ impl<T: Eq + Hash + Drop> FrequentItemsSketch<T> {
         ensures refused { IfErr result (λ e. e ≡ refusal_of (size_fault max_map_size)) }
     {
         if !max_map_size.is_power_of_two() {
-            return Err(Error::new(ErrorKind::InvalidArgument, Fault::MapSizeNotPowerOfTwo));
+            return Err(Error::invalid_argument(Fault::MapSizeNotPowerOfTwo));
         }
         if max_map_size < LEAST_MAP_SIZE {
-            return Err(Error::new(ErrorKind::InvalidArgument, Fault::MapSizeTooSmall));
+            return Err(Error::invalid_argument(Fault::MapSizeTooSmall));
         }
         if max_map_size > GREATEST_MAP_SIZE {
-            return Err(Error::new(ErrorKind::InvalidArgument, Fault::MapSizeTooLarge));
+            return Err(Error::invalid_argument(Fault::MapSizeTooLarge));
         }
         let map = ReversePurgeItemHashMap::new(alloc, LEAST_MAP_SIZE)?;
         Ok(FrequentItemsSketch {
@@ -119,7 +119,7 @@ impl<T: Eq + Hash + Drop> FrequentItemsSketch<T> {
         ensures succeeds { Fits self.old count → must_double T.eq self.old item ≡ false → IsOk result }
     {
         if count > u64::MAX - self.total {
-            return Err(Error::new(ErrorKind::InvalidArgument, Fault::WeightOverflow));
+            return Err(Error::invalid_argument(Fault::WeightOverflow));
         }
         if count == 0 {
             return Ok(());
@@ -175,7 +175,7 @@ impl<T: Eq + Hash + Drop> FrequentItemsSketch<T> {
         ensures succeeds { Fits self.old count → is_tracked T.eq self.old.counters item.now ≡ true → IsOk result }
     {
         if count > u64::MAX - self.total {
-            return Err(Error::new(ErrorKind::InvalidArgument, Fault::WeightOverflow));
+            return Err(Error::invalid_argument(Fault::WeightOverflow));
         }
         if count == 0 {
             return Ok(());
@@ -216,7 +216,7 @@ impl<T: Eq + Hash + Drop> FrequentItemsSketch<T> {
         ensures memory { Fits self.old other.now.total → IfErr result (λ e. e ≡ no_memory) }
     {
         if other.total > u64::MAX - self.total {
-            return Err(Error::new(ErrorKind::InvalidArgument, Fault::WeightOverflow));
+            return Err(Error::invalid_argument(Fault::WeightOverflow));
         }
         if other.total == 0 {
             return Ok(());

@@ -4,8 +4,8 @@ use Rattle.std.proofs.lemmas.List.Elements.{All-nil}
 use Rattle.sketch_frequencies.proofs.Powers.{eight_is_power}
 use Rattle.sketch_frequencies.proofs.frequent_items_sketch.FrequentItemsSketch.new.Goals as goal
 
-pub new-requires-2-clause-power : goal.new-requires-2-clause-power
-new-requires-2-clause-power g c = eight_is_power
+pub new-requires-clause-power : goal.new-requires-clause-power
+new-requires-clause-power g c = eight_is_power
 
 pub invariant_of-result : goal.invariant_of-result
 unfolding IsDistinct
