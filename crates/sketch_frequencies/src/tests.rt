@@ -1,9 +1,8 @@
-//! Worked examples, each call once with ample memory, and printed texts.
+//! Worked examples, and a larger run.
 use crate::error_type::ErrorType;
 use crate::frequent_items_sketch::FrequentItemsSketch;
 use crate::reverse_purge_item_hash_map::ReversePurgeItemHashMap;
-use crate::row::Row;
-use sketch_base::{Error, ErrorKind, Fault};
+use sketch_base::{Error, Fault};
 use std::alloc::Global;
 use std::hash::{Hash, Hasher};
 use std::process::Abort;
@@ -22,207 +21,204 @@ fn once_each(
     Ok(sketch)
 }
 
-#[test]
-fn seven_items_once_each(rt: HostRuntime) -> Result<(), Fail> {
-    let sketch = once_each(rt.alloc(), 8, 7)?;
-    assert_eq!(rt; sketch.num_active_items(), 0);
-    assert_eq!(rt; sketch.maximum_error(), 1);
-    assert_eq!(rt; sketch.total_weight(), 7);
-    assert!(rt; !sketch.is_empty());
-    Ok(())
-}
-
-// One counter is left, whichever six are sampled.
-#[test]
-fn six_items_once_and_the_seventh_with_100(rt: HostRuntime) -> Result<(), Fail> {
-    let mut sketch = once_each(rt.alloc(), 8, 6)?;
-    sketch.update_with_count(7, 100)?;
-    assert_eq!(rt; sketch.num_active_items(), 1);
-    assert_eq!(rt; sketch.lower_bound(&7), 99);
-    assert_eq!(rt; sketch.upper_bound(&7), 100);
-    assert_eq!(rt; sketch.estimate(&7), 100);
-    assert_eq!(rt; sketch.lower_bound(&1), 0);
-    assert_eq!(rt; sketch.upper_bound(&1), 1);
-    assert_eq!(rt; sketch.estimate(&1), 0);
-    assert_eq!(rt; sketch.maximum_error(), 1);
-    assert_eq!(rt; sketch.total_weight(), 106);
-    Ok(())
-}
-
-#[test]
-fn seven_items_in_a_sketch_of_16(rt: HostRuntime) -> Result<(), Fail> {
-    let sketch = once_each(rt.alloc(), 16, 7)?;
-    assert_eq!(rt; sketch.lg_cur_map_size(), 4);
-    assert_eq!(rt; sketch.lg_max_map_size(), 4);
-    assert_eq!(rt; sketch.max_map_size(), 16);
-    assert_eq!(rt; sketch.current_map_capacity(), 12);
-    assert_eq!(rt; sketch.maximum_error(), 0);
-    assert_eq!(rt; sketch.num_active_items(), 7);
-    Ok(())
-}
-
-#[test]
-fn two_thresholds(rt: HostRuntime) -> Result<(), Fail> {
-    let mut sketch: FrequentItemsSketch<i64> = FrequentItemsSketch::new(rt.alloc(), 64)?;
-    sketch.update_with_count(1, 5)?;
-    sketch.update_with_count(2, 1)?;
-    let rows = sketch.frequent_items_with_threshold(ErrorType::NoFalsePositives, 3)?;
-    assert_eq!(rt; rows.len(), 1);
-    assert_eq!(rt; *rows[0].item(), 1);
-    assert_eq!(rt; rows[0].estimate(), 5);
-    assert_eq!(rt; rows[0].upper_bound(), 5);
-    assert_eq!(rt; rows[0].lower_bound(), 5);
-    let rows = sketch.frequent_items_with_threshold(ErrorType::NoFalseNegatives, 0)?;
-    assert_eq!(rt; rows.len(), 2);
-    assert_eq!(rt; *rows[0].item(), 1);
-    assert_eq!(rt; *rows[1].item(), 2);
-    assert!(rt; rows[0] != rows[1]);
-    Ok(())
-}
-
-#[test]
-fn rows_of_texts_are_clones(rt: HostRuntime) -> Result<(), Fail> {
-    let mut sketch = FrequentItemsSketch::new(rt.alloc(), 8)?;
-    sketch.update_with_count(String::from_str(rt.alloc(), "ab")?, 3)?;
-    let rows: Vec<Row<String>> = sketch.frequent_items_with_threshold(
-        ErrorType::NoFalsePositives,
-        2,
-    )?;
-    assert_eq!(rt; rows.len(), 1);
-    assert_eq!(rt; rows[0].item().as_str(), "ab");
-    Ok(())
-}
-
-#[test]
-fn total_that_would_overflow(rt: HostRuntime) -> Result<(), Fail> {
-    let mut sketch: FrequentItemsSketch<i64> = FrequentItemsSketch::new(rt.alloc(), 8)?;
-    sketch.update_with_count(1, u64::MAX)?;
-    let Err(refused) = sketch.update_with_count(2, 1) else {
-        return Err(Fail::from("2 was accepted"));
-    };
-    assert_eq!(rt; refused.kind(), ErrorKind::InvalidArgument);
-    assert_eq!(rt; refused.fault(), Fault::WeightOverflow);
-    assert_eq!(rt; sketch.total_weight(), u64::MAX);
-    sketch.update_with_count(2, 0)?;
-    assert_eq!(rt; sketch.num_active_items(), 1);
-    assert_eq!(rt; sketch.total_weight(), u64::MAX);
-    Ok(())
-}
-
-/// A sketch of 64 with item 1 of 5, into which a sketch of 8 is merged that saw the items 1 to 7 once each.
-fn merged(alloc: Global) -> Result<FrequentItemsSketch<i64>, Error> {
-    let light = once_each(alloc, 8, 7)?;
-    let mut sketch = FrequentItemsSketch::new(alloc, 64)?;
-    sketch.update_with_count(1, 5)?;
-    sketch.merge(&light)?;
+/// A sketch of one item.
+fn of_one(
+    alloc: Global,
+    max_map_size: usize,
+    item: i64,
+    count: u64,
+) -> Result<FrequentItemsSketch<i64>, Error> {
+    let mut sketch = FrequentItemsSketch::new(alloc, max_map_size)?;
+    sketch.update_with_count(item, count)?;
     Ok(sketch)
 }
 
-/// The counts that the sketch keeps of the items 1 to 7.
-fn kept_counts(rt: &impl Abort, sketch: &FrequentItemsSketch<i64>) -> u64 {
-    let mut kept = 0;
-    for item in 1..=7 {
-        let count = sketch.lower_bound(&item);
-        assert!(rt; kept < 1000 && count < 1000);
-        kept += count;
+/// How many items are tracked, the error and the total.
+fn numbers(sketch: &FrequentItemsSketch<i64>) -> (usize, u64, u64) {
+    (
+        sketch.num_active_items(),
+        sketch.maximum_error(),
+        sketch.total_weight(),
+    )
+}
+
+/// The table's sizes, as powers of two and as numbers.
+fn sizes(sketch: &FrequentItemsSketch<i64>) -> (u8, u8, usize, usize, usize) {
+    (
+        sketch.lg_cur_map_size(),
+        sketch.lg_max_map_size(),
+        sketch.max_map_size(),
+        sketch.current_map_capacity(),
+        sketch.maximum_map_capacity(),
+    )
+}
+
+/// What is said of an item: its lower bound, its upper bound and the estimate.
+fn said(sketch: &FrequentItemsSketch<i64>, item: i64) -> (u64, u64, u64) {
+    (
+        sketch.lower_bound(&item),
+        sketch.upper_bound(&item),
+        sketch.estimate(&item),
+    )
+}
+
+/// The kept counts of the items from `from` to 7, and the error for each of so many places.
+fn paid(sketch: &FrequentItemsSketch<i64>, from: i64, places: u32) -> u64 {
+    let mut paid = u64::from(places).saturating_mul(sketch.maximum_error());
+    for item in from..=7 {
+        paid = paid.saturating_add(sketch.lower_bound(&item));
     }
-    kept
+    paid
 }
 
-// The least size is 8, so three items may be set aside.
+/// Why a greatest size is refused.
+fn refused_size(alloc: Global, max_map_size: usize) -> Option<Fault> {
+    match FrequentItemsSketch::<i64>::new(alloc, max_map_size) {
+        Ok(_) => None,
+        Err(refused) => Some(refused.fault()),
+    }
+}
+
+/// How many rows a report has, the numbers of its first, and the items of its first and last.
+fn reported(
+    sketch: &FrequentItemsSketch<i64>,
+    error_type: ErrorType,
+    threshold: u64,
+) -> Result<(usize, u64, u64, u64, i64, i64), Error> {
+    let rows = sketch.frequent_items_with_threshold(error_type, threshold)?;
+    let (Some(first), Some(last)) = (rows.first(), rows.last()) else {
+        return Ok((0, 0, 0, 0, 0, 0));
+    };
+    Ok((
+        rows.len(),
+        first.lower_bound(),
+        first.estimate(),
+        first.upper_bound(),
+        *first.item(),
+        *last.item(),
+    ))
+}
+
 #[test]
-fn sketches_of_unequal_size_merged(rt: HostRuntime) -> Result<(), Fail> {
-    let sketch = merged(rt.alloc())?;
-    assert_eq!(rt; sketch.lower_bound(&1), 5);
-    assert_eq!(rt; sketch.upper_bound(&1), 6);
-    assert_eq!(rt; sketch.maximum_error(), 1);
-    assert_eq!(rt; sketch.total_weight(), 12);
-    assert_eq!(rt; sketch.max_map_size(), 64);
-    let kept = kept_counts(&rt, &sketch);
-    assert!(rt; kept <= 12 && kept + 3 <= 12);
-    // with item 1 set aside two places are left, and the others weigh 6
-    assert!(rt; kept >= 5);
-    let others = kept - 5;
-    assert!(rt; others <= 6 && others + 2 <= 6);
+fn refuses_sizes(rt: HostRuntime) {
+    for (size, wanted) in [
+        (0, Some(Fault::MapSizeNotPowerOfTwo)),
+        (4, Some(Fault::MapSizeTooSmall)),
+        (8, None),
+        (12, Some(Fault::MapSizeNotPowerOfTwo)),
+        (1 << 31, Some(Fault::MapSizeTooLarge)),
+    ] {
+        assert!(rt; refused_size(rt.alloc(), size) == wanted);
+    }
+}
+
+// Items 1 to `last`, once each.
+#[test]
+fn counts_distinct_items(rt: HostRuntime) -> Result<(), Fail> {
+    for (size, last, wanted, wanted_sizes) in [
+        (8, 0, (0, 0, 0), (3, 3, 8, 6, 6)),
+        (8, 6, (6, 0, 6), (3, 3, 8, 6, 6)),
+        (8, 7, (0, 1, 7), (3, 3, 8, 6, 6)),
+        (16, 7, (7, 0, 7), (4, 4, 16, 12, 12)),
+        (64, 7, (7, 0, 7), (4, 6, 64, 12, 48)),
+    ] {
+        let sketch = once_each(rt.alloc(), size, last)?;
+        assert!(rt; numbers(&sketch) == wanted);
+        assert!(rt; sizes(&sketch) == wanted_sizes);
+        assert!(rt; sketch.is_empty() == (last == 0));
+    }
     Ok(())
 }
 
+// Item 7 alone is left, whichever six are sampled, and three items may be set aside.
 #[test]
-fn a_sketch_into_which_another_is_merged(rt: HostRuntime) -> Result<(), Fail> {
-    let mut sketch = once_each(rt.alloc(), 8, 7)?;
-    let mut other = FrequentItemsSketch::new(rt.alloc(), 64)?;
-    other.update_with_count(1, 5)?;
-    sketch.merge(&other)?;
-    assert_eq!(rt; sketch.lower_bound(&1), 5);
-    assert_eq!(rt; sketch.upper_bound(&1), 6);
-    assert_eq!(rt; sketch.maximum_error(), 1);
-    assert_eq!(rt; sketch.total_weight(), 12);
-    assert_eq!(rt; sketch.max_map_size(), 8);
-    sketch.merge(&FrequentItemsSketch::new(rt.alloc(), 8)?)?;
-    assert_eq!(rt; sketch.total_weight(), 12);
-    Ok(())
-}
-
-#[test]
-fn kept_counts_and_the_error_after_a_purge(rt: HostRuntime) -> Result<(), Fail> {
+fn keeps_the_heavy_item(rt: HostRuntime) -> Result<(), Fail> {
     let mut sketch = once_each(rt.alloc(), 8, 6)?;
     sketch.update_with_count(7, 100)?;
-    assert_eq!(rt; kept_counts(&rt, &sketch), 99);
-    assert_eq!(rt; sketch.maximum_error(), 1);
-    assert_eq!(rt; sketch.total_weight(), 106);
+    assert!(rt; numbers(&sketch) == (1, 1, 106));
+    assert!(rt; said(&sketch, 7) == (99, 100, 100));
+    assert!(rt; said(&sketch, 1) == (0, 1, 0));
+    assert!(rt; paid(&sketch, 1, 3) <= 106);
     Ok(())
 }
 
+// The least size is 8, so three items may be set aside. With item 1 aside two places are left, and the others weigh 6.
 #[test]
-fn a_sketch_that_was_reset(rt: HostRuntime) -> Result<(), Fail> {
-    let mut sketch = merged(rt.alloc())?;
-    sketch.reset();
-    assert!(rt; sketch.is_empty());
-    assert_eq!(rt; sketch.num_active_items(), 0);
-    assert_eq!(rt; sketch.maximum_error(), 0);
-    assert_eq!(rt; sketch.lg_cur_map_size(), 3);
-    assert_eq!(rt; sketch.max_map_size(), 64);
-    Ok(())
-}
-
-#[test]
-fn totals_that_would_overflow_merged(rt: HostRuntime) -> Result<(), Fail> {
-    let mut sketch: FrequentItemsSketch<i64> = FrequentItemsSketch::new(rt.alloc(), 8)?;
-    sketch.update_with_count(1, u64::MAX)?;
-    let mut other = FrequentItemsSketch::new(rt.alloc(), 8)?;
-    other.update(2)?;
-    match sketch.merge(&other) {
-        Ok(()) => return Err(Fail::from("the merge was accepted")),
-        Err(refused) => assert_eq!(rt; refused.fault(), Fault::WeightOverflow),
+fn merges_sketches_of_unequal_sizes(rt: HostRuntime) -> Result<(), Fail> {
+    let light = once_each(rt.alloc(), 8, 7)?;
+    let heavy = of_one(rt.alloc(), 64, 1, 5)?;
+    let mut small = light.try_clone()?;
+    small.merge(&heavy)?;
+    let mut large = heavy.try_clone()?;
+    large.merge(&light)?;
+    for (sketch, size) in [(&small, 8), (&large, 64)] {
+        assert!(rt; numbers(sketch) == (1, 1, 12));
+        assert!(rt; said(sketch, 1) == (5, 6, 6));
+        assert!(rt; paid(sketch, 1, 3) <= 12);
+        assert!(rt; paid(sketch, 2, 2) <= 6);
+        assert!(rt; sketch.max_map_size() == size);
     }
-    assert_eq!(rt; sketch.total_weight(), u64::MAX);
-    assert_eq!(rt; other.total_weight(), 1);
+    large.reset();
+    assert!(rt; numbers(&large) == (0, 0, 0));
+    assert!(rt; sizes(&large) == (3, 6, 64, 6, 48));
     Ok(())
 }
 
 #[test]
-fn texts_by_reference(rt: HostRuntime) -> Result<(), Fail> {
-    let mut sketch = FrequentItemsSketch::new(rt.alloc(), 8)?;
+fn refuses_totals_that_overflow(rt: HostRuntime) -> Result<(), Fail> {
+    let overflow = Err(Error::invalid_argument(Fault::WeightOverflow));
+    let mut sketch = of_one(rt.alloc(), 8, 1, u64::MAX)?;
+    let other = of_one(rt.alloc(), 8, 2, 1)?;
+    assert!(rt; sketch.update_with_count(2, 1) == overflow);
+    assert!(rt; sketch.merge(&other) == overflow);
+    assert!(rt; sketch.update_with_count(2, 0) == Ok(()));
+    assert!(rt; numbers(&sketch) == (1, 0, u64::MAX));
+    assert!(rt; numbers(&other) == (1, 0, 1));
+    Ok(())
+}
+
+#[test]
+fn reports_items_above_a_threshold(rt: HostRuntime) -> Result<(), Fail> {
+    let mut sketch = of_one(rt.alloc(), 64, 2, 1)?;
+    sketch.update_with_count(1, 5)?;
+    for (error_type, threshold, wanted) in [
+        (ErrorType::NoFalsePositives, 3, (1, 5, 5, 5, 1, 1)),
+        (ErrorType::NoFalseNegatives, 0, (2, 5, 5, 5, 1, 2)),
+    ] {
+        assert!(rt; reported(&sketch, error_type, threshold)? == wanted);
+    }
+    Ok(())
+}
+
+#[test]
+fn clones_texts(rt: HostRuntime) -> Result<(), Fail> {
     let text = String::from_str(rt.alloc(), "ab")?;
+    let mut sketch = FrequentItemsSketch::new(rt.alloc(), 8)?;
     sketch.update_ref(&text)?;
     sketch.update_with_count_ref(&text, 2)?;
-    assert_eq!(rt; sketch.num_active_items(), 1);
-    let twin = sketch.try_clone()?;
-    assert_eq!(rt; twin.lower_bound(&text), 3);
-    assert_eq!(rt; twin.total_weight(), 3);
-    let rows = twin.frequent_items(ErrorType::NoFalsePositives)?;
-    assert_eq!(rt; rows.len(), 1);
-    let row = rows[0].try_clone()?;
-    assert!(rt; row == rows[0]);
-    assert_eq!(rt; row.item().as_str(), "ab");
+    let rows = sketch.frequent_items(ErrorType::NoFalsePositives)?;
+    let [row] = rows.as_slice() else {
+        return Err(Fail::from("not one row"));
+    };
+    let cloned = row.try_clone()?;
+    assert!(rt; cloned == *row && cloned.lower_bound() == 3);
+    assert!(rt; cloned.item().as_str() == "ab");
     Ok(())
 }
 
-// Eight slots of the 16 bytes of an `Option<i64>` and 12 more.
+// As many items as 4096 slots may hold. An `Option<i64>` takes 16 bytes.
 #[test]
-fn estimated_sizes(rt: HostRuntime) -> Result<(), Fail> {
-    let sketch: FrequentItemsSketch<i64> = FrequentItemsSketch::new(rt.alloc(), 8)?;
-    assert_eq!(rt; sketch.estimated_size(), 224);
+fn keeps_thousands_of_items(rt: HostRuntime) -> Result<(), Fail> {
+    let mut sketch = FrequentItemsSketch::new(rt.alloc(), 4096)?;
+    for item in 1..=3072i64 {
+        sketch.update_ref(&item)?;
+    }
+    let mut merged = FrequentItemsSketch::new(rt.alloc(), 4096)?;
+    merged.merge(&sketch)?;
+    let cloned = merged.try_clone()?;
+    assert!(rt; numbers(&cloned) == (3072, 0, 3072));
+    assert!(rt; cloned.frequent_items(ErrorType::NoFalseNegatives)?.len() == 3072);
+    assert!(rt; cloned.estimated_size() == 4096 * 28);
     Ok(())
 }
 
@@ -238,43 +234,6 @@ impl Hash for Silent {
     ghost respects_eq = { λ _ _ _. refl };
 
     fn hash<H: Hasher>(&self, _state: &mut H) {}
-}
-
-#[test]
-fn refused_sizes(rt: HostRuntime) -> Result<(), Fail> {
-    for (size, fault) in [
-        (4, Fault::MapSizeTooSmall),
-        (12, Fault::MapSizeNotPowerOfTwo),
-        (0, Fault::MapSizeNotPowerOfTwo),
-        (1 << 31, Fault::MapSizeTooLarge),
-    ] {
-        match FrequentItemsSketch::<i64>::new(rt.alloc(), size) {
-            Ok(_) => return Err(Fail::from("a size was accepted")),
-            Err(refused) => assert_eq!(rt; refused.fault(), fault, "at {size}"),
-        }
-    }
-    let sketch = FrequentItemsSketch::<i64>::new(rt.alloc(), 8)?;
-    assert_eq!(rt; sketch.maximum_map_capacity(), 6);
-    assert!(rt; sketch.is_empty());
-    Ok(())
-}
-
-#[test]
-fn printed_faults(rt: HostRuntime) -> Result<(), Fail> {
-    for (fault, text) in [
-        (Fault::WeightOverflow, "total weight overflow"),
-        (
-            Fault::MapSizeNotPowerOfTwo,
-            "map size is not a power of two",
-        ),
-        (Fault::MapSizeTooSmall, "map size below 8"),
-        (Fault::MapSizeTooLarge, "map size above 2^30"),
-        (Fault::NoMemory, "out of memory"),
-    ] {
-        let error = Error::new(ErrorKind::InvalidArgument, fault);
-        assert_eq!(rt; format!(in rt.alloc(); "{error}")?.as_str(), text);
-    }
-    Ok(())
 }
 
 /// Adds the amount in the table, where there is room for it.
