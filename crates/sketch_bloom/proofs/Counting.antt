@@ -13,7 +13,7 @@ use Rattle.std.proofs.lemmas.Bool.{cases_lt}
 use Rattle.std.proofs.lemmas.Bool.Decides.{nat_tests}
 use Rattle.std.specs.FinSet as set
 use Rattle.std.specs.Ordering.{nat_cmp}
-use Rattle.sketch_bloom.specs.Words.{bit_in, set_below, set_of}
+use Rattle.sketch_bloom.specs.BitSet.{bit_in, set_below, set_of}
 use Rattle.sketch_bloom.proofs.Bools.{same_tests}
 use Rattle.sketch_bloom.proofs.Sets.{contains-empty, contains-insert, len-insert}
 

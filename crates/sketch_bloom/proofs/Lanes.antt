@@ -128,11 +128,10 @@ combined_block f k i m xs ys words new size ones e same fits len before is count
     }
 
 -- one word more
-pub combined_word : (f : ℕ → ℕ → ℕ) (i : ℕ) (xs ys words : List ℕ) (size : ℕ) → length ys ≡ length xs → i < length xs → length words ≡ length xs → Combined f i xs ys words size
-    → get_or (set words i (f (get_or words i 0) (get_or ys i 0))) i 0 < 2 ^ 64
-    → Combined f (i + 1) xs ys (set words i (f (get_or words i 0) (get_or ys i 0))) (size + count_ones (get_or (set words i (f (get_or words i 0) (get_or ys i 0))) i 0))
-combined_word f i xs ys words size same fits len before small =
-    let x : ℕ = f (get_or words i 0) (get_or ys i 0) in
+pub combined_word : (f : ℕ → ℕ → ℕ) (i : ℕ) (xs ys words : List ℕ) (size x : ℕ) → length ys ≡ length xs → i < length xs → length words ≡ length xs → Combined f i xs ys words size
+    → x ≡ f (get_or words i 0) (get_or ys i 0) → get_or (set words i x) i 0 < 2 ^ 64
+    → Combined f (i + 1) xs ys (set words i x) (size + count_ones (get_or (set words i x) i 0))
+combined_word f i xs ys words size x same fits len before is small =
     let new : List ℕ = set words i x in
     let ln : length new ≡ length words = length-set words i x in
     let ones : count_ones (get_or new i 0) ≤ 64 = ones-le 64 (get_or new i 0) small in
@@ -141,7 +140,7 @@ combined_word f i xs ys words size same fits len before small =
     let old : sum_by count_ones (take i new) ≡ sum_by count_ones (take i words) = ap (sum_by count_ones) kept in
     let was : size ≡ sum_by count_ones (take i words) = before.counted in
     record {
-      combined = ap (λ (w : List ℕ). set w i (f (get_or w i 0) (get_or ys i 0))) before.combined ∙ first_with_word f i xs ys same fits;
+      combined = ap (set words i) is ∙ (ap (λ (w : List ℕ). set w i (f (get_or w i 0) (get_or ys i 0))) before.combined ∙ first_with_word f i xs ys same fits);
       counted = omega arith;
       few = omega (arith, before.few);
       fits = before.fits;

@@ -1,5 +1,5 @@
 -- Which numbers stand in words after a change.
-use Rattle.std.proofs.Common.{◌≡◌, ◌≢◌, inl, inr, ℕ, zero, suc, ◌+◌, ◌-◌, ◌*◌, ◌/◌, ◌%◌, ◌^◌, ◌<◌, ◌≤◌, ◌==◌, true, false, ◌&&◌, ◌||◌, not, List, [], ◌∷◌, length, get_or, set, min, max, bit_and, bit_or, w64, refl, sym, ap, ◌∙◌, arith, eq-eqb, replicate}
+use Rattle.std.proofs.Common.{◌≡◌, ◌≢◌, inl, inr, ℕ, zero, suc, ◌+◌, ◌-◌, ◌*◌, ◌/◌, ◌%◌, ◌^◌, ◌<◌, ◌≤◌, ◌==◌, Bool, true, false, ◌&&◌, ◌||◌, not, List, [], ◌∷◌, length, get_or, set, min, max, bit_or, w64, refl, sym, ap, subst, ◌∙◌, arith, eq-eqb, replicate}
 use Rattle.std.specs.Int.{bit_at, bit_not}
 use Rattle.std.proofs.lemmas.List.{get_or-set_same, get_or-set_other}
 use Rattle.std.proofs.lemmas.Nat.Bits.{bit_at-lt, bit_at-zero, bit_at_and, bit_at_or, bit_at_not, bit_at_set_same, bit_at_set_other, same_from_bits_below}
@@ -10,7 +10,10 @@ use Rattle.std.proofs.Math.Nat.{div-add-mod}
 use Rattle.std.proofs.Math.ListN.{get_or-eq_default}
 use Rattle.std.specs.FinSet as numbers
 use lib.Lanes.{zip2}
-use Rattle.sketch_bloom.specs.Words.{bit_in, set_of, without}
+use Rattle.sketch_bloom.specs.BitSet.{Numbers, bit_in, set_of}
+use Rattle.sketch_bloom.specs.Operations.{on_sets, on_words}
+use Rattle.sketch_bloom.specs.declared.set_operation.SetOperation.{SetOperation}
+use Rattle.sketch_bloom.specs.declared.set_operation.SetOperation.TheVariants.{Union, Intersection, Difference}
 use Rattle.sketch_bloom.proofs.Sets.{same_members, contains-insert, contains-empty, contains-union, contains-intersection, contains-difference}
 use Rattle.sketch_bloom.proofs.Counting.{in_set_below, contains-set_of}
 
@@ -27,11 +30,6 @@ word_of_each f z (x ∷ xs) [] e i = absurd (omega arith)
 word_of_each f z (x ∷ xs) (y ∷ ys) e zero = refl
 word_of_each f z (x ∷ xs) (y ∷ ys) e (suc i) = word_of_each f z xs ys (omega arith) i
 
--- a test on the bit, after such an operation
-bit_of_each : (f : ℕ → ℕ → ℕ) → f 0 0 ≡ 0 → (xs ys : List ℕ) → length xs ≡ length ys → (q : ℕ)
-    → numbers.contains (set_of (zip2 f xs ys)) q ≡ (bit_at (f (get_or xs (q / 64) 0) (get_or ys (q / 64) 0)) (q % 64) == 1)
-bit_of_each f z xs ys e q = contains-set_of (zip2 f xs ys) q ∙ ap (λ w. bit_at w (q % 64) == 1) (word_of_each f z xs ys e (q / 64))
-
 -- the greater of two bits is set where one is
 either_bit : (a b : ℕ) → a < 2 → b < 2 → (max a b == 1) ≡ ((a == 1) || (b == 1))
 either_bit a b l m = grind (arith, nat_tests)
@@ -46,46 +44,60 @@ other_bit zero l = refl
 other_bit (suc zero) l = refl
 other_bit (suc (suc b)) l = absurd (omega arith)
 
--- `|` on each word unites
-pub set_of-or : (xs ys : List ℕ) → length xs ≡ length ys → set_of (zip2 bit_or xs ys) ≡ numbers.union (set_of xs) (set_of ys)
-set_of-or xs ys e = same_members (set_of (zip2 bit_or xs ys)) (numbers.union (set_of xs) (set_of ys)) (λ q.
-    let a : ℕ = get_or xs (q / 64) 0 in
-    let b : ℕ = get_or ys (q / 64) 0 in
-    bit_of_each bit_or refl xs ys e q
-    ∙ ap (λ n. n == 1) (bit_at_or a b (q % 64))
-    ∙ either_bit (bit_at a (q % 64)) (bit_at b (q % 64)) (bit_at-lt a (q % 64)) (bit_at-lt b (q % 64))
-    ∙ ap (λ t. t || bit_in ys q) (sym (contains-set_of xs q))
-    ∙ ap (λ t. numbers.contains (set_of xs) q || t) (sym (contains-set_of ys q))
-    ∙ sym (contains-union (set_of xs) (set_of ys) q))
+-- what an operation does to two tests
+on_tests : SetOperation → Bool → Bool → Bool
+on_tests Union a b = a || b
+on_tests Intersection a b = a && b
+on_tests Difference a b = a && not b
 
--- `&` on each word intersects
-pub set_of-and : (xs ys : List ℕ) → length xs ≡ length ys → set_of (zip2 bit_and xs ys) ≡ numbers.intersection (set_of xs) (set_of ys)
-set_of-and xs ys e = same_members (set_of (zip2 bit_and xs ys)) (numbers.intersection (set_of xs) (set_of ys)) (λ q.
-    let a : ℕ = get_or xs (q / 64) 0 in
-    let b : ℕ = get_or ys (q / 64) 0 in
-    bit_of_each bit_and refl xs ys e q
-    ∙ ap (λ n. n == 1) (bit_at_and a b (q % 64))
-    ∙ both_bits (bit_at a (q % 64)) (bit_at b (q % 64)) (bit_at-lt a (q % 64)) (bit_at-lt b (q % 64))
-    ∙ ap (λ t. t && bit_in ys q) (sym (contains-set_of xs q))
-    ∙ ap (λ t. numbers.contains (set_of xs) q && t) (sym (contains-set_of ys q))
-    ∙ sym (contains-intersection (set_of xs) (set_of ys) q))
+-- it does so to the bits of two words
+bit_of_words : (o : SetOperation) (x y k : ℕ) → y < 2 ^ 64 → k < 64 → (bit_at (on_words o x y) k == 1) ≡ on_tests o (bit_at x k == 1) (bit_at y k == 1)
+unfolding on_tests
+bit_of_words Union x y k fits inside = ap (λ n. n == 1) (bit_at_or x y k) ∙ either_bit (bit_at x k) (bit_at y k) (bit_at-lt x k) (bit_at-lt y k)
+bit_of_words Intersection x y k fits inside = ap (λ n. n == 1) (bit_at_and x y k) ∙ both_bits (bit_at x k) (bit_at y k) (bit_at-lt x k) (bit_at-lt y k)
+bit_of_words Difference x y k fits inside =
+    let turned : bit_at (bit_not w64 y) k ≡ 1 - bit_at y k = bit_at_not w64 y k fits inside in
+    ap (λ n. n == 1) (bit_at_and x (bit_not w64 y) k)
+    ∙ both_bits (bit_at x k) (bit_at (bit_not w64 y) k) (bit_at-lt x k) (bit_at-lt (bit_not w64 y) k)
+    ∙ ap (λ n. (bit_at x k == 1) && (n == 1)) turned
+    ∙ ap (λ t. (bit_at x k == 1) && t) (other_bit (bit_at y k) (bit_at-lt y k))
 
--- `& !` on each word takes away
-pub set_of-without : (xs ys : List ℕ) → length xs ≡ length ys → ((k : ℕ) → get_or ys k 0 < 2 ^ 64) → set_of (zip2 without xs ys) ≡ numbers.difference (set_of xs) (set_of ys)
-set_of-without xs ys e fits = same_members (set_of (zip2 without xs ys)) (numbers.difference (set_of xs) (set_of ys)) (λ q.
-    let a : ℕ = get_or xs (q / 64) 0 in
-    let b : ℕ = get_or ys (q / 64) 0 in
-    let k : ℕ = q % 64 in
+-- and to the members of two sets
+contains-on_sets : (o : SetOperation) (s t : Numbers) (q : ℕ) → numbers.contains (on_sets o s t) q ≡ on_tests o (numbers.contains s q) (numbers.contains t q)
+unfolding on_tests
+contains-on_sets Union s t q = contains-union s t q
+contains-on_sets Intersection s t q = contains-intersection s t q
+contains-on_sets Difference s t q = contains-difference s t q
+
+-- zeros stay zero
+zeros_stay : (o : SetOperation) → on_words o 0 0 ≡ 0
+zeros_stay Union = refl
+zeros_stay Intersection = refl
+zeros_stay Difference = refl
+
+-- an operation on each word is the operation on the sets
+pub set_of-on_words : (o : SetOperation) (xs ys : List ℕ) → length xs ≡ length ys → ((k : ℕ) → get_or ys k 0 < 2 ^ 64)
+    → set_of (zip2 (on_words o) xs ys) ≡ on_sets o (set_of xs) (set_of ys)
+set_of-on_words o xs ys e fits = same_members (set_of (zip2 (on_words o) xs ys)) (on_sets o (set_of xs) (set_of ys)) (λ q.
     let inside : q % 64 < 64 = omega arith in
-    let turned : bit_at (bit_not w64 b) (q % 64) ≡ 1 - bit_at b (q % 64) = bit_at_not w64 b (q % 64) (fits (q / 64)) inside in
-    bit_of_each without refl xs ys e q
-    ∙ ap (λ n. n == 1) (bit_at_and a (bit_not w64 b) (q % 64))
-    ∙ both_bits (bit_at a (q % 64)) (bit_at (bit_not w64 b) (q % 64)) (bit_at-lt a (q % 64)) (bit_at-lt (bit_not w64 b) (q % 64))
-    ∙ ap (λ n. (bit_at a (q % 64) == 1) && (n == 1)) turned
-    ∙ ap (λ t. (bit_at a (q % 64) == 1) && t) (other_bit (bit_at b (q % 64)) (bit_at-lt b (q % 64)))
-    ∙ ap (λ t. t && not (bit_in ys q)) (sym (contains-set_of xs q))
-    ∙ ap (λ t. numbers.contains (set_of xs) q && not t) (sym (contains-set_of ys q))
-    ∙ sym (contains-difference (set_of xs) (set_of ys) q))
+    contains-set_of (zip2 (on_words o) xs ys) q
+    ∙ ap (λ w. bit_at w (q % 64) == 1) (word_of_each (on_words o) (zeros_stay o) xs ys e (q / 64))
+    ∙ bit_of_words o (get_or xs (q / 64) 0) (get_or ys (q / 64) 0) (q % 64) (fits (q / 64)) inside
+    ∙ ap (λ t. on_tests o t (bit_in ys q)) (sym (contains-set_of xs q))
+    ∙ ap (λ t. on_tests o (numbers.contains (set_of xs) q) t) (sym (contains-set_of ys q))
+    ∙ sym (contains-on_sets o (set_of xs) (set_of ys) q))
+
+-- a word fits 64 bits after an operation where both do before it
+word_fits : (o : SetOperation) (x y : ℕ) → x < 2 ^ 64 → y < 2 ^ 64 → on_words o x y < 2 ^ 64
+word_fits Union x y l m = or_lt 64 x y l m
+word_fits Intersection x y l m = omega (arith, and_le_l x y)
+word_fits Difference x y l m = omega (arith, and_le_l x (bit_not w64 y))
+
+-- and so does each word of two lists
+pub words_fit : (o : SetOperation) (xs ys : List ℕ) → length xs ≡ length ys → ((k : ℕ) → get_or xs k 0 < 2 ^ 64) → ((k : ℕ) → get_or ys k 0 < 2 ^ 64) → (k : ℕ)
+    → get_or (zip2 (on_words o) xs ys) k 0 < 2 ^ 64
+words_fit o xs ys e fx fy k =
+    subst (λ n. n < 2 ^ 64) (sym (word_of_each (on_words o) (zeros_stay o) xs ys e k)) (word_fits o (get_or xs k 0) (get_or ys k 0) (fx k) (fy k))
 
 -- a bit is set at a number's place
 pub set_of-set : (words : List ℕ) (p : ℕ) → p < 64 * length words
@@ -162,18 +174,6 @@ same_words xs ys e fx fy s = same_lists xs ys e (λ i. same_from_bits_below 64 (
         let at_y : bit_in ys (64 * i + k) ≡ (bit_at (get_or ys i 0) k == 1) = ap (λ r. bit_at (get_or ys r 0) ((64 * i + k) % 64) == 1) row ∙ ap (λ j. bit_at (get_or ys i 0) j == 1) column in
         let one : bit_in xs (64 * i + k) ≡ bit_in ys (64 * i + k) = sym (contains-set_of xs (64 * i + k)) ∙ ap (λ t. numbers.contains t (64 * i + k)) s ∙ contains-set_of ys (64 * i + k) in
         same_number (bit_at (get_or xs i 0) k) (bit_at (get_or ys i 0) k) (bit_at-lt (get_or xs i 0) k) (bit_at-lt (get_or ys i 0) k) (sym at_x ∙ one ∙ at_y)
-
--- what fits 64 bits on each side does so after an operation
-pub or_fits : (xs ys : List ℕ) → length xs ≡ length ys → ((k : ℕ) → get_or xs k 0 < 2 ^ 64) → ((k : ℕ) → get_or ys k 0 < 2 ^ 64) → (k : ℕ) → get_or (zip2 bit_or xs ys) k 0 < 2 ^ 64
-or_fits xs ys e fx fy k = omega (arith, word_of_each bit_or refl xs ys e k, or_lt 64 (get_or xs k 0) (get_or ys k 0) (fx k) (fy k))
-
--- where the first side fits, `&` does
-pub and_fits : (xs ys : List ℕ) → length xs ≡ length ys → ((k : ℕ) → get_or xs k 0 < 2 ^ 64) → (k : ℕ) → get_or (zip2 bit_and xs ys) k 0 < 2 ^ 64
-and_fits xs ys e fx k = omega (arith, word_of_each bit_and refl xs ys e k, and_le_l (get_or xs k 0) (get_or ys k 0), fx k)
-
--- and so does `& !`
-pub without_fits : (xs ys : List ℕ) → length xs ≡ length ys → ((k : ℕ) → get_or xs k 0 < 2 ^ 64) → (k : ℕ) → get_or (zip2 without xs ys) k 0 < 2 ^ 64
-without_fits xs ys e fx k = omega (arith, word_of_each without refl xs ys e k, and_le_l (get_or xs k 0) (bit_not w64 (get_or ys k 0)), fx k)
 
 -- a list of zeros is zero at each place
 pub zero_everywhere : (words : List ℕ) (n : ℕ) → words ≡ replicate n 0 → (i : ℕ) → get_or words i 0 ≡ 0

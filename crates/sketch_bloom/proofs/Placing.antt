@@ -14,7 +14,7 @@ use Rattle.std.proofs.lemmas.Nat.{mod_below}
 use Rattle.std.proofs.lemmas.Bool.{cases_eq}
 use Rattle.std.proofs.Math.Nat.{mod-add-mod}
 use Rattle.std.specs.FinSet as set
-use Rattle.sketch_bloom.specs.Words.{Numbers, set_of}
+use Rattle.sketch_bloom.specs.BitSet.{Numbers, set_of}
 use Rattle.sketch_bloom.specs.Positions.{position, positions}
 use Rattle.std.proofs.lemmas.Bool.{and_from}
 use Rattle.sketch_bloom.proofs.Bools.{or_right}

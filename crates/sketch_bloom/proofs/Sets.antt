@@ -5,7 +5,7 @@ use Rattle.std.specs.Cmp.{unsigned_tied}
 use Rattle.std.proofs.lemmas.Cmp.{nat_cmp_total}
 use Rattle.std.specs.FinMap.{nat_cmp-IsAntisymmetric}
 use Rattle.std.specs.FinSet as set
-use Rattle.sketch_bloom.specs.Words.{Numbers}
+use Rattle.sketch_bloom.specs.BitSet.{Numbers}
 use Rattle.std.proofs.lemmas.Bool.{and_from, and_parts}
 use Rattle.std.proofs.Math.Bool.{or_comm, or_assoc, or_self, or-false}
 use Rattle.sketch_bloom.proofs.Bools.{same_tests, or_right, or_swap}

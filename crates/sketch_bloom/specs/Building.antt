@@ -2,6 +2,7 @@
 use Rattle.std.specs.Prelude.{ℕ, ◌+◌, ◌/◌, nat_lt, ◌||◌, ◌==◌, Option, Some, None, if◌then◌else◌}
 use Rattle.sketch_base.specs.declared.fault.Fault.{Fault}
 use Rattle.sketch_base.specs.declared.fault.Fault.TheVariants.{BadNumBits, BadNumHashes}
+use Rattle.sketch_bloom.specs.declared.limits.TheConstants.{MAX_NUM_BITS, MAX_NUM_HASHES}
 
 -- the numbers of bits and hashes, and the seed
 pub record Request : Type 0 where
@@ -9,11 +10,11 @@ pub record Request : Type 0 where
   pub num_hashes : ℕ
   pub seed : ℕ
 
--- what is wrong with a request, if anything: 1 to 137438953152 bits, and 1 to 32767 hashes
+-- what is wrong with a request, if anything: it has a bit and a hash at least, and no more than there may be
 abbrev pub request_fault : Request → Option Fault
 request_fault r =
-    if (r.num_bits == 0) || nat_lt 137438953152 r.num_bits then Some BadNumBits
-    else (if (r.num_hashes == 0) || nat_lt 32767 r.num_hashes then Some BadNumHashes else None)
+    if (r.num_bits == 0) || nat_lt MAX_NUM_BITS r.num_bits then Some BadNumBits
+    else (if (r.num_hashes == 0) || nat_lt MAX_NUM_HASHES r.num_hashes then Some BadNumHashes else None)
 
 -- how many words hold so many bits
 abbrev pub words_for : ℕ → ℕ

@@ -1,60 +1,61 @@
--- Equality of filters: it holds where shapes, seeds and sets are equal, so it is an equivalence.
-use Rattle.std.specs.Prelude.{◌≡◌, ◌==◌, true, ◌&&◌, refl}
-use Rattle.std.proofs.Common.{sym, ap, ◌∙◌, eqb-true, eq-eqb}
+-- Equality of filters: the test holds where shapes, seeds and sets are equal, so it is an equivalence.
+use Rattle.std.proofs.Common.{◌≡◌, true, sym, ap, ◌∙◌}
 use Rattle.std.proofs.lemmas.Bool.{and_from, and_parts}
-use Rattle.std.proofs.lemmas.Bool.Decides.{same_from_decides}
+use Rattle.std.proofs.lemmas.Bool.Decides.{Decides-eqb, Decides-and, same_from_decides}
 use Rattle.std.proofs.lemmas.Cmp.{nat_cmp_total}
-use Rattle.std.specs.Cmp.{IsPartialEquivalence}
+use Rattle.std.specs.Bool.{Decides}
+use Rattle.std.specs.Cmp.{IsEquivalence, decided}
 use Rattle.std.specs.FinMap.{nat_cmp-IsAntisymmetric}
 use Rattle.std.specs.FinSet as set
-use Rattle.sketch_bloom.specs.Words.{Numbers}
+use Rattle.sketch_bloom.specs.BitSet.{Numbers, same_set}
 use Rattle.sketch_bloom.specs.State.{FilterState, same_filter}
 
--- two sets that are parts of one another are equal
-pub same_subsets : (s t : Numbers) → set.is_subset s t ≡ true → set.is_subset t s ≡ true → s ≡ t
-same_subsets s t f g = set.same_set nat_cmp_total nat_cmp-IsAntisymmetric s t (λ q.
-    same_from_decides (set.contains s q) (set.contains t q) ((λ h. h), (λ h. h)) (set.is_subset-contains nat_cmp_total t s g q, set.is_subset-contains nat_cmp_total s t f q))
-
--- a set is a part of itself
-pub is_subset-self : (s : Numbers) → set.is_subset s s ≡ true
-is_subset-self s = set.contains-is_subset nat_cmp_total s s (λ q h. h)
-
 -- states are equal by their fields
-pub same_states : (a b : FilterState) → a.num_words ≡ b.num_words → a.num_hashes ≡ b.num_hashes → a.seed ≡ b.seed → a.set ≡ b.set → a ≡ b
+pub same_states : (a b : FilterState)
+    → a.num_words ≡ b.num_words → a.num_hashes ≡ b.num_hashes → a.seed ≡ b.seed → a.set ≡ b.set → a ≡ b
 same_states a b w h s t = λ i. record { num_words = w i; num_hashes = h i; seed = s i; set = t i }
 
--- what the test tells
-pub equal_by_parts : (a b : FilterState) → same_filter a b ≡ true → a ≡ b
-equal_by_parts a b e =
-    let words = and_parts (a.num_words == b.num_words) ((a.num_hashes == b.num_hashes) && ((a.seed == b.seed) && (set.is_subset a.set b.set && set.is_subset b.set a.set))) e in
-    let hashes = and_parts (a.num_hashes == b.num_hashes) ((a.seed == b.seed) && (set.is_subset a.set b.set && set.is_subset b.set a.set)) words.1 in
-    let seeds = and_parts (a.seed == b.seed) (set.is_subset a.set b.set && set.is_subset b.set a.set) hashes.1 in
-    let sets = and_parts (set.is_subset a.set b.set) (set.is_subset b.set a.set) seeds.1 in
-    same_states a b
-    (eqb-true a.num_words b.num_words words.0)
-    (eqb-true a.num_hashes b.num_hashes hashes.0)
-    (eqb-true a.seed b.seed seeds.0)
-    (same_subsets a.set b.set sets.0 sets.1)
+-- two sets that are parts of one another are equal
+same_subsets : (s t : Numbers) → set.is_subset s t ≡ true → set.is_subset t s ≡ true → s ≡ t
+same_subsets s t f g = set.same_set nat_cmp_total nat_cmp-IsAntisymmetric s t (λ q.
+    same_from_decides (set.contains s q) (set.contains t q)
+    ((λ h. h), (λ h. h))
+    (set.is_subset-contains nat_cmp_total t s g q, set.is_subset-contains nat_cmp_total s t f q))
 
--- a filter equals itself
-pub equality_is_reflexive : (a : FilterState) → same_filter a a ≡ true
-equality_is_reflexive a =
-    and_from _ _ (eq-eqb a.num_words a.num_words refl) (and_from _ _ (eq-eqb a.num_hashes a.num_hashes refl) (and_from _ _ (eq-eqb a.seed a.seed refl) (and_from _ _ (is_subset-self a.set) (is_subset-self a.set))))
+-- a set is a part of itself
+is_subset-self : (s : Numbers) → set.is_subset s s ≡ true
+is_subset-self s = set.contains-is_subset nat_cmp_total s s (λ q h. h)
 
--- the test holds of one state twice
-pub equal_from_same : (a b : FilterState) → a ≡ b → same_filter a b ≡ true
-equal_from_same a b e = ap (same_filter a) (sym e) ∙ equality_is_reflexive a
+-- the test of two sets
+sets_decide : (s t : Numbers) → Decides (same_set s t) (s ≡ t)
+sets_decide s t = (
+  (λ e. let both = and_parts (set.is_subset s t) (set.is_subset t s) e in same_subsets s t both.0 both.1),
+  (λ e. ap (same_set s) (sym e) ∙ and_from _ _ (is_subset-self s) (is_subset-self s)),
+)
 
--- the order of two filters does not matter
-pub equality_is_symmetric : (a b : FilterState) → same_filter a b ≡ same_filter b a
-equality_is_symmetric a b = same_from_decides (same_filter a b) (same_filter b a)
-    (equal_by_parts a b, equal_from_same a b)
-    ((λ e. sym (equal_by_parts b a e)), (λ e. equal_from_same b a (sym e)))
+-- the test of the parts
+parts_decide : (a b : FilterState)
+    → Decides (same_filter a b)
+    ((a.num_words ≡ b.num_words) × ((a.num_hashes ≡ b.num_hashes) × ((a.seed ≡ b.seed) × (a.set ≡ b.set))))
+parts_decide a b =
+    Decides-and _ _ (Decides-eqb a.num_words b.num_words)
+    (Decides-and _ _ (Decides-eqb a.num_hashes b.num_hashes)
+    (Decides-and _ _ (Decides-eqb a.seed b.seed) (sets_decide a.set b.set)))
 
--- what equals an equal filter is equal
-pub equality_is_transitive : (a b c : FilterState) → same_filter a b ≡ true → same_filter b c ≡ true → same_filter a c ≡ true
-equality_is_transitive a b c e f = equal_from_same a c (equal_by_parts a b e ∙ equal_by_parts b c f)
+-- the test is true exactly where the filters are equal
+pub same_filter-Decides : (a b : FilterState) → Decides (same_filter a b) (a ≡ b)
+same_filter-Decides a b =
+    let parts = parts_decide a b in (
+      (λ e. let p = parts.0 e in same_states a b p.0 p.1.0 p.1.1.0 p.1.1.1),
+      (λ e. parts.1 (
+        ap (λ (s : FilterState). s.num_words) e,
+        (
+          ap (λ (s : FilterState). s.num_hashes) e,
+          (ap (λ (s : FilterState). s.seed) e, ap (λ (s : FilterState). s.set) e),
+        ),
+      )),
+    )
 
--- the laws that `==` has to keep
-pub same_filter_laws : IsPartialEquivalence same_filter
-same_filter_laws = record { symm = equality_is_symmetric; trans = equality_is_transitive }
+-- so equality is an equivalence
+pub same_filter_equivalence : IsEquivalence same_filter
+same_filter_equivalence = decided same_filter same_filter-Decides

@@ -1,11 +1,11 @@
 -- How a filter came about, and the set that this denotes.
 use Rattle.std.specs.Prelude.{ℕ, ◌*◌, List}
 use Rattle.std.specs.FinSet as set
-use Rattle.sketch_bloom.specs.Words.{Numbers}
+use Rattle.sketch_bloom.specs.BitSet.{Numbers}
 use Rattle.sketch_bloom.specs.Positions.{positions_of}
 
--- a new filter of a shape and a seed, an item inserted (it is the bytes that its Hash feeds), two filters of one shape and
--- one seed combined, all cleared, or the filter as its image gave it back
+-- a new filter of a shape and a seed, an item inserted (it is the bytes that its Hash feeds), two filters of one shape
+-- and one seed combined, all cleared, or the filter as its image gave it back
 pub data BloomHistory : Type 0 where
   New : (num_words num_hashes seed : ℕ) → BloomHistory
   Insert : BloomHistory → (bytes : List ℕ) → BloomHistory
@@ -48,7 +48,8 @@ seed_of (Restored h) = seed_of h
 -- the set of positions
 abbrev pub denoted_set : BloomHistory → Numbers
 denoted_set (New num_words num_hashes seed) = set.empty
-denoted_set (Insert h bytes) = set.union (denoted_set h) (positions_of (64 * words_of h) (hashes_of h) (seed_of h) bytes)
+denoted_set (Insert h bytes) =
+    set.union (denoted_set h) (positions_of (64 * words_of h) (hashes_of h) (seed_of h) bytes)
 denoted_set (Union g h) = set.union (denoted_set g) (denoted_set h)
 denoted_set (Intersection g h) = set.intersection (denoted_set g) (denoted_set h)
 denoted_set (Difference g h) = set.difference (denoted_set g) (denoted_set h)

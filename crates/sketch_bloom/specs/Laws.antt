@@ -17,7 +17,8 @@ UnionIsIdempotent = (a : FilterState) → united a a ≡ a
 
 -- a filter with nothing in its set contains nothing
 abbrev pub EmptyContainsNothing : Type 0
-EmptyContainsNothing = (a : FilterState) (bytes : List ℕ) → IsFilterState a → a.set ≡ set.empty → contains_item a bytes ≡ false
+EmptyContainsNothing = (a : FilterState) (bytes : List ℕ) → IsFilterState a → a.set ≡ set.empty
+    → contains_item a bytes ≡ false
 
 -- what was inserted is contained
 abbrev pub InsertedIsContained : Type 0
@@ -25,11 +26,13 @@ InsertedIsContained = (a : FilterState) (bytes : List ℕ) → contains_item (in
 
 -- after a difference no item is contained that the other filter contains
 abbrev pub DifferenceTakesAway : Type 0
-DifferenceTakesAway = (a b : FilterState) (bytes : List ℕ) → IsFilterState b → IsCompatible a b → contains_item b bytes ≡ true → contains_item (subtracted a b) bytes ≡ false
+DifferenceTakesAway = (a b : FilterState) (bytes : List ℕ) → IsFilterState b → IsCompatible a b
+    → contains_item b bytes ≡ true → contains_item (subtracted a b) bytes ≡ false
 
 -- what is contained after it was contained before
 abbrev pub DifferenceAddsNothing : Type 0
-DifferenceAddsNothing = (a b : FilterState) (bytes : List ℕ) → contains_item (subtracted a b) bytes ≡ true → contains_item a bytes ≡ true
+DifferenceAddsNothing = (a b : FilterState) (bytes : List ℕ) → contains_item (subtracted a b) bytes ≡ true
+    → contains_item a bytes ≡ true
 
 -- an item contained before, none of whose positions is in the other set, stays contained
 abbrev pub DifferenceLeaves : Type 0
@@ -51,4 +54,5 @@ EqualityIsSymmetric = (a b : FilterState) → same_filter a b ≡ same_filter b 
 
 -- filters that equal one filter are equal
 abbrev pub EqualityIsTransitive : Type 0
-EqualityIsTransitive = (a b c : FilterState) → same_filter a b ≡ true → same_filter b c ≡ true → same_filter a c ≡ true
+EqualityIsTransitive = (a b c : FilterState) → same_filter a b ≡ true → same_filter b c ≡ true
+    → same_filter a c ≡ true

@@ -1,9 +1,10 @@
-pub mod Words
+pub mod BitSet
+pub mod Operations
 pub mod Fields
 pub mod Positions
 pub mod State
-pub mod Equality
 pub mod History
 pub mod Stands
 pub mod Building
 pub mod Laws
+pub mod Equality

@@ -3,7 +3,7 @@ use Rattle.std.specs.Prelude.{ℕ, ◌+◌, ◌*◌, ◌/◌, ◌%◌, ◌^◌, 
 use Rattle.std.specs.List.{range_with_len}
 use Rattle.std.specs.FinSet as set
 use Rattle.sketch_base.specs.Xxh64.{xxh64}
-use Rattle.sketch_bloom.specs.Words.{Numbers}
+use Rattle.sketch_bloom.specs.BitSet.{Numbers}
 
 -- position i that two hashes give among so many bits
 abbrev pub position : ℕ → ℕ → ℕ → ℕ → ℕ
@@ -15,4 +15,6 @@ positions capacity n h0 h1 = set.from_list (map (position capacity h0 h1) (range
 
 -- the positions of the item that feeds these bytes
 abbrev pub positions_of : ℕ → ℕ → ℕ → List ℕ → Numbers
-positions_of capacity num_hashes seed bytes = positions capacity num_hashes (xxh64 bytes seed) (xxh64 bytes (xxh64 bytes seed))
+positions_of capacity num_hashes seed bytes =
+    let h0 = xxh64 bytes seed in
+    positions capacity num_hashes h0 (xxh64 bytes h0)

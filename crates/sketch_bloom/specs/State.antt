@@ -2,8 +2,9 @@
 use Rattle.std.specs.Prelude.{◌≡◌, ℕ, ◌*◌, ◌<◌, ◌≤◌, ◌==◌, Bool, true, ◌&&◌, List, refl}
 use Rattle.std.specs.Coded.{Coded, code_by, coded×, coded_ℕ}
 use Rattle.std.specs.FinSet as set
-use Rattle.sketch_bloom.specs.Words.{Numbers}
+use Rattle.sketch_bloom.specs.BitSet.{Numbers, same_set}
 use Rattle.sketch_bloom.specs.Positions.{positions_of}
+use Rattle.sketch_bloom.specs.declared.limits.TheConstants.{MAX_NUM_WORDS, MAX_NUM_HASHES}
 
 -- how many words and hashes a filter has, its seed, and the set of the positions that were inserted
 pub record FilterState : Type 0 where
@@ -26,15 +27,16 @@ capacity_of s = 64 * s.num_words
 -- what holds of every filter
 pub record IsFilterState (s : FilterState) : Type 0 where
   pub some_words : 1 ≤ s.num_words
-  pub few_words : s.num_words ≤ 2147483647
+  pub few_words : s.num_words ≤ MAX_NUM_WORDS
   pub some_hashes : 1 ≤ s.num_hashes
-  pub few_hashes : s.num_hashes ≤ 32767
+  pub few_hashes : s.num_hashes ≤ MAX_NUM_HASHES
   -- each position of the set is below the capacity
   pub within : (p : ℕ) → set.contains s.set p ≡ true → p < capacity_of s
 
 -- the filter of a shape and a seed with nothing in it
 abbrev pub empty_state : ℕ → ℕ → ℕ → FilterState
-empty_state num_words num_hashes seed = record { num_words = num_words; num_hashes = num_hashes; seed = seed; set = set.empty }
+empty_state num_words num_hashes seed =
+    record { num_words = num_words; num_hashes = num_hashes; seed = seed; set = set.empty }
 
 -- the positions that the item which feeds these bytes has in a filter
 abbrev pub item_positions : FilterState → List ℕ → Numbers
@@ -52,7 +54,8 @@ pub record IsCompatible (a b : FilterState) : Type 0 where
 
 -- two filters have one shape, one seed and one set, as a test
 abbrev pub same_filter : FilterState → FilterState → Bool
-same_filter a b = (a.num_words == b.num_words) && ((a.num_hashes == b.num_hashes) && ((a.seed == b.seed) && (set.is_subset a.set b.set && set.is_subset b.set a.set)))
+same_filter a b =
+    (a.num_words == b.num_words) && ((a.num_hashes == b.num_hashes) && ((a.seed == b.seed) && same_set a.set b.set))
 
 -- a filter with an item inserted
 abbrev pub inserted : FilterState → List ℕ → FilterState

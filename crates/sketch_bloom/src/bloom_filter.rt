@@ -6,12 +6,15 @@ ghost use Rattle.sketch_base.specs.Hashes.{fed_bytes};
 ghost use Rattle.sketch_base.specs.Xxh64.{xxh64};
 ghost use Rattle.sketch_bloom.specs.History.{BloomHistory};
 ghost use Rattle.sketch_bloom.specs.History.BloomHistory.{Insert, Union, Intersection, Difference, Reset};
-ghost use Rattle.sketch_bloom.specs.Stands.{StandsFor};
+ghost use Rattle.sketch_bloom.specs.Operations.{on_sets};
+ghost use Rattle.sketch_bloom.specs.Stands.{Extends, ExtendsBoth};
 ghost use Rattle.sketch_bloom.specs.State.{IsFilterState, IsCompatible, capacity_of, empty_state, contains_item, inserted, cleared, united, intersected, subtracted};
 
-use crate::words;
-use sketch_base::{Divisor, Error, ErrorKind, Fault, xxh64_of};
-use std::alloc::Global;
+use crate::bit_set;
+use crate::limits::{MAX_NUM_HASHES, MAX_NUM_WORDS};
+use crate::set_operation::SetOperation;
+use sketch_base::{Divisor, Error, Fault, xxh64_of};
+use std::alloc::{AllocError, Global};
 use std::fmt;
 use std::hash::Hash;
 use std::marker::Model;
@@ -41,10 +44,15 @@ impl Model for BloomFilter {
 
     ghost coded = { state_code };
 
-    ghost use Rattle.sketch_bloom.specs.Words.{set_of};
+    ghost use Rattle.sketch_bloom.specs.BitSet.{set_of};
     ghost use Rattle.sketch_bloom.specs.Fields.{IsFilter};
 
-    ghost view = { λ f. record { num_words = length f.words.items; num_hashes = f.num_hashes; seed = f.seed; set = set_of f.words.items } };
+    ghost view = { λ f. record {
+      num_words = length f.words.items;
+      num_hashes = f.num_hashes;
+      seed = f.seed;
+      set = set_of f.words.items;
+    } };
 
     ghost invariant = { λ f. IsFilter f.words.items f.capacity f.num_hashes f.bits_used };
 }
@@ -58,9 +66,9 @@ impl BloomFilter {
         seed: u64,
     ) -> Result<Self, Error>
         requires some_words { 1 ≤ num_words }
-        requires few_words { num_words ≤ 2147483647 }
+        requires few_words { num_words ≤ MAX_NUM_WORDS }
         requires some_hashes { 1 ≤ num_hashes }
-        requires few_hashes { num_hashes ≤ 32767 }
+        requires few_hashes { num_hashes ≤ MAX_NUM_HASHES }
         ensures ok { IfOk result (λ filter. filter ≡ empty_state num_words num_hashes seed) }
         ensures state { IfOk result (λ filter. IsFilterState filter) }
         ensures err { IfErr result (λ e. e ≡ no_memory) }
@@ -81,7 +89,7 @@ impl BloomFilter {
         ensures { result ≡ contains_item self.now (fed_bytes T.hash_input item.now) }
     {
         let (h0, h1) = hashes_of(item, self.seed);
-        words::contains_positions(&self.words, self.capacity, self.num_hashes, h0, h1)
+        bit_set::contains_positions(&self.words, self.capacity, self.num_hashes, h0, h1)
     }
 
     /// Inserts the item's positions, and answers whether all of them were in the set before. It takes no memory.
@@ -90,11 +98,10 @@ impl BloomFilter {
         ensures answer { result ≡ contains_item self.old (fed_bytes T.hash_input item.now) }
         ensures insertion { self.new ≡ inserted self.old (fed_bytes T.hash_input item.now) }
         ensures state { IsFilterState self.new }
-        ensures stands { (h : BloomHistory) → StandsFor self.old h
-            → StandsFor self.new (Insert h (fed_bytes T.hash_input item.now)) }
+        ensures stands { Extends self.old self.new (λ h. Insert h (fed_bytes T.hash_input item.now)) }
     {
         let (h0, h1) = hashes_of(item, self.seed);
-        let added = words::insert_positions(
+        let added = bit_set::insert_positions(
             &mut self.words,
             self.capacity,
             self.num_hashes,
@@ -110,8 +117,7 @@ impl BloomFilter {
     pub fn insert<T: Hash + Drop>(&mut self, item: T)
         ensures insertion { self.new ≡ inserted self.old (fed_bytes T.hash_input item) }
         ensures state { IsFilterState self.new }
-        ensures stands { (h : BloomHistory) → StandsFor self.old h
-            → StandsFor self.new (Insert h (fed_bytes T.hash_input item)) }
+        ensures stands { Extends self.old self.new (λ h. Insert h (fed_bytes T.hash_input item)) }
     {
         self.contains_and_insert(&item);
     }
@@ -120,10 +126,9 @@ impl BloomFilter {
     pub fn reset(&mut self)
         ensures cleared { self.new ≡ cleared self.old }
         ensures state { IsFilterState self.new }
-        ensures stands { (h : BloomHistory) → StandsFor self.old h
-            → StandsFor self.new (Reset h) }
+        ensures stands { Extends self.old self.new Reset }
     {
-        words::clear(&mut self.words);
+        bit_set::clear(&mut self.words);
         self.bits_used = 0;
     }
 
@@ -135,19 +140,14 @@ impl BloomFilter {
     pub fn union(&mut self, other: &BloomFilter) -> Result<(), Error>
         ensures ok { OnOk result (self.new ≡ united self.old other.now) }
         ensures state { IsFilterState self.new }
-        ensures stands { OnOk result ((g h : BloomHistory)
-            → StandsFor self.old g → StandsFor other.now h → StandsFor self.new (Union g h)) }
+        ensures stands { OnOk result (ExtendsBoth self.old other.now self.new Union) }
 
         // It is refused exactly where the filters are not compatible, and is then as it was.
         ensures accepted { IsOk result ↔ IsCompatible self.old other.now }
         ensures refused { IfErr result (λ e. e ≡ invalid_argument Fault.Mismatch) }
         ensures err { OnErr result (self.new ≡ self.old) }
     {
-        if !self.is_compatible(other) {
-            return Err(Error::new(ErrorKind::InvalidArgument, Fault::Mismatch));
-        }
-        self.bits_used = words::unite(&mut self.words, &other.words);
-        Ok(())
+        self.combine(other, SetOperation::Union)
     }
 
     /// Keeps only the positions that are also in the other filter's set. It takes no memory.
@@ -158,19 +158,14 @@ impl BloomFilter {
     pub fn intersect(&mut self, other: &BloomFilter) -> Result<(), Error>
         ensures ok { OnOk result (self.new ≡ intersected self.old other.now) }
         ensures state { IsFilterState self.new }
-        ensures stands { OnOk result ((g h : BloomHistory)
-            → StandsFor self.old g → StandsFor other.now h → StandsFor self.new (Intersection g h)) }
+        ensures stands { OnOk result (ExtendsBoth self.old other.now self.new Intersection) }
 
         // It is refused exactly where the filters are not compatible, and is then as it was.
         ensures accepted { IsOk result ↔ IsCompatible self.old other.now }
         ensures refused { IfErr result (λ e. e ≡ invalid_argument Fault.Mismatch) }
         ensures err { OnErr result (self.new ≡ self.old) }
     {
-        if !self.is_compatible(other) {
-            return Err(Error::new(ErrorKind::InvalidArgument, Fault::Mismatch));
-        }
-        self.bits_used = words::intersect(&mut self.words, &other.words);
-        Ok(())
+        self.combine(other, SetOperation::Intersection)
     }
 
     /// Takes the positions of the other filter's set away. It takes no memory.
@@ -184,18 +179,29 @@ impl BloomFilter {
     pub fn difference(&mut self, other: &BloomFilter) -> Result<(), Error>
         ensures ok { OnOk result (self.new ≡ subtracted self.old other.now) }
         ensures state { IsFilterState self.new }
-        ensures stands { OnOk result ((g h : BloomHistory)
-            → StandsFor self.old g → StandsFor other.now h → StandsFor self.new (Difference g h)) }
+        ensures stands { OnOk result (ExtendsBoth self.old other.now self.new Difference) }
 
         // It is refused exactly where the filters are not compatible, and is then as it was.
         ensures accepted { IsOk result ↔ IsCompatible self.old other.now }
         ensures refused { IfErr result (λ e. e ≡ invalid_argument Fault.Mismatch) }
         ensures err { OnErr result (self.new ≡ self.old) }
     {
+        self.combine(other, SetOperation::Difference)
+    }
+
+    /// Combines the filter's set with that of a compatible filter.
+    #[inline(always)]
+    fn combine(&mut self, other: &BloomFilter, operation: SetOperation) -> Result<(), Error>
+        ensures ok { OnOk result (self.new ≡ record self.old { set = on_sets operation self.old.set other.now.set }) }
+        ensures state { IsFilterState self.new }
+        ensures accepted { IsOk result ↔ IsCompatible self.old other.now }
+        ensures refused { IfErr result (λ e. e ≡ invalid_argument Fault.Mismatch) }
+        ensures err { OnErr result (self.new ≡ self.old) }
+    {
         if !self.is_compatible(other) {
-            return Err(Error::new(ErrorKind::InvalidArgument, Fault::Mismatch));
+            return Err(Error::invalid_argument(Fault::Mismatch));
         }
-        self.bits_used = words::subtract(&mut self.words, &other.words);
+        self.bits_used = bit_set::combine(&mut self.words, &other.words, operation);
         Ok(())
     }
 
@@ -246,14 +252,14 @@ impl BloomFilter {
         self.seed
     }
 
-    /// The bytes of the words: 8 a word.
+    /// The bytes that the filter takes, an estimate by a fixed formula: 8 for each word.
     pub fn estimated_size(&self) -> usize
         ensures { result ≡ 8 * self.now.num_words }
     {
         8 * self.words.len()
     }
 
-    /// An equal filter with memory of its own.
+    /// A clone with memory of its own, as [`clone`](Clone::clone) makes it.
     ///
     /// # Errors
     ///
@@ -262,6 +268,15 @@ impl BloomFilter {
         ensures ok { IfOk result (λ filter. filter ≡ self.now) }
         ensures err { IfErr result (λ e. e ≡ no_memory) }
     {
+        Ok(self.clone()?)
+    }
+}
+
+/// A clone equals the filter, and has memory of its own. It is refused only for memory.
+impl Clone for BloomFilter {
+    ghost is_clone = { λ filter copy. copy ≡ filter };
+
+    fn clone(&self) -> Result<Self, AllocError> {
         Ok(BloomFilter {
             words: self.words.clone()?,
             capacity: self.capacity,
@@ -284,16 +299,23 @@ fn hashes_of<T: Hash>(item: &T, seed: u64) -> (u64, u64)
 
 /// Filters are equal where they have one number of words, one number of hashes, one seed and one set.
 impl PartialEq for BloomFilter {
+    ghost use Rattle.std.specs.Cmp.{partial_equiv_from_equiv};
     ghost use Rattle.sketch_bloom.specs.State.{same_filter};
-    ghost use Rattle.sketch_bloom.specs.Equality.{same_filter_laws};
+    ghost use Rattle.sketch_bloom.specs.Equality.{same_filter_equivalence};
 
     ghost eq = { same_filter };
 
-    ghost laws = { same_filter_laws };
+    ghost laws = { partial_equiv_from_equiv same_filter_equivalence };
 
     fn eq(&self, other: &BloomFilter) -> bool {
-        self.is_compatible(other) && words::is_same(&self.words, &other.words)
+        self.is_compatible(other) && bit_set::is_same(&self.words, &other.words)
     }
+}
+
+impl Eq for BloomFilter {
+    ghost use Rattle.sketch_bloom.specs.Equality.{same_filter_equivalence};
+
+    ghost laws = { same_filter_equivalence };
 }
 
 impl fmt::Debug for BloomFilter {

@@ -7,15 +7,10 @@ ghost use Rattle.sketch_bloom.specs.Stands.{StandsFor};
 ghost use Rattle.sketch_bloom.specs.State.{IsFilterState, empty_state};
 
 use crate::bloom_filter::BloomFilter;
-use sketch_base::{DEFAULT_UPDATE_SEED, Error, ErrorKind, Fault};
+use crate::limits::{MAX_NUM_BITS, MAX_NUM_HASHES};
+use sketch_base::{DEFAULT_UPDATE_SEED, Error, Fault};
 use std::alloc::Global;
 use std::marker::Model;
-
-/// The most bits that a filter may be asked for.
-const GREATEST_NUM_BITS: u64 = 137438953152;
-
-/// The most hashes that a filter may be asked for.
-const GREATEST_NUM_HASHES: u16 = 32767;
 
 /// The number of bits and of hashes and the seed of a filter that is to be made.
 ///
@@ -38,8 +33,7 @@ impl Model for BloomFilterBuilder {
 impl BloomFilterBuilder {
     /// A filter of at least `num_bits` bits, which takes `num_hashes` positions of each item. Its seed is 9001.
     pub fn with_size(num_bits: u64, num_hashes: u16) -> Self
-        ensures { result
-            ≡ record { num_bits = num_bits; num_hashes = num_hashes; seed = 9001 } }
+        ensures { result ≡ record { num_bits = num_bits; num_hashes = num_hashes; seed = DEFAULT_UPDATE_SEED } }
     {
         BloomFilterBuilder {
             num_bits,
@@ -71,11 +65,11 @@ impl BloomFilterBuilder {
         ensures accepted { IsOk result → request_fault self ≡ None }
         ensures refused { IfErr result (λ e. e ≡ refusal_of (request_fault self)) }
     {
-        if self.num_bits == 0 || self.num_bits > GREATEST_NUM_BITS {
-            return Err(Error::new(ErrorKind::InvalidArgument, Fault::BadNumBits));
+        if self.num_bits == 0 || self.num_bits > MAX_NUM_BITS {
+            return Err(Error::invalid_argument(Fault::BadNumBits));
         }
-        if self.num_hashes == 0 || self.num_hashes > GREATEST_NUM_HASHES {
-            return Err(Error::new(ErrorKind::InvalidArgument, Fault::BadNumHashes));
+        if self.num_hashes == 0 || self.num_hashes > MAX_NUM_HASHES {
+            return Err(Error::invalid_argument(Fault::BadNumHashes));
         }
         let num_words = self.num_bits.div_ceil(64) as usize;
         BloomFilter::with_words(alloc, num_words, self.num_hashes, self.seed)

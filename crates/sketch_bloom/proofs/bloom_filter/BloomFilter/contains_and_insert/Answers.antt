@@ -1,6 +1,6 @@
 use Rattle.std.proofs.Common.{◌≡◌, ◌≤◌, ◌*◌, length, List, ℕ, ap, arith}
 use Rattle.std.specs.FinSet as set
-use Rattle.sketch_bloom.specs.Words.{set_of}
+use Rattle.sketch_bloom.specs.BitSet.{set_of}
 use Rattle.sketch_bloom.proofs.Counting.{len-set_of-le}
 use Rattle.sketch_bloom.proofs.States.{written_state}
 use Rattle.sketch_bloom.proofs.bloom_filter.BloomFilter.contains_and_insert.Goals as goal

@@ -1,8 +1,8 @@
 use Rattle.std.proofs.Common.{◌≡◌, sym, ap, refl, ◌∙◌}
 use Rattle.std.proofs.lemmas.Bool.Decides.{same_from_decides}
-use Rattle.sketch_bloom.specs.Equality.{same_states, equal_by_parts, equal_from_same}
+use Rattle.sketch_bloom.specs.Equality.{same_states, same_filter-Decides}
 use Rattle.sketch_bloom.specs.State.{FilterState, IsCompatible, same_filter}
-use Rattle.sketch_bloom.specs.Words.{set_of}
+use Rattle.sketch_bloom.specs.BitSet.{set_of}
 use Rattle.sketch_bloom.proofs.bloom_filter.BloomFilterPartialEq.eq.Goals as goal
 
 pub returns-then-is_compatible : goal.returns-then-is_compatible
@@ -16,4 +16,4 @@ returns-then-is_compatible c =
       (λ t. same_states a b alike.num_words alike.num_hashes alike.seed (sym mine ∙ c.is_same.ensures.0 t ∙ theirs)),
       (λ e. c.is_same.ensures.1 (mine ∙ ap (λ (s : FilterState). s.set) e ∙ sym theirs)),
     )
-    (equal_by_parts a b, equal_from_same a b)
+    (same_filter-Decides a b)

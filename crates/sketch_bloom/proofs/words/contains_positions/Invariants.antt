@@ -1,8 +1,0 @@
-use Rattle.std.proofs.Common.{◌≡◌, ◌+◌, ◌*◌, ◌%◌, ◌^◌, true}
-use Rattle.std.specs.FinSet as set
-use Rattle.sketch_bloom.specs.Words.{set_of}
-use Rattle.sketch_bloom.specs.Positions.{positions}
-use Rattle.sketch_bloom.proofs.words.contains_positions.Given as goal
-
-abbrev pub invariant-looks : goal.invariant-looks
-invariant-looks l = (l.hash ≡ (l.h0 + l._i * l.h1) % 2 ^ 64) × (set.is_subset (positions l.capacity l._i l.h0 l.h1) (set_of l.words) ≡ true)

@@ -1,0 +1,162 @@
+//! Sets of numbers in words of 64 bits.
+//!
+//! A number `p` stands in the words where bit `p % 64` of word `p / 64` is set. Two sets are combined eight words at a
+//! time, then four where so many are left, and the last three at most one by one.
+ghost use Rattle.std.specs.Prelude.{◌≡◌, ◌+◌, ◌*◌, ◌/◌, ◌%◌, ◌<◌, ◌≤◌, ◌==◌, ◌↔◌, IsTrue, length, take, drop, count_ones};
+ghost use Rattle.std.specs.List.{sum_by};
+ghost use Rattle.std.specs.FinSet as set;
+ghost use Rattle.sketch_bloom.specs.BitSet.{set_of};
+ghost use Rattle.sketch_bloom.specs.Operations.{on_sets};
+ghost use Rattle.sketch_bloom.specs.Positions.{positions};
+
+use crate::limits::MAX_NUM_WORDS;
+use crate::set_operation::SetOperation;
+use sketch_base::Divisor;
+use std::simd::prelude::*;
+
+/// The position that a sum of hashes gives: its half, modulo the capacity.
+#[inline(always)]
+fn place_of(hash: u64, capacity: Divisor) -> u64
+    ensures value { result ≡ hash / 2 % capacity }
+    ensures below { result < capacity }
+{
+    capacity.rem(hash >> 1)
+}
+
+/// Whether all positions that two hashes give stand in the words. It stops at the first that does not.
+#[inline(always)]
+pub fn contains_positions(
+    words: &[u64],
+    capacity: Divisor,
+    num_hashes: u16,
+    h0: u64,
+    h1: u64,
+) -> bool
+    requires { capacity ≡ 64 * length words.now }
+    ensures { result ≡ set.is_subset (positions capacity num_hashes h0 h1) (set_of words.now) }
+{
+    let mut hash = h0;
+    // The label is there for the prover alone.
+    'looks: for _i in 0..num_hashes {
+        hash = hash.wrapping_add(h1);
+        let place = place_of(hash, capacity);
+        let word = words[(place / 64) as usize];
+        if word >> (place % 64) & 1 == 0 {
+            return false;
+        }
+    }
+    true
+}
+
+/// Inserts all positions that two hashes give, and answers how many of them are new.
+#[inline(always)]
+pub fn insert_positions(
+    words: &mut [u64],
+    capacity: Divisor,
+    num_hashes: u16,
+    h0: u64,
+    h1: u64,
+) -> u64
+    requires { capacity ≡ 64 * length words.old }
+    ensures union { set_of words.new
+        ≡ set.union (set_of words.old) (positions capacity num_hashes h0 h1) }
+    ensures added { set.len (set_of words.new) ≡ set.len (set_of words.old) + result }
+    ensures contained { set.is_subset (positions capacity num_hashes h0 h1) (set_of words.old)
+        ≡ (result == 0) }
+{
+    let mut added = 0;
+    let mut hash = h0;
+    // The label is there for the prover alone.
+    'inserts: for _i in 0..num_hashes {
+        hash = hash.wrapping_add(h1);
+        let place = place_of(hash, capacity);
+        let at = (place / 64) as usize;
+        let word = words[at];
+        words[at] = word | 1 << (place % 64);
+        added += (word >> (place % 64) & 1 == 0) as u64;
+    }
+    added
+}
+
+/// Whether the same numbers stand in both lists of words.
+pub fn is_same(words: &[u64], other: &[u64]) -> bool
+    requires { length words.now ≡ length other.now }
+    ensures { IsTrue result ↔ (set_of words.now ≡ set_of other.now) }
+{
+    for (i, word) in words.iter().enumerate() {
+        if *word != other[i] {
+            return false;
+        }
+    }
+    true
+}
+
+/// Takes all numbers out of the words.
+pub fn clear(words: &mut [u64])
+    ensures { set_of words.new ≡ set.empty }
+{
+    words.fill(0);
+}
+
+/// Combines the set with another, eight words at a time, then four, and answers the size of what it leaves.
+#[inline(always)]
+pub fn combine(words: &mut [u64], other: &[u64], operation: SetOperation) -> u64
+    requires same { length other.now ≡ length words.old }
+    requires few { length words.old ≤ MAX_NUM_WORDS }
+    ensures combined { set_of words.new ≡ on_sets operation (set_of words.old) (set_of other.now) }
+    ensures size { result ≡ set.len (set_of words.new) }
+{
+    let mut size = 0;
+    let eights = words.len() / 8;
+    // The labels are there for the prover alone: its goals are named after them.
+    'eights: for b in 0..eights {
+        let at = 8 * b;
+        let combined = operation.words(
+            u64x8::from_slice(&words[at..]),
+            u64x8::from_slice(&other[at..]),
+        );
+        combined.copy_to_slice(&mut words[at..]);
+        size += ones_of_eight(words, at);
+    }
+    let fours = words.len() / 4;
+    'fours: for b in 2 * eights..fours {
+        let at = 4 * b;
+        let combined = operation.words(
+            u64x4::from_slice(&words[at..]),
+            u64x4::from_slice(&other[at..]),
+        );
+        combined.copy_to_slice(&mut words[at..]);
+        size += ones_of_four(words, at);
+    }
+    'rest: for i in 4 * fours..words.len() {
+        words[i] = operation.word(words[i], other[i]);
+        size += words[i].count_ones() as u64;
+    }
+    size
+}
+
+/// How many bits are set in the eight words from a place on.
+#[inline(always)]
+fn ones_of_eight(words: &[u64], at: usize) -> u64
+    requires { at + 8 ≤ length words.now }
+    ensures count { result ≡ sum_by count_ones (take 8 (drop at words.now)) }
+    ensures few { result ≤ 512 }
+{
+    let first = words[at].count_ones() + words[at + 1].count_ones();
+    let second = words[at + 2].count_ones() + words[at + 3].count_ones();
+    let third = words[at + 4].count_ones() + words[at + 5].count_ones();
+    let fourth = words[at + 6].count_ones() + words[at + 7].count_ones();
+    (first + second + (third + fourth)) as u64
+}
+
+/// How many bits are set in the four words from a place on.
+#[inline(always)]
+fn ones_of_four(words: &[u64], at: usize) -> u64
+    requires { at + 4 ≤ length words.now }
+    ensures count { result ≡ sum_by count_ones (take 4 (drop at words.now)) }
+    ensures few { result ≤ 256 }
+{
+    let low = words[at].count_ones() + words[at + 1].count_ones();
+    let high = words[at + 2].count_ones() + words[at + 3].count_ones();
+    (low + high) as u64
+}
