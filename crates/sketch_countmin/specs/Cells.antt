@@ -1,19 +1,24 @@
 -- Cells that lie row by row in one list, and what the loops over them do.
 use Rattle.std.specs.Prelude.{◌≡◌, ℕ, ◌+◌, ◌*◌, ◌<◌, ◌≤◌, ◌==◌, if◌then◌else◌, List, slice_index_or, ℤ, pos, ◌+ℤ◌, ◌≤ℤ◌}
 
+-- the cell at a place of the list, or 0 past its end
+abbrev pub cell_in : List ℤ → ℕ → ℤ
+cell_in cells k = slice_index_or cells k (pos 0)
+
 -- the cell of the row r at the bucket b
 abbrev pub flat_at : ℕ → List ℤ → ℕ → ℕ → ℤ
-flat_at buckets cells r b = slice_index_or cells (r * buckets + b) (pos 0)
+flat_at buckets cells r b = cell_in cells (r * buckets + b)
 
 -- each of the first n rows has w more at its bucket; the other cells are as before
 pub record RowsAdded (buckets : ℕ) (w : ℤ) (bucket : ℕ → ℕ) (n : ℕ) (old new : List ℤ) : Type 0 where
-  pub done : (r : ℕ) → r < n → (b : ℕ) → b < buckets → flat_at buckets new r b ≡ flat_at buckets old r b +ℤ (if bucket r == b then w else pos 0)
-  pub rest : (k : ℕ) → n * buckets ≤ k → slice_index_or new k (pos 0) ≡ slice_index_or old k (pos 0)
+  pub done : (r : ℕ) → r < n → (b : ℕ) → b < buckets
+      → flat_at buckets new r b ≡ flat_at buckets old r b +ℤ (if bucket r == b then w else pos 0)
+  pub rest : (k : ℕ) → n * buckets ≤ k → cell_in new k ≡ cell_in old k
 
 -- the first n cells have those of another list added; the rest are as before
 pub record CellsAdded (n : ℕ) (old other new : List ℤ) : Type 0 where
-  pub done : (k : ℕ) → k < n → slice_index_or new k (pos 0) ≡ slice_index_or old k (pos 0) +ℤ slice_index_or other k (pos 0)
-  pub rest : (k : ℕ) → n ≤ k → slice_index_or new k (pos 0) ≡ slice_index_or old k (pos 0)
+  pub done : (k : ℕ) → k < n → cell_in new k ≡ cell_in old k +ℤ cell_in other k
+  pub rest : (k : ℕ) → n ≤ k → cell_in new k ≡ cell_in old k
 
 -- z is the least of the cells that the first n rows have at their buckets
 pub record IsLeastOf (buckets : ℕ) (cells : List ℤ) (bucket : ℕ → ℕ) (n : ℕ) (z : ℤ) : Type 0 where

@@ -1,6 +1,6 @@
 -- Equality of two sketches: by shape, seed, total and cells.
 use lib.Pointwise.{pointwise}
-use Rattle.std.proofs.Common.{◌≡◌, ℕ, ◌&&◌, Bool, List, ℤ, ap, ◌∙◌}
+use Rattle.std.proofs.Common.{◌≡◌, ◌&&◌, Bool, ap}
 use Rattle.std.specs.Prelude.{◌==◌}
 use Rattle.std.specs.Bool.{Decides}
 use Rattle.std.specs.Cmp.{IsEquivalence, IsPartialEquivalence, decided, partial_equiv_from_equiv, signed_Decides}
@@ -11,36 +11,44 @@ use Rattle.sketch_countmin.specs.State.{CountState}
 
 -- whether two sketches are the same
 abbrev pub same_state : CountState → CountState → Bool
-same_state s t = s.hashes == t.hashes && (s.buckets == t.buckets && (s.seed == t.seed && (s.total == t.total && pointwise (pointwise int_eq) s.rows t.rows)))
-
--- the sketch of these parts
-abbrev made_of : ℕ → ℕ → ℕ → ℕ → List (List ℤ) → CountState
-made_of hashes buckets seed total rows = record { hashes = hashes; buckets = buckets; seed = seed; total = total; rows = rows }
+same_state s t =
+    s.hashes == t.hashes
+    && (s.buckets == t.buckets
+    && (s.seed == t.seed && (s.total == t.total && pointwise (pointwise int_eq) s.rows t.rows)))
 
 -- equal parts make one sketch
-pub same_parts : (s t : CountState) → s.hashes ≡ t.hashes → s.buckets ≡ t.buckets → s.seed ≡ t.seed → s.total ≡ t.total → s.rows ≡ t.rows → s ≡ t
+pub same_parts : (s t : CountState)
+    → s.hashes ≡ t.hashes → s.buckets ≡ t.buckets → s.seed ≡ t.seed → s.total ≡ t.total → s.rows ≡ t.rows → s ≡ t
 same_parts s t a b c d e =
-    ap (λ (x : ℕ). made_of x s.buckets s.seed s.total s.rows) a
-    ∙ (ap (λ (x : ℕ). made_of t.hashes x s.seed s.total s.rows) b
-    ∙ (ap (λ (x : ℕ). made_of t.hashes t.buckets x s.total s.rows) c
-    ∙ (ap (λ (x : ℕ). made_of t.hashes t.buckets t.seed x s.rows) d
-    ∙ ap (λ (x : List (List ℤ)). made_of t.hashes t.buckets t.seed t.total x) e)))
+    λ i. record { hashes = a i; buckets = b i; seed = c i; total = d i; rows = e i }
 
 -- the test of the parts
 parts_decide : (s t : CountState)
-    → Decides (same_state s t) ((s.hashes ≡ t.hashes) × ((s.buckets ≡ t.buckets) × ((s.seed ≡ t.seed) × ((s.total ≡ t.total) × (s.rows ≡ t.rows)))))
+    → Decides (same_state s t)
+    ((s.hashes ≡ t.hashes)
+    × ((s.buckets ≡ t.buckets) × ((s.seed ≡ t.seed) × ((s.total ≡ t.total) × (s.rows ≡ t.rows)))))
 parts_decide s t =
     Decides-and _ _ (Decides-eqb s.hashes t.hashes)
     (Decides-and _ _ (Decides-eqb s.buckets t.buckets)
     (Decides-and _ _ (Decides-eqb s.seed t.seed)
-    (Decides-and _ _ (Decides-eqb s.total t.total) (pointwise_decides (pointwise_decides signed_Decides) s.rows t.rows))))
+    (Decides-and _ _ (Decides-eqb s.total t.total)
+    (pointwise_decides (pointwise_decides signed_Decides) s.rows t.rows))))
 
 -- the test is true exactly where the sketches are the same
 pub same_state-Decides : (s t : CountState) → Decides (same_state s t) (s ≡ t)
 same_state-Decides s t =
     let parts = parts_decide s t in (
       λ e. let p = parts.0 e in same_parts s t p.0 p.1.0 p.1.1.0 p.1.1.1.0 p.1.1.1.1,
-      λ e. parts.1 (ap (λ (x : CountState). x.hashes) e, (ap (λ (x : CountState). x.buckets) e, (ap (λ (x : CountState). x.seed) e, (ap (λ (x : CountState). x.total) e, ap (λ (x : CountState). x.rows) e)))),
+      λ e. parts.1 (
+        ap (λ (x : CountState). x.hashes) e,
+        (
+          ap (λ (x : CountState). x.buckets) e,
+          (
+            ap (λ (x : CountState). x.seed) e,
+            (ap (λ (x : CountState). x.total) e, ap (λ (x : CountState). x.rows) e),
+          ),
+        ),
+      ),
     )
 
 -- so equality is an equivalence

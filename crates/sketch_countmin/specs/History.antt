@@ -32,7 +32,9 @@ cell_share buckets seed h r b = value_over h (λ bytes. bucket_of buckets seed r
 
 -- the value over the other byte lists that are in the row r in the bucket of these
 abbrev pub others_share : ℕ → ℕ → CountHistory → List ℕ → ℕ → ℤ
-others_share buckets seed h bytes r = value_over h (λ other. (bucket_of buckets seed r other == bucket_of buckets seed r bytes) && not (bytes_eq bytes other))
+others_share buckets seed h bytes r =
+    value_over h (λ other.
+    (bucket_of buckets seed r other == bucket_of buckets seed r bytes) && not (bytes_eq bytes other))
 
 -- the value over all byte lists, with each weight as its distance from zero
 abbrev pub absolute_weight : CountHistory → ℕ

@@ -12,3 +12,11 @@ pub record StandsFor (s : CountState) (h : CountHistory) : Type 0 where
   pub seed : s.seed ≡ seed_of h
   pub total : s.total ≡ absolute_weight h
   pub cells : (r : ℕ) → r < s.hashes → (b : ℕ) → b < s.buckets → cell_at s.rows r b ≡ cell_share s.buckets s.seed h r b
+
+-- what stood for a history stands for the one that a call makes of it
+abbrev pub Extends : CountState → CountState → (CountHistory → CountHistory) → Type 0
+Extends old new f = (h : CountHistory) → StandsFor old h → StandsFor new (f h)
+
+-- what stood for two histories, of a sketch and of another, stands for the one that a call makes of both
+abbrev pub ExtendsBoth : CountState → CountState → CountState → (CountHistory → CountHistory → CountHistory) → Type 0
+ExtendsBoth old other new f = (g h : CountHistory) → StandsFor old g → StandsFor other h → StandsFor new (f g h)

@@ -33,7 +33,8 @@ pub signed_order : (x y : ℤ) → MatchOrdering (int_cmp x y) (x <ℤ y) (x ≡
 signed_order x y = int_ranked x y (int_cmp x y) refl
 
 -- an order of natural numbers is one of whole numbers
-lifted : (x y : ℕ) (o : Ordering) → MatchOrdering o (x < y) (x ≡ y) (y < x) → MatchOrdering o (pos x <ℤ pos y) (pos x ≡ pos y) (pos y <ℤ pos x)
+lifted : (x y : ℕ) (o : Ordering) → MatchOrdering o (x < y) (x ≡ y) (y < x)
+    → MatchOrdering o (pos x <ℤ pos y) (pos x ≡ pos y) (pos y <ℤ pos x)
 lifted x y Less h = omega (arith, ints)
 lifted x y Equal h = ap pos h
 lifted x y Greater h = omega (arith, ints)
@@ -56,7 +57,8 @@ bits_below (negsuc n) h = omega arith
 pub signed_bytes : (g : ℕ) → g < 2 ^ 63 → (z : ℤ) → InRange (negsuc g) g z → number_in (negsuc g) (bytes_of z) ≡ z
 signed_bytes g small z h =
     let fits : SFits w64 z = fits_64 g small z h in
-    ap (λ (n : ℕ). cast_signed w64 n) (from_le_bytes-to_le_bytes_8 (cast_unsigned w64 z) (bits_below z fits)) ∙ to_z-of_z w64 z fits
+    ap (λ (n : ℕ). cast_signed w64 n) (from_le_bytes-to_le_bytes_8 (cast_unsigned w64 z) (bits_below z fits))
+    ∙ to_z-of_z w64 z fits
 
 -- a number of an unsigned type comes back from its bytes
 pub unsigned_bytes : (g : ℕ) → g < 2 ^ 64 → (z : ℤ) → InRange (pos 0) g z → number_in (pos 0) (bytes_of z) ≡ z

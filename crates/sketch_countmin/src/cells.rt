@@ -1,9 +1,9 @@
 //! Loops over the cells of a sketch, which lie row by row in one slice.
-ghost use Rattle.std.specs.Prelude.{◌≡◌, ℕ, ◌+◌, ◌*◌, ◌<◌, ◌≤◌, map, length, slice_index, slice_index_or, slice_set, pos, ◌+ℤ◌, unsigned_abs, replicate, vec_len, IfOk, IsTrue, ◌↔◌};
+ghost use Rattle.std.specs.Prelude.{◌≡◌, ℕ, ◌+◌, ◌*◌, ◌<◌, ◌≤◌, map, length, slice_index, slice_set, pos, ◌+ℤ◌, unsigned_abs, replicate, vec_len, IfOk, IsTrue, ◌↔◌};
 ghost use Rattle.sketch_base.specs.Hashes.{fed_bytes};
 ghost use Rattle.sketch_countmin.specs.Values.{scaled, halved};
-ghost use Rattle.sketch_countmin.specs.Cells.{flat_at, RowsAdded, IsLeastOf};
-ghost use Rattle.sketch_countmin.specs.Buckets.{row_seed, bucket_by};
+ghost use Rattle.sketch_countmin.specs.Cells.{cell_in, RowsAdded, IsLeastOf};
+ghost use Rattle.sketch_countmin.specs.Buckets.{row_seed, buckets_by};
 
 use crate::count_min_value::CountMinValue;
 use crate::unsigned_count_min_value::UnsignedCountMinValue;
@@ -38,8 +38,9 @@ pub fn zeros<T: CountMinValue>(alloc: Global, size: usize) -> Result<Vec<T>, All
 #[inline(always)]
 fn add_at<T: CountMinValue>(counts: &mut [T], place: usize, weight: T)
     requires bounds { place < length counts.old }
-    requires room { unsigned_abs (slice_index_or (map T.number counts.old) place (pos 0) +ℤ T.number weight) ≤ T.greatest }
-    ensures { map T.number counts.new ≡ slice_set (map T.number counts.old) place (slice_index_or (map T.number counts.old) place (pos 0) +ℤ T.number weight) }
+    requires room { unsigned_abs (cell_in (map T.number counts.old) place +ℤ T.number weight) ≤ T.greatest }
+    ensures { let cells = map T.number counts.old in
+        map T.number counts.new ≡ slice_set cells place (cell_in cells place +ℤ T.number weight) }
 {
     let sum = counts[place].to_number() + weight.to_number();
     counts[place] = T::from_number_in_range(sum);
@@ -55,8 +56,10 @@ pub fn add_to_rows<T: CountMinValue, I: Hash>(
     weight: T,
 )
     requires shape { length counts.old ≡ length row_seeds.now * buckets }
-    requires room { (k : ℕ) → unsigned_abs (slice_index_or (map T.number counts.old) k (pos 0) +ℤ T.number weight) ≤ T.greatest }
-    ensures { RowsAdded buckets (T.number weight) (λ r. bucket_by buckets (slice_index row_seeds.now r) (fed_bytes I.hash_input item.now)) (length row_seeds.now) (map T.number counts.old) (map T.number counts.new) }
+    requires room { (k : ℕ) → unsigned_abs (cell_in (map T.number counts.old) k +ℤ T.number weight) ≤ T.greatest }
+    ensures { RowsAdded buckets (T.number weight)
+        (buckets_by buckets row_seeds.now (fed_bytes I.hash_input item.now))
+        (length row_seeds.now) (map T.number counts.old) (map T.number counts.new) }
 {
     let columns = buckets.divisor() as usize;
     for (row, seed) in row_seeds.iter().enumerate() {
@@ -68,8 +71,10 @@ pub fn add_to_rows<T: CountMinValue, I: Hash>(
 /// Adds the cells of another table, place by place.
 pub fn add_all<T: CountMinValue>(counts: &mut [T], other: &[T])
     requires same { length counts.old ≡ length other.now }
-    requires room { (k : ℕ) → unsigned_abs (slice_index_or (map T.number counts.old) k (pos 0) +ℤ slice_index_or (map T.number other.now) k (pos 0)) ≤ T.greatest }
-    ensures { (k : ℕ) → slice_index_or (map T.number counts.new) k (pos 0) ≡ slice_index_or (map T.number counts.old) k (pos 0) +ℤ slice_index_or (map T.number other.now) k (pos 0) }
+    requires room { (k : ℕ)
+        → unsigned_abs (cell_in (map T.number counts.old) k +ℤ cell_in (map T.number other.now) k) ≤ T.greatest }
+    ensures { (k : ℕ) → cell_in (map T.number counts.new) k
+        ≡ cell_in (map T.number counts.old) k +ℤ cell_in (map T.number other.now) k }
 {
     for place in 0..other.len() {
         add_at(counts, place, other[place]);
@@ -106,7 +111,9 @@ pub fn least_cell<T: CountMinValue, I: Hash>(
 ) -> T
     requires shape { length counts.now ≡ length row_seeds.now * buckets }
     requires rows { 0 < length row_seeds.now }
-    ensures { IsLeastOf buckets (map T.number counts.now) (λ r. bucket_by buckets (slice_index row_seeds.now r) (fed_bytes I.hash_input item.now)) (length row_seeds.now) (T.number result) }
+    ensures { IsLeastOf buckets (map T.number counts.now)
+        (buckets_by buckets row_seeds.now (fed_bytes I.hash_input item.now))
+        (length row_seeds.now) (T.number result) }
 {
     let columns = buckets.divisor() as usize;
     let first = buckets.rem(murmur3_of(item, row_seeds[0]).0) as usize;

@@ -6,26 +6,25 @@ ghost use Rattle.sketch_countmin.specs.History.{CountHistory, IsNonnegative, IsE
 ghost use Rattle.sketch_countmin.specs.History.CountHistory.{New, Update, Merge, Halve, Decay};
 ghost use Rattle.sketch_countmin.specs.Rows.{cell_at};
 ghost use Rattle.sketch_countmin.specs.Shapes.{shape_fault};
-ghost use Rattle.sketch_countmin.specs.Stands.{StandsFor};
+ghost use Rattle.sketch_countmin.specs.Stands.{StandsFor, Extends, ExtendsBoth};
 ghost use Rattle.sketch_countmin.specs.State.{IsCountState, SameShape, Counts, Joins, IsLeast, IsLeastCell, empty_state, halved_state, decayed_state, upper_bound_of};
 
 use crate::cells::{
     add_all, add_to_rows, halve_all, least_cell, row_seeds, same_cells, scale_all, zeros,
 };
 use crate::count_min_value::CountMinValue;
+use crate::limits::{MAX_TABLE_ENTRIES, MIN_NUM_BUCKETS};
 use crate::unsigned_count_min_value::UnsignedCountMinValue;
 use sketch_base::{DEFAULT_UPDATE_SEED, Divisor, Error, ErrorKind, Fault, compute_seed_hash};
-use std::alloc::Global;
+use std::alloc::{AllocError, Global};
 use std::fmt;
 use std::hash::Hash;
 use std::marker::Model;
 
-/// The number of cells that a sketch stays below.
-const MAX_TABLE_ENTRIES: usize = 1 << 30;
-
-/// The fraction that stands for e, the base of natural logarithms, in an upper bound.
+/// What is divided in the fraction that stands for e, the base of natural logarithms, in an upper bound.
 const E_NUMERATOR: u128 = 2_718_281_828_459_045_235;
 
+/// What it is divided by.
 const E_DENOMINATOR: u128 = 1_000_000_000_000_000_000;
 
 /// A sketch of the weights of items, in a table with a row of cells for each of a few hashes.
@@ -54,7 +53,8 @@ impl<T: CountMinValue> Model for CountMinSketch<T> {
 
     ghost view = { λ a. state_of a.row_seeds.items a.buckets a.seed (T.number a.total) (map T.number a.counts.items) };
 
-    ghost invariant = { λ a. IsTable T.greatest a.row_seeds.items a.buckets a.seed (T.number a.total) (map T.number a.counts.items) };
+    ghost invariant = { λ a.
+        IsTable T.greatest a.row_seeds.items a.buckets a.seed (T.number a.total) (map T.number a.counts.items) };
 }
 
 impl<T: CountMinValue> CountMinSketch<T> {
@@ -89,14 +89,14 @@ impl<T: CountMinValue> CountMinSketch<T> {
         ensures refused { IfErr result (λ e. e ≡ refusal_of (shape_fault num_hashes num_buckets seed)) }
     {
         if num_hashes == 0 {
-            return Err(Error::new(ErrorKind::InvalidArgument, Fault::BadNumHashes));
+            return Err(Error::invalid_argument(Fault::BadNumHashes));
         }
-        if num_buckets < 3 {
-            return Err(Error::new(ErrorKind::InvalidArgument, Fault::BadNumBuckets));
+        if num_buckets < MIN_NUM_BUCKETS {
+            return Err(Error::invalid_argument(Fault::BadNumBuckets));
         }
         let size = num_hashes as usize * num_buckets as usize;
         if size >= MAX_TABLE_ENTRIES {
-            return Err(Error::new(ErrorKind::InvalidArgument, Fault::TableTooLarge));
+            return Err(Error::invalid_argument(Fault::TableTooLarge));
         }
         compute_seed_hash(seed, ErrorKind::InvalidArgument)?;
         let row_seeds = row_seeds(alloc, num_hashes, seed)?;
@@ -154,7 +154,7 @@ impl<T: CountMinValue> CountMinSketch<T> {
     pub fn update<I: Hash + Drop>(&mut self, item: I) -> Result<(), Error>
         ensures counted { OnOk result (Counts self.old (fed_bytes I.hash_input item) (pos 1) self.new) }
         ensures state { IsCountState T.greatest self.new }
-        ensures stands { OnOk result ((h : CountHistory) → StandsFor self.old h → StandsFor self.new (Update h (fed_bytes I.hash_input item) (pos 1))) }
+        ensures stands { OnOk result (Extends self.old self.new (λ h. Update h (fed_bytes I.hash_input item) (pos 1))) }
         ensures err { OnErr result (self.new ≡ self.old) }
         ensures overflow { T.greatest < self.old.total + 1 → IsErrOf result (invalid_argument Fault.WeightOverflow) }
         ensures succeeds { self.old.total + 1 ≤ T.greatest → IsOk result }
@@ -174,13 +174,13 @@ impl<T: CountMinValue> CountMinSketch<T> {
         ensures zero { T.number weight ≡ pos 0 → IsOk result × (self.new ≡ self.old) }
         ensures counted { OnOk result (Counts self.old (fed_bytes I.hash_input item) (T.number weight) self.new) }
         ensures state { IsCountState T.greatest self.new }
-
-        // What stood for a history stands for the extended one.
-        ensures stands { OnOk result ((h : CountHistory) → StandsFor self.old h → StandsFor self.new (Update h (fed_bytes I.hash_input item) (T.number weight))) }
+        ensures stands { OnOk result (Extends self.old self.new
+            (λ h. Update h (fed_bytes I.hash_input item) (T.number weight))) }
 
         // A refusal changes nothing, and stands exactly where the total would pass the greatest value.
         ensures err { OnErr result (self.new ≡ self.old) }
-        ensures overflow { T.greatest < self.old.total + unsigned_abs (T.number weight) → IsErrOf result (invalid_argument Fault.WeightOverflow) }
+        ensures overflow { T.greatest < self.old.total + unsigned_abs (T.number weight)
+            → IsErrOf result (invalid_argument Fault.WeightOverflow) }
         ensures succeeds { self.old.total + unsigned_abs (T.number weight) ≤ T.greatest → IsOk result }
     {
         let total = self.total;
@@ -188,10 +188,10 @@ impl<T: CountMinValue> CountMinSketch<T> {
             return Ok(());
         }
         let Some(size) = weight.checked_abs() else {
-            return Err(Error::new(ErrorKind::InvalidArgument, Fault::WeightOverflow));
+            return Err(Error::invalid_argument(Fault::WeightOverflow));
         };
         let Some(total) = total.checked_add(size) else {
-            return Err(Error::new(ErrorKind::InvalidArgument, Fault::WeightOverflow));
+            return Err(Error::invalid_argument(Fault::WeightOverflow));
         };
         add_to_rows(
             &mut self.counts,
@@ -213,11 +213,16 @@ impl<T: CountMinValue> CountMinSketch<T> {
 
         // Where no weight was below zero, the item's own share of the history is at most the estimate, and that is at
         // most the total.
-        ensures encloses { (h : CountHistory) → StandsFor self.now h → IsNonnegative h → (own_value h (fed_bytes I.hash_input item) ≤ℤ T.number result) × (T.number result ≤ℤ pos self.now.total) }
+        ensures encloses { (h : CountHistory) → StandsFor self.now h → IsNonnegative h
+            → (own_value h (fed_bytes I.hash_input item) ≤ℤ T.number result)
+            × (T.number result ≤ℤ pos self.now.total) }
 
         // Where nothing was halved or decayed, the estimate is above the item's own share by the least, over the rows,
         // of what the other items of its buckets share.
-        ensures raised { (h : CountHistory) → StandsFor self.now h → IsExact h → IsLeast self.now.hashes (others_share self.now.buckets self.now.seed h (fed_bytes I.hash_input item)) (T.number result -ℤ own_value h (fed_bytes I.hash_input item)) }
+        ensures raised { (h : CountHistory) → StandsFor self.now h → IsExact h
+            → let bytes = fed_bytes I.hash_input item in
+            IsLeast self.now.hashes (others_share self.now.buckets self.now.seed h bytes)
+            (T.number result -ℤ own_value h bytes) }
     {
         least_cell(&self.counts, self.buckets, &self.row_seeds, &item)
     }
@@ -235,7 +240,8 @@ impl<T: CountMinValue> CountMinSketch<T> {
     /// The margin is `total * 2718281828459045235 / (10^18 * buckets)`, rounded down: e times the mean weight of a
     /// bucket.
     pub fn upper_bound<I: Hash + Drop>(&self, item: I) -> T
-        ensures { (estimate : ℤ) → IsLeastCell self.now (fed_bytes I.hash_input item) estimate → T.number result ≡ upper_bound_of T.greatest self.now estimate }
+        ensures { (estimate : ℤ) → IsLeastCell self.now (fed_bytes I.hash_input item) estimate
+            → T.number result ≡ upper_bound_of T.greatest self.now estimate }
     {
         let scale = E_DENOMINATOR * self.buckets.divisor() as u128;
         let margin = self.total.to_number() as u128 * E_NUMERATOR / scale;
@@ -255,21 +261,22 @@ impl<T: CountMinValue> CountMinSketch<T> {
     pub fn merge(&mut self, other: &CountMinSketch<T>) -> Result<(), Error>
         ensures joined { OnOk result (Joins self.old other.now self.new) }
         ensures state { IsCountState T.greatest self.new }
+        ensures stands { OnOk result (ExtendsBoth self.old other.now self.new Merge) }
 
-        // What stood for two histories stands for the merged one.
-        ensures stands { OnOk result ((g h : CountHistory) → StandsFor self.old g → StandsFor other.now h → StandsFor self.new (Merge g h)) }
-
+        // A refusal changes nothing, and stands exactly where shapes or seeds differ or the totals pass the greatest
+        // value.
         ensures err { OnErr result (self.new ≡ self.old) }
         ensures mismatch { ¬ SameShape self.old other.now → IsErrOf result (invalid_argument Fault.Mismatch) }
-        ensures overflow { SameShape self.old other.now → T.greatest < self.old.total + other.now.total → IsErrOf result (invalid_argument Fault.WeightOverflow) }
+        ensures overflow { SameShape self.old other.now → T.greatest < self.old.total + other.now.total
+            → IsErrOf result (invalid_argument Fault.WeightOverflow) }
         ensures succeeds { SameShape self.old other.now → self.old.total + other.now.total ≤ T.greatest → IsOk result }
     {
         let total = self.total;
         if !self.has_shape_of(other) {
-            return Err(Error::new(ErrorKind::InvalidArgument, Fault::Mismatch));
+            return Err(Error::invalid_argument(Fault::Mismatch));
         }
         let Some(total) = total.checked_add(other.total) else {
-            return Err(Error::new(ErrorKind::InvalidArgument, Fault::WeightOverflow));
+            return Err(Error::invalid_argument(Fault::WeightOverflow));
         };
         add_all(&mut self.counts, &other.counts);
         self.total = total;
@@ -285,15 +292,15 @@ impl<T: CountMinValue> CountMinSketch<T> {
             && self.seed == other.seed
     }
 
-    /// The bytes of the cells and of the seeds of the rows: hashes times buckets times the size of `T`, and 8 for each
-    /// hash.
+    /// The bytes that the sketch takes, an estimate by a fixed formula: hashes times buckets times the size of `T`,
+    /// and 8 for each hash.
     pub fn estimated_size(&self) -> usize
         ensures { result ≡ self.now.hashes * self.now.buckets * T.SIZE + 8 * self.now.hashes }
     {
         self.counts.len() * T::SIZE + 8 * self.row_seeds.len()
     }
 
-    /// A sketch that equals this one.
+    /// A clone with memory of its own, as [`clone`](Clone::clone) makes it.
     ///
     /// # Errors
     ///
@@ -302,6 +309,15 @@ impl<T: CountMinValue> CountMinSketch<T> {
         ensures same { IfOk result (λ copy. copy ≡ self.now) }
         ensures err { IfErr result (λ e. e ≡ no_memory) }
     {
+        Ok(self.clone()?)
+    }
+}
+
+/// A clone equals the sketch, and has memory of its own. It is refused only for memory.
+impl<T: CountMinValue> Clone for CountMinSketch<T> {
+    ghost is_clone = { λ sketch copy. copy ≡ sketch };
+
+    fn clone(&self) -> Result<Self, AllocError> {
         let alloc = *self.counts.allocator();
         let row_seeds = Vec::from_slice(alloc, &self.row_seeds)?;
         let counts = Vec::from_slice(alloc, &self.counts)?;
@@ -320,7 +336,7 @@ impl<T: UnsignedCountMinValue> CountMinSketch<T> {
     pub fn halve(&mut self)
         ensures value { self.new ≡ halved_state self.old }
         ensures state { IsCountState T.greatest self.new }
-        ensures stands { (h : CountHistory) → StandsFor self.old h → StandsFor self.new (Halve h) }
+        ensures stands { Extends self.old self.new Halve }
     {
         halve_all(&mut self.counts);
         self.total = self.total.halve();
@@ -333,7 +349,7 @@ impl<T: UnsignedCountMinValue> CountMinSketch<T> {
         requires at_most_one { numerator ≤ denominator }
         ensures value { self.new ≡ decayed_state numerator denominator self.old }
         ensures state { IsCountState T.greatest self.new }
-        ensures stands { (h : CountHistory) → StandsFor self.old h → StandsFor self.new (Decay h numerator denominator) }
+        ensures stands { Extends self.old self.new (λ h. Decay h numerator denominator) }
     {
         scale_all(&mut self.counts, numerator, denominator);
         self.total = self.total.scale_nonnegative(numerator, denominator as u128);
@@ -341,7 +357,7 @@ impl<T: UnsignedCountMinValue> CountMinSketch<T> {
 }
 
 /// The number of buckets as a sketch keeps it: the bucket of a hash is its remainder, found without a division.
-fn bucket_count(num_buckets: u32) -> Divisor
+pub(crate) fn bucket_count(num_buckets: u32) -> Divisor
     requires { 1 < num_buckets }
     ensures { result ≡ num_buckets }
 {
@@ -376,17 +392,12 @@ impl<T: CountMinValue> Eq for CountMinSketch<T> {
 
 impl<T: CountMinValue + fmt::Debug> fmt::Debug for CountMinSketch<T> {
     fn fmt<W: fmt::Write>(&self, f: &mut fmt::Formatter<W>) -> fmt::Result {
-        let hashes = self.row_seeds.len();
-        let buckets = self.buckets.divisor();
-        let seed = self.seed;
-        let total = self.total;
-        let counts = &self.counts;
-        write!(
-            f,
-            "CountMinSketch {{ num_hashes: {hashes}, num_buckets: {buckets}, seed: {seed}, total_weight: {total:?}, counts: {counts:?} }}"
-        )
+        f.debug_struct("CountMinSketch")
+            .field("num_hashes", &self.row_seeds.len())
+            .field("num_buckets", &self.buckets.divisor())
+            .field("seed", &self.seed)
+            .field("total_weight", &self.total)
+            .field("counts", &self.counts)
+            .finish()
     }
 }
-
-#[cfg(test)]
-mod tests;

@@ -4,7 +4,7 @@ ghost use Rattle.std.specs.Ordering.{MatchOrdering};
 ghost use Rattle.sketch_base.specs.Errors.{invalid_data};
 ghost use Rattle.sketch_countmin.specs.Values.{InRange, Checks, scaled, bytes_of, number_in};
 
-use sketch_base::{Error, ErrorKind, Fault};
+use sketch_base::{Error, Fault};
 
 /// A type of whole numbers that a [`CountMinSketch`](crate::CountMinSketch) can count in: `i8` to `i64` and `u8` to
 /// `u64`.
@@ -102,7 +102,9 @@ pub trait CountMinValue: Copy + Ord {
     /// [`ValueOutOfRange`](Fault::ValueOutOfRange) where the type has no such value.
     #[inline]
     fn try_from_bytes(bytes: [u8; 8]) -> Result<Self, Error>
-        ensures { MatchResult result (λ v. (number v ≡ number_in least bytes) × InRange least greatest (number_in least bytes)) (λ e. (e ≡ invalid_data Fault.ValueOutOfRange) × ¬ InRange least greatest (number_in least bytes)) }
+        ensures { MatchResult result
+            (λ v. (number v ≡ number_in least bytes) × InRange least greatest (number_in least bytes))
+            (λ e. (e ≡ invalid_data Fault.ValueOutOfRange) × ¬ InRange least greatest (number_in least bytes)) }
     {
         let word = u64::from_le_bytes(bytes);
         let number = if Self::MIN.to_number() < 0 {
@@ -112,7 +114,7 @@ pub trait CountMinValue: Copy + Ord {
         };
         match Self::from_number(number) {
             Some(value) => Ok(value),
-            None => Err(Error::new(ErrorKind::InvalidData, Fault::ValueOutOfRange)),
+            None => Err(Error::invalid_data(Fault::ValueOutOfRange)),
         }
     }
 
@@ -127,12 +129,14 @@ pub trait CountMinValue: Copy + Ord {
     ghost size_fits: { SIZE ≤ 8 };
 
     // Values are ordered as their numbers.
-    ghost ordered: { (x y : Self) → MatchOrdering (Self.cmp x y) (number x <ℤ number y) (number x ≡ number y) (number y <ℤ number x) };
+    ghost ordered: { (x y : Self)
+        → MatchOrdering (Self.cmp x y) (number x <ℤ number y) (number x ≡ number y) (number y <ℤ number x) };
 
     // A type has zero, and each sum that is no further from zero than its greatest number.
     ghost zero_fits: { least ≤ℤ pos 0 };
 
-    ghost sum_fits: { (x y : Self) → unsigned_abs (number x +ℤ number y) ≤ greatest → InRange least greatest (number x +ℤ number y) };
+    ghost sum_fits: { (x y : Self)
+        → unsigned_abs (number x +ℤ number y) ≤ greatest → InRange least greatest (number x +ℤ number y) };
 
     // Each number of the type comes back from its bytes.
     ghost bytes_fit: { (z : ℤ) → InRange least greatest z → number_in least (bytes_of z) ≡ z };

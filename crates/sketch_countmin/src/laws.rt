@@ -20,11 +20,14 @@ pub fn merge_as_one_stream<T: CountMinValue>(
     stream: &CountMinSketch<T>,
 ) -> Result<bool, Error>
     ensures value { IfOk result (λ same. IsTrue same ↔ (first.new ≡ stream.now)) }
-    ensures one_stream { IfOk result (λ same. (g h : CountHistory) → StandsFor first.old g → StandsFor second.now h → IsExact h → StandsFor stream.now (followed_by g h) → IsTrue same) }
+    ensures one_stream { IfOk result (λ same. (g h : CountHistory)
+        → StandsFor first.old g → StandsFor second.now h → IsExact h → StandsFor stream.now (followed_by g h)
+        → IsTrue same) }
     ensures joined { OnOk result (Joins first.old second.now first.new) }
     ensures err { OnErr result (first.new ≡ first.old) }
     ensures mismatch { ¬ SameShape first.old second.now → IsErrOf result (invalid_argument Fault.Mismatch) }
-    ensures overflow { SameShape first.old second.now → T.greatest < first.old.total + second.now.total → IsErrOf result (invalid_argument Fault.WeightOverflow) }
+    ensures overflow { SameShape first.old second.now → T.greatest < first.old.total + second.now.total
+        → IsErrOf result (invalid_argument Fault.WeightOverflow) }
     ensures succeeds { SameShape first.old second.now → first.old.total + second.now.total ≤ T.greatest → IsOk result }
 {
     first.merge(second)?;

@@ -7,11 +7,14 @@
 mod cells;
 mod count_min_sketch;
 mod count_min_value;
-mod laws;
+pub mod laws;
+mod limits;
 mod number_types;
+#[cfg(test)]
+mod tests;
 mod unsigned_count_min_value;
 
 pub use count_min_sketch::CountMinSketch;
 pub use count_min_value::CountMinValue;
-pub use laws::{merge_as_one_stream, restored_from_bytes};
+pub use sketch_base::{Error, ErrorKind, Fault};
 pub use unsigned_count_min_value::UnsignedCountMinValue;

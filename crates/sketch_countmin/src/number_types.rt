@@ -1,4 +1,7 @@
 //! The eight types of numbers that a sketch can count in.
+//!
+//! Each is spelled out, though they differ in a name and a number or two: the check of the repository refuses an `impl`
+//! that a macro of its own writes.
 ghost use Rattle.std.specs.Prelude.{◌+◌, pos, negsuc, ◌+ℤ◌, refl};
 ghost use Rattle.std.proofs.Common.{lit<, lit≤};
 ghost use Rattle.sketch_countmin.specs.ValueLaws.{signed_fits, unsigned_fits, zero_in_signed, not_negative, signed_order, unsigned_order, signed_bytes, unsigned_bytes};

@@ -1,0 +1,278 @@
+//! Worked rows, vectors from outside, printed texts, and that each call succeeds.
+use crate::count_min_sketch::bucket_count;
+use crate::laws::{merge_as_one_stream, restored_from_bytes};
+use crate::{CountMinSketch, CountMinValue, Error, Fault, UnsignedCountMinValue};
+use std::alloc::Global;
+use std::test::Fail;
+
+/// The bucket of a hash.
+fn bucket(hash: u64, num_buckets: u32) -> u64 {
+    if num_buckets < 2 {
+        return 0;
+    }
+    bucket_count(num_buckets).rem(hash)
+}
+
+#[test]
+fn finds_the_known_buckets(rt: HostRuntime) {
+    let rows = [
+        (3, [0, 1, 0, 2, 2, 0, 1]),
+        (5, [0, 1, 0, 4, 3, 0, 1]),
+        (7, [0, 1, 1, 0, 1, 3, 4]),
+        (1000, [0, 1, 615, 614, 808, 295, 296]),
+        (20000, [0, 1, 11615, 11614, 15808, 7295, 7296]),
+        (65537, [0, 1, 0, 65536, 32769, 0, 1]),
+        (4294967294, [0, 1, 3, 2, 2, 1, 2]),
+        (4294967295, [0, 1, 0, 4294967294, 2147483648, 0, 1]),
+    ];
+    for (num_buckets, wanted) in rows {
+        let found = [
+            bucket(0, num_buckets),
+            bucket(1, num_buckets),
+            bucket(u64::MAX, num_buckets),
+            bucket(u64::MAX - 1, num_buckets),
+            bucket(1 << 63, num_buckets),
+            bucket(4294967295, num_buckets),
+            bucket(4294967296, num_buckets),
+        ];
+        assert!(rt; found == wanted, "{num_buckets}");
+    }
+}
+
+/// The number after one in a row of pseudo-random numbers.
+fn next(x: u64) -> u64 {
+    let a = x ^ x << 13;
+    let b = a ^ a >> 7;
+    b ^ b << 17
+}
+
+/// Whether the buckets of 10000 numbers after one are those that division finds. The last of them takes its place.
+fn finds_what_division_finds(x: &mut u64, num_buckets: u32) -> bool {
+    if num_buckets < 2 {
+        return false;
+    }
+    for _ in 0..10000 {
+        *x = next(*x);
+        if bucket(*x, num_buckets) != *x % num_buckets as u64 {
+            return false;
+        }
+    }
+    true
+}
+
+#[test]
+fn finds_the_buckets_that_division_finds(rt: HostRuntime) {
+    let mut x = 0x9E37_79B9_7F4A_7C15;
+    for num_buckets in [3, 5, 7, 1000, 20000, 65537, 4294967294, 4294967295] {
+        assert!(rt;
+            finds_what_division_finds(&mut x, num_buckets),
+            "{num_buckets}"
+        );
+    }
+}
+
+/// Whether a weight of one item is refused since the total would overflow.
+fn overflows<T: CountMinValue>(sketch: &mut CountMinSketch<T>, weight: T) -> bool {
+    let refusal = sketch.update_with_weight("x", weight).err();
+    refusal == Some(Error::invalid_argument(Fault::WeightOverflow))
+}
+
+/// Three weights of one item in turn: whether each is refused, and then its estimate, the total and its upper bound.
+fn counted<T: CountMinValue>(
+    alloc: Global,
+    shape: (u8, u32),
+    weights: (T, T, T),
+) -> Result<(bool, bool, bool, T, T, T), Error> {
+    let mut sketch = CountMinSketch::new(alloc, shape.0, shape.1)?;
+    Ok((
+        overflows(&mut sketch, weights.0),
+        overflows(&mut sketch, weights.1),
+        overflows(&mut sketch, weights.2),
+        sketch.estimate("x"),
+        sketch.total_weight(),
+        sketch.upper_bound("x"),
+    ))
+}
+
+#[test]
+fn refuses_weights_that_overflow(rt: HostRuntime) -> Result<(), Fail> {
+    let found = counted(rt.alloc(), (4, 128), (200u8, 56, 55))?;
+    assert!(rt; found == (false, true, false, 255, 255, 255));
+    let found = counted(rt.alloc(), (4, 128), (-128i8, -127, 1))?;
+    assert!(rt; found == (true, false, true, -127, 127, -125));
+    let found = counted(rt.alloc(), (1, 3), (u64::MAX, 0, 1))?;
+    assert!(rt; found == (false, false, true, u64::MAX, u64::MAX, u64::MAX));
+    let found = counted(rt.alloc(), (1, 3), (-i64::MAX, 0, -1))?;
+    assert!(rt;
+        found
+            == (
+                false,
+                false,
+                true,
+                -i64::MAX,
+                i64::MAX,
+                -866_130_501_888_233_029
+            )
+    );
+    Ok(())
+}
+
+/// The estimate of an item, its lower and upper bound, the total, and whether that is 0.
+fn shown(sketch: &CountMinSketch<u64>) -> (u64, u64, u64, u64, bool) {
+    (
+        sketch.estimate("x"),
+        sketch.lower_bound("x"),
+        sketch.upper_bound("x"),
+        sketch.total_weight(),
+        sketch.is_empty(),
+    )
+}
+
+#[test]
+fn halves_and_decays(rt: HostRuntime) -> Result<(), Fail> {
+    let mut sketch = CountMinSketch::new(rt.alloc(), 4, 128)?;
+    sketch.update_with_weight("x", 128)?;
+    assert!(rt; shown(&sketch) == (128, 128, 130, 128, false));
+    let mut sketch = CountMinSketch::new(rt.alloc(), 4, 128)?;
+    sketch.update_with_weight("x", 100)?;
+    sketch.decay(99, 100);
+    assert!(rt; shown(&sketch) == (99, 99, 101, 99, false));
+    sketch.halve();
+    assert!(rt; shown(&sketch) == (49, 49, 50, 49, false));
+    let mut sketch = CountMinSketch::new(rt.alloc(), 4, 128)?;
+    sketch.update_with_weight("x", 3)?;
+    sketch.halve();
+    assert!(rt; shown(&sketch) == (1, 1, 1, 1, false));
+    sketch.halve();
+    assert!(rt; shown(&sketch) == (0, 0, 0, 0, true));
+    Ok(())
+}
+
+/// Why a shape is refused.
+fn refusal(alloc: Global, num_hashes: u8, num_buckets: u32, seed: u64) -> Option<Error> {
+    CountMinSketch::<u16>::with_seed(alloc, num_hashes, num_buckets, seed).err()
+}
+
+#[test]
+fn refuses_shapes(rt: HostRuntime) {
+    let rows = [
+        (0, 3, 9001, Fault::BadNumHashes),
+        (0, 2, 50541, Fault::BadNumHashes),
+        (1, 2, 50541, Fault::BadNumBuckets),
+        (4, 268_435_456, 50541, Fault::TableTooLarge),
+        (4, 128, 50541, Fault::ZeroSeedHash),
+    ];
+    for (num_hashes, num_buckets, seed, fault) in rows {
+        let found = refusal(rt.alloc(), num_hashes, num_buckets, seed);
+        assert!(rt; found == Some(Error::invalid_argument(fault)));
+    }
+}
+
+/// Why a sketch of a shape is not merged into one of four hashes and 128 buckets.
+fn mismatch(alloc: Global, num_hashes: u8, num_buckets: u32, seed: u64) -> Result<(), Error> {
+    let mut sketch = CountMinSketch::<i64>::new(alloc, 4, 128)?;
+    sketch.merge(&CountMinSketch::with_seed(alloc, num_hashes, num_buckets, seed)?)
+}
+
+#[test]
+fn merges_sketches_of_one_shape(rt: HostRuntime) -> Result<(), Fail> {
+    let differ = Err(Error::invalid_argument(Fault::Mismatch));
+    for (num_hashes, num_buckets, seed) in [(4, 64, 9001), (3, 128, 9001), (4, 128, 9002)] {
+        assert!(rt; mismatch(rt.alloc(), num_hashes, num_buckets, seed) == differ);
+    }
+    let mut left = CountMinSketch::<i64>::new(rt.alloc(), 4, 128)?;
+    left.update("apple")?;
+    let mut stream = left.clone()?;
+    let mut right = CountMinSketch::<i64>::new(rt.alloc(), 4, 128)?;
+    right.update_with_weight("banana", 2)?;
+    stream.update_with_weight("banana", 2)?;
+    assert!(rt; left != stream && merge_as_one_stream(&mut left, &right, &stream)?);
+    assert!(rt; (left.total_weight(), left.estimate("banana")) == (3, 2));
+    Ok(())
+}
+
+/// The estimates of ten items in a crowded sketch, and the upper bound of the first.
+fn crowded(alloc: Global) -> Result<([i32; 10], i32), Error> {
+    let mut sketch = CountMinSketch::with_seed(alloc, 2, 3, 9001)?;
+    for item in 0..10u64 {
+        let weight = item as i32 + 1;
+        sketch.update_with_weight(item, if item % 3 == 0 { -weight } else { weight })?;
+    }
+    let mut estimates = [0; 10];
+    for item in 0..10u64 {
+        estimates[item as usize] = sketch.estimate(item);
+    }
+    Ok((estimates, sketch.upper_bound(0u64)))
+}
+
+/// The total of 20000 items in a sketch of 4 x 4096 cells, and the sum of the estimates of 1000 in its clone.
+fn many(alloc: Global) -> Result<(u64, u64), Error> {
+    let mut sketch = CountMinSketch::<u64>::new(alloc, 4, 4096)?;
+    for item in 0..20_000u64 {
+        sketch.update_with_weight(item, item % 7 + 1)?;
+    }
+    let clone = sketch.try_clone()?;
+    let mut sum: u64 = 0;
+    for item in 0..1000u64 {
+        sum = sum.wrapping_add(clone.estimate(item));
+    }
+    Ok((clone.total_weight(), sum))
+}
+
+// The estimates, and the cells below, are those of a program in another language, written from the public descriptions.
+#[test]
+fn gives_the_least_of_crowded_cells(rt: HostRuntime) -> Result<(), Fail> {
+    assert!(rt; crowded(rt.alloc())? == ([5, 6, -2, -2, -2, 6, 5, 5, -2, -2], 54));
+    assert!(rt; many(rt.alloc())? == (79_997, 14_304));
+    Ok(())
+}
+
+#[test]
+fn shows_its_cells(rt: HostRuntime) -> Result<(), Fail> {
+    let mut sketch = CountMinSketch::<i64>::new(rt.alloc(), 4, 7)?;
+    sketch.update_with_weight("apple", 5)?;
+    sketch.update_with_weight("banana", -2)?;
+    let text = format!(in rt.alloc(); "{sketch:?}")?;
+    let wanted =
+        "CountMinSketch { num_hashes: 4, num_buckets: 7, seed: 9001, total_weight: 7, counts: [\
+        5, 0, 0, -2, 0, 0, 0, -2, 0, 0, 5, 0, 0, 0, 0, 5, 0, 0, -2, 0, 0, 5, 0, 0, 0, -2, 0, 0] }";
+    assert!(rt; text.as_str() == wanted);
+    let shape = (sketch.num_hashes(), sketch.num_buckets(), sketch.seed());
+    assert!(rt; shape == (4, 7, 9001) && sketch.estimated_size() == 28 * 8 + 4 * 8);
+    Ok(())
+}
+
+/// The number that a value's bytes give back, or 0 where they are refused.
+fn through_bytes<T: CountMinValue>(value: T) -> i128 {
+    match restored_from_bytes(value) {
+        Ok(restored) => restored.to_number(),
+        Err(_) => 0,
+    }
+}
+
+#[test]
+fn takes_eight_types_of_numbers(rt: HostRuntime) {
+    let signed = [
+        through_bytes(i8::MIN),
+        through_bytes(i16::MIN),
+        through_bytes(i32::MIN),
+        through_bytes(i64::MIN),
+    ];
+    assert!(rt; signed == [-128, -32768, -2147483648, -9223372036854775808]);
+    let unsigned = [
+        through_bytes(u8::MAX),
+        through_bytes(u16::MAX),
+        through_bytes(u32::MAX),
+        through_bytes(u64::MAX),
+    ];
+    assert!(rt; unsigned == [255, 65535, 4294967295, 18446744073709551615]);
+    assert!(rt; (-2i16).to_bytes() == [254, 255, 255, 255, 255, 255, 255, 255]);
+    assert!(rt; 258u32.to_bytes() == [2, 1, 0, 0, 0, 0, 0, 0]);
+    let refused = Err(Error::invalid_data(Fault::ValueOutOfRange));
+    assert!(rt; u32::try_from_bytes([255; 8]) == refused && i8::try_from_bytes([255; 8]) == Ok(-1));
+    assert!(rt;
+        CountMinValue::checked_abs(-128i8) == None
+            && CountMinValue::checked_add(-100i16, 99) == Some(-1)
+    );
+    assert!(rt; 1_000_003i32.scale_nonnegative(1, 4) == 250_000 && 65535u16.halve() == 32767);
+}
