@@ -1,5 +1,6 @@
 pub mod Cells
 pub mod Joining
+pub mod LineReading
 pub mod Lines
 pub mod Names
 pub mod Numbers

@@ -10,7 +10,7 @@ use Rattle.std.proofs.lemmas.Bool.{cases_lt, cond-false, eqb-true, eqb-false, fa
 use Rattle.std.proofs.lemmas.Bool.Decides.{nat_tests}
 use Rattle.std.proofs.Math.Pow.{pow_mono}
 use Rattle.std.proofs.lemmas.Str.Parse.{IsNumeralModel, numerals_by_value, tells_all_ascii_digits, parse_plain, parse_signed_minus, parse_signed_plain}
-use Rattle.datasketches_cli.specs.Words.{number_below, signed_number}
+use Rattle.datasketches_cli.specs.Grammar.{number_below, signed_number}
 
 -- std's digits and value are words of our own
 digits : IsNumeralModel (λ ds. all_ascii_digits ds ≡ true) (digits_value 10)

@@ -11,11 +11,12 @@ use Rattle.datasketches_cli.specs.declared.parse.Line.{Line}
 use Rattle.datasketches_cli.specs.declared.parse.Line.TheVariants.{Blank, Bad}
 use Rattle.datasketches_cli.specs.declared.parse.Line.TheVariants as what
 use Rattle.datasketches_cli.specs.Said.{IsSaid}
-use Rattle.datasketches_cli.specs.Serving.{HasAnswered, TakesLine, WritesFront}
+use Rattle.datasketches_cli.specs.Reading.{TakesLine}
+use Rattle.datasketches_cli.specs.Serving.{HasAnswered, WritesFront}
 use Rattle.datasketches_cli.specs.Sketches.{Sketches}
 use Rattle.datasketches_cli.specs.Steps.{Step}
 use Rattle.datasketches_cli.specs.Transcript.{Transcript, Serves, lines_of, reply_line, bad_line}
-use Rattle.datasketches_cli.specs.Words.{Says, IsBlank, IsBad}
+use Rattle.datasketches_cli.specs.Grammar.{Says, IsBlank, IsBad}
 use Rattle.datasketches_cli.proofs.Lines.{lines_first}
 
 -- whatever comes of the rest of the input by these sketches, with what was written and gathered before it, comes of the whole input

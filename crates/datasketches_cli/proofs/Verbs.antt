@@ -9,7 +9,7 @@ use Rattle.datasketches_cli.specs.declared.parse.Verb.{Verb}
 use Rattle.datasketches_cli.specs.declared.parse.Verb.TheVariants as verb
 use Rattle.datasketches_cli.specs.declared.sketch.Change.TheVariants as change
 use Rattle.datasketches_cli.specs.declared.sketch.Shape.TheVariants as shape
-use Rattle.datasketches_cli.specs.Words.{IsMade, Make, verb_word}
+use Rattle.datasketches_cli.specs.Grammar.{IsMade, Make, verb_word}
 use Rattle.datasketches_cli.specs.Said.{texts_of}
 
 -- what the first word and the others make, the words make

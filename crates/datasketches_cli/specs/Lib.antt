@@ -1,10 +1,11 @@
 pub mod Answering
 pub mod Changing
 pub mod Counts
-pub mod FaultNames
+pub mod Grammar
 pub mod Joining
 pub mod Places
 pub mod Printing
+pub mod Reading
 pub mod Replies
 pub mod Said
 pub mod Serving
@@ -13,4 +14,3 @@ pub mod Sketches
 pub mod Steps
 pub mod Texts
 pub mod Transcript
-pub mod Words

@@ -4,7 +4,7 @@ use Rattle.std.specs.Fmt.{decimal, signed_decimal}
 use Rattle.std.specs.List.{flat_map}
 use Rattle.std.specs.String.{string_bytes}
 use Rattle.sketch_frequencies.specs.RowValue.{RowValue}
-use Rattle.datasketches_cli.specs.FaultNames.{fault_name}
+use Rattle.sketch_base.specs.Faults.{fault_name}
 use Rattle.datasketches_cli.specs.Texts.{Text}
 use Rattle.datasketches_cli.specs.declared.reply.Reply.{Reply}
 use Rattle.datasketches_cli.specs.declared.reply.Reply.TheVariants as reply

@@ -5,7 +5,7 @@ use Rattle.sketch_frequencies.specs.declared.error_type.ErrorType.{ErrorType}
 use Rattle.datasketches_cli.specs.declared.parse.Line.{Line}
 use Rattle.datasketches_cli.specs.declared.parse.Line.TheVariants.{Blank, Command, Bad}
 use Rattle.datasketches_cli.specs.declared.parse.Verb.{Verb}
-use Rattle.datasketches_cli.specs.Words.{IsBlank, Says, IsBad, verb_word, report_word}
+use Rattle.datasketches_cli.specs.Grammar.{IsBlank, Says, IsBad, verb_word, report_word}
 
 -- the texts of some words
 abbrev pub texts_of : List (Bor (List ℕ)) → List (List ℕ)

@@ -1,17 +1,11 @@
 -- What the parts of the loop do.
-use Rattle.std.specs.Prelude.{◌≡◌, ◌≢◌, ℕ, Bool, true, false, List, [], ◌++◌, Option, Some, IfSome}
-use Rattle.std.specs.Io.BufRead.{take_through, drop_through}
+use Rattle.std.specs.Prelude.{◌≡◌, ℕ, List, ◌++◌, Option}
 use Rattle.std.specs.Io.KnownBytes.{Appends}
 use Rattle.datasketches_cli.specs.declared.command.Command.{Command}
 use Rattle.datasketches_cli.specs.declared.reply.Reply.{Reply}
 use Rattle.datasketches_cli.specs.Sketches.{Sketches}
 use Rattle.datasketches_cli.specs.Steps.{Step}
 use Rattle.datasketches_cli.specs.Transcript.{reply_line}
-
--- whether a line was found, with its end
-abbrev pub TakesLine : Bool → Option (List ℕ) → Option (List ℕ) → List ℕ → Type 0
-TakesLine true was is line = IfSome was (λ bytes. (bytes ≢ []) × (line ≡ take_through 10 bytes) × (is ≡ Some (drop_through 10 bytes)))
-TakesLine false was is line = IfSome was (λ bytes. bytes ≡ [])
 
 -- the front of what was gathered went to the writer
 abbrev pub WritesFront : Option (List ℕ) → Option (List ℕ) → List ℕ → List ℕ → Type 0

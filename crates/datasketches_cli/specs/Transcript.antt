@@ -11,7 +11,7 @@ use Rattle.datasketches_cli.specs.declared.serve.Ended.TheVariants.{All, BadLine
 use Rattle.datasketches_cli.specs.Printing.{reply_text}
 use Rattle.datasketches_cli.specs.Sketches.{Sketches}
 use Rattle.datasketches_cli.specs.Steps.{Step}
-use Rattle.datasketches_cli.specs.Words.{Says, IsBlank, IsBad}
+use Rattle.datasketches_cli.specs.Grammar.{Says, IsBlank, IsBad}
 
 -- the parts but for an empty last one
 abbrev pub without_empty_last : List (List ℕ) → List (List ℕ)

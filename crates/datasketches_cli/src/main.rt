@@ -36,8 +36,8 @@
 
 mod command;
 mod counted;
-mod fault_name;
 mod keeper;
+mod line_reader;
 mod parse;
 mod reply;
 mod serve;

@@ -1,6 +1,6 @@
 //! Lines to commands.
 ghost use Rattle.std.specs.Prelude.{◌≡◌, ◌^◌, ◌∷◌, IfOk, take};
-ghost use Rattle.datasketches_cli.specs.Words.{words_of, number_below, signed_number, verb_word, IsMade};
+ghost use Rattle.datasketches_cli.specs.Grammar.{words_of, number_below, signed_number, verb_word, IsMade};
 ghost use Rattle.datasketches_cli.specs.Said.{IsSaid, IsVerbOf, IsReportOf, texts_of};
 
 use crate::command::Command;

@@ -1,5 +1,4 @@
 //! Replies, and the lines that they print.
-use crate::fault_name::name_of;
 use sketch_base::Error;
 use sketch_frequencies::Row;
 use std::fmt;
@@ -151,7 +150,7 @@ impl fmt::Display for Refusal {
             Refusal::WrongKind => write!(f, "WrongKind"),
             Refusal::SameName => write!(f, "SameName"),
             Refusal::BadFraction => write!(f, "BadFraction"),
-            Refusal::Call(error) => write!(f, "{}", name_of(error.fault())),
+            Refusal::Call(error) => f.write_str(error.fault().name()),
         }
     }
 }

@@ -1,18 +1,20 @@
 //! The loop from lines to replies.
-ghost use Rattle.std.specs.Prelude.{◌≡◌, ◌<◌, ◌⊎◌, ◌↔◌, [], ◌++◌, IsTrue, IfOk, IfErr, OnOk, Contains, string_bytes, string_len};
+ghost use Rattle.std.specs.Prelude.{◌≡◌, ◌<◌, ◌⊎◌, ◌↔◌, [], ◌++◌, IsTrue, IfOk, IfErr, OnOk, Contains};
+ghost use Rattle.std.specs.Prelude.{string_bytes, string_len};
 ghost use Rattle.std.specs.Io.BufRead.{strip_last};
-ghost use Rattle.std.specs.Io.Buffered.{reader_buffer, reader_remaining};
-ghost use Rattle.std.specs.Io.KnownBytes.{Appends};
+ghost use Rattle.std.specs.Io.KnownBytes.{Appends, IsAtEnd};
 ghost use Rattle.datasketches_cli.specs.Counts.{HasGrown};
-ghost use Rattle.datasketches_cli.specs.Serving.{HasAnswered, TakesLine, WritesFront};
+ghost use Rattle.datasketches_cli.specs.Serving.{HasAnswered, WritesFront};
 ghost use Rattle.datasketches_cli.specs.Transcript.{Serves, bad_line};
 
 use crate::command::Command;
 use crate::counted::Counted;
 use crate::keeper::Keeper;
+use crate::line_reader::LineReader;
 use crate::parse::{Line, parse};
-use std::alloc::Global;
-use std::io::{BufRead, BufReader, Read, Write};
+use std::alloc::{AllocError, Global};
+use std::fmt;
+use std::io::{self, Read, Write};
 
 /// How a run ended.
 #[derive(Clone, Copy, Debug, PartialEq, Eq)]
@@ -32,15 +34,30 @@ pub enum CliFault {
     Memory,
 }
 
-/// How many bytes are read at once.
-const READ_SIZE: usize = 1 << 16;
-
 /// How many bytes of replies are gathered before they are written.
 const WRITE_SIZE: usize = 1 << 16;
 
 /// Something failed.
 #[derive(Drop)]
 struct Stopped;
+
+impl From<io::Error> for Stopped {
+    fn from(_e: io::Error) -> Self {
+        Stopped
+    }
+}
+
+impl From<fmt::Error> for Stopped {
+    fn from(_e: fmt::Error) -> Self {
+        Stopped
+    }
+}
+
+impl From<AllocError> for Stopped {
+    fn from(_e: AllocError) -> Self {
+        Stopped
+    }
+}
 
 /// Does the commands of the reader's lines on sketches of its own, and writes a line for each.
 ///
@@ -59,17 +76,15 @@ pub fn serve<R: Read, W: Write>(
 ) -> Result<Ended, CliFault>
     ensures served { IfOk result (Serves (R.remaining reader.old.inner)
         (W.contents writer.old.inner) (W.contents writer.new.inner)) }
+    ensures all_read { IfOk result (λ ended. ended ≡ Ended.All → IsAtEnd (R.remaining reader.new.inner)) }
+    ensures all_written { OnOk result (writer.new.failures ≡ writer.old.failures) }
     ensures err { IfErr result (λ e. (e ≡ CliFault.Io)
         ↔ (HasGrown reader.old.failures reader.new.failures
         ⊎ HasGrown writer.old.failures writer.new.failures)) }
 {
     let reads = reader.failures();
     let writes = writer.failures();
-    let ended = match BufReader::with_capacity(alloc, READ_SIZE, &mut *reader) {
-        Ok(mut input) => serve_lines(alloc, &mut input, &mut *writer),
-        Err(_) => Err(Stopped),
-    };
-    match ended {
+    match serve_lines(alloc, &mut *reader, &mut *writer) {
         Ok(ended) => Ok(ended),
         Err(_) => {
             if has_grown(reads, reader.failures()) || has_grown(writes, writer.failures()) {
@@ -91,25 +106,26 @@ fn has_grown(before: u64, now: u64) -> bool
 /// Does the commands of the lines.
 fn serve_lines<R: Read, W: Write>(
     alloc: Global,
-    input: &mut BufReader<R>,
-    writer: &mut W,
+    reader: &mut Counted<R>,
+    writer: &mut Counted<W>,
 ) -> Result<Ended, Stopped>
-    ensures { IfOk result (Serves (reader_remaining R.remaining input.old)
-        (W.contents writer.old) (W.contents writer.new)) }
+    ensures served { IfOk result (Serves (R.remaining reader.old.inner)
+        (W.contents writer.old.inner) (W.contents writer.new.inner)) }
+    ensures all_read { IfOk result (λ ended. ended ≡ Ended.All → IsAtEnd (R.remaining reader.new.inner)) }
+    ensures all_written { OnOk result (writer.new.failures ≡ writer.old.failures) }
 {
     let mut keeper = Keeper::new(alloc);
     let mut replies = String::new(alloc);
+    let mut lines = LineReader::new(alloc)?;
     let mut line = Vec::new(alloc);
     for before in 0..u128::MAX {
         let number = before + 1;
-        write_due(input, writer, &mut replies)?;
-        if !read_line(input, &mut line)? {
+        write_due(&lines, writer, &mut replies)?;
+        if !lines.read_line(reader, &mut line)? {
             write_out(writer, &mut replies)?;
             return Ok(Ended::All);
         }
-        let Ok(said) = parse(alloc, without_end(&line)) else {
-            return Err(Stopped);
-        };
+        let said = parse(alloc, without_end(&line))?;
         match said {
             Line::Blank => {}
             Line::Command(command) => answer(&mut keeper, command, &mut replies)?,
@@ -128,33 +144,22 @@ fn answer(keeper: &mut Keeper, command: Command, replies: &mut String) -> Result
         (string_bytes replies.old) (string_bytes replies.new)) }
 {
     let reply = keeper.apply(command);
-    let Ok(()) = writeln!(replies, "{reply}") else {
-        return Err(Stopped);
-    };
+    writeln!(replies, "{reply}")?;
     Ok(())
 }
 
 /// Writes the gathered replies, and names a bad line.
-fn write_bad<W: Write>(writer: &mut W, replies: &mut String, number: u128) -> Result<(), Stopped>
-    ensures { OnOk result (Appends (W.contents writer.old) (W.contents writer.new)
-        (string_bytes replies.old ++ bad_line number)) }
+fn write_bad<W: Write>(
+    writer: &mut Counted<W>,
+    replies: &mut String,
+    number: u128,
+) -> Result<(), Stopped>
+    ensures written { OnOk result (Appends (W.contents writer.old.inner)
+        (W.contents writer.new.inner) (string_bytes replies.old ++ bad_line number)) }
+    ensures kept { OnOk result (writer.new.failures ≡ writer.old.failures) }
 {
-    let Ok(()) = writeln!(replies, "bad line {number}") else {
-        return Err(Stopped);
-    };
+    writeln!(replies, "bad line {number}")?;
     write_out(writer, replies)
-}
-
-/// Reads a line with its end, unless no input is left.
-fn read_line<B: BufRead>(input: &mut B, line: &mut Vec<u8>) -> Result<bool, Stopped>
-    ensures { IfOk result (λ found. TakesLine found (B.remaining input.old) (B.remaining input.new)
-        line.new.items) }
-{
-    line.clear();
-    match input.read_until(b'\n', line) {
-        Ok(count) => Ok(count > 0),
-        Err(_) => Err(Stopped),
-    }
 }
 
 /// The line without its end.
@@ -175,38 +180,35 @@ fn without_last(byte: u8, bytes: &[u8]) -> &[u8]
 }
 
 /// Writes the gathered replies, where more input is read next or they are many.
-fn write_due<R: Read, W: Write>(
-    input: &BufReader<R>,
-    writer: &mut W,
+fn write_due<W: Write>(
+    lines: &LineReader,
+    writer: &mut Counted<W>,
     replies: &mut String,
 ) -> Result<(), Stopped>
-    ensures written { OnOk result (WritesFront (W.contents writer.old) (W.contents writer.new)
-        (string_bytes replies.old) (string_bytes replies.new)) }
-    ensures at_once { OnOk result (¬ Contains (reader_buffer input.now) 10
-        → string_bytes replies.new ≡ []) }
+    ensures written { OnOk result (WritesFront (W.contents writer.old.inner)
+        (W.contents writer.new.inner) (string_bytes replies.old) (string_bytes replies.new)) }
+    ensures kept { OnOk result (writer.new.failures ≡ writer.old.failures) }
+    ensures at_once { OnOk result (¬ Contains lines.now 10 → string_bytes replies.new ≡ []) }
     ensures few { OnOk result (string_len replies.new < WRITE_SIZE) }
 {
-    if input.buffer().contains(&b'\n') && replies.len() < WRITE_SIZE {
+    if lines.has_line() && replies.len() < WRITE_SIZE {
         return Ok(());
     }
     write_out(writer, replies)
 }
 
 /// Writes the gathered replies.
-fn write_out<W: Write>(writer: &mut W, replies: &mut String) -> Result<(), Stopped>
-    ensures written { OnOk result (Appends (W.contents writer.old) (W.contents writer.new)
-        (string_bytes replies.old)) }
+fn write_out<W: Write>(writer: &mut Counted<W>, replies: &mut String) -> Result<(), Stopped>
+    ensures written { OnOk result (Appends (W.contents writer.old.inner)
+        (W.contents writer.new.inner) (string_bytes replies.old)) }
+    ensures kept { OnOk result (writer.new.failures ≡ writer.old.failures) }
     ensures empty { OnOk result (string_bytes replies.new ≡ []) }
 {
     if replies.is_empty() {
         return Ok(());
     }
-    let Ok(()) = writer.write_all(replies.as_bytes()) else {
-        return Err(Stopped);
-    };
-    let Ok(()) = writer.flush() else {
-        return Err(Stopped);
-    };
+    writer.write_all(replies.as_bytes())?;
+    writer.flush()?;
     replies.clear();
     Ok(())
 }

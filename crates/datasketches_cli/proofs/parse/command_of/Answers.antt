@@ -1,5 +1,5 @@
 use Rattle.std.proofs.Common.{◌∙◌, ap}
-use Rattle.datasketches_cli.specs.Words.{verb_word}
+use Rattle.datasketches_cli.specs.Grammar.{verb_word}
 use Rattle.datasketches_cli.proofs.Verbs.{made_by_rest, made_by_none}
 use Rattle.datasketches_cli.proofs.parse.command_of.Goals as goal
 

@@ -1,0 +1,165 @@
+-- Lines that are taken from what was read, and more that is read.
+use Rattle.std.proofs.Common.{◌≡◌, ◌≢◌, ℕ, zero, suc, ◌+◌, ◌-◌, ◌<◌, ◌≤◌, Bool, true, false, not, eqb, ltb, cond, List, [], ◌∷◌, ◌++◌, length, get_or, take, drop, Option, None, Some, append_assoc, append-nil, refl, sym, ◌∙◌, ap, subst, arith, length-drop}
+use Rattle.std.specs.Io.BufRead.{take_through, drop_through}
+use Rattle.std.specs.Io.KnownBytes.{Consumes, IsAtEnd, prepend_known}
+use Rattle.std.specs.List.{position, position_or_len, slice_range}
+use Rattle.std.specs.Option.{IfSome}
+use Rattle.std.proofs.lemmas.Bool.{eqb-true, eqb-false, ne_eqb}
+use Rattle.std.proofs.lemmas.Bool.Decides.{nat_tests}
+use Rattle.std.proofs.lemmas.List.{drop-take, drop-drop, length-take-le}
+use Rattle.std.proofs.lemmas.List.Sums.{passes_at_first, fails_before_first}
+use Rattle.datasketches_cli.specs.Reading.{HasNoFeed, TakesFront, TakesLine, Fills}
+
+-- ---- the first line feed in a list
+
+abbrev is_feed : ℕ → Bool
+is_feed byte = eqb byte 10
+
+-- a place before which no byte is a line feed, and which is one
+abbrev IsFirstFeed : List ℕ → ℕ → Type 0
+IsFirstFeed xs at = (at < length xs) × (get_or xs at 0 ≡ 10) × ((k : ℕ) → k < at → get_or xs k 0 ≢ 10)
+
+no_feed : (xs : List ℕ) → ((k : ℕ) → k < length xs → get_or xs k 0 ≢ 10) → HasNoFeed xs
+no_feed [] h = tt
+no_feed (x ∷ xs) h = (h 0 (omega arith), no_feed xs (λ k l. h (suc k) (omega arith)))
+
+-- the bytes before it, it, and the bytes after it
+split_at : (xs : List ℕ) (at : ℕ) → IsFirstFeed xs at → HasNoFeed (take at xs) × (xs ≡ take at xs ++ 10 ∷ drop (at + 1) xs) × (take (at + 1) xs ≡ take at xs ++ 10 ∷ [])
+split_at [] at (lt, e, h) = absurd (omega arith)
+split_at (x ∷ xs) zero (lt, e, h) = (tt, ap (λ (n : ℕ). n ∷ xs) e, ap (λ (n : ℕ). n ∷ []) e)
+split_at (x ∷ xs) (suc n) (lt, e, h) =
+    let rest = split_at xs n (omega arith, e, λ k l. h (suc k) (omega arith)) in
+    let more : suc n + 1 ≡ suc (n + 1) = omega arith in
+    ((h 0 (omega arith), rest.0), rw more (ap (λ (l : List ℕ). x ∷ l) rest.1), rw more (ap (λ (l : List ℕ). x ∷ l) rest.2))
+
+found_first : (xs : List ℕ) (at : ℕ) (b : Bool) → ltb (position_or_len is_feed xs) (length xs) ≡ b → Some at ≡ cond b (Some (position_or_len is_feed xs)) None → IsFirstFeed xs at
+found_first xs at true t e =
+    let same : position_or_len is_feed xs ≡ at = cc in
+    let less : position_or_len is_feed xs < length xs = grind (arith, nat_tests) in
+    let here : get_or xs (position_or_len is_feed xs) 0 ≡ 10 = eqb-true _ 10 (passes_at_first is_feed xs 0 less) in
+    (omega arith, rw same at here, λ k l. eqb-false _ 10 (fails_before_first is_feed xs k 0 (omega arith)))
+found_first xs at false t e = cc
+
+found_none : (xs : List ℕ) (b : Bool) (r : Option ℕ) → ltb (position_or_len is_feed xs) (length xs) ≡ b → r ≡ None → r ≡ cond b (Some (position_or_len is_feed xs)) None → HasNoFeed xs
+found_none xs true r t n e = cc
+found_none xs false r t n e =
+    let none : length xs ≤ position_or_len is_feed xs = grind (arith, nat_tests) in
+    no_feed xs (λ k l. eqb-false _ 10 (fails_before_first is_feed xs k 0 (omega arith)))
+
+-- what stays unread
+later_range : (xs : List ℕ) (a b n : ℕ) → a + n ≤ b → drop n (slice_range xs a b) ≡ slice_range xs (a + n) b
+later_range xs a b n le =
+    let count : b - a ≡ n + (b - (a + n)) = omega arith in
+    ap (λ (k : ℕ). drop n (take k (drop a xs))) count ∙ drop-take n (b - (a + n)) (drop a xs)
+    ∙ ap (take (b - (a + n))) (drop-drop n a xs ∙ ap (λ (k : ℕ). drop k xs) (omega arith))
+
+-- what was read goes through its first line feed
+pub takes_some : (items was held holds : List ℕ) (a b at n : ℕ) → slice_range items a b ≡ was → a ≤ b → b ≤ length items → Some at ≡ position is_feed (slice_range items a b) → n ≡ at + 1 → holds ≡ held ++ take n (slice_range items a b) → TakesFront true was (slice_range items (a + (at + 1)) b) held holds
+takes_some items was held holds a b at n e le lb found count grown =
+    let xs : List ℕ = slice_range items a b in
+    let first : IsFirstFeed xs at = found_first xs at (ltb (position_or_len is_feed xs) (length xs)) refl found in
+    let len : length xs ≡ b - a = length-take-le (b - a) (drop a items) (omega (arith, length-drop a items)) in
+    let short : at < length xs = first.0 in
+    let parts = split_at xs at first in (
+      take at xs,
+      parts.0,
+      sym e ∙ parts.1 ∙ ap (λ (l : List ℕ). take at xs ++ 10 ∷ l) (later_range items a b (at + 1) (omega arith)),
+      grown ∙ ap (λ (l : List ℕ). held ++ l) (ap (λ (k : ℕ). take k xs) count ∙ parts.2),
+    )
+
+-- all that was read goes
+pub takes_all : (items was held holds : List ℕ) (a b : ℕ) (r : Option ℕ) → slice_range items a b ≡ was → r ≡ None → r ≡ position is_feed (slice_range items a b) → holds ≡ held ++ slice_range items a b → TakesFront false was (slice_range items b b) held holds
+takes_all items was held holds a b r e none found grown =
+    let zero_left : b - b ≡ 0 = omega arith in (
+      subst HasNoFeed e (found_none (slice_range items a b) (ltb (position_or_len is_feed (slice_range items a b)) (length (slice_range items a b))) r refl none found),
+      ap (λ (k : ℕ). take k (drop b items)) zero_left,
+      grown ∙ ap (λ (l : List ℕ). held ++ l) e,
+    )
+
+-- ---- the lines of a whole input
+
+through_front : (front rest : List ℕ) → HasNoFeed front → (take_through 10 (front ++ 10 ∷ rest) ≡ front ++ 10 ∷ []) × (drop_through 10 (front ++ 10 ∷ rest) ≡ rest)
+through_front [] rest h = (refl, refl)
+through_front (x ∷ xs) rest (ne, h) =
+    let more = through_front xs rest h in
+    let test : eqb x 10 ≡ false = ne_eqb x 10 ne in
+    (rw test (ap (λ (l : List ℕ). x ∷ l) more.0), rw test more.1)
+
+through_all : (xs : List ℕ) → HasNoFeed xs → (take_through 10 xs ≡ xs) × (drop_through 10 xs ≡ [])
+through_all [] h = (refl, refl)
+through_all (x ∷ xs) (ne, h) =
+    let more = through_all xs h in
+    let test : eqb x 10 ≡ false = ne_eqb x 10 ne in
+    (rw test (ap (λ (l : List ℕ). x ∷ l) more.0), rw test more.1)
+
+no_feed_append : (xs ys : List ℕ) → HasNoFeed xs → HasNoFeed ys → HasNoFeed (xs ++ ys)
+no_feed_append [] ys h k = k
+no_feed_append (x ∷ xs) ys (ne, h) k = (ne, no_feed_append xs ys h k)
+
+some_not_none : (xs : List ℕ) (y : ℕ) (ys : List ℕ) → xs ++ y ∷ ys ≢ []
+some_not_none [] y ys e = cc
+some_not_none (x ∷ xs) y ys e = cc
+
+-- ---- a line piece by piece
+
+-- where the input's bytes are known: the line has the first of them, with no line feed, and the others are left
+abbrev pub Begins : Option (List ℕ) → Option (List ℕ) → List ℕ → Type 0
+Begins was is line = IfSome was (λ bytes. (rest : List ℕ) × (is ≡ Some rest) × (bytes ≡ line ++ rest) × HasNoFeed line)
+
+pub begins : (was : Option (List ℕ)) → Begins was was []
+begins None = tt
+begins (Some bytes) = (bytes, refl, refl, tt)
+
+-- the line is whole, with its line feed
+pub taken : (was left : Option (List ℕ)) (s s' held holds : List ℕ) (ended : Bool) → Begins was (prepend_known s left) held → TakesFront ended s s' held holds → ended ≡ true → TakesLine true was (prepend_known s' left) holds
+taken None left s s' held holds ended b t e = tt
+taken (Some bytes) None s s' held holds ended (rest, is, split, clean) t e = cc
+taken (Some bytes) (Some xs) s s' held holds ended (rest, is, split, clean) t e =
+    let (front, pure, cut, grown) = rw e at t in
+    let same : s ++ xs ≡ rest = cc in
+    let behind : s ++ xs ≡ front ++ 10 ∷ (s' ++ xs) = ap (λ (l : List ℕ). l ++ xs) cut ∙ append_assoc front (10 ∷ s') xs in
+    let whole : (held ++ front) ++ 10 ∷ (s' ++ xs) ≡ bytes = append_assoc held front (10 ∷ (s' ++ xs)) ∙ ap (λ (l : List ℕ). held ++ l) (sym behind ∙ same) ∙ sym split in
+    let read = through_front (held ++ front) (s' ++ xs) (no_feed_append held front clean pure) in
+    let told : holds ≡ (held ++ front) ++ 10 ∷ [] = grown ∙ sym (append_assoc held front (10 ∷ [])) in (
+      λ none. some_not_none (held ++ front) 10 (s' ++ xs) (whole ∙ none),
+      told ∙ sym read.0 ∙ ap (take_through 10) whole,
+      ap Some (sym read.1 ∙ ap (drop_through 10) whole),
+    )
+
+-- the last line has no line feed, or there is none
+ends : (bytes rest holds : List ℕ) (empty : Bool) → bytes ≡ holds → rest ≡ [] → HasNoFeed holds → empty ≡ eqb (length holds) 0 → TakesLine (not empty) (Some bytes) (Some rest) holds
+ends bytes rest [] true e r h k = e
+ends bytes rest (x ∷ xs) true e r h k = absurd (eqb-false (length (x ∷ xs)) 0 (ne_eqb (length (x ∷ xs)) 0 (λ z. omega arith)) (eqb-true (length (x ∷ xs)) 0 (sym k)))
+ends bytes rest [] false e r h k = cc
+ends bytes rest (x ∷ xs) false e r h k =
+    let all = through_all (x ∷ xs) h in
+    (λ none. let n : x ∷ xs ≡ [] = sym e ∙ none in cc, sym all.0 ∙ ap (take_through 10) (sym e), ap Some (r ∙ sym all.1 ∙ ap (drop_through 10) (sym e)))
+
+-- no more input is left
+pub over : (was left left' : Option (List ℕ)) (s s' s'' held holds : List ℕ) (ended more empty : Bool) → Begins was (prepend_known s left) held → TakesFront ended s s' held holds → ended ≡ false → Fills more left s'' left' → more ≡ false → empty ≡ eqb (length holds) 0 → TakesLine (not empty) was (prepend_known s'' left') holds
+over None left left' s s' s'' held holds ended more true b t e f m k = tt
+over None left left' s s' s'' held holds ended more false b t e f m k = tt
+over (Some bytes) None left' s s' s'' held holds ended more empty (rest, is, split, clean) t e f m k = cc
+over (Some bytes) (Some xs) None s s' s'' held holds ended more empty (rest, is, split, clean) t e f m k = absurd f.0
+over (Some bytes) (Some xs) (Some ys) s s' s'' held holds ended more empty (rest, is, split, clean) t e (gave, end) m k =
+    let (pure, none, grown) = rw e at t in
+    let (nothing, gone) = end m in
+    let same : s ++ xs ≡ rest = cc in
+    let last : xs ≡ [] = gave ∙ ap (λ (l : List ℕ). l ++ ys) nothing ∙ gone in
+    let whole : bytes ≡ holds = split ∙ ap (λ (l : List ℕ). held ++ l) (sym same ∙ ap (λ (l : List ℕ). s ++ l) last ∙ append-nil s) ∙ sym grown in
+    let rest' : s'' ++ ys ≡ [] = sym gave ∙ last in
+    ends bytes (s'' ++ ys) holds empty whole rest' (subst HasNoFeed (sym grown) (no_feed_append held s clean pure)) k
+
+-- more was read
+pub goes_on : (was left left' : Option (List ℕ)) (s s' s'' held holds : List ℕ) (ended more : Bool) → Begins was (prepend_known s left) held → TakesFront ended s s' held holds → ended ≡ false → Fills more left s'' left' → Begins was (prepend_known s'' left') holds
+goes_on None left left' s s' s'' held holds ended more b t e f = tt
+goes_on (Some bytes) None left' s s' s'' held holds ended more (rest, is, split, clean) t e f = cc
+goes_on (Some bytes) (Some xs) None s s' s'' held holds ended more (rest, is, split, clean) t e f = absurd f.0
+goes_on (Some bytes) (Some xs) (Some ys) s s' s'' held holds ended more (rest, is, split, clean) t e (gave, end) =
+    let (pure, none, grown) = rw e at t in
+    let same : s ++ xs ≡ rest = cc in (
+      s'' ++ ys,
+      refl,
+      split ∙ ap (λ (l : List ℕ). held ++ l) (sym same) ∙ sym (append_assoc held s xs) ∙ (λ i. sym grown i ++ gave i),
+      subst HasNoFeed (sym grown) (no_feed_append held s clean pure),
+    )

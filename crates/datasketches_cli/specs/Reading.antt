@@ -1,0 +1,25 @@
+-- How lines are taken from what was read, and more is read.
+use Rattle.std.specs.Prelude.{◌≡◌, ◌≢◌, ℕ, Bool, true, false, List, [], ◌∷◌, ◌++◌, Option, Some, IfSome}
+use Rattle.std.specs.Io.BufRead.{take_through, drop_through}
+use Rattle.std.specs.Io.KnownBytes.{Consumes, IsAtEnd}
+
+-- no byte is a line feed
+abbrev pub HasNoFeed : List ℕ → Type 0
+HasNoFeed [] = Unit {0}
+HasNoFeed (byte ∷ bytes) = (byte ≢ 10) × HasNoFeed bytes
+
+-- what was read moves to the end of what is held: through its first line feed, or all of it where there is none
+abbrev pub TakesFront : Bool → List ℕ → List ℕ → List ℕ → List ℕ → Type 0
+TakesFront true was is held holds =
+    (front : List ℕ) × HasNoFeed front × (was ≡ front ++ 10 ∷ is) × (holds ≡ held ++ (front ++ 10 ∷ []))
+TakesFront false was is held holds = HasNoFeed was × (is ≡ []) × (holds ≡ held ++ was)
+
+-- a reader gave these bytes, and none only where none is left
+abbrev pub Fills : Bool → Option (List ℕ) → List ℕ → Option (List ℕ) → Type 0
+Fills more was bytes is = Consumes was is bytes × (more ≡ false → (bytes ≡ []) × IsAtEnd is)
+
+-- whether a line was found, with its end
+abbrev pub TakesLine : Bool → Option (List ℕ) → Option (List ℕ) → List ℕ → Type 0
+TakesLine true was is line =
+    IfSome was (λ bytes. (bytes ≢ []) × (line ≡ take_through 10 bytes) × (is ≡ Some (drop_through 10 bytes)))
+TakesLine false was is line = IfSome was (λ bytes. bytes ≡ [])

@@ -1,0 +1,124 @@
+//! The lines of a reader that is handed over at each call.
+ghost use Rattle.std.specs.Prelude.{◌≡◌, ◌==◌, ◌↔◌, [], false, IsTrue, IfOk, Contains};
+ghost use Rattle.std.specs.Io.KnownBytes.{IsAtEnd, prepend_known};
+ghost use Rattle.std.specs.List.{position};
+ghost use Rattle.datasketches_cli.specs.Reading.{Fills, TakesFront, TakesLine};
+
+use crate::counted::Counted;
+use std::alloc::Global;
+use std::io::{Error, ErrorKind, Read, Result};
+use std::marker::Model;
+
+/// How many bytes are read at once.
+const READ_SIZE: usize = 1 << 16;
+
+/// Bytes of a reader that were read and are not handed on yet. A contract sees the list of them.
+///
+/// The reader is handed over at each call, and has to be the same at all of them: so it can be looked at in between.
+#[derive(Drop)]
+pub struct LineReader {
+    buffer: Vec<u8>,
+    start: usize,
+    end: usize,
+}
+
+impl Model for LineReader {
+    ghost use Rattle.std.specs.Prelude.{ℕ, ◌<◌, ◌≤◌, List, length};
+    ghost use Rattle.std.specs.List.{slice_range};
+
+    ghost Value = { List ℕ };
+
+    ghost view = { λ l. slice_range l.buffer.items l.start l.end };
+
+    ghost invariant = { λ l. (l.start ≤ l.end) × (l.end ≤ length l.buffer.items) × (0 < length l.buffer.items) };
+}
+
+impl LineReader {
+    /// Before the first read.
+    pub fn new(alloc: Global) -> Result<Self>
+        ensures { IfOk result (λ lines. lines ≡ []) }
+    {
+        Ok(LineReader {
+            buffer: vec![in alloc; 0; READ_SIZE]?,
+            start: 0,
+            end: 0,
+        })
+    }
+
+    /// Whether the next line was read already, with its end.
+    pub fn has_line(&self) -> bool
+        ensures { IsTrue result ↔ Contains self.now 10 }
+    {
+        self.buffer[self.start..self.end].contains(&b'\n')
+    }
+
+    /// Puts the next line, with its end, in the place of what `line` holds, or answers that no input is left.
+    ///
+    /// It reads only where the line was not read already, and tries again after a read that a signal interrupted.
+    pub fn read_line<R: Read>(
+        &mut self,
+        reader: &mut Counted<R>,
+        line: &mut Vec<u8>,
+    ) -> Result<bool>
+        ensures line { IfOk result (λ found. TakesLine found
+            (prepend_known self.old (R.remaining reader.old.inner))
+            (prepend_known self.new (R.remaining reader.new.inner)) line.new.items) }
+        ensures end { IfOk result (λ found. found ≡ false → IsAtEnd (R.remaining reader.new.inner)) }
+    {
+        line.clear();
+        // the label names the loop in its proof
+        'tries: for _ in 0..u64::MAX {
+            if self.take_line(line)? {
+                return Ok(true);
+            }
+            if !self.fill(reader)? {
+                return Ok(!line.is_empty());
+            }
+        }
+        Err(Error::from(ErrorKind::Other))
+    }
+
+    /// Moves what was read, through the first line feed, to the end of `line`. Answers whether there was one.
+    fn take_line(&mut self, line: &mut Vec<u8>) -> Result<bool>
+        ensures { IfOk result (λ ended. TakesFront ended self.old self.new line.old.items line.new.items) }
+    {
+        let unread = &self.buffer[self.start..self.end];
+        match first_feed(unread) {
+            Some(at) => {
+                line.extend_from_slice(&unread[..at + 1])?;
+                self.start += at + 1;
+                Ok(true)
+            }
+            None => {
+                line.extend_from_slice(unread)?;
+                self.start = self.end;
+                Ok(false)
+            }
+        }
+    }
+
+    /// Reads more, where all that was read is handed on. Answers whether there may be more input.
+    fn fill<R: Read>(&mut self, reader: &mut Counted<R>) -> Result<bool>
+        requires { self.old ≡ [] }
+        ensures { IfOk result (λ more. Fills more (R.remaining reader.old.inner) self.new
+            (R.remaining reader.new.inner)) }
+    {
+        self.start = 0;
+        self.end = 0;
+        match reader.read(&mut self.buffer) {
+            Ok(count) => {
+                self.end = count;
+                Ok(count > 0)
+            }
+            Err(e) if e.kind() == ErrorKind::Interrupted => Ok(true),
+            Err(e) => Err(e),
+        }
+    }
+}
+
+/// The place of the first line feed.
+fn first_feed(bytes: &[u8]) -> Option<usize>
+    ensures { result ≡ position (λ byte. byte == 10) bytes.now }
+{
+    bytes.iter().position(|byte| *byte == b'\n')
+}
