@@ -13,6 +13,7 @@ mod divisor;
 mod error;
 mod family;
 mod fault;
+pub mod image;
 mod item_hash;
 mod murmurhash;
 mod seed_hash;

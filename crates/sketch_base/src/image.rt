@@ -1,0 +1,89 @@
+//! The fields of images, which stand at fixed places, and what all images are checked for.
+//!
+//! Numbers have their lowest byte first. No call takes memory.
+ghost use Rattle.std.specs.Prelude.{◌≡◌, ◌≢◌, ◌+◌, ◌<◌, ◌≤◌, length, OnOk, IfErr};
+ghost use Rattle.std.specs.Int.{w16, w32, w64};
+ghost use Rattle.sketch_base.specs.Errors.{invalid_data};
+ghost use Rattle.sketch_base.specs.Fields.{le_at, signed_le_at};
+
+use crate::error::Error;
+use crate::fault::Fault;
+
+/// The version of the formats, which stands in each image.
+pub const SERIAL_VERSION: u8 = 1;
+
+/// Whether an image has so many bytes.
+///
+/// Where it has fewer, this answers [`InsufficientData`](Fault::InsufficientData) of the kind
+/// [`InvalidData`](crate::ErrorKind::InvalidData).
+#[inline]
+pub fn check_length(image: &[u8], least: usize) -> Result<(), Error>
+    ensures enough { OnOk result (least ≤ length image.now) }
+    ensures short { IfErr result
+        (λ e. (e ≡ invalid_data Fault.InsufficientData) × (length image.now < least)) }
+{
+    if image.len() < least {
+        return Err(Error::invalid_data(Fault::InsufficientData));
+    }
+    Ok(())
+}
+
+/// Whether a version is the one that is read.
+///
+/// Where it is not, this answers [`BadVersion`](Fault::BadVersion) of the kind
+/// [`InvalidData`](crate::ErrorKind::InvalidData).
+#[inline]
+pub fn check_version(version: u8) -> Result<(), Error>
+    ensures same { OnOk result (version ≡ SERIAL_VERSION) }
+    ensures other { IfErr result (λ e. (e ≡ invalid_data Fault.BadVersion) × (version ≢ SERIAL_VERSION)) }
+{
+    if version != SERIAL_VERSION {
+        return Err(Error::invalid_data(Fault::BadVersion));
+    }
+    Ok(())
+}
+
+/// The unsigned number of two bytes at a place.
+#[tactic(auto, unfolding(crate::specs::Fields::le_at))]
+#[inline]
+pub fn u16_at(image: &[u8], place: usize) -> u16
+    requires { place + 2 ≤ length image.now }
+    ensures { result ≡ le_at w16 image.now place }
+{
+    let mut bytes = [0; 2];
+    bytes.copy_from_slice(&image[place..place + 2]);
+    u16::from_le_bytes(bytes)
+}
+
+/// The unsigned number of four bytes at a place.
+#[tactic(auto, unfolding(crate::specs::Fields::le_at))]
+#[inline]
+pub fn u32_at(image: &[u8], place: usize) -> u32
+    requires { place + 4 ≤ length image.now }
+    ensures { result ≡ le_at w32 image.now place }
+{
+    let mut bytes = [0; 4];
+    bytes.copy_from_slice(&image[place..place + 4]);
+    u32::from_le_bytes(bytes)
+}
+
+/// The signed number of four bytes at a place.
+#[inline]
+pub fn i32_at(image: &[u8], place: usize) -> i32
+    requires { place + 4 ≤ length image.now }
+    ensures { result ≡ signed_le_at w32 image.now place }
+{
+    u32_at(image, place).cast_signed()
+}
+
+/// The unsigned number of eight bytes at a place.
+#[tactic(auto, unfolding(crate::specs::Fields::le_at))]
+#[inline]
+pub fn u64_at(image: &[u8], place: usize) -> u64
+    requires { place + 8 ≤ length image.now }
+    ensures { result ≡ le_at w64 image.now place }
+{
+    let mut bytes = [0; 8];
+    bytes.copy_from_slice(&image[place..place + 8]);
+    u64::from_le_bytes(bytes)
+}
