@@ -1,8 +1,11 @@
 pub mod Bools
 pub mod Sets
 pub mod Counting
+pub mod Images
 pub mod Members
 pub mod Placing
 pub mod Lanes
 pub mod SetAlgebra
+pub mod RoundTrips
+pub mod Spellings
 pub mod States

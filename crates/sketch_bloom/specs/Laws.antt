@@ -1,6 +1,7 @@
--- The laws of set algebra and of equality, over the states that the calls leave.
-use Rattle.std.specs.Prelude.{◌≡◌, ◌↔◌, IsTrue, ℕ, true, false, List}
+-- The laws of set algebra, of equality and of images, over the states that the calls leave.
+use Rattle.std.specs.Prelude.{◌≡◌, ◌↔◌, IsTrue, ℕ, true, false, List, None}
 use Rattle.std.specs.FinSet as set
+use Rattle.sketch_bloom.specs.Image.{IsImage, IsSpelled, first_fault}
 use Rattle.sketch_bloom.specs.State.{FilterState, IsFilterState, IsCompatible, item_positions, contains_item, same_filter, inserted, united, subtracted}
 
 -- the order of two filters does not matter to their union
@@ -56,3 +57,15 @@ EqualityIsSymmetric = (a b : FilterState) → same_filter a b ≡ same_filter b 
 abbrev pub EqualityIsTransitive : Type 0
 EqualityIsTransitive = (a b c : FilterState) → same_filter a b ≡ true → same_filter b c ≡ true
     → same_filter a c ≡ true
+
+-- what is spelled for a filter is an image of it
+abbrev pub SpelledIsImage : Type 0
+SpelledIsImage = (image : List ℕ) (a : FilterState) → IsSpelled image a → IsImage image a
+
+-- no bytes are an image of two filters
+abbrev pub ImageIsOfOne : Type 0
+ImageIsOfOne = (image : List ℕ) (a b : FilterState) → IsImage image a → IsImage image b → a ≡ b
+
+-- bytes are an image of a filter exactly where no check fails
+abbrev pub ImageIsOfSome : Type 0
+ImageIsOfSome = (image : List ℕ) → ((a : FilterState) × IsImage image a) ↔ (first_fault image ≡ None)

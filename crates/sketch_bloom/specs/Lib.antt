@@ -6,5 +6,7 @@ pub mod State
 pub mod History
 pub mod Stands
 pub mod Building
+pub mod Image
+pub mod Preamble
 pub mod Laws
 pub mod Equality

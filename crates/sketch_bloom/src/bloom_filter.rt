@@ -1,18 +1,25 @@
 //! The filter.
 ghost use Rattle.std.specs.Prelude.{◌≡◌, ℕ, ◌*◌, ◌≤◌, ◌↔◌, IfOk, IfErr, IsOk, IsTrue, OnOk, OnErr};
 ghost use Rattle.std.specs.FinSet as set;
+ghost use Rattle.sketch_base.specs.Checks.{IsImageRefusal};
 ghost use Rattle.sketch_base.specs.Errors.{invalid_argument, no_memory};
 ghost use Rattle.sketch_base.specs.Hashes.{fed_bytes};
 ghost use Rattle.sketch_base.specs.Xxh64.{xxh64};
 ghost use Rattle.sketch_bloom.specs.History.{BloomHistory};
 ghost use Rattle.sketch_bloom.specs.History.BloomHistory.{Insert, Union, Intersection, Difference, Reset};
+ghost use Rattle.sketch_bloom.specs.Image.{IsImage, IsSpelled, Restores, early_fault, first_fault, early_fault_within, first_fault_within};
 ghost use Rattle.sketch_bloom.specs.Operations.{on_sets};
 ghost use Rattle.sketch_bloom.specs.Stands.{Extends, ExtendsBoth};
 ghost use Rattle.sketch_bloom.specs.State.{IsFilterState, IsCompatible, capacity_of, empty_state, contains_item, inserted, cleared, united, intersected, subtracted};
 
 use crate::bit_set;
+use crate::image::{
+    EMPTY_FLAG_MASK, PREAMBLE_LONGS_EMPTY, PREAMBLE_LONGS_NONEMPTY, UNCOUNTED, begin_image,
+    read_preamble, write_words,
+};
 use crate::limits::{MAX_NUM_HASHES, MAX_NUM_WORDS};
 use crate::set_operation::SetOperation;
+use sketch_base::image::{u64_at, words_at};
 use sketch_base::{Divisor, Error, Fault, xxh64_of};
 use std::alloc::{AllocError, Global};
 use std::fmt;
@@ -257,6 +264,108 @@ impl BloomFilter {
         ensures { result ≡ 8 * self.now.num_words }
     {
         8 * self.words.len()
+    }
+
+    /// The image of the filter: 24 bytes where the set is empty, else 32 and 8 for each word. `docs/FORMATS.md` has its
+    /// fields.
+    ///
+    /// # Errors
+    ///
+    /// `NoMemory` where there is no memory for the image, which is asked for once.
+    pub fn serialize(&self) -> Result<Vec<u8>, Error>
+        ensures image { IfOk result (λ image. IsSpelled image.items self.now) }
+        ensures err { IfErr result (λ e. e ≡ no_memory) }
+    {
+        let alloc = *self.words.allocator();
+        let num_words = self.words.len();
+        let seed = self.seed;
+        if self.bits_used == 0 {
+            let out = begin_image(
+                alloc,
+                24,
+                PREAMBLE_LONGS_EMPTY,
+                EMPTY_FLAG_MASK,
+                self.num_hashes,
+                seed,
+                num_words,
+            )?;
+            return Ok(out.into_bytes());
+        }
+        let mut out = begin_image(
+            alloc,
+            32 + 8 * num_words,
+            PREAMBLE_LONGS_NONEMPTY,
+            0,
+            self.num_hashes,
+            seed,
+            num_words,
+        )?;
+        out.write_u64_le(self.bits_used)?;
+        write_words(&mut out, &self.words)?;
+        Ok(out.into_bytes())
+    }
+
+    /// The filter of an image.
+    ///
+    /// The bytes behind the image are ignored, and so are the unused ones within it. It takes as much memory as the
+    /// image has words; an image that says that the filter is empty has none of them, and may say that there are 2^31 - 1,
+    /// which are 16 GiB: see [`deserialize_with_limit`](Self::deserialize_with_limit).
+    ///
+    /// # Errors
+    ///
+    /// The fault of the first check that fails, of the kind `InvalidData`: in this order `InsufficientData`, `BadFamily`,
+    /// `BadVersion`, `BadPreamble`, `InsufficientData`, `BadNumHashes`, `InsufficientData`, `BadNumWords`,
+    /// `InsufficientData` and `BadBitCount`. `NoMemory` where there is no memory for the words, which are asked for
+    /// before the set bits are counted.
+    pub fn deserialize(alloc: Global, image: &[u8]) -> Result<Self, Error>
+        ensures image { IfOk result (λ filter. IsImage image.now filter) }
+        ensures state { IfOk result (λ filter. IsFilterState filter) }
+        ensures stands { IfOk result (λ filter. Restores image.now filter) }
+        ensures err { IfErr result (IsImageRefusal (early_fault image.now) (first_fault image.now)) }
+    {
+        Self::deserialize_with_limit(alloc, image, usize::MAX)
+    }
+
+    /// The filter of an image, whose words take at most so many bytes. As [`deserialize`](Self::deserialize).
+    ///
+    /// # Errors
+    ///
+    /// Those of `deserialize`, and `TableTooLarge` of the kind `InvalidData` where the words would take more: behind the
+    /// checks that come before memory, and then no memory is asked for.
+    pub fn deserialize_with_limit(
+        alloc: Global,
+        image: &[u8],
+        most_bytes: usize,
+    ) -> Result<Self, Error>
+        ensures image { IfOk result (λ filter. IsImage image.now filter) }
+        ensures state { IfOk result (λ filter. IsFilterState filter) }
+        ensures stands { IfOk result (λ filter. Restores image.now filter) }
+        ensures within { IfOk result (λ filter. 8 * filter.num_words ≤ most_bytes) }
+        ensures err { IfErr result
+            (IsImageRefusal (early_fault_within most_bytes image.now) (first_fault_within most_bytes image.now)) }
+    {
+        let preamble = read_preamble(image)?;
+        if 8 * preamble.num_words > most_bytes {
+            return Err(Error::invalid_data(Fault::TableTooLarge));
+        }
+        let num_words = preamble.num_words;
+        let num_hashes = preamble.num_hashes;
+        if preamble.is_empty {
+            return Self::with_words(alloc, num_words, num_hashes, preamble.seed);
+        }
+        let words = words_at(alloc, image, 32, num_words)?;
+        let bits_used = bit_set::size_of(&words);
+        let stored = u64_at(image, 24);
+        if stored != UNCOUNTED && stored != bits_used {
+            return Err(Error::invalid_data(Fault::BadBitCount));
+        }
+        Ok(BloomFilter {
+            words,
+            capacity: Divisor::new(64 * num_words as u64),
+            num_hashes,
+            seed: preamble.seed,
+            bits_used,
+        })
     }
 
     /// A clone with memory of its own, as [`clone`](Clone::clone) makes it.

@@ -1,8 +1,15 @@
-//! The laws of set algebra and of equality. No function here does anything: what it ensures is the law.
+//! The laws of set algebra, of equality and of images. But for `restored`, no function here does anything: what it
+//! ensures is the law.
 //!
 //! The laws speak of the states that the calls of [`BloomFilter`](crate::BloomFilter) leave, as their contracts
 //! name them.
-ghost use Rattle.sketch_bloom.specs.Laws.{UnionCommutes, UnionAssociates, UnionIsIdempotent, EmptyContainsNothing, InsertedIsContained, DifferenceTakesAway, DifferenceAddsNothing, DifferenceLeaves, EqualByParts, EqualityIsReflexive, EqualityIsSymmetric, EqualityIsTransitive};
+ghost use Rattle.std.specs.Prelude.{◌≡◌, IfOk, IfErr};
+ghost use Rattle.sketch_base.specs.Errors.{no_memory};
+ghost use Rattle.sketch_bloom.specs.Laws.{SpelledIsImage, ImageIsOfOne, ImageIsOfSome, UnionCommutes, UnionAssociates, UnionIsIdempotent, EmptyContainsNothing, InsertedIsContained, DifferenceTakesAway, DifferenceAddsNothing, DifferenceLeaves, EqualByParts, EqualityIsReflexive, EqualityIsSymmetric, EqualityIsTransitive};
+
+use crate::bloom_filter::BloomFilter;
+use sketch_base::Error;
+use std::alloc::Global;
 
 /// A union of compatible filters does not depend on their order, and a filter united with itself is as it was.
 pub fn union_is_set_union()
@@ -34,3 +41,24 @@ pub fn equality_is_an_equivalence()
     ensures symmetric { EqualityIsSymmetric }
     ensures transitive { EqualityIsTransitive }
 {}
+
+/// What is written is an image, no bytes are an image of two filters, and they are one of some filter exactly where no
+/// check fails.
+pub fn what_images_say()
+    ensures spelled { SpelledIsImage }
+    ensures one { ImageIsOfOne }
+    ensures some { ImageIsOfSome }
+{}
+
+/// Writes an image of the filter and reads it again: the filter that comes back equals it.
+///
+/// # Errors
+///
+/// `NoMemory` where there is no memory for the image or for the filter.
+pub fn restored(alloc: Global, filter: &BloomFilter) -> Result<BloomFilter, Error>
+    ensures same { IfOk result (λ copy. copy ≡ filter.now) }
+    ensures err { IfErr result (λ e. e ≡ no_memory) }
+{
+    let image = filter.serialize()?;
+    BloomFilter::deserialize(alloc, &image)
+}

@@ -8,6 +8,7 @@
 mod bit_set;
 mod bloom_filter;
 mod bloom_filter_builder;
+mod image;
 pub mod laws;
 mod limits;
 mod set_operation;

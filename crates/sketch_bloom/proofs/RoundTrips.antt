@@ -1,0 +1,99 @@
+-- A spelled image is an image: each field is read again as it was written, and all checks pass.
+use Rattle.std.proofs.Common.{◌≡◌, ◌≢◌, ℕ, suc, ◌+◌, ◌*◌, ◌<◌, ◌≤◌, ◌^◌, ◌==◌, Bool, true, false, ◌||◌, eqb, leb, List, [], ◌∷◌, ◌++◌, All, inr, length, None, refl, sym, ap, subst, ◌∙◌, eq-eqb, eqb-true, arith, length-append}
+use Rattle.std.specs.Int.{w16, w32, w64, to_le_bytes}
+use Rattle.std.specs.FinSet as set
+use Rattle.std.specs.Ordering.{nat_cmp}
+use Rattle.std.proofs.lemmas.Bool.{le-leb, false≢true}
+use Rattle.std.proofs.lemmas.Nat.{from_le_bytes-to_le_bytes_2, from_le_bytes-to_le_bytes_4, from_le_bytes-to_le_bytes_8}
+use Rattle.std.proofs.lemmas.List.Elements.{All-head, All-tail}
+use Rattle.sketch_base.specs.Fields.{le_at, words_in, bytes_of_words}
+use Rattle.sketch_bloom.specs.BitSet.{set_of}
+use Rattle.sketch_bloom.specs.Image.{IsImage, IsSpelled, AreWordsOf, preamble, num_hashes_at, seed_at, num_words_at, bit_count_at, uncounted, set_at, early_fault, first_fault, value_at}
+use Rattle.sketch_bloom.specs.State.{FilterState, IsFilterState}
+use Rattle.sketch_bloom.proofs.Counting.{len-set_of-le}
+use Rattle.sketch_bloom.proofs.Images.{either_true}
+
+-- the words are read as they were written
+pub words_back : (words : List ℕ) → All (λ word. word < 2 ^ 64) words → words_in (length words) (bytes_of_words words) ≡ words
+unfolding le_at
+words_back [] h = refl
+words_back (word ∷ words) h =
+    let P : ℕ → Type 0 = λ n. n < 2 ^ 64 in
+    rw (from_le_bytes-to_le_bytes_8 word (All-head P word words h), words_back words (All-tail P word words h)) refl
+
+pub length-bytes_of_words : (words : List ℕ) → length (bytes_of_words words) ≡ 8 * length words
+length-bytes_of_words [] = refl
+length-bytes_of_words (word ∷ words) = omega (arith, length-append (to_le_bytes w64 word) (bytes_of_words words), length-bytes_of_words words)
+
+-- the fields of the preamble are read as they were written, whatever stands behind it
+module _ (longs flags num_hashes seed num_words : ℕ) (tail : List ℕ) where
+  num_hashes_back : num_hashes < 2 ^ 16 → num_hashes_at (preamble longs flags num_hashes seed num_words ++ tail) ≡ num_hashes
+  unfolding le_at
+  num_hashes_back fits = from_le_bytes-to_le_bytes_2 num_hashes fits
+
+  seed_back : seed < 2 ^ 64 → seed_at (preamble longs flags num_hashes seed num_words ++ tail) ≡ seed
+  unfolding le_at
+  seed_back fits = from_le_bytes-to_le_bytes_8 seed fits
+
+  num_words_back : num_words < 2 ^ 32 → num_words_at (preamble longs flags num_hashes seed num_words ++ tail) ≡ num_words
+  unfolding le_at
+  num_words_back fits = from_le_bytes-to_le_bytes_4 num_words fits
+
+  bit_count_back : (count : ℕ) (rest : List ℕ) → count < 2 ^ 64 → bit_count_at (preamble longs flags num_hashes seed num_words ++ to_le_bytes w64 count ++ rest) ≡ count
+  unfolding le_at
+  bit_count_back count rest fits = from_le_bytes-to_le_bytes_8 count fits
+
+  length_back : length (preamble longs flags num_hashes seed num_words ++ tail) ≡ 24 + length tail
+  length_back = length-append (preamble longs flags num_hashes seed num_words) tail
+
+-- the image of a filter whose set is empty
+empty_image : (s : FilterState) → IsFilterState s → s.seed < 2 ^ 64 → s.set ≡ set.empty → IsImage (preamble 3 4 s.num_hashes s.seed s.num_words) s
+empty_image s state fits none =
+    let hashes = num_hashes_back 3 4 s.num_hashes s.seed s.num_words [] (omega (arith, state.few_hashes)) in
+    let words = num_words_back 3 4 s.num_hashes s.seed s.num_words [] (omega (arith, state.few_words)) in
+    let seed = seed_back 3 4 s.num_hashes s.seed s.num_words [] fits in
+    let some_hashes : leb 1 s.num_hashes ≡ true = le-leb _ _ state.some_hashes in
+    let few_hashes : leb s.num_hashes 32767 ≡ true = le-leb _ _ state.few_hashes in
+    let some_words : leb 1 s.num_words ≡ true = le-leb _ _ state.some_words in
+    let few_words : leb s.num_words 2147483647 ≡ true = le-leb _ _ state.few_words in
+    record {
+      no_fault = rw (hashes, words, some_hashes, few_hashes, some_words, few_words) refl;
+      value = rw (hashes, words, seed, sym none) refl;
+    }
+
+-- the image of a filter whose set is not empty
+full_image : (s : FilterState) (words : List ℕ) → IsFilterState s → s.seed < 2 ^ 64 → AreWordsOf s words → IsImage (preamble 4 0 s.num_hashes s.seed s.num_words ++ to_le_bytes w64 (set.len s.set) ++ bytes_of_words words) s
+full_image s words state fits are =
+    let count = set.len s.set in
+    let tail = to_le_bytes w64 count ++ bytes_of_words words in
+    let front = preamble 4 0 s.num_hashes s.seed s.num_words in
+    let image = front ++ to_le_bytes w64 count ++ bytes_of_words words in
+    let hashes : num_hashes_at image ≡ s.num_hashes = num_hashes_back 4 0 s.num_hashes s.seed s.num_words tail (omega (arith, state.few_hashes)) in
+    let num_words : num_words_at image ≡ s.num_words = num_words_back 4 0 s.num_hashes s.seed s.num_words tail (omega (arith, state.few_words)) in
+    let seed : seed_at image ≡ s.seed = seed_back 4 0 s.num_hashes s.seed s.num_words tail fits in
+    let few : count < 2 ^ 64 = omega (arith, len-set_of-le words, ap set.len are.set, are.count, state.few_words) in
+    let stored : bit_count_at image ≡ count = bit_count_back 4 0 s.num_hashes s.seed s.num_words tail count (bytes_of_words words) few in
+    let long : length image ≡ 32 + 8 * s.num_words = omega (arith, length_back 4 0 s.num_hashes s.seed s.num_words tail, length-append (to_le_bytes w64 count) (bytes_of_words words), length-bytes_of_words words, are.count) in
+    let read = words_in s.num_words (bytes_of_words words) in
+    let set_is : set_of read ≡ s.set = ap (λ (n : ℕ). set_of (words_in n (bytes_of_words words))) (sym are.count) ∙ ap set_of (words_back words are.fit) ∙ are.set in
+    let some_hashes : leb 1 s.num_hashes ≡ true = le-leb _ _ state.some_hashes in
+    let few_hashes : leb s.num_hashes 32767 ≡ true = le-leb _ _ state.few_hashes in
+    let some_words : leb 1 s.num_words ≡ true = le-leb _ _ state.some_words in
+    let few_words : leb s.num_words 2147483647 ≡ true = le-leb _ _ state.few_words in
+    let has : (n : ℕ) → n ≤ length image → leb n (length image) ≡ true = λ n le. le-leb _ _ le in
+    let counted : ((bit_count_at image == uncounted) || (bit_count_at image == set.len (set_of read))) ≡ true = either_true _ _ (inr (eq-eqb _ _ (stored ∙ ap set.len (sym set_is)))) in
+    record {
+      no_fault = rw (hashes, num_words, some_hashes, few_hashes, some_words, few_words, has (32 + 8 * s.num_words) (omega (arith, long)), counted, has 4 (omega (arith, long)), has 6 (omega (arith, long)), has 24 (omega (arith, long))) refl;
+      value = rw (hashes, num_words, seed, set_is) refl;
+    }
+
+pub spelled_is_image : (image : List ℕ) (s : FilterState) → IsSpelled image s → IsImage image s
+spelled_is_image image s h = by_set s h (set.len s.set == 0) refl where
+  by_set : (s : FilterState) → IsSpelled image s → (b : Bool) → (set.len s.set == 0) ≡ b → IsImage image s
+  by_set s h true e =
+      let none : s.set ≡ set.empty = set.empty_of_len s.set (eqb-true _ 0 e) in
+      subst (λ (bytes : List ℕ). IsImage bytes s) (sym (h.empty none)) (empty_image s h.state h.seed none)
+  by_set s h false e =
+      let some : s.set ≢ set.empty = λ none. false≢true (sym e ∙ eq-eqb _ 0 (ap set.len none ∙ set.len-empty nat_cmp)) in
+      let written = h.full some in
+      subst (λ (bytes : List ℕ). IsImage bytes s) (sym written.bytes) (full_image s written.words h.state h.seed written.are_words)

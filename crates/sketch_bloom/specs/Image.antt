@@ -1,0 +1,128 @@
+-- The image of a filter: its fields by their places, its checks in their order, what it says, and how it is spelled.
+use Rattle.std.specs.Prelude.{◌≡◌, ◌≢◌, ℕ, ◌+◌, ◌*◌, ◌<◌, ◌^◌, nat_le, nat_lt, ◌==◌, Bool, ◌&&◌, ◌||◌, not, Option, None, Some, List, [], ◌∷◌, ◌++◌, length, drop, All, bit_and, if◌then◌else◌}
+use Rattle.std.specs.Int.{w16, w32, w64, to_le_bytes}
+use Rattle.std.specs.FinSet as set
+use Rattle.sketch_base.specs.Checks.{first_failing, or_else}
+use Rattle.sketch_base.specs.Fields.{byte_at, le_at, words_in, bytes_of_words}
+use Rattle.sketch_base.specs.declared.fault.Fault.{Fault}
+use Rattle.sketch_base.specs.declared.fault.Fault.TheVariants.{InsufficientData, BadFamily, BadVersion, BadPreamble, BadNumHashes, BadNumWords, BadBitCount, TableTooLarge}
+use Rattle.sketch_bloom.specs.BitSet.{Numbers, set_of}
+use Rattle.sketch_bloom.specs.History.BloomHistory.{Restored}
+use Rattle.sketch_bloom.specs.Stands.{Extends}
+use Rattle.sketch_bloom.specs.State.{FilterState, IsFilterState}
+use Rattle.sketch_bloom.specs.declared.limits.TheConstants.{MAX_NUM_WORDS, MAX_NUM_HASHES}
+
+-- ---- the fields
+
+-- bit 2 of the flags alone says that the set is empty
+abbrev pub says_empty : List ℕ → Bool
+says_empty image = not (bit_and (byte_at image 3) 4 == 0)
+
+abbrev pub num_hashes_at : List ℕ → ℕ
+num_hashes_at image = le_at w16 image 4
+
+abbrev pub seed_at : List ℕ → ℕ
+seed_at image = le_at w64 image 8
+
+-- a number with a sign, which has to be above zero: so its highest bit is clear
+abbrev pub num_words_at : List ℕ → ℕ
+num_words_at image = le_at w32 image 16
+
+abbrev pub bit_count_at : List ℕ → ℕ
+bit_count_at image = le_at w64 image 24
+
+-- what stands for a number of set bits that was not counted
+abbrev pub uncounted : ℕ
+uncounted = 0xFFFF_FFFF_FFFF_FFFF
+
+-- the set of the words behind them
+abbrev pub set_at : List ℕ → Numbers
+set_at image = set_of (words_in (num_words_at image) (drop 32 image))
+
+-- ---- the checks: what has to hold, and the fault where it does not
+
+-- those that come before any memory is asked for
+abbrev pub early_checks : List ℕ → List (Bool × Fault)
+early_checks image =
+    (nat_le 4 (length image), InsufficientData)
+    ∷ (byte_at image 2 == 21, BadFamily)
+    ∷ (byte_at image 1 == 1, BadVersion)
+    ∷ ((byte_at image 0 == 3) || (byte_at image 0 == 4), BadPreamble)
+    ∷ (nat_le 6 (length image), InsufficientData)
+    ∷ (nat_le 1 (num_hashes_at image) && nat_le (num_hashes_at image) MAX_NUM_HASHES, BadNumHashes)
+    ∷ (nat_le 24 (length image), InsufficientData)
+    ∷ (nat_le 1 (num_words_at image) && nat_le (num_words_at image) MAX_NUM_WORDS, BadNumWords)
+    ∷ (says_empty image || nat_le (32 + 8 * num_words_at image) (length image), InsufficientData)
+    ∷ []
+
+abbrev pub late_checks : List ℕ → List (Bool × Fault)
+late_checks image =
+    (says_empty image || ((bit_count_at image == uncounted) || (bit_count_at image == set.len (set_at image))), BadBitCount)
+    ∷ []
+
+abbrev pub early_fault : List ℕ → Option Fault
+early_fault image = first_failing (early_checks image)
+
+-- the fault of the first check that fails
+abbrev pub first_fault : List ℕ → Option Fault
+first_fault image = or_else (early_fault image) (first_failing (late_checks image))
+
+-- a reader's own limit, in bytes of words, comes behind the early checks
+abbrev pub limit_fault : ℕ → List ℕ → Option Fault
+limit_fault most_bytes image = if nat_lt most_bytes (8 * num_words_at image) then Some TableTooLarge else None
+
+abbrev pub early_fault_within : ℕ → List ℕ → Option Fault
+early_fault_within most_bytes image = or_else (early_fault image) (limit_fault most_bytes image)
+
+abbrev pub first_fault_within : ℕ → List ℕ → Option Fault
+first_fault_within most_bytes image =
+    or_else (early_fault_within most_bytes image) (first_failing (late_checks image))
+
+-- ---- what an image says
+
+abbrev pub value_at : List ℕ → FilterState
+value_at image = record {
+  num_words = num_words_at image;
+  num_hashes = num_hashes_at image;
+  seed = seed_at image;
+  set = if says_empty image then set.empty else set_at image;
+}
+
+-- the bytes are an image of the filter; what they do not name here is free
+pub record IsImage (image : List ℕ) (s : FilterState) : Type 0 where
+  pub no_fault : first_fault image ≡ None
+  pub value : s ≡ value_at image
+
+-- ---- how an image is spelled
+
+-- the longs of the preamble, the version, the family, the flags and the shape
+abbrev pub preamble : (longs flags num_hashes seed num_words : ℕ) → List ℕ
+preamble longs flags num_hashes seed num_words =
+    longs ∷ 1 ∷ 21 ∷ flags ∷ [] ++ to_le_bytes w16 num_hashes ++ 0 ∷ 0 ∷ [] ++ to_le_bytes w64 seed
+    ++ to_le_bytes w32 num_words ++ 0 ∷ 0 ∷ 0 ∷ 0 ∷ []
+
+-- the words of 64 bits in which the filter's set stands
+pub record AreWordsOf (s : FilterState) (words : List ℕ) : Type 0 where
+  pub count : length words ≡ s.num_words
+  pub fit : All (λ word. word < 2 ^ 64) words
+  pub set : set_of words ≡ s.set
+
+-- the bytes of a filter that is not empty
+pub record IsWritten (image : List ℕ) (s : FilterState) : Type 0 where
+  pub words : List ℕ
+  pub are_words : AreWordsOf s words
+  pub bytes :
+      image ≡ preamble 4 0 s.num_hashes s.seed s.num_words ++ to_le_bytes w64 (set.len s.set) ++ bytes_of_words words
+
+-- the bytes are the image of the filter as it is written
+pub record IsSpelled (image : List ℕ) (s : FilterState) : Type 0 where
+  pub state : IsFilterState s
+  pub seed : s.seed < 2 ^ 64
+  pub empty : s.set ≡ set.empty → image ≡ preamble 3 4 s.num_hashes s.seed s.num_words
+  pub full : s.set ≢ set.empty → IsWritten image s
+
+-- ---- what a reader promises
+
+-- what stood for a history, and had this image, comes back as what stands for the restored history
+abbrev pub Restores : List ℕ → FilterState → Type 0
+Restores image new = (old : FilterState) → IsImage image old → Extends old new Restored

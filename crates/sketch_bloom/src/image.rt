@@ -1,0 +1,112 @@
+//! The images of filters: how they are read and written.
+ghost use Rattle.std.specs.Prelude.{◌≡◌, ◌+◌, ◌*◌, ◌<◌, ◌≤◌, ◌^◌, ◌++◌, None, Some, false, length, All, IfOk, IfErr, OnOk};
+ghost use Rattle.sketch_base.specs.Errors.{invalid_data, no_memory};
+ghost use Rattle.sketch_base.specs.Fields.{bytes_of_words};
+ghost use Rattle.sketch_bloom.specs.Image.{early_fault, preamble};
+ghost use Rattle.sketch_bloom.specs.Preamble.{IsPreamble};
+
+use crate::limits::{MAX_NUM_HASHES, MAX_NUM_WORDS};
+use sketch_base::image::{SERIAL_VERSION, check_length, check_version, u16_at, u32_at, u64_at};
+use sketch_base::{Error, Family, Fault, SketchBytes};
+use std::alloc::Global;
+
+/// The longs of the preamble of an empty filter.
+pub const PREAMBLE_LONGS_EMPTY: u8 = 3;
+
+/// The longs of the preamble of a filter that is not empty.
+pub const PREAMBLE_LONGS_NONEMPTY: u8 = 4;
+
+/// The flag of an empty filter.
+pub const EMPTY_FLAG_MASK: u8 = 4;
+
+/// What stands for a number of set bits that was not counted.
+pub const UNCOUNTED: u64 = u64::MAX;
+
+/// What the first bytes of an image say.
+#[derive(Clone, Copy)]
+pub struct Preamble {
+    pub is_empty: bool,
+    pub num_hashes: u16,
+    pub seed: u64,
+    pub num_words: usize,
+}
+
+/// Reads what comes before the words, and sees that the words are there.
+pub fn read_preamble(image: &[u8]) -> Result<Preamble, Error>
+    ensures checks { OnOk result (early_fault image.now ≡ None) }
+    ensures fields { IfOk result (IsPreamble image.now) }
+    ensures words { IfOk result (λ p. p.is_empty ≡ false → 32 + 8 * p.num_words ≤ length image.now) }
+    ensures some_words { IfOk result (λ p. 1 ≤ p.num_words) }
+    ensures few_words { IfOk result (λ p. p.num_words ≤ MAX_NUM_WORDS) }
+    ensures some_hashes { IfOk result (λ p. 1 ≤ p.num_hashes) }
+    ensures few_hashes { IfOk result (λ p. p.num_hashes ≤ MAX_NUM_HASHES) }
+    ensures err { IfErr result (λ e. (e ≡ invalid_data e.fault) × (early_fault image.now ≡ Some e.fault)) }
+{
+    check_length(image, 4)?;
+    Family::BLOOMFILTER.validate_id(image[2])?;
+    check_version(image[1])?;
+    if image[0] != PREAMBLE_LONGS_EMPTY && image[0] != PREAMBLE_LONGS_NONEMPTY {
+        return Err(Error::invalid_data(Fault::BadPreamble));
+    }
+    check_length(image, 6)?;
+    let num_hashes = u16_at(image, 4);
+    if num_hashes == 0 || num_hashes > MAX_NUM_HASHES {
+        return Err(Error::invalid_data(Fault::BadNumHashes));
+    }
+    check_length(image, 24)?;
+    let num_words = u32_at(image, 16) as usize;
+    if num_words == 0 || num_words > MAX_NUM_WORDS {
+        return Err(Error::invalid_data(Fault::BadNumWords));
+    }
+    let is_empty = image[3] & EMPTY_FLAG_MASK != 0;
+    if !is_empty {
+        check_length(image, 32 + 8 * num_words)?;
+    }
+    Ok(Preamble {
+        is_empty,
+        num_hashes,
+        seed: u64_at(image, 8),
+        num_words,
+    })
+}
+
+/// A buffer with room for so many bytes, in which the preamble of an image stands.
+pub fn begin_image(
+    alloc: Global,
+    room: usize,
+    longs: u8,
+    flags: u8,
+    num_hashes: u16,
+    seed: u64,
+    num_words: usize,
+) -> Result<SketchBytes, Error>
+    requires { num_words ≤ MAX_NUM_WORDS }
+    ensures ok { IfOk result (λ out. out.bytes ≡ preamble longs flags num_hashes seed num_words) }
+    ensures err { IfErr result (λ e. e ≡ no_memory) }
+
+    // What the type says, for the caller's proof.
+    ensures seed_fits { seed < 2 ^ 64 }
+{
+    let mut out = SketchBytes::with_capacity(alloc, room)?;
+    out.write(&[longs, SERIAL_VERSION, Family::BLOOMFILTER.id, flags])?;
+    out.write_u16_le(num_hashes)?;
+    out.write(&[0, 0])?;
+    out.write_u64_le(seed)?;
+    out.write_u32_le(num_words as u32)?;
+    out.write(&[0, 0, 0, 0])?;
+    Ok(out)
+}
+
+/// Writes the words.
+pub fn write_words(out: &mut SketchBytes, words: &[u64]) -> Result<(), Error>
+    ensures ok { OnOk result (out.new.bytes ≡ out.old.bytes ++ bytes_of_words words.now) }
+    ensures err { IfErr result (λ e. e ≡ no_memory) }
+
+    // What the type says, for the caller's proof.
+    ensures words_fit { All (λ word. word < 2 ^ 64) words.now }
+{
+    for word in words {
+        out.write_u64_le(*word)?;
+    }
+    Ok(())
+}
