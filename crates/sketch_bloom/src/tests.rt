@@ -196,3 +196,127 @@ fn prints_its_fields(rt: HostRuntime) -> Result<(), Fail> {
     laws::equality_is_an_equivalence();
     Ok(())
 }
+
+/// The image of a filter of one word with two bits set: one hash, the seed 9001, the count 2 and the word 3.
+const TWO_BITS: [u8; 40] = [
+    4, 1, 21, 0, 1, 0, 0, 0, 0x29, 0x23, 0, 0, 0, 0, 0, 0, 1, 0, 0, 0, 0, 0, 0, 0, 2, 0, 0, 0, 0,
+    0, 0, 0, 3, 0, 0, 0, 0, 0, 0, 0,
+];
+
+/// The image of the same filter with nothing in it.
+const NO_BITS: [u8; 24] = [
+    3, 1, 21, 4, 1, 0, 0, 0, 0x29, 0x23, 0, 0, 0, 0, 0, 0, 1, 0, 0, 0, 0, 0, 0, 0,
+];
+
+/// The set bits of an image's filter, which is written again and read once more, or 999 where it comes back otherwise.
+fn bits_of(alloc: Global, image: &[u8]) -> Result<u64, Error> {
+    let filter = BloomFilter::deserialize(alloc, image)?;
+    let again = filter.serialize()?;
+    if BloomFilter::deserialize(alloc, &again)? == filter {
+        Ok(filter.bits_used())
+    } else {
+        Ok(999)
+    }
+}
+
+/// The same of the image of two bits with four bytes of it, or eight, altered.
+fn bits_of_altered(alloc: Global, place: u8, bytes: &[u8]) -> Result<u64, Fault> {
+    let mut image = TWO_BITS;
+    for (i, byte) in bytes.iter().enumerate() {
+        if let Some(old) = image.get_mut(place as usize + i) {
+            *old = *byte;
+        }
+    }
+    bits_of(alloc, &image).map_err(|e| e.fault())
+}
+
+#[test]
+fn reads_altered_images(rt: HostRuntime) {
+    let rows: [(u8, [u8; 8], Result<u64, Fault>); 19] = [
+        (0, [4, 1, 21, 0, 1, 0, 0, 0], Ok(2)),
+        (0, [2, 1, 21, 0, 1, 0, 0, 0], Err(Fault::BadPreamble)),
+        (0, [5, 1, 21, 0, 1, 0, 0, 0], Err(Fault::BadPreamble)),
+        (0, [3, 1, 21, 0, 1, 0, 0, 0], Ok(2)),
+        (0, [4, 1, 21, 1, 1, 0, 0, 0], Ok(2)),
+        (0, [4, 2, 21, 0, 1, 0, 0, 0], Err(Fault::BadVersion)),
+        (0, [4, 1, 18, 0, 1, 0, 0, 0], Err(Fault::BadFamily)),
+        (0, [4, 2, 18, 0, 0, 0, 0, 0], Err(Fault::BadFamily)),
+        (0, [4, 1, 21, 4, 1, 0, 0, 0], Ok(0)),
+        (0, [4, 1, 21, 0, 0, 0, 0, 0], Err(Fault::BadNumHashes)),
+        (0, [4, 1, 21, 0, 0, 128, 0, 0], Err(Fault::BadNumHashes)),
+        (0, [4, 1, 21, 0, 255, 127, 0, 0], Ok(2)),
+        (16, [0, 0, 0, 0, 0, 0, 0, 0], Err(Fault::BadNumWords)),
+        (
+            16,
+            [255, 255, 255, 255, 0, 0, 0, 0],
+            Err(Fault::BadNumWords),
+        ),
+        (16, [2, 0, 0, 0, 0, 0, 0, 0], Err(Fault::InsufficientData)),
+        (
+            16,
+            [255, 255, 255, 127, 0, 0, 0, 0],
+            Err(Fault::InsufficientData),
+        ),
+        (24, [255; 8], Ok(2)),
+        (24, [3, 0, 0, 0, 0, 0, 0, 0], Err(Fault::BadBitCount)),
+        (32, [7, 0, 0, 0, 0, 0, 0, 0], Err(Fault::BadBitCount)),
+    ];
+    for (place, bytes, wanted) in rows {
+        assert!(rt; bits_of_altered(rt.alloc(), place, &bytes) == wanted);
+    }
+}
+
+#[test]
+fn reads_cut_images(rt: HostRuntime) {
+    let short = Err(Error::invalid_data(Fault::InsufficientData));
+    for length in 0..40 {
+        assert!(rt; bits_of(rt.alloc(), &TWO_BITS[..length]) == short);
+    }
+    for length in 0..24 {
+        assert!(rt; bits_of(rt.alloc(), &NO_BITS[..length]) == short);
+    }
+    assert!(rt; bits_of(rt.alloc(), &NO_BITS) == Ok(0));
+}
+
+/// What two filters write, one with the image of two bits and an empty one.
+fn written(alloc: Global) -> Result<(Vec<u8>, Vec<u8>), Error> {
+    let mut filter = BloomFilter::deserialize_with_limit(alloc, &TWO_BITS, 8)?;
+    let full = filter.serialize()?;
+    filter.reset();
+    Ok((full, filter.serialize()?))
+}
+
+#[test]
+fn writes_images(rt: HostRuntime) -> Result<(), Fail> {
+    let (full, empty) = written(rt.alloc())?;
+    assert!(rt; full.as_slice() == TWO_BITS.as_slice() && empty.as_slice() == NO_BITS.as_slice());
+    let refused = BloomFilter::deserialize_with_limit(rt.alloc(), &NO_BITS, 7).err();
+    assert!(rt; refused == Some(Error::invalid_data(Fault::TableTooLarge)));
+    let filter = filled(rt.alloc(), 1_048_576, 7, 0, 30_000)?;
+    assert!(rt; laws::restored(rt.alloc(), &filter)? == filter);
+    laws::what_images_say();
+    Ok(())
+}
+
+/// A filter of so many words that are all the same, of which each has two bits set.
+fn of_pairs(alloc: Global, num_words: u8, word: u8) -> Result<BloomFilter, Error> {
+    let mut image = Vec::with_capacity(alloc, 128)?;
+    image.extend_from_slice(&TWO_BITS[..16])?;
+    image.extend_from_slice(&[num_words, 0, 0, 0, 0, 0, 0, 0])?;
+    image.extend_from_slice(&[255; 8])?;
+    for _ in 0..num_words {
+        image.extend_from_slice(&[word, 0, 0, 0, 0, 0, 0, 0])?;
+    }
+    BloomFilter::deserialize(alloc, &image)
+}
+
+#[test]
+fn combines_sets_of_images(rt: HostRuntime) -> Result<(), Fail> {
+    for num_words in [1, 3, 4, 5, 8, 9] {
+        let words = num_words as u64;
+        let wanted = [2 * words, 2 * words, 3 * words, words, words];
+        let left = of_pairs(rt.alloc(), num_words, 3)?;
+        assert!(rt; sizes(&left, &of_pairs(rt.alloc(), num_words, 6)?)? == wanted);
+    }
+    Ok(())
+}

@@ -16,11 +16,10 @@ overflow_add-size c =
 pub loop-word-preserved : goal.loop-word-preserved
 loop-word-preserved c =
     let word = slice_index_or c.args.words.now c.loop-word.word-index 0 in
-    let ones : count_ones word ≤ 64 = ones-le 64 word (c.type_inv.words c.loop-word.word-index).fits in
-    (
-        ap (λ (n : ℕ). n + count_ones word) c.loop-word.invariant.0
-        ∙ sym (sum_by_more count_ones c.args.words.now c.loop-word.word-index 0 c.loop-word-test.true),
-        omega arith,
+    let ones : count_ones word ≤ 64 = ones-le 64 word (c.type_inv.words c.loop-word.word-index).fits in (
+      ap (λ (n : ℕ). n + count_ones word) c.loop-word.invariant.0
+          ∙ sym (sum_by_more count_ones c.args.words.now c.loop-word.word-index 0 c.loop-word-test.true),
+      omega arith,
     )
 
 pub returns : goal.returns
