@@ -1,12 +1,10 @@
 -- What is read is what the image says.
-use Rattle.std.proofs.Common.{◌≡◌, ℕ, zero, suc, ◌+◌, ◌*◌, ◌≤◌, ◌==◌, Bool, true, false, ◌||◌, ◌⊎◌, inl, inr, List, [], ◌∷◌, length, drop, None, refl, sym, ap, subst, ◌∙◌, eq-eqb, arith}
+use Rattle.std.proofs.Common.{◌≡◌, ℕ, zero, suc, ◌==◌, Bool, true, false, ◌||◌, ◌⊎◌, inl, inr, List, length, drop, None, refl, sym, ap, subst, ◌∙◌, eq-eqb, arith}
 use Rattle.std.specs.FinSet as set
-use Rattle.sketch_base.specs.Checks.{first_failing}
-use Rattle.sketch_base.specs.Fields.{le_at, words_in}
+use Rattle.sketch_base.specs.Fields.{words_in}
 use Rattle.sketch_bloom.specs.BitSet.{set_of}
-use Rattle.sketch_bloom.specs.History.{BloomHistory}
 use Rattle.sketch_bloom.specs.History.BloomHistory.{Restored}
-use Rattle.sketch_bloom.specs.Image.{IsImage, Restores, early_fault, late_checks, bit_count_at, uncounted, value_at}
+use Rattle.sketch_bloom.specs.Image.{IsImage, Restores, early_fault, bit_count_at, uncounted}
 use Rattle.sketch_bloom.specs.Preamble.{IsPreamble}
 use Rattle.sketch_bloom.specs.Stands.{StandsFor}
 use Rattle.sketch_bloom.specs.State.{FilterState}

@@ -1,6 +1,6 @@
 -- A spelled image is an image: each field is read again as it was written, and all checks pass.
-use Rattle.std.proofs.Common.{◌≡◌, ◌≢◌, ℕ, suc, ◌+◌, ◌*◌, ◌<◌, ◌≤◌, ◌^◌, ◌==◌, Bool, true, false, ◌||◌, eqb, leb, List, [], ◌∷◌, ◌++◌, All, inr, length, None, refl, sym, ap, subst, ◌∙◌, eq-eqb, eqb-true, arith, length-append}
-use Rattle.std.specs.Int.{w16, w32, w64, to_le_bytes}
+use Rattle.std.proofs.Common.{◌≡◌, ◌≢◌, ℕ, ◌+◌, ◌*◌, ◌<◌, ◌≤◌, ◌^◌, ◌==◌, Bool, true, false, ◌||◌, leb, List, [], ◌∷◌, ◌++◌, All, inr, length, refl, sym, ap, subst, ◌∙◌, eq-eqb, eqb-true, arith, length-append}
+use Rattle.std.specs.Int.{w64, to_le_bytes}
 use Rattle.std.specs.FinSet as set
 use Rattle.std.specs.Ordering.{nat_cmp}
 use Rattle.std.proofs.lemmas.Bool.{le-leb, false≢true}
@@ -8,7 +8,7 @@ use Rattle.std.proofs.lemmas.Nat.{from_le_bytes-to_le_bytes_2, from_le_bytes-to_
 use Rattle.std.proofs.lemmas.List.Elements.{All-head, All-tail}
 use Rattle.sketch_base.specs.Fields.{le_at, words_in, bytes_of_words}
 use Rattle.sketch_bloom.specs.BitSet.{set_of}
-use Rattle.sketch_bloom.specs.Image.{IsImage, IsSpelled, AreWordsOf, preamble, num_hashes_at, seed_at, num_words_at, bit_count_at, uncounted, set_at, early_fault, first_fault, value_at}
+use Rattle.sketch_bloom.specs.Image.{IsImage, IsSpelled, AreWordsOf, preamble, num_hashes_at, seed_at, num_words_at, bit_count_at, uncounted}
 use Rattle.sketch_bloom.specs.State.{FilterState, IsFilterState}
 use Rattle.sketch_bloom.proofs.Counting.{len-set_of-le}
 use Rattle.sketch_bloom.proofs.Images.{either_true}

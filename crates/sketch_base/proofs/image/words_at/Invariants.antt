@@ -1,4 +1,4 @@
-use Rattle.std.proofs.Common.{◌≡◌, ℕ, ◌+◌, ◌-◌, ◌*◌, ◌≤◌, ◌++◌, drop, vec_len, vec_capacity}
+use Rattle.std.proofs.Common.{◌≡◌, ◌+◌, ◌-◌, ◌*◌, ◌≤◌, ◌++◌, drop, vec_len, vec_capacity}
 use Rattle.sketch_base.specs.Fields.{words_in}
 use Rattle.sketch_base.proofs.image.words_at.Given as goal
 

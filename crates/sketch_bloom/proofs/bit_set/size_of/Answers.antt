@@ -1,4 +1,4 @@
-use Rattle.std.proofs.Common.{◌≤◌, ◌<◌, ◌^◌, ℕ, ◌+◌, ap, sym, ◌∙◌, slice_index_or, arith}
+use Rattle.std.proofs.Common.{◌≤◌, ℕ, ◌+◌, ap, sym, ◌∙◌, slice_index_or, arith}
 use Rattle.std.specs.List.{sum_by}
 use Rattle.std.specs.Int.RustNames.{count_ones}
 use Rattle.std.proofs.lemmas.Nat.{ones-le}

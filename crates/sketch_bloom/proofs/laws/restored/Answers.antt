@@ -1,4 +1,4 @@
-use Rattle.std.proofs.Common.{◌≡◌, Result, Ok, Err, Option, None, Some, sym, ap, ◌∙◌, refl, inl, inr, List, ℕ, subst}
+use Rattle.std.proofs.Common.{◌≡◌, Result, Ok, Err, Option, None, sym, ◌∙◌, inl, inr, List, ℕ, subst}
 use Rattle.std.specs.Prelude.{IfOk, IfErr}
 use Rattle.sketch_base.specs.Checks.{IsImageRefusal}
 use Rattle.sketch_base.specs.Errors.{ErrorValue, no_memory}

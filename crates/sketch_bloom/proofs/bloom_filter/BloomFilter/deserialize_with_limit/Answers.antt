@@ -1,5 +1,4 @@
-use Rattle.std.proofs.Common.{◌≡◌, length, drop, sym, ap, ◌∙◌, inl, inr, arith}
-use Rattle.sketch_base.specs.Fields.{words_in}
+use Rattle.std.proofs.Common.{length, drop, sym, ap, ◌∙◌, inl, inr, arith}
 use Rattle.sketch_bloom.proofs.Images.{length-words_in, image_of_words, restores}
 use Rattle.sketch_bloom.proofs.States.{filter_state}
 use Rattle.sketch_bloom.proofs.bloom_filter.BloomFilter.deserialize_with_limit.Goals as goal

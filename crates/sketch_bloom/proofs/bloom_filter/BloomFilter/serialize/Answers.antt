@@ -1,6 +1,4 @@
-use Rattle.std.proofs.Common.{◌≡◌, ◌++◌, length, refl, sym, ap, subst, ◌∙◌}
-use Rattle.std.specs.Int.{w64, to_le_bytes}
-use Rattle.sketch_base.specs.Fields.{bytes_of_words}
+use Rattle.std.proofs.Common.{refl, sym, ap, subst, ◌∙◌}
 use Rattle.sketch_bloom.specs.Image.{IsSpelled, preamble}
 use Rattle.sketch_bloom.specs.State.{FilterState}
 use Rattle.sketch_bloom.proofs.Spellings.{spelled_empty, spelled_full}
