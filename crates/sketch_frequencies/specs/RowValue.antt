@@ -1,5 +1,6 @@
 -- A row as a caller sees it.
-use Rattle.std.specs.Prelude.{◌≡◌, ℕ, Bool, true}
+use Rattle.std.specs.Prelude.{◌≡◌, ℕ, Bool, true, List, ◌++◌, Option, option_map, codes}
+use Rattle.std.specs.Fmt.{decimal}
 
 -- a row: an item, its estimate and its two bounds
 pub record RowValue (T : Type 0) : Type 0 where
@@ -14,3 +15,10 @@ pub record IsSameRow {T : Type 0} (eq : T → T → Bool) (r s : RowValue T) : T
   pub estimate : s.estimate ≡ r.estimate
   pub upper_bound : s.upper_bound ≡ r.upper_bound
   pub lower_bound : s.lower_bound ≡ r.lower_bound
+
+-- what a row prints, where its item's text is specified: the item, the estimate, the lower and the upper bound
+abbrev pub row_text : {T : Type 0} → (T → Option (List ℕ)) → RowValue T → Option (List ℕ)
+row_text text row =
+    let numbers =
+    codes " " ++ decimal row.estimate ++ codes " " ++ decimal row.lower_bound ++ codes " " ++ decimal row.upper_bound
+    in option_map (λ item. item ++ numbers) (text row.item)

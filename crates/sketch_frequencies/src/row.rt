@@ -4,6 +4,7 @@ ghost use Rattle.sketch_base.specs.Errors.{no_memory};
 ghost use Rattle.sketch_frequencies.specs.RowValue.{IsSameRow};
 
 use sketch_base::Error;
+use std::fmt;
 use std::marker::Model;
 
 /// A row of a report: an item with its estimated weight and the bounds of its true weight.
@@ -97,5 +98,20 @@ impl<T> Row<T> {
         ensures { result ≡ self.now.lower_bound }
     {
         self.lower_bound
+    }
+}
+
+/// Prints the item, its estimate, its lower and its upper bound, with a space between them.
+impl<T: fmt::Display> fmt::Display for Row<T> {
+    ghost use Rattle.sketch_frequencies.specs.RowValue.{row_text};
+
+    ghost output = { λ row. row_text T.output row };
+
+    fn fmt<W: fmt::Write>(&self, f: &mut fmt::Formatter<W>) -> fmt::Result {
+        write!(
+            f,
+            "{} {} {} {}",
+            self.item, self.estimate, self.lower_bound, self.upper_bound
+        )
     }
 }

@@ -203,6 +203,7 @@ fn clones_texts(rt: HostRuntime) -> Result<(), Fail> {
     let cloned = row.try_clone()?;
     assert!(rt; cloned == *row && cloned.lower_bound() == 3);
     assert!(rt; cloned.item().as_str() == "ab");
+    assert!(rt; format!(in rt.alloc(); "{cloned}")?.as_str() == "ab 3 3 3");
     Ok(())
 }
 
