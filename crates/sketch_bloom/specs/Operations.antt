@@ -1,4 +1,4 @@
--- The operations on two sets, and what each does to two words and to two tests.
+-- The operations on two sets, and what each does to two words.
 use Rattle.std.specs.Prelude.{ℕ, bit_and, bit_or}
 use Rattle.std.specs.Int.{w64, bit_not}
 use Rattle.std.specs.FinSet as set

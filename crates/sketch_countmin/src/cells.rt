@@ -120,7 +120,8 @@ pub fn least_cell<T: CountMinValue, I: Hash>(
     let mut least = counts[first];
     for row in 1..row_seeds.len() {
         let place = row * columns + buckets.rem(murmur3_of(item, row_seeds[row]).0) as usize;
-        least = least.min(counts[place]);
+        let cell = counts[place];
+        least = least.min(cell);
     }
     least
 }
