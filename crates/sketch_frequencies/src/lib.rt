@@ -14,6 +14,8 @@ mod frequent_items_sketch;
 mod reverse_purge_item_hash_map;
 mod reverse_purge_item_iter;
 mod row;
+mod slot;
+mod slots;
 #[cfg(test)]
 mod tests;
 

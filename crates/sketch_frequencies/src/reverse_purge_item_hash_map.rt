@@ -1,43 +1,58 @@
 //! The table of counters.
-ghost use Rattle.std.specs.Prelude.{◌≡◌, ℕ, ◌+◌, ◌-◌, ◌*◌, ◌/◌, ◌<◌, ◌≤◌, ◌^◌, true, false, [], length, min, map, All, position, IfOk, IfErr, IsOk, IsTrue, IsPermutation, OnOk, OnErr};
+ghost use Rattle.std.specs.Prelude.{◌≡◌, ℕ, ◌+◌, ◌*◌, ◌/◌, ◌<◌, ◌≤◌, ◌^◌, true, false, [], length, min, map, IfOk, IfErr, IsOk, IsTrue, IsPermutation, OnOk, OnErr};
 ghost use Rattle.std.specs.Int.{is_power_of_two};
 ghost use Rattle.std.specs.List.{IsDistinct};
 ghost use Rattle.std.specs.Map.{keys_of};
 ghost use Rattle.sketch_base.specs.Errors.{no_memory};
+ghost use Rattle.sketch_frequencies.specs.Homes.{home_in, IsReach, IsShortOfReach};
 ghost use Rattle.sketch_frequencies.specs.Tables.{count_of, is_tracked, put, purged, IsSampleMiddle, IsSameMap, PutsEqual};
 ghost use Rattle.sketch_frequencies.specs.Walk.{entry_of};
 
 use crate::reverse_purge_item_iter::ReversePurgeItemIter;
-use arrayvec::ArrayVec;
+use crate::slot::Slot;
+use crate::slots;
 use sketch_base::Error;
 use std::alloc::Global;
 use std::hash::Hash;
 use std::marker::Model;
+use std::mem;
 use std::mem::size_of_val;
 
 /// The most counts that a purge samples.
-const MAX_SAMPLE_SIZE: usize = 1024;
+pub(crate) const MAX_SAMPLE_SIZE: usize = 1024;
+
+/// How many entries a sketch keeps in a table of this size: three quarters of the slots.
+pub(crate) fn capacity_of(size: usize) -> usize
+    requires { size ≤ 2 ^ 30 }
+    ensures { result ≡ size * 3 / 4 }
+{
+    size * 3 / 4
+}
 
 /// A finite map from items to counts of zero or more, in a table of slots that is never full.
 ///
 /// Items are told apart by `==` alone. A purge takes a middle count of a sample from every count at once and drops
 /// what is left without one.
+///
+/// A look-up starts at the slot that the item's hash picks, its home, and goes on slot by slot, round the end. What it
+/// costs is a function of the map alone: no history of purges slows it down. The hash is fixed, so whoever picks the
+/// items can make them cluster; a look-up then looks at one slot an entry and one more, and never at more.
 #[derive(Debug, Drop)]
 pub struct ReversePurgeItemHashMap<T: Eq + Hash + Drop> {
-    entries: Vec<(T, u64)>,
-    size: usize,
+    slots: Vec<Slot<T>>,
+    active: usize,
 }
 
 impl<T: Eq + Hash + Drop> Model for ReversePurgeItemHashMap<T> {
     ghost use Rattle.sketch_frequencies.specs.Tables.{Table};
-    ghost use Rattle.sketch_frequencies.specs.Pairs.{IsPairs};
-    ghost use Rattle.std.specs.Prelude.{vec_capacity};
 
     ghost Value = { Table T };
 
-    ghost view = { λ a. record { entries = a.entries.items; size = a.size } };
+    ghost use Rattle.sketch_frequencies.specs.Slots.{table_of, IsCounted};
 
-    ghost invariant = { λ a. IsPairs T.eq a.entries.items a.size (vec_capacity a.entries) };
+    ghost view = { λ a. table_of a.slots.items };
+
+    ghost invariant = { λ a. IsCounted T.eq T.hash_input a.slots.items a.active };
 }
 
 impl<T: Eq + Hash + Drop> ReversePurgeItemHashMap<T> {
@@ -50,23 +65,32 @@ impl<T: Eq + Hash + Drop> ReversePurgeItemHashMap<T> {
         ensures ok { IfOk result (λ map. map ≡ record { entries = []; size = map_size }) }
         ensures err { IfErr result (λ e. e ≡ no_memory) }
     {
-        let entries = Vec::with_capacity(alloc, map_size)?;
-        Ok(ReversePurgeItemHashMap {
-            entries,
-            size: map_size,
-        })
+        let slots = slots::free_slots(alloc, map_size)?;
+        Ok(ReversePurgeItemHashMap { slots, active: 0 })
     }
 
     /// The count of the item, 0 where it is absent.
     pub fn get(&self, item: &T) -> u64
         ensures { result ≡ count_of T.eq self.now.entries item.now }
     {
-        for entry in &self.entries {
-            if *item == entry.0 {
-                return entry.1;
-            }
-        }
-        0
+        self.get_counted(item).0
+    }
+
+    /// The count of the item, 0 where it is absent, and the number of slots that were looked at for it.
+    ///
+    /// A place is full where, for some k, at least k + 1 entries have their home among the k + 1 places that end at it,
+    /// counted round the end. An item's reach is the number of places from its home on up to the first that is not
+    /// full, that one included. Exactly so many slots are looked at where the item is absent, and from 1 to the reach
+    /// less 1 where it is present, whatever was purged before.
+    pub fn get_counted(&self, item: &T) -> (u64, usize)
+        ensures count { result.0 ≡ count_of T.eq self.now.entries item.now }
+        ensures absent { is_tracked T.eq self.now.entries item.now ≡ false
+            → IsReach (home_in T.hash_input self.now.size) self.now item.now result.1 }
+        ensures present { is_tracked T.eq self.now.entries item.now ≡ true
+            → IsShortOfReach (home_in T.hash_input self.now.size) self.now item.now result.1 }
+    {
+        let probe = slots::find(&self.slots, item);
+        (probe.found.unwrap_or(0), probe.looked)
     }
 
     /// Adds the amount to the item's count, or inserts the item with it where it is absent, also an amount of 0.
@@ -74,13 +98,14 @@ impl<T: Eq + Hash + Drop> ReversePurgeItemHashMap<T> {
     /// Where the item is absent a slot has to stay free behind it, and where it is present the sum has to fit.
     pub fn adjust_or_put_value(&mut self, item: T, adjust_amount: u64)
         requires room { is_tracked T.eq self.old.entries item ≡ false → length self.old.entries + 1 < self.old.size }
-        requires fits { is_tracked T.eq self.old.entries item ≡ true → count_of T.eq self.old.entries item + adjust_amount < 2 ^ 64 }
+        requires fits { is_tracked T.eq self.old.entries item ≡ true
+            → count_of T.eq self.old.entries item + adjust_amount < 2 ^ 64 }
         ensures entries { IsPermutation (put T.eq self.old.entries item adjust_amount) self.new.entries }
         ensures size { self.new.size ≡ self.old.size }
         ensures distinct { IsDistinct T.eq (keys_of self.new.entries) }
     {
-        if !self.adjust(&item, adjust_amount) {
-            self.insert(item, adjust_amount);
+        if slots::put_in(&mut self.slots, item, adjust_amount) {
+            self.active += 1;
         }
     }
 
@@ -94,8 +119,10 @@ impl<T: Eq + Hash + Drop> ReversePurgeItemHashMap<T> {
     where
         T: Clone,
         requires clones { (x y : T) → T.is_clone x y → IsTrue (T.eq x y) }
-        requires room { is_tracked T.eq self.old.entries item.now ≡ false → length self.old.entries + 1 < self.old.size }
-        requires fits { is_tracked T.eq self.old.entries item.now ≡ true → count_of T.eq self.old.entries item.now + adjust_amount < 2 ^ 64 }
+        requires room { is_tracked T.eq self.old.entries item.now ≡ false
+            → length self.old.entries + 1 < self.old.size }
+        requires fits { is_tracked T.eq self.old.entries item.now ≡ true
+            → count_of T.eq self.old.entries item.now + adjust_amount < 2 ^ 64 }
         ensures entries { OnOk result (PutsEqual T.eq self.old.entries item.now adjust_amount self.new.entries) }
         ensures size { self.new.size ≡ self.old.size }
         ensures distinct { IsDistinct T.eq (keys_of self.new.entries) }
@@ -106,8 +133,8 @@ impl<T: Eq + Hash + Drop> ReversePurgeItemHashMap<T> {
         if self.adjust(item, adjust_amount) {
             return Ok(());
         }
-        let twin = item.clone()?;
-        self.insert(twin, adjust_amount);
+        let clone = item.clone()?;
+        self.insert(clone, adjust_amount);
         Ok(())
     }
 
@@ -122,11 +149,13 @@ impl<T: Eq + Hash + Drop> ReversePurgeItemHashMap<T> {
         ensures entries { IsPermutation (purged result self.old.entries) self.new.entries }
         ensures size { self.new.size ≡ self.old.size }
         ensures distinct { IsDistinct T.eq (keys_of self.new.entries) }
-        ensures room { length self.new.entries + min sample_size (min (length self.old.entries) 1024) / 2 + 1 ≤ length self.old.entries }
+        ensures room { length self.new.entries + min sample_size (min (length self.old.entries) 1024) / 2 + 1
+            ≤ length self.old.entries }
     {
-        let middle = middle_of(&self.entries, sample_size);
-        self.entries.retain(|entry| entry.1 > middle);
-        lower(&mut self.entries, middle);
+        let size = sample_size.min(self.active.min(MAX_SAMPLE_SIZE));
+        let middle = slots::middle_of(&self.slots, size);
+        let removed = slots::lower(&mut self.slots, middle);
+        self.active -= removed;
         middle
     }
 
@@ -143,9 +172,9 @@ impl<T: Eq + Hash + Drop> ReversePurgeItemHashMap<T> {
         ensures memory { IfErr result (λ e. e ≡ no_memory) }
         ensures distinct { IsDistinct T.eq (keys_of self.new.entries) }
     {
-        let active = self.entries.len();
-        self.entries.reserve(new_size - active)?;
-        self.size = new_size;
+        let slots = slots::free_slots(self.allocator(), new_size)?;
+        let old = mem::replace(&mut self.slots, slots);
+        slots::move_all(old, &mut self.slots);
         Ok(())
     }
 
@@ -154,21 +183,21 @@ impl<T: Eq + Hash + Drop> ReversePurgeItemHashMap<T> {
         ensures size { result ≡ self.now.size }
         ensures limit { result ≤ 2 ^ 30 }
     {
-        self.size
+        self.slots.len()
     }
 
     /// The number of slots as a power of two.
     pub fn lg_length(&self) -> u8
         ensures { 2 ^ result ≡ self.now.size }
     {
-        self.size.ilog2() as u8
+        self.slots.len().ilog2() as u8
     }
 
     /// Three quarters of the slots: how many entries a sketch keeps in a table of this size.
     pub fn capacity(&self) -> usize
         ensures { result ≡ self.now.size * 3 / 4 }
     {
-        self.size * 3 / 4
+        capacity_of(self.slots.len())
     }
 
     /// The number of entries.
@@ -176,7 +205,7 @@ impl<T: Eq + Hash + Drop> ReversePurgeItemHashMap<T> {
         ensures active { result ≡ length self.now.entries }
         ensures room { result < self.now.size }
     {
-        self.entries.len()
+        self.active
     }
 
     /// A walk that gives every entry once, in an order that is left open.
@@ -187,7 +216,7 @@ impl<T: Eq + Hash + Drop> ReversePurgeItemHashMap<T> {
         ensures looked { result.looked ≡ 0 }
         ensures size { result.size ≡ self.now.size }
     {
-        ReversePurgeItemIter::new(self.entries.as_slice(), self.size)
+        ReversePurgeItemIter::new(self.slots.as_slice(), self.active)
     }
 
     /// Every entry once, in an order that is left open.
@@ -201,12 +230,12 @@ impl<T: Eq + Hash + Drop> ReversePurgeItemHashMap<T> {
         Ok(found)
     }
 
-    /// How many bytes the table takes: for each slot those of an `Option<T>` and 12 more, or the greatest `usize` where
-    /// that passes it.
+    /// How many bytes the table takes, an estimate by a fixed formula: for each slot those of an `Option<T>` and 12
+    /// more, or the greatest `usize` where that passes it.
     pub fn estimated_size(&self) -> usize {
         let free: Option<T> = None;
         let slot = size_of_val(&free).saturating_add(12);
-        self.size.saturating_mul(slot)
+        self.slots.len().saturating_mul(slot)
     }
 
     /// The same map with clones of the items, in a table of the same size. Clones have to equal their originals.
@@ -221,31 +250,25 @@ impl<T: Eq + Hash + Drop> ReversePurgeItemHashMap<T> {
         ensures distinct { IfOk result (λ map. IsDistinct T.eq (keys_of map.entries)) }
         ensures err { IfErr result (λ e. e ≡ no_memory) }
     {
-        let mut entries = Vec::with_capacity(self.allocator(), self.size)?;
-        for entry in &self.entries {
-            let item = entry.0.clone()?;
-            entries.push_reserved((item, entry.1));
-        }
+        let slots = slots::clone_slots(self.allocator(), &self.slots)?;
         Ok(ReversePurgeItemHashMap {
-            entries,
-            size: self.size,
+            slots,
+            active: self.active,
         })
     }
 
     /// Adds to the item's count where it has an entry, and answers whether it has.
     pub(crate) fn adjust(&mut self, item: &T, adjust_amount: u64) -> bool
-        requires { is_tracked T.eq self.old.entries item.now ≡ true → count_of T.eq self.old.entries item.now + adjust_amount < 2 ^ 64 }
+        requires { is_tracked T.eq self.old.entries item.now ≡ true
+            → count_of T.eq self.old.entries item.now + adjust_amount < 2 ^ 64 }
         ensures tracked { result ≡ is_tracked T.eq self.old.entries item.now }
-        ensures present { result ≡ true → IsPermutation (put T.eq self.old.entries item.now adjust_amount) self.new.entries }
+        ensures present { result ≡ true
+            → IsPermutation (put T.eq self.old.entries item.now adjust_amount) self.new.entries }
         ensures absent { result ≡ false → self.new ≡ self.old }
         ensures size { self.new.size ≡ self.old.size }
         ensures distinct { IsDistinct T.eq (keys_of self.new.entries) }
     {
-        let Some(place) = self.position_of(item) else {
-            return false;
-        };
-        self.entries[place].1 += adjust_amount;
-        true
+        slots::adjust_in(&mut self.slots, item, adjust_amount)
     }
 
     /// Inserts an item that is absent.
@@ -256,7 +279,8 @@ impl<T: Eq + Hash + Drop> ReversePurgeItemHashMap<T> {
         ensures size { self.new.size ≡ self.old.size }
         ensures distinct { IsDistinct T.eq (keys_of self.new.entries) }
     {
-        self.entries.push_reserved((item, amount));
+        slots::insert_in(&mut self.slots, item, amount);
+        self.active += 1;
     }
 
     /// Drops every entry, and takes the size for that of the table, whose memory is kept.
@@ -265,45 +289,13 @@ impl<T: Eq + Hash + Drop> ReversePurgeItemHashMap<T> {
         requires within { size ≤ self.old.size }
         ensures { self.new ≡ record { entries = []; size = size } }
     {
-        self.entries.clear();
-        self.size = size;
+        self.slots.truncate(size);
+        slots::free_all(&mut self.slots);
+        self.active = 0;
     }
 
     /// The allocator of the table.
     pub(crate) fn allocator(&self) -> Global {
-        *self.entries.allocator()
-    }
-
-    /// Where the item's entry stands.
-    fn position_of(&self, item: &T) -> Option<usize>
-        ensures { result ≡ position (λ e. T.eq item.now e.0) self.now.entries }
-    {
-        self.entries.iter().position(|entry| *item == entry.0)
-    }
-}
-
-/// A middle count of the first entries.
-fn middle_of<T>(entries: &[(T, u64)], sample_size: usize) -> u64
-    requires active { 0 < length entries.now }
-    requires sample { 0 < sample_size }
-    ensures { IsSampleMiddle (min sample_size (min (length entries.now) 1024)) entries.now result }
-{
-    let mut sample: ArrayVec<u64, MAX_SAMPLE_SIZE> = ArrayVec::new_in(());
-    let size = sample_size.min(entries.len().min(MAX_SAMPLE_SIZE));
-    for entry in &entries[..size] {
-        sample.push(entry.1);
-    }
-    let counts = sample.as_mut_slice();
-    counts.sort_unstable();
-    counts[size / 2]
-}
-
-/// Takes `middle` from each count.
-fn lower<T>(entries: &mut [(T, u64)], middle: u64)
-    requires { All (λ e. middle ≤ e.1) entries.old }
-    ensures { entries.new ≡ map (λ e. (e.0, e.1 - middle)) entries.old }
-{
-    for entry in entries.iter_mut() {
-        entry.1 -= middle;
+        *self.slots.allocator()
     }
 }

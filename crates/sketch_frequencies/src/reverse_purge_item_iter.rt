@@ -1,38 +1,55 @@
 //! A walk over the table of counters.
-ghost use Rattle.std.specs.Prelude.{◌≡◌, ◌≤◌, [], length};
+ghost use Rattle.std.specs.Prelude.{◌≡◌, ◌≤◌, [], length, IsPermutation};
 ghost use Rattle.std.specs.Iterator.{item_count};
+ghost use Rattle.sketch_frequencies.specs.Slots.{IsTableSize, entries_of};
 
+use crate::slot::Slot;
+use crate::slots;
 use std::marker::Model;
 
 /// An iterator over the entries of a table: each once, in an order that is left open, and then `None` for good.
 #[derive(Debug, Drop)]
 pub struct ReversePurgeItemIter<'a, T> {
-    entries: &'a [(T, u64)],
+    slots: &'a [Slot<T>],
+    // the place that the next step looks at, and how far on the one after it is
+    place: usize,
+    stride: usize,
     looked: usize,
-    size: usize,
+    // how many entries are still to come
+    left: usize,
 }
 
 impl<'a, T> Model for ReversePurgeItemIter<'a, T> {
-    ghost use Rattle.std.specs.Prelude.{◌≤◌, length, take, drop};
     ghost use Rattle.sketch_frequencies.specs.Walk.{Walk};
 
     ghost Value = { Walk T };
 
-    ghost view = { λ it. record { given = take it.looked it.entries.now; rest = drop it.looked it.entries.now; looked = it.looked; size = it.size } };
+    ghost use Rattle.sketch_frequencies.specs.Walking.{walk_of, IsWalking};
 
-    ghost invariant = { λ it. (it.looked ≤ length it.entries.now) × (length it.entries.now ≤ it.size) };
+    ghost view = { walk_of };
+
+    ghost invariant = { IsWalking };
 }
 
 impl<'a, T> ReversePurgeItemIter<'a, T> {
-    /// A walk over these entries of a table of this size.
-    pub(crate) fn new(entries: &'a [(T, u64)], size: usize) -> Self
-        requires { length entries.now ≤ size }
-        ensures { result ≡ record { given = []; rest = entries.now; looked = 0; size = size } }
+    /// A walk over the entries in these slots, of which there are so many.
+    ///
+    /// Its stride is odd, so that it comes to every place before it comes to one again, and about 0.618 of the size, so
+    /// that it leaves clusters behind.
+    pub(crate) fn new(slots: &'a [Slot<T>], active: usize) -> Self
+        requires size { IsTableSize (length slots.now) }
+        requires active { active ≡ length (entries_of slots.now) }
+        ensures rest { IsPermutation (entries_of slots.now) result.rest }
+        ensures given { result.given ≡ [] }
+        ensures looked { result.looked ≡ 0 }
+        ensures size { result.size ≡ length slots.now }
     {
         ReversePurgeItemIter {
-            entries,
+            slots,
+            place: 0,
+            stride: (slots.len() * 618 / 1000) | 1,
             looked: 0,
-            size,
+            left: active,
         }
     }
 
@@ -57,13 +74,22 @@ impl<'a, T> Iterator for ReversePurgeItemIter<'a, T> {
     ghost remaining = { item_count (λ walk. walk.rest) };
 
     fn next(&mut self) -> Option<(&'a T, u64)> {
-        let entries = self.entries;
-        if self.looked < entries.len() {
-            let entry = &entries[self.looked];
-            self.looked += 1;
-            Some((&entry.0, entry.1))
-        } else {
-            None
+        if self.left == 0 {
+            return None;
         }
+        let slots = self.slots;
+        while self.looked < slots.len() {
+            let place = self.place;
+            self.place = (place + self.stride) & (slots.len() - 1);
+            if let Slot::Taken { count, item, .. } = slots::look(slots, place, &mut self.looked) {
+                self.left -= 1;
+                return Some((item, *count));
+            }
+        }
+        None
+    }
+
+    fn size_hint(&self) -> (usize, Option<usize>) {
+        (self.left, Some(self.left))
     }
 }

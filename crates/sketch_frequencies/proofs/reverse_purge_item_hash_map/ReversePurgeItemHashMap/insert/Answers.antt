@@ -1,33 +1,14 @@
-use Rattle.std.proofs.Common.{arith, ap, sym, ◌∙◌, ◌<◌, ◌+◌, length}
-use Rattle.std.proofs.lemmas.List.Sorted.{IsPermutation-refl}
+use Rattle.std.proofs.Common.{arith, ap, ◌∙◌}
+use Rattle.sketch_frequencies.specs.Slots.{entries_of}
 use Rattle.sketch_frequencies.specs.Tables.{is_tracked}
-use Rattle.sketch_frequencies.proofs.Orders.{none_from_is_some}
-use Rattle.sketch_frequencies.proofs.Puts.{put_absent, IsDistinct-put, length-put}
+use Rattle.sketch_frequencies.proofs.Counted.{counted_more}
+use Rattle.sketch_frequencies.proofs.Orders.{written_whole}
 use Rattle.sketch_frequencies.proofs.reverse_purge_item_hash_map.ReversePurgeItemHashMap.insert.Goals as goal
 
 pub invariant_of-self : goal.invariant_of-self
 invariant_of-self g c =
     let eq = g.T.PartialEq.eq in
-    let es = c.self.inside.entries.items in
-    let is = ap (λ t. t.entries) c.self.view_is in
-    let absent = ap (λ l. is_tracked eq l c.args.item) is ∙ c.requires.absent in
-    let put_is = put_absent eq es c.args.item c.args.amount (none_from_is_some _ absent) in
-    let below : length es + 1 < c.self.inside.size = rw (is, ap (λ t. t.size) c.self.view_is) c.requires.room in
-    rw (c.push_reserved.ensures.items ∙ sym put_is) (record {
-      distinct = IsDistinct-put g.met.T.Eq.laws es c.args.item c.args.amount c.self.invariant.distinct;
-      not_full = grind (arith, length-put eq es c.args.item c.args.amount, absent, below);
-      reserved = omega (arith, c.push_reserved.ensures.capacity, c.self.invariant.reserved);
-      power = c.self.invariant.power;
-      limit = c.self.invariant.limit;
-    })
-
-pub returns-clause-entries : goal.returns-clause-entries
-returns-clause-entries g c =
-    let eq = g.T.PartialEq.eq in
-    let is = ap (λ t. t.entries) c.self.view_is in
-    let absent = ap (λ l. is_tracked eq l c.args.item) is ∙ c.requires.absent in
-    let put_is = put_absent eq c.self.inside.entries.items c.args.item c.args.amount (none_from_is_some _ absent) in
-    rw (c.push_reserved.ensures.items ∙ sym put_is, is) (IsPermutation-refl _)
-
-pub returns-clause-distinct : goal.returns-clause-distinct
-returns-clause-distinct g c = (invariant_of-self g c).distinct
+    let old = c.self.inside.slots in
+    let absent = ap (λ l. is_tracked eq (entries_of l) c.args.item) c.deref_mut.ensures.value ∙ ap (λ t. is_tracked eq t.entries c.args.item) c.self.view_is ∙ c.requires.absent in
+    rw (written_whole old.len c.insert_in.new.slots old.items (omega (arith, c.insert_in.auto.slots, c.deref_mut.ensures.len)))
+    (counted_more eq g.T.Hash.hash_input old.items c.deref_mut.result.now c.insert_in.new.slots c.self.inside.active c.args.item c.args.amount c.self.invariant c.deref_mut.ensures.value c.insert_in.ensures.slots absent c.insert_in.ensures.entries)

@@ -1,14 +1,13 @@
-use Rattle.std.proofs.Common.{arith}
-use Rattle.std.specs.List.{IsDistinct}
-use Rattle.sketch_frequencies.proofs.Powers.{power_positive}
+use Rattle.std.proofs.Common.{ap, sym, length}
+use Rattle.sketch_frequencies.proofs.Counted.{table_is}
+use Rattle.sketch_frequencies.proofs.Moves.{IsSlots-made, made_free}
 use Rattle.sketch_frequencies.proofs.reverse_purge_item_hash_map.ReversePurgeItemHashMap.new.Goals as goal
 
 pub invariant_of-result : goal.invariant_of-result
-unfolding IsDistinct
-invariant_of-result g c = rw c.in_ok-entries.ensures.items (record {
-  distinct = tt;
-  not_full = power_positive c.args.map_size c.requires.power;
-  reserved = omega (arith, c.in_ok-entries.ensures.capacity);
-  power = c.requires.power;
-  limit = c.requires.limit;
-})
+invariant_of-result g c = record {
+  slots_ok = IsSlots-made g.T.PartialEq.eq g.T.Hash.hash_input _ _ c.in_ok-slots.ensures.ok (record { power = c.requires.power; limit = c.requires.limit });
+  active_is = sym (ap length (made_free _ _ c.in_ok-slots.ensures.ok).0);
+}
+
+pub returns-clause-ok : goal.returns-clause-ok
+returns-clause-ok g c = let free = made_free _ _ c.in_ok-slots.ensures.ok in table_is _ _ free.0 free.1

@@ -1,0 +1,11 @@
+//! A slot of the table of counters.
+
+/// A slot that is free, or holds an item, its count and its drift.
+///
+/// The drift is the distance from the item's home and 1: how many slots a look-up of the item looks at. It stands in
+/// front, so that a slot of an item of 8 bytes takes 24.
+#[derive(Debug, Drop)]
+pub enum Slot<T> {
+    Free,
+    Taken { drift: u32, count: u64, item: T },
+}
