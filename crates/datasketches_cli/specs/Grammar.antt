@@ -8,11 +8,17 @@ use Rattle.sketch_frequencies.specs.declared.error_type.ErrorType.{ErrorType}
 use Rattle.sketch_frequencies.specs.declared.error_type.ErrorType.TheVariants.{NoFalseNegatives, NoFalsePositives}
 use Rattle.datasketches_cli.specs.declared.command.Command.{Command}
 use Rattle.datasketches_cli.specs.declared.command.Command.TheVariants as command
+use Rattle.datasketches_cli.specs.declared.parse.Edit.{Edit}
+use Rattle.datasketches_cli.specs.declared.parse.Edit.TheVariants as edit
+use Rattle.datasketches_cli.specs.declared.parse.Kind.{Kind}
+use Rattle.datasketches_cli.specs.declared.parse.Kind.TheVariants as kind
 use Rattle.datasketches_cli.specs.declared.parse.Verb.{Verb}
 use Rattle.datasketches_cli.specs.declared.parse.Verb.TheVariants as verb
+use Rattle.datasketches_cli.specs.declared.sketch.Change.{Change}
 use Rattle.datasketches_cli.specs.declared.sketch.Change.TheVariants as change
 use Rattle.datasketches_cli.specs.declared.sketch.Join.{Join}
 use Rattle.datasketches_cli.specs.declared.sketch.Join.TheVariants as join
+use Rattle.datasketches_cli.specs.declared.sketch.Shape.{Shape}
 use Rattle.datasketches_cli.specs.declared.sketch.Shape.TheVariants as shape
 use Rattle.datasketches_cli.specs.Texts.{Text}
 
@@ -32,7 +38,23 @@ signed_number word =
     if slice_index word 0 == 45 then option_map (λ n. neg_ℤ (pos n)) (number_below (2 ^ 63 + 1) (drop 1 word))
     else option_map pos (number_below (2 ^ 63) word)
 
--- the first word of a command that joins sketches
+-- the first word of a command that makes a sketch
+abbrev pub kind_word : Kind → List ℕ
+kind_word kind.Frequent = codes "frequent"
+kind_word kind.CountI64 = codes "counti"
+kind_word kind.CountU64 = codes "countu"
+kind_word kind.Bloom = codes "bloom"
+
+-- of one that changes a sketch
+abbrev pub edit_word : Edit → List ℕ
+edit_word edit.Add = codes "add"
+edit_word edit.AddSigned = codes "adds"
+edit_word edit.Insert = codes "insert"
+edit_word edit.Reset = codes "reset"
+edit_word edit.Halve = codes "halve"
+edit_word edit.Decay = codes "decay"
+
+-- of one that joins sketches
 abbrev pub join_word : Join → List ℕ
 join_word join.Merge = codes "merge"
 join_word join.Union = codes "union"
@@ -41,17 +63,9 @@ join_word join.Difference = codes "difference"
 
 -- the first word of a command
 abbrev pub verb_word : Verb → List ℕ
-verb_word verb.Frequent = codes "frequent"
-verb_word verb.CountI64 = codes "counti"
-verb_word verb.CountU64 = codes "countu"
-verb_word verb.Bloom = codes "bloom"
-verb_word verb.Add = codes "add"
-verb_word verb.AddSigned = codes "adds"
-verb_word verb.Insert = codes "insert"
+verb_word (verb.Create kind) = kind_word kind
+verb_word (verb.Change edit) = edit_word edit
 verb_word (verb.Join join) = join_word join
-verb_word verb.Reset = codes "reset"
-verb_word verb.Halve = codes "halve"
-verb_word verb.Decay = codes "decay"
 verb_word verb.Ask = codes "ask"
 verb_word verb.Status = codes "status"
 verb_word verb.Rows = codes "rows"
@@ -61,36 +75,61 @@ abbrev pub report_word : ErrorType → List ℕ
 report_word NoFalseNegatives = codes "fn"
 report_word NoFalsePositives = codes "fp"
 
--- the words make a Count-Min sketch by this verb
-abbrev pub MakeCount : Verb → List (List ℕ) → Text → ℕ → ℕ → ℕ → Type 0
-MakeCount verb words name hashes buckets seed =
-    (h b s : List ℕ) × (words ≡ verb_word verb ∷ string_bytes name ∷ h ∷ b ∷ s ∷ [])
-    × (number_below (2 ^ 8) h ≡ Some hashes) × (number_below (2 ^ 32) b ≡ Some buckets) × (number_below (2 ^ 64) s ≡ Some seed)
+-- the words are the numbers of a Count-Min sketch
+abbrev pub AreCounts : List (List ℕ) → ℕ → ℕ → ℕ → Type 0
+AreCounts words hashes buckets seed =
+    (h b s : List ℕ) × (words ≡ h ∷ b ∷ s ∷ []) × (number_below (2 ^ 8) h ≡ Some hashes)
+    × (number_below (2 ^ 32) b ≡ Some buckets) × (number_below (2 ^ 64) s ≡ Some seed)
+
+-- the words make the shape of a kind
+abbrev pub MakeShape : Kind → List (List ℕ) → Shape → Type 0
+MakeShape kind.Frequent words (shape.Frequent max_map_size) =
+    (max : List ℕ) × (words ≡ max ∷ []) × (number_below (2 ^ 64) max ≡ Some max_map_size)
+MakeShape kind.CountI64 words (shape.CountI64 hashes buckets seed) = AreCounts words hashes buckets seed
+MakeShape kind.CountU64 words (shape.CountU64 hashes buckets seed) = AreCounts words hashes buckets seed
+MakeShape kind.Bloom words (shape.Bloom bits hashes seed) =
+    (b h s : List ℕ) × (words ≡ b ∷ h ∷ s ∷ []) × (number_below (2 ^ 64) b ≡ Some bits)
+    × (number_below (2 ^ 16) h ≡ Some hashes) × (number_below (2 ^ 64) s ≡ Some seed)
+MakeShape _ _ _ = ⊥
+
+-- the words make the change
+abbrev pub MakeChange : Edit → List (List ℕ) → Change → Type 0
+MakeChange edit.Add words (change.Add item weight) =
+    (number : List ℕ) × (words ≡ number ∷ string_bytes item ∷ []) × (number_below (2 ^ 64) number ≡ Some weight)
+MakeChange edit.AddSigned words (change.AddSigned item weight) =
+    (number : List ℕ) × (words ≡ number ∷ string_bytes item ∷ []) × (signed_number number ≡ Some weight)
+MakeChange edit.Insert words (change.Insert item) = words ≡ string_bytes item ∷ []
+MakeChange edit.Reset words change.Reset = words ≡ []
+MakeChange edit.Halve words change.Halve = words ≡ []
+MakeChange edit.Decay words (change.Decay numerator denominator) =
+    (n d : List ℕ) × (words ≡ n ∷ d ∷ []) × (number_below (2 ^ 64) n ≡ Some numerator)
+    × (number_below (2 ^ 64) d ≡ Some denominator)
+MakeChange _ _ _ = ⊥
+
+-- the name that a command begins with
+abbrev pub name_of : Command → List ℕ
+name_of (command.Create name shape) = string_bytes name
+name_of (command.Change name change) = string_bytes name
+name_of (command.Join into other join) = string_bytes into
+name_of (command.Ask name item) = string_bytes name
+name_of (command.GetStatus name) = string_bytes name
+name_of (command.ListRows name error_type threshold) = string_bytes name
+
+-- the words after the verb and the name make the rest of the command
+abbrev pub MakeRest : Verb → List (List ℕ) → Command → Type 0
+MakeRest (verb.Create kind) words (command.Create name shape) = MakeShape kind words shape
+MakeRest (verb.Change edit) words (command.Change name change) = MakeChange edit words change
+MakeRest (verb.Join join) words (command.Join into other by) = (by ≡ join) × (words ≡ string_bytes other ∷ [])
+MakeRest verb.Ask words (command.Ask name item) = words ≡ string_bytes item ∷ []
+MakeRest verb.Status words (command.GetStatus name) = words ≡ []
+MakeRest verb.Rows words (command.ListRows name error_type threshold) =
+    (number : List ℕ) × (words ≡ report_word error_type ∷ number ∷ []) × (number_below (2 ^ 64) number ≡ Some threshold)
+MakeRest _ _ _ = ⊥
 
 -- the words make the command
 abbrev pub Make : List (List ℕ) → Command → Type 0
-Make words (command.Create name (shape.Frequent max_map_size)) =
-    (max : List ℕ) × (words ≡ verb_word verb.Frequent ∷ string_bytes name ∷ max ∷ []) × (number_below (2 ^ 64) max ≡ Some max_map_size)
-Make words (command.Create name (shape.CountI64 hashes buckets seed)) = MakeCount verb.CountI64 words name hashes buckets seed
-Make words (command.Create name (shape.CountU64 hashes buckets seed)) = MakeCount verb.CountU64 words name hashes buckets seed
-Make words (command.Create name (shape.Bloom bits hashes seed)) =
-    (b h s : List ℕ) × (words ≡ verb_word verb.Bloom ∷ string_bytes name ∷ b ∷ h ∷ s ∷ [])
-    × (number_below (2 ^ 64) b ≡ Some bits) × (number_below (2 ^ 16) h ≡ Some hashes) × (number_below (2 ^ 64) s ≡ Some seed)
-Make words (command.Change name (change.Add item weight)) =
-    (number : List ℕ) × (words ≡ verb_word verb.Add ∷ string_bytes name ∷ number ∷ string_bytes item ∷ []) × (number_below (2 ^ 64) number ≡ Some weight)
-Make words (command.Change name (change.AddSigned item weight)) =
-    (number : List ℕ) × (words ≡ verb_word verb.AddSigned ∷ string_bytes name ∷ number ∷ string_bytes item ∷ []) × (signed_number number ≡ Some weight)
-Make words (command.Change name (change.Insert item)) = words ≡ verb_word verb.Insert ∷ string_bytes name ∷ string_bytes item ∷ []
-Make words (command.Change name change.Reset) = words ≡ verb_word verb.Reset ∷ string_bytes name ∷ []
-Make words (command.Change name change.Halve) = words ≡ verb_word verb.Halve ∷ string_bytes name ∷ []
-Make words (command.Change name (change.Decay numerator denominator)) =
-    (n d : List ℕ) × (words ≡ verb_word verb.Decay ∷ string_bytes name ∷ n ∷ d ∷ [])
-    × (number_below (2 ^ 64) n ≡ Some numerator) × (number_below (2 ^ 64) d ≡ Some denominator)
-Make words (command.Join into other join) = words ≡ join_word join ∷ string_bytes into ∷ string_bytes other ∷ []
-Make words (command.Ask name item) = words ≡ verb_word verb.Ask ∷ string_bytes name ∷ string_bytes item ∷ []
-Make words (command.GetStatus name) = words ≡ verb_word verb.Status ∷ string_bytes name ∷ []
-Make words (command.ListRows name error_type threshold) =
-    (number : List ℕ) × (words ≡ verb_word verb.Rows ∷ string_bytes name ∷ report_word error_type ∷ number ∷ []) × (number_below (2 ^ 64) number ≡ Some threshold)
+Make words command =
+    (verb : Verb) × (rest : List (List ℕ)) × (words ≡ verb_word verb ∷ name_of command ∷ rest) × MakeRest verb rest command
 
 -- the words make this command, or none where there is none
 abbrev pub IsMade : List (List ℕ) → Option Command → Type 0

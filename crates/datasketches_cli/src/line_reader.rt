@@ -2,6 +2,7 @@
 ghost use Rattle.std.specs.Prelude.{◌≡◌, ◌==◌, ◌↔◌, [], false, IsTrue, IfOk, Contains};
 ghost use Rattle.std.specs.Io.KnownBytes.{IsAtEnd, prepend_known};
 ghost use Rattle.std.specs.List.{position};
+ghost use Rattle.datasketches_cli.specs.Counts.{one_more};
 ghost use Rattle.datasketches_cli.specs.Reading.{Fills, TakesFront, TakesLine};
 
 use crate::counted::Counted;
@@ -100,8 +101,9 @@ impl LineReader {
     /// Reads more, where all that was read is handed on. Answers whether there may be more input.
     fn fill<R: Read>(&mut self, reader: &mut Counted<R>) -> Result<bool>
         requires { self.old ≡ [] }
-        ensures { IfOk result (λ more. Fills more (R.remaining reader.old.inner) self.new
+        ensures bytes { IfOk result (λ more. Fills more (R.remaining reader.old.inner) self.new
             (R.remaining reader.new.inner)) }
+        ensures reads { reader.new.reads ≡ one_more reader.old.reads }
     {
         self.start = 0;
         self.end = 0;

@@ -1,7 +1,8 @@
 //! Lines to commands.
-ghost use Rattle.std.specs.Prelude.{◌≡◌, ◌^◌, ◌∷◌, IfOk, take};
-ghost use Rattle.datasketches_cli.specs.Grammar.{words_of, number_below, signed_number, verb_word, IsMade};
+ghost use Rattle.std.specs.Prelude.{◌≡◌, ◌^◌, IfOk, take};
+ghost use Rattle.datasketches_cli.specs.Grammar.{words_of, number_below, signed_number, IsMade};
 ghost use Rattle.datasketches_cli.specs.Said.{IsSaid, IsVerbOf, IsReportOf, texts_of};
+ghost use Rattle.datasketches_cli.specs.Said.{IsShapeOf, AreCountsOf, IsChangeOf, IsCommandOf};
 
 use crate::command::Command;
 use crate::sketch::{Change, Join, Shape};
@@ -22,20 +23,32 @@ pub enum Line {
 /// The first word of a command.
 #[derive(Clone, Copy)]
 enum Verb {
+    Create(Kind),
+    Change(Edit),
+    Join(Join),
+    Ask,
+    Status,
+    Rows,
+}
+
+/// A kind of sketch.
+#[derive(Clone, Copy)]
+enum Kind {
     Frequent,
     CountI64,
     CountU64,
     Bloom,
+}
+
+/// A kind of change.
+#[derive(Clone, Copy)]
+enum Edit {
     Add,
     AddSigned,
     Insert,
-    Join(Join),
     Reset,
     Halve,
     Decay,
-    Ask,
-    Status,
-    Rows,
 }
 
 /// How many words of a line are looked at: one more than the longest command has.
@@ -72,27 +85,19 @@ fn first_words(alloc: Global, text: &str) -> Result<Vec<&str>, AllocError>
 fn command_of(alloc: Global, words: &[&str]) -> Result<Option<Command>, AllocError>
     ensures { IfOk result (IsMade (texts_of words.now)) }
 {
-    let [verb, rest @ ..] = words else {
+    let [verb, name, rest @ ..] = words else {
         return Ok(None);
     };
     let Some(verb) = verb_of(verb) else {
         return Ok(None);
     };
     match verb {
-        Verb::Frequent => frequent(alloc, rest),
-        Verb::CountI64 => count_i64(alloc, rest),
-        Verb::CountU64 => count_u64(alloc, rest),
-        Verb::Bloom => bloom(alloc, rest),
-        Verb::Add => add(alloc, rest),
-        Verb::AddSigned => add_signed(alloc, rest),
-        Verb::Insert => insert(alloc, rest),
-        Verb::Join(join) => joined(alloc, rest, join),
-        Verb::Reset => reset(alloc, rest),
-        Verb::Halve => halve(alloc, rest),
-        Verb::Decay => decay(alloc, rest),
-        Verb::Ask => ask(alloc, rest),
-        Verb::Status => status(alloc, rest),
-        Verb::Rows => rows(alloc, rest),
+        Verb::Create(kind) => create(alloc, kind, name, rest),
+        Verb::Change(edit) => change(alloc, edit, name, rest),
+        Verb::Join(by) => join(alloc, by, name, rest),
+        Verb::Ask => ask(alloc, name, rest),
+        Verb::Status => status(alloc, name, rest),
+        Verb::Rows => rows(alloc, name, rest),
     }
 }
 
@@ -101,20 +106,20 @@ fn verb_of(word: &str) -> Option<Verb>
     ensures { IsVerbOf word.now result }
 {
     match word {
-        "frequent" => Some(Verb::Frequent),
-        "counti" => Some(Verb::CountI64),
-        "countu" => Some(Verb::CountU64),
-        "bloom" => Some(Verb::Bloom),
-        "add" => Some(Verb::Add),
-        "adds" => Some(Verb::AddSigned),
-        "insert" => Some(Verb::Insert),
+        "frequent" => Some(Verb::Create(Kind::Frequent)),
+        "counti" => Some(Verb::Create(Kind::CountI64)),
+        "countu" => Some(Verb::Create(Kind::CountU64)),
+        "bloom" => Some(Verb::Create(Kind::Bloom)),
+        "add" => Some(Verb::Change(Edit::Add)),
+        "adds" => Some(Verb::Change(Edit::AddSigned)),
+        "insert" => Some(Verb::Change(Edit::Insert)),
+        "reset" => Some(Verb::Change(Edit::Reset)),
+        "halve" => Some(Verb::Change(Edit::Halve)),
+        "decay" => Some(Verb::Change(Edit::Decay)),
         "merge" => Some(Verb::Join(Join::Merge)),
         "union" => Some(Verb::Join(Join::Union)),
         "intersect" => Some(Verb::Join(Join::Intersect)),
         "difference" => Some(Verb::Join(Join::Difference)),
-        "reset" => Some(Verb::Reset),
-        "halve" => Some(Verb::Halve),
-        "decay" => Some(Verb::Decay),
         "ask" => Some(Verb::Ask),
         "status" => Some(Verb::Status),
         "rows" => Some(Verb::Rows),
@@ -122,210 +127,53 @@ fn verb_of(word: &str) -> Option<Verb>
     }
 }
 
-fn frequent(alloc: Global, words: &[&str]) -> Result<Option<Command>, AllocError>
-    ensures { IfOk result (IsMade (verb_word Verb.Frequent ∷ texts_of words.now)) }
+fn create(
+    alloc: Global,
+    kind: Kind,
+    name: &str,
+    words: &[&str],
+) -> Result<Option<Command>, AllocError>
+    ensures { IfOk result (IsCommandOf (Verb.Create kind) name.now (texts_of words.now)) }
 {
-    let [name, max_map_size] = words else {
+    let Some(shape) = shape_of(kind, words) else {
         return Ok(None);
     };
-    let Some(max_map_size) = number_of(max_map_size) else {
-        return Ok(None);
-    };
-    Ok(Some(Command::Create {
-        name: String::from_str(alloc, name)?,
-        shape: Shape::Frequent {
-            max_map_size: max_map_size as usize,
-        },
-    }))
+    let name = String::from_str(alloc, name)?;
+    Ok(Some(Command::Create { name, shape }))
 }
 
-fn count_i64(alloc: Global, words: &[&str]) -> Result<Option<Command>, AllocError>
-    ensures { IfOk result (IsMade (verb_word Verb.CountI64 ∷ texts_of words.now)) }
+fn change(
+    alloc: Global,
+    edit: Edit,
+    name: &str,
+    words: &[&str],
+) -> Result<Option<Command>, AllocError>
+    ensures { IfOk result (IsCommandOf (Verb.Change edit) name.now (texts_of words.now)) }
 {
-    let [name, num_hashes, num_buckets, seed] = words else {
+    let Some(change) = change_of(alloc, edit, words)? else {
         return Ok(None);
     };
-    let Some(num_hashes) = number_of_u8(num_hashes) else {
-        return Ok(None);
-    };
-    let Some(num_buckets) = number_of_u32(num_buckets) else {
-        return Ok(None);
-    };
-    let Some(seed) = number_of(seed) else {
-        return Ok(None);
-    };
-    Ok(Some(Command::Create {
-        name: String::from_str(alloc, name)?,
-        shape: Shape::CountI64 {
-            num_hashes,
-            num_buckets,
-            seed,
-        },
-    }))
+    let name = String::from_str(alloc, name)?;
+    Ok(Some(Command::Change { name, change }))
 }
 
-fn count_u64(alloc: Global, words: &[&str]) -> Result<Option<Command>, AllocError>
-    ensures { IfOk result (IsMade (verb_word Verb.CountU64 ∷ texts_of words.now)) }
+fn join(alloc: Global, by: Join, name: &str, words: &[&str]) -> Result<Option<Command>, AllocError>
+    ensures { IfOk result (IsCommandOf (Verb.Join by) name.now (texts_of words.now)) }
 {
-    let [name, num_hashes, num_buckets, seed] = words else {
-        return Ok(None);
-    };
-    let Some(num_hashes) = number_of_u8(num_hashes) else {
-        return Ok(None);
-    };
-    let Some(num_buckets) = number_of_u32(num_buckets) else {
-        return Ok(None);
-    };
-    let Some(seed) = number_of(seed) else {
-        return Ok(None);
-    };
-    Ok(Some(Command::Create {
-        name: String::from_str(alloc, name)?,
-        shape: Shape::CountU64 {
-            num_hashes,
-            num_buckets,
-            seed,
-        },
-    }))
-}
-
-fn bloom(alloc: Global, words: &[&str]) -> Result<Option<Command>, AllocError>
-    ensures { IfOk result (IsMade (verb_word Verb.Bloom ∷ texts_of words.now)) }
-{
-    let [name, num_bits, num_hashes, seed] = words else {
-        return Ok(None);
-    };
-    let Some(num_bits) = number_of(num_bits) else {
-        return Ok(None);
-    };
-    let Some(num_hashes) = number_of_u16(num_hashes) else {
-        return Ok(None);
-    };
-    let Some(seed) = number_of(seed) else {
-        return Ok(None);
-    };
-    Ok(Some(Command::Create {
-        name: String::from_str(alloc, name)?,
-        shape: Shape::Bloom {
-            num_bits,
-            num_hashes,
-            seed,
-        },
-    }))
-}
-
-fn add(alloc: Global, words: &[&str]) -> Result<Option<Command>, AllocError>
-    ensures { IfOk result (IsMade (verb_word Verb.Add ∷ texts_of words.now)) }
-{
-    let [name, weight, item] = words else {
-        return Ok(None);
-    };
-    let Some(weight) = number_of(weight) else {
-        return Ok(None);
-    };
-    Ok(Some(Command::Change {
-        name: String::from_str(alloc, name)?,
-        change: Change::Add {
-            item: String::from_str(alloc, item)?,
-            weight,
-        },
-    }))
-}
-
-fn add_signed(alloc: Global, words: &[&str]) -> Result<Option<Command>, AllocError>
-    ensures { IfOk result (IsMade (verb_word Verb.AddSigned ∷ texts_of words.now)) }
-{
-    let [name, weight, item] = words else {
-        return Ok(None);
-    };
-    let Some(weight) = signed_number(weight) else {
-        return Ok(None);
-    };
-    Ok(Some(Command::Change {
-        name: String::from_str(alloc, name)?,
-        change: Change::AddSigned {
-            item: String::from_str(alloc, item)?,
-            weight,
-        },
-    }))
-}
-
-fn insert(alloc: Global, words: &[&str]) -> Result<Option<Command>, AllocError>
-    ensures { IfOk result (IsMade (verb_word Verb.Insert ∷ texts_of words.now)) }
-{
-    let [name, item] = words else {
-        return Ok(None);
-    };
-    Ok(Some(Command::Change {
-        name: String::from_str(alloc, name)?,
-        change: Change::Insert {
-            item: String::from_str(alloc, item)?,
-        },
-    }))
-}
-
-fn joined(alloc: Global, words: &[&str], join: Join) -> Result<Option<Command>, AllocError>
-    ensures { IfOk result (IsMade (verb_word (Verb.Join join) ∷ texts_of words.now)) }
-{
-    let [into, other] = words else {
+    let [other] = words else {
         return Ok(None);
     };
     Ok(Some(Command::Join {
-        into: String::from_str(alloc, into)?,
+        into: String::from_str(alloc, name)?,
         other: String::from_str(alloc, other)?,
-        join,
+        join: by,
     }))
 }
 
-fn reset(alloc: Global, words: &[&str]) -> Result<Option<Command>, AllocError>
-    ensures { IfOk result (IsMade (verb_word Verb.Reset ∷ texts_of words.now)) }
+fn ask(alloc: Global, name: &str, words: &[&str]) -> Result<Option<Command>, AllocError>
+    ensures { IfOk result (IsCommandOf Verb.Ask name.now (texts_of words.now)) }
 {
-    let [name] = words else {
-        return Ok(None);
-    };
-    Ok(Some(Command::Change {
-        name: String::from_str(alloc, name)?,
-        change: Change::Reset,
-    }))
-}
-
-fn halve(alloc: Global, words: &[&str]) -> Result<Option<Command>, AllocError>
-    ensures { IfOk result (IsMade (verb_word Verb.Halve ∷ texts_of words.now)) }
-{
-    let [name] = words else {
-        return Ok(None);
-    };
-    Ok(Some(Command::Change {
-        name: String::from_str(alloc, name)?,
-        change: Change::Halve,
-    }))
-}
-
-fn decay(alloc: Global, words: &[&str]) -> Result<Option<Command>, AllocError>
-    ensures { IfOk result (IsMade (verb_word Verb.Decay ∷ texts_of words.now)) }
-{
-    let [name, numerator, denominator] = words else {
-        return Ok(None);
-    };
-    let Some(numerator) = number_of(numerator) else {
-        return Ok(None);
-    };
-    let Some(denominator) = number_of(denominator) else {
-        return Ok(None);
-    };
-    Ok(Some(Command::Change {
-        name: String::from_str(alloc, name)?,
-        change: Change::Decay {
-            numerator,
-            denominator,
-        },
-    }))
-}
-
-fn ask(alloc: Global, words: &[&str]) -> Result<Option<Command>, AllocError>
-    ensures { IfOk result (IsMade (verb_word Verb.Ask ∷ texts_of words.now)) }
-{
-    let [name, item] = words else {
+    let [item] = words else {
         return Ok(None);
     };
     Ok(Some(Command::Ask {
@@ -334,34 +182,129 @@ fn ask(alloc: Global, words: &[&str]) -> Result<Option<Command>, AllocError>
     }))
 }
 
-fn status(alloc: Global, words: &[&str]) -> Result<Option<Command>, AllocError>
-    ensures { IfOk result (IsMade (verb_word Verb.Status ∷ texts_of words.now)) }
+fn status(alloc: Global, name: &str, words: &[&str]) -> Result<Option<Command>, AllocError>
+    ensures { IfOk result (IsCommandOf Verb.Status name.now (texts_of words.now)) }
 {
-    let [name] = words else {
+    if !words.is_empty() {
         return Ok(None);
-    };
-    Ok(Some(Command::GetStatus {
-        name: String::from_str(alloc, name)?,
-    }))
+    }
+    let name = String::from_str(alloc, name)?;
+    Ok(Some(Command::GetStatus { name }))
 }
 
-fn rows(alloc: Global, words: &[&str]) -> Result<Option<Command>, AllocError>
-    ensures { IfOk result (IsMade (verb_word Verb.Rows ∷ texts_of words.now)) }
+fn rows(alloc: Global, name: &str, words: &[&str]) -> Result<Option<Command>, AllocError>
+    ensures { IfOk result (IsCommandOf Verb.Rows name.now (texts_of words.now)) }
 {
-    let [name, report, threshold] = words else {
+    let [report, threshold] = words else {
         return Ok(None);
     };
-    let Some(error_type) = error_type_of(report) else {
+    let (Some(error_type), Some(threshold)) = (error_type_of(report), number_of(threshold)) else {
         return Ok(None);
     };
-    let Some(threshold) = number_of(threshold) else {
-        return Ok(None);
-    };
+    let name = String::from_str(alloc, name)?;
     Ok(Some(Command::ListRows {
-        name: String::from_str(alloc, name)?,
+        name,
         error_type,
         threshold,
     }))
+}
+
+/// The shape of a kind, by its numbers.
+fn shape_of(kind: Kind, words: &[&str]) -> Option<Shape>
+    ensures { IsShapeOf kind (texts_of words.now) result }
+{
+    match kind {
+        Kind::Frequent => {
+            let [max_map_size] = words else {
+                return None;
+            };
+            Some(Shape::Frequent {
+                max_map_size: number_of(max_map_size)? as usize,
+            })
+        }
+        Kind::CountI64 => {
+            let (num_hashes, num_buckets, seed) = counts_of(words)?;
+            Some(Shape::CountI64 {
+                num_hashes,
+                num_buckets,
+                seed,
+            })
+        }
+        Kind::CountU64 => {
+            let (num_hashes, num_buckets, seed) = counts_of(words)?;
+            Some(Shape::CountU64 {
+                num_hashes,
+                num_buckets,
+                seed,
+            })
+        }
+        Kind::Bloom => {
+            let [num_bits, num_hashes, seed] = words else {
+                return None;
+            };
+            Some(Shape::Bloom {
+                num_bits: number_of(num_bits)?,
+                num_hashes: number_of_u16(num_hashes)?,
+                seed: number_of(seed)?,
+            })
+        }
+    }
+}
+
+/// The numbers of a Count-Min sketch: its hashes, its buckets and its seed.
+fn counts_of(words: &[&str]) -> Option<(u8, u32, u64)>
+    ensures { AreCountsOf (texts_of words.now) result }
+{
+    let [num_hashes, num_buckets, seed] = words else {
+        return None;
+    };
+    Some((
+        number_of_u8(num_hashes)?,
+        number_of_u32(num_buckets)?,
+        number_of(seed)?,
+    ))
+}
+
+/// The change of a kind, by its numbers and its item.
+fn change_of(alloc: Global, edit: Edit, words: &[&str]) -> Result<Option<Change>, AllocError>
+    ensures { IfOk result (IsChangeOf edit (texts_of words.now)) }
+{
+    let change = match (edit, words) {
+        (Edit::Add, [weight, item]) => {
+            let Some(weight) = number_of(weight) else {
+                return Ok(None);
+            };
+            let item = String::from_str(alloc, item)?;
+            Change::Add { item, weight }
+        }
+        (Edit::AddSigned, [weight, item]) => {
+            let Some(weight) = signed_number(weight) else {
+                return Ok(None);
+            };
+            let item = String::from_str(alloc, item)?;
+            Change::AddSigned { item, weight }
+        }
+        (Edit::Insert, [item]) => {
+            let item = String::from_str(alloc, item)?;
+            Change::Insert { item }
+        }
+        (Edit::Reset, []) => Change::Reset,
+        (Edit::Halve, []) => Change::Halve,
+        (Edit::Decay, [numerator, denominator]) => {
+            let (Some(numerator), Some(denominator)) = (
+                number_of(numerator),
+                number_of(denominator),
+            ) else {
+                return Ok(None);
+            };
+            Change::Decay {
+                numerator,
+                denominator,
+            }
+        }
+        _ => return Ok(None),
+    };
+    Ok(Some(change))
 }
 
 /// The kind of report that a word names.

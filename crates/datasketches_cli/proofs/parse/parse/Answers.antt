@@ -1,0 +1,9 @@
+use Rattle.std.proofs.Common.{◌≡◌, ◌∙◌, length, ap, sym, arith}
+use Rattle.datasketches_cli.specs.Said.{texts_of}
+use Rattle.datasketches_cli.proofs.Verbs.{says_nothing}
+use Rattle.datasketches_cli.proofs.parse.parse.Goals as goal
+
+pub returns : goal.returns
+returns c =
+    let count : c.in_ok-words.words.len ≡ length c.in_ok-words.words.items = omega (arith, c.in_ok-words.words.ok) in
+    says_nothing c.args.line.now c.in-Ok.text.now c.in_ok-words.words.items _ c.in-Ok.ensures.cases.0 c.in_ok-words.ensures count (sym c.is_empty.ensures ∙ c.if-is_empty.false) (rw (c.in-None.is, c.deref.ensures.value) at c.in_ok-command.ensures)
