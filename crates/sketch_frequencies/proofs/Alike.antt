@@ -9,7 +9,7 @@ use Rattle.sketch_frequencies.specs.Tables.{IsSameEntry, IsSameMap}
 use Rattle.sketch_frequencies.specs.History.{FrequentHistory}
 use Rattle.sketch_frequencies.specs.History.FrequentHistory.{Update}
 use Rattle.sketch_frequencies.specs.State.{FrequentState, IsState}
-use Rattle.sketch_frequencies.specs.Stands.{StandsFor, KeepsTailBudget, HasFewItems, Extends, ExtendsBudget}
+use Rattle.sketch_frequencies.specs.Stands.{StandsFor, KeepsTailBudget, HasFewItems}
 use Rattle.sketch_frequencies.specs.Steps.{StepsEqual, IsSameState}
 use Rattle.sketch_frequencies.proofs.Enclosure.{stands_after}
 use Rattle.sketch_frequencies.proofs.Tail.{budget_after}

@@ -3,9 +3,8 @@ use Rattle.std.proofs.Common.{◌≡◌, ℕ, ◌<◌, max, Bool, true, List, ap
 use Rattle.std.proofs.lemmas.Bool.{lt-ltb, ltb-true}
 use Rattle.std.proofs.lemmas.List.Elements.{All-weaker}
 use Rattle.sketch_frequencies.specs.Tables.{count_of, is_tracked}
-use Rattle.sketch_frequencies.specs.History.{FrequentHistory, true_weight}
+use Rattle.sketch_frequencies.specs.History.{true_weight}
 use Rattle.sketch_frequencies.specs.State.{FrequentState}
-use Rattle.sketch_frequencies.specs.Stands.{StandsFor}
 use Rattle.sketch_frequencies.specs.RowValue.{RowValue}
 use Rattle.sketch_frequencies.specs.Rows.{passes, Shows, ShowsExactly, MissesNone, ShowsNoneBelow}
 use Rattle.sketch_frequencies.specs.declared.error_type.ErrorType.{ErrorType}

@@ -1,4 +1,4 @@
-use Rattle.std.proofs.Common.{sym, ◌∙◌, subst}
+use Rattle.std.proofs.Common.{subst}
 use Rattle.sketch_frequencies.specs.State.{IsState}
 use Rattle.sketch_frequencies.specs.Steps.{Steps}
 use Rattle.sketch_frequencies.proofs.Enclosure.{stands_after}
