@@ -1,4 +1,5 @@
-use Rattle.std.proofs.Common.{◌+◌, ◌<◌, arith, ap, sym, ◌∙◌, subst}
+use Rattle.std.proofs.Common.{◌+◌, ◌<◌, arith, ap, sym, ◌∙◌, subst, refl}
+use Rattle.std.proofs.lemmas.Result.{err_from_is_err_and}
 use Rattle.sketch_frequencies.specs.State.{IsState, FrequentState}
 use Rattle.sketch_frequencies.specs.Steps.{JoinsEqual}
 use Rattle.sketch_frequencies.proofs.Merges.{settle_fits, joins_equal, joins_nothing, stands_joins_equal, budget_joins_equal}
@@ -25,6 +26,12 @@ settle-requires-clause-sum g c =
     let other_ok : IsState g.T.PartialEq.eq other = subst (λ s. IsState g.T.PartialEq.eq s) c.other.view_is c.other.invariant in
     let fits = settle_fits g.met.T.Eq.laws c.args.self.now other c.in_ok-merged.merged c.add_counters.new.self other_ok c.add_counters.ensures.state c.in_ok-merged.ensures.same c.in_ok-add_counters.ensures.ok in
     omega (arith, fits, ap (λ s. s.total) c.other.view_is, ap (λ s. s.error) c.other.view_is, ap (λ s. s.total) c.self.view_is)
+
+-- this holds where the sketch is as it was; said here so that a body that changed it is refused at once
+pub returns-in_err-add_counters-clause-err : goal.returns-in_err-add_counters-clause-err
+returns-in_err-add_counters-clause-err g c =
+    let p = err_from_is_err_and c.from_residual-in_err-add_counters.result c.from_residual-in_err-add_counters.ensures.1 in
+    rw p.1 refl
 
 pub returns-clause-join : goal.returns-clause-join
 returns-clause-join g c =
