@@ -85,6 +85,12 @@ is_state greatest row_seeds d seed total cells i = record {
   bounded = λ r b. rows_all (λ (z : ℤ). unsigned_abs z ≤ unsigned_abs total) (omega arith) (length row_seeds) d cells i.bounded r b;
 }
 
+-- and of each sketch that shows it
+pub state_shown : (greatest : ℕ) (row_seeds : List ℕ) (d seed : ℕ) (total : ℤ) (cells : List ℤ) (s : CountState) → state_of row_seeds d seed total cells ≡ s
+    → IsTable greatest row_seeds d seed total cells → IsCountState greatest s
+state_shown greatest row_seeds d seed total cells s e i =
+    subst (λ (t : CountState). IsCountState greatest t) e (is_state greatest row_seeds d seed total cells i)
+
 -- zeros read as zeros, also past their end
 zeros_read : (n k : ℕ) → get_or (replicate n (pos 0)) k (pos 0) ≡ pos 0
 zeros_read n k = ⊎_elim (λ (lt : k < n). get_or-replicate n k (pos 0) (pos 0) lt) (λ (le : n ≤ k). get_or_past (replicate n (pos 0)) k (pos 0) (omega (arith, length-replicate n (pos 0), le))) (cases_lt k n)

@@ -183,16 +183,10 @@ impl<T: CountMinValue> CountMinSketch<T> {
             → IsErrOf result (invalid_argument Fault.WeightOverflow) }
         ensures succeeds { self.old.total + unsigned_abs (T.number weight) ≤ T.greatest → IsOk result }
     {
-        let total = self.total;
+        let total = self.total_with(weight)?;
         if weight.to_number() == 0 {
             return Ok(());
         }
-        let Some(size) = weight.checked_abs() else {
-            return Err(Error::invalid_argument(Fault::WeightOverflow));
-        };
-        let Some(total) = total.checked_add(size) else {
-            return Err(Error::invalid_argument(Fault::WeightOverflow));
-        };
         add_to_rows(
             &mut self.counts,
             self.buckets,
@@ -202,6 +196,27 @@ impl<T: CountMinValue> CountMinSketch<T> {
         );
         self.total = total;
         Ok(())
+    }
+
+    /// The total with the distance of a weight from zero added, unless it would pass the type's greatest value.
+    #[inline(always)]
+    fn total_with(&self, weight: T) -> Result<T, Error>
+        ensures sum { IfOk result (λ total. T.number total ≡ pos (self.now.total + unsigned_abs (T.number weight))) }
+        ensures fits { OnOk result (self.now.total + unsigned_abs (T.number weight) ≤ T.greatest) }
+        ensures refused { IfErr result (λ e. e ≡ invalid_argument Fault.WeightOverflow) }
+        ensures overflow { OnErr result (T.greatest < self.now.total + unsigned_abs (T.number weight)) }
+
+        // What holds of every sketch.
+        ensures state { IsCountState T.greatest self.now }
+    {
+        let total = self.total;
+        let Some(size) = weight.checked_abs() else {
+            return Err(Error::invalid_argument(Fault::WeightOverflow));
+        };
+        match total.checked_add(size) {
+            Some(sum) => Ok(sum),
+            None => Err(Error::invalid_argument(Fault::WeightOverflow)),
+        }
     }
 
     /// The least of the item's cells. It takes no memory.

@@ -3,17 +3,17 @@ use Rattle.std.proofs.lemmas.Int.{ints}
 use Rattle.std.proofs.lemmas.List.{take_at}
 use Rattle.sketch_countmin.specs.State.{CountState, IsCountState, Joins}
 use Rattle.sketch_countmin.specs.Table.{state_of}
-use Rattle.sketch_countmin.proofs.Tables.{is_state}
+use Rattle.sketch_countmin.proofs.Tables.{is_state, state_shown}
 use Rattle.sketch_countmin.proofs.Updates.{length_own}
 use Rattle.sketch_countmin.proofs.Merges.{AllAdded, all_added_own, merged, joins_here, shape_own}
 use Rattle.sketch_countmin.proofs.Standing.{stands_joined}
 use Rattle.sketch_countmin.proofs.count_min_sketch.CountMinSketch.merge.Goals as goal
 
 pub returns-then-not-has_shape_of-clause-state : goal.returns-then-not-has_shape_of-clause-state
-returns-then-not-has_shape_of-clause-state g c = subst (λ (s : CountState). IsCountState g.T.CountMinValue.greatest s) c.self.view_is (is_state _ _ _ _ _ _ c.self.invariant)
+returns-then-not-has_shape_of-clause-state g c = state_shown _ _ _ _ _ _ _ c.self.view_is c.self.invariant
 
 pub returns-in_default-clause-state : goal.returns-in_default-clause-state
-returns-in_default-clause-state g c = subst (λ (s : CountState). IsCountState g.T.CountMinValue.greatest s) c.self.view_is (is_state _ _ _ _ _ _ c.self.invariant)
+returns-in_default-clause-state g c = state_shown _ _ _ _ _ _ _ c.self.view_is c.self.invariant
 
 pub invariant_of-self : goal.invariant_of-self
 invariant_of-self g c =
