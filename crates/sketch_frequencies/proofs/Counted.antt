@@ -6,7 +6,7 @@ use Rattle.std.proofs.lemmas.Bool.{cases_Bool}
 use Rattle.std.proofs.lemmas.List.Sorted.{length_permutation}
 use Rattle.sketch_frequencies.specs.declared.slot.Slot.{Slot}
 use Rattle.sketch_frequencies.specs.Slots.{entries_of, table_of, IsCounted, IsSlots, IsTableSize}
-use Rattle.sketch_frequencies.specs.Tables.{Table, is_tracked, put}
+use Rattle.sketch_frequencies.specs.Tables.{is_tracked, put}
 use Rattle.sketch_frequencies.proofs.Puts.{length-put}
 
 module _ {T : Type 0} (eq : T → T → Bool) (input : T → List (List ℕ)) (old lent new : List (Slot T)) (active : ℕ) (x : T) (w : ℕ) (was : IsCounted eq input old active) (same : lent ≡ old) (ok : IsSlots eq input new) where

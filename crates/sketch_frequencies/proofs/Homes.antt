@@ -1,7 +1,7 @@
 -- The home of an item, and the place after a place.
 use Rattle.std.proofs.Common.{◌≡◌, ℕ, ◌+◌, ◌-◌, ◌%◌, ◌^◌, ◌<◌, ap, sym, ◌∙◌, arith, List, bit_and}
 use Rattle.std.proofs.Math.Nat.{mod-lt}
-use Rattle.std.proofs.lemmas.Nat.{and_mask, pow_pos}
+use Rattle.std.proofs.lemmas.Nat.{and_mask}
 use Rattle.sketch_base.specs.Murmur3.{murmur3_x64_128}
 use Rattle.sketch_frequencies.specs.Homes.{home_of, ahead}
 use Rattle.sketch_frequencies.specs.Slots.{IsTableSize}

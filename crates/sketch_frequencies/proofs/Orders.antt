@@ -105,9 +105,6 @@ count_of-purged {eq = eq} laws m (e ∷ es) y h =
     (λ _. rw is rest) (λ _. rest)) refl
 
 -- what a purge leaves is no longer than what there was
-pub length_purged : {T : Type 0} (m : ℕ) (es : List (T × ℕ)) → length (purged m es) ≤ length es
-length_purged {T} m es = omega (arith, length-map {B = T × ℕ} (filter (λ (e : T × ℕ). ltb m e.1) es) (λ (e : T × ℕ). (e.0, e.1 - m)), length-filter (λ (e : T × ℕ). ltb m e.1) es, count_by-le-length (λ (e : T × ℕ). ltb m e.1) es)
-
 -- a slice written back whole
 pub written_whole : {X : Type 0} (n : ℕ) (a b : List X) → length a ≡ n → take n (a ++ drop (length a) b) ≡ a
 written_whole n a b h = rw (← h) (take-append-le (length a) a (drop (length a) b) (omega arith) ∙ take_all (length a) a (omega arith))

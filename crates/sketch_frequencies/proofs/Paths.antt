@@ -1,11 +1,11 @@
 -- Where the slots came from, while those behind a freed one are shifted back.
-use Rattle.std.proofs.Common.{◌≡◌, ℕ, ◌+◌, ◌-◌, ◌<◌, ◌≤◌, true, inl, inr, ap, sym, ◌∙◌, subst, arith, List, length, Option, Some, None, is_some}
+use Rattle.std.proofs.Common.{◌≡◌, ℕ, ◌+◌, ◌-◌, ◌<◌, ◌≤◌, true, inl, inr, ap, sym, ◌∙◌, subst, arith, List, length, Some, None, is_some}
 use Rattle.std.proofs.Math.ListN.{set}
 use Rattle.std.proofs.lemmas.Bool.{cases_eq}
 use Rattle.sketch_frequencies.specs.declared.slot.Slot.{Slot}
-use Rattle.sketch_frequencies.specs.declared.slot.Slot.TheVariants.{Free, Taken}
+use Rattle.sketch_frequencies.specs.declared.slot.Slot.TheVariants.{Free}
 use Rattle.sketch_frequencies.specs.Homes.{ahead, distance}
-use Rattle.sketch_frequencies.specs.Slots.{Held, taken, with_drift, slot_at, is_taken, ShiftsBack}
+use Rattle.sketch_frequencies.specs.Slots.{Held, with_drift, slot_at, is_taken, ShiftsBack}
 use Rattle.sketch_frequencies.specs.Shifted.{Origins}
 use Rattle.sketch_frequencies.proofs.Ring.{ahead_is, distance_is, ahead-distance, distance-ahead, distance-same, distance-some, ahead-sum}
 use Rattle.sketch_frequencies.proofs.Homes.{ahead-zero}

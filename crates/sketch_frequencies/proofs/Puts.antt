@@ -13,12 +13,6 @@ use Rattle.std.proofs.lemmas.List.Elements.{All-cons, All-nil, All-head, All-tai
 use Rattle.sketch_frequencies.specs.Tables.{count_of, is_tracked, put, sum_of, sum_outside}
 use Rattle.sketch_frequencies.proofs.Cases.{by_test}
 
--- a write at the item's place
-pub put_at : {T : Type 0} (eq : T → T → Bool) (es : List (T × ℕ)) (x : T) (w i : ℕ) (r : T × ℕ) → i < length es → r ≡ get_or es i r → eq x r.0 ≡ true → ((k : ℕ) → k < i → eq x (get_or es k r).0 ≡ false) → set es i (r.0, r.1 + w) ≡ put eq es x w
-put_at eq [] x w i r h e t f = absurd (omega arith)
-put_at eq (e ∷ es) x w zero r h is t f = grind (arith, is, t)
-put_at eq (e ∷ es) x w (suc i) r h is t f = rw (f 0 (omega arith)) (ap (λ l. e ∷ l) (put_at eq es x w i r (omega arith) is t (λ k l. f (suc k) (omega arith))))
-
 -- a push of an item that is not there
 pub put_absent : {T : Type 0} (eq : T → T → Bool) (es : List (T × ℕ)) (x : T) (w : ℕ) → lookup (eq x) es ≡ None → put eq es x w ≡ es ++ (x, w) ∷ []
 put_absent eq [] x w h = refl
@@ -50,34 +44,6 @@ length_put_le eq es x w = grind (arith, length-put eq es x w)
 pub count_of-put : {T : Type 0} {eq : T → T → Bool} → IsEquivalence eq → (es : List (T × ℕ)) (x : T) (w : ℕ) (y : T) → count_of eq (put eq es x w) y ≡ cond (eq x y) (count_of eq es y + w) (count_of eq es y)
 count_of-put laws [] x w y = grind (arith, laws.symm)
 count_of-put laws (e ∷ es) x w y = grind (arith, count_of-put laws es x w y, laws.symm, laws.congr)
-
--- what the item's first entry says
-pub lookup_at : {T : Type 0} (eq : T → T → Bool) (es : List (T × ℕ)) (x : T) (i : ℕ) (r : T × ℕ) → i < length es → r ≡ get_or es i r → eq x r.0 ≡ true → ((k : ℕ) → k < i → eq x (get_or es k r).0 ≡ false) → lookup (eq x) es ≡ Some r.1
-lookup_at eq [] x i r h e t f = absurd (omega arith)
-lookup_at eq (e ∷ es) x zero r h is t f = grind (arith, is, t)
-lookup_at eq (e ∷ es) x (suc i) r h is t f = rw (f 0 (omega arith)) (lookup_at eq es x i r (omega arith) is t (λ k l. f (suc k) (omega arith)))
-
--- a search that hits: the write there is `put`, and the count is the one there
-pub record Found {T : Type 0} (eq : T → T → Bool) (es : List (T × ℕ)) (x : T) (i : ℕ) (r : T × ℕ) : Type 0 where
-  pub written : (w : ℕ) → set es i (r.0, r.1 + w) ≡ put eq es x w
-  pub looked_up : lookup (eq x) es ≡ Some r.1
-
-pub found : {T : Type 0} (eq : T → T → Bool) (es : List (T × ℕ)) (x : T) (i : ℕ) (r : T × ℕ) → Some i ≡ position (λ e. eq x e.0) es → r ≡ get_or es i r → Found eq es x i r
-found eq es x i r h is =
-    let at = position-Some (λ e. eq x e.0) es i r (sym h) in
-    let t : eq x r.0 ≡ true = rw is at.1 in
-    record {
-      written = λ w. put_at eq es x w i r at.0 is t at.2;
-      looked_up = lookup_at eq es x i r at.0 is t at.2;
-    }
-
--- a search that misses
-missed : {T : Type 0} (eq : T → T → Bool) (es : List (T × ℕ)) (x : T) → position_or_len (λ e. eq x e.0) es ≡ length es → lookup (eq x) es ≡ None
-missed eq [] x h = refl
-missed eq (e ∷ es) x h = grind (arith, missed eq es x, prefix_len-le-length (λ e. not (eq x e.0)) es)
-
-pub lookup_missed : {T : Type 0} (eq : T → T → Bool) (es : List (T × ℕ)) (x : T) → None ≡ position (λ e. eq x e.0) es → lookup (eq x) es ≡ None
-lookup_missed eq es x h = missed eq es x (grind (arith, common_steps, h, prefix_len-le-length (λ e. not (eq x e.0)) es))
 
 -- the sums
 pub same_set_test : {T : Type 0} {eq : T → T → Bool} → IsEquivalence eq → (set : List T) (x y : T) → eq x y ≡ true → list_any (eq x) set ≡ list_any (eq y) set

@@ -264,10 +264,6 @@ head_of {T} {home} {slots} {hole} {shift} {steps} w =
       next = b.below;
     }
 
--- the loop ends before so many steps
-pub not_so_far : {T : Type 0} {home : T → ℕ} {slots : List (Slot T)} {hole shift steps : ℕ} → Shifting home slots hole shift steps → steps < length slots
-not_so_far w = omega (arith, w.left.near)
-
 -- ---- a turn of the loop, where the next place is read
 pub drift_slot : {T : Type 0} (o : Option (Held T)) (d : ℕ) → d ≡ drift_of o → (d ≡ 0 → ⊥) → (s : Held T) × (o ≡ Some s) × (s.drift ≡ d)
 drift_slot None d e h = absurd (h e)

@@ -100,9 +100,6 @@ IsCursor-start n size =
       stride_small = golden_small (n * 618 / 1000) (few n size.limit);
     }
 
-pub place_within : (n s i p : ℕ) → IsCursor n s i p → i < n → p < n
-place_within n s i p cursor more = subst (λ (q : ℕ). q < n) (sym cursor.at) (mod_below (i * s) n (omega arith))
-
 -- what one step does, where it finds o
 pub record Stepped {E : Type 0} (at : ℕ → Option E) (n stride looked place : ℕ) (o : Option E) : Type 0 where
   pub cursor : IsCursor n stride (looked + 1) (bit_and (place + stride) (n - 1))

@@ -1,5 +1,5 @@
 -- A write to the slot where a look-up ended.
-use Rattle.std.proofs.Common.{◌≡◌, ℕ, zero, suc, ◌+◌, ◌-◌, ◌<◌, ◌≤◌, Bool, true, false, inl, inr, refl, ap, sym, ◌∙◌, subst, arith, List, [], ◌∷◌, ◌++◌, length, Option, Some, None, is_some, IsPermutation}
+use Rattle.std.proofs.Common.{◌≡◌, ℕ, zero, suc, ◌+◌, ◌-◌, ◌<◌, ◌≤◌, Bool, true, false, inl, inr, ap, sym, ◌∙◌, subst, arith, List, [], ◌∷◌, ◌++◌, length, Some, is_some, IsPermutation}
 use Rattle.std.specs.Cmp.{IsEquivalence}
 use Rattle.std.specs.List.{IsDistinct}
 use Rattle.std.specs.Map.{lookup, keys_of}
@@ -15,7 +15,7 @@ use Rattle.sketch_frequencies.specs.declared.slot.Slot.TheVariants.{Free, Taken}
 use Rattle.sketch_frequencies.specs.Homes.{home_in, ahead, distance}
 use Rattle.sketch_frequencies.specs.Slots.{Held, taken, entries_of, slot_at, is_taken, IsPlaced, IsSlots}
 use Rattle.sketch_frequencies.specs.Probes.{IsGap}
-use Rattle.sketch_frequencies.proofs.Ring.{ahead_is, ahead-distance, distance-ahead}
+use Rattle.sketch_frequencies.proofs.Ring.{ahead-distance, distance-ahead}
 use Rattle.sketch_frequencies.proofs.Homes.{some_size, home_of-below}
 use Rattle.sketch_frequencies.proofs.Full.{is_taken-below, slot_at-set_same, slot_at-set_other}
 use Rattle.sketch_frequencies.proofs.Orders.{none_from_is_some}

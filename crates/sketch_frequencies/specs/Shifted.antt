@@ -1,5 +1,5 @@
 -- Where the slots stood before one was freed and later ones were shifted back. No public clause cites this module.
-use Rattle.std.specs.Prelude.{◌≡◌, ◌⊎◌, ℕ, ◌<◌, ◌≤◌, List, length, Option, Some, true}
+use Rattle.std.specs.Prelude.{◌≡◌, ◌⊎◌, ℕ, ◌<◌, ◌≤◌, List, length, Some, true}
 use Rattle.sketch_frequencies.specs.Homes.{ahead, distance}
 use Rattle.sketch_frequencies.specs.Slots.{Held, slot_at, is_taken}
 use Rattle.sketch_frequencies.specs.declared.slot.Slot.{Slot}

@@ -1,7 +1,7 @@
 -- A table's slots, and the map that they hold. No public clause cites this module.
-use Rattle.std.specs.Prelude.{◌≡◌, ℕ, ◌+◌, ◌-◌, ◌<◌, ◌≤◌, ◌^◌, ◌==◌, Bool, true, false, IsTrue, List, length, map, Option, Some, None, is_some, slice_index_or, slice_set}
+use Rattle.std.specs.Prelude.{◌≡◌, ℕ, ◌+◌, ◌-◌, ◌<◌, ◌≤◌, ◌^◌, ◌==◌, Bool, true, false, IsTrue, List, length, Option, Some, None, is_some, slice_index_or, slice_set}
 use Rattle.std.specs.Int.{is_power_of_two}
-use Rattle.std.specs.List.{filter_map, IsDistinct, AllZip}
+use Rattle.std.specs.List.{filter_map, IsDistinct}
 use Rattle.std.specs.Map.{keys_of}
 use Rattle.sketch_frequencies.specs.Homes.{ahead, distance, home_in}
 use Rattle.sketch_frequencies.specs.Tables.{Table}

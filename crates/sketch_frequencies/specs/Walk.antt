@@ -1,7 +1,10 @@
 -- A walk over a table, as a caller sees it.
-use Rattle.std.specs.Prelude.{◌≡◌, ℕ, ◌≤◌, List, ◌++◌, Option, option_to_list, option_map}
+use Rattle.std.specs.Prelude.{◌≡◌, ℕ, ◌≤◌, Bool, List, [], ◌++◌, IsPermutation, Option, option_to_list, option_map}
 use Rattle.std.specs.Borrow.{Bor}
 use Rattle.std.specs.Iterator.{YieldsFirstBy}
+use Rattle.std.specs.List.{IsDistinct}
+use Rattle.std.specs.Map.{keys_of}
+use Rattle.sketch_frequencies.specs.Tables.{Table}
 
 -- the entries given so far and those that are still to come, each in the walk's order, the slots looked at so far, and the size of the table
 pub record Walk (T : Type 0) : Type 0 where
@@ -9,6 +12,14 @@ pub record Walk (T : Type 0) : Type 0 where
   pub rest : List (T × ℕ)
   pub looked : ℕ
   pub size : ℕ
+
+-- a walk over this table that has given nothing yet
+pub record StartsWalk {T : Type 0} (eq : T → T → Bool) (table : Table T) (walk : Walk T) : Type 0 where
+  pub entries : IsPermutation table.entries walk.rest
+  pub distinct : IsDistinct eq (keys_of walk.rest)
+  pub given : walk.given ≡ []
+  pub looked : walk.looked ≡ 0
+  pub size : walk.size ≡ table.size
 
 -- the entry that an item of the walk shows
 abbrev pub entry_of : {T : Type 0} → Bor T × ℕ → T × ℕ

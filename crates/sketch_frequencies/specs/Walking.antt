@@ -1,5 +1,5 @@
 -- What the fields of a walk say. No public clause cites this module.
-use Rattle.std.specs.Prelude.{◌≡◌, List, length}
+use Rattle.std.specs.Prelude.{◌≡◌, length}
 use Rattle.sketch_frequencies.specs.Places.{entry_at, given_before, rest_from, IsCursor}
 use Rattle.sketch_frequencies.specs.Walk.{Walk}
 use Rattle.sketch_frequencies.specs.declared.reverse_purge_item_iter.ReversePurgeItemIter.TheInside.{Inside}

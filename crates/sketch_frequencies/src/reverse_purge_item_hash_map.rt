@@ -299,3 +299,18 @@ impl<T: Eq + Hash + Drop> ReversePurgeItemHashMap<T> {
         *self.slots.allocator()
     }
 }
+
+impl<'a, T: Eq + Hash + Drop> IntoIterator for &'a ReversePurgeItemHashMap<T> {
+    ghost use Rattle.sketch_frequencies.specs.Walk.{StartsWalk};
+
+    type Item = (&'a T, u64);
+
+    type IntoIter = ReversePurgeItemIter<'a, T>;
+
+    ghost into_iter_gives = { λ map walk. StartsWalk T.eq map.now walk };
+
+    /// A walk that gives every entry once, as `iter` does.
+    fn into_iter(self) -> ReversePurgeItemIter<'a, T> {
+        self.iter()
+    }
+}

@@ -1,10 +1,12 @@
 //! A walk over the table of counters.
-ghost use Rattle.std.specs.Prelude.{◌≡◌, ◌≤◌, [], length, IsPermutation};
-ghost use Rattle.std.specs.Iterator.{item_count};
+ghost use Rattle.std.specs.Prelude.{◌≡◌, ◌≤◌, [], length, IfSome, IsPermutation};
+ghost use Rattle.std.specs.Iterator.{at_most, item_count, UpTo};
+ghost use Rattle.std.specs.Iterator.SizeHint.{IsWithinCount};
 ghost use Rattle.sketch_frequencies.specs.Slots.{IsTableSize, entries_of};
 
 use crate::slot::Slot;
 use crate::slots;
+use std::iter::FusedIterator;
 use std::marker::Model;
 
 /// An iterator over the entries of a table: each once, in an order that is left open, and then `None` for good.
@@ -89,7 +91,20 @@ impl<'a, T> Iterator for ReversePurgeItemIter<'a, T> {
         None
     }
 
-    fn size_hint(&self) -> (usize, Option<usize>) {
+    /// How many entries are still to come, for both bounds.
+    fn size_hint(&self) -> (usize, Option<usize>)
+        ensures lower { IsWithinCount result.0 (at_most (length self.now.rest)) }
+        ensures upper { IfSome result.1 (UpTo (at_most (length self.now.rest))) }
+        ensures exact { (result.0 ≡ length self.now.rest) × (result.1 ≡ Some result.0) }
+    {
         (self.left, Some(self.left))
     }
 }
+
+impl<'a, T> ExactSizeIterator for ReversePurgeItemIter<'a, T> {
+    fn len(&self) -> usize {
+        self.left
+    }
+}
+
+impl<'a, T> FusedIterator for ReversePurgeItemIter<'a, T> {}

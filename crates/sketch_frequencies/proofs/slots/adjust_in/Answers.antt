@@ -1,4 +1,4 @@
-use Rattle.std.proofs.Common.{ap, sym, ◌∙◌, is_some, length, true}
+use Rattle.std.proofs.Common.{ap, sym, ◌∙◌, is_some}
 use Rattle.sketch_frequencies.proofs.Probes.{answers, fits_from_probe}
 use Rattle.sketch_frequencies.proofs.Writes.{wrote_hit}
 use Rattle.sketch_frequencies.proofs.slots.adjust_in.Goals as goal

@@ -1,4 +1,4 @@
-use Rattle.std.proofs.Common.{◌∙◌, ap, [], ◌∷◌, ◌++◌, take, arith, length, ◌<◌}
+use Rattle.std.proofs.Common.{◌∙◌, ap, [], ◌∷◌, take, arith, length, ◌<◌}
 use Rattle.std.proofs.lemmas.List.{append-nil, take_more_set}
 use Rattle.std.proofs.lemmas.List.Elements.{filter_map-append}
 use Rattle.sketch_frequencies.specs.Slots.{entries_of, slot_entry}

@@ -1,4 +1,4 @@
-use Rattle.std.proofs.Common.{ap, ◌∙◌}
+use Rattle.std.proofs.Common.{ap}
 use Rattle.sketch_frequencies.proofs.Homes.{home_masked}
 use Rattle.sketch_frequencies.proofs.slots.home.Goals as goal
 

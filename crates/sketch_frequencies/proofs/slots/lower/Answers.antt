@@ -1,4 +1,4 @@
-use Rattle.std.proofs.Common.{arith, ap, ◌∙◌, length}
+use Rattle.std.proofs.Common.{ap, ◌∙◌, length}
 use Rattle.sketch_frequencies.proofs.Lessening.{IsSlots-lessened, entries_lessened, length_lessened, purged_is}
 use Rattle.sketch_frequencies.specs.Slots.{entries_of}
 use Rattle.sketch_frequencies.proofs.slots.lower.Goals as goal

@@ -1,4 +1,4 @@
-use Rattle.std.proofs.Common.{ap, sym, ◌∙◌, is_some, length, arith}
+use Rattle.std.proofs.Common.{ap, ◌∙◌, is_some, length}
 use Rattle.sketch_frequencies.proofs.Homes.{some_size, home_of-below}
 use Rattle.sketch_frequencies.proofs.Probes.{answers, fits_from_probe, gap_from_probe, probe_below}
 use Rattle.sketch_frequencies.proofs.Writes.{wrote_hit, wrote_gap}

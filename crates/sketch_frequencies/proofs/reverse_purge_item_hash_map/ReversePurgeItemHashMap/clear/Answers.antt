@@ -1,4 +1,4 @@
-use Rattle.std.proofs.Common.{arith, ap, sym, ◌∙◌, ◌≡◌, ◌≤◌, ◌^◌, length}
+use Rattle.std.proofs.Common.{arith, ap, sym, ◌≡◌, ◌≤◌, ◌^◌, length}
 use Rattle.sketch_frequencies.proofs.Counted.{table_size_of}
 use Rattle.sketch_frequencies.proofs.Moves.{IsSlots-free}
 use Rattle.sketch_frequencies.proofs.Orders.{written_whole}

@@ -1,7 +1,6 @@
 use Rattle.std.proofs.Common.{ap, sym, ◌∙◌, subst, List}
 use Rattle.std.specs.List.{AllZip}
 use Rattle.sketch_frequencies.specs.Slots.{IsSameSlot}
-use Rattle.sketch_frequencies.specs.Tables.{IsSameMap}
 use Rattle.sketch_frequencies.specs.declared.slot.Slot.{Slot}
 use Rattle.sketch_frequencies.proofs.Clones.{IsSlots-clones, cloned_length, cloned_map, cloned_size}
 use Rattle.sketch_frequencies.proofs.reverse_purge_item_hash_map.ReversePurgeItemHashMap.try_clone.Goals as goal
