@@ -31,11 +31,14 @@ round acc lane = wrapping_mul (rotate_left w64 (wrapping_add acc (wrapping_mul l
 -- initialize the accumulators
 unfoldable pub initial_accumulators : ℕ → Accumulators
 initial_accumulators seed =
-    (wrapping_add seed (wrapping_add prime64_1 prime64_2), wrapping_add seed prime64_2, seed, wrapping_add seed (2 ^ 64 - prime64_1))
+    (wrapping_add seed (wrapping_add prime64_1 prime64_2), wrapping_add seed prime64_2,
+    seed, wrapping_add seed (2 ^ 64 - prime64_1))
 
 -- the accumulators after one stripe of 32 bytes
 unfoldable pub stripe : Accumulators → List ℕ → Accumulators
-stripe acc bytes = (round acc.0 (word_at bytes 0), round acc.1 (word_at bytes 8), round acc.2 (word_at bytes 16), round acc.3 (word_at bytes 24))
+stripe acc bytes =
+    (round acc.0 (word_at bytes 0), round acc.1 (word_at bytes 8),
+    round acc.2 (word_at bytes 16), round acc.3 (word_at bytes 24))
 
 -- process stripes: the accumulators after the first n of them
 unfoldable pub stripes : ℕ → Accumulators → List ℕ → Accumulators
@@ -56,7 +59,8 @@ unfoldable pub consume_word : ℕ → ℕ → ℕ
 consume_word h lane = wrapping_add (wrapping_mul (rotate_left w64 (bit_xor h (round 0 lane)) 27) prime64_1) prime64_4
 
 unfoldable pub consume_half_word : ℕ → ℕ → ℕ
-consume_half_word h lane = wrapping_add (wrapping_mul (rotate_left w64 (bit_xor h (wrapping_mul lane prime64_1)) 23) prime64_2) prime64_3
+consume_half_word h lane =
+    wrapping_add (wrapping_mul (rotate_left w64 (bit_xor h (wrapping_mul lane prime64_1)) 23) prime64_2) prime64_3
 
 unfoldable pub consume_byte : ℕ → ℕ → ℕ
 consume_byte h lane = wrapping_mul (rotate_left w64 (bit_xor h (wrapping_mul lane prime64_5)) 11) prime64_1
@@ -81,7 +85,8 @@ avalanche h =
 
 -- the answer, from the converged number with the length added, and fewer than 32 bytes
 unfoldable pub finalization : ℕ → List ℕ → ℕ
-finalization h rest = avalanche (consume_bytes (consume_words (length rest / 8) h rest) (drop (8 * (length rest / 8)) rest))
+finalization h rest =
+    avalanche (consume_bytes (consume_words (length rest / 8) h rest) (drop (8 * (length rest / 8)) rest))
 
 -- the hash of a whole list under a seed
 unfoldable pub xxh64 : List ℕ → ℕ → ℕ

@@ -21,11 +21,19 @@ unfoldable pub write : Xxh64State → List ℕ → Xxh64State
 write s piece =
     let whole = s.tail ++ piece in
     let n = length whole / 32 in
-    record { seed = s.seed; accumulators = stripes n s.accumulators whole; is_long = s.is_long || nat_lt 0 n; tail = drop (32 * n) whole; total = (s.total + length piece) % 2 ^ 64 }
+    record {
+      seed = s.seed;
+      accumulators = stripes n s.accumulators whole;
+      is_long = s.is_long || nat_lt 0 n;
+      tail = drop (32 * n) whole;
+      total = (s.total + length piece) % 2 ^ 64;
+    }
 
 -- the hash
 unfoldable pub finish : Xxh64State → ℕ
-finish s = finalization (wrapping_add (if s.is_long then convergence s.accumulators else wrapping_add s.seed prime64_5) s.total) s.tail
+finish s =
+    finalization
+    (wrapping_add (if s.is_long then convergence s.accumulators else wrapping_add s.seed prime64_5) s.total) s.tail
 
 -- a hasher of this seed was fed these bytes and no others, in whatever pieces
 pub record HasFed (seed : ℕ) (bytes : List ℕ) (s : Xxh64State) : Type 0 where

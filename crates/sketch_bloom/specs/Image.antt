@@ -39,6 +39,10 @@ uncounted = 0xFFFF_FFFF_FFFF_FFFF
 abbrev pub set_at : List ℕ → Numbers
 set_at image = set_of (words_in (num_words_at image) (drop 32 image))
 
+-- whether the number of set bits was not counted, or is right
+abbrev pub has_right_count : List ℕ → Bool
+has_right_count image = (bit_count_at image == uncounted) || (bit_count_at image == set.len (set_at image))
+
 -- ---- the checks: what has to hold, and the fault where it does not
 
 -- those that come before any memory is asked for
@@ -57,7 +61,7 @@ early_checks image =
 
 abbrev pub late_checks : List ℕ → List (Bool × Fault)
 late_checks image =
-    (says_empty image || ((bit_count_at image == uncounted) || (bit_count_at image == set.len (set_at image))), BadBitCount)
+    (says_empty image || has_right_count image, BadBitCount)
     ∷ []
 
 abbrev pub early_fault : List ℕ → Option Fault

@@ -308,13 +308,13 @@ impl BloomFilter {
     /// The filter of an image.
     ///
     /// The bytes behind the image are ignored, and so are the unused ones within it. It takes as much memory as the
-    /// image has words; an image that says that the filter is empty has none of them, and may say that there are 2^31 - 1,
-    /// which are 16 GiB: see [`deserialize_with_limit`](Self::deserialize_with_limit).
+    /// image has words. An image that says that the filter is empty has none of them, and may say that there are
+    /// 2^31 - 1, which are 16 GiB: see [`deserialize_with_limit`](Self::deserialize_with_limit).
     ///
     /// # Errors
     ///
-    /// The fault of the first check that fails, of the kind `InvalidData`: in this order `InsufficientData`, `BadFamily`,
-    /// `BadVersion`, `BadPreamble`, `InsufficientData`, `BadNumHashes`, `InsufficientData`, `BadNumWords`,
+    /// The fault of the first check that fails, of the kind `InvalidData`: in this order `InsufficientData`,
+    /// `BadFamily`, `BadVersion`, `BadPreamble`, `InsufficientData`, `BadNumHashes`, `InsufficientData`, `BadNumWords`,
     /// `InsufficientData` and `BadBitCount`. `NoMemory` where there is no memory for the words, which are asked for
     /// before the set bits are counted.
     pub fn deserialize(alloc: Global, image: &[u8]) -> Result<Self, Error>
@@ -330,8 +330,8 @@ impl BloomFilter {
     ///
     /// # Errors
     ///
-    /// Those of `deserialize`, and `TableTooLarge` of the kind `InvalidData` where the words would take more: behind the
-    /// checks that come before memory, and then no memory is asked for.
+    /// Those of `deserialize`, and `TableTooLarge` of the kind `InvalidData` where the words would take more: behind
+    /// the checks that come before memory, and then no memory is asked for.
     pub fn deserialize_with_limit(
         alloc: Global,
         image: &[u8],

@@ -1,4 +1,5 @@
--- Where a table looks for an item: at its home, and from there on, round the end. Of the table this needs the entries and the size alone.
+-- Where a table looks for an item: at its home, and from there on, round the end. Of the table this needs the entries
+-- and the size alone.
 use Rattle.std.specs.Prelude.{ℕ, ◌+◌, ◌-◌, ◌%◌, ◌<◌, ◌≤◌, nat_le, List, count_by}
 use Rattle.sketch_base.specs.Hashes.{fed_bytes}
 use Rattle.sketch_base.specs.Murmur3.{murmur3_x64_128}

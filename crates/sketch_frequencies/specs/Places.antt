@@ -1,4 +1,5 @@
--- The order in which a walk looks at the places of a table, and what it finds there. No public clause cites this module.
+-- The order in which a walk looks at the places of a table, and what it finds there. No public clause cites this
+-- module.
 use Rattle.std.specs.Prelude.{◌≡◌, ℕ, ◌-◌, ◌*◌, ◌%◌, ◌^◌, ◌<◌, ◌≤◌, List, map, Option, filter_map, slice_index_or}
 use Rattle.std.specs.List.{range_with_len}
 use Rattle.sketch_frequencies.specs.Slots.{IsTableSize, slot_entry}

@@ -18,4 +18,6 @@ pub record Came {T : Type 0} (old : List (Slot T)) (place k : ℕ) (t : Held T) 
 
 -- what stands at a place now stood there before, and not at the one that was freed, or it came from behind it
 abbrev pub Origins : {T : Type 0} → List (Slot T) → ℕ → List (Slot T) → Type 0
-Origins {T} old place slots = (k : ℕ) (t : Held T) → slot_at slots k ≡ Some t → ((k ≡ place → ⊥) × (slot_at old k ≡ Some t)) ⊎ Came old place k t
+Origins {T} old place slots =
+    (k : ℕ) (t : Held T) → slot_at slots k ≡ Some t →
+    ((k ≡ place → ⊥) × (slot_at old k ≡ Some t)) ⊎ Came old place k t

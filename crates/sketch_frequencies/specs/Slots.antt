@@ -51,7 +51,9 @@ table_of slots = record { entries = entries_of slots; size = length slots }
 -- each entry is as far from its home as its drift says, less 1, and every place from its home on is taken
 pub record IsPlaced {T : Type 0} (home : T → ℕ) (slots : List (Slot T)) : Type 0 where
   pub drift : (k : ℕ) (s : Held T) → slot_at slots k ≡ Some s → s.drift ≡ distance (length slots) (home s.item) k + 1
-  pub run : (k : ℕ) (s : Held T) → slot_at slots k ≡ Some s → (j : ℕ) → j ≤ distance (length slots) (home s.item) k → is_taken slots (ahead (length slots) (home s.item) j) ≡ true
+  pub run :
+      (k : ℕ) (s : Held T) → slot_at slots k ≡ Some s → (j : ℕ) → j ≤ distance (length slots) (home s.item) k →
+      is_taken slots (ahead (length slots) (home s.item) j) ≡ true
 
 -- what holds of the slots of every table
 pub record IsSlots {T : Type 0} (eq : T → T → Bool) (input : T → List (List ℕ)) (slots : List (Slot T)) : Type 0 where
@@ -61,7 +63,8 @@ pub record IsSlots {T : Type 0} (eq : T → T → Bool) (input : T → List (Lis
   pub size : IsTableSize (length slots)
 
 -- and of the number of entries that is kept beside them
-pub record IsCounted {T : Type 0} (eq : T → T → Bool) (input : T → List (List ℕ)) (slots : List (Slot T)) (active : ℕ) : Type 0 where
+pub record IsCounted {T : Type 0} (eq : T → T → Bool) (input : T → List (List ℕ)) (slots : List (Slot T)) (active : ℕ)
+    : Type 0 where
   pub slots_ok : IsSlots eq input slots
   pub active_is : active ≡ length (entries_of slots)
 
@@ -71,7 +74,8 @@ Fits {T} slots k w = (s : Held T) → slot_at slots k ≡ Some s → s.count + w
 
 -- new is old with w more in the slot at k
 abbrev pub AddsAt : {T : Type 0} → List (Slot T) → ℕ → ℕ → List (Slot T) → Type 0
-AddsAt {T} old k w new = (s : Held T) → slot_at old k ≡ Some s → new ≡ slice_set old k (Taken s.drift (s.count + w) s.item)
+AddsAt {T} old k w new =
+    (s : Held T) → slot_at old k ≡ Some s → new ≡ slice_set old k (Taken s.drift (s.count + w) s.item)
 
 -- the drift of what stands in a slot, 0 where it is free
 abbrev pub drift_of : {T : Type 0} → Option (Held T) → ℕ
@@ -84,7 +88,9 @@ DriftsBy {T} slots k by = (s : Held T) → slot_at slots k ≡ Some s → by ≤
 
 -- new is old with the slot at `from` moved to `to`, and its drift less
 abbrev pub ShiftsBack : {T : Type 0} → List (Slot T) → ℕ → ℕ → ℕ → List (Slot T) → Type 0
-ShiftsBack {T} old from to by new = (s : Held T) → slot_at old from ≡ Some s → new ≡ slice_set (slice_set old from Free) to (taken (with_drift s (s.drift - by)))
+ShiftsBack {T} old from to by new =
+    (s : Held T) → slot_at old from ≡ Some s →
+    new ≡ slice_set (slice_set old from Free) to (taken (with_drift s (s.drift - by)))
 
 -- whether the slot holds a count of 0
 abbrev pub is_spent : {T : Type 0} → Option (Held T) → Bool

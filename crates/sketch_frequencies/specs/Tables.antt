@@ -22,7 +22,8 @@ put eq [] x w = (x, w) ∷ []
 put eq (e ∷ es) x w = cond (eq x e.0) ((e.0, e.1 + w) ∷ es) (e ∷ put eq es x w)
 
 -- w was added at an item equal to x
-pub record PutsEqual {T : Type 0} (eq : T → T → Bool) (old : List (T × ℕ)) (x : T) (w : ℕ) (new : List (T × ℕ)) : Type 0 where
+pub record PutsEqual {T : Type 0} (eq : T → T → Bool) (old : List (T × ℕ)) (x : T) (w : ℕ) (new : List (T × ℕ))
+    : Type 0 where
   pub item : T
   pub equal : eq x item ≡ true
   pub entries : IsPermutation (put eq old item w) new
@@ -41,7 +42,8 @@ pub record IsSameMap {T : Type 0} (eq : T → T → Bool) (es fs : List (T × �
 abbrev pub purged : {T : Type 0} → ℕ → List (T × ℕ) → List (T × ℕ)
 purged m es = map (λ e. (e.0, e.1 - m)) (filter (λ e. nat_lt m e.1) es)
 
--- m stands in the middle of the counts of some n entries: it is one of them, at most half of them are below it, and more than half are no greater
+-- m stands in the middle of the counts of some n entries: it is one of them, at most half of them are below it, and
+-- more than half are no greater
 pub record IsSampleMiddle {T : Type 0} (n : ℕ) (es : List (T × ℕ)) (m : ℕ) : Type 0 where
   pub sample : List (T × ℕ)
   pub rest : List (T × ℕ)

@@ -6,7 +6,8 @@ use Rattle.std.specs.List.{IsDistinct}
 use Rattle.std.specs.Map.{keys_of}
 use Rattle.sketch_frequencies.specs.Tables.{Table}
 
--- the entries given so far and those that are still to come, each in the walk's order, the slots looked at so far, and the size of the table
+-- the entries given so far and those that are still to come, each in the walk's order, the slots looked at so far,
+-- and the size of the table
 pub record Walk (T : Type 0) : Type 0 where
   pub given : List (T × ℕ)
   pub rest : List (T × ℕ)

@@ -8,7 +8,12 @@ abbrev pub walk_of : {T : Type 0} → Inside T → Walk T
 walk_of it =
     let at = entry_at it.slots.now in
     let size = length it.slots.now in
-    record { given = given_before at size it.stride it.looked; rest = rest_from at size it.stride it.looked; looked = it.looked; size = size }
+    record {
+      given = given_before at size it.stride it.looked;
+      rest = rest_from at size it.stride it.looked;
+      looked = it.looked;
+      size = size;
+    }
 
 -- the place is that of the next step, and the entries that are left are counted
 abbrev pub IsWalking : {T : Type 0} → Inside T → Type 0
