@@ -1,7 +1,6 @@
 -- The words of a line that are looked at, and the commands that they make.
-use Rattle.std.proofs.Common.{◌≡◌, ◌≢◌, ℕ, ◌+◌, ◌≤◌, false, eqb, List, [], ◌∷◌, length, take, Option, None, Some, sym, ◌∙◌, ap, subst, arith}
+use Rattle.std.proofs.Common.{◌≡◌, ℕ, ◌≤◌, false, eqb, List, [], ◌∷◌, length, take, Option, None, sym, ◌∙◌, ap, subst, arith}
 use Rattle.std.specs.Borrow.{Bor}
-use Rattle.std.proofs.lemmas.Bool.{eqb-false}
 use Rattle.std.proofs.lemmas.List.{take_all}
 use Rattle.datasketches_cli.specs.declared.command.Command.{Command}
 use Rattle.datasketches_cli.specs.declared.command.Command.TheVariants as command

@@ -20,7 +20,6 @@ use Rattle.datasketches_cli.specs.declared.sketch.Join.{Join}
 use Rattle.datasketches_cli.specs.declared.sketch.Join.TheVariants as join
 use Rattle.datasketches_cli.specs.declared.sketch.Shape.{Shape}
 use Rattle.datasketches_cli.specs.declared.sketch.Shape.TheVariants as shape
-use Rattle.datasketches_cli.specs.Texts.{Text}
 
 -- the words: what stands between the spaces
 abbrev pub words_of : List ℕ → List (List ℕ)

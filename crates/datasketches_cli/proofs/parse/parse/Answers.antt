@@ -1,5 +1,4 @@
-use Rattle.std.proofs.Common.{◌≡◌, ◌∙◌, length, ap, sym, arith}
-use Rattle.datasketches_cli.specs.Said.{texts_of}
+use Rattle.std.proofs.Common.{◌≡◌, ◌∙◌, length, sym, arith}
 use Rattle.datasketches_cli.proofs.Verbs.{says_nothing}
 use Rattle.datasketches_cli.proofs.parse.parse.Goals as goal
 
