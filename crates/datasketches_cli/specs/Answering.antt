@@ -25,11 +25,13 @@ use Rattle.datasketches_cli.specs.Texts.{Text, text_bytes}
 -- an item's estimate and bounds in a sketch of frequent items
 abbrev pub bounds : Text → FrequentState Text → Reply
 bounds item s =
-    Bounds (pos (estimate_of string_eq s item)) (pos (count_of string_eq s.counters item)) (pos (count_of string_eq s.counters item + s.error))
+    Bounds (pos (estimate_of string_eq s item)) (pos (count_of string_eq s.counters item))
+    (pos (count_of string_eq s.counters item + s.error))
 
 -- the least of the item's cells in a Count-Min sketch over numbers up to the greatest, twice, and the upper bound
 abbrev pub TellsCount : ℕ → List ℕ → CountState → Reply → Type 0
-TellsCount greatest bytes s reply = (least : ℤ) × IsLeastCell s bytes least × (reply ≡ Bounds least least (upper_bound_of greatest s least))
+TellsCount greatest bytes s reply =
+    (least : ℤ) × IsLeastCell s bytes least × (reply ≡ Bounds least least (upper_bound_of greatest s least))
 
 -- what is said of an item
 abbrev pub Tells : Text → Sketch → Reply → Type 0
@@ -43,11 +45,13 @@ abbrev pub status_of : Sketch → Status
 status_of (Frequent s) = status.Frequent (length s.counters) s.error s.total s.size s.max_size (capacity s.size)
 status_of (CountI64 s) = status.CountI64 (pos s.total) s.hashes s.buckets s.seed
 status_of (CountU64 s) = status.CountU64 s.total s.hashes s.buckets s.seed
-status_of (Bloom s) = status.Bloom (record { bits = set.len s.set; capacity = capacity_of s; hashes = s.num_hashes; seed = s.seed })
+status_of (Bloom s) =
+    status.Bloom (record { bits = set.len s.set; capacity = capacity_of s; hashes = s.num_hashes; seed = s.seed })
 
 -- the items that pass, each once and descending by estimate, or memory was refused
 abbrev pub Lists : ErrorType → ℕ → Sketch → Reply → Type 0
 Lists error_type threshold (Frequent s) reply =
-    ((rows : Vec (RowValue Text) Global) × (reply ≡ Rows rows) × ShowsExactly string_eq error_type threshold s rows.items × Descends rows.items)
+    ((rows : Vec (RowValue Text) Global) × (reply ≡ Rows rows)
+    × ShowsExactly string_eq error_type threshold s rows.items × Descends rows.items)
     ⊎ (reply ≡ refused no_memory)
 Lists error_type threshold s reply = reply ≡ Refused WrongKind

@@ -18,25 +18,30 @@ use Rattle.datasketches_cli.specs.Replies.{refused, IsWrongKind, Becomes, greate
 use Rattle.datasketches_cli.specs.Texts.{Text, text_bytes}
 
 -- an item was added to a sketch of frequent items, or refused
-pub record AddsFrequent (item : Text) (weight : ℕ) (old : FrequentState Text) (reply : Reply) (new : FrequentState Text) : Type 0 where
+pub record AddsFrequent (item : Text) (weight : ℕ) (old : FrequentState Text) (reply : Reply)
+    (new : FrequentState Text) : Type 0 where
   pub nothing : weight ≡ 0 → (reply ≡ Done) × (new ≡ old)
   pub overflow : 2 ^ 64 ≤ old.total + weight → (reply ≡ refused (invalid_argument WeightOverflow)) × (new ≡ old)
   pub added : 0 < weight → old.total + weight < 2 ^ 64 → ((reply ≡ Done) × Steps string_eq old item weight new)
       ⊎ ((reply ≡ refused no_memory) × IsTrue (must_double string_eq old item) × (new ≡ old))
 
 -- a weight was counted in a Count-Min sketch over numbers up to the greatest, or refused
-pub record AddsCount (greatest : ℕ) (bytes : List ℕ) (weight : ℤ) (old : CountState) (reply : Reply) (new : CountState) : Type 0 where
+pub record AddsCount (greatest : ℕ) (bytes : List ℕ) (weight : ℤ) (old : CountState) (reply : Reply)
+    (new : CountState) : Type 0 where
   pub nothing : weight ≡ pos 0 → (reply ≡ Done) × (new ≡ old)
-  pub overflow : greatest < old.total + unsigned_abs weight → (reply ≡ refused (invalid_argument WeightOverflow)) × (new ≡ old)
+  pub overflow : greatest < old.total + unsigned_abs weight
+      → (reply ≡ refused (invalid_argument WeightOverflow)) × (new ≡ old)
   pub counted : old.total + unsigned_abs weight ≤ greatest → (reply ≡ Done) × Counts old bytes weight new
 
 abbrev pub Adds : Text → ℕ → Sketch → Reply → Sketch → Type 0
 Adds item weight (Frequent s) reply new = Becomes Frequent (AddsFrequent item weight s) reply new
-Adds item weight (CountU64 s) reply new = Becomes CountU64 (AddsCount greatest_unsigned (text_bytes item) (pos weight) s) reply new
+Adds item weight (CountU64 s) reply new =
+    Becomes CountU64 (AddsCount greatest_unsigned (text_bytes item) (pos weight) s) reply new
 Adds item weight old reply new = IsWrongKind old reply new
 
 abbrev pub AddsSigned : Text → ℤ → Sketch → Reply → Sketch → Type 0
-AddsSigned item weight (CountI64 s) reply new = Becomes CountI64 (AddsCount greatest_signed (text_bytes item) weight s) reply new
+AddsSigned item weight (CountI64 s) reply new =
+    Becomes CountI64 (AddsCount greatest_signed (text_bytes item) weight s) reply new
 AddsSigned item weight old reply new = IsWrongKind old reply new
 
 abbrev pub Inserts : Text → Sketch → Reply → Sketch → Type 0
@@ -57,7 +62,8 @@ Halves old reply new = IsWrongKind old reply new
 pub record DecaysCount (numerator denominator : ℕ) (old : CountState) (reply : Reply) (new : CountState) : Type 0 where
   pub zero : numerator ≡ 0 → (reply ≡ Refused BadFraction) × (new ≡ old)
   pub above : denominator < numerator → (reply ≡ Refused BadFraction) × (new ≡ old)
-  pub scaled : 0 < numerator → numerator ≤ denominator → (reply ≡ Done) × (new ≡ decayed_state numerator denominator old)
+  pub scaled : 0 < numerator → numerator ≤ denominator
+      → (reply ≡ Done) × (new ≡ decayed_state numerator denominator old)
 
 abbrev pub Decays : ℕ → ℕ → Sketch → Reply → Sketch → Type 0
 Decays numerator denominator (CountU64 s) reply new = Becomes CountU64 (DecaysCount numerator denominator s) reply new

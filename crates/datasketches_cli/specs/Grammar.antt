@@ -128,7 +128,8 @@ MakeRest _ _ _ = ⊥
 -- the words make the command
 abbrev pub Make : List (List ℕ) → Command → Type 0
 Make words command =
-    (verb : Verb) × (rest : List (List ℕ)) × (words ≡ verb_word verb ∷ name_of command ∷ rest) × MakeRest verb rest command
+    (verb : Verb) × (rest : List (List ℕ)) × (words ≡ verb_word verb ∷ name_of command ∷ rest)
+    × MakeRest verb rest command
 
 -- the words make this command, or none where there is none
 abbrev pub IsMade : List (List ℕ) → Option Command → Type 0

@@ -21,16 +21,19 @@ use Rattle.datasketches_cli.specs.Texts.{Text}
 pub record JoinsFrequent (other old : FrequentState Text) (reply : Reply) (new : FrequentState Text) : Type 0 where
   pub nothing : other.total ≡ 0 → (reply ≡ Done) × (new ≡ old)
   pub overflow : 2 ^ 64 ≤ old.total + other.total → (reply ≡ refused (invalid_argument WeightOverflow)) × (new ≡ old)
-  pub joined : old.total + other.total < 2 ^ 64 → ((reply ≡ Done) × JoinsEqual string_eq old other new) ⊎ ((reply ≡ refused no_memory) × (new ≡ old))
+  pub joined : old.total + other.total < 2 ^ 64
+      → ((reply ≡ Done) × JoinsEqual string_eq old other new) ⊎ ((reply ≡ refused no_memory) × (new ≡ old))
 
 -- another Count-Min sketch over numbers up to the greatest was merged in, or refused
 pub record JoinsCount (greatest : ℕ) (other old : CountState) (reply : Reply) (new : CountState) : Type 0 where
   pub mismatch : ¬ SameShape old other → (reply ≡ refused (invalid_argument Mismatch)) × (new ≡ old)
-  pub overflow : SameShape old other → greatest < old.total + other.total → (reply ≡ refused (invalid_argument WeightOverflow)) × (new ≡ old)
+  pub overflow : SameShape old other → greatest < old.total + other.total
+      → (reply ≡ refused (invalid_argument WeightOverflow)) × (new ≡ old)
   pub joined : SameShape old other → old.total + other.total ≤ greatest → (reply ≡ Done) × count.Joins old other new
 
 -- another filter was joined so, or refused
-pub record JoinsFilter (joined_filter : FilterState → FilterState → FilterState) (other old : FilterState) (reply : Reply) (new : FilterState) : Type 0 where
+pub record JoinsFilter (joined_filter : FilterState → FilterState → FilterState) (other old : FilterState)
+    (reply : Reply) (new : FilterState) : Type 0 where
   pub mismatch : ¬ IsCompatible old other → (reply ≡ refused (invalid_argument Mismatch)) × (new ≡ old)
   pub joined : IsCompatible old other → (reply ≡ Done) × (new ≡ joined_filter old other)
 

@@ -27,12 +27,14 @@ with_first name (Some sketch) rest = (name, sketch) ∷ rest
 -- the sketches with the names that have their places
 abbrev pub listed : List (Text × ℕ) → List Sketch → Sketches
 listed [] sketches = []
-listed (entry ∷ entries) sketches = with_first (string_bytes entry.0) (slice_get sketches entry.1) (listed entries sketches)
+listed (entry ∷ entries) sketches =
+    with_first (string_bytes entry.0) (slice_get sketches entry.1) (listed entries sketches)
 
 -- the places of so many sketches: each has at most one name
 pub record ArePlaces (entries : List (Text × ℕ)) (count : ℕ) : Type 0 where
   pub below : (name : List ℕ) → IfSome (place_of name entries) (λ place. place < count)
-  pub apart : (name other : List ℕ) (place : ℕ) → place_of name entries ≡ Some place → place_of other entries ≡ Some place → name ≡ other
+  pub apart : (name other : List ℕ) (place : ℕ)
+      → place_of name entries ≡ Some place → place_of other entries ≡ Some place → name ≡ other
 
 -- the sketch at one place was joined to that at another
 pub record JoinsAt (join : Join) (old : List Sketch) (into other : ℕ) (reply : Reply) (new : List Sketch) : Type 0 where

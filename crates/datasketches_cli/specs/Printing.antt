@@ -26,7 +26,8 @@ refusal_name (refusal.Call error) = fault_name error.fault
 -- a filter's kind and its numbers
 abbrev pub filter_text : FilterStatus → List ℕ
 filter_text filter =
-    codes "bloom bits " ++ decimal filter.bits ++ codes " capacity " ++ decimal filter.capacity ++ codes " hashes " ++ decimal filter.hashes ++ codes " seed " ++ decimal filter.seed
+    codes "bloom bits " ++ decimal filter.bits ++ codes " capacity " ++ decimal filter.capacity
+    ++ codes " hashes " ++ decimal filter.hashes ++ codes " seed " ++ decimal filter.seed
 
 -- a sketch's kind and its numbers
 abbrev pub status_text : Status → List ℕ
@@ -34,21 +35,25 @@ status_text (status.Frequent active error total size max capacity) =
     codes "frequent active " ++ decimal active ++ codes " error " ++ decimal error ++ codes " total " ++ decimal total
     ++ codes " size " ++ decimal size ++ codes " max " ++ decimal max ++ codes " capacity " ++ decimal capacity
 status_text (status.CountI64 total hashes buckets seed) =
-    codes "counti total " ++ signed_decimal total ++ codes " hashes " ++ decimal hashes ++ codes " buckets " ++ decimal buckets ++ codes " seed " ++ decimal seed
+    codes "counti total " ++ signed_decimal total ++ codes " hashes " ++ decimal hashes
+    ++ codes " buckets " ++ decimal buckets ++ codes " seed " ++ decimal seed
 status_text (status.CountU64 total hashes buckets seed) =
-    codes "countu total " ++ decimal total ++ codes " hashes " ++ decimal hashes ++ codes " buckets " ++ decimal buckets ++ codes " seed " ++ decimal seed
+    codes "countu total " ++ decimal total ++ codes " hashes " ++ decimal hashes
+    ++ codes " buckets " ++ decimal buckets ++ codes " seed " ++ decimal seed
 status_text (status.Bloom filter) = filter_text filter
 
 -- an item and its numbers
 abbrev pub row_text : RowValue Text → List ℕ
 row_text row =
-    codes " " ++ string_bytes row.item ++ codes " " ++ decimal row.estimate ++ codes " " ++ decimal row.lower_bound ++ codes " " ++ decimal row.upper_bound
+    codes " " ++ string_bytes row.item ++ codes " " ++ decimal row.estimate
+    ++ codes " " ++ decimal row.lower_bound ++ codes " " ++ decimal row.upper_bound
 
 -- a reply's line, without its end
 abbrev pub reply_text : Reply → List ℕ
 reply_text reply.Done = codes "ok"
 reply_text (reply.Bounds estimate lower upper) =
-    codes "estimate " ++ signed_decimal estimate ++ codes " lower " ++ signed_decimal lower ++ codes " upper " ++ signed_decimal upper
+    codes "estimate " ++ signed_decimal estimate ++ codes " lower " ++ signed_decimal lower
+    ++ codes " upper " ++ signed_decimal upper
 reply_text (reply.Contains true) = codes "yes"
 reply_text (reply.Contains false) = codes "no"
 reply_text (reply.Status status) = status_text status

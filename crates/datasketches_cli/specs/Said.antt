@@ -22,7 +22,9 @@ IsVerbOf word found = MatchOption found ((verb : Verb) → word ≢ verb_word ve
 
 -- the kind of report of the word, or none where the word is none's
 abbrev pub IsReportOf : List ℕ → Option ErrorType → Type 0
-IsReportOf word found = MatchOption found ((error_type : ErrorType) → word ≢ report_word error_type) (λ error_type. word ≡ report_word error_type)
+IsReportOf word found =
+    MatchOption found ((error_type : ErrorType) → word ≢ report_word error_type)
+    (λ error_type. word ≡ report_word error_type)
 
 -- the shape that the words make, or none where there is none
 abbrev pub IsShapeOf : Kind → List (List ℕ) → Option Shape → Type 0
@@ -36,7 +38,8 @@ AreCountsOf words found =
 
 -- the change, likewise
 abbrev pub IsChangeOf : Edit → List (List ℕ) → Option Change → Type 0
-IsChangeOf edit words found = MatchOption found ((change : Change) → ¬ MakeChange edit words change) (MakeChange edit words)
+IsChangeOf edit words found =
+    MatchOption found ((change : Change) → ¬ MakeChange edit words change) (MakeChange edit words)
 
 -- the command of a verb and a name, likewise
 abbrev pub IsCommandOf : Verb → List ℕ → List (List ℕ) → Option Command → Type 0

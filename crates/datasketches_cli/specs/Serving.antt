@@ -13,4 +13,5 @@ WritesFront held holds gathered left = (front : List ℕ) × Appends held holds 
 
 -- the command was done, and its reply stands behind what was gathered
 abbrev pub HasAnswered : Sketches → Command → Sketches → List ℕ → List ℕ → Type 0
-HasAnswered old command new gathered more = (reply : Reply) × Step old command reply new × (more ≡ gathered ++ reply_line reply)
+HasAnswered old command new gathered more =
+    (reply : Reply) × Step old command reply new × (more ≡ gathered ++ reply_line reply)

@@ -13,7 +13,8 @@ at_name name sketches = lookup (bytes_eq name) sketches
 
 -- the name has this sketch now, and the other names have theirs
 abbrev pub Puts : List ℕ → Sketch → Sketches → Sketches → Type 0
-Puts name sketch old new = (other : List ℕ) → at_name other new ≡ (if bytes_eq name other then Some sketch else at_name other old)
+Puts name sketch old new =
+    (other : List ℕ) → at_name other new ≡ (if bytes_eq name other then Some sketch else at_name other old)
 
 -- each name has the sketch that it had
 abbrev pub AreSame : Sketches → Sketches → Type 0

@@ -39,7 +39,8 @@ OnSketch Does name old reply new =
     (λ sketch. (after : Sketch) × Does sketch reply after × Puts name after old new)
 
 -- one sketch is joined to another; no name is joined to itself
-pub record JoinsApart (join : Join) (into other : List ℕ) (sketch from : Sketch) (old : Sketches) (reply : Reply) (new : Sketches) : Type 0 where
+pub record JoinsApart (join : Join) (into other : List ℕ) (sketch from : Sketch) (old : Sketches) (reply : Reply)
+    (new : Sketches) : Type 0 where
   pub itself : into ≡ other → (reply ≡ Refused SameName) × AreSame old new
   pub two : into ≢ other → (after : Sketch) × Joins join from sketch reply after × Puts into after old new
 
@@ -61,7 +62,10 @@ Answers Says name old reply new =
 abbrev pub Step : Sketches → Command → Reply → Sketches → Type 0
 Step old (command.Create name shape) reply new = Creates (string_bytes name) shape old reply new
 Step old (command.Change name change) reply new = OnSketch (Changes change) (string_bytes name) old reply new
-Step old (command.Join into other join) reply new = JoinsNamed join (string_bytes into) (string_bytes other) old reply new
+Step old (command.Join into other join) reply new =
+    JoinsNamed join (string_bytes into) (string_bytes other) old reply new
 Step old (command.Ask name item) reply new = Answers (Tells item) (string_bytes name) old reply new
-Step old (command.GetStatus name) reply new = Answers (λ sketch r. r ≡ Status (status_of sketch)) (string_bytes name) old reply new
-Step old (command.ListRows name error_type threshold) reply new = Answers (Lists error_type threshold) (string_bytes name) old reply new
+Step old (command.GetStatus name) reply new =
+    Answers (λ sketch r. r ≡ Status (status_of sketch)) (string_bytes name) old reply new
+Step old (command.ListRows name error_type threshold) reply new =
+    Answers (Lists error_type threshold) (string_bytes name) old reply new

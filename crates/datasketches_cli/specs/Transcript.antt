@@ -38,9 +38,11 @@ Transcript number sketches [] ended text = (ended ≡ All) × (text ≡ [])
 Transcript number sketches (line ∷ lines) ended text =
     (IsBlank line × Transcript (number + 1) sketches lines ended text)
     ⊎ ((command : Command) × (reply : Reply) × (after : Sketches) × (rest : List ℕ)
-    × Says line command × Step sketches command reply after × (text ≡ reply_line reply ++ rest) × Transcript (number + 1) after lines ended rest)
+    × Says line command × Step sketches command reply after × (text ≡ reply_line reply ++ rest)
+    × Transcript (number + 1) after lines ended rest)
     ⊎ (IsBad line × (ended ≡ BadLine number) × (text ≡ bad_line number))
 
 -- where the input's bytes are known, the writer got what is written for its lines, by no sketch at first
 abbrev pub Serves : Option (List ℕ) → Option (List ℕ) → Option (List ℕ) → Ended → Type 0
-Serves input held holds ended = IfSome input (λ bytes. (text : List ℕ) × Appends held holds text × Transcript 1 [] (lines_of bytes) ended text)
+Serves input held holds ended =
+    IfSome input (λ bytes. (text : List ℕ) × Appends held holds text × Transcript 1 [] (lines_of bytes) ended text)
