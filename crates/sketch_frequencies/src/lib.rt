@@ -17,8 +17,6 @@ mod row;
 mod slot;
 mod slots;
 #[cfg(test)]
-mod table_tests;
-#[cfg(test)]
 mod tests;
 
 pub use error_type::ErrorType;

@@ -2,7 +2,7 @@
 use crate::error_type::ErrorType;
 use crate::frequent_items_sketch::FrequentItemsSketch;
 use crate::reverse_purge_item_hash_map::ReversePurgeItemHashMap;
-use sketch_base::{Error, Fault};
+use sketch_base::{Error, Fault, murmur3_of};
 use std::alloc::Global;
 use std::hash::{Hash, Hasher};
 use std::process::Abort;
@@ -223,11 +223,11 @@ fn keeps_thousands_of_items(rt: HostRuntime) -> Result<(), Fail> {
     Ok(())
 }
 
-/// An item that feeds a hasher nothing.
+/// An item that feeds a hasher nothing, so that all have one home.
 #[derive(Clone, Copy, Debug, PartialEq, Eq)]
-struct Silent(u8);
+struct Mute(u64);
 
-impl Hash for Silent {
+impl Hash for Mute {
     ghost use Rattle.std.specs.Prelude.{[], refl};
 
     ghost hash_input = { λ _. [] };
@@ -237,68 +237,153 @@ impl Hash for Silent {
     fn hash<H: Hasher>(&self, _state: &mut H) {}
 }
 
-/// Adds the amount in the table, where there is room for it.
-fn add(rt: &impl Abort, map: &mut ReversePurgeItemHashMap<i64>, item: i64, amount: u64) {
-    let slots = map.len();
-    assert!(rt; map.num_active() + 1 < slots);
-    assert!(rt; map.get(&item) < 1000 && amount < 1000);
-    map.adjust_or_put_value(item, amount);
+/// An empty table of so many slots.
+fn table<T: Eq + Hash + Drop>(
+    rt: &impl Abort,
+    alloc: Global,
+    size: usize,
+) -> Result<ReversePurgeItemHashMap<T>, Error> {
+    assert!(rt; size.is_power_of_two() && size <= 8);
+    ReversePurgeItemHashMap::new(alloc, size)
 }
 
-// Five items that all feed nothing: the middle count m is one of theirs, and what is left are the counts above m, less m.
-#[test]
-fn a_table_of_items_that_feed_nothing(rt: HostRuntime) -> Result<(), Fail> {
-    let mut map: ReversePurgeItemHashMap<Silent> = ReversePurgeItemHashMap::new(rt.alloc(), 8)?;
-    let counts = [3, 0, 2, 0, 5];
-    for (item, count) in (0u8..5).zip(counts) {
-        let slots = map.len();
-        assert!(rt; map.num_active() + 1 < slots);
-        assert!(rt; map.get(&Silent(item)) < 1000);
-        map.adjust_or_put_value_ref(&Silent(item), count)?;
-    }
-    assert_eq!(rt; map.num_active(), 5);
+/// Adds the amount in the table, where there is room for it.
+fn add<T: Eq + Hash + Drop>(
+    rt: &impl Abort,
+    map: &mut ReversePurgeItemHashMap<T>,
+    item: T,
+    amount: u8,
+) {
+    let slots = map.len();
+    assert!(rt; map.num_active() + 1 < slots);
+    assert!(rt; map.get(&item) < 1000);
+    map.adjust_or_put_value(item, amount as u64);
+}
+
+/// The middle count that a purge takes.
+fn purge<T: Eq + Hash + Drop>(rt: &impl Abort, map: &mut ReversePurgeItemHashMap<T>) -> u64 {
     assert!(rt; map.num_active() > 0);
-    let middle = map.purge(1);
-    assert!(rt; counts.contains(&middle));
-    for (item, count) in (0u8..5).zip(counts) {
-        assert_eq!(rt; map.get(&Silent(item)), count.saturating_sub(middle));
+    map.purge(1024)
+}
+
+/// The same table in so many slots.
+fn resize(
+    rt: &impl Abort,
+    map: &mut ReversePurgeItemHashMap<i64>,
+    size: usize,
+) -> Result<(), Error> {
+    assert!(rt; size.is_power_of_two() && size <= 16 && map.num_active() < size);
+    map.resize(size)
+}
+
+/// The first six items whose home is the last of eight slots.
+fn items_of_the_last_slot() -> [i64; 6] {
+    let mut items = [0; 6];
+    let mut count = 0;
+    for item in 0..1000 {
+        if count < 6 && murmur3_of(&item, 9001).0 % 8 == 7 {
+            items[count] = item;
+            count += 1;
+        }
     }
-    let entries = map.active_entries()?;
-    assert_eq!(rt; entries.len(), map.num_active());
-    let twin = map.try_clone()?;
-    assert_eq!(rt; twin.num_active(), map.num_active());
-    assert_eq!(rt; twin.estimated_size(), map.estimated_size());
+    items
+}
+
+/// A table of five items that feed nothing, with these counts.
+fn of_five(
+    rt: &impl Abort,
+    alloc: Global,
+    counts: [u8; 5],
+) -> Result<ReversePurgeItemHashMap<Mute>, Error> {
+    let mut map = table(rt, alloc, 8)?;
+    for (item, count) in (0u64..5).zip(counts) {
+        let slots = map.len();
+        assert!(rt; map.num_active() + 1 < slots && map.get(&Mute(item)) < 1000);
+        map.adjust_or_put_value_ref(&Mute(item), count as u64)?;
+    }
+    Ok(map)
+}
+
+/// The table's numbers: its slots, as a power of two too, how many entries a sketch keeps in them, how many there are,
+/// and its bytes.
+fn shape<T: Eq + Hash + Drop>(
+    map: &ReversePurgeItemHashMap<T>,
+) -> (usize, u8, usize, usize, usize) {
+    (
+        map.len(),
+        map.lg_length(),
+        map.capacity(),
+        map.num_active(),
+        map.estimated_size(),
+    )
+}
+
+// The middle count m is one of theirs, and what is left are the counts above m, less m, each once.
+#[test]
+fn five_items_that_feed_nothing(rt: HostRuntime) -> Result<(), Fail> {
+    let counts = [3, 0, 2, 0, 5];
+    let mut map = of_five(&rt, rt.alloc(), counts)?;
+    // An `Option` of an item takes 16 bytes.
+    assert!(rt; shape(&map) == (8, 3, 6, 5, 224));
+    assert!(rt; map.num_active() > 0);
+    let middle = map.purge(1) as u8;
+    assert!(rt; counts.contains(&middle));
+    let mut left = 0;
+    for (item, count) in (0u64..5).zip(counts) {
+        assert!(rt; map.get(&Mute(item)) == count.saturating_sub(middle) as u64);
+        left += (count > middle) as usize;
+    }
+    let clone = map.try_clone()?;
+    assert!(rt; clone.num_active() == left && map.active_entries()?.len() == left);
+    Ok(())
+}
+
+// The middle one of the counts 1 to 7 is 4.
+#[test]
+fn seven_items_that_feed_nothing(rt: HostRuntime) -> Result<(), Fail> {
+    let mut map = table(&rt, rt.alloc(), 8)?;
+    for count in 1u8..8 {
+        add(&rt, &mut map, Mute(count as u64), count);
+    }
+    assert!(rt; purge(&rt, &mut map) == 4);
+    for count in 1u8..8 {
+        assert!(rt; map.get(&Mute(count as u64)) == count.saturating_sub(4) as u64);
+    }
+    Ok(())
+}
+
+// The counts are 0, 3, 0, 5 and 1, and the middle one is 1. A sixth item with their home then has to pass the two that
+// are left, whatever stood there before.
+#[test]
+fn a_cluster_round_the_end(rt: HostRuntime) -> Result<(), Fail> {
+    let items = items_of_the_last_slot();
+    let mut map = table(&rt, rt.alloc(), 8)?;
+    for (item, count) in items.iter().zip([0u8, 3, 0, 5, 1]) {
+        add(&rt, &mut map, *item, count);
+    }
+    assert!(rt; purge(&rt, &mut map) == 1);
+    assert!(rt; map.get_counted(&items[5]) == (0, 3));
+    for size in [8, 16, 4] {
+        resize(&rt, &mut map, size)?;
+        assert!(rt; map.len() == size && map.num_active() == 2);
+        for (item, count) in items.iter().zip([0u64, 2, 0, 4, 0, 0]) {
+            assert!(rt; map.get(item) == count);
+        }
+    }
     Ok(())
 }
 
 #[test]
-fn table_calls(rt: HostRuntime) -> Result<(), Fail> {
-    let mut map: ReversePurgeItemHashMap<i64> = ReversePurgeItemHashMap::new(rt.alloc(), 8)?;
-    for (item, amount) in [(1, 3), (2, 0), (3, 2), (4, 0), (5, 4), (5, 1)] {
-        add(&rt, &mut map, item, amount);
-    }
-    assert_eq!(rt; map.num_active(), 5);
-    assert_eq!(rt; map.get(&5), 5);
-    assert!(rt; map.num_active() > 0);
-    // The counts are 3, 0, 2, 0 and 5, and the middle one of all five is 2.
-    assert_eq!(rt; map.purge(5), 2);
-    assert_eq!(rt; map.num_active(), 2);
-    assert_eq!(rt; map.get(&1), 1);
-    assert_eq!(rt; map.get(&5), 3);
-    assert_eq!(rt; map.get(&3), 0);
-    assert!(rt; map.num_active() < 16);
-    map.resize(16)?;
-    assert_eq!(rt; map.len(), 16);
-    assert_eq!(rt; map.lg_length(), 4);
-    assert_eq!(rt; map.capacity(), 12);
+fn a_walk_over_two_slots(rt: HostRuntime) -> Result<(), Fail> {
+    let mut map = table(&rt, rt.alloc(), 2)?;
+    add(&rt, &mut map, 7i64, 5);
     let mut walk = map.iter();
-    let mut total = 0;
-    while let Some((item, count)) = walk.next() {
-        assert_eq!(rt; count, map.get(item));
-        assert!(rt; total < 1000 && count < 1000);
-        total += count;
-    }
-    assert_eq!(rt; total, 4);
-    assert!(rt; walk.looked_at() >= 2 && walk.looked_at() <= 16);
+    assert!(rt; walk.len() == 1 && walk.size_hint() == (1, Some(1)));
+    let Some((item, count)) = walk.next() else {
+        return Err(Fail::from("the walk gave nothing"));
+    };
+    assert!(rt; *item == 7 && count == 5);
+    assert!(rt; walk.next().is_none() && walk.next().is_none());
+    assert!(rt; walk.len() == 0 && walk.looked_at() >= 1 && walk.looked_at() <= 2);
     Ok(())
 }
