@@ -13,7 +13,8 @@ wrapping_mul x y = (x * y) % 2 ^ 64
 abbrev pub word_at : List ℕ → ℕ → ℕ
 word_at bytes i = from_le_bytes w64
     (slice_index bytes i ∷ slice_index bytes (i + 1) ∷ slice_index bytes (i + 2) ∷ slice_index bytes (i + 3)
-    ∷ slice_index bytes (i + 4) ∷ slice_index bytes (i + 5) ∷ slice_index bytes (i + 6) ∷ slice_index bytes (i + 7) ∷ [])
+    ∷ slice_index bytes (i + 4) ∷ slice_index bytes (i + 5) ∷ slice_index bytes (i + 6)
+    ∷ slice_index bytes (i + 7) ∷ [])
 
 -- the number of the four bytes from a place on
 abbrev pub half_word_at : List ℕ → ℕ → ℕ

@@ -20,8 +20,10 @@ mix_k2 k = wrapping_mul (rotate_left w64 (wrapping_mul k c2) 33) c1
 -- the two halves after one block of 16 bytes
 unfoldable pub block : ℕ × ℕ → List ℕ → ℕ × ℕ
 block h bytes =
-    let h1 = wrapping_add (wrapping_mul (wrapping_add (rotate_left w64 (bit_xor h.0 (mix_k1 (word_at bytes 0))) 27) h.1) 5) 0x52DCE729 in
-    let h2 = wrapping_add (wrapping_mul (wrapping_add (rotate_left w64 (bit_xor h.1 (mix_k2 (word_at bytes 8))) 31) h1) 5) 0x38495AB5 in
+    let k1 = mix_k1 (word_at bytes 0) in
+    let k2 = mix_k2 (word_at bytes 8) in
+    let h1 = wrapping_add (wrapping_mul (wrapping_add (rotate_left w64 (bit_xor h.0 k1) 27) h.1) 5) 0x52DCE729 in
+    let h2 = wrapping_add (wrapping_mul (wrapping_add (rotate_left w64 (bit_xor h.1 k2) 31) h1) 5) 0x38495AB5 in
     (h1, h2)
 
 -- the halves after the first n blocks

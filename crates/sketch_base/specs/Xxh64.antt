@@ -31,14 +31,17 @@ round acc lane = wrapping_mul (rotate_left w64 (wrapping_add acc (wrapping_mul l
 -- initialize the accumulators
 unfoldable pub initial_accumulators : ℕ → Accumulators
 initial_accumulators seed =
-    (wrapping_add seed (wrapping_add prime64_1 prime64_2), wrapping_add seed prime64_2,
-    seed, wrapping_add seed (2 ^ 64 - prime64_1))
+    let first = wrapping_add seed (wrapping_add prime64_1 prime64_2) in
+    (first, wrapping_add seed prime64_2, seed, wrapping_add seed (2 ^ 64 - prime64_1))
 
 -- the accumulators after one stripe of 32 bytes
 unfoldable pub stripe : Accumulators → List ℕ → Accumulators
-stripe acc bytes =
-    (round acc.0 (word_at bytes 0), round acc.1 (word_at bytes 8),
-    round acc.2 (word_at bytes 16), round acc.3 (word_at bytes 24))
+stripe acc bytes = (
+  round acc.0 (word_at bytes 0),
+  round acc.1 (word_at bytes 8),
+  round acc.2 (word_at bytes 16),
+  round acc.3 (word_at bytes 24),
+)
 
 -- process stripes: the accumulators after the first n of them
 unfoldable pub stripes : ℕ → Accumulators → List ℕ → Accumulators
@@ -51,7 +54,8 @@ merge_accumulator h acc = wrapping_add (wrapping_mul (bit_xor h (round 0 acc)) p
 
 unfoldable pub convergence : Accumulators → ℕ
 convergence acc =
-    let h = wrapping_add (wrapping_add (wrapping_add (rotate_left w64 acc.0 1) (rotate_left w64 acc.1 7)) (rotate_left w64 acc.2 12)) (rotate_left w64 acc.3 18) in
+    let first = wrapping_add (rotate_left w64 acc.0 1) (rotate_left w64 acc.1 7) in
+    let h = wrapping_add (wrapping_add first (rotate_left w64 acc.2 12)) (rotate_left w64 acc.3 18) in
     merge_accumulator (merge_accumulator (merge_accumulator (merge_accumulator h acc.0) acc.1) acc.2) acc.3
 
 -- consume remaining input: by eight bytes, by four, by one
@@ -92,5 +96,6 @@ finalization h rest =
 unfoldable pub xxh64 : List ℕ → ℕ → ℕ
 xxh64 bytes seed =
     let n = length bytes / 32 in
-    let h = if nat_lt 0 n then convergence (stripes n (initial_accumulators seed) bytes) else wrapping_add seed prime64_5 in
+    let long = convergence (stripes n (initial_accumulators seed) bytes) in
+    let h = if nat_lt 0 n then long else wrapping_add seed prime64_5 in
     finalization (wrapping_add h (length bytes % 2 ^ 64)) (drop (32 * n) bytes)

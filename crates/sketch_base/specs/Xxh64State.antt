@@ -32,8 +32,8 @@ write s piece =
 -- the hash
 unfoldable pub finish : Xxh64State → ℕ
 finish s =
-    finalization
-    (wrapping_add (if s.is_long then convergence s.accumulators else wrapping_add s.seed prime64_5) s.total) s.tail
+    let h = if s.is_long then convergence s.accumulators else wrapping_add s.seed prime64_5 in
+    finalization (wrapping_add h s.total) s.tail
 
 -- a hasher of this seed was fed these bytes and no others, in whatever pieces
 pub record HasFed (seed : ℕ) (bytes : List ℕ) (s : Xxh64State) : Type 0 where
