@@ -209,6 +209,7 @@ impl<T: CountMinValue> CountMinSketch<T> {
         // What holds of every sketch.
         ensures state { IsCountState T.greatest self.now }
     {
+        // It is read first for the prover alone, which learns by it what holds of every sketch.
         let total = self.total;
         let Some(size) = weight.checked_abs() else {
             return Err(Error::invalid_argument(Fault::WeightOverflow));
@@ -286,6 +287,7 @@ impl<T: CountMinValue> CountMinSketch<T> {
             → IsErrOf result (invalid_argument Fault.WeightOverflow) }
         ensures succeeds { SameShape self.old other.now → self.old.total + other.now.total ≤ T.greatest → IsOk result }
     {
+        // It is read first for the prover alone, which learns by it what holds of every sketch.
         let total = self.total;
         if !self.has_shape_of(other) {
             return Err(Error::invalid_argument(Fault::Mismatch));
