@@ -31,7 +31,7 @@
 //!
 //! A line that is not UTF-8 or no command is answered by `bad line` and its number, counted from 1 over all lines, and
 //! ends the program with status 1. After a failed read or write it prints `input or output failed` on standard error,
-//! and where memory is refused outside a command `no memory`, each with status 2. Else the status is 0.
+//! and where memory was refused outside a command `no memory`, each with status 2. Else the status is 0.
 #![tactic(auto)]
 
 mod command;
