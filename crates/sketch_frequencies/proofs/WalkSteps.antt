@@ -1,8 +1,9 @@
 -- What a walk gives, whatever the table keeps at its places.
-use Rattle.std.proofs.Common.{◌≡◌, ℕ, ◌+◌, ◌-◌, ◌*◌, ◌/◌, ◌%◌, ◌^◌, ◌<◌, ◌≤◌, zero, suc, List, [], ◌∷◌, ◌++◌, length, get_or, drop, refl, ap, sym, ◌∙◌, subst, arith}
+use Rattle.std.proofs.Common.{◌≡◌, ℕ, ◌+◌, ◌-◌, ◌*◌, ◌/◌, ◌%◌, ◌^◌, ◌<◌, ◌≤◌, zero, suc, List, [], ◌∷◌, ◌++◌, length, get_or, drop, refl, ap, sym, ◌∙◌, subst, arith, inl, inr}
 use Rattle.std.specs.Prelude.{IsPermutation, Option, Some, None, option_to_list, bit_and, bit_or, ⊤}
 use Rattle.std.specs.Iterator.{MakesProgress, item_count}
 use Rattle.std.specs.List.{range_with_len, flat_map, filter_map, cons_option}
+use Rattle.std.proofs.lemmas.Bool.{cases_lt}
 use Rattle.std.proofs.lemmas.Nat.{or_mod, or_lt, mod_below}
 use Rattle.std.proofs.lemmas.List.{drop_more, drop_all}
 use Rattle.std.proofs.lemmas.List.Elements.{filter_map-append}
@@ -53,6 +54,16 @@ module _ {E : Type 0} (at : ℕ → Option E) where
       let one : filter_map at (place_at n s i ∷ []) ≡ option_to_list (at (place_at n s i)) = one_kept (at (place_at n s i)) in
       ap (filter_map at) (map-range_with_len_more (place_at n s) 0 i i (omega arith)) ∙ filter_map-append at (places n s 0 i) (place_at n s i ∷ []) ∙ ap (λ (l : List E). given_before at n s i ++ l) one
 
+  -- where some are still to come, so are places
+  pub rest_some : (n s i : ℕ) → 0 < length (rest_from at n s i) → i < n
+  rest_some n s i some = elim (cases_lt i n) [
+    | inl l ↦ l
+    | inr g ↦
+        let none : n - i ≡ 0 = omega arith in
+        let empty : length (rest_from at n s i) ≡ 0 = ap (λ k. length (found_in at n s i k)) none in
+        absurd (omega arith)
+  ]
+
   -- no more is given than was looked at
   pub given_few : (n s i : ℕ) → length (given_before at n s i) ≤ i
   given_few n s i =
@@ -99,6 +110,9 @@ IsCursor-start n size =
       size_ok = size;
       stride_small = golden_small (n * 618 / 1000) (few n size.limit);
     }
+
+pub place_within : (n s i p : ℕ) → IsCursor n s i p → i < n → p < n
+place_within n s i p cursor more = subst (λ (q : ℕ). q < n) (sym cursor.at) (mod_below (i * s) n (omega arith))
 
 -- what one step does, where it finds o
 pub record Stepped {E : Type 0} (at : ℕ → Option E) (n stride looked place : ℕ) (o : Option E) : Type 0 where

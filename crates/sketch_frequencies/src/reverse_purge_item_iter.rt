@@ -75,12 +75,14 @@ impl<'a, T> Iterator for ReversePurgeItemIter<'a, T> {
 
     ghost remaining = { item_count (λ walk. walk.rest) };
 
+    #[inline]
     fn next(&mut self) -> Option<(&'a T, u64)> {
         if self.left == 0 {
             return None;
         }
         let slots = self.slots;
-        while self.looked < slots.len() {
+        // the label names the loop for its proof
+        'walk: loop {
             let place = self.place;
             self.place = (place + self.stride) & (slots.len() - 1);
             if let Slot::Taken { count, item, .. } = slots::look(slots, place, &mut self.looked) {
@@ -88,7 +90,6 @@ impl<'a, T> Iterator for ReversePurgeItemIter<'a, T> {
                 return Some((item, *count));
             }
         }
-        None
     }
 
     /// How many entries are still to come, for both bounds.
