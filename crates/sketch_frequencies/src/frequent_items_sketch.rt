@@ -12,7 +12,7 @@ ghost use Rattle.sketch_frequencies.specs.Steps.{Steps, StepsEqual, IsSameState,
 ghost use Rattle.sketch_frequencies.specs.Tables.{count_of, is_tracked, put, sum_of};
 
 use crate::error_type::ErrorType;
-use crate::reverse_purge_item_hash_map::ReversePurgeItemHashMap;
+use crate::reverse_purge_item_hash_map::{ReversePurgeItemHashMap, capacity_of};
 use crate::row::Row;
 use sketch_base::{Error, Fault};
 use std::alloc::Global;
@@ -318,7 +318,7 @@ impl<T: Eq + Hash + Drop> FrequentItemsSketch<T> {
     pub fn maximum_map_capacity(&self) -> usize
         ensures { result ≡ capacity self.now.max_size }
     {
-        self.max_size * 3 / 4
+        capacity_of(self.max_size)
     }
 
     /// The most items that are tracked at the table's current size: three quarters of it.

@@ -328,11 +328,13 @@ fn five_items_that_feed_nothing(rt: HostRuntime) -> Result<(), Fail> {
     assert!(rt; map.num_active() > 0);
     let middle = map.purge(1);
     assert!(rt; counts.iter().any(|count| *count as u64 == middle));
-    let mut left = 0;
     for (item, count) in (0u64..5).zip(counts) {
         assert!(rt; map.get(&Mute(item)) == (count as u64).saturating_sub(middle));
-        left += (count as u64 > middle) as usize;
     }
+    let left = counts
+        .iter()
+        .filter(|count| **count as u64 > middle)
+        .count();
     let clone = map.try_clone()?;
     assert!(rt; clone.num_active() == left && map.active_entries()?.len() == left);
     Ok(())
