@@ -41,6 +41,23 @@ length_tracked eq es x w there = grind (arith, length-put eq es x w, there)
 pub length_new : {T : Type 0} (eq : T → T → Bool) (es : List (T × ℕ)) (x : T) (w : ℕ) → is_tracked eq es x ≡ false → length (put eq es x w) ≡ length es + 1
 length_new eq es x w new = grind (arith, length-put eq es x w, new)
 
+-- an item takes one place at most
+pub length_put : {T : Type 0} (eq : T → T → Bool) (es : List (T × ℕ)) (x : T) (w : ℕ) → length (put eq es x w) ≤ length es + 1
+length_put eq es x w = by_tracked (is_tracked eq es x) refl where
+  by_tracked : (b : Bool) → is_tracked eq es x ≡ b → length (put eq es x w) ≤ length es + 1
+  by_tracked true there = omega (arith, length_tracked eq es x w there)
+  by_tracked false new = omega (arith, length_new eq es x w new)
+
+-- the step of an item for which there is room
+pub step_with_room : {T : Type 0} (eq : T → T → Bool) (old new : FrequentState T) (x : T) (w : ℕ) → length old.counters < capacity old.size → Adds eq old x w new → Steps eq old x w new
+step_with_room eq old new x w room adds = record {
+  total = adds.total;
+  max_size = adds.max_size;
+  kept = adds.kept;
+  doubled = λ over _. absurd (omega (arith, over, length_put eq old.counters x w, room));
+  purge = λ over _. absurd (omega (arith, over, length_put eq old.counters x w, room));
+}
+
 -- from what the table's call says of a tracked item
 pub adds_tracked : {T : Type 0} (eq : T → T → Bool) (old : FrequentState T) (x : T) (w : ℕ) (t : Table T) → IsState eq old → is_tracked eq old.counters x ≡ true → IsPermutation (put eq old.counters x w) t.entries → t.size ≡ old.size → Adds eq old x w (record { counters = t.entries; error = old.error; total = old.total + w; max_size = old.max_size; size = t.size })
 adds_tracked eq old x w t ok there p size = adds_kept eq old x w t p size (omega (arith, length_permutation (put eq old.counters x w) t.entries p, length_tracked eq old.counters x w there, ok.few, size))

@@ -124,6 +124,10 @@ impl<T: Eq + Hash + Drop> FrequentItemsSketch<T> {
         if count == 0 {
             return Ok(());
         }
+        if self.map.capacity() > self.map.num_active() {
+            self.put(item, count);
+            return Ok(());
+        }
         if self.adjust(&item, count) {
             return Ok(());
         }
@@ -444,6 +448,19 @@ impl<T: Eq + Hash + Drop> FrequentItemsSketch<T> {
             }
         }
         Ok(rows)
+    }
+
+    /// Adds to the item's count, or tracks the item where it is not tracked: with one look-up, where there is room.
+    #[inline]
+    fn put(&mut self, item: T, count: u64)
+        requires positive { 0 < count }
+        requires fits { Fits self.old count }
+        requires room { length self.old.counters < capacity self.old.size }
+        ensures step { Steps T.eq self.old item count self.new }
+        ensures state { IsState T.eq self.new }
+    {
+        self.map.adjust_or_put_value(item, count);
+        self.total += count;
     }
 
     /// Adds to the item's count where it is tracked, and answers whether it is.

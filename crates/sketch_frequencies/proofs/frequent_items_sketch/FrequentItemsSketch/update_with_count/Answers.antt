@@ -5,6 +5,12 @@ use Rattle.sketch_frequencies.proofs.Enclosure.{stands_after}
 use Rattle.sketch_frequencies.proofs.Tail.{budget_after}
 use Rattle.sketch_frequencies.proofs.frequent_items_sketch.FrequentItemsSketch.update_with_count.Goals as goal
 
+pub returns-then-capacity-num_active-clause-stands : goal.returns-then-capacity-num_active-clause-stands
+returns-then-capacity-num_active-clause-stands g c = λ pos h s. stands_after g.met.T.Eq.laws c.args.self.now c.put.new.self c.args.item c.args.count pos (subst (λ s. IsState g.T.PartialEq.eq s) c.self.view_is c.self.invariant) c.put.ensures.step h s
+
+pub returns-then-capacity-num_active-clause-budget : goal.returns-then-capacity-num_active-clause-budget
+returns-then-capacity-num_active-clause-budget g c = λ pos h s keeps. budget_after g.met.T.Eq.laws c.args.self.now c.put.new.self c.args.item c.args.count (subst (λ s. IsState g.T.PartialEq.eq s) c.self.view_is c.self.invariant) c.put.ensures.step h s keeps
+
 pub returns-then-adjust-clause-stands : goal.returns-then-adjust-clause-stands
 returns-then-adjust-clause-stands g c = λ pos h s. stands_after g.met.T.Eq.laws c.args.self.now c.adjust.new.self c.args.item c.args.count pos (subst (λ s. IsState g.T.PartialEq.eq s) c.self.view_is c.self.invariant) (c.adjust.ensures.present c.if-adjust.true) h s
 
