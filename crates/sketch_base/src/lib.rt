@@ -5,6 +5,7 @@
 //!   of one whole list of bytes, however they came.
 //! - [`SketchSlice`] reads numbers from bytes, and [`SketchBytes`] writes them. A contract sees the bytes that are
 //!   still unread, and those that were written.
+//! - [`image`] has the fields of images, which stand at fixed places, and what all images are checked for.
 //! - [`Family`] names a kind of sketch in an image, and [`Error`] says by its [`Fault`] why a call was refused.
 //! - [`Divisor`] takes remainders by a number that is known before, without a division.
 #![tactic(auto)]

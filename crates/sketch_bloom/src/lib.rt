@@ -2,7 +2,7 @@
 //!
 //! A filter keeps a set of positions. Inserting an item adds the positions that its hash gives, and an item is
 //! contained where all of its positions are in the set. Filters of one shape and one seed can be united, intersected
-//! and subtracted from one another.
+//! and subtracted from one another. A filter is written as an image of bytes, and read from one.
 #![tactic(auto)]
 
 mod bit_set;
