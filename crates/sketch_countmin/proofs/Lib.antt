@@ -1,4 +1,6 @@
 pub mod Numbers
+pub mod Reading
+pub mod Images
 pub mod RowSteps
 pub mod CellMaps
 pub mod Tables

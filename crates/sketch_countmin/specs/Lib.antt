@@ -2,6 +2,9 @@ pub mod Buckets
 pub mod Cells
 pub mod Equality
 pub mod History
+pub mod Image
+pub mod Laws
+pub mod Preamble
 pub mod Rows
 pub mod Shapes
 pub mod Stands

@@ -7,6 +7,7 @@
 mod cells;
 mod count_min_sketch;
 mod count_min_value;
+mod image;
 pub mod laws;
 mod limits;
 mod number_types;

@@ -4,7 +4,7 @@ use Rattle.sketch_countmin.specs.History.CountHistory.{New}
 use Rattle.sketch_countmin.specs.Stands.{StandsFor}
 use Rattle.sketch_countmin.proofs.Tables.{is_state, empty_is, empty_value}
 use Rattle.sketch_countmin.proofs.Standing.{stands_empty}
-use Rattle.sketch_countmin.proofs.count_min_sketch.CountMinSketch.with_seed.Goals as goal
+use Rattle.sketch_countmin.proofs.count_min_sketch.CountMinSketch.empty.Goals as goal
 
 pub returns-clause-ok : goal.returns-clause-ok
 returns-clause-ok g c =
@@ -28,7 +28,7 @@ returns-clause-state g c =
     let size : length seeds * d ≡ m * c.args.num_buckets = ap (λ (k : ℕ). k * d) height ∙ ap (λ (n : ℕ). m * n) c.bucket_count.ensures in
     let cells : map number c.in_ok-counts.counts.items ≡ replicate (length seeds * d) (pos 0) = c.in_ok-counts.ensures ∙ ap (λ (n : ℕ). replicate n (pos 0)) (sym size) in
     is_state _ _ _ _ _ _ (empty_is g.T.CountMinValue.greatest seeds d c.args.seed (number c.ZERO.result) (map number c.in_ok-counts.counts.items)
-    (omega (arith, height)) (omega (arith, height)) (omega (arith, c.bucket_count.ensures)) (omega (arith, size)) (λ zero. c.in_ok-compute_seed_hash.ensures.value.1 (c.in_ok-compute_seed_hash.ensures.value.0 ∙ zero))
+    (omega (arith, height)) (omega (arith, height)) (omega (arith, c.bucket_count.ensures)) (omega (arith, size)) c.requires.seeded
     (λ r lr. c.in_ok-row_seeds.ensures.seeds r (omega (arith, lr, height))) (ap number c.ZERO.ensures ∙ g.met.T.CountMinValue.zero_is) cells)
 
 pub returns-clause-stands : goal.returns-clause-stands

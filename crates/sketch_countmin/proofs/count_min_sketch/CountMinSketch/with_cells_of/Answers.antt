@@ -1,0 +1,24 @@
+use Rattle.std.proofs.Common.{◌≡◌, ℕ, ◌∙◌, sym, ap, length, map, arith, inr, List, ℤ, unsigned_abs}
+use Rattle.std.proofs.lemmas.Int.{ints}
+use Rattle.std.proofs.lemmas.Result.{err_from_is_err_and}
+use Rattle.sketch_countmin.proofs.Images.{total_fault, table_read}
+use Rattle.sketch_countmin.proofs.Tables.{is_state}
+use Rattle.sketch_countmin.proofs.count_min_sketch.CountMinSketch.with_cells_of.Goals as goal
+
+pub invariant_of-result : goal.invariant_of-result
+invariant_of-result g c =
+    let number = g.T.CountMinValue.number in
+    let total : ℤ = number c.in_ok-total.total in
+    let most : c.unsigned_abs-most.result ≡ unsigned_abs total = omega (arith, ints, c.unsigned_abs-most.ensures.value, c.to_number.ensures.value) in
+    let height : length c.in_ok-row_seeds.row_seeds.items ≡ c.args.preamble.num_hashes = omega (arith, c.in_ok-row_seeds.row_seeds.ok, c.in_ok-row_seeds.ensures.size) in
+    table_read g.T.CountMinValue.least g.T.CountMinValue.greatest c.in_ok-row_seeds.row_seeds.items c.bucket_count.result c.args.seed c.args.preamble.num_hashes c.args.preamble.num_buckets c.unsigned_abs-most.result total (map number c.in_ok-counts.counts.items) _
+    height c.bucket_count.ensures c.requires.some_hashes (omega arith) c.requires.some_buckets c.requires.few_cells c.requires.seeded c.in_ok-row_seeds.ensures.seeds c.in_ok-total.ensures.not_negative c.in_ok-total.ensures.fits most
+    c.in_ok-counts.ensures.value c.in_ok-counts.ensures.checks
+
+pub returns-clause-state : goal.returns-clause-state
+returns-clause-state g c = is_state _ _ _ _ _ _ (invariant_of-result g c)
+
+pub returns-in_err-total-clause-err : goal.returns-in_err-total-clause-err
+returns-in_err-total-clause-err g c =
+    let p = err_from_is_err_and c.from_residual.result c.from_residual.ensures.1 in
+    rw (p.1, p.2) (inr (c.in_err-total.ensures.err.0, total_fault g.T.CountMinValue.least g.T.CountMinValue.greatest c.args.image.now c.args.preamble _ c.requires.fields c.requires.full c.in_err-total.ensures.err.1))

@@ -1,0 +1,21 @@
+-- The laws of images, for a type with this least and this greatest number.
+use Rattle.std.specs.Prelude.{◌≡◌, ◌↔◌, ℕ, ℤ, List, None}
+use Rattle.sketch_countmin.specs.Image.{IsImage, IsSpelled, first_fault}
+use Rattle.sketch_countmin.specs.State.{CountState}
+
+-- what is spelled for a sketch is an image of it, under its own seed
+abbrev pub SpelledIsImage : ℤ → ℕ → Type 0
+SpelledIsImage least greatest =
+    (image : List ℕ) (a : CountState) → IsSpelled least greatest image a → IsImage least greatest a.seed image a
+
+-- no bytes are an image of two sketches under one seed
+abbrev pub ImageIsOfOne : ℤ → ℕ → Type 0
+ImageIsOfOne least greatest =
+    (seed : ℕ) (image : List ℕ) (a b : CountState) → IsImage least greatest seed image a
+    → IsImage least greatest seed image b → a ≡ b
+
+-- bytes are an image of a sketch exactly where no check fails
+abbrev pub ImageIsOfSome : ℤ → ℕ → Type 0
+ImageIsOfSome least greatest =
+    (seed : ℕ) (image : List ℕ)
+    → ((a : CountState) × IsImage least greatest seed image a) ↔ (first_fault least greatest seed image ≡ None)

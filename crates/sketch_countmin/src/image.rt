@@ -1,0 +1,184 @@
+//! The images of sketches: how they are read and written.
+ghost use Rattle.std.specs.Prelude.{◌≡◌, ◌≢◌, ◌+◌, ◌*◌, ◌<◌, ◌≤◌, ◌++◌, None, Some, false, length, drop, map, pos, unsigned_abs, All, IfOk, IfErr, OnOk, MatchResult};
+ghost use Rattle.std.specs.List.{flat_map};
+ghost use Rattle.sketch_base.specs.Checks.{IsImageRefusal, first_failing};
+ghost use Rattle.sketch_base.specs.Errors.{invalid_data, no_memory};
+ghost use Rattle.sketch_base.specs.Hashes.{seed_hash};
+ghost use Rattle.sketch_countmin.specs.Image.{early_fault, number_at, numbers_in, total_at, total_checks, cell_checks, cells_checks, preamble};
+ghost use Rattle.sketch_countmin.specs.Preamble.{IsPreamble};
+ghost use Rattle.sketch_countmin.specs.Values.{InRange, bytes_of};
+
+use crate::count_min_value::CountMinValue;
+use crate::limits::{MAX_TABLE_ENTRIES, MIN_NUM_BUCKETS};
+use sketch_base::image::{SERIAL_VERSION, check_length, check_version, u16_at, u32_at};
+use sketch_base::{
+    Error, ErrorKind, Family, Fault, SketchBytes, check_seed_hash, compute_seed_hash,
+};
+use std::alloc::Global;
+
+/// The longs of the preamble.
+pub const PREAMBLE_LONGS: u8 = 2;
+
+/// The flag of a sketch whose total is 0.
+pub const EMPTY_FLAG_MASK: u8 = 1;
+
+/// What the first bytes of an image say.
+#[derive(Clone, Copy)]
+pub struct Preamble {
+    pub is_empty: bool,
+    pub num_hashes: u8,
+    pub num_buckets: u32,
+}
+
+/// Reads what comes before the total, and sees that the total and the cells are there.
+pub fn read_preamble(image: &[u8], seed: u64) -> Result<Preamble, Error>
+    ensures checks { OnOk result (early_fault seed image.now ≡ None) }
+    ensures fields { IfOk result (IsPreamble image.now) }
+    ensures cells { IfOk result (λ p. p.is_empty ≡ false
+        → 24 + 8 * (p.num_hashes * p.num_buckets) ≤ length image.now) }
+    ensures some_hashes { IfOk result (λ p. 1 ≤ p.num_hashes) }
+    ensures some_buckets { IfOk result (λ p. MIN_NUM_BUCKETS ≤ p.num_buckets) }
+    ensures few_cells { IfOk result (λ p. p.num_hashes * p.num_buckets < MAX_TABLE_ENTRIES) }
+    ensures seeded { OnOk result (seed_hash seed ≢ 0) }
+    ensures err { IfErr result (λ e. (e ≡ invalid_data e.fault) × (early_fault seed image.now ≡ Some e.fault)) }
+{
+    check_length(image, 8)?;
+    Family::COUNTMIN.validate_id(image[2])?;
+    check_version(image[1])?;
+    if image[0] != PREAMBLE_LONGS {
+        return Err(Error::invalid_data(Fault::BadPreamble));
+    }
+    check_length(image, 16)?;
+    let hash = compute_seed_hash(seed, ErrorKind::InvalidData)?;
+    check_seed_hash(hash, u16_at(image, 13), ErrorKind::InvalidData)?;
+    let num_hashes = image[12];
+    if num_hashes == 0 {
+        return Err(Error::invalid_data(Fault::BadNumHashes));
+    }
+    let num_buckets = u32_at(image, 8);
+    if num_buckets < MIN_NUM_BUCKETS {
+        return Err(Error::invalid_data(Fault::BadNumBuckets));
+    }
+    let num_cells = num_hashes as usize * num_buckets as usize;
+    if num_cells >= MAX_TABLE_ENTRIES {
+        return Err(Error::invalid_data(Fault::TableTooLarge));
+    }
+    let is_empty = image[3] & EMPTY_FLAG_MASK != 0;
+    if !is_empty {
+        check_length(image, 24 + 8 * num_cells)?;
+    }
+    Ok(Preamble {
+        is_empty,
+        num_hashes,
+        num_buckets,
+    })
+}
+
+/// The value in the eight bytes from a place on.
+#[tactic(auto, unfolding(crate::specs::Image::number_at))]
+#[inline(always)]
+fn value_at<T: CountMinValue>(image: &[u8], place: usize) -> Result<T, Error>
+    requires { place + 8 ≤ length image.now }
+    ensures { MatchResult result
+        (λ v. (T.number v ≡ number_at T.least image.now place)
+            × InRange T.least T.greatest (number_at T.least image.now place))
+        (λ e. (e ≡ invalid_data Fault.ValueOutOfRange)
+            × ¬ InRange T.least T.greatest (number_at T.least image.now place)) }
+{
+    let mut bytes = [0; 8];
+    bytes.copy_from_slice(&image[place..place + 8]);
+    T::try_from_bytes(bytes)
+}
+
+/// Reads the total, and sees that the type has it and that it is not negative.
+pub fn read_total<T: CountMinValue>(image: &[u8]) -> Result<T, Error>
+    requires { 24 ≤ length image.now }
+    ensures value { IfOk result (λ total. T.number total ≡ total_at T.least image.now) }
+    ensures checks { OnOk result (first_failing (total_checks T.least T.greatest (total_at T.least image.now)) ≡ None) }
+    ensures not_negative { IfOk result (λ total. T.number total ≡ pos (unsigned_abs (T.number total))) }
+    ensures fits { IfOk result (λ total. unsigned_abs (T.number total) ≤ T.greatest) }
+    ensures err { IfErr result (λ e. (e ≡ invalid_data e.fault)
+        × (first_failing (total_checks T.least T.greatest (total_at T.least image.now)) ≡ Some e.fault)) }
+{
+    let total = value_at::<T>(image, 16)?;
+    if total.to_number() < 0 {
+        return Err(Error::invalid_data(Fault::NegativeTotal));
+    }
+    Ok(total)
+}
+
+/// Reads a cell, and sees that the type has it and that it is no further from zero than the total.
+#[inline(always)]
+fn read_cell<T: CountMinValue>(image: &[u8], place: usize, total: u128) -> Result<T, Error>
+    requires { place + 8 ≤ length image.now }
+    ensures value { IfOk result (λ v. T.number v ≡ number_at T.least image.now place) }
+    ensures checks { OnOk result
+        (first_failing (cell_checks T.least T.greatest total (number_at T.least image.now place)) ≡ None) }
+    ensures err { IfErr result (λ e. (e ≡ invalid_data e.fault)
+        × (first_failing (cell_checks T.least T.greatest total (number_at T.least image.now place)) ≡ Some e.fault)) }
+{
+    let value = value_at::<T>(image, place)?;
+    if value.to_number().unsigned_abs() > total {
+        return Err(Error::invalid_data(Fault::CellAboveTotal));
+    }
+    Ok(value)
+}
+
+/// Reads so many cells.
+pub fn read_cells<T: CountMinValue>(
+    alloc: Global,
+    image: &[u8],
+    num_cells: usize,
+    total: u128,
+) -> Result<Vec<T>, Error>
+    requires { 24 + 8 * num_cells ≤ length image.now }
+    ensures value { IfOk result (λ counts.
+        map T.number counts.items ≡ numbers_in T.least num_cells (drop 24 image.now)) }
+    ensures checks { OnOk result
+        (first_failing (cells_checks T.least T.greatest total (numbers_in T.least num_cells (drop 24 image.now)))
+            ≡ None) }
+    ensures err { IfErr result (IsImageRefusal None
+        (first_failing (cells_checks T.least T.greatest total (numbers_in T.least num_cells (drop 24 image.now))))) }
+{
+    let mut counts = Vec::with_capacity(alloc, num_cells)?;
+    for i in 0..num_cells {
+        counts.push_reserved(read_cell::<T>(image, 24 + 8 * i, total)?);
+    }
+    Ok(counts)
+}
+
+/// A buffer with room for so many bytes, in which the preamble of an image stands.
+pub fn begin_image(
+    alloc: Global,
+    room: usize,
+    flags: u8,
+    num_buckets: u32,
+    num_hashes: u8,
+    hash: u16,
+) -> Result<SketchBytes, Error>
+    ensures ok { IfOk result (λ out. out.bytes ≡ preamble flags num_buckets num_hashes hash) }
+    ensures err { IfErr result (λ e. e ≡ no_memory) }
+{
+    let mut out = SketchBytes::with_capacity(alloc, room)?;
+    out.write(&[PREAMBLE_LONGS, SERIAL_VERSION, Family::COUNTMIN.id, flags])?;
+    out.write(&[0, 0, 0, 0])?;
+    out.write_u32_le(num_buckets)?;
+    out.write_u8(num_hashes)?;
+    out.write_u16_le(hash)?;
+    out.write_u8(0)?;
+    Ok(out)
+}
+
+/// Writes the cells.
+pub fn write_cells<T: CountMinValue>(out: &mut SketchBytes, counts: &[T]) -> Result<(), Error>
+    ensures ok { OnOk result (out.new.bytes ≡ out.old.bytes ++ flat_map bytes_of (map T.number counts.now)) }
+    ensures err { IfErr result (λ e. e ≡ no_memory) }
+
+    // What the type says, for the caller's proof.
+    ensures in_range { OnOk result (All (InRange T.least T.greatest) (map T.number counts.now)) }
+{
+    for value in counts {
+        out.write(&value.to_bytes())?;
+    }
+    Ok(())
+}
