@@ -1,5 +1,6 @@
 pub mod Numbers
 pub mod Reading
+pub mod RoundTrips
 pub mod Spellings
 pub mod Images
 pub mod RowSteps

@@ -13,7 +13,7 @@ use Rattle.sketch_countmin.specs.Stands.{StandsFor}
 use Rattle.sketch_countmin.specs.Equality.{same_parts}
 
 -- tables of one height and width with the same cells are the same
-rows_same : (m d : ℕ) (xs ys : List (List ℤ)) → length xs ≡ m → length ys ≡ m → All (λ row. length row ≡ d) xs → All (λ row. length row ≡ d) ys
+pub rows_same : (m d : ℕ) (xs ys : List (List ℤ)) → length xs ≡ m → length ys ≡ m → All (λ row. length row ≡ d) xs → All (λ row. length row ≡ d) ys
     → ((r : ℕ) → r < m → (b : ℕ) → b < d → cell_at xs r b ≡ cell_at ys r b) → xs ≡ ys
 rows_same m d xs ys lx ly wx wy same = ext_get_or [] xs ys (lx ∙ sym ly) row
   where

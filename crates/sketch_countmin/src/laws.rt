@@ -1,13 +1,15 @@
 //! Laws that follow from the contracts of the calls.
-ghost use Rattle.std.specs.Prelude.{◌≡◌, ◌+◌, ◌<◌, ◌≤◌, ◌↔◌, IfOk, OnOk, OnErr, IsOk, IsErrOf, IsTrue, IsOkAnd};
-ghost use Rattle.sketch_base.specs.Errors.{invalid_argument};
+ghost use Rattle.std.specs.Prelude.{◌≡◌, ◌+◌, ◌<◌, ◌≤◌, ◌↔◌, IfOk, IfErr, OnOk, OnErr, IsOk, IsErrOf, IsTrue, IsOkAnd};
+ghost use Rattle.sketch_base.specs.Errors.{invalid_argument, no_memory};
 ghost use Rattle.sketch_countmin.specs.History.{CountHistory, IsExact, followed_by};
+ghost use Rattle.sketch_countmin.specs.Laws.{SpelledIsImage, ImageIsOfOne, ImageIsOfSome};
 ghost use Rattle.sketch_countmin.specs.Stands.{StandsFor};
 ghost use Rattle.sketch_countmin.specs.State.{SameShape, Joins};
 
 use crate::count_min_sketch::CountMinSketch;
 use crate::count_min_value::CountMinValue;
 use sketch_base::{Error, Fault};
+use std::alloc::Global;
 
 /// Merges two sketches, and answers whether the result equals the sketch of one stream. It refuses as
 /// [`merge`](CountMinSketch::merge) does.
@@ -40,4 +42,28 @@ pub fn restored_from_bytes<T: CountMinValue>(value: T) -> Result<T, Error>
     ensures { IsOkAnd result (λ v. T.number v ≡ T.number value) }
 {
     T::try_from_bytes(value.to_bytes())
+}
+
+/// What is written is an image, no bytes are an image of two sketches under one seed, and they are one of some sketch
+/// exactly where no check fails. It does nothing.
+pub fn what_images_say<T: CountMinValue>()
+    ensures spelled { SpelledIsImage T.least T.greatest }
+    ensures one { ImageIsOfOne T.least T.greatest }
+    ensures some { ImageIsOfSome T.least T.greatest }
+{}
+
+/// Writes an image of the sketch and reads it again under the sketch's own seed: the sketch that comes back equals it.
+///
+/// # Errors
+///
+/// `NoMemory` where there is no memory for the image or for the sketch.
+pub fn restored<T: CountMinValue>(
+    alloc: Global,
+    sketch: &CountMinSketch<T>,
+) -> Result<CountMinSketch<T>, Error>
+    ensures same { IfOk result (λ copy. copy ≡ sketch.now) }
+    ensures err { IfErr result (λ e. e ≡ no_memory) }
+{
+    let image = sketch.serialize()?;
+    CountMinSketch::deserialize_with_seed(alloc, &image, sketch.seed())
 }

@@ -1,0 +1,13 @@
+use Rattle.std.proofs.Common.{sym, ◌∙◌, refl}
+use Rattle.sketch_countmin.specs.Image.{value_at}
+use Rattle.sketch_countmin.proofs.RoundTrips.{spelled_is_image}
+use Rattle.sketch_countmin.proofs.laws.what_images_say.Goals as goal
+
+pub returns-clause-one : goal.returns-clause-one
+returns-clause-one g c = λ seed image a b one other. one.value ∙ sym other.value
+
+pub returns-clause-some : goal.returns-clause-some
+returns-clause-some g c = λ seed image. (λ p. p.1.no_fault, λ e. (value_at g.T.CountMinValue.least seed image, record { no_fault = e; value = refl }))
+
+pub returns-clause-spelled : goal.returns-clause-spelled
+returns-clause-spelled g c = spelled_is_image g.T.CountMinValue.least g.T.CountMinValue.greatest g.met.T.CountMinValue.zero_fits g.met.T.CountMinValue.bytes_fit
