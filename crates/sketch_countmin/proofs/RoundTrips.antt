@@ -1,13 +1,12 @@
 -- A spelled image is an image: each field is read again as it was written, and all checks pass.
-use Rattle.std.proofs.Common.{◌≡◌, ◌≢◌, ℕ, zero, suc, ◌+◌, ◌*◌, ◌<◌, ◌≤◌, ◌^◌, ◌==◌, ◌&&◌, ◌||◌, Bool, true, false, leb, List, [], ◌∷◌, ◌++◌, All, length, take, drop, get_or, replicate, Option, None, ℤ, pos, unsigned_abs, ◌≤ℤ◌, refl, sym, ap, subst, ◌∙◌, arith, length-append, eq-eqb, eqb-true}
+use Rattle.std.proofs.Common.{◌≡◌, ◌≢◌, ℕ, ◌+◌, ◌*◌, ◌<◌, ◌≤◌, ◌^◌, ◌==◌, Bool, true, false, leb, List, [], ◌∷◌, ◌++◌, All, length, take, drop, get_or, replicate, Option, None, ℤ, pos, unsigned_abs, ◌≤ℤ◌, refl, sym, ap, subst, ◌∙◌, arith, length-append, eq-eqb, eqb-true}
 use Rattle.std.specs.Prelude.{nat_le, nat_lt, int_le}
-use Rattle.std.specs.Int.{w32, w64, to_le_bytes}
 use Rattle.std.specs.List.{flat_map}
 use Rattle.std.proofs.lemmas.Bool.{le-leb, lt-ltb, ne_eqb, and_from, false≢true}
 use Rattle.std.proofs.lemmas.Int.{ints}
-use Rattle.std.proofs.lemmas.List.{length-replicate, get_or-replicate, ext_get_or}
+use Rattle.std.proofs.lemmas.List.{length-replicate, get_or-replicate}
 use Rattle.std.proofs.lemmas.List.Concat.{flat_map-cons}
-use Rattle.std.proofs.lemmas.List.Elements.{All-head, All-tail, All-get_or, All-from_get_or}
+use Rattle.std.proofs.lemmas.List.Elements.{All-head, All-tail, All-from_get_or}
 use Rattle.std.proofs.lemmas.Nat.{from_le_bytes-to_le_bytes_2, from_le_bytes-to_le_bytes_4, mod_below, mul-le}
 use Rattle.std.proofs.Math.Seq.{take-append_seam, drop-append_seam}
 use Rattle.sketch_base.specs.Checks.{first_failing, or_else}
@@ -17,7 +16,7 @@ use Rattle.sketch_base.specs.declared.fault.Fault.{Fault}
 use Rattle.sketch_countmin.specs.Equality.{same_parts}
 use Rattle.sketch_countmin.specs.Image.{IsImage, IsSpelled, preamble, all_cells, numbers_of, number_at, numbers_in, buckets_at, seed_hash_at, total_at, cells_at, value_at, is_in_range, total_checks, cell_checks, cells_checks, early_fault, late_fault}
 use Rattle.sketch_countmin.specs.Rows.{cell_at, rows_of}
-use Rattle.sketch_countmin.specs.State.{CountState, IsCountState, empty_state}
+use Rattle.sketch_countmin.specs.State.{CountState, IsCountState}
 use Rattle.sketch_countmin.specs.Values.{InRange, bytes_of, number_in}
 use Rattle.sketch_countmin.proofs.Reading.{first_failing-append}
 use Rattle.sketch_countmin.proofs.States.{rows_same, zero_cells}
@@ -166,19 +165,19 @@ module _ (least : ℤ) (greatest : ℕ) (low : least ≤ℤ pos 0) (back : (z : 
       let hash : seed_hash_at image ≡ seed_hash s.seed = hash_back 0 s.buckets s.hashes (seed_hash s.seed) tail (hash_fits s.seed) in
       let total : total_at least image ≡ pos s.total = total_back 0 s.buckets s.hashes (seed_hash s.seed) tail least (pos s.total) rest tail_is (back (pos s.total) (omega (arith, ints, low), omega (arith, ints, state.fits))) in
       let read : cells_at least image ≡ cells =
-          ap (λ (d : ℕ). numbers_in least (s.hashes * d) (drop 24 image)) buckets
-          ∙ (ap (λ (n : ℕ). numbers_in least n (drop 24 image)) (sym count)
-          ∙ (ap (numbers_in least (length cells)) (drop_back 0 s.buckets s.hashes (seed_hash s.seed) tail (pos s.total) rest tail_is) ∙ numbers_back least greatest back cells in_range)) in
+      ap (λ (d : ℕ). numbers_in least (s.hashes * d) (drop 24 image)) buckets
+      ∙ (ap (λ (n : ℕ). numbers_in least n (drop 24 image)) (sym count)
+      ∙ (ap (numbers_in least (length cells)) (drop_back 0 s.buckets s.hashes (seed_hash s.seed) tail (pos s.total) rest tail_is) ∙ numbers_back least greatest back cells in_range)) in
       let long : length image ≡ 24 + 8 * (s.hashes * s.buckets) = omega (arith, length_back 0 s.buckets s.hashes (seed_hash s.seed) tail, ap length tail_is, length-append (bytes_of (pos s.total)) rest, length-bytes cells, count) in
       let has : (n : ℕ) → n ≤ length image → leb n (length image) ≡ true = λ n le. le-leb _ _ le in
       let pass = passes_shape greatest s state in
       let early : early_fault s.seed image ≡ None = rw (buckets, hash, pass.hash, pass.same, pass.hashes, pass.buckets, pass.cells, has (24 + 8 * (s.hashes * s.buckets)) (omega (arith, long)), has 8 (omega (arith, long)), has 16 (omega (arith, long))) refl in
       let passed : first_failing (total_checks least greatest (pos s.total) ++ cells_checks least greatest s.total cells) ≡ None =
-          first_failing-append (total_checks least greatest (pos s.total)) (cells_checks least greatest s.total cells)
-          ∙ (ap (λ (o : Option Fault). or_else o (first_failing (cells_checks least greatest s.total cells))) (total_passes least greatest s.total low state.fits) ∙ cells_pass least greatest s.total cells in_range near) in
+      first_failing-append (total_checks least greatest (pos s.total)) (cells_checks least greatest s.total cells)
+      ∙ (ap (λ (o : Option Fault). or_else o (first_failing (cells_checks least greatest s.total cells))) (total_passes least greatest s.total low state.fits) ∙ cells_pass least greatest s.total cells in_range near) in
       let late : late_fault least greatest image ≡ None =
-          ap (λ (z : ℤ). first_failing (total_checks least greatest z ++ cells_checks least greatest (unsigned_abs z) (cells_at least image))) total
-          ∙ (ap (λ (zs : List ℤ). first_failing (total_checks least greatest (pos s.total) ++ cells_checks least greatest s.total zs)) read ∙ passed) in
+      ap (λ (z : ℤ). first_failing (total_checks least greatest z ++ cells_checks least greatest (unsigned_abs z) (cells_at least image))) total
+      ∙ (ap (λ (zs : List ℤ). first_failing (total_checks least greatest (pos s.total) ++ cells_checks least greatest s.total zs)) read ∙ passed) in
       record {
         no_fault = ap (λ (o : Option Fault). or_else o (late_fault least greatest image)) early ∙ late;
         value = same_parts s (value_at least s.seed image) refl (sym buckets) refl (ap unsigned_abs (sym total))

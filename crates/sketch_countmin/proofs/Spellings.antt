@@ -1,5 +1,5 @@
 -- What is written is spelled for the sketch.
-use Rattle.std.proofs.Common.{◌≡◌, ◌≢◌, ℕ, zero, suc, ◌+◌, ◌*◌, ◌≤◌, List, [], ◌∷◌, ◌++◌, All, length, take, drop, get_or, ℤ, pos, unsigned_abs, ◌≤ℤ◌, refl, sym, ap, subst, ◌∙◌, arith, append_assoc, ⊎_elim}
+use Rattle.std.proofs.Common.{◌≡◌, ◌≢◌, ℕ, zero, suc, ◌*◌, List, [], ◌∷◌, ◌++◌, All, length, take, drop, get_or, ℤ, pos, unsigned_abs, ◌≤ℤ◌, refl, sym, ap, subst, ◌∙◌, arith, append_assoc, ⊎_elim}
 use Rattle.std.specs.List.{flat_map}
 use Rattle.std.proofs.lemmas.Bool.{cases_lt}
 use Rattle.std.proofs.lemmas.Int.{ints}
@@ -7,7 +7,7 @@ use Rattle.std.proofs.lemmas.List.{take-append-drop, length-drop, get_or_past}
 use Rattle.std.proofs.lemmas.List.Concat.{flat_map-cons}
 use Rattle.std.proofs.lemmas.List.Elements.{All-get_or}
 use Rattle.sketch_base.specs.Hashes.{seed_hash}
-use Rattle.sketch_countmin.specs.Image.{IsSpelled, preamble, all_cells, numbers_of}
+use Rattle.sketch_countmin.specs.Image.{IsSpelled, preamble, all_cells}
 use Rattle.sketch_countmin.specs.Rows.{cell_at, rows_of}
 use Rattle.sketch_countmin.specs.Table.{IsTable, state_of}
 use Rattle.sketch_countmin.specs.Values.{InRange, bytes_of}

@@ -109,12 +109,7 @@ impl<T: CountMinValue> CountMinSketch<T> {
     }
 
     /// An empty sketch of a shape and a seed that sketches may have.
-    fn empty(
-        alloc: Global,
-        num_hashes: u8,
-        num_buckets: u32,
-        seed: u64,
-    ) -> Result<Self, Error>
+    fn empty(alloc: Global, num_hashes: u8, num_buckets: u32, seed: u64) -> Result<Self, Error>
         requires some_hashes { 1 ≤ num_hashes }
         requires some_buckets { MIN_NUM_BUCKETS ≤ num_buckets }
         requires few_cells { num_hashes * num_buckets < MAX_TABLE_ENTRIES }

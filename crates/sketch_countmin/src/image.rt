@@ -81,9 +81,9 @@ fn value_at<T: CountMinValue>(image: &[u8], place: usize) -> Result<T, Error>
     requires { place + 8 ≤ length image.now }
     ensures { MatchResult result
         (λ v. (T.number v ≡ number_at T.least image.now place)
-            × InRange T.least T.greatest (number_at T.least image.now place))
+        × InRange T.least T.greatest (number_at T.least image.now place))
         (λ e. (e ≡ invalid_data Fault.ValueOutOfRange)
-            × ¬ InRange T.least T.greatest (number_at T.least image.now place)) }
+        × ¬ InRange T.least T.greatest (number_at T.least image.now place)) }
 {
     let mut bytes = [0; 8];
     bytes.copy_from_slice(&image[place..place + 8]);
@@ -136,7 +136,7 @@ pub fn read_cells<T: CountMinValue>(
         map T.number counts.items ≡ numbers_in T.least num_cells (drop 24 image.now)) }
     ensures checks { OnOk result
         (first_failing (cells_checks T.least T.greatest total (numbers_in T.least num_cells (drop 24 image.now)))
-            ≡ None) }
+        ≡ None) }
     ensures err { IfErr result (IsImageRefusal None
         (first_failing (cells_checks T.least T.greatest total (numbers_in T.least num_cells (drop 24 image.now))))) }
 {

@@ -1,6 +1,6 @@
 //! Worked rows, vectors from outside, printed texts, and that each call succeeds.
 use crate::count_min_sketch::bucket_count;
-use crate::laws::{merge_as_one_stream, restored_from_bytes};
+use crate::laws::{merge_as_one_stream, restored, restored_from_bytes, what_images_say};
 use crate::{CountMinSketch, CountMinValue, Error, Fault, UnsignedCountMinValue};
 use std::alloc::Global;
 use std::test::Fail;
@@ -275,4 +275,177 @@ fn takes_eight_types_of_numbers(rt: HostRuntime) {
             && CountMinValue::checked_add(-100i16, 99) == Some(-1)
     );
     assert!(rt; 1_000_003i32.scale_nonnegative(1, 4) == 250_000 && 65535u16.halve() == 32767);
+}
+
+/// The image of a sketch of one hash and three buckets under the seed 9001: the total 5, and the cells 5, 0 and -5.
+const THREE_CELLS: [u8; 48] = [
+    2, 1, 18, 0, 0, 0, 0, 0, 3, 0, 0, 0, 1, 0xcc, 0x93, 0, 5, 0, 0, 0, 0, 0, 0, 0, 5, 0, 0, 0, 0,
+    0, 0, 0, 0, 0, 0, 0, 0, 0, 0, 0, 251, 255, 255, 255, 255, 255, 255, 255,
+];
+
+/// The image of a sketch of four hashes and 128 buckets under the seed 9001, with nothing in it.
+const NO_WEIGHT: [u8; 16] = [2, 1, 18, 1, 0, 0, 0, 0, 128, 0, 0, 0, 4, 0xcc, 0x93, 0];
+
+/// The total of an image's sketch, which is written again and read once more, or a mismatch where it comes back
+/// otherwise.
+fn total_of<T: CountMinValue>(alloc: Global, image: &[u8]) -> Result<T, Error> {
+    let sketch = CountMinSketch::<T>::deserialize(alloc, image)?;
+    let again = sketch.serialize()?;
+    if CountMinSketch::deserialize(alloc, &again)? == sketch {
+        Ok(sketch.total_weight())
+    } else {
+        Err(Error::invalid_argument(Fault::Mismatch))
+    }
+}
+
+/// The same of the image of three cells with some bytes of it altered.
+fn total_of_altered(alloc: Global, place: u8, bytes: &[u8]) -> Result<i8, Fault> {
+    let mut image = THREE_CELLS;
+    for (i, byte) in bytes.iter().enumerate() {
+        if let Some(old) = image.get_mut(place as usize + i) {
+            *old = *byte;
+        }
+    }
+    total_of(alloc, &image).map_err(|e| e.fault())
+}
+
+#[test]
+fn reads_altered_images(rt: HostRuntime) {
+    let rows: [(u8, [u8; 8], Result<i8, Fault>); 24] = [
+        (0, [2, 1, 18, 0, 7, 7, 7, 7], Ok(5)),
+        (0, [1, 1, 18, 0, 0, 0, 0, 0], Err(Fault::BadPreamble)),
+        (0, [1, 2, 18, 0, 0, 0, 0, 0], Err(Fault::BadVersion)),
+        (0, [1, 2, 21, 0, 0, 0, 0, 0], Err(Fault::BadFamily)),
+        (0, [2, 1, 18, 1, 0, 0, 0, 0], Ok(0)),
+        (0, [2, 1, 18, 2, 0, 0, 0, 0], Ok(5)),
+        (8, [3, 0, 0, 0, 1, 0xcc, 0x93, 7], Ok(5)),
+        (
+            8,
+            [2, 0, 0, 0, 0, 0xcd, 0x93, 0],
+            Err(Fault::SeedHashMismatch),
+        ),
+        (8, [2, 0, 0, 0, 0, 0xcc, 0x93, 0], Err(Fault::BadNumHashes)),
+        (8, [2, 0, 0, 0, 1, 0xcc, 0x93, 0], Err(Fault::BadNumBuckets)),
+        (
+            8,
+            [3, 0, 0, 0, 2, 0xcc, 0x93, 0],
+            Err(Fault::InsufficientData),
+        ),
+        (
+            8,
+            [4, 0, 0, 0, 1, 0xcc, 0x93, 0],
+            Err(Fault::InsufficientData),
+        ),
+        (
+            8,
+            [0, 0, 0, 64, 1, 0xcc, 0x93, 0],
+            Err(Fault::TableTooLarge),
+        ),
+        (
+            8,
+            [255, 255, 255, 63, 1, 0xcc, 0x93, 0],
+            Err(Fault::InsufficientData),
+        ),
+        (16, [128, 0, 0, 0, 0, 0, 0, 0], Err(Fault::ValueOutOfRange)),
+        (16, [255; 8], Err(Fault::NegativeTotal)),
+        (16, [127, 0, 0, 0, 0, 0, 0, 0], Ok(127)),
+        (16, [4, 0, 0, 0, 0, 0, 0, 0], Err(Fault::CellAboveTotal)),
+        (24, [6, 0, 0, 0, 0, 0, 0, 0], Err(Fault::CellAboveTotal)),
+        (24, [128, 0, 0, 0, 0, 0, 0, 0], Err(Fault::ValueOutOfRange)),
+        (32, [5, 0, 0, 0, 0, 0, 0, 0], Ok(5)),
+        (
+            40,
+            [127, 255, 255, 255, 255, 255, 255, 255],
+            Err(Fault::ValueOutOfRange),
+        ),
+        (
+            40,
+            [128, 255, 255, 255, 255, 255, 255, 255],
+            Err(Fault::CellAboveTotal),
+        ),
+        (
+            40,
+            [250, 255, 255, 255, 255, 255, 255, 255],
+            Err(Fault::CellAboveTotal),
+        ),
+    ];
+    for (place, bytes, wanted) in rows {
+        assert!(rt; total_of_altered(rt.alloc(), place, &bytes) == wanted);
+    }
+    let first_of_two = [6, 0, 0, 0, 0, 0, 0, 0, 128, 0, 0, 0, 0, 0, 0, 0];
+    assert!(rt; total_of_altered(rt.alloc(), 24, &first_of_two) == Err(Fault::CellAboveTotal));
+    let refused = Some(Error::invalid_data(Fault::ValueOutOfRange));
+    assert!(rt; total_of::<u8>(rt.alloc(), &THREE_CELLS).err() == refused);
+}
+
+#[test]
+fn reads_cut_images(rt: HostRuntime) {
+    let short = Some(Error::invalid_data(Fault::InsufficientData));
+    for length in 0..48 {
+        assert!(rt; total_of::<i8>(rt.alloc(), &THREE_CELLS[..length]).err() == short);
+    }
+    for length in 0..16 {
+        assert!(rt; total_of::<i64>(rt.alloc(), &NO_WEIGHT[..length]).err() == short);
+    }
+    assert!(rt; total_of::<u64>(rt.alloc(), &NO_WEIGHT) == Ok(0));
+}
+
+/// The seed and the bytes of the sketch of three cells, read under a seed with a limit.
+fn read_within(alloc: Global, seed: u64, most_bytes: usize) -> Result<(u64, usize), Error> {
+    let sketch = CountMinSketch::<i8>::deserialize_with_seed_and_limit(
+        alloc,
+        &THREE_CELLS,
+        seed,
+        most_bytes,
+    )?;
+    Ok((sketch.seed(), sketch.estimated_size()))
+}
+
+// Of the seeds 9001 and 37408 the hash is 0x93cc, and of 50541 it is 0.
+#[test]
+fn reads_under_a_seed_and_a_limit(rt: HostRuntime) {
+    let rows = [
+        (9001, 11, Ok((9001, 11))),
+        (9001, 10, Err(Fault::TableTooLarge)),
+        (37408, 11, Ok((37408, 11))),
+        (9002, 0, Err(Fault::SeedHashMismatch)),
+        (50541, 0, Err(Fault::ZeroSeedHash)),
+    ];
+    for (seed, most_bytes, wanted) in rows {
+        let found = read_within(rt.alloc(), seed, most_bytes);
+        assert!(rt; found == wanted.map_err(Error::invalid_data));
+    }
+}
+
+/// What three sketches write: the one of three cells, an empty one, and one whose image has zeros for its cells.
+fn written(alloc: Global) -> Result<(Vec<u8>, Vec<u8>, Vec<u8>), Error> {
+    let three = CountMinSketch::<i8>::deserialize_with_limit(alloc, &THREE_CELLS, 11)?;
+    let empty = CountMinSketch::<i64>::new(alloc, 4, 128)?;
+    let mut image = Vec::with_capacity(alloc, 24 + 8 * 512)?;
+    image.extend_from_slice(&NO_WEIGHT)?;
+    image[3] = 0;
+    image.resize(24 + 8 * 512, 0)?;
+    let zeros = CountMinSketch::<i64>::deserialize_with_seed(alloc, &image, 9001)?;
+    Ok((three.serialize()?, empty.serialize()?, zeros.serialize()?))
+}
+
+/// Whether a sketch of many weights comes back from its image.
+fn comes_back(alloc: Global) -> Result<bool, Error> {
+    let mut sketch = CountMinSketch::<i64>::with_seed(alloc, 4, 4096, 7)?;
+    for item in 0..20_000u64 {
+        sketch.update_with_weight(item, item as i64 % 7 - 3)?;
+    }
+    Ok(restored(alloc, &sketch)? == sketch)
+}
+
+#[test]
+fn writes_images(rt: HostRuntime) -> Result<(), Fail> {
+    let (three, empty, zeros) = written(rt.alloc())?;
+    assert!(rt; three.as_slice() == THREE_CELLS.as_slice());
+    assert!(rt;
+        empty.as_slice() == NO_WEIGHT.as_slice() && zeros.as_slice() == NO_WEIGHT.as_slice()
+    );
+    assert!(rt; comes_back(rt.alloc())?);
+    what_images_say::<i64>();
+    Ok(())
 }

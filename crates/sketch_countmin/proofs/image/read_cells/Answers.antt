@@ -1,7 +1,5 @@
-use Rattle.std.proofs.Common.{◌≡◌, ℕ, suc, ◌+◌, ◌-◌, ◌*◌, ◌∙◌, ap, drop, arith, inr}
+use Rattle.std.proofs.Common.{◌≡◌, ℕ, suc, ◌+◌, ◌-◌, ◌*◌, arith, inr}
 use Rattle.std.proofs.lemmas.Result.{err_from_is_err_and}
-use Rattle.sketch_base.specs.Checks.{first_failing}
-use Rattle.sketch_countmin.specs.Image.{numbers_in, cells_checks}
 use Rattle.sketch_countmin.proofs.Reading.{cells_more, fault_more, fault_here}
 use Rattle.sketch_countmin.proofs.image.read_cells.Goals as goal
 

@@ -16,7 +16,7 @@ loop-value-preserved g c =
     let more : map number (take (i + 1) counts) ≡ done ++ number x ∷ [] = ap (map number) (take_more counts i x c.loop-value-test.true) ∙ (ap (λ y. map number (take i counts ++ y ∷ [])) (sym c.value-item.is) ∙ map-append number (take i counts) (x ∷ [])) in
     record {
       written = c.in_ok-write.ensures.ok ∙ (ap (λ bs. bs ++ c.to_bytes.result) c.loop-value.invariant.written
-      ∙ (append_assoc c.args.out.now.bytes (flat_map bytes_of done) c.to_bytes.result
-      ∙ ap (λ bs. c.args.out.now.bytes ++ bs) (ap (λ bs. flat_map bytes_of done ++ bs) c.to_bytes.ensures.value ∙ (sym (flat_map-append bytes_of done (number x ∷ [])) ∙ ap (flat_map bytes_of) (sym more)))));
+          ∙ (append_assoc c.args.out.now.bytes (flat_map bytes_of done) c.to_bytes.result
+          ∙ ap (λ bs. c.args.out.now.bytes ++ bs) (ap (λ bs. flat_map bytes_of done ++ bs) c.to_bytes.ensures.value ∙ (sym (flat_map-append bytes_of done (number x ∷ [])) ∙ ap (flat_map bytes_of) (sym more)))));
       in_range = subst (λ (zs : List ℤ). All (InRange g.T.CountMinValue.least g.T.CountMinValue.greatest) zs) (sym more) (All-push (InRange g.T.CountMinValue.least g.T.CountMinValue.greatest) done (number x) c.loop-value.invariant.in_range c.to_bytes.ensures.in_range);
     }

@@ -1,5 +1,4 @@
-use Rattle.std.proofs.Common.{subst}
-use Rattle.sketch_countmin.specs.State.{CountState, IsCountState}
+use Rattle.sketch_countmin.specs.State.{IsCountState}
 use Rattle.sketch_countmin.proofs.Tables.{state_shown}
 use Rattle.sketch_countmin.proofs.States.{zero_cells}
 use Rattle.sketch_countmin.proofs.count_min_sketch.CountMinSketch.is_empty.Goals as goal

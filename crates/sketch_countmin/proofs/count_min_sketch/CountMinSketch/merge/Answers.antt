@@ -1,7 +1,7 @@
 use Rattle.std.proofs.Common.{arith, refl, ap, subst, ◌∙◌, ◌≡◌, ◌+◌, ◌≤◌, ◌++◌, map, length, take, drop, ℤ, pos, unsigned_abs}
 use Rattle.std.proofs.lemmas.Int.{ints}
 use Rattle.std.proofs.lemmas.List.{take_at}
-use Rattle.sketch_countmin.specs.State.{CountState, IsCountState, Joins}
+use Rattle.sketch_countmin.specs.State.{CountState, Joins}
 use Rattle.sketch_countmin.specs.Table.{state_of}
 use Rattle.sketch_countmin.proofs.Tables.{is_state, state_shown}
 use Rattle.sketch_countmin.proofs.Updates.{length_own}

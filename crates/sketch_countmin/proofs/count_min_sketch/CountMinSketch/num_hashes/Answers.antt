@@ -1,5 +1,3 @@
-use Rattle.std.proofs.Common.{subst}
-use Rattle.sketch_countmin.specs.State.{CountState, IsCountState}
 use Rattle.sketch_countmin.proofs.Tables.{state_shown}
 use Rattle.sketch_countmin.proofs.count_min_sketch.CountMinSketch.num_hashes.Goals as goal
 

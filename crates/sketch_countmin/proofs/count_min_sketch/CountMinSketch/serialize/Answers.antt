@@ -1,10 +1,9 @@
-use Rattle.std.proofs.Common.{◌≡◌, ◌≢◌, ℕ, ◌++◌, List, map, length, ℤ, pos, All, refl, sym, ap, subst, ◌∙◌, arith}
-use Rattle.std.specs.List.{flat_map}
+use Rattle.std.proofs.Common.{◌≡◌, ◌≢◌, ℕ, List, map, length, pos, All, refl, sym, subst, ◌∙◌, arith}
 use Rattle.std.proofs.lemmas.Int.{ints}
 use Rattle.sketch_base.specs.Hashes.{seed_hash}
-use Rattle.sketch_countmin.specs.Image.{IsSpelled, preamble}
+use Rattle.sketch_countmin.specs.Image.{IsSpelled}
 use Rattle.sketch_countmin.specs.State.{CountState}
-use Rattle.sketch_countmin.specs.Values.{InRange, bytes_of}
+use Rattle.sketch_countmin.specs.Values.{InRange}
 use Rattle.sketch_countmin.proofs.Spellings.{spelled_empty, spelled_full}
 use Rattle.sketch_countmin.proofs.count_min_sketch.CountMinSketch.serialize.Goals as goal
 

@@ -4,7 +4,7 @@ use Rattle.std.proofs.lemmas.List.{take_at}
 use Rattle.sketch_base.specs.Hashes.{fed_bytes}
 use Rattle.sketch_countmin.specs.Buckets.{bucket_by}
 use Rattle.sketch_countmin.specs.Cells.{RowsAdded}
-use Rattle.sketch_countmin.specs.State.{CountState, IsCountState, Counts}
+use Rattle.sketch_countmin.specs.State.{CountState, Counts}
 use Rattle.sketch_countmin.specs.Table.{state_of}
 use Rattle.sketch_countmin.proofs.Tables.{is_state}
 use Rattle.sketch_countmin.proofs.Updates.{rows_added_own, length_own, room_here, updated, counts_here}

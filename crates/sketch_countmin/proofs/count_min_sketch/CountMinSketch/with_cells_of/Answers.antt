@@ -1,4 +1,4 @@
-use Rattle.std.proofs.Common.{◌≡◌, ℕ, ◌∙◌, sym, ap, length, map, arith, inr, List, ℤ, unsigned_abs}
+use Rattle.std.proofs.Common.{◌≡◌, length, map, arith, inr, ℤ, unsigned_abs}
 use Rattle.std.proofs.lemmas.Int.{ints}
 use Rattle.std.proofs.lemmas.Result.{err_from_is_err_and}
 use Rattle.sketch_countmin.proofs.Images.{total_fault, table_read}
