@@ -481,7 +481,7 @@ impl<T: CountMinValue> CountMinSketch<T> {
         let num_hashes = preamble.num_hashes;
         let num_cells = num_hashes as usize * preamble.num_buckets as usize;
         let total = read_total::<T>(image)?;
-        let most = total.to_number().unsigned_abs();
+        let most = total.to_number().unsigned_abs() as u64;
         let counts = read_cells::<T>(alloc, image, num_cells, most)?;
         let row_seeds = row_seeds(alloc, num_hashes, seed)?;
         Ok(CountMinSketch {

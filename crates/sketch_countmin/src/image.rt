@@ -109,7 +109,7 @@ pub fn read_total<T: CountMinValue>(image: &[u8]) -> Result<T, Error>
 
 /// Reads a cell, and sees that the type has it and that it is no further from zero than the total.
 #[inline(always)]
-fn read_cell<T: CountMinValue>(image: &[u8], place: usize, total: u128) -> Result<T, Error>
+fn read_cell<T: CountMinValue>(image: &[u8], place: usize, total: u64) -> Result<T, Error>
     requires { place + 8 ≤ length image.now }
     ensures value { IfOk result (λ v. T.number v ≡ number_at T.least image.now place) }
     ensures checks { OnOk result
@@ -118,7 +118,7 @@ fn read_cell<T: CountMinValue>(image: &[u8], place: usize, total: u128) -> Resul
         × (first_failing (cell_checks T.least T.greatest total (number_at T.least image.now place)) ≡ Some e.fault)) }
 {
     let value = value_at::<T>(image, place)?;
-    if value.to_number().unsigned_abs() > total {
+    if value.to_number().unsigned_abs() as u64 > total {
         return Err(Error::invalid_data(Fault::CellAboveTotal));
     }
     Ok(value)
@@ -129,7 +129,7 @@ pub fn read_cells<T: CountMinValue>(
     alloc: Global,
     image: &[u8],
     num_cells: usize,
-    total: u128,
+    total: u64,
 ) -> Result<Vec<T>, Error>
     requires { 24 + 8 * num_cells ≤ length image.now }
     ensures value { IfOk result (λ counts.
