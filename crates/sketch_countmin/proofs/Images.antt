@@ -1,27 +1,30 @@
 -- What is read is what the image says.
-use Rattle.std.proofs.Common.{◌≡◌, ◌≢◌, ℕ, zero, suc, ◌*◌, ◌+◌, ◌<◌, ◌≤◌, ◌^◌, Bool, true, false, List, [], ◌∷◌, length, drop, get_or, Option, Some, None, ℤ, pos, unsigned_abs, refl, sym, ap, subst, ◌∙◌, arith, All}
-use Rattle.std.specs.Prelude.{slice_index, if◌then◌else◌, nat_le, nat_lt}
-use Rattle.std.proofs.lemmas.Bool.{leb-true, ltb-true, le-ltb}
+use Rattle.std.proofs.Common.{◌≡◌, ◌≢◌, ℕ, zero, suc, ◌*◌, ◌+◌, ◌<◌, ◌≤◌, ◌^◌, Bool, true, false, List, [], ◌∷◌, length, drop, get_or, Option, Some, None, ℤ, pos, unsigned_abs, ◌≤ℤ◌, T, replicate, ◌++◌, refl, sym, ap, subst, ◌∙◌, arith, eq-eqb, All}
+use Rattle.std.specs.Prelude.{slice_index, if◌then◌else◌, nat_le, nat_lt, int_le}
+use Rattle.std.specs.Int.Signed.{le_z_yes}
+use Rattle.std.proofs.lemmas.Bool.{leb-true, ltb-true, le-ltb, and_parts, not-true, false≢true}
+use Rattle.std.proofs.lemmas.Int.{ints}
+use Rattle.std.proofs.lemmas.List.{length-replicate, get_or-replicate}
 use Rattle.std.proofs.lemmas.Nat.{mul-le}
 use Rattle.std.proofs.lemmas.List.Concat.{flat_map-cons}
-use Rattle.std.proofs.lemmas.List.Elements.{All-nil, All-cons, All-get_or}
+use Rattle.std.proofs.lemmas.List.Elements.{All-nil, All-cons, All-get_or, All-from_get_or}
 use Rattle.sketch_base.specs.Checks.{first_failing, or_else, IsImageRefusal}
 use Rattle.sketch_base.specs.Errors.{ErrorValue}
 use Rattle.sketch_base.specs.Hashes.{seed_hash}
 use Rattle.sketch_base.specs.declared.fault.Fault.{Fault}
 use Rattle.sketch_base.specs.declared.fault.Fault.TheVariants.{ValueOutOfRange, CellAboveTotal, InsufficientData}
 use Rattle.sketch_countmin.specs.Buckets.{row_seed}
-use Rattle.sketch_countmin.specs.History.CountHistory.{Restored}
-use Rattle.sketch_countmin.specs.Image.{IsImage, Restores, says_empty, hashes_at, buckets_at, num_cells_at, numbers_in, total_at, cells_at, value_at, is_in_range, total_checks, cell_checks, cells_checks, early_checks, early_fault, early_fault_within, limit_fault, late_fault, first_fault, first_fault_within}
+use Rattle.sketch_countmin.specs.Image.{says_empty, hashes_at, buckets_at, num_cells_at, numbers_in, total_at, cells_at, value_at, is_in_range, total_checks, cell_checks, cells_checks, early_checks, early_fault, early_fault_within, limit_fault, late_fault, first_fault, first_fault_within}
 use Rattle.sketch_countmin.specs.Preamble.{IsPreamble}
-use Rattle.sketch_countmin.specs.Stands.{StandsFor}
-use Rattle.sketch_countmin.specs.State.{CountState, empty_state}
-use Rattle.sketch_countmin.specs.Table.{IsTable, state_of}
+use Rattle.sketch_countmin.specs.Rows.{cell_at}
+use Rattle.sketch_countmin.specs.State.{IsCountState}
+use Rattle.sketch_countmin.specs.Table.{IsTable}
 use Rattle.sketch_countmin.specs.declared.image.Preamble.{Preamble}
 use Rattle.sketch_countmin.proofs.Reading.{first_failing-append}
+use Rattle.sketch_countmin.proofs.Tables.{length-rows_of, rows_width, rows_all, rows_of-replicate, zeros_read}
 
 -- so many numbers are read
-pub length-numbers_in : (least : ℤ) (n : ℕ) (bytes : List ℕ) → length (numbers_in least n bytes) ≡ n
+length-numbers_in : (least : ℤ) (n : ℕ) (bytes : List ℕ) → length (numbers_in least n bytes) ≡ n
 length-numbers_in least zero bytes = refl
 length-numbers_in least (suc n) bytes = omega (arith, length-numbers_in least n (drop 8 bytes))
 
@@ -37,7 +40,7 @@ second_passes true false f g h = cc
 second_passes false b f g h = cc
 
 -- no cell that passes is further from zero than the total
-pub within_total : (least : ℤ) (greatest total : ℕ) (cells : List ℤ) → first_failing (cells_checks least greatest total cells) ≡ None → (k : ℕ) → unsigned_abs (get_or cells k (pos 0)) ≤ total
+within_total : (least : ℤ) (greatest total : ℕ) (cells : List ℤ) → first_failing (cells_checks least greatest total cells) ≡ None → (k : ℕ) → unsigned_abs (get_or cells k (pos 0)) ≤ total
 within_total least greatest total [] h k = omega arith
 within_total least greatest total (z ∷ zs) h k =
     let both = neither (first_failing (cell_checks least greatest total z)) (first_failing (cells_checks least greatest total zs))
@@ -68,7 +71,7 @@ table_read least greatest row_seeds d seed m n most total cells bytes height wid
     }
 
 -- the late checks of an image that has a total and cells
-pub late_is : (least : ℤ) (greatest : ℕ) (image : List ℕ) (p : Preamble) → IsPreamble image p → p.is_empty ≡ false
+late_is : (least : ℤ) (greatest : ℕ) (image : List ℕ) (p : Preamble) → IsPreamble image p → p.is_empty ≡ false
     → late_fault least greatest image
     ≡ or_else (first_failing (total_checks least greatest (total_at least image))) (first_failing (cells_checks least greatest (unsigned_abs (total_at least image)) (numbers_in least (p.num_hashes * p.num_buckets) (drop 24 image))))
 late_is least greatest image p fields full =
@@ -83,35 +86,8 @@ total_fault least greatest image p fault fields full fails =
     late_is least greatest image p fields full
     ∙ ap (λ (o : Option Fault). or_else o (first_failing (cells_checks least greatest (unsigned_abs (total_at least image)) (numbers_in least (p.num_hashes * p.num_buckets) (drop 24 image))))) fails
 
--- what an image says, where it has a total and cells
-pub value_full : (least : ℤ) (image : List ℕ) (p : Preamble) (seeds : List ℕ) (d seed : ℕ) (total : ℤ) (cells : List ℤ) → IsPreamble image p → p.is_empty ≡ false → length seeds ≡ p.num_hashes → d ≡ p.num_buckets → total ≡ total_at least image
-    → cells ≡ numbers_in least (p.num_hashes * p.num_buckets) (drop 24 image) → state_of seeds d seed total cells ≡ value_at least seed image
-value_full least image p seeds d seed total cells fields full height width total_is cells_are =
-    let not_empty : says_empty image ≡ false = sym fields.is_empty ∙ full in
-    rw (not_empty, height, width, total_is, cells_are, fields.num_hashes, fields.num_buckets) refl
-
--- an image that says that the total is 0
-pub image_empty : (least : ℤ) (greatest seed : ℕ) (image : List ℕ) (p : Preamble) (s : CountState) → IsPreamble image p → early_fault seed image ≡ None → p.is_empty ≡ true → s ≡ empty_state p.num_hashes p.num_buckets seed → IsImage least greatest seed image s
-image_empty least greatest seed image p s fields passes none is =
-    let empty : says_empty image ≡ true = sym fields.is_empty ∙ none in
-    record {
-      no_fault = rw (passes, empty) refl;
-      value = is ∙ rw (empty, fields.num_hashes, fields.num_buckets) refl;
-    }
-
--- what comes back stands for the restored history
-pub restores : (least : ℤ) (greatest seed : ℕ) (image : List ℕ) (new : CountState) → IsImage least greatest seed image new → Restores least greatest seed image new
-restores least greatest seed image new is old was h stands =
-    subst (λ (s : CountState). StandsFor s (Restored h)) (was.value ∙ sym is.value) (record {
-      hashes = stands.hashes;
-      buckets = stands.buckets;
-      seed = stands.seed;
-      total = stands.total;
-      cells = stands.cells;
-    })
-
 -- where no check of a list fails, each passes
-pub each_passes : (checks : List (Bool × Fault)) → first_failing checks ≡ None → All (λ check. check.0 ≡ true) checks
+each_passes : (checks : List (Bool × Fault)) → first_failing checks ≡ None → All (λ check. check.0 ≡ true) checks
 each_passes [] h = All-nil (λ (check : Bool × Fault). check.0 ≡ true)
 each_passes (check ∷ checks) h =
     let both = first_passes check.0 check.1 (first_failing checks) h in
@@ -145,3 +121,83 @@ refusal_without_limit least greatest size seed image e small h =
     unlimited : (early limit : Option Fault) → (early ≡ None → limit ≡ None) → or_else early limit ≡ early
     unlimited None limit h = h refl
     unlimited (Some fault) limit h = refl
+
+-- ---- what an image says is a sketch
+
+-- rows of zeros have zeros
+zeros_at : (m d : ℕ) → (r b : ℕ) → cell_at (replicate m (replicate d (pos 0))) r b ≡ pos 0
+zeros_at m d r b =
+    subst (λ (rows : List (List ℤ)). cell_at rows r b ≡ pos 0) (rows_of-replicate m d (pos 0)) (rows_all (λ (z : ℤ). z ≡ pos 0) refl m d (replicate (m * d) (pos 0)) (zeros_read (m * d)) r b)
+
+-- a total that passes is no greater than the type's greatest number
+total_fits : (least : ℤ) (greatest : ℕ) (total : ℤ) → first_failing (total_checks least greatest total) ≡ None → unsigned_abs total ≤ greatest
+total_fits least greatest total h =
+    let each = each_passes (total_checks least greatest total) h in
+    let none : Bool × Fault = (true, InsufficientData) in
+    let range : is_in_range least greatest total ≡ true = All-get_or (λ (c : Bool × Fault). c.0 ≡ true) (total_checks least greatest total) 0 none (omega arith) each in
+    let some : int_le (pos 0) total ≡ true = All-get_or (λ (c : Bool × Fault). c.0 ≡ true) (total_checks least greatest total) 1 none (omega arith) each in
+    let above : pos 0 ≤ℤ total = in_order (pos 0) total some in
+    let below : total ≤ℤ pos greatest = in_order total (pos greatest) (and_parts (int_le least total) (int_le total (pos greatest)) range).1 in
+    omega (arith, ints, above, below)
+  where
+    in_order : (a b : ℤ) → int_le a b ≡ true → a ≤ℤ b
+    in_order a b e = le_z_yes (subst T (sym e) tt)
+
+-- where no check of a list of bytes fails, what it says is a sketch
+pub state_at : (least : ℤ) (greatest seed : ℕ) (image : List ℕ) → All (λ byte. byte < 2 ^ 8) image → first_fault least greatest seed image ≡ None → IsCountState greatest (value_at least seed image)
+state_at least greatest seed image bytes passes = by_flag (says_empty image) refl
+  where
+    parts : (early_fault seed image ≡ None) × (late_fault least greatest image ≡ None)
+    parts = neither (early_fault seed image) (late_fault least greatest image) passes
+
+    check : (k : ℕ) → k < 11 → (get_or (early_checks seed image) k (true, InsufficientData)).0 ≡ true
+    check k lt = All-get_or (λ (c : Bool × Fault). c.0 ≡ true) (early_checks seed image) k (true, InsufficientData) lt (each_passes (early_checks seed image) parts.0)
+
+    some_hashes : 1 ≤ hashes_at image
+    some_hashes = leb-true 1 (hashes_at image) (check 7 (omega arith))
+
+    few_hashes : hashes_at image ≤ 255
+    few_hashes =
+        let long : 16 ≤ length image = leb-true 16 (length image) (check 4 (omega arith)) in
+        let byte : hashes_at image < 2 ^ 8 = All-get_or (λ (n : ℕ). n < 2 ^ 8) image 12 0 (omega (arith, long)) bytes in
+        omega (arith, byte)
+
+    some_buckets : 3 ≤ buckets_at image
+    some_buckets = leb-true 3 (buckets_at image) (check 8 (omega arith))
+
+    few_cells : num_cells_at image < 1073741824
+    few_cells = ltb-true (num_cells_at image) 1073741824 (check 9 (omega arith))
+
+    seeded : seed_hash seed ≢ 0
+    seeded = λ zero. false≢true (sym (not-true _ (check 5 (omega arith))) ∙ eq-eqb (seed_hash seed) 0 zero)
+
+    by_flag : (b : Bool) → says_empty image ≡ b → IsCountState greatest (value_at least seed image)
+    by_flag true e = rw e (record {
+      some_hashes = omega (arith, some_hashes);
+      few_hashes = few_hashes;
+      some_buckets = some_buckets;
+      few_cells = few_cells;
+      seeded = seeded;
+      height = length-replicate (hashes_at image) (replicate (buckets_at image) (pos 0));
+      width = All-from_get_or (λ (row : List ℤ). length row ≡ buckets_at image) (replicate (hashes_at image) (replicate (buckets_at image) (pos 0))) []
+          (λ i lt. ap length (get_or-replicate (hashes_at image) i (replicate (buckets_at image) (pos 0)) [] (omega (arith, lt, length-replicate (hashes_at image) (replicate (buckets_at image) (pos 0))))) ∙ length-replicate (buckets_at image) (pos 0));
+      fits = omega arith;
+      bounded = λ r b. rw (zeros_at (hashes_at image) (buckets_at image) r b) (omega arith);
+    })
+    by_flag false e =
+        let late : first_failing (total_checks least greatest (total_at least image) ++ cells_checks least greatest (unsigned_abs (total_at least image)) (cells_at least image)) ≡ None = rw e at parts.1 in
+        let totals = total_checks least greatest (total_at least image) in
+        let cells = cells_checks least greatest (unsigned_abs (total_at least image)) (cells_at least image) in
+        let both : (first_failing totals ≡ None) × (first_failing cells ≡ None) = neither (first_failing totals) (first_failing cells) (sym (first_failing-append totals cells) ∙ late) in
+        rw e (record {
+          some_hashes = omega (arith, some_hashes);
+          few_hashes = few_hashes;
+          some_buckets = some_buckets;
+          few_cells = few_cells;
+          seeded = seeded;
+          height = length-rows_of (hashes_at image) (buckets_at image) (cells_at least image);
+          width = rows_width (hashes_at image) (buckets_at image) (cells_at least image) (length-numbers_in least (num_cells_at image) (drop 24 image));
+          fits = total_fits least greatest (total_at least image) both.0;
+          bounded = λ r b. rows_all (λ (z : ℤ). unsigned_abs z ≤ unsigned_abs (total_at least image)) (omega arith) (hashes_at image) (buckets_at image) (cells_at least image)
+              (within_total least greatest (unsigned_abs (total_at least image)) (cells_at least image) both.1) r b;
+        })

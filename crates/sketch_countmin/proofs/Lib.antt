@@ -1,6 +1,7 @@
 pub mod Numbers
 pub mod Reading
 pub mod RoundTrips
+pub mod Writing
 pub mod Spellings
 pub mod Images
 pub mod RowSteps

@@ -92,7 +92,7 @@ state_shown greatest row_seeds d seed total cells s e i =
     subst (λ (t : CountState). IsCountState greatest t) e (is_state greatest row_seeds d seed total cells i)
 
 -- zeros read as zeros, also past their end
-zeros_read : (n k : ℕ) → get_or (replicate n (pos 0)) k (pos 0) ≡ pos 0
+pub zeros_read : (n k : ℕ) → get_or (replicate n (pos 0)) k (pos 0) ≡ pos 0
 zeros_read n k = ⊎_elim (λ (lt : k < n). get_or-replicate n k (pos 0) (pos 0) lt) (λ (le : n ≤ k). get_or_past (replicate n (pos 0)) k (pos 0) (omega (arith, length-replicate n (pos 0), le))) (cases_lt k n)
 
 -- the parts of an empty sketch

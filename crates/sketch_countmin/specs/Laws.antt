@@ -1,7 +1,7 @@
 -- The laws of images, for a type with this least and this greatest number.
-use Rattle.std.specs.Prelude.{◌≡◌, ◌↔◌, ℕ, ℤ, List, None}
+use Rattle.std.specs.Prelude.{◌≡◌, ◌↔◌, ℕ, ◌<◌, ◌^◌, ℤ, List, All, None}
 use Rattle.sketch_countmin.specs.Image.{IsImage, IsSpelled, first_fault}
-use Rattle.sketch_countmin.specs.State.{CountState}
+use Rattle.sketch_countmin.specs.State.{CountState, IsCountState}
 
 -- what is spelled for a sketch is an image of it, under its own seed
 abbrev pub SpelledIsImage : ℤ → ℕ → Type 0
@@ -19,3 +19,9 @@ abbrev pub ImageIsOfSome : ℤ → ℕ → Type 0
 ImageIsOfSome least greatest =
     (seed : ℕ) (image : List ℕ)
     → ((a : CountState) × IsImage least greatest seed image a) ↔ (first_fault least greatest seed image ≡ None)
+
+-- what a list of bytes is an image of has a shape, a seed and a total that sketches have
+abbrev pub ImageIsWithinLimits : ℤ → ℕ → Type 0
+ImageIsWithinLimits least greatest =
+    (seed : ℕ) (image : List ℕ) (a : CountState) → All (λ byte. byte < 2 ^ 8) image
+    → IsImage least greatest seed image a → IsCountState greatest a

@@ -2,7 +2,7 @@
 ghost use Rattle.std.specs.Prelude.{◌≡◌, ◌+◌, ◌<◌, ◌≤◌, ◌↔◌, IfOk, IfErr, OnOk, OnErr, IsOk, IsErrOf, IsTrue, IsOkAnd};
 ghost use Rattle.sketch_base.specs.Errors.{invalid_argument, no_memory};
 ghost use Rattle.sketch_countmin.specs.History.{CountHistory, IsExact, followed_by};
-ghost use Rattle.sketch_countmin.specs.Laws.{SpelledIsImage, ImageIsOfOne, ImageIsOfSome};
+ghost use Rattle.sketch_countmin.specs.Laws.{SpelledIsImage, ImageIsOfOne, ImageIsOfSome, ImageIsWithinLimits};
 ghost use Rattle.sketch_countmin.specs.Stands.{StandsFor};
 ghost use Rattle.sketch_countmin.specs.State.{SameShape, Joins};
 
@@ -44,12 +44,13 @@ pub fn restored_from_bytes<T: CountMinValue>(value: T) -> Result<T, Error>
     T::try_from_bytes(value.to_bytes())
 }
 
-/// What is written is an image, no bytes are an image of two sketches under one seed, and they are one of some sketch
-/// exactly where no check fails. It does nothing.
+/// What is written is an image, no bytes are an image of two sketches under one seed, they are one of some sketch exactly
+/// where no check fails, and that sketch is within the limits. It does nothing.
 pub fn what_images_say<T: CountMinValue>()
     ensures spelled { SpelledIsImage T.least T.greatest }
     ensures one { ImageIsOfOne T.least T.greatest }
     ensures some { ImageIsOfSome T.least T.greatest }
+    ensures within_limits { ImageIsWithinLimits T.least T.greatest }
 {}
 
 /// Writes an image of the sketch and reads it again under the sketch's own seed: the sketch that comes back equals it.

@@ -1,5 +1,7 @@
-use Rattle.std.proofs.Common.{sym, ◌∙◌, refl}
+use Rattle.std.proofs.Common.{sym, ◌∙◌, refl, subst}
 use Rattle.sketch_countmin.specs.Image.{value_at}
+use Rattle.sketch_countmin.specs.State.{CountState, IsCountState}
+use Rattle.sketch_countmin.proofs.Images.{state_at}
 use Rattle.sketch_countmin.proofs.RoundTrips.{spelled_is_image}
 use Rattle.sketch_countmin.proofs.laws.what_images_say.Goals as goal
 
@@ -11,3 +13,6 @@ returns-clause-some g c = λ seed image. (λ p. p.1.no_fault, λ e. (value_at g.
 
 pub returns-clause-spelled : goal.returns-clause-spelled
 returns-clause-spelled g c = spelled_is_image g.T.CountMinValue.least g.T.CountMinValue.greatest g.met.T.CountMinValue.zero_fits g.met.T.CountMinValue.bytes_fit
+
+pub returns-clause-within_limits : goal.returns-clause-within_limits
+returns-clause-within_limits g c = λ seed image a bytes is. subst (λ (s : CountState). IsCountState g.T.CountMinValue.greatest s) (sym is.value) (state_at g.T.CountMinValue.least g.T.CountMinValue.greatest seed image bytes is.no_fault)
