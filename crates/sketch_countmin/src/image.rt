@@ -74,10 +74,10 @@ pub fn read_preamble(image: &[u8], seed: u64) -> Result<Preamble, Error>
     })
 }
 
-/// The value in the eight bytes from a place on.
+/// Reads the value in the eight bytes from a place on, and sees that the type has it.
 #[tactic(auto, unfolding(crate::specs::Image::number_at))]
 #[inline(always)]
-fn value_at<T: CountMinValue>(image: &[u8], place: usize) -> Result<T, Error>
+fn read_value<T: CountMinValue>(image: &[u8], place: usize) -> Result<T, Error>
     requires { place + 8 ≤ length image.now }
     ensures { MatchResult result
         (λ v. (T.number v ≡ number_at T.least image.now place)
@@ -100,7 +100,7 @@ pub fn read_total<T: CountMinValue>(image: &[u8]) -> Result<T, Error>
     ensures err { IfErr result (λ e. (e ≡ invalid_data e.fault)
         × (first_failing (total_checks T.least T.greatest (total_at T.least image.now)) ≡ Some e.fault)) }
 {
-    let total = value_at::<T>(image, 16)?;
+    let total = read_value::<T>(image, 16)?;
     if total.to_number() < 0 {
         return Err(Error::invalid_data(Fault::NegativeTotal));
     }
@@ -117,7 +117,7 @@ fn read_cell<T: CountMinValue>(image: &[u8], place: usize, total: u64) -> Result
     ensures err { IfErr result (λ e. (e ≡ invalid_data e.fault)
         × (first_failing (cell_checks T.least T.greatest total (number_at T.least image.now place)) ≡ Some e.fault)) }
 {
-    let value = value_at::<T>(image, place)?;
+    let value = read_value::<T>(image, place)?;
     if value.to_number().unsigned_abs() as u64 > total {
         return Err(Error::invalid_data(Fault::CellAboveTotal));
     }

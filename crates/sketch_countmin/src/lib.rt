@@ -1,7 +1,8 @@
 //! Count-Min sketches: the weights of items in a table with a row for each of a few hashes.
 //!
 //! Each item has one cell in each row. An update adds its weight to these cells, and the least of them is the estimate.
-//! Where no weight is below zero, an estimate is never below the true weight.
+//! Where no weight is below zero, an estimate is never below the true weight. A sketch is written as an image of bytes,
+//! and read from one.
 #![tactic(auto)]
 
 mod cells;
