@@ -392,9 +392,9 @@ impl<T: CountMinValue> CountMinSketch<T> {
     /// The fault of the first check that fails, of the kind `InvalidData`: in this order `InsufficientData`,
     /// `BadFamily`, `BadVersion`, `BadPreamble`, `InsufficientData`, `ZeroSeedHash` where the hash of `seed` is 0,
     /// `SeedHashMismatch` where the image has another, `BadNumHashes`, `BadNumBuckets`, `TableTooLarge`,
-    /// `InsufficientData`, `ValueOutOfRange` where `T` has no such total, `NegativeTotal`, and of the first cell that is
-    /// wrong `ValueOutOfRange`, or `CellAboveTotal` where it is further from zero than the total. `NoMemory` where there
-    /// is no memory for the cells, which are asked for before they are read.
+    /// `InsufficientData`, `ValueOutOfRange` where `T` has no such total, `NegativeTotal`, and of the first cell that
+    /// is wrong `ValueOutOfRange`, or `CellAboveTotal` where it is further from zero than the total. `NoMemory` where
+    /// there is no memory for the cells, which are asked for before they are read.
     pub fn deserialize_with_seed(alloc: Global, image: &[u8], seed: u64) -> Result<Self, Error>
         ensures image { IfOk result (λ sketch. IsImage T.least T.greatest seed image.now sketch) }
         ensures state { IfOk result (λ sketch. IsCountState T.greatest sketch) }
@@ -429,8 +429,8 @@ impl<T: CountMinValue> CountMinSketch<T> {
     ///
     /// # Errors
     ///
-    /// Those of `deserialize_with_seed`, and `TableTooLarge` of the kind `InvalidData` where the sketch would take more:
-    /// behind the checks that come before memory, and then no memory is asked for.
+    /// Those of `deserialize_with_seed`, and `TableTooLarge` of the kind `InvalidData` where the sketch would take
+    /// more: behind the checks that come before memory, and then no memory is asked for.
     pub fn deserialize_with_seed_and_limit(
         alloc: Global,
         image: &[u8],

@@ -44,8 +44,8 @@ pub fn restored_from_bytes<T: CountMinValue>(value: T) -> Result<T, Error>
     T::try_from_bytes(value.to_bytes())
 }
 
-/// What is written is an image, no bytes are an image of two sketches under one seed, they are one of some sketch exactly
-/// where no check fails, and that sketch is within the limits. It does nothing.
+/// What is written is an image, no bytes are an image of two sketches under one seed, they are one of some sketch
+/// exactly where no check fails, and that sketch is within the limits. It does nothing.
 pub fn what_images_say<T: CountMinValue>()
     ensures spelled { SpelledIsImage T.least T.greatest }
     ensures one { ImageIsOfOne T.least T.greatest }
