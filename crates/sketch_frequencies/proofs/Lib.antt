@@ -35,6 +35,7 @@ pub mod States
 pub mod Stride
 pub mod Tail
 pub mod Tallies
+pub mod Texts
 pub mod WalkSteps
 pub mod Walks
 pub mod Writes

@@ -2,6 +2,8 @@ pub mod Above
 pub mod Growth
 pub mod History
 pub mod Homes
+pub mod ItemLaws
+pub mod Items
 pub mod Places
 pub mod Probes
 pub mod RowValue

@@ -10,6 +10,7 @@
 #![tactic(auto)]
 
 mod error_type;
+mod frequent_item_value;
 mod frequent_items_sketch;
 mod reverse_purge_item_hash_map;
 mod reverse_purge_item_iter;
@@ -20,8 +21,9 @@ mod slots;
 mod tests;
 
 pub use error_type::ErrorType;
+pub use frequent_item_value::FrequentItemValue;
 pub use frequent_items_sketch::FrequentItemsSketch;
 pub use reverse_purge_item_hash_map::ReversePurgeItemHashMap;
 pub use reverse_purge_item_iter::ReversePurgeItemIter;
 pub use row::Row;
-pub use sketch_base::{Error, ErrorKind, Fault};
+pub use sketch_base::{Error, ErrorKind, Fault, SketchBytes, SketchSlice};

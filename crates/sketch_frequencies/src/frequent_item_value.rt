@@ -1,0 +1,175 @@
+//! Items that a sketch of frequent items can write into its image, and read from one.
+ghost use Rattle.std.specs.Prelude.{◌≡◌, ◌+◌, ◌≤◌, length, IfOk, IfErr, IsOk, OnOk, OnErr, Err, Ok};
+ghost use Rattle.std.specs.String.{string_bytes};
+ghost use Rattle.sketch_base.specs.Errors.{no_memory, invalid_data};
+ghost use Rattle.sketch_frequencies.specs.Items.{Codec, IsLawful, Writes, Reads, IsWritingRefusal, IsReadingRefusal, AddsBytes, TakesBytes, text_taken, IsTextRefusal};
+
+use sketch_base::image::check_length;
+use sketch_base::{Error, Fault, SketchBytes, SketchSlice};
+use std::alloc::Global;
+use std::hash::Hash;
+
+/// An item that can stand in an image.
+///
+/// What an implementation writes it has to read again as an equal item, whatever follows, and to leave that unread.
+/// It is proved once, for the implementation: `codec` defines how contents are written and read, and `lawful` is the
+/// proof that this is so.
+pub trait FrequentItemValue: Sized + Eq + Hash {
+    // What an item says, wherever it lies in memory.
+    ghost Content: { Type 0 };
+
+    ghost content: { Self → Content };
+
+    // How items are told apart, written and read by their contents.
+    ghost codec: { Codec Content };
+
+    /// How many bytes [`serialize_value`](Self::serialize_value) writes. Where that refuses the item, any number.
+    fn serialize_size(item: &Self) -> usize
+        ensures { IfOk (codec.encoding (content item.now)) (λ bytes. result ≡ length bytes) };
+
+    /// Writes the item at the end.
+    ///
+    /// # Errors
+    ///
+    /// A fault of the item's own, of the kind `InvalidArgument`, where it cannot be written, and `NoMemory` only where
+    /// its bytes do not fit into the capacity. A part of the item may then stand at the end.
+    fn serialize_value(&self, out: &mut SketchBytes) -> Result<(), Error>
+        ensures ok { OnOk result (Writes codec out.old.bytes (content self.now) out.new.bytes) }
+        ensures err { IfErr result (IsWritingRefusal codec (content self.now)) }
+        ensures begun { OnErr result (AddsBytes out.old.bytes out.new.bytes) }
+        ensures within { IfOk (codec.encoding (content self.now))
+            (λ bytes. length out.old.bytes + length bytes ≤ out.old.capacity → IsOk result) }
+        ensures capacity { out.old.capacity ≤ out.new.capacity };
+
+    /// Reads the item at the front, and leaves what follows it unread.
+    ///
+    /// # Errors
+    ///
+    /// A fault of the item's own, of the kind `InvalidData`, where no item stands there, and `NoMemory` where there is
+    /// no memory for it. Some bytes may then have been read.
+    fn deserialize_value(alloc: Global, slice: &mut SketchSlice) -> Result<Self, Error>
+        ensures ok { IfOk result (λ item. Reads codec slice.old (content item) slice.new) }
+        ensures err { IfErr result (IsReadingRefusal codec slice.old) }
+        ensures within { OnErr result (TakesBytes slice.old slice.new) };
+
+    // Items are equal where their contents say so.
+    ghost alike: { (x y : Self) → Self.eq x y ≡ codec.same (content x) (content y) };
+
+    ghost lawful: { IsLawful codec };
+}
+
+/// Eight bytes.
+impl FrequentItemValue for u64 {
+    ghost use Rattle.std.proofs.Common.{rules};
+    ghost use Rattle.std.specs.Prelude.{ℕ, nat_eq};
+    ghost use Rattle.sketch_frequencies.specs.Items.{u64_encoding, u64_reading};
+    ghost use Rattle.sketch_frequencies.specs.ItemLaws.{u64_lawful};
+
+    ghost Content = { ℕ };
+
+    ghost content = { λ n. n };
+
+    ghost codec = { record { same = nat_eq; encoding = u64_encoding; reading = u64_reading } };
+
+    ghost alike = { Prim.search rules };
+
+    ghost lawful = { u64_lawful };
+
+    fn serialize_size(_item: &u64) -> usize {
+        8
+    }
+
+    fn serialize_value(&self, out: &mut SketchBytes) -> Result<(), Error> {
+        out.write_u64_le(*self)
+    }
+
+    fn deserialize_value(_alloc: Global, slice: &mut SketchSlice) -> Result<u64, Error> {
+        slice.read_u64_le()
+    }
+}
+
+/// Eight bytes.
+impl FrequentItemValue for i64 {
+    ghost use Rattle.std.proofs.Common.{rules};
+    ghost use Rattle.std.specs.Prelude.{ℤ};
+    ghost use Rattle.std.specs.Ordering.{int_eq};
+    ghost use Rattle.sketch_frequencies.specs.Items.{i64_encoding, i64_reading};
+    ghost use Rattle.sketch_frequencies.specs.ItemLaws.{i64_lawful};
+
+    ghost Content = { ℤ };
+
+    ghost content = { λ n. n };
+
+    ghost codec = { record { same = int_eq; encoding = i64_encoding; reading = i64_reading } };
+
+    ghost alike = { Prim.search rules };
+
+    ghost lawful = { i64_lawful };
+
+    fn serialize_size(_item: &i64) -> usize {
+        8
+    }
+
+    fn serialize_value(&self, out: &mut SketchBytes) -> Result<(), Error> {
+        out.write_i64_le(*self)
+    }
+
+    fn deserialize_value(_alloc: Global, slice: &mut SketchSlice) -> Result<i64, Error> {
+        slice.read_i64_le()
+    }
+}
+
+/// Its length in bytes, of 32 bits, and then its UTF-8 bytes.
+///
+/// Writing answers [`ItemTooLong`](Fault::ItemTooLong) above 2^32 - 1 bytes. Reading answers
+/// [`InsufficientData`](Fault::InsufficientData) where the length or the bytes are not all there, then
+/// [`InvalidUtf8`](Fault::InvalidUtf8), and then asks for memory.
+impl FrequentItemValue for String {
+    ghost use Rattle.std.proofs.Common.{rules};
+    ghost use Rattle.std.specs.Prelude.{ℕ, List, bytes_eq};
+    ghost use Rattle.sketch_frequencies.specs.Items.{text_encoding, text_reading};
+    ghost use Rattle.sketch_frequencies.specs.ItemLaws.{text_lawful};
+
+    ghost Content = { List ℕ };
+
+    ghost content = { λ text. string_bytes text };
+
+    ghost codec = { record { same = bytes_eq; encoding = text_encoding; reading = text_reading } };
+
+    ghost alike = { Prim.search rules };
+
+    ghost lawful = { text_lawful };
+
+    fn serialize_size(item: &String) -> usize {
+        4 + item.len()
+    }
+
+    fn serialize_value(&self, out: &mut SketchBytes) -> Result<(), Error> {
+        let text = self.as_bytes();
+        if text.len() > u32::MAX as usize {
+            return Err(Error::invalid_argument(Fault::ItemTooLong));
+        }
+        out.write_u32_le(text.len() as u32)?;
+        out.write(text)?;
+        Ok(())
+    }
+
+    fn deserialize_value(alloc: Global, slice: &mut SketchSlice) -> Result<String, Error> {
+        let len = slice.read_u32_le()?;
+        let text = text_of(alloc, slice.remaining(), len as usize)?;
+        slice.advance(len as u64);
+        Ok(text)
+    }
+}
+
+/// The text of the first `len` bytes.
+fn text_of(alloc: Global, unread: &[u8], len: usize) -> Result<String, Error>
+    ensures ok { IfOk result (λ text. text_taken len unread.now ≡ Ok (string_bytes text)) }
+    ensures err { IfErr result (IsTextRefusal len unread.now) }
+{
+    check_length(unread, len)?;
+    let Ok(text) = std::str::from_utf8(&unread[..len]) else {
+        return Err(Error::invalid_data(Fault::InvalidUtf8));
+    };
+    Ok(String::from_str(alloc, text)?)
+}
