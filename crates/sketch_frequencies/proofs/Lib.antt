@@ -3,6 +3,7 @@ pub mod Bounds
 pub mod Cases
 pub mod Clones
 pub mod Counted
+pub mod Counting
 pub mod Descents
 pub mod Enclosure
 pub mod Estimates
@@ -10,8 +11,10 @@ pub mod Filters
 pub mod Fresh
 pub mod Full
 pub mod Homes
+pub mod Images
 pub mod Joins
 pub mod Lessening
+pub mod Limits
 pub mod Lookups
 pub mod Merges
 pub mod Middle
@@ -27,10 +30,12 @@ pub mod Puts
 pub mod Reports
 pub mod Ring
 pub mod Same
+pub mod SameCounts
 pub mod Samples
 pub mod Scans
 pub mod Shifts
 pub mod SlotWalks
+pub mod Spellings
 pub mod States
 pub mod Stride
 pub mod Tail
@@ -38,4 +43,5 @@ pub mod Tallies
 pub mod Texts
 pub mod WalkSteps
 pub mod Walks
+pub mod Weights
 pub mod Writes

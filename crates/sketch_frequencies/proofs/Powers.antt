@@ -8,7 +8,7 @@ use Rattle.std.specs.Int.{is_power_of_two, IsPowerOfTwo}
 use lib.Count.{ones, ones_in, ones_step, ones-le}
 use Rattle.sketch_frequencies.proofs.Cases.{by_cases}
 
-pow_twice : (k : ℕ) → 2 ^ (suc k) ≡ 2 * 2 ^ k
+pub pow_twice : (k : ℕ) → 2 ^ (suc k) ≡ 2 * 2 ^ k
 pow_twice k = grind arith
 
 -- a number has fewer bits than it counts
@@ -72,3 +72,9 @@ greatest_power n r p low high =
 pub eight_is_power : IsTrue (is_power_of_two 8)
 unfolding ones ones_in
 eight_is_power = refl
+
+-- a power of two is one by the test
+pub power_is : (k : ℕ) → IsTrue (is_power_of_two (2 ^ k))
+unfolding ones ones_in
+power_is zero = refl
+power_is (suc k) = subst (λ (n : ℕ). IsTrue (is_power_of_two n)) (sym (pow_twice k)) (power_twice (2 ^ k) (power_is k))

@@ -1,11 +1,15 @@
 pub mod Above
+pub mod Bytes
 pub mod Growth
 pub mod History
 pub mod Homes
+pub mod Image
 pub mod ItemLaws
 pub mod Items
+pub mod Laws
 pub mod Places
 pub mod Probes
+pub mod Reading
 pub mod RowValue
 pub mod Rows
 pub mod Shifted
@@ -17,3 +21,4 @@ pub mod Steps
 pub mod Tables
 pub mod Walk
 pub mod Walking
+pub mod Writing

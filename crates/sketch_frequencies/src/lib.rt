@@ -12,6 +12,7 @@
 mod error_type;
 mod frequent_item_value;
 mod frequent_items_sketch;
+mod image;
 mod reverse_purge_item_hash_map;
 mod reverse_purge_item_iter;
 mod row;
@@ -23,7 +24,9 @@ mod tests;
 pub use error_type::ErrorType;
 pub use frequent_item_value::FrequentItemValue;
 pub use frequent_items_sketch::FrequentItemsSketch;
+pub use image::{EMPTY_FLAG_MASK, PREAMBLE_LONGS_EMPTY, PREAMBLE_LONGS_NONEMPTY};
 pub use reverse_purge_item_hash_map::ReversePurgeItemHashMap;
 pub use reverse_purge_item_iter::ReversePurgeItemIter;
 pub use row::Row;
+pub use sketch_base::image::SERIAL_VERSION;
 pub use sketch_base::{Error, ErrorKind, Fault, SketchBytes, SketchSlice};

@@ -4,7 +4,9 @@ ghost use Rattle.std.specs.Int.{is_power_of_two};
 ghost use Rattle.std.specs.List.{IsDistinct};
 ghost use Rattle.std.specs.Map.{keys_of};
 ghost use Rattle.sketch_base.specs.Errors.{no_memory};
+ghost use Rattle.sketch_frequencies.specs.Bytes.{table_bytes};
 ghost use Rattle.sketch_frequencies.specs.Homes.{home_in, IsReach, IsShortOfReach};
+ghost use Rattle.sketch_frequencies.specs.Slots.{entries_of};
 ghost use Rattle.sketch_frequencies.specs.Tables.{count_of, is_tracked, put, purged, IsSampleMiddle, IsSameMap, PutsEqual};
 ghost use Rattle.sketch_frequencies.specs.Walk.{entry_of};
 
@@ -27,6 +29,16 @@ pub(crate) fn capacity_of(size: usize) -> usize
     ensures { result ≡ size * 3 / 4 }
 {
     size * 3 / 4
+}
+
+/// How many bytes a table of so many slots takes, by the formula of `estimated_size`.
+#[tactic(auto, unfolding(crate::specs::Bytes::table_bytes))]
+pub(crate) fn bytes_of_table<T: Drop>(size: usize) -> usize
+    ensures { result ≡ table_bytes T.row size }
+{
+    let free: Option<T> = None;
+    let slot = size_of_val(&free).saturating_add(12);
+    size.saturating_mul(slot)
 }
 
 /// A finite map from items to counts of zero or more, in a table of slots that is never full.
@@ -232,10 +244,10 @@ impl<T: Eq + Hash + Drop> ReversePurgeItemHashMap<T> {
 
     /// How many bytes the table takes, an estimate by a fixed formula: for each slot those of an `Option<T>` and 12
     /// more, or the greatest `usize` where that passes it.
-    pub fn estimated_size(&self) -> usize {
-        let free: Option<T> = None;
-        let slot = size_of_val(&free).saturating_add(12);
-        self.slots.len().saturating_mul(slot)
+    pub fn estimated_size(&self) -> usize
+        ensures { result ≡ table_bytes T.row self.now.size }
+    {
+        bytes_of_table::<T>(self.slots.len())
     }
 
     /// The same map with clones of the items, in a table of the same size. Clones have to equal their originals.
@@ -292,6 +304,13 @@ impl<T: Eq + Hash + Drop> ReversePurgeItemHashMap<T> {
         self.slots.truncate(size);
         slots::free_all(&mut self.slots);
         self.active = 0;
+    }
+
+    /// The slots of the table.
+    pub(crate) fn slots(&self) -> &[Slot<T>]
+        ensures { entries_of result.now ≡ self.now.entries }
+    {
+        &self.slots
     }
 
     /// The allocator of the table.

@@ -1,0 +1,61 @@
+use Rattle.std.proofs.Common.{arith, ◌≤◌, ◌<◌, ◌+◌, ◌*◌, ℕ, drop, refl, inl, inr, ap, ◌∙◌}
+use Rattle.std.proofs.lemmas.Result.{err_from_is_err_and}
+use Rattle.sketch_frequencies.specs.Image.{active_at, items_at}
+use Rattle.sketch_frequencies.proofs.Cases.{by_cases}
+use Rattle.sketch_frequencies.proofs.Puts.{count_le_sum}
+use Rattle.sketch_frequencies.proofs.Counting.{at_start, one_more, one_dropped, at_end, fails, so_far_within}
+use Rattle.sketch_frequencies.proofs.image.read_counters.Goals as goal
+use Rattle.sketch_frequencies.proofs.image.read_counters.Goals.{then-weight-ne0, else-weight-ne0}
+
+pub loop-i-init : goal.loop-i-init
+loop-i-init g c =
+    let rest = c.advance.ensures ∙ ap (drop (32 + 8 * c.args.active)) c.new-slice.ensures ∙ ap (λ (n : ℕ). drop (32 + 8 * n) c.args.image.now) c.requires.active in
+    record {
+      so_far = rw c.in_ok-map.ensures.ok (at_start g.T.FrequentItemValue.codec g.T.FrequentItemValue.content g.T.PartialEq.eq g.met.T.Eq.laws g.met.T.FrequentItemValue.lawful.equivalence g.met.T.FrequentItemValue.alike c.args.image.now c.advance.new.self rest);
+      size = rw c.in_ok-map.ensures.ok refl;
+    }
+
+pub returns-in_err-item-clause-err : goal.returns-in_err-item-clause-err
+returns-in_err-item-clause-err g c =
+    let p = err_from_is_err_and c.from_residual-in_err-item.result c.from_residual-in_err-item.ensures.1 in
+    let i = c.loop-i.invariant.so_far in
+    let lt : c.loop-i.i < active_at c.args.image.now = omega (arith, c.loop-i-test.true, c.requires.active) in
+    rw (p.1, p.2) (by_cases c.in_err-item.ensures.err (λ m. inl m) (λ h. inr (h.0, fails g.T.FrequentItemValue.codec g.T.FrequentItemValue.content g.T.PartialEq.eq g.met.T.Eq.laws g.met.T.FrequentItemValue.lawful.equivalence g.met.T.FrequentItemValue.alike i.items (active_at c.args.image.now) c.loop-i.i c.loop-i.slice _ (items_at g.T.FrequentItemValue.codec c.args.image.now) lt h.1 i.read)))
+
+pub adjust_or_put_value-requires-clause-room : goal.adjust_or_put_value-requires-clause-room
+adjust_or_put_value-requires-clause-room g c = λ _.
+    let image = c.args.image.now in
+    let lt : c.loop-i.i < active_at image = omega (arith, c.loop-i-test.true, c.requires.active) in
+    let w = so_far_within g.T.FrequentItemValue.codec g.T.FrequentItemValue.content g.T.PartialEq.eq g.met.T.Eq.laws g.met.T.FrequentItemValue.lawful.equivalence g.met.T.FrequentItemValue.alike image c.loop-i.slice c.loop-i.i c.loop-i.map.entries c.loop-i.invariant.so_far lt in
+    omega (arith, w.0, lt, c.requires.few, c.requires.active, c.requires.least, c.loop-i.invariant.size)
+
+pub adjust_or_put_value-requires-clause-fits : goal.adjust_or_put_value-requires-clause-fits
+adjust_or_put_value-requires-clause-fits g c = λ _.
+    let image = c.args.image.now in
+    let lt : c.loop-i.i < active_at image = omega (arith, c.loop-i-test.true, c.requires.active) in
+    let w = so_far_within g.T.FrequentItemValue.codec g.T.FrequentItemValue.content g.T.PartialEq.eq g.met.T.Eq.laws g.met.T.FrequentItemValue.lawful.equivalence g.met.T.FrequentItemValue.alike image c.loop-i.slice c.loop-i.i c.loop-i.map.entries c.loop-i.invariant.so_far lt in
+    omega (arith, w.1, count_le_sum g.T.PartialEq.eq c.loop-i.map.entries c.in_ok-item.item, c.weight_at-weight.ensures, c.requires.fits)
+
+pub loop-i-preserved : goal.loop-i-preserved
+loop-i-preserved g c =
+    let image = c.args.image.now in
+    let k = c.loop-i.i in
+    let lt : k < active_at image = omega (arith, c.loop-i-test.true, c.requires.active) in
+    let r = c.in_ok-item.ensures.ok in
+    let weight = c.weight_at-weight.result in
+    elim c.if-weight-ne0.branch [
+      | then-weight-ne0 w ↦ record {
+        so_far = rw (w.map-is, r.left) (one_more g.T.FrequentItemValue.codec g.T.FrequentItemValue.content g.T.PartialEq.eq g.met.T.Eq.laws g.met.T.FrequentItemValue.lawful.equivalence g.met.T.FrequentItemValue.alike image c.loop-i.slice k r.used weight c.in_ok-item.item c.loop-i.map.entries w.adjust_or_put_value.new.self.entries lt r.read c.weight_at-weight.ensures (omega (arith, w.if-weight-ne0.true)) c.loop-i.invariant.so_far w.adjust_or_put_value.ensures.entries w.adjust_or_put_value.ensures.distinct);
+        size = ap (λ t. t.size) w.map-is ∙ w.adjust_or_put_value.ensures.size ∙ c.loop-i.invariant.size;
+      }
+      | else-weight-ne0 w ↦ record {
+        so_far = rw (w.map-is, r.left) (one_dropped g.T.FrequentItemValue.codec g.T.FrequentItemValue.content g.T.PartialEq.eq g.met.T.Eq.laws g.met.T.FrequentItemValue.lawful.equivalence g.met.T.FrequentItemValue.alike image c.loop-i.slice k r.used weight c.in_ok-item.item c.loop-i.map.entries lt r.read c.weight_at-weight.ensures w.if-weight-ne0.false c.loop-i.invariant.so_far);
+        size = ap (λ t. t.size) w.map-is ∙ c.loop-i.invariant.size;
+      }
+    ]
+
+pub returns-clause-counters : goal.returns-clause-counters
+returns-clause-counters g c =
+    let image = c.args.image.now in
+    let le : active_at image ≤ c.loop-i.i = omega (arith, c.loop-i-test.false, c.requires.active) in
+    at_end g.T.FrequentItemValue.codec g.T.FrequentItemValue.content g.T.PartialEq.eq g.met.T.Eq.laws g.met.T.FrequentItemValue.lawful.equivalence g.met.T.FrequentItemValue.alike image c.loop-i.slice c.loop-i.i c.loop-i.map.entries le c.loop-i.invariant.so_far

@@ -1,0 +1,10 @@
+use Rattle.std.proofs.Common.{◌≡◌}
+use Rattle.sketch_frequencies.specs.Reading.{AreCountersSoFar}
+use Rattle.sketch_frequencies.proofs.image.read_counters.Given as goal
+
+-- the items so far are counted
+abbrev pub invariant-loop-i : goal.invariant-loop-i
+invariant-loop-i g l = record {
+  so_far : AreCountersSoFar g.T.FrequentItemValue.codec g.T.FrequentItemValue.content g.T.PartialEq.eq l.image l.i l.slice l.map.entries;
+  size : l.map.size ≡ l.size;
+}

@@ -1,0 +1,14 @@
+-- How many bytes a table takes, by a fixed formula.
+use Rattle.std.specs.Prelude.{ℕ, ◌+◌, ◌-◌, ◌*◌, ◌^◌, min}
+use Rattle.std.specs.Mem.{type_size}
+use Rattle.std.specs.contracts.option.Option as option
+use prog.Memory.{capped}
+use denote.RattleType.{RattleType}
+
+-- the bytes of an `Option` of an item
+abbrev pub option_bytes : RattleType → ℕ
+option_bytes item = capped (type_size (option.the_row item))
+
+-- for each slot those of an `Option` of an item and 12 more, or the greatest `usize` where that passes it
+unfoldable pub table_bytes : RattleType → ℕ → ℕ
+table_bytes item size = min (size * min (option_bytes item + 12) (2 ^ 64 - 1)) (2 ^ 64 - 1)

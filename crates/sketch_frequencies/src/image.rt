@@ -1,0 +1,340 @@
+//! The images of sketches: how they are read and written.
+ghost use Rattle.std.specs.Prelude.{◌≡◌, ◌+◌, ◌*◌, ◌<◌, ◌≤◌, ◌^◌, ◌++◌, None, Some, length, slice_index, sum, IfOk, IfErr, OnOk, IsTrue};
+ghost use Rattle.std.specs.Int.{is_power_of_two};
+ghost use Rattle.sketch_base.specs.Checks.{first_failing};
+ghost use Rattle.sketch_base.specs.Errors.{invalid_data, no_memory};
+ghost use Rattle.sketch_base.specs.Fields.{byte_at};
+ghost use Rattle.sketch_frequencies.specs.Bytes.{table_bytes};
+ghost use Rattle.sketch_frequencies.specs.Image.{header_checks, count_checks, weight_checks, active_at, weights_at, header, preamble, encoded_weights, contents_of, IsImageWritingRefusal};
+ghost use Rattle.sketch_frequencies.specs.Reading.{IsHeader, AreNumbers, AreCounters, IsItemsRefusal};
+ghost use Rattle.sketch_frequencies.specs.Slots.{entries_of};
+ghost use Rattle.sketch_frequencies.specs.State.{capacity};
+ghost use Rattle.sketch_frequencies.specs.Writing.{WritesItems};
+
+use crate::frequent_item_value::FrequentItemValue;
+use crate::reverse_purge_item_hash_map::{ReversePurgeItemHashMap, bytes_of_table, capacity_of};
+use crate::slot::Slot;
+use sketch_base::image::{SERIAL_VERSION, check_length, check_version, u32_at, u64_at};
+use sketch_base::{Error, ErrorKind, Family, Fault, SketchBytes, SketchSlice};
+use std::alloc::Global;
+
+/// The longs of the preamble of a sketch into which nothing was fed.
+pub const PREAMBLE_LONGS_EMPTY: u8 = 1;
+
+/// The longs of the preamble of any other sketch.
+pub const PREAMBLE_LONGS_NONEMPTY: u8 = 4;
+
+/// The flags of a sketch into which nothing was fed.
+pub const EMPTY_FLAG_MASK: u8 = 5;
+
+/// The least table size that an image may state, as a power of two.
+const LEAST_LG_SIZE: u8 = 3;
+
+/// The greatest one.
+const GREATEST_LG_SIZE: u8 = 30;
+
+/// What the first eight bytes of an image say.
+#[derive(Clone, Copy)]
+pub(crate) struct Header {
+    pub(crate) is_empty: bool,
+    pub(crate) lg_max: u8,
+    pub(crate) lg_cur: u8,
+}
+
+/// What the 24 bytes behind them say.
+#[derive(Clone, Copy)]
+pub(crate) struct Numbers {
+    pub(crate) active: u32,
+    pub(crate) total: u64,
+    pub(crate) error: u64,
+}
+
+/// Reads the first eight bytes.
+pub(crate) fn read_header(image: &[u8]) -> Result<Header, Error>
+    ensures checks { OnOk result (first_failing (header_checks image.now) ≡ None) }
+    ensures fields { IfOk result (IsHeader image.now) }
+    ensures long { OnOk result (8 ≤ length image.now) }
+    ensures least { IfOk result (λ h. 3 ≤ h.lg_cur) }
+    ensures within { IfOk result (λ h. h.lg_cur ≤ h.lg_max) }
+    ensures greatest { IfOk result (λ h. h.lg_max ≤ 30) }
+    ensures err { IfErr result
+        (λ e. (e ≡ invalid_data e.fault) × (first_failing (header_checks image.now) ≡ Some e.fault)) }
+{
+    check_length(image, 8)?;
+    Family::FREQUENCY.validate_id(image[2])?;
+    check_version(image[1])?;
+    let lg_max = image[3];
+    let lg_cur = image[4];
+    if lg_cur < LEAST_LG_SIZE {
+        return Err(Error::invalid_data(Fault::LgCurTooSmall));
+    }
+    if lg_max > GREATEST_LG_SIZE {
+        return Err(Error::invalid_data(Fault::LgMaxTooLarge));
+    }
+    if lg_cur > lg_max {
+        return Err(Error::invalid_data(Fault::LgCurAboveMax));
+    }
+    let preamble_longs = image[0] % 64;
+    if preamble_longs != PREAMBLE_LONGS_EMPTY && preamble_longs != PREAMBLE_LONGS_NONEMPTY {
+        return Err(Error::invalid_data(Fault::BadPreamble));
+    }
+    let is_empty = preamble_longs == PREAMBLE_LONGS_EMPTY;
+    let has_empty_flag = image[5] & EMPTY_FLAG_MASK != 0;
+    if is_empty != has_empty_flag {
+        return Err(Error::invalid_data(Fault::EmptyFlagMismatch));
+    }
+    Ok(Header {
+        is_empty,
+        lg_max,
+        lg_cur,
+    })
+}
+
+/// Reads the numbers behind the header, and sees that the weights are there.
+pub(crate) fn read_numbers(image: &[u8], lg_cur: u8) -> Result<Numbers, Error>
+    requires size { lg_cur ≡ byte_at image.now 4 }
+    requires small { lg_cur ≤ 30 }
+    ensures checks { OnOk result (first_failing (count_checks image.now) ≡ None) }
+    ensures fields { IfOk result (AreNumbers image.now) }
+    ensures weights { IfOk result (λ n. 32 + 8 * n.active ≤ length image.now) }
+    ensures few { IfOk result (λ n. n.active ≤ capacity (2 ^ lg_cur)) }
+    ensures some { IfOk result (λ n. 0 < n.total) }
+    ensures err { IfErr result
+        (λ e. (e ≡ invalid_data e.fault) × (first_failing (count_checks image.now) ≡ Some e.fault)) }
+{
+    check_length(image, 12)?;
+    let active = u32_at(image, 8);
+    if active as usize > capacity_of(table_size(lg_cur)) {
+        return Err(Error::invalid_data(Fault::TooManyActive));
+    }
+    check_length(image, 24)?;
+    let total = u64_at(image, 16);
+    if total == 0 {
+        return Err(Error::invalid_data(Fault::ZeroTotal));
+    }
+    check_length(image, 32)?;
+    let error = u64_at(image, 24);
+    check_length(image, 32 + 8 * active as usize)?;
+    Ok(Numbers {
+        active,
+        total,
+        error,
+    })
+}
+
+/// Whether a table of so many slots takes at most so many bytes, by the formula of `estimated_size`.
+pub(crate) fn check_limit<T: Drop>(size: usize, most_bytes: usize) -> Result<(), Error>
+    ensures within { OnOk result (table_bytes T.row size ≤ most_bytes) }
+    ensures err { IfErr result
+        (λ e. (e ≡ invalid_data Fault.TableTooLarge) × (most_bytes < table_bytes T.row size)) }
+{
+    if bytes_of_table::<T>(size) > most_bytes {
+        return Err(Error::invalid_data(Fault::TableTooLarge));
+    }
+    Ok(())
+}
+
+/// Whether the weights together, and they and the error together, are at most the total.
+pub(crate) fn check_weights(image: &[u8], numbers: &Numbers) -> Result<(), Error>
+    requires fields { AreNumbers image.now numbers.now }
+    requires weights { 32 + 8 * numbers.now.active ≤ length image.now }
+    ensures checks { OnOk result (first_failing (weight_checks image.now) ≡ None) }
+    ensures sum { OnOk result (sum (weights_at image.now) + numbers.now.error ≤ numbers.now.total) }
+    ensures err { IfErr result
+        (λ e. (e ≡ invalid_data e.fault) × (first_failing (weight_checks image.now) ≡ Some e.fault)) }
+
+    // What the type says, for the caller's proof.
+    ensures total_fits { numbers.now.total < 2 ^ 64 }
+{
+    let total = numbers.total;
+    let mut sum = 0u64;
+    for i in 0..numbers.active as usize {
+        let weight = weight_at(image, i);
+        if weight > total - sum {
+            return Err(Error::invalid_data(Fault::WeightsExceedTotal));
+        }
+        sum += weight;
+    }
+    if numbers.error > total - sum {
+        return Err(Error::invalid_data(Fault::ErrorExceedsTotal));
+    }
+    Ok(())
+}
+
+/// The weight of a counter.
+#[inline]
+fn weight_at(image: &[u8], i: usize) -> u64
+    requires within { i < active_at image.now }
+    requires weights { 32 + 8 * active_at image.now ≤ length image.now }
+    ensures { result ≡ slice_index (weights_at image.now) i }
+{
+    u64_at(image, 32 + 8 * i)
+}
+
+/// Reads the items into a table of so many slots, each with its weight.
+pub(crate) fn read_counters<T: FrequentItemValue + Drop>(
+    alloc: Global,
+    image: &[u8],
+    active: u32,
+    size: usize,
+) -> Result<ReversePurgeItemHashMap<T>, Error>
+    requires active { active ≡ active_at image.now }
+    requires weights { 32 + 8 * active ≤ length image.now }
+    requires fits { sum (weights_at image.now) < 2 ^ 64 }
+    requires few { active ≤ capacity size }
+    requires least { 8 ≤ size }
+    requires power { IsTrue (is_power_of_two size) }
+    requires limit { size ≤ 2 ^ 30 }
+    ensures counters { IfOk result (λ map. AreCounters T.codec T.content T.eq image.now map.entries) }
+    ensures size { IfOk result (λ map. map.size ≡ size) }
+    ensures err { IfErr result (IsItemsRefusal T.codec image.now) }
+{
+    let mut slice = SketchSlice::new(image);
+    slice.advance(32 + 8 * active as u64);
+    let mut map = ReversePurgeItemHashMap::new(alloc, size)?;
+    for i in 0..active as usize {
+        let item = T::deserialize_value(alloc, &mut slice)?;
+        let weight = weight_at(image, i);
+        if weight != 0 {
+            map.adjust_or_put_value(item, weight);
+        }
+    }
+    Ok(map)
+}
+
+/// The size of a table of this power of two.
+pub(crate) fn table_size(lg: u8) -> usize
+    requires { lg ≤ 30 }
+    ensures value { result ≡ 2 ^ lg }
+    ensures power { IsTrue (is_power_of_two result) }
+    ensures limit { result ≤ 2 ^ 30 }
+{
+    1usize << lg
+}
+
+/// How many bytes the items in the slots take.
+///
+/// Answers `NoMemory` where that passes the greatest `usize`, since so many are never to be had.
+fn items_size<T: FrequentItemValue>(slots: &[Slot<T>]) -> Result<usize, Error>
+    ensures { IfErr result (λ e. e ≡ no_memory) }
+{
+    let mut size = 0usize;
+    for slot in slots {
+        if let Slot::Taken { item, .. } = slot {
+            let Some(sum) = size.checked_add(T::serialize_size(item)) else {
+                return Err(Error::new(ErrorKind::OutOfMemory, Fault::NoMemory));
+            };
+            size = sum;
+        }
+    }
+    Ok(size)
+}
+
+/// How many bytes the image takes of a sketch with so many counters in these slots.
+///
+/// Answers `NoMemory` where that passes the greatest `usize`.
+pub(crate) fn image_size<T: FrequentItemValue>(
+    slots: &[Slot<T>],
+    active: usize,
+) -> Result<usize, Error>
+    requires { active ≤ 2 ^ 30 }
+    ensures { IfErr result (λ e. e ≡ no_memory) }
+{
+    let Some(size) = items_size(slots)?.checked_add(32 + 8 * active) else {
+        return Err(Error::new(ErrorKind::OutOfMemory, Fault::NoMemory));
+    };
+    Ok(size)
+}
+
+/// The image of a sketch into which nothing was fed.
+pub(crate) fn empty_image(alloc: Global, lg_max: u8) -> Result<SketchBytes, Error>
+    ensures ok { IfOk result (λ out. out.bytes ≡ header PREAMBLE_LONGS_EMPTY lg_max LEAST_LG_SIZE EMPTY_FLAG_MASK) }
+    ensures err { IfErr result (λ e. e ≡ no_memory) }
+{
+    let mut out = SketchBytes::with_capacity(alloc, 8)?;
+    write_header(
+        &mut out,
+        PREAMBLE_LONGS_EMPTY,
+        lg_max,
+        LEAST_LG_SIZE,
+        EMPTY_FLAG_MASK,
+    )?;
+    Ok(out)
+}
+
+/// A buffer with room for so many bytes, in which the preamble of an image stands.
+pub(crate) fn begin_image(
+    alloc: Global,
+    room: usize,
+    lg_max: u8,
+    lg_cur: u8,
+    numbers: &Numbers,
+) -> Result<SketchBytes, Error>
+    ensures ok { IfOk result (λ out.
+        out.bytes ≡ preamble lg_max lg_cur numbers.now.active numbers.now.total numbers.now.error) }
+    ensures err { IfErr result (λ e. e ≡ no_memory) }
+
+    // What the type says, for the caller's proof.
+    ensures total_fits { OnOk result (numbers.now.total < 2 ^ 64) }
+{
+    let mut out = SketchBytes::with_capacity(alloc, room)?;
+    write_header(&mut out, PREAMBLE_LONGS_NONEMPTY, lg_max, lg_cur, 0)?;
+    out.write_u32_le(numbers.active)?;
+    out.write_u32_le(0)?;
+    out.write_u64_le(numbers.total)?;
+    out.write_u64_le(numbers.error)?;
+    Ok(out)
+}
+
+/// Writes the first eight bytes.
+fn write_header(
+    out: &mut SketchBytes,
+    longs: u8,
+    lg_max: u8,
+    lg_cur: u8,
+    flags: u8,
+) -> Result<(), Error>
+    ensures ok { OnOk result (out.new.bytes ≡ out.old.bytes ++ header longs lg_max lg_cur flags) }
+    ensures err { IfErr result (λ e. e ≡ no_memory) }
+{
+    out.write(&[
+        longs,
+        SERIAL_VERSION,
+        Family::FREQUENCY.id,
+        lg_max,
+        lg_cur,
+        flags,
+        0,
+        0,
+    ])
+}
+
+/// Writes the weights of the counters in the slots.
+pub(crate) fn write_weights<T>(out: &mut SketchBytes, slots: &[Slot<T>]) -> Result<(), Error>
+    ensures ok { OnOk result (out.new.bytes ≡ out.old.bytes ++ encoded_weights (entries_of slots.now)) }
+    ensures err { IfErr result (λ e. e ≡ no_memory) }
+{
+    for slot in slots {
+        if let Slot::Taken { count, .. } = slot {
+            out.write_u64_le(*count)?;
+        }
+    }
+    Ok(())
+}
+
+/// Writes the items of the counters in the slots, in the order of their weights.
+pub(crate) fn write_items<T: FrequentItemValue>(
+    out: &mut SketchBytes,
+    slots: &[Slot<T>],
+) -> Result<(), Error>
+    ensures ok { OnOk result
+        (WritesItems T.codec (contents_of T.content (entries_of slots.now)) out.old.bytes out.new.bytes) }
+    ensures err { IfErr result (IsImageWritingRefusal T.codec T.content (entries_of slots.now)) }
+{
+    for slot in slots {
+        if let Slot::Taken { item, .. } = slot {
+            item.serialize_value(out)?;
+        }
+    }
+    Ok(())
+}
