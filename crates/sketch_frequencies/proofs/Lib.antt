@@ -7,6 +7,7 @@ pub mod Counting
 pub mod Descents
 pub mod Enclosure
 pub mod Estimates
+pub mod Existence
 pub mod Filters
 pub mod Fresh
 pub mod Full
@@ -29,6 +30,7 @@ pub mod Purges
 pub mod Puts
 pub mod Reports
 pub mod Ring
+pub mod RoundTrips
 pub mod Same
 pub mod SameCounts
 pub mod Samples

@@ -13,6 +13,7 @@ mod error_type;
 mod frequent_item_value;
 mod frequent_items_sketch;
 mod image;
+pub mod laws;
 mod reverse_purge_item_hash_map;
 mod reverse_purge_item_iter;
 mod row;

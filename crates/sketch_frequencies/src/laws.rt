@@ -1,0 +1,39 @@
+//! The laws of images. But for `restored`, no function here does anything: what it ensures is the law.
+//!
+//! The laws speak of the states that the calls of [`FrequentItemsSketch`] leave, as their contracts name them, with
+//! what an item says in place of the item.
+ghost use Rattle.std.specs.Prelude.{IfOk, IfErr};
+ghost use Rattle.sketch_frequencies.specs.Image.{IsImageWritingRefusal};
+ghost use Rattle.sketch_frequencies.specs.Laws.{SpelledIsImage, ImageIsOfOne, ImageIsOfSome, ImageIsWithinTotal};
+ghost use Rattle.sketch_frequencies.specs.Steps.{IsSameState};
+
+use crate::frequent_item_value::FrequentItemValue;
+use crate::frequent_items_sketch::FrequentItemsSketch;
+use sketch_base::Error;
+use std::alloc::Global;
+
+/// What is written is an image, no bytes are an image of two sketches, and they are one of some sketch exactly where no
+/// check fails. Whoever wrote the image, the counts and the error of what it says are at most the total.
+pub fn what_images_say<T: FrequentItemValue>()
+    ensures spelled { SpelledIsImage T.codec }
+    ensures one { ImageIsOfOne T.codec }
+    ensures some { ImageIsOfSome T.codec }
+    ensures within { ImageIsWithinTotal T.codec }
+{}
+
+/// Writes an image of the sketch and reads it again: the sketch that comes back has the same counters, up to which of
+/// equal items it holds, and the same error, total and sizes.
+///
+/// # Errors
+///
+/// Those of [`serialize`](FrequentItemsSketch::serialize), and `NoMemory` where there is no memory for the sketch.
+pub fn restored<T: FrequentItemValue + Drop>(
+    alloc: Global,
+    sketch: &FrequentItemsSketch<T>,
+) -> Result<FrequentItemsSketch<T>, Error>
+    ensures same { IfOk result (λ copy. IsSameState T.eq sketch.now copy) }
+    ensures err { IfErr result (IsImageWritingRefusal T.codec T.content sketch.now.counters) }
+{
+    let image = sketch.serialize()?;
+    FrequentItemsSketch::deserialize(alloc, &image)
+}
