@@ -3,7 +3,7 @@ use Rattle.std.proofs.Common.{◌≡◌, ℕ, suc, ◌+◌, ◌*◌, ◌<◌, �
 use Rattle.std.specs.Cmp.{IsEquivalence}
 use Rattle.std.specs.List.{IsDistinct, All, zip}
 use Rattle.std.specs.Map.{keys_of}
-use Rattle.std.specs.Int.{w32, w64, to_le_bytes}
+use Rattle.std.specs.Int.{w64, to_le_bytes}
 use Rattle.std.proofs.Math.Pow.{pow_mono}
 use Rattle.std.proofs.lemmas.Bool.{le-leb, ne_eqb, cases_lt}
 use Rattle.std.proofs.lemmas.List.{drop_at, append-nil, nil_from_length}
@@ -14,7 +14,7 @@ use Rattle.std.proofs.lemmas.Map.Keys.{IsDistinct-IsPermutation}
 use Rattle.std.proofs.lemmas.Nat.{from_le_bytes-to_le_bytes_4, from_le_bytes-to_le_bytes_8, pow_pos}
 use Rattle.sketch_base.specs.Checks.{first_failing}
 use Rattle.sketch_base.specs.Fields.{le_at, words_in}
-use Rattle.sketch_frequencies.specs.Image.{AreEncoded, IsImage, IsSpelled, IsWritten, IsWrittenEmpty, items_in, items_at, weights_at, weight_of, encoded_weights, header, preamble, header_checks, count_checks, weight_checks, active_at, total_at, error_at}
+use Rattle.sketch_frequencies.specs.Image.{AreEncoded, IsImage, IsSpelled, IsWritten, IsWrittenEmpty, items_in, items_at, weights_at, weight_of, encoded_weights, header, preamble, header_checks, count_checks, active_at, total_at, error_at}
 use Rattle.sketch_frequencies.specs.Items.{Codec, IsLawful}
 use Rattle.sketch_frequencies.specs.State.{FrequentState, IsState, capacity}
 use Rattle.sketch_frequencies.specs.Tables.{count_of, sum_of}

@@ -1,5 +1,5 @@
 -- The weights of an image, by their places.
-use Rattle.std.proofs.Common.{◌≡◌, ℕ, zero, suc, ◌+◌, ◌*◌, ◌<◌, ◌≤◌, true, false, List, length, take, drop, get_or, sum, None, Some, refl, sym, ap, ◌∙◌, arith, leb, drop-drop}
+use Rattle.std.proofs.Common.{◌≡◌, ℕ, zero, suc, ◌+◌, ◌*◌, ◌<◌, ◌≤◌, true, false, List, length, take, drop, get_or, sum, None, Some, refl, ap, ◌∙◌, arith, leb, drop-drop}
 use Rattle.std.specs.Prelude.{slice_index}
 use Rattle.std.specs.Int.{Width, w64}
 use Rattle.std.proofs.lemmas.Bool.{lt-leb, le-leb}

@@ -17,7 +17,8 @@ use Rattle.sketch_base.specs.Fields.{le_at, signed_le_at}
 use Rattle.sketch_frequencies.specs.Items.{IsLawful, u64_encoding, u64_reading, fits_i64, i64_encoding, i64_reading, text_encoding, text_reading}
 
 -- what passed a test
-guarded : {A : Type 0} (b : Bool) (d : Fault) (r : Result A Fault) (y : A) → cond b r (Err d) ≡ Ok y → (b ≡ true) × (r ≡ Ok y)
+guarded : {A : Type 0} (b : Bool) (d : Fault) (r : Result A Fault) (y : A)
+    → cond b r (Err d) ≡ Ok y → (b ≡ true) × (r ≡ Ok y)
 guarded true d r y e = (refl, e)
 guarded false d r y e = absurd cc
 
@@ -28,20 +29,27 @@ ok_is : {A : Type 0} (x y : A) → done x ≡ done y → x ≡ y
 ok_is x y e = cc
 
 -- eight bytes are read again
-bytes_back : (n : ℕ) (rest : List ℕ) → n < 2 ^ 64 → (ltb (length (to_le_bytes w64 n ++ rest)) 8 ≡ false) × (le_at w64 (to_le_bytes w64 n ++ rest) 0 ≡ n)
+bytes_back : (n : ℕ) (rest : List ℕ) → n < 2 ^ 64
+    → (ltb (length (to_le_bytes w64 n ++ rest)) 8 ≡ false) × (le_at w64 (to_le_bytes w64 n ++ rest) 0 ≡ n)
 unfolding le_at
-bytes_back n rest lt = (le-ltb _ _ (omega (arith, length-append (to_le_bytes w64 n) rest)), from_le_bytes-to_le_bytes_8 n lt)
+bytes_back n rest lt =
+    (le-ltb _ _ (omega (arith, length-append (to_le_bytes w64 n) rest)), from_le_bytes-to_le_bytes_8 n lt)
 
 u64_again : (v : ℕ) (rest : List ℕ) → v < 2 ^ 64 → u64_reading (to_le_bytes w64 v ++ rest) ≡ Ok (v, 8)
 u64_again v rest lt = let back = bytes_back v rest lt in rw (back.0, back.1) refl
 
-u64_back : (v : ℕ) (bytes rest : List ℕ) → u64_encoding v ≡ Ok bytes → u64_reading (bytes ++ rest) ≡ Ok (v, length bytes)
+u64_back : (v : ℕ) (bytes rest : List ℕ)
+    → u64_encoding v ≡ Ok bytes → u64_reading (bytes ++ rest) ≡ Ok (v, length bytes)
 u64_back v bytes rest e =
     let g = guarded (ltb v (2 ^ 64)) BadItem (Ok (to_le_bytes w64 v)) bytes e in
-    subst (λ b. u64_reading (b ++ rest) ≡ Ok (v, length b)) (ok_is _ _ g.1) (u64_again v rest (ltb-true v (2 ^ 64) g.0))
+    subst (λ b. u64_reading (b ++ rest) ≡ Ok (v, length b)) (ok_is _ _ g.1)
+    (u64_again v rest (ltb-true v (2 ^ 64) g.0))
 
 pub u64_lawful : IsLawful (record { same = nat_eq; encoding = u64_encoding; reading = u64_reading })
-u64_lawful = record { equivalence = nat_eq_equiv; read_back = λ v bytes rest e. (v, u64_back v bytes rest e, nat_eq_equiv.refl v) }
+u64_lawful = record {
+  equivalence = nat_eq_equiv;
+  read_back = λ v bytes rest e. (v, u64_back v bytes rest e, nat_eq_equiv.refl v);
+}
 
 i64_fits : (z : ℤ) → fits_i64 z ≡ true → SFits w64 z
 i64_fits (pos n) h = record { sfits = let lt = ltb-true n (2 ^ 63) h in omega (arith, lt) }
@@ -51,33 +59,53 @@ bits_below : (z : ℤ) → SFits w64 z → cast_unsigned w64 z < 2 ^ 64
 bits_below (pos n) h = omega (arith, h.sfits)
 bits_below (negsuc n) h = omega arith
 
-i64_again : (z : ℤ) (rest : List ℕ) → SFits w64 z → i64_reading (to_le_bytes w64 (cast_unsigned w64 z) ++ rest) ≡ Ok (z, 8)
+i64_again : (z : ℤ) (rest : List ℕ) → SFits w64 z
+    → i64_reading (to_le_bytes w64 (cast_unsigned w64 z) ++ rest) ≡ Ok (z, 8)
 i64_again z rest fits =
-    let back = bytes_back (cast_unsigned w64 z) rest (bits_below z fits) in
-    let number : signed_le_at w64 (to_le_bytes w64 (cast_unsigned w64 z) ++ rest) 0 ≡ z = ap (λ (n : ℕ). cast_signed w64 n) back.1 ∙ to_z-of_z w64 z fits in
+    let bits = cast_unsigned w64 z in
+    let back = bytes_back bits rest (bits_below z fits) in
+    let number : signed_le_at w64 (to_le_bytes w64 bits ++ rest) 0 ≡ z =
+    ap (λ (n : ℕ). cast_signed w64 n) back.1 ∙ to_z-of_z w64 z fits in
     rw (back.0, number) refl
 
-i64_back : (z : ℤ) (bytes rest : List ℕ) → i64_encoding z ≡ Ok bytes → i64_reading (bytes ++ rest) ≡ Ok (z, length bytes)
+i64_back : (z : ℤ) (bytes rest : List ℕ)
+    → i64_encoding z ≡ Ok bytes → i64_reading (bytes ++ rest) ≡ Ok (z, length bytes)
 i64_back z bytes rest e =
     let g = guarded (fits_i64 z) BadItem (Ok (to_le_bytes w64 (cast_unsigned w64 z))) bytes e in
     subst (λ b. i64_reading (b ++ rest) ≡ Ok (z, length b)) (ok_is _ _ g.1) (i64_again z rest (i64_fits z g.0))
 
 pub i64_lawful : IsLawful (record { same = int_eq; encoding = i64_encoding; reading = i64_reading })
-i64_lawful = record { equivalence = int_eq_equiv; read_back = λ v bytes rest e. (v, i64_back v bytes rest e, int_eq_equiv.refl v) }
+i64_lawful = record {
+  equivalence = int_eq_equiv;
+  read_back = λ v bytes rest e. (v, i64_back v bytes rest e, int_eq_equiv.refl v);
+}
 
-text_again : (text rest : List ℕ) → is_utf8 text ≡ true → length text < 2 ^ 32 → text_reading ((to_le_bytes w32 (length text) ++ text) ++ rest) ≡ Ok (text, 4 + length text)
+text_again : (text rest : List ℕ) → is_utf8 text ≡ true → length text < 2 ^ 32
+    → text_reading ((to_le_bytes w32 (length text) ++ text) ++ rest) ≡ Ok (text, 4 + length text)
 unfolding le_at
 text_again text rest utf8 lt =
-    let short : ltb (length ((to_le_bytes w32 (length text) ++ text) ++ rest)) 4 ≡ false = le-ltb _ _ (omega (arith, length-append (to_le_bytes w32 (length text) ++ text) rest, length-append (to_le_bytes w32 (length text)) text)) in
-    let long : ltb (length (text ++ rest)) (length text) ≡ false = le-ltb _ _ (omega (arith, length-append text rest)) in
+    let size = to_le_bytes w32 (length text) in
+    let whole : length ((size ++ text) ++ rest) ≡ 4 + length text + length rest =
+    omega (arith, length-append (size ++ text) rest, length-append size text) in
+    let short : ltb (length ((size ++ text) ++ rest)) 4 ≡ false = le-ltb _ _ (omega (arith, whole)) in
+    let long : ltb (length (text ++ rest)) (length text) ≡ false =
+    le-ltb _ _ (omega (arith, length-append text rest)) in
     rw (short, from_le_bytes-to_le_bytes_4 (length text) lt, long, take_at text rest (length text) refl, utf8) refl
 
-text_back : (text bytes rest : List ℕ) → text_encoding text ≡ Ok bytes → text_reading (bytes ++ rest) ≡ Ok (text, length bytes)
+text_back : (text bytes rest : List ℕ)
+    → text_encoding text ≡ Ok bytes → text_reading (bytes ++ rest) ≡ Ok (text, length bytes)
 text_back text bytes rest e =
-    let g = guarded (is_utf8 text) BadItem (cond (ltb (length text) (2 ^ 32)) (Ok (to_le_bytes w32 (length text) ++ text)) (Err ItemTooLong)) bytes e in
-    let h = guarded (ltb (length text) (2 ^ 32)) ItemTooLong (Ok (to_le_bytes w32 (length text) ++ text)) bytes g.1 in
-    let size : 4 + length text ≡ length (to_le_bytes w32 (length text) ++ text) = sym (length-append (to_le_bytes w32 (length text)) text) in
-    subst (λ b. text_reading (b ++ rest) ≡ Ok (text, length b)) (ok_is _ _ h.1) (text_again text rest g.0 (ltb-true (length text) (2 ^ 32) h.0) ∙ ap (λ n. done (text, n)) size)
+    let encoded = to_le_bytes w32 (length text) ++ text in
+    let short = ltb (length text) (2 ^ 32) in
+    let g = guarded (is_utf8 text) BadItem (cond short (Ok encoded) (Err ItemTooLong)) bytes e in
+    let h = guarded short ItemTooLong (Ok encoded) bytes g.1 in
+    let size : 4 + length text ≡ length encoded = sym (length-append (to_le_bytes w32 (length text)) text) in
+    let again = text_again text rest g.0 (ltb-true (length text) (2 ^ 32) h.0) in
+    subst (λ b. text_reading (b ++ rest) ≡ Ok (text, length b)) (ok_is _ _ h.1)
+    (again ∙ ap (λ n. done (text, n)) size)
 
 pub text_lawful : IsLawful (record { same = bytes_eq; encoding = text_encoding; reading = text_reading })
-text_lawful = record { equivalence = nat_list_eq_equiv; read_back = λ v bytes rest e. (v, text_back v bytes rest e, nat_list_eq_equiv.refl v) }
+text_lawful = record {
+  equivalence = nat_list_eq_equiv;
+  read_back = λ v bytes rest e. (v, text_back v bytes rest e, nat_list_eq_equiv.refl v);
+}

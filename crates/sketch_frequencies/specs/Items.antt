@@ -81,7 +81,8 @@ i64_reading bytes = if nat_lt (length bytes) 8 then Err InsufficientData else Ok
 
 abbrev pub text_encoding : List ℕ → Result (List ℕ) Fault
 text_encoding text =
-    if is_utf8 text then (if nat_lt (length text) (2 ^ 32) then Ok (to_le_bytes w32 (length text) ++ text) else Err ItemTooLong)
+    if is_utf8 text
+    then (if nat_lt (length text) (2 ^ 32) then Ok (to_le_bytes w32 (length text) ++ text) else Err ItemTooLong)
     else Err BadItem
 
 -- the text of the first so many bytes

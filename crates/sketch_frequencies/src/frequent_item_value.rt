@@ -75,14 +75,17 @@ impl FrequentItemValue for u64 {
 
     ghost lawful = { u64_lawful };
 
+    #[inline]
     fn serialize_size(_item: &u64) -> usize {
         8
     }
 
+    #[inline]
     fn serialize_value(&self, out: &mut SketchBytes) -> Result<(), Error> {
         out.write_u64_le(*self)
     }
 
+    #[inline]
     fn deserialize_value(_alloc: Global, slice: &mut SketchSlice) -> Result<u64, Error> {
         slice.read_u64_le()
     }
@@ -106,14 +109,17 @@ impl FrequentItemValue for i64 {
 
     ghost lawful = { i64_lawful };
 
+    #[inline]
     fn serialize_size(_item: &i64) -> usize {
         8
     }
 
+    #[inline]
     fn serialize_value(&self, out: &mut SketchBytes) -> Result<(), Error> {
         out.write_i64_le(*self)
     }
 
+    #[inline]
     fn deserialize_value(_alloc: Global, slice: &mut SketchSlice) -> Result<i64, Error> {
         slice.read_i64_le()
     }
@@ -140,10 +146,12 @@ impl FrequentItemValue for String {
 
     ghost lawful = { text_lawful };
 
+    #[inline]
     fn serialize_size(item: &String) -> usize {
         4 + item.len()
     }
 
+    #[inline]
     fn serialize_value(&self, out: &mut SketchBytes) -> Result<(), Error> {
         let text = self.as_bytes();
         if text.len() > u32::MAX as usize {
@@ -154,6 +162,7 @@ impl FrequentItemValue for String {
         Ok(())
     }
 
+    #[inline]
     fn deserialize_value(alloc: Global, slice: &mut SketchSlice) -> Result<String, Error> {
         let len = slice.read_u32_le()?;
         let text = text_of(alloc, slice.remaining(), len as usize)?;

@@ -6,6 +6,9 @@
 //! is paid for by the tail: whichever few items are set aside, it is at most the weight of all the others divided by
 //! what is left of half a purge's sample.
 //!
+//! A sketch of items that are [`FrequentItemValue`] is written as an image of bytes, and read from one: of texts, of
+//! numbers of 64 bits, or of a user's own type. [`laws`] has what holds of all images.
+//!
 //! [`ReversePurgeItemHashMap`] is the table of counters under it.
 #![tactic(auto)]
 

@@ -4,7 +4,7 @@ use crate::frequent_item_value::FrequentItemValue;
 use crate::frequent_items_sketch::FrequentItemsSketch;
 use crate::laws;
 use crate::reverse_purge_item_hash_map::ReversePurgeItemHashMap;
-use sketch_base::{Error, Fault, murmur3_of};
+use sketch_base::{Error, Fault, SketchBytes, SketchSlice, murmur3_of};
 use std::alloc::Global;
 use std::hash::{Hash, Hasher};
 use std::process::Abort;
@@ -237,6 +237,37 @@ impl Hash for Mute {
     ghost respects_eq = { λ _ _ _. refl };
 
     fn hash<H: Hasher>(&self, _state: &mut H) {}
+}
+
+/// It is written and read as its number.
+impl FrequentItemValue for Mute {
+    ghost use Rattle.std.proofs.Common.{rules};
+    ghost use Rattle.std.specs.Prelude.{ℕ, nat_eq};
+    ghost use Rattle.sketch_frequencies.specs.Items.{u64_encoding, u64_reading};
+    ghost use Rattle.sketch_frequencies.specs.ItemLaws.{u64_lawful};
+
+    ghost Content = { ℕ };
+
+    ghost content = { λ item. item.0 };
+
+    ghost codec = { record { same = nat_eq; encoding = u64_encoding; reading = u64_reading } };
+
+    ghost alike = { Prim.search rules };
+
+    ghost lawful = { u64_lawful };
+
+    fn serialize_size(_item: &Mute) -> usize {
+        8
+    }
+
+    fn serialize_value(&self, out: &mut SketchBytes) -> Result<(), Error> {
+        out.write_u64_le(self.0)
+    }
+
+    fn deserialize_value(_alloc: Global, slice: &mut SketchSlice) -> Result<Mute, Error> {
+        let number = slice.read_u64_le()?;
+        Ok(Mute(number))
+    }
 }
 
 /// An empty table of so many slots.
@@ -582,5 +613,23 @@ fn writes_images(rt: HostRuntime) -> Result<(), Fail> {
     let sketch = once_each(rt.alloc(), 4096, 3000)?;
     assert!(rt; numbers(&laws::restored(rt.alloc(), &sketch)?) == (3000, 0, 3000));
     laws::what_images_say::<i64>();
+    Ok(())
+}
+
+/// A sketch of six items that feed nothing, with the weights 1 to 6.
+fn of_mutes(alloc: Global) -> Result<FrequentItemsSketch<Mute>, Error> {
+    let mut sketch = FrequentItemsSketch::new(alloc, 8)?;
+    for weight in 1..7 {
+        sketch.update_with_count(Mute(weight), weight)?;
+    }
+    Ok(sketch)
+}
+
+#[test]
+fn restores_items_that_feed_nothing(rt: HostRuntime) -> Result<(), Fail> {
+    let sketch = laws::restored(rt.alloc(), &of_mutes(rt.alloc())?)?;
+    for weight in 1..7 {
+        assert!(rt; sketch.lower_bound(&Mute(weight)) == weight);
+    }
     Ok(())
 }

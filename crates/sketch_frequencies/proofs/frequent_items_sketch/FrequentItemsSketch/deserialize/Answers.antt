@@ -1,4 +1,4 @@
-use Rattle.sketch_frequencies.specs.Image.{early_fault, late_fault}
+use Rattle.sketch_frequencies.specs.Image.{late_fault}
 use Rattle.sketch_frequencies.proofs.Limits.{no_limit}
 use Rattle.sketch_frequencies.proofs.frequent_items_sketch.FrequentItemsSketch.deserialize.Goals as goal
 

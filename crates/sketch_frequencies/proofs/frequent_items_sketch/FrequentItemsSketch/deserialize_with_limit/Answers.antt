@@ -1,7 +1,6 @@
-use Rattle.std.proofs.Common.{arith, ◌≡◌, ◌≤◌, ◌+◌, ◌^◌, ℕ, length, sum, ap, sym, ◌∙◌, refl}
+use Rattle.std.proofs.Common.{arith, ◌≤◌, ◌^◌, ℕ, ap, sym, ◌∙◌}
 use Rattle.std.proofs.Math.Pow.{pow_mono}
-use Rattle.sketch_frequencies.specs.Image.{IsImageOf, weights_at}
-use Rattle.sketch_frequencies.specs.State.{FrequentState, IsState, capacity}
+use Rattle.sketch_frequencies.specs.State.{FrequentState}
 use Rattle.sketch_frequencies.proofs.Fresh.{fresh_state}
 use Rattle.sketch_frequencies.proofs.Images.{image_of_none, state_of_counters, image_of_counters, restores, restores_budget}
 use Rattle.sketch_frequencies.proofs.Powers.{eight_is_power}
