@@ -14,10 +14,6 @@ use Rattle.sketch_frequencies.proofs.Cases.{by_test}
 not_text : (bytes : List ℕ) → ¬ (IsUtf8 bytes) → is_utf8 bytes ≡ false
 not_text bytes other = by_test (is_utf8 bytes) (λ b. b ≡ false) (λ utf8. absurd (other (IsUtf8-from_is_utf8 bytes utf8))) (λ _. refl)
 
--- too few bytes
-pub taken_short : (n : ℕ) (bytes : List ℕ) → length bytes < n → text_taken n bytes ≡ Err InsufficientData
-taken_short n bytes lt = let short : ltb (length bytes) n ≡ true = lt-ltb _ _ lt in rw short refl
-
 -- no text
 pub taken_bad : (n : ℕ) (bytes : List ℕ) → n ≤ length bytes → ¬ (IsUtf8 (take n bytes)) → text_taken n bytes ≡ Err InvalidUtf8
 taken_bad n bytes le other = let long : ltb (length bytes) n ≡ false = le-ltb _ _ le in rw (long, not_text (take n bytes) other) refl

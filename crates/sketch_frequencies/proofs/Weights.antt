@@ -7,7 +7,7 @@ use Rattle.std.proofs.lemmas.List.{take_more, take_all}
 use Rattle.std.proofs.lemmas.List.Sums.{sum_by_push, sum_by-take-le}
 use Rattle.sketch_base.specs.Checks.{first_failing}
 use Rattle.sketch_base.specs.Fields.{le_at, words_in}
-use Rattle.sketch_base.specs.declared.fault.Fault.TheVariants.{WeightsExceedTotal, ErrorExceedsTotal}
+use Rattle.sketch_base.specs.declared.fault.Fault.TheVariants.{ErrorExceedsTotal}
 use Rattle.sketch_frequencies.specs.Image.{weight_checks, active_at, weights_at, total_at, error_at}
 
 pub length-words_in : (n : ℕ) (bytes : List ℕ) → length (words_in n bytes) ≡ n
@@ -39,15 +39,7 @@ sum_next ws k lt = ap sum (take_more ws k 0 lt) ∙ sum_by_push (λ (n : ℕ). n
 pub sum_take-le : (ws : List ℕ) (k : ℕ) → sum (take k ws) ≤ sum ws
 sum_take-le ws k = sum_by-take-le (λ (n : ℕ). n) ws k
 
--- the first weights pass the total already
-pub over_total : (image : List ℕ) (k : ℕ) → k < active_at image → total_at image < sum (take k (weights_at image)) + slice_index (weights_at image) k → first_failing (weight_checks image) ≡ Some WeightsExceedTotal
-over_total image k lt over =
-    let ws = weights_at image in
-    let more : total_at image < sum ws = omega (arith, over, sum_next ws k (omega (arith, length-weights_at image, lt)), sum_take-le ws (k + 1)) in
-    let fails : leb (sum ws) (total_at image) ≡ false = lt-leb _ _ more in
-    rw fails refl
-
--- the weights do not, and with the error they do
+-- the weights are within the total, and with the error they are not
 pub over_error : (image : List ℕ) → sum (weights_at image) ≤ total_at image → total_at image < sum (weights_at image) + error_at image → first_failing (weight_checks image) ≡ Some ErrorExceedsTotal
 over_error image within over =
     let ws = weights_at image in
