@@ -3,12 +3,12 @@ use Rattle.std.proofs.Common.{◌≡◌, ℕ, zero, suc, ◌+◌, ◌-◌, ◌<�
 use Rattle.std.proofs.Math.ListN.{set}
 use Rattle.std.proofs.lemmas.List.{get_or-set_same, get_or-set_other}
 use Rattle.std.proofs.lemmas.Bool.{cases_lt, cases_Bool, cases_eq, le-leb, leb-true, false≢true, both_ways}
-use Rattle.std.proofs.lemmas.List.Sums.{sum_by-cons}
+use Rattle.std.proofs.lemmas.List.Sums.{sum_by-cons, count_by-le-length}
 use Rattle.sketch_frequencies.specs.declared.slot.Slot.{Slot}
 use Rattle.sketch_frequencies.specs.declared.slot.Slot.TheVariants.{Free, Taken}
 use Rattle.sketch_frequencies.specs.Homes.{ahead, distance, IsFullPlace, IsReach}
 use Rattle.sketch_frequencies.specs.Slots.{Held, held, entries_of, table_of, slot_at, is_taken, IsPlaced}
-use Rattle.sketch_frequencies.proofs.Ring.{ahead_is, distance_is, ahead-distance, back-distance, distance-between, passes}
+use Rattle.sketch_frequencies.proofs.Ring.{ahead_is, distance_is, ahead-back, ahead-distance, back-distance, distance-between, passes}
 use Rattle.sketch_frequencies.proofs.Tallies.{tally, tally_front, tally_le, tally_lt, window}
 
 -- ---- a slot and a test of entries
@@ -168,6 +168,20 @@ taken_few slots h n l gap taken =
       | inl a ↦ a
       | inr b ↦ absurd (both_ways _ r.free (taken r.at (omega (arith, r.below))))
     ]
+
+-- and there are at least as many entries
+pub taken_within : {T : Type 0} (slots : List (Slot T)) (h n : ℕ) → h < length slots → n < length slots → ((j : ℕ) → j < n → is_taken slots (ahead (length slots) h j) ≡ true) → n ≤ length (entries_of slots)
+taken_within slots h zero l m taken = omega arith
+taken_within {T} slots h (suc b) l m taken =
+    let n = length slots in
+    let every : T × ℕ → Bool = λ e. true in
+    let p = ahead n h b in
+    let a = ahead_is n h b l (omega arith) in
+    let many = tally_le (λ k. leb (distance n k p) b) (λ k. fits every (slot_at slots k)) n (λ k below near.
+    let back = ahead-back n h k b l below (omega arith) (leb-true _ _ near) in
+    let s = taken_slot (slot_at slots k) (ap (λ j. is_taken slots j) (sym back) ∙ taken (b - distance n k p) (omega arith)) in
+    ap (λ o. fits every o) s.1) in
+    omega (arith, many, count_entries every slots, window n p b a.below (omega arith), count_by-le-length every (entries_of slots))
 
 -- n places from home(x) on, all taken
 pub reach_above : {T : Type 0} (home : T → ℕ) (slots : List (Slot T)) → ((x : T) → home x < length slots) → IsPlaced home slots → HasFree slots → (x : T) (n : ℕ) →

@@ -1,5 +1,5 @@
 -- What a look-up's places say of the map.
-use Rattle.std.proofs.Common.{◌≡◌, ℕ, zero, suc, ◌+◌, ◌-◌, ◌<◌, Bool, true, false, inl, inr, refl, ap, sym, ◌∙◌, subst, arith, List, [], ◌∷◌, length, Option, Some, None, is_some, unwrap_or, ◌^◌}
+use Rattle.std.proofs.Common.{◌≡◌, ℕ, zero, suc, ◌+◌, ◌-◌, ◌<◌, ◌≤◌, Bool, true, false, inl, inr, refl, ap, sym, ◌∙◌, subst, arith, List, [], ◌∷◌, length, Option, Some, None, is_some, unwrap_or, ◌^◌}
 use Rattle.std.specs.Cmp.{IsEquivalence}
 use Rattle.std.specs.List.{IsDistinct, AllByRecursion}
 use Rattle.std.specs.Map.{lookup, keys_of}
@@ -17,7 +17,7 @@ use Rattle.sketch_frequencies.proofs.Homes.{some_size, home_of-below}
 use Rattle.sketch_frequencies.specs.Slots.{Held, entries_of, table_of, slot_at, is_taken, Fits, IsPlaced, IsSlots}
 use Rattle.sketch_frequencies.specs.Probes.{IsPassed, IsProbe, IsGap}
 use Rattle.sketch_frequencies.proofs.Ring.{ahead_is, ahead-distance}
-use Rattle.sketch_frequencies.proofs.Full.{HasFree, free_from_few, is_taken-below, taken_few, IsReach-from_free, reach_above}
+use Rattle.sketch_frequencies.proofs.Full.{HasFree, free_from_few, is_taken-below, taken_few, taken_within, IsReach-from_free, reach_above}
 
 -- ---- a look-up goes on
 pub IsPassed-none : {T : Type 0} (eq : T → T → Bool) (h : ℕ) (slots : List (Slot T)) (x : T) → IsPassed eq h slots x 0
@@ -131,11 +131,17 @@ reach_if_present : {T : Type 0} (eq : T → T → Bool) (home : T → ℕ) (slot
 reach_if_present eq home slots below placed gap x place looked None t p = absurd (false≢true t)
 reach_if_present eq home slots below placed gap x place looked (Some c) t p = reach_present eq home slots below placed gap x place looked c p
 
+-- each slot that was looked at but the last holds an entry
+few_looked : {T : Type 0} {eq : T → T → Bool} {h : ℕ} {slots : List (Slot T)} {x : T} {place : ℕ} {found : Option ℕ} {looked : ℕ} → h < length slots → IsProbe eq h slots x place found looked → looked ≤ length (entries_of slots) + 1
+few_looked {T} {eq} {h} {slots} {x} {place} {found} {looked} l p = omega (arith, p.some, taken_within slots h (looked - 1) l (omega (arith, p.some, p.short)) p.passed.taken)
+
 -- ---- a look-up in the slots of a table
 pub record Answers {T : Type 0} (eq : T → T → Bool) (input : T → List (List ℕ)) (table : Table T) (x : T) (found : Option ℕ) (looked : ℕ) : Type 0 where
   pub looked_up : lookup (eq x) table.entries ≡ found
   pub absent : is_tracked eq table.entries x ≡ false → IsReach (home_in input table.size) table x looked
   pub present : is_tracked eq table.entries x ≡ true → IsShortOfReach (home_in input table.size) table x looked
+  pub few : looked ≤ length table.entries + 1
+  pub within : looked ≤ table.size
 
 pub answers : {T : Type 0} {eq : T → T → Bool} → IsEquivalence eq → {input : T → List (List ℕ)} → ((x y : T) → IsTrue (eq x y) → input x ≡ input y) → (slots : List (Slot T)) → IsSlots eq input slots →
     (x : T) (place : ℕ) (found : Option ℕ) (looked : ℕ) → IsProbe eq (home_in input (length slots) x) slots x place found looked → Answers eq input (table_of slots) x found looked
@@ -150,6 +156,8 @@ answers {T} {eq} laws {input} respects slots s x place found looked p =
       looked_up = up;
       absent = λ f. reach_if_absent eq home slots below s.placed gap x place looked found (sym tracked ∙ f) p;
       present = λ t. reach_if_present eq home slots below s.placed gap x place looked found (sym tracked ∙ t) p;
+      few = few_looked (below x) p;
+      within = p.short;
     }
 
 -- where the slots were lent

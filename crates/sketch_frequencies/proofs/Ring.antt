@@ -85,3 +85,11 @@ nearer_by_one n p f a b ne =
     let d = distance_is n p f a b in
     let e = distance_is n (ahead n p 1) f u.below b in
     omega arith
+
+-- a place k that is no more than j back from the place j places on from h
+pub ahead-back : (n h k j : ℕ) → h < n → k < n → j < n → distance n k (ahead n h j) ≤ j → ahead n h (j - distance n k (ahead n h j)) ≡ k
+ahead-back n h k j l m b near =
+    let a = ahead_is n h j l (omega arith) in
+    let d = distance_is n k (ahead n h j) m a.below in
+    let e = ahead_is n h (j - distance n k (ahead n h j)) l (omega arith) in
+    omega arith

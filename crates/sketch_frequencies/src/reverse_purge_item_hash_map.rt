@@ -93,13 +93,16 @@ impl<T: Eq + Hash + Drop> ReversePurgeItemHashMap<T> {
     /// A place is full where, for some k, at least k + 1 entries have their home among the k + 1 places that end at it,
     /// counted round the end. An item's reach is the number of places from its home on up to the first that is not
     /// full, that one included. Exactly so many slots are looked at where the item is absent, and from 1 to the reach
-    /// less 1 where it is present, whatever was purged before.
+    /// less 1 where it is present, whatever was purged before. No look-up looks at more slots than one an entry and one
+    /// more, nor at more than the table has.
     pub fn get_counted(&self, item: &T) -> (u64, usize)
         ensures count { result.0 ≡ count_of T.eq self.now.entries item.now }
         ensures absent { is_tracked T.eq self.now.entries item.now ≡ false
             → IsReach (home_in T.hash_input self.now.size) self.now item.now result.1 }
         ensures present { is_tracked T.eq self.now.entries item.now ≡ true
             → IsShortOfReach (home_in T.hash_input self.now.size) self.now item.now result.1 }
+        ensures looked { result.1 ≤ length self.now.entries + 1 }
+        ensures within { result.1 ≤ self.now.size }
     {
         let probe = slots::find(&self.slots, item);
         (probe.found.unwrap_or(0), probe.looked)
