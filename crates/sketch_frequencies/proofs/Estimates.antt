@@ -1,24 +1,21 @@
 -- What a count says of an estimate.
-use Rattle.std.proofs.Common.{◌≡◌, ℕ, ◌+◌, ◌<◌, ◌≤◌, Bool, true, Option, None, Some, is_some, unwrap_or, refl, ◌∙◌, arith}
-use Rattle.std.specs.List.{All}
+use Rattle.std.proofs.Common.{◌≡◌, ℕ, ◌+◌, ◌≤◌, Bool, true, Option, None, Some, is_some, unwrap_or, refl, ◌∙◌, arith}
 use Rattle.std.specs.Map.{lookup}
-use Rattle.sketch_frequencies.specs.Tables.{count_of}
 use Rattle.std.specs.Prelude.{if◌then◌else◌}
 use Rattle.sketch_frequencies.specs.State.{FrequentState, estimate_of}
 use Rattle.sketch_frequencies.specs.Stands.{IsExactOfFew}
-use Rattle.sketch_frequencies.proofs.Puts.{absent_from_zero}
 
 pub some_from_count : (o : Option ℕ) → (unwrap_or o 0 ≡ 0 → ⊥) → is_some o ≡ true
 some_from_count None h = absurd (h refl)
 some_from_count (Some v) h = refl
 
--- a count of 0 says that the item is not tracked
-pub estimate_none : {T : Type 0} (eq : T → T → Bool) (s : FrequentState T) (x : T) → All (λ e. 0 < e.1) s.counters → count_of eq s.counters x ≡ 0 → 0 ≡ estimate_of eq s x
-estimate_none eq s x all h = rw (absent_from_zero eq s.counters x all h) refl
+-- an item that is not tracked is estimated at 0
+pub estimate_none : {T : Type 0} (eq : T → T → Bool) (s : FrequentState T) (x : T) → lookup (eq x) s.counters ≡ None → 0 ≡ estimate_of eq s x
+estimate_none eq s x h = rw h refl
 
--- another says that it is
-pub estimate_some : {T : Type 0} (eq : T → T → Bool) (s : FrequentState T) (x : T) → (count_of eq s.counters x ≡ 0 → ⊥) → count_of eq s.counters x + s.error ≡ estimate_of eq s x
-estimate_some eq s x h = rw (some_from_count (lookup (eq x) s.counters) h) refl
+-- another at its count and the error
+pub estimate_some : {T : Type 0} (eq : T → T → Bool) (s : FrequentState T) (x : T) (c : ℕ) → lookup (eq x) s.counters ≡ Some c → c + s.error ≡ estimate_of eq s x
+estimate_some eq s x c h = rw h refl
 
 exact_by_cases : (o : Option ℕ) (e t : ℕ) → e ≡ 0 → unwrap_or o 0 ≤ t → t ≤ unwrap_or o 0 + e → (if is_some o then unwrap_or o 0 + e else 0) ≡ t
 exact_by_cases None e t none low high = omega (arith, none, low, high)

@@ -1,5 +1,5 @@
 -- What `put` does to the keys, the counts and the sums.
-use Rattle.std.proofs.Common.{◌≡◌, ℕ, ◌+◌, ◌<◌, ◌≤◌, Bool, true, false, cond, List, [], ◌∷◌, ◌++◌, length, None, refl, arith}
+use Rattle.std.proofs.Common.{◌≡◌, ℕ, ◌+◌, ◌<◌, ◌≤◌, Bool, true, cond, List, [], ◌∷◌, ◌++◌, length, None, refl, arith}
 use Rattle.std.proofs.Math.ListN.{set}
 use Rattle.std.proofs.lemmas.Bool.{false≢true}
 use Rattle.std.specs.Cmp.{IsEquivalence}
@@ -71,11 +71,6 @@ sum_outside-put {T} {eq} laws set (e ∷ es) x w =
 pub positive-put : {T : Type 0} (eq : T → T → Bool) (es : List (T × ℕ)) (x : T) (w : ℕ) → 0 < w → All (λ e. 0 < e.1) es → All (λ e. 0 < e.1) (put eq es x w)
 positive-put {T} eq [] x w h all = let P : T × ℕ → Type 0 = λ e. 0 < e.1 in All-cons P (x, w) [] h (All-nil P)
 positive-put eq (e ∷ es) x w h all = by_test (eq x e.0) (λ b. All (λ e. 0 < e.1) (cond b ((e.0, e.1 + w) ∷ es) (e ∷ put eq es x w))) (λ _. All-cons (λ e. 0 < e.1) _ es (omega (arith, All-head (λ e. 0 < e.1) e es all)) (All-tail (λ e. 0 < e.1) e es all)) (λ _. All-cons (λ e. 0 < e.1) e _ (All-head (λ e. 0 < e.1) e es all) (positive-put eq es x w h (All-tail (λ e. 0 < e.1) e es all)))
-
--- where each count is above 0, a count of 0 says that the item is absent
-pub absent_from_zero : {T : Type 0} (eq : T → T → Bool) (es : List (T × ℕ)) (x : T) → All (λ e. 0 < e.1) es → count_of eq es x ≡ 0 → is_tracked eq es x ≡ false
-absent_from_zero eq [] x all h = refl
-absent_from_zero eq (e ∷ es) x all h = grind (arith, absent_from_zero eq es x (All-tail (λ e. 0 < e.1) e es all), All-head (λ e. 0 < e.1) e es all, h)
 
 -- a tracked item has a count above 0
 pub positive_from_tracked : {T : Type 0} (eq : T → T → Bool) (es : List (T × ℕ)) (y : T) → All (λ e. 0 < e.1) es → list_any (eq y) (keys_of es) ≡ true → 0 < count_of eq es y

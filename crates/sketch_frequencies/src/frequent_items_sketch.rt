@@ -263,8 +263,10 @@ impl<T: Eq + Hash + Drop> FrequentItemsSketch<T> {
     {
         // for the prover: the sum is at most the total, which fits
         let _total = self.total;
-        let count = self.map.get(item);
-        if count == 0 { 0 } else { count + self.error }
+        match self.map.look_up(item) {
+            Some(count) => count + self.error,
+            None => 0,
+        }
     }
 
     /// A bound that the item's true weight reaches: its count, or 0 where it is not tracked.

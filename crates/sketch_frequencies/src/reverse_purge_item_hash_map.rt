@@ -2,7 +2,7 @@
 ghost use Rattle.std.specs.Prelude.{◌≡◌, ℕ, ◌+◌, ◌*◌, ◌/◌, ◌<◌, ◌≤◌, ◌^◌, true, false, [], length, min, map, IfOk, IfErr, IsOk, IsTrue, IsPermutation, OnOk, OnErr};
 ghost use Rattle.std.specs.Int.{is_power_of_two};
 ghost use Rattle.std.specs.List.{IsDistinct};
-ghost use Rattle.std.specs.Map.{keys_of};
+ghost use Rattle.std.specs.Map.{keys_of, lookup};
 ghost use Rattle.sketch_base.specs.Errors.{no_memory};
 ghost use Rattle.sketch_frequencies.specs.Bytes.{table_bytes};
 ghost use Rattle.sketch_frequencies.specs.Homes.{home_in, IsReach, IsShortOfReach};
@@ -270,6 +270,13 @@ impl<T: Eq + Hash + Drop> ReversePurgeItemHashMap<T> {
             slots,
             active: self.active,
         })
+    }
+
+    /// The count of the item, if it has an entry.
+    pub(crate) fn look_up(&self, item: &T) -> Option<u64>
+        ensures { result ≡ lookup (T.eq item.now) self.now.entries }
+    {
+        slots::find(&self.slots, item).found
     }
 
     /// Adds to the item's count where it has an entry, and answers whether it has.
