@@ -1,10 +1,10 @@
 //! Laws that follow from the contracts of the calls.
-ghost use Rattle.std.specs.Prelude.{◌≡◌, ◌+◌, ◌<◌, ◌≤◌, ◌↔◌, IfOk, IfErr, OnOk, OnErr, IsOk, IsErrOf, IsTrue, IsOkAnd};
+ghost use Rattle.std.specs.Prelude.{◌≡◌, ℕ, ℤ, List, ◌+◌, ◌-ℤ◌, ◌<◌, ◌≤◌, ◌↔◌, IfOk, IfErr, OnOk, OnErr, IsOk, IsErrOf, IsTrue, IsOkAnd};
 ghost use Rattle.sketch_base.specs.Errors.{invalid_argument, no_memory};
-ghost use Rattle.sketch_countmin.specs.History.{CountHistory, IsExact, followed_by};
+ghost use Rattle.sketch_countmin.specs.History.{CountHistory, IsExact, followed_by, own_value, others_share};
 ghost use Rattle.sketch_countmin.specs.Laws.{SpelledIsImage, ImageIsOfOne, ImageIsOfSome, ImageIsWithinLimits};
 ghost use Rattle.sketch_countmin.specs.Stands.{StandsFor};
-ghost use Rattle.sketch_countmin.specs.State.{SameShape, Joins};
+ghost use Rattle.sketch_countmin.specs.State.{CountState, SameShape, Joins, IsLeast, IsLeastCell};
 
 use crate::count_min_sketch::CountMinSketch;
 use crate::count_min_value::CountMinValue;
@@ -36,6 +36,14 @@ pub fn merge_as_one_stream<T: CountMinValue>(
     let _ = stream.num_hashes();
     Ok(*first == *stream)
 }
+
+/// How far the least cell of an item is above the item's own share, where nothing was halved or decayed: by the least,
+/// over the rows, of what the other items of its buckets share. It does nothing.
+pub fn what_the_least_cell_says()
+    ensures raised { (s : CountState) (h : CountHistory) (bytes : List ℕ) (least : ℤ)
+        → 0 < s.buckets → StandsFor s h → IsExact h → IsLeastCell s bytes least
+        → IsLeast s.hashes (others_share s.buckets s.seed h bytes) (least -ℤ own_value h bytes) }
+{}
 
 /// Writes a value as bytes and reads it back: it is the same number.
 pub fn restored_from_bytes<T: CountMinValue>(value: T) -> Result<T, Error>

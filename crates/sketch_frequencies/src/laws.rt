@@ -2,9 +2,12 @@
 //!
 //! The laws speak of the states that the calls of [`FrequentItemsSketch`] leave, as their contracts name them, with
 //! what an item says in place of the item.
-ghost use Rattle.std.specs.Prelude.{IfOk, IfErr};
+ghost use Rattle.std.specs.Prelude.{◌*◌, ◌<◌, ◌≤◌, IfOk, IfErr};
+ghost use Rattle.sketch_frequencies.specs.History.{FrequentHistory, least_size, total_weight};
 ghost use Rattle.sketch_frequencies.specs.Image.{IsImageWritingRefusal};
 ghost use Rattle.sketch_frequencies.specs.Laws.{SpelledIsImage, ImageIsOfOne, ImageIsOfSome, ImageIsWithinTotal};
+ghost use Rattle.sketch_frequencies.specs.Stands.{StandsFor, KeepsTailBudget};
+ghost use Rattle.sketch_frequencies.specs.State.{FrequentState};
 ghost use Rattle.sketch_frequencies.specs.Steps.{IsSameState};
 
 use crate::frequent_item_value::FrequentItemValue;
@@ -19,6 +22,15 @@ pub fn what_images_say<T: FrequentItemValue>()
     ensures one { ImageIsOfOne T.codec }
     ensures some { ImageIsOfSome T.codec }
     ensures within { ImageIsWithinTotal T.codec }
+{}
+
+/// What the tail budget says of the error. For a greatest size M, the least of all that took part, it is at most 8 / 3M
+/// of the weight of all items where M is up to 1024, and at most 1 / 512 of it above.
+pub fn what_the_error_costs<T: Eq>()
+    ensures small { (s : FrequentState T) (h : FrequentHistory T) → StandsFor T.eq s h → KeepsTailBudget T.eq s h
+        → least_size h ≤ 1024 → 3 * least_size h * s.error ≤ 8 * total_weight h }
+    ensures large { (s : FrequentState T) (h : FrequentHistory T) → StandsFor T.eq s h → KeepsTailBudget T.eq s h
+        → 1024 < least_size h → 512 * s.error ≤ total_weight h }
 {}
 
 /// Writes an image of the sketch and reads it again: the sketch that comes back has the same counters, up to which of

@@ -1,0 +1,5 @@
+use Rattle.sketch_countmin.proofs.Histories.{raised_by_others}
+use Rattle.sketch_countmin.proofs.laws.what_the_least_cell_says.Goals as goal
+
+pub returns : goal.returns
+returns c = record { raised = λ s h bytes least some stands exact is. raised_by_others s h bytes least some is stands exact }
