@@ -220,12 +220,15 @@ fn items_size<T: FrequentItemValue>(slots: &[Slot<T>]) -> Result<usize, Error>
 {
     let mut size = 0usize;
     for slot in slots {
-        if let Slot::Taken { item, .. } = slot {
-            let Some(sum) = size.checked_add(T::serialize_size(item)) else {
-                return Err(Error::new(ErrorKind::OutOfMemory, Fault::NoMemory));
-            };
-            size = sum;
-        }
+        // a free slot adds 0, so that items of one size make no branch that depends on the slot
+        let taken = match slot {
+            Slot::Taken { item, .. } => T::serialize_size(item),
+            Slot::Free => 0,
+        };
+        let Some(sum) = size.checked_add(taken) else {
+            return Err(Error::new(ErrorKind::OutOfMemory, Fault::NoMemory));
+        };
+        size = sum;
     }
     Ok(size)
 }
