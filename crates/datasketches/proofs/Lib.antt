@@ -1,0 +1,10 @@
+pub mod Cells
+pub mod Fitting
+pub mod Joining
+pub mod Names
+pub mod Powers
+pub mod Promised
+pub mod Saved
+pub mod Saving
+pub mod Stepping
+pub mod Steps

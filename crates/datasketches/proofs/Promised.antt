@@ -1,0 +1,42 @@
+-- What a named sketch stands for, and what follows for each kind.
+use Rattle.std.proofs.Common.{◌≡◌, ℕ, Bool, true, List, Option, Some, sym, subst, ap, ◌∙◌, inl, inr}
+use Rattle.std.specs.Prelude.{◌↔◌}
+use Rattle.std.proofs.lemmas.Cmp.{nat_cmp_total}
+use Rattle.std.specs.FinSet as set
+use Rattle.sketch_bloom.specs.BitSet.{Numbers}
+use Rattle.sketch_bloom.specs.History.{BloomHistory, denoted_set}
+use Rattle.sketch_bloom.specs.State.{FilterState, item_positions, contains_item}
+use Rattle.sketch_countmin.specs.History.{CountHistory}
+use Rattle.sketch_countmin.specs.Stands as count
+use Rattle.sketch_countmin.specs.State.{CountState}
+use Rattle.sketch_frequencies.specs.Items.{Codec}
+use Rattle.datasketches.specs.Fits.{Paired}
+use Rattle.datasketches.specs.Histories.{History}
+use Rattle.datasketches.specs.Laws.{IsNamed, IsCounted, ContainsWhatIsDenoted}
+use Rattle.datasketches.specs.Names.{at_name}
+use Rattle.datasketches.specs.Stands.{StandsFor}
+use Rattle.datasketches.specs.declared.sketch.Sketch.{Sketch}
+
+module _ {T C : Type 0} (eq : T → T → Bool) (codec : Codec C) (content : T → C) where
+  -- a named sketch stands for the history of the name
+  pub named_stands : (sketch : Sketch T) (h : History T) → IsNamed eq codec content sketch h → StandsFor eq sketch h
+  named_stands sketch h is =
+      subst (λ (o : Option (History T)). Paired (StandsFor eq) (Some sketch) o) is.history_is
+      (subst (λ (o : Option (Sketch T)). Paired (StandsFor eq) o (is.histories.sketches is.name)) is.sketch_is
+      (is.fits.sketches is.name))
+
+  -- a Count-Min sketch of either kind
+  pub counted_stands : (s : CountState) (h : CountHistory) → IsCounted eq codec content s h → count.StandsFor s h
+  counted_stands s h (inl is) = named_stands _ _ is
+  counted_stands s h (inr is) = named_stands _ _ is
+
+-- a set is part of another where that one has each of its members
+part_by_members : (s t : Numbers) → (set.is_subset s t ≡ true) ↔ ((p : ℕ) → set.contains s p ≡ true → set.contains t p ≡ true)
+part_by_members s t = (set.is_subset-contains nat_cmp_total s t, set.contains-is_subset nat_cmp_total s t)
+
+-- a filter whose set is denoted by a history contains an item where that has all positions
+pub contains_denoted : (s : FilterState) (h : BloomHistory) (bytes : List ℕ) → s.set ≡ denoted_set h
+    → (contains_item s bytes ≡ true) ↔ ((p : ℕ) → set.contains (item_positions s bytes) p ≡ true → set.contains (denoted_set h) p ≡ true)
+contains_denoted s h bytes e =
+    subst (λ (t : Numbers). (contains_item s bytes ≡ true) ↔ ((p : ℕ) → set.contains (item_positions s bytes) p ≡ true → set.contains t p ≡ true)) e
+    (part_by_members (item_positions s bytes) s.set)

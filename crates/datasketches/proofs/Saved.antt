@@ -1,0 +1,129 @@
+-- Saved sketches and what they stand for.
+use Rattle.std.proofs.Common.{◌≡◌, ℕ, ℤ, ◌≤◌, Bool, List, Option, Some, None, inl, refl, sym, subst, arith}
+use Rattle.std.specs.Global.{Global}
+use Rattle.std.specs.declared.vec.Vec.{Vec}
+use Rattle.sketch_base.specs.Checks.{or_else}
+use Rattle.sketch_base.specs.Errors.{no_memory}
+use Rattle.sketch_base.specs.declared.fault.Fault.{Fault}
+use Rattle.sketch_bloom.specs.Image as bloom
+use Rattle.sketch_bloom.specs.Laws as bloom_laws
+use Rattle.sketch_bloom.specs.State.{FilterState}
+use Rattle.sketch_countmin.specs.Image as count
+use Rattle.sketch_countmin.specs.Laws as count_laws
+use Rattle.sketch_countmin.specs.State.{CountState}
+use Rattle.sketch_countmin.specs.Stands as count_stands
+use Rattle.sketch_countmin.specs.History as count_history
+use Rattle.sketch_frequencies.specs.Image as frequent
+use Rattle.sketch_frequencies.specs.Items.{Codec}
+use Rattle.sketch_frequencies.specs.Laws as frequent_laws
+use Rattle.sketch_frequencies.specs.State.{FrequentState, IsState, capacity}
+use Rattle.datasketches.specs.Histories.{History}
+use Rattle.datasketches.specs.Histories.History.{OfFrequent, OfCountI64, OfCountU64, OfBloom}
+use Rattle.datasketches.specs.Images.{IsImageOf, IsCountImage, IsWrittenBy, IsReadFrom, IsReadRefusal, GivesBack}
+use Rattle.datasketches.specs.Replies.{least_signed, greatest_signed, least_unsigned, greatest_unsigned}
+use Rattle.datasketches.specs.Stands.{StandsFor}
+use Rattle.datasketches.specs.declared.image.Image.{Image}
+use Rattle.datasketches.specs.declared.image.Image.TheVariants as image
+use Rattle.datasketches.specs.declared.sketch.Sketch.{Sketch}
+use Rattle.datasketches.specs.declared.sketch.Sketch.TheVariants.{Frequent, CountI64, CountU64, Bloom}
+
+-- a Count-Min sketch that was read under the saved sketch's seed gives back what was saved
+count_back : (least : ℤ) (greatest seed : ℕ) (bytes : List ℕ) (new : CountState) (h : count_history.CountHistory) → count_laws.SpelledIsImage least greatest → count.Restores least greatest seed bytes new → IsCountImage least greatest seed bytes h → count_stands.StandsFor new (count_history.Restored h)
+count_back least greatest seed bytes new h spelled restores i =
+    restores i.sketch (subst (λ (s : ℕ). count.IsImage least greatest s bytes i.sketch) (sym i.seed_is) (spelled bytes i.sketch i.spelled)) h i.stands
+
+-- a smaller table holds fewer counters
+few_within : (n size most : ℕ) → n ≤ capacity size → size ≤ most → n ≤ capacity most
+few_within n size most few within = omega (arith, few, within)
+
+-- an image that was read passed the checks before memory
+or_else_none : (early late : Option Fault) → or_else early late ≡ None → early ≡ None
+or_else_none None late e = refl
+or_else_none (Some fault) late e = cc
+
+module _ {T C : Type 0} (eq : T → T → Bool) (codec : Codec C) (content : T → C) where
+  -- a filter that was read gives back what was saved
+  pub filter_back : bloom_laws.SpelledIsImage → (bytes : Vec ℕ Global) (filter : FilterState) → bloom.Restores bytes.items filter → GivesBack eq codec content (image.Bloom bytes) (Bloom filter)
+  filter_back spelled bytes filter restores (OfBloom h) i = restores i.filter (spelled bytes.items i.filter i.spelled) h i.stands
+  filter_back spelled bytes filter restores (OfFrequent h) i = absurd i
+  filter_back spelled bytes filter restores (OfCountI64 h) i = absurd i
+  filter_back spelled bytes filter restores (OfCountU64 h) i = absurd i
+
+  -- so does a Count-Min sketch
+  pub signed_back : count_laws.SpelledIsImage least_signed greatest_signed → (seed : ℕ) (bytes : Vec ℕ Global) (new : CountState) → count.Restores least_signed greatest_signed seed bytes.items new → GivesBack eq codec content (image.CountI64 seed bytes) (CountI64 new)
+  signed_back spelled seed bytes new restores (OfCountI64 h) i = count_back least_signed greatest_signed seed bytes.items new h spelled restores i
+  signed_back spelled seed bytes new restores (OfFrequent h) i = absurd i
+  signed_back spelled seed bytes new restores (OfCountU64 h) i = absurd i
+  signed_back spelled seed bytes new restores (OfBloom h) i = absurd i
+
+  -- so does a Count-Min sketch
+  pub unsigned_back : count_laws.SpelledIsImage least_unsigned greatest_unsigned → (seed : ℕ) (bytes : Vec ℕ Global) (new : CountState) → count.Restores least_unsigned greatest_unsigned seed bytes.items new → GivesBack eq codec content (image.CountU64 seed bytes) (CountU64 new)
+  unsigned_back spelled seed bytes new restores (OfCountU64 h) i = count_back least_unsigned greatest_unsigned seed bytes.items new h spelled restores i
+  unsigned_back spelled seed bytes new restores (OfFrequent h) i = absurd i
+  unsigned_back spelled seed bytes new restores (OfCountI64 h) i = absurd i
+  unsigned_back spelled seed bytes new restores (OfBloom h) i = absurd i
+
+  -- so does a sketch of frequent items
+  pub frequent_back : frequent_laws.SpelledIsImage codec → (bytes : Vec ℕ Global) (new : FrequentState T) → IsState eq new → frequent.Restores codec content eq bytes.items new → frequent.RestoresBudget codec content eq bytes.items new → GivesBack eq codec content (image.Frequent bytes) (Frequent new)
+  frequent_back spelled bytes new state restores budgets (OfFrequent h) i =
+      let was = spelled bytes.items _ i.spelled in
+      let stands = restores i.sketch was h i.keeps.stands in
+      record {
+        few = few_within _ _ _ state.few (subst (λ (n : ℕ). new.size ≤ n) stands.max_size state.within);
+        stands = stands;
+        budget = budgets i.sketch was h i.keeps.stands i.keeps.budget;
+      }
+  frequent_back spelled bytes new state restores budgets (OfCountI64 h) i = absurd i
+  frequent_back spelled bytes new state restores budgets (OfCountU64 h) i = absurd i
+  frequent_back spelled bytes new state restores budgets (OfBloom h) i = absurd i
+
+  -- what was written for a sketch stands for what the sketch stands for
+  pub saved_stands : (sketch : Sketch T) (image : Image) (h : History T) → IsWrittenBy codec content sketch image → StandsFor eq sketch h → IsImageOf eq codec content image h
+  saved_stands (Frequent s) (image.Frequent bytes) (OfFrequent h) written stands = record { sketch = s; spelled = written; keeps = stands }
+  saved_stands (Frequent s) (image.Frequent bytes) (OfCountI64 h) written stands = absurd stands
+  saved_stands (Frequent s) (image.Frequent bytes) (OfCountU64 h) written stands = absurd stands
+  saved_stands (Frequent s) (image.Frequent bytes) (OfBloom h) written stands = absurd stands
+  saved_stands (Frequent s) (image.CountI64 seed bytes) h written stands = absurd written
+  saved_stands (Frequent s) (image.CountU64 seed bytes) h written stands = absurd written
+  saved_stands (Frequent s) (image.Bloom bytes) h written stands = absurd written
+  saved_stands (CountI64 s) (image.CountI64 seed bytes) (OfCountI64 h) written stands = record { sketch = s; seed_is = written.0; spelled = written.1; stands = stands }
+  saved_stands (CountI64 s) (image.CountI64 seed bytes) (OfFrequent h) written stands = absurd stands
+  saved_stands (CountI64 s) (image.CountI64 seed bytes) (OfCountU64 h) written stands = absurd stands
+  saved_stands (CountI64 s) (image.CountI64 seed bytes) (OfBloom h) written stands = absurd stands
+  saved_stands (CountI64 s) (image.Frequent bytes) h written stands = absurd written
+  saved_stands (CountI64 s) (image.CountU64 seed bytes) h written stands = absurd written
+  saved_stands (CountI64 s) (image.Bloom bytes) h written stands = absurd written
+  saved_stands (CountU64 s) (image.CountU64 seed bytes) (OfCountU64 h) written stands = record { sketch = s; seed_is = written.0; spelled = written.1; stands = stands }
+  saved_stands (CountU64 s) (image.CountU64 seed bytes) (OfFrequent h) written stands = absurd stands
+  saved_stands (CountU64 s) (image.CountU64 seed bytes) (OfCountI64 h) written stands = absurd stands
+  saved_stands (CountU64 s) (image.CountU64 seed bytes) (OfBloom h) written stands = absurd stands
+  saved_stands (CountU64 s) (image.Frequent bytes) h written stands = absurd written
+  saved_stands (CountU64 s) (image.CountI64 seed bytes) h written stands = absurd written
+  saved_stands (CountU64 s) (image.Bloom bytes) h written stands = absurd written
+  saved_stands (Bloom s) (image.Bloom bytes) (OfBloom h) written stands = record { filter = s; spelled = written; stands = stands }
+  saved_stands (Bloom s) (image.Bloom bytes) (OfFrequent h) written stands = absurd stands
+  saved_stands (Bloom s) (image.Bloom bytes) (OfCountI64 h) written stands = absurd stands
+  saved_stands (Bloom s) (image.Bloom bytes) (OfCountU64 h) written stands = absurd stands
+  saved_stands (Bloom s) (image.Frequent bytes) h written stands = absurd written
+  saved_stands (Bloom s) (image.CountI64 seed bytes) h written stands = absurd written
+  saved_stands (Bloom s) (image.CountU64 seed bytes) h written stands = absurd written
+
+module _ {T C : Type 0} (codec : Codec C) (content : T → C) where
+  -- where an image was read, memory may be refused
+  pub read_first : (saved : Image) (sketch : Sketch T) → IsReadFrom codec content saved sketch → IsReadRefusal codec saved no_memory
+  read_first (image.Frequent bytes) (Frequent s) read = inl (refl, or_else_none (frequent.early_fault bytes.items) _ read.no_fault)
+  read_first (image.Frequent bytes) (CountI64 s) read = absurd read
+  read_first (image.Frequent bytes) (CountU64 s) read = absurd read
+  read_first (image.Frequent bytes) (Bloom s) read = absurd read
+  read_first (image.CountI64 seed bytes) (CountI64 s) read = inl (refl, or_else_none (count.early_fault seed bytes.items) _ read.no_fault)
+  read_first (image.CountI64 seed bytes) (Frequent s) read = absurd read
+  read_first (image.CountI64 seed bytes) (CountU64 s) read = absurd read
+  read_first (image.CountI64 seed bytes) (Bloom s) read = absurd read
+  read_first (image.CountU64 seed bytes) (CountU64 s) read = inl (refl, or_else_none (count.early_fault seed bytes.items) _ read.no_fault)
+  read_first (image.CountU64 seed bytes) (Frequent s) read = absurd read
+  read_first (image.CountU64 seed bytes) (CountI64 s) read = absurd read
+  read_first (image.CountU64 seed bytes) (Bloom s) read = absurd read
+  read_first (image.Bloom bytes) (Bloom s) read = inl (refl, or_else_none (bloom.early_fault bytes.items) _ read.no_fault)
+  read_first (image.Bloom bytes) (Frequent s) read = absurd read
+  read_first (image.Bloom bytes) (CountI64 s) read = absurd read
+  read_first (image.Bloom bytes) (CountU64 s) read = absurd read

@@ -1,0 +1,246 @@
+-- What a session fits after a command, and after a run.
+use Rattle.std.proofs.Common.{◌≡◌, ℕ, Bool, true, false, cond, List, [], ◌∷◌, ◌++◌, Option, Some, None, inl, inr, refl, sym, ◌∙◌, ap, subst, append_assoc, append-nil, length, arith, ◌≤◌}
+use Rattle.std.specs.Prelude.{◌⊎◌}
+use Rattle.std.specs.Option.{option_map}
+use Rattle.std.specs.String.{string_bytes}
+use Rattle.std.proofs.lemmas.Bool.{false≢true}
+use Rattle.std.proofs.lemmas.List.{length-append}
+use Rattle.sketch_frequencies.specs.Items.{Codec}
+use Rattle.sketch_base.specs.Errors.{ErrorValue}
+use Rattle.datasketches.specs.Changing.{Changes}
+use Rattle.datasketches.specs.Fits.{Paired, Fits}
+use Rattle.datasketches.specs.Histories.{History, Assignment, put_at, changed, restored, after_one, after}
+use Rattle.datasketches.specs.Images.{IsImageOf, IsWrittenBy, IsReadFrom, IsWriteRefusal, IsReadRefusal, GivesBack}
+use Rattle.datasketches.specs.Names.{at_name, Puts, AreSame}
+use Rattle.datasketches.specs.Replies.{is_refused, refused}
+use Rattle.datasketches.specs.Running.{Midst}
+use Rattle.datasketches.specs.Stands.{StandsFor}
+use Rattle.datasketches.specs.State.{SessionState, IsUnchanged}
+use Rattle.datasketches.specs.Steps.{Refuses, Saves, Restores, Step, Run}
+use Rattle.datasketches.specs.declared.command.Command.{Command}
+use Rattle.datasketches.specs.declared.command.Command.TheVariants as command
+use Rattle.datasketches.specs.declared.image.Image.{Image}
+use Rattle.datasketches.specs.declared.reply.Reply.{Reply}
+use Rattle.datasketches.specs.declared.reply.Reply.TheVariants.{Done}
+use Rattle.datasketches.specs.declared.sketch.Change.TheVariants as change
+use Rattle.datasketches.specs.declared.sketch.Join.TheVariants as join
+use Rattle.datasketches.specs.declared.sketch.Shape.TheVariants as shape
+use Rattle.datasketches.specs.declared.sketch.Sketch.{Sketch}
+use Rattle.datasketches.proofs.Fitting.{AllPaired, SketchesFit, put_pair, same_pairs, change_fits, change_same, join_fits, join_same, create_fits, create_same}
+use Rattle.datasketches.proofs.Saved.{saved_stands}
+
+module _ {T C : Type 0} (eq : T → T → Bool) (codec : Codec C) (content : T → C) where
+  -- nothing changed
+  pub unchanged_fits : (old new : SessionState T) (a : Assignment T) → Fits eq codec content old a → IsUnchanged old new → Fits eq codec content new a
+  unchanged_fits old new a fits same = record {
+    sketches = same_pairs (StandsFor eq) old.sketches new.sketches a.sketches fits.sketches same.sketches;
+    images = same_pairs (IsImageOf eq codec content) old.images new.images a.images fits.images same.images;
+  }
+
+  -- sketches changed, or the command was refused
+  sketches_fit : (r : Bool) (grown : List ℕ → Option (History T)) (new : SessionState T) (a : Assignment T) → SketchesFit eq new.sketches (cond r a.sketches grown) → AllPaired (IsImageOf eq codec content) new.images a.images → Fits eq codec content new (cond r a (record a { sketches = grown }))
+  sketches_fit true grown new a sketches images = record { sketches = sketches; images = images }
+  sketches_fit false grown new a sketches images = record { sketches = sketches; images = images }
+
+  after_sketches : (reply : Reply T) (grown : List ℕ → Option (History T)) (old new : SessionState T) (a : Assignment T) → Fits eq codec content old a → AreSame old.images new.images → SketchesFit eq new.sketches (cond (is_refused reply) a.sketches grown) → Fits eq codec content new (cond (is_refused reply) a (record a { sketches = grown }))
+  after_sketches reply grown old new a fits same sketches =
+      sketches_fit (is_refused reply) grown new a sketches (same_pairs (IsImageOf eq codec content) old.images new.images a.images fits.images same)
+
+  -- a question
+  told_fits : (r : Bool) (old new : SessionState T) (a : Assignment T) → Fits eq codec content old a → IsUnchanged old new → Fits eq codec content new (cond r a a)
+  told_fits true old new a fits same = unchanged_fits old new a fits same
+  told_fits false old new a fits same = unchanged_fits old new a fits same
+
+  -- an image was written, or the call refused
+  wrote_fits : (sketch : Sketch T) (image : List ℕ) (history : Option (History T)) (reply : Reply T) (old new : SessionState T) (a : Assignment T) →
+      Paired (StandsFor eq) (Some sketch) history → Fits eq codec content old a → AreSame old.sketches new.sketches →
+      ((saved : Image) × (reply ≡ Done) × IsWrittenBy codec content sketch saved × Puts image saved old.images new.images) ⊎ ((e : ErrorValue) × IsWriteRefusal codec content sketch e × Refuses (refused e) old.images reply new.images) →
+      Fits eq codec content new (cond (is_refused reply) a (record a { images = put_at image history a.images }))
+  wrote_fits sketch image (Some h) reply old new a pair fits same (inl done) = rw done.1 (record {
+    sketches = same_pairs (StandsFor eq) old.sketches new.sketches a.sketches fits.sketches same;
+    images = put_pair (IsImageOf eq codec content) image done.0 h old.images new.images a.images fits.images (saved_stands eq codec content sketch done.0 h done.2 pair) done.3;
+  })
+  wrote_fits sketch image None reply old new a pair fits same (inl done) = absurd pair
+  wrote_fits sketch image history reply old new a pair fits same (inr done) = rw done.2.0 (record {
+    sketches = same_pairs (StandsFor eq) old.sketches new.sketches a.sketches fits.sketches same;
+    images = same_pairs (IsImageOf eq codec content) old.images new.images a.images fits.images done.2.1;
+  })
+
+  save_case : (name image : List ℕ) (found : Option (Sketch T)) (taken : Option Image) (reply : Reply T) (old new : SessionState T) (a : Assignment T) →
+      at_name name old.sketches ≡ found → at_name image old.images ≡ taken → Fits eq codec content old a → Saves codec content name image old reply new →
+      Fits eq codec content new (cond (is_refused reply) a (record a { images = put_at image (a.sketches name) a.images }))
+  save_case name image None taken reply old new a e f fits saves =
+      let done = rw e at saves in rw done.1 (unchanged_fits old new a fits done.0)
+  save_case name image (Some sketch) (Some other) reply old new a e f fits saves =
+      let done = rw (e, f) at saves in rw done.1 (unchanged_fits old new a fits done.0)
+  save_case name image (Some sketch) None reply old new a e f fits saves =
+      let done = rw (e, f) at saves in
+      let pair : Paired (StandsFor eq) (Some sketch) (a.sketches name) = rw e at (fits.sketches name) in
+      wrote_fits sketch image (a.sketches name) reply old new a pair fits done.sketches done.outcome
+
+  pub save_fits : (name image : List ℕ) (reply : Reply T) (old new : SessionState T) (a : Assignment T) → Fits eq codec content old a → Saves codec content name image old reply new →
+      Fits eq codec content new (cond (is_refused reply) a (record a { images = put_at image (a.sketches name) a.images }))
+  save_fits name image reply old new a fits saves = save_case name image (at_name name old.sketches) (at_name image old.images) reply old new a refl refl fits saves
+
+  -- a save that was refused
+  wrote_same : (sketch : Sketch T) (image : List ℕ) (reply : Reply T) (old new : SessionState T) → is_refused reply ≡ true → AreSame old.sketches new.sketches →
+      ((saved : Image) × (reply ≡ Done) × IsWrittenBy codec content sketch saved × Puts image saved old.images new.images) ⊎ ((e : ErrorValue) × IsWriteRefusal codec content sketch e × Refuses (refused e) old.images reply new.images) →
+      IsUnchanged old new
+  wrote_same sketch image reply old new r same (inl done) = absurd (false≢true (sym (ap is_refused done.1) ∙ r))
+  wrote_same sketch image reply old new r same (inr done) = record { sketches = same; images = done.2.1 }
+
+  saved_same : (name image : List ℕ) (found : Option (Sketch T)) (taken : Option Image) (reply : Reply T) (old new : SessionState T) →
+      at_name name old.sketches ≡ found → at_name image old.images ≡ taken → is_refused reply ≡ true → Saves codec content name image old reply new → IsUnchanged old new
+  saved_same name image None taken reply old new e f r saves = (rw e at saves).0
+  saved_same name image (Some sketch) (Some other) reply old new e f r saves = (rw (e, f) at saves).0
+  saved_same name image (Some sketch) None reply old new e f r saves =
+      let done = rw (e, f) at saves in wrote_same sketch image reply old new r done.sketches done.outcome
+
+  -- a sketch was read, or the call refused
+  read_fits : (saved : Image) (name : List ℕ) (history : Option (History T)) (reply : Reply T) (old new : SessionState T) (a : Assignment T) →
+      Paired (IsImageOf eq codec content) (Some saved) history → Fits eq codec content old a → AreSame old.images new.images →
+      ((sketch : Sketch T) × (reply ≡ Done) × IsReadFrom codec content saved sketch × GivesBack eq codec content saved sketch × Puts name sketch old.sketches new.sketches) ⊎ ((e : ErrorValue) × IsReadRefusal codec saved e × Refuses (refused e) old.sketches reply new.sketches) →
+      Fits eq codec content new (cond (is_refused reply) a (record a { sketches = put_at name (option_map restored history) a.sketches }))
+  read_fits saved name (Some h) reply old new a pair fits same (inl done) = rw done.1 (record {
+    sketches = put_pair (StandsFor eq) name done.0 (restored h) old.sketches new.sketches a.sketches fits.sketches (done.3 h pair) done.4;
+    images = same_pairs (IsImageOf eq codec content) old.images new.images a.images fits.images same;
+  })
+  read_fits saved name None reply old new a pair fits same (inl done) = absurd pair
+  read_fits saved name history reply old new a pair fits same (inr done) = rw done.2.0 (record {
+    sketches = same_pairs (StandsFor eq) old.sketches new.sketches a.sketches fits.sketches done.2.1;
+    images = same_pairs (IsImageOf eq codec content) old.images new.images a.images fits.images same;
+  })
+
+  restore_case : (image name : List ℕ) (found : Option Image) (taken : Option (Sketch T)) (reply : Reply T) (old new : SessionState T) (a : Assignment T) →
+      at_name image old.images ≡ found → at_name name old.sketches ≡ taken → Fits eq codec content old a → Restores eq codec content image name old reply new →
+      Fits eq codec content new (cond (is_refused reply) a (record a { sketches = put_at name (option_map restored (a.images image)) a.sketches }))
+  restore_case image name None taken reply old new a e f fits restores =
+      let done = rw e at restores in rw done.1 (unchanged_fits old new a fits done.0)
+  restore_case image name (Some saved) (Some other) reply old new a e f fits restores =
+      let done = rw (e, f) at restores in rw done.1 (unchanged_fits old new a fits done.0)
+  restore_case image name (Some saved) None reply old new a e f fits restores =
+      let done = rw (e, f) at restores in
+      let pair : Paired (IsImageOf eq codec content) (Some saved) (a.images image) = rw e at (fits.images image) in
+      read_fits saved name (a.images image) reply old new a pair fits done.images done.outcome
+
+  pub restore_fits : (image name : List ℕ) (reply : Reply T) (old new : SessionState T) (a : Assignment T) → Fits eq codec content old a → Restores eq codec content image name old reply new →
+      Fits eq codec content new (cond (is_refused reply) a (record a { sketches = put_at name (option_map restored (a.images image)) a.sketches }))
+  restore_fits image name reply old new a fits restores = restore_case image name (at_name image old.images) (at_name name old.sketches) reply old new a refl refl fits restores
+
+  -- a restore that was refused
+  read_same : (saved : Image) (name : List ℕ) (reply : Reply T) (old new : SessionState T) → is_refused reply ≡ true → AreSame old.images new.images →
+      ((sketch : Sketch T) × (reply ≡ Done) × IsReadFrom codec content saved sketch × GivesBack eq codec content saved sketch × Puts name sketch old.sketches new.sketches) ⊎ ((e : ErrorValue) × IsReadRefusal codec saved e × Refuses (refused e) old.sketches reply new.sketches) →
+      IsUnchanged old new
+  read_same saved name reply old new r same (inl done) = absurd (false≢true (sym (ap is_refused done.1) ∙ r))
+  read_same saved name reply old new r same (inr done) = record { sketches = done.2.1; images = same }
+
+  restored_same : (image name : List ℕ) (found : Option Image) (taken : Option (Sketch T)) (reply : Reply T) (old new : SessionState T) →
+      at_name image old.images ≡ found → at_name name old.sketches ≡ taken → is_refused reply ≡ true → Restores eq codec content image name old reply new → IsUnchanged old new
+  restored_same image name None taken reply old new e f r restores = (rw e at restores).0
+  restored_same image name (Some saved) (Some other) reply old new e f r restores = (rw (e, f) at restores).0
+  restored_same image name (Some saved) None reply old new e f r restores =
+      let done = rw (e, f) at restores in read_same saved name reply old new r done.images done.outcome
+
+-- ---- one command, and a run
+
+module _ {T C : Type 0} (eq : T → T → Bool) (input : T → List (List ℕ)) (codec : Codec C) (content : T → C) where
+  -- what a session fitted, it fits after a command, with what the command made of it
+  pub step_fits : (command : Command T) (reply : Reply T) (old new : SessionState T) (a : Assignment T) → Fits eq codec content old a → Step eq input codec content old command reply new → Fits eq codec content new (after_one input a command reply)
+  step_fits (command.CreateFrequent name max) reply old new a fits step =
+      after_sketches eq codec content reply _ old new a fits step.1 (create_fits eq (shape.Frequent max) (string_bytes name) reply old.sketches new.sketches a.sketches fits.sketches step.0)
+  step_fits (command.CreateCountI64 name hashes buckets seed) reply old new a fits step =
+      after_sketches eq codec content reply _ old new a fits step.1 (create_fits eq (shape.CountI64 hashes buckets seed) (string_bytes name) reply old.sketches new.sketches a.sketches fits.sketches step.0)
+  step_fits (command.CreateCountU64 name hashes buckets seed) reply old new a fits step =
+      after_sketches eq codec content reply _ old new a fits step.1 (create_fits eq (shape.CountU64 hashes buckets seed) (string_bytes name) reply old.sketches new.sketches a.sketches fits.sketches step.0)
+  step_fits (command.CreateBloom name bits hashes seed) reply old new a fits step =
+      after_sketches eq codec content reply _ old new a fits step.1 (create_fits eq (shape.Bloom bits hashes seed) (string_bytes name) reply old.sketches new.sketches a.sketches fits.sketches step.0)
+  step_fits (command.Add name item weight) reply old new a fits step =
+      after_sketches eq codec content reply _ old new a fits step.1 (change_fits eq (Changes eq input (change.Add item weight)) (changed input (change.Add item weight)) (string_bytes name) reply old.sketches new.sketches a.sketches fits.sketches step.0)
+  step_fits (command.AddSigned name item weight) reply old new a fits step =
+      after_sketches eq codec content reply _ old new a fits step.1 (change_fits eq (Changes eq input (change.AddSigned item weight)) (changed input (change.AddSigned item weight)) (string_bytes name) reply old.sketches new.sketches a.sketches fits.sketches step.0)
+  step_fits (command.Insert name item) reply old new a fits step =
+      after_sketches eq codec content reply _ old new a fits step.1 (change_fits eq (Changes eq input (change.Insert item)) (changed input (change.Insert item)) (string_bytes name) reply old.sketches new.sketches a.sketches fits.sketches step.0)
+  step_fits (command.Reset name) reply old new a fits step =
+      after_sketches eq codec content reply _ old new a fits step.1 (change_fits eq (Changes eq input (change.Reset)) (changed input (change.Reset)) (string_bytes name) reply old.sketches new.sketches a.sketches fits.sketches step.0)
+  step_fits (command.Halve name) reply old new a fits step =
+      after_sketches eq codec content reply _ old new a fits step.1 (change_fits eq (Changes eq input (change.Halve)) (changed input (change.Halve)) (string_bytes name) reply old.sketches new.sketches a.sketches fits.sketches step.0)
+  step_fits (command.Decay name n d) reply old new a fits step =
+      after_sketches eq codec content reply _ old new a fits step.1 (change_fits eq (Changes eq input (change.Decay n d)) (changed input (change.Decay n d)) (string_bytes name) reply old.sketches new.sketches a.sketches fits.sketches step.0)
+  step_fits (command.Merge into other) reply old new a fits step =
+      after_sketches eq codec content reply _ old new a fits step.1 (join_fits eq join.Merge (string_bytes into) (string_bytes other) reply old.sketches new.sketches a.sketches fits.sketches step.0)
+  step_fits (command.Union into other) reply old new a fits step =
+      after_sketches eq codec content reply _ old new a fits step.1 (join_fits eq join.Union (string_bytes into) (string_bytes other) reply old.sketches new.sketches a.sketches fits.sketches step.0)
+  step_fits (command.Intersect into other) reply old new a fits step =
+      after_sketches eq codec content reply _ old new a fits step.1 (join_fits eq join.Intersect (string_bytes into) (string_bytes other) reply old.sketches new.sketches a.sketches fits.sketches step.0)
+  step_fits (command.Difference into other) reply old new a fits step =
+      after_sketches eq codec content reply _ old new a fits step.1 (join_fits eq join.Difference (string_bytes into) (string_bytes other) reply old.sketches new.sketches a.sketches fits.sketches step.0)
+  step_fits (command.Save name image) reply old new a fits step = save_fits eq codec content (string_bytes name) (string_bytes image) reply old new a fits step
+  step_fits (command.Restore image name) reply old new a fits step = restore_fits eq codec content (string_bytes image) (string_bytes name) reply old new a fits step
+  step_fits (command.ShowImage image) reply old new a fits step = told_fits eq codec content (is_refused reply) old new a fits step.0
+  step_fits (command.Ask name item) reply old new a fits step = told_fits eq codec content (is_refused reply) old new a fits step.0
+  step_fits (command.GetStatus name) reply old new a fits step = told_fits eq codec content (is_refused reply) old new a fits step.0
+  step_fits (command.ListRows name error_type threshold) reply old new a fits step = told_fits eq codec content (is_refused reply) old new a fits step.0
+
+  -- a command that was refused changed nothing
+  pub step_same : (command : Command T) (reply : Reply T) (old new : SessionState T) → is_refused reply ≡ true → Step eq input codec content old command reply new → IsUnchanged old new
+  step_same (command.CreateFrequent name max) reply old new r step =
+      record { sketches = create_same eq (shape.Frequent max) (string_bytes name) reply old.sketches new.sketches r step.0; images = step.1 }
+  step_same (command.CreateCountI64 name hashes buckets seed) reply old new r step =
+      record { sketches = create_same eq (shape.CountI64 hashes buckets seed) (string_bytes name) reply old.sketches new.sketches r step.0; images = step.1 }
+  step_same (command.CreateCountU64 name hashes buckets seed) reply old new r step =
+      record { sketches = create_same eq (shape.CountU64 hashes buckets seed) (string_bytes name) reply old.sketches new.sketches r step.0; images = step.1 }
+  step_same (command.CreateBloom name bits hashes seed) reply old new r step =
+      record { sketches = create_same eq (shape.Bloom bits hashes seed) (string_bytes name) reply old.sketches new.sketches r step.0; images = step.1 }
+  step_same (command.Add name item weight) reply old new r step =
+      record { sketches = change_same eq (Changes eq input (change.Add item weight)) (changed input (change.Add item weight)) (string_bytes name) reply old.sketches new.sketches r step.0; images = step.1 }
+  step_same (command.AddSigned name item weight) reply old new r step =
+      record { sketches = change_same eq (Changes eq input (change.AddSigned item weight)) (changed input (change.AddSigned item weight)) (string_bytes name) reply old.sketches new.sketches r step.0; images = step.1 }
+  step_same (command.Insert name item) reply old new r step =
+      record { sketches = change_same eq (Changes eq input (change.Insert item)) (changed input (change.Insert item)) (string_bytes name) reply old.sketches new.sketches r step.0; images = step.1 }
+  step_same (command.Reset name) reply old new r step =
+      record { sketches = change_same eq (Changes eq input (change.Reset)) (changed input (change.Reset)) (string_bytes name) reply old.sketches new.sketches r step.0; images = step.1 }
+  step_same (command.Halve name) reply old new r step =
+      record { sketches = change_same eq (Changes eq input (change.Halve)) (changed input (change.Halve)) (string_bytes name) reply old.sketches new.sketches r step.0; images = step.1 }
+  step_same (command.Decay name n d) reply old new r step =
+      record { sketches = change_same eq (Changes eq input (change.Decay n d)) (changed input (change.Decay n d)) (string_bytes name) reply old.sketches new.sketches r step.0; images = step.1 }
+  step_same (command.Merge into other) reply old new r step =
+      record { sketches = join_same eq join.Merge (string_bytes into) (string_bytes other) reply old.sketches new.sketches r step.0; images = step.1 }
+  step_same (command.Union into other) reply old new r step =
+      record { sketches = join_same eq join.Union (string_bytes into) (string_bytes other) reply old.sketches new.sketches r step.0; images = step.1 }
+  step_same (command.Intersect into other) reply old new r step =
+      record { sketches = join_same eq join.Intersect (string_bytes into) (string_bytes other) reply old.sketches new.sketches r step.0; images = step.1 }
+  step_same (command.Difference into other) reply old new r step =
+      record { sketches = join_same eq join.Difference (string_bytes into) (string_bytes other) reply old.sketches new.sketches r step.0; images = step.1 }
+  step_same (command.Save name image) reply old new r step = saved_same eq codec content (string_bytes name) (string_bytes image) _ _ reply old new refl refl r step
+  step_same (command.Restore image name) reply old new r step = restored_same eq codec content (string_bytes image) (string_bytes name) _ _ reply old new refl refl r step
+  step_same (command.ShowImage image) reply old new r step = step.0
+  step_same (command.Ask name item) reply old new r step = step.0
+  step_same (command.GetStatus name) reply old new r step = step.0
+  step_same (command.ListRows name error_type threshold) reply old new r step = step.0
+
+  -- a run of commands
+  pub run_fits : (commands : List (Command T)) (replies : List (Reply T)) (old new : SessionState T) (a : Assignment T) → Fits eq codec content old a → Run eq input codec content old commands replies new → Fits eq codec content new (after input a commands replies)
+  run_fits [] [] old new a fits run = subst (λ (s : SessionState T). Fits eq codec content s a) (sym run) fits
+  run_fits [] (reply ∷ replies) old new a fits run = absurd run
+  run_fits (command ∷ commands) [] old new a fits run = absurd run
+  run_fits (command ∷ commands) (reply ∷ replies) old new a fits run =
+      run_fits commands replies run.0 new (after_one input a command reply) (step_fits command reply old run.0 a fits run.1) run.2
+
+  -- ---- the loop of a run
+
+  pub begins : (start : SessionState T) (commands rest : List (Command T)) (told : List (Reply T)) (room : ℕ) → rest ≡ commands → told ≡ [] → length commands ≤ room → Midst eq input codec content start start commands rest told room
+  begins start commands rest told room whole none h = rw (whole, none) (record { run = λ replies end r. r; space = omega (arith, h) })
+
+  pub goes_on : (start s t : SessionState T) (commands rest left : List (Command T)) (command : Command T) (told : List (Reply T)) (reply : Reply T) (room more : ℕ) →
+      Midst eq input codec content start s commands rest told room → rest ≡ command ∷ left → Step eq input codec content s command reply t → more ≡ room → Midst eq input codec content start t commands left (told ++ reply ∷ []) more
+  goes_on start s t commands rest left command told reply room more m e step same = record {
+    run = λ replies end r. rw append_assoc (m.run (reply ∷ replies) end (rw e (t, step, r)));
+    space = omega (arith, length-append told (reply ∷ []), ap length e, m.space, same);
+  }
+
+  pub ends : (start s : SessionState T) (commands rest : List (Command T)) (told : List (Reply T)) (room : ℕ) → Midst eq input codec content start s commands rest told room → rest ≡ [] → Run eq input codec content start commands told s
+  ends start s commands rest told room m e = rw append-nil at (m.run [] s (rw e refl))
+
+pub nothing_left : {X : Type 0} (n : ℕ) (xs : List X) → n ≡ length xs → n ≡ 0 → xs ≡ []
+nothing_left n [] h k = refl
+nothing_left n (x ∷ xs) h k = absurd (omega arith)

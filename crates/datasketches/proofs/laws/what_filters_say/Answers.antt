@@ -1,0 +1,7 @@
+use Rattle.datasketches.proofs.Promised.{named_stands, contains_denoted}
+use Rattle.datasketches.proofs.laws.what_filters_say.Goals as goal
+
+pub returns : goal.returns
+returns g c = record {
+  denoted = λ s h is bytes. contains_denoted s h bytes (named_stands g.T.PartialEq.eq g.T.FrequentItemValue.codec g.T.FrequentItemValue.content _ _ is).set;
+}

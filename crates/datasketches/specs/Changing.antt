@@ -1,0 +1,84 @@
+-- What a change does to a sketch of each kind.
+use Rattle.std.specs.Prelude.{◌≡◌, ℕ, ◌+◌, ◌^◌, ◌<◌, ◌≤◌, ◌⊎◌, IsTrue, Bool, List, ℤ, pos, unsigned_abs}
+use Rattle.sketch_base.specs.Errors.{invalid_argument, no_memory}
+use Rattle.sketch_base.specs.Hashes.{fed_bytes}
+use Rattle.sketch_base.specs.declared.fault.Fault.TheVariants.{WeightOverflow}
+use Rattle.sketch_frequencies.specs.State.{FrequentState, empty_state, must_double}
+use Rattle.sketch_frequencies.specs.Steps.{Steps}
+use Rattle.sketch_countmin.specs.State.{CountState, Counts, halved_state, decayed_state}
+use Rattle.sketch_bloom.specs.State.{inserted, cleared}
+use Rattle.datasketches.specs.declared.reply.Reply.{Reply}
+use Rattle.datasketches.specs.declared.reply.Reply.TheVariants.{Done, Refused}
+use Rattle.datasketches.specs.declared.reply.Refusal.TheVariants.{BadFraction}
+use Rattle.datasketches.specs.declared.sketch.Change.{Change}
+use Rattle.datasketches.specs.declared.sketch.Change.TheVariants.{Add, AddSigned, Insert, Reset, Halve, Decay}
+use Rattle.datasketches.specs.declared.sketch.Sketch.{Sketch}
+use Rattle.datasketches.specs.declared.sketch.Sketch.TheVariants.{Frequent, CountI64, CountU64, Bloom}
+use Rattle.datasketches.specs.Replies.{refused, IsWrongKind, Becomes, greatest_signed, greatest_unsigned}
+
+module _ {T : Type 0} (eq : T → T → Bool) where
+  -- an item was added to a sketch of frequent items, or refused
+  pub record AddsFrequent (item : T) (weight : ℕ) (old : FrequentState T) (reply : Reply T)
+      (new : FrequentState T) : Type 0 where
+    pub nothing : weight ≡ 0 → (reply ≡ Done) × (new ≡ old)
+    pub overflow : 2 ^ 64 ≤ old.total + weight → (reply ≡ refused (invalid_argument WeightOverflow)) × (new ≡ old)
+    pub added : 0 < weight → old.total + weight < 2 ^ 64 → ((reply ≡ Done) × Steps eq old item weight new)
+        ⊎ ((reply ≡ refused no_memory) × IsTrue (must_double eq old item) × (new ≡ old))
+
+module _ {T : Type 0} where
+  -- a weight was counted in a Count-Min sketch over numbers up to the greatest, or refused
+  pub record AddsCount (greatest : ℕ) (bytes : List ℕ) (weight : ℤ) (old : CountState) (reply : Reply T)
+      (new : CountState) : Type 0 where
+    pub nothing : weight ≡ pos 0 → (reply ≡ Done) × (new ≡ old)
+    pub overflow : greatest < old.total + unsigned_abs weight
+        → (reply ≡ refused (invalid_argument WeightOverflow)) × (new ≡ old)
+    pub counted : old.total + unsigned_abs weight ≤ greatest → (reply ≡ Done) × Counts old bytes weight new
+
+module _ {T : Type 0} (eq : T → T → Bool) (input : T → List (List ℕ)) where
+  abbrev pub Adds : T → ℕ → Sketch T → Reply T → Sketch T → Type 0
+  Adds item weight (Frequent s) reply new = Becomes Frequent (AddsFrequent eq item weight s) reply new
+  Adds item weight (CountU64 s) reply new =
+      Becomes CountU64 (AddsCount greatest_unsigned (fed_bytes input item) (pos weight) s) reply new
+  Adds item weight old reply new = IsWrongKind old reply new
+
+module _ {T : Type 0} (input : T → List (List ℕ)) where
+  abbrev pub AddsSigned : T → ℤ → Sketch T → Reply T → Sketch T → Type 0
+  AddsSigned item weight (CountI64 s) reply new =
+      Becomes CountI64 (AddsCount greatest_signed (fed_bytes input item) weight s) reply new
+  AddsSigned item weight old reply new = IsWrongKind old reply new
+
+  abbrev pub Inserts : T → Sketch T → Reply T → Sketch T → Type 0
+  Inserts item (Bloom s) reply new = (reply ≡ Done) × (new ≡ Bloom (inserted s (fed_bytes input item)))
+  Inserts item old reply new = IsWrongKind old reply new
+
+module _ {T : Type 0} where
+  -- a sketch is as it was made
+  abbrev pub Resets : Sketch T → Reply T → Sketch T → Type 0
+  Resets (Frequent s) reply new = (reply ≡ Done) × (new ≡ Frequent (empty_state s.max_size))
+  Resets (Bloom s) reply new = (reply ≡ Done) × (new ≡ Bloom (cleared s))
+  Resets old reply new = IsWrongKind old reply new
+
+  abbrev pub Halves : Sketch T → Reply T → Sketch T → Type 0
+  Halves (CountU64 s) reply new = (reply ≡ Done) × (new ≡ CountU64 (halved_state s))
+  Halves old reply new = IsWrongKind old reply new
+
+  -- a Count-Min sketch was scaled by a fraction above 0 and at most 1, or refused
+  pub record DecaysCount (numerator denominator : ℕ) (old : CountState) (reply : Reply T) (new : CountState) : Type 0 where
+    pub zero : numerator ≡ 0 → (reply ≡ Refused BadFraction) × (new ≡ old)
+    pub above : denominator < numerator → (reply ≡ Refused BadFraction) × (new ≡ old)
+    pub scaled : 0 < numerator → numerator ≤ denominator
+        → (reply ≡ Done) × (new ≡ decayed_state numerator denominator old)
+
+  abbrev pub Decays : ℕ → ℕ → Sketch T → Reply T → Sketch T → Type 0
+  Decays numerator denominator (CountU64 s) reply new = Becomes CountU64 (DecaysCount numerator denominator s) reply new
+  Decays numerator denominator old reply new = IsWrongKind old reply new
+
+module _ {T : Type 0} (eq : T → T → Bool) (input : T → List (List ℕ)) where
+  -- what a change does
+  abbrev pub Changes : Change T → Sketch T → Reply T → Sketch T → Type 0
+  Changes (Add item weight) old reply new = Adds eq input item weight old reply new
+  Changes (AddSigned item weight) old reply new = AddsSigned input item weight old reply new
+  Changes (Insert item) old reply new = Inserts input item old reply new
+  Changes Reset old reply new = Resets old reply new
+  Changes Halve old reply new = Halves old reply new
+  Changes (Decay numerator denominator) old reply new = Decays numerator denominator old reply new

@@ -1,0 +1,141 @@
+-- How sketches of every kind came about, and how a name's history grows with each accepted command.
+use Rattle.std.specs.Prelude.{ℕ, ◌==◌, List, [], ◌∷◌, Option, Some, None, option_map, bytes_eq, if◌then◌else◌, pos, unsigned_abs}
+use Rattle.std.specs.String.{string_bytes}
+use Rattle.sketch_base.specs.Hashes.{fed_bytes}
+use Rattle.sketch_bloom.specs.Building.{words_for}
+use Rattle.sketch_bloom.specs.History as bloom
+use Rattle.sketch_bloom.specs.History.{BloomHistory}
+use Rattle.sketch_countmin.specs.History as count
+use Rattle.sketch_countmin.specs.History.{CountHistory}
+use Rattle.sketch_frequencies.specs.History as frequent
+use Rattle.sketch_frequencies.specs.History.{FrequentHistory}
+use Rattle.datasketches.specs.Names.{Name}
+use Rattle.datasketches.specs.Replies.{is_refused}
+use Rattle.datasketches.specs.declared.command.Command.{Command}
+use Rattle.datasketches.specs.declared.command.Command.TheVariants as command
+use Rattle.datasketches.specs.declared.reply.Reply.{Reply}
+use Rattle.datasketches.specs.declared.sketch.Change.{Change}
+use Rattle.datasketches.specs.declared.sketch.Change.TheVariants as change
+use Rattle.datasketches.specs.declared.sketch.Join.{Join}
+use Rattle.datasketches.specs.declared.sketch.Join.TheVariants as join
+use Rattle.datasketches.specs.declared.sketch.Shape.{Shape}
+use Rattle.datasketches.specs.declared.sketch.Shape.TheVariants as shape
+
+-- the history of a sketch of some kind
+pub data History (T : Type 0) : Type 0 where
+  OfFrequent : FrequentHistory T → History T
+  OfCountI64 : CountHistory → History T
+  OfCountU64 : CountHistory → History T
+  OfBloom : BloomHistory → History T
+
+-- a kind and a history for each name of a sketch and each name of an image
+pub record Assignment (T : Type 0) : Type 0 where
+  pub sketches : List ℕ → Option (History T)
+  pub images : List ℕ → Option (History T)
+
+-- that of two histories, if there are both
+abbrev pub of_both : {X : Type 0} → (X → X → X) → Option X → Option X → Option X
+of_both f None other = None
+of_both f (Some own) None = Some own
+of_both f (Some own) (Some other) = Some (f own other)
+
+module _ {T : Type 0} where
+  -- no name
+  abbrev pub nothing_named : Assignment T
+  nothing_named = record { sketches = λ name. None; images = λ name. None }
+
+  -- the same with this under the name
+  abbrev pub put_at : List ℕ → Option (History T) → (List ℕ → Option (History T)) → List ℕ → Option (History T)
+  put_at name history histories other = if bytes_eq name other then history else histories other
+
+  -- that of a new sketch
+  abbrev pub begun : Shape → History T
+  begun (shape.Frequent max_map_size) = OfFrequent (frequent.New max_map_size)
+  begun (shape.CountI64 hashes buckets seed) = OfCountI64 (count.New hashes buckets seed)
+  begun (shape.CountU64 hashes buckets seed) = OfCountU64 (count.New hashes buckets seed)
+  begun (shape.Bloom bits hashes seed) = OfBloom (bloom.New (words_for bits) hashes seed)
+
+  -- that of a sketch as its image gave it back
+  abbrev pub restored : History T → History T
+  restored (OfFrequent h) = OfFrequent (frequent.Restored h)
+  restored (OfCountI64 h) = OfCountI64 (count.Restored h)
+  restored (OfCountU64 h) = OfCountU64 (count.Restored h)
+  restored (OfBloom h) = OfBloom (bloom.Restored h)
+
+  -- that of two sketches, the second joined to the first
+  abbrev pub joined : Join → History T → History T → History T
+  joined join.Merge (OfFrequent g) (OfFrequent h) = OfFrequent (frequent.Merge g h)
+  joined join.Merge (OfCountI64 g) (OfCountI64 h) = OfCountI64 (count.Merge g h)
+  joined join.Merge (OfCountU64 g) (OfCountU64 h) = OfCountU64 (count.Merge g h)
+  joined join.Union (OfBloom g) (OfBloom h) = OfBloom (bloom.Union g h)
+  joined join.Intersect (OfBloom g) (OfBloom h) = OfBloom (bloom.Intersection g h)
+  joined join.Difference (OfBloom g) (OfBloom h) = OfBloom (bloom.Difference g h)
+  joined _ history _ = history
+
+-- what items feed to a hash
+module _ {T : Type 0} (input : T → List (List ℕ)) where
+  -- that of a sketch that was changed; a weight of 0 changes nothing
+  abbrev pub changed : Change T → History T → History T
+  changed (change.Add item weight) (OfFrequent h) = OfFrequent (if weight == 0 then h else frequent.Update h item weight)
+  changed (change.Add item weight) (OfCountU64 h) =
+      OfCountU64 (if weight == 0 then h else count.Update h (fed_bytes input item) (pos weight))
+  changed (change.AddSigned item weight) (OfCountI64 h) =
+      OfCountI64 (if unsigned_abs weight == 0 then h else count.Update h (fed_bytes input item) weight)
+  changed (change.Insert item) (OfBloom h) = OfBloom (bloom.Insert h (fed_bytes input item))
+  changed change.Reset (OfFrequent h) = OfFrequent (frequent.Reset h)
+  changed change.Reset (OfBloom h) = OfBloom (bloom.Reset h)
+  changed change.Halve (OfCountU64 h) = OfCountU64 (count.Halve h)
+  changed (change.Decay numerator denominator) (OfCountU64 h) = OfCountU64 (count.Decay h numerator denominator)
+  changed _ history = history
+
+  -- a new sketch has the name
+  abbrev pub made : Assignment T → Name → Shape → Assignment T
+  made a name shape = record a { sketches = put_at (string_bytes name) (Some (begun shape)) a.sketches }
+
+  -- the sketch of the name was changed
+  abbrev pub grown : Assignment T → Name → Change T → Assignment T
+  grown a name change =
+      record a { sketches = put_at (string_bytes name) (option_map (changed change) (a.sketches (string_bytes name))) a.sketches }
+
+  -- the sketch of one name was joined by that of another
+  abbrev pub both_joined : Assignment T → Name → Name → Join → Assignment T
+  both_joined a into other join =
+      record a {
+        sketches = put_at (string_bytes into)
+            (of_both (joined join) (a.sketches (string_bytes into)) (a.sketches (string_bytes other))) a.sketches;
+      }
+
+  -- what an accepted command makes of an assignment
+  abbrev pub accepted : Assignment T → Command T → Assignment T
+  accepted a (command.CreateFrequent name max_map_size) = made a name (shape.Frequent max_map_size)
+  accepted a (command.CreateCountI64 name hashes buckets seed) = made a name (shape.CountI64 hashes buckets seed)
+  accepted a (command.CreateCountU64 name hashes buckets seed) = made a name (shape.CountU64 hashes buckets seed)
+  accepted a (command.CreateBloom name bits hashes seed) = made a name (shape.Bloom bits hashes seed)
+  accepted a (command.Add name item weight) = grown a name (change.Add item weight)
+  accepted a (command.AddSigned name item weight) = grown a name (change.AddSigned item weight)
+  accepted a (command.Insert name item) = grown a name (change.Insert item)
+  accepted a (command.Merge into other) = both_joined a into other join.Merge
+  accepted a (command.Union into other) = both_joined a into other join.Union
+  accepted a (command.Intersect into other) = both_joined a into other join.Intersect
+  accepted a (command.Difference into other) = both_joined a into other join.Difference
+  accepted a (command.Reset name) = grown a name change.Reset
+  accepted a (command.Halve name) = grown a name change.Halve
+  accepted a (command.Decay name numerator denominator) = grown a name (change.Decay numerator denominator)
+  accepted a (command.Save name image) =
+      record a { images = put_at (string_bytes image) (a.sketches (string_bytes name)) a.images }
+  accepted a (command.Restore image name) =
+      record a { sketches = put_at (string_bytes name) (option_map restored (a.images (string_bytes image))) a.sketches }
+  accepted a (command.ShowImage image) = a
+  accepted a (command.Ask name item) = a
+  accepted a (command.GetStatus name) = a
+  accepted a (command.ListRows name error_type threshold) = a
+
+  -- and what a command does whose reply is this: nothing where it was refused
+  abbrev pub after_one : Assignment T → Command T → Reply T → Assignment T
+  after_one a command reply = if is_refused reply then a else accepted a command
+
+  -- what the commands with these replies make of it, in their order
+  abbrev pub after : Assignment T → List (Command T) → List (Reply T) → Assignment T
+  after a [] replies = a
+  after a (command ∷ commands) [] = a
+  after a (command ∷ commands) (reply ∷ replies) = after (after_one a command reply) commands replies

@@ -1,0 +1,66 @@
+-- What becomes of a sketch that is joined with another.
+use Rattle.std.specs.Prelude.{◌≡◌, ℕ, ◌+◌, ◌^◌, ◌<◌, ◌≤◌, ◌⊎◌, Bool}
+use Rattle.sketch_base.specs.Errors.{invalid_argument, no_memory}
+use Rattle.sketch_base.specs.declared.fault.Fault.TheVariants.{Mismatch, WeightOverflow}
+use Rattle.sketch_frequencies.specs.State.{FrequentState}
+use Rattle.sketch_frequencies.specs.Steps.{JoinsEqual}
+use Rattle.sketch_countmin.specs.State.{CountState, SameShape}
+use Rattle.sketch_countmin.specs.State as count
+use Rattle.sketch_bloom.specs.State.{FilterState, IsCompatible, united, intersected, subtracted}
+use Rattle.datasketches.specs.declared.reply.Reply.{Reply}
+use Rattle.datasketches.specs.declared.reply.Reply.TheVariants.{Done}
+use Rattle.datasketches.specs.declared.sketch.Join.{Join}
+use Rattle.datasketches.specs.declared.sketch.Join.TheVariants.{Merge, Union, Intersect, Difference}
+use Rattle.datasketches.specs.declared.sketch.Sketch.{Sketch}
+use Rattle.datasketches.specs.declared.sketch.Sketch.TheVariants.{Frequent, CountI64, CountU64, Bloom}
+use Rattle.datasketches.specs.Replies.{refused, IsWrongKind, Becomes, greatest_signed, greatest_unsigned}
+
+module _ {T : Type 0} (eq : T → T → Bool) where
+  -- another sketch of frequent items was merged in, or refused
+  pub record JoinsFrequent (other old : FrequentState T) (reply : Reply T) (new : FrequentState T) : Type 0 where
+    pub nothing : other.total ≡ 0 → (reply ≡ Done) × (new ≡ old)
+    pub overflow : 2 ^ 64 ≤ old.total + other.total → (reply ≡ refused (invalid_argument WeightOverflow)) × (new ≡ old)
+    pub joined : old.total + other.total < 2 ^ 64
+        → ((reply ≡ Done) × JoinsEqual eq old other new) ⊎ ((reply ≡ refused no_memory) × (new ≡ old))
+
+module _ {T : Type 0} where
+  -- another Count-Min sketch over numbers up to the greatest was merged in, or refused
+  pub record JoinsCount (greatest : ℕ) (other old : CountState) (reply : Reply T) (new : CountState) : Type 0 where
+    pub mismatch : ¬ SameShape old other → (reply ≡ refused (invalid_argument Mismatch)) × (new ≡ old)
+    pub overflow : SameShape old other → greatest < old.total + other.total
+        → (reply ≡ refused (invalid_argument WeightOverflow)) × (new ≡ old)
+    pub joined : SameShape old other → old.total + other.total ≤ greatest → (reply ≡ Done) × count.Joins old other new
+
+  -- another filter was joined so, or refused
+  pub record JoinsFilter (joined_filter : FilterState → FilterState → FilterState) (other old : FilterState)
+      (reply : Reply T) (new : FilterState) : Type 0 where
+    pub mismatch : ¬ IsCompatible old other → (reply ≡ refused (invalid_argument Mismatch)) × (new ≡ old)
+    pub joined : IsCompatible old other → (reply ≡ Done) × (new ≡ joined_filter old other)
+
+module _ {T : Type 0} (eq : T → T → Bool) where
+  abbrev pub Merges : Sketch T → Sketch T → Reply T → Sketch T → Type 0
+  Merges (Frequent other) (Frequent s) reply new = Becomes Frequent (JoinsFrequent eq other s) reply new
+  Merges (CountI64 other) (CountI64 s) reply new = Becomes CountI64 (JoinsCount greatest_signed other s) reply new
+  Merges (CountU64 other) (CountU64 s) reply new = Becomes CountU64 (JoinsCount greatest_unsigned other s) reply new
+  Merges other old reply new = IsWrongKind old reply new
+
+module _ {T : Type 0} where
+  abbrev pub Unites : Sketch T → Sketch T → Reply T → Sketch T → Type 0
+  Unites (Bloom other) (Bloom s) reply new = Becomes Bloom (JoinsFilter united other s) reply new
+  Unites other old reply new = IsWrongKind old reply new
+
+  abbrev pub Intersects : Sketch T → Sketch T → Reply T → Sketch T → Type 0
+  Intersects (Bloom other) (Bloom s) reply new = Becomes Bloom (JoinsFilter intersected other s) reply new
+  Intersects other old reply new = IsWrongKind old reply new
+
+  abbrev pub Subtracts : Sketch T → Sketch T → Reply T → Sketch T → Type 0
+  Subtracts (Bloom other) (Bloom s) reply new = Becomes Bloom (JoinsFilter subtracted other s) reply new
+  Subtracts other old reply new = IsWrongKind old reply new
+
+module _ {T : Type 0} (eq : T → T → Bool) where
+  -- what joining another sketch does
+  abbrev pub Joins : Join → Sketch T → Sketch T → Reply T → Sketch T → Type 0
+  Joins Merge other old reply new = Merges eq other old reply new
+  Joins Union other old reply new = Unites other old reply new
+  Joins Intersect other old reply new = Intersects other old reply new
+  Joins Difference other old reply new = Subtracts other old reply new

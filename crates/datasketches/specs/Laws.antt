@@ -1,0 +1,82 @@
+-- What a session that fits its histories says of each sketch, kind by kind.
+use Rattle.std.specs.Prelude.{◌≡◌, ◌↔◌, ℕ, ℤ, ◌*◌, ◌+◌, ◌<◌, ◌≤◌, ◌-ℤ◌, ◌⊎◌, Bool, true, List, length, Some}
+use Rattle.std.specs.FinSet as set
+use Rattle.sketch_bloom.specs.History.{BloomHistory, denoted_set}
+use Rattle.sketch_bloom.specs.State.{FilterState, item_positions, contains_item}
+use Rattle.sketch_countmin.specs.History.{CountHistory, IsExact, cell_share, own_value, others_share}
+use Rattle.sketch_countmin.specs.Rows.{cell_at}
+use Rattle.sketch_countmin.specs.State.{CountState, IsLeast, IsLeastCell}
+use Rattle.sketch_frequencies.specs.History.{FrequentHistory, true_weight, total_weight, own_size, least_size}
+use Rattle.sketch_frequencies.specs.Items.{Codec}
+use Rattle.sketch_frequencies.specs.Stands.{HasFewItems, KeepsTailBudget}
+use Rattle.sketch_frequencies.specs.State.{FrequentState, capacity}
+use Rattle.sketch_frequencies.specs.Tables.{count_of}
+use Rattle.datasketches.specs.Fits.{Fits}
+use Rattle.datasketches.specs.Histories.{History, Assignment}
+use Rattle.datasketches.specs.Histories.History.{OfFrequent, OfCountI64, OfCountU64, OfBloom}
+use Rattle.datasketches.specs.Names.{at_name}
+use Rattle.datasketches.specs.State.{SessionState}
+use Rattle.datasketches.specs.declared.sketch.Sketch.{Sketch}
+use Rattle.datasketches.specs.declared.sketch.Sketch.TheVariants.{Frequent, CountI64, CountU64, Bloom}
+
+module _ {T C : Type 0} (eq : T → T → Bool) (codec : Codec C) (content : T → C) where
+  -- some session that fits some assignment has a name with this sketch and this history
+  pub record IsNamed (sketch : Sketch T) (h : History T) : Type 0 where
+    pub session : SessionState T
+    pub histories : Assignment T
+    pub name : List ℕ
+    pub fits : Fits eq codec content session histories
+    pub sketch_is : at_name name session.sketches ≡ Some sketch
+    pub history_is : histories.sketches name ≡ Some h
+
+  -- at most three quarters of its own greatest size are counters
+  abbrev pub HoldsFew : Type 0
+  HoldsFew = (s : FrequentState T) (h : FrequentHistory T) → IsNamed (Frequent s) (OfFrequent h)
+      → length s.counters ≤ capacity (own_size h)
+
+  -- each true weight lies between the item's count and that count plus the error
+  abbrev pub EnclosesWeights : Type 0
+  EnclosesWeights = (s : FrequentState T) (h : FrequentHistory T) → IsNamed (Frequent s) (OfFrequent h) → (x : T)
+      → (count_of eq s.counters x ≤ true_weight eq h x) × (true_weight eq h x ≤ count_of eq s.counters x + s.error)
+
+  -- where few items came, there is no error
+  abbrev pub ExactOfFew : Type 0
+  ExactOfFew = (s : FrequentState T) (h : FrequentHistory T) → IsNamed (Frequent s) (OfFrequent h) → HasFewItems eq h
+      → s.error ≡ 0
+
+  -- whichever few items are set aside, the tail budget is kept
+  abbrev pub WithinTailBudget : Type 0
+  WithinTailBudget = (s : FrequentState T) (h : FrequentHistory T) → IsNamed (Frequent s) (OfFrequent h)
+      → KeepsTailBudget eq s h
+
+  -- up to a least size of 1024, three eighths of that size times the error are at most the total weight
+  abbrev pub SmallSketchErrsLittle : Type 0
+  SmallSketchErrsLittle = (s : FrequentState T) (h : FrequentHistory T) → IsNamed (Frequent s) (OfFrequent h)
+      → least_size h ≤ 1024 → 3 * least_size h * s.error ≤ 8 * total_weight h
+
+  -- above it, 512 times the error are at most the total weight
+  abbrev pub LargeSketchErrsLittle : Type 0
+  LargeSketchErrsLittle = (s : FrequentState T) (h : FrequentHistory T) → IsNamed (Frequent s) (OfFrequent h)
+      → 1024 < least_size h → 512 * s.error ≤ total_weight h
+
+  -- a filter contains an item exactly where the set that its history denotes has each of the item's positions
+  abbrev pub ContainsWhatIsDenoted : Type 0
+  ContainsWhatIsDenoted = (s : FilterState) (h : BloomHistory) → IsNamed (Bloom s) (OfBloom h) → (bytes : List ℕ)
+      → (contains_item s bytes ≡ true)
+      ↔ ((p : ℕ) → set.contains (item_positions s bytes) p ≡ true → set.contains (denoted_set h) p ≡ true)
+
+  -- a Count-Min sketch of either kind has this name and this history
+  abbrev pub IsCounted : CountState → CountHistory → Type 0
+  IsCounted s h = IsNamed (CountI64 s) (OfCountI64 h) ⊎ IsNamed (CountU64 s) (OfCountU64 h)
+
+  -- each cell is its bucket's share
+  abbrev pub CellsAreShares : Type 0
+  CellsAreShares = (s : CountState) (h : CountHistory) → IsCounted s h
+      → (r : ℕ) → r < s.hashes → (b : ℕ) → b < s.buckets → cell_at s.rows r b ≡ cell_share s.buckets s.seed h r b
+
+  -- where nothing was halved or decayed, an item's least cell is above its own share by the least, over the rows, of
+  -- what the other items of its buckets share
+  abbrev pub LeastCellIsRaisedByOthers : Type 0
+  LeastCellIsRaisedByOthers = (s : CountState) (h : CountHistory) → IsCounted s h → 0 < s.buckets → IsExact h
+      → (bytes : List ℕ) (least : ℤ) → IsLeastCell s bytes least
+      → IsLeast s.hashes (others_share s.buckets s.seed h bytes) (least -ℤ own_value h bytes)

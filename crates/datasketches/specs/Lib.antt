@@ -1,0 +1,20 @@
+pub mod Names
+pub mod Replies
+pub mod Histories
+pub mod Shapes
+pub mod Stands
+pub mod Changing
+pub mod Joining
+pub mod Answering
+pub mod Images
+pub mod State
+pub mod Places
+pub mod Steps
+pub mod Fits
+pub mod Laws
+pub mod Running
+-- what a crate above names of those below
+pub use Rattle.sketch_base.specs.Faults
+pub use Rattle.sketch_frequencies.specs.RowValue
+pub use Rattle.sketch_frequencies.specs.declared.error_type.ErrorType
+pub use Rattle.sketch_frequencies.specs.Items

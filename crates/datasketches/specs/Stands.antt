@@ -1,0 +1,53 @@
+-- What a sketch says of its history, and how a command keeps it.
+use Rattle.std.specs.Prelude.{◌≡◌, ◌≤◌, Bool, true, false, length}
+use Rattle.sketch_bloom.specs.Stands as bloom
+use Rattle.sketch_countmin.specs.Stands as count
+use Rattle.sketch_frequencies.specs.History.{FrequentHistory, own_size}
+use Rattle.sketch_frequencies.specs.Stands as frequent
+use Rattle.sketch_frequencies.specs.State.{FrequentState, capacity}
+use Rattle.datasketches.specs.Histories.{History}
+use Rattle.datasketches.specs.Histories.History.{OfFrequent, OfCountI64, OfCountU64, OfBloom}
+use Rattle.datasketches.specs.Replies.{is_refused}
+use Rattle.datasketches.specs.declared.reply.Reply.{Reply}
+use Rattle.datasketches.specs.declared.sketch.Sketch.{Sketch}
+use Rattle.datasketches.specs.declared.sketch.Sketch.TheVariants.{Frequent, CountI64, CountU64, Bloom}
+
+module _ {T : Type 0} (eq : T → T → Bool) where
+  -- a sketch of frequent items holds at most three quarters of its greatest size in counters, encloses every true
+  -- weight within its error, and keeps the tail budget
+  pub record KeepsPromise (s : FrequentState T) (h : FrequentHistory T) : Type 0 where
+    pub few : length s.counters ≤ capacity (own_size h)
+    pub stands : frequent.StandsFor eq s h
+    pub budget : frequent.KeepsTailBudget eq s h
+
+  -- the sketch is one of this history
+  abbrev pub StandsFor : Sketch T → History T → Type 0
+  StandsFor (Frequent s) (OfFrequent h) = KeepsPromise s h
+  StandsFor (CountI64 s) (OfCountI64 h) = count.StandsFor s h
+  StandsFor (CountU64 s) (OfCountU64 h) = count.StandsFor s h
+  StandsFor (Bloom s) (OfBloom h) = bloom.StandsFor s h
+  StandsFor _ _ = ⊥
+
+  -- whatever the sketch stood for, it now stands for what the command made of it
+  abbrev pub Carries : (History T → History T) → Sketch T → Sketch T → Type 0
+  Carries grown old new = (h : History T) → StandsFor old h → StandsFor new (grown h)
+
+  -- a command was done to a sketch as its own call does it, whatever it stood for was carried on, and a refusal left it
+  -- as it was
+  pub record Does (DoesOwn : Sketch T → Reply T → Sketch T → Type 0) (grown : History T → History T)
+      (old : Sketch T) (reply : Reply T) (new : Sketch T) : Type 0 where
+    pub own : DoesOwn old reply new
+    pub carries : is_refused reply ≡ false → Carries grown old new
+    pub refused : is_refused reply ≡ true → new ≡ old
+
+  -- whatever the two sketches stood for, the first now stands for what the command made of both
+  abbrev pub CarriesBoth : (History T → History T → History T) → Sketch T → Sketch T → Sketch T → Type 0
+  CarriesBoth joined old other new =
+      (g h : History T) → StandsFor old g → StandsFor other h → StandsFor new (joined g h)
+
+  -- the same as `Does` of a command with another sketch
+  pub record DoesWith (DoesOwn : Sketch T → Reply T → Sketch T → Type 0) (joined : History T → History T → History T)
+      (other old : Sketch T) (reply : Reply T) (new : Sketch T) : Type 0 where
+    pub own : DoesOwn old reply new
+    pub carries : is_refused reply ≡ false → CarriesBoth joined old other new
+    pub refused : is_refused reply ≡ true → new ≡ old

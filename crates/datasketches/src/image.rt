@@ -1,0 +1,36 @@
+//! Saved sketches.
+ghost use Rattle.std.specs.Prelude.{◌≡◌, IfOk, IfErr};
+ghost use Rattle.sketch_base.specs.Errors.{no_memory};
+ghost use Rattle.datasketches.specs.Images.{bytes_of};
+
+use sketch_base::Error;
+use std::alloc::Global;
+
+/// The image of a sketch of some kind, with the seed under which it is read, where it does not have that itself.
+#[derive(Drop)]
+pub enum Image {
+    Frequent(Vec<u8>),
+    CountI64 { seed: u64, bytes: Vec<u8> },
+    CountU64 { seed: u64, bytes: Vec<u8> },
+    Bloom(Vec<u8>),
+}
+
+impl Image {
+    /// A copy of the bytes.
+    ///
+    /// # Errors
+    ///
+    /// `NoMemory` where there is no memory for it.
+    pub fn copy_bytes(&self, alloc: Global) -> Result<Vec<u8>, Error>
+        ensures copy { IfOk result (λ bytes. bytes.items ≡ bytes_of self.now) }
+        ensures err { IfErr result (λ e. e ≡ no_memory) }
+    {
+        let bytes = match self {
+            Image::Frequent(bytes) => bytes,
+            Image::CountI64 { bytes, .. } => bytes,
+            Image::CountU64 { bytes, .. } => bytes,
+            Image::Bloom(bytes) => bytes,
+        };
+        Ok(Vec::from_slice(alloc, bytes)?)
+    }
+}

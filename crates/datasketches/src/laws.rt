@@ -1,0 +1,40 @@
+//! What the promise of a session says of each of its sketches. No function here does anything: what it ensures is the
+//! law.
+//!
+//! A new session fits the assignment with no name, and [`run`](crate::Session::run) leaves a session that fits what
+//! its commands and replies made of the assignment. So the laws hold of each sketch of a session after any list of
+//! commands.
+ghost use Rattle.datasketches.specs.Laws.{HoldsFew, EnclosesWeights, ExactOfFew, WithinTailBudget, SmallSketchErrsLittle, LargeSketchErrsLittle, ContainsWhatIsDenoted, CellsAreShares, LeastCellIsRaisedByOthers};
+
+use sketch_countmin::laws as countmin;
+use sketch_frequencies::{FrequentItemValue, laws as frequencies};
+
+/// A sketch of frequent items holds at most three quarters of its greatest size in counters, encloses every true
+/// weight within its error, has no error where few items came, and keeps the tail budget.
+///
+/// For a greatest size M, the least of all that took part, the error is at most 8 / 3M of the weight of all items
+/// where M is up to 1024, and at most 1 / 512 of it above.
+pub fn what_frequent_items_say<T: FrequentItemValue>()
+    ensures few { HoldsFew T.eq T.codec T.content }
+    ensures encloses { EnclosesWeights T.eq T.codec T.content }
+    ensures exact { ExactOfFew T.eq T.codec T.content }
+    ensures budget { WithinTailBudget T.eq T.codec T.content }
+    ensures small { SmallSketchErrsLittle T.eq T.codec T.content }
+    ensures large { LargeSketchErrsLittle T.eq T.codec T.content }
+{
+    frequencies::what_the_error_costs::<T>();
+}
+
+/// Each cell of a Count-Min sketch is its bucket's share of the history. Where nothing was halved or decayed, an item's
+/// estimate is its own value and the least, over the rows, of that of the other items in its buckets.
+pub fn what_counts_say<T: FrequentItemValue>()
+    ensures cells { CellsAreShares T.eq T.codec T.content }
+    ensures raised { LeastCellIsRaisedByOthers T.eq T.codec T.content }
+{
+    countmin::what_the_least_cell_says();
+}
+
+/// A filter says yes exactly where the set that its history denotes has all of the item's positions.
+pub fn what_filters_say<T: FrequentItemValue>()
+    ensures denoted { ContainsWhatIsDenoted T.eq T.codec T.content }
+{}

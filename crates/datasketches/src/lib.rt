@@ -1,0 +1,65 @@
+//! Small summaries of long streams that can be merged, saved and restored.
+//!
+//! - [`frequencies`] finds the items that weigh most, [`countmin`] counts weights in a table of a fixed size, and
+//!   [`bloom`] knows which items it has seen.
+//! - [`Session`] keeps sketches of these kinds and their images under names, and does [`Command`]s on them.
+//! - [`error`], [`codec`] and [`hash`] have what the sketches share: refusals, cursors over bytes, and hash functions.
+#![tactic(auto)]
+
+mod command;
+mod image;
+pub mod laws;
+mod reply;
+mod session;
+mod shelf;
+mod sketch;
+#[cfg(test)]
+mod tests;
+
+pub use command::Command;
+pub use reply::{Refusal, Reply, Status};
+pub use session::Session;
+
+/// Bloom filters with exact set algebra.
+pub mod bloom {
+    pub use sketch_bloom::{BloomFilter, BloomFilterBuilder, Error, ErrorKind, Fault};
+}
+
+/// Count-Min sketches.
+pub mod countmin {
+    pub use sketch_countmin::{
+        CountMinSketch, CountMinValue, Error, ErrorKind, Fault, UnsignedCountMinValue,
+    };
+}
+
+/// Sketches of the items that weigh most.
+pub mod frequencies {
+    pub use sketch_base::{SketchBytes, SketchSlice};
+    pub use sketch_frequencies::{
+        EMPTY_FLAG_MASK, Error, ErrorKind, ErrorType, Fault, FrequentItemValue,
+        FrequentItemsSketch, PREAMBLE_LONGS_EMPTY, PREAMBLE_LONGS_NONEMPTY,
+        ReversePurgeItemHashMap, ReversePurgeItemIter, Row, SERIAL_VERSION,
+    };
+}
+
+/// Refusals.
+pub mod error {
+    pub use sketch_base::{Error, ErrorKind, Fault};
+}
+
+/// Cursors over bytes, and the families of images.
+pub mod codec {
+    pub use sketch_base::{SketchBytes, SketchSlice};
+
+    /// The families of images.
+    pub mod family {
+        pub use sketch_base::Family;
+    }
+}
+
+/// Hash functions.
+pub mod hash {
+    pub use sketch_base::{
+        DEFAULT_UPDATE_SEED, MurmurHash3X64128, XxHash64, check_seed_hash, compute_seed_hash,
+    };
+}

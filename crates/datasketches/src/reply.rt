@@ -1,0 +1,91 @@
+//! What a session answers.
+use sketch_base::Error;
+use sketch_frequencies::Row;
+
+/// The answer to a command.
+#[derive(Drop)]
+pub enum Reply<T> {
+    /// It was done.
+    Done,
+    /// An item's estimate and bounds.
+    Bounds {
+        estimate: i128,
+        lower: i128,
+        upper: i128,
+    },
+    /// Whether a filter contains an item.
+    Contains(bool),
+    /// A sketch's numbers.
+    Status(Status),
+    /// The frequent items above a threshold, descending by estimate.
+    Rows(Vec<Row<T>>),
+    /// The bytes of an image.
+    Image(Vec<u8>),
+    /// It was refused, and nothing changed.
+    Refused(Refusal),
+}
+
+/// A sketch's numbers.
+#[derive(Clone, Copy, Debug, PartialEq, Eq)]
+pub enum Status {
+    /// Those of a sketch of frequent items: counters, error, total weight, slots now and at most, and how many counters
+    /// fit into the slots that there are now.
+    Frequent {
+        active: usize,
+        error: u64,
+        total: u64,
+        size: usize,
+        max: usize,
+        capacity: usize,
+    },
+    /// Those of a Count-Min sketch of weights below zero and above.
+    CountI64 {
+        total: i64,
+        hashes: u8,
+        buckets: u32,
+        seed: u64,
+    },
+    /// Those of a Count-Min sketch of weights of zero and above.
+    CountU64 {
+        total: u64,
+        hashes: u8,
+        buckets: u32,
+        seed: u64,
+    },
+    /// Those of a filter: set bits, all bits, hashes and the seed.
+    Bloom {
+        bits: u64,
+        capacity: usize,
+        hashes: u16,
+        seed: u64,
+    },
+}
+
+/// Why a command was refused.
+#[derive(Clone, Copy, Debug, PartialEq, Eq)]
+pub enum Refusal {
+    /// No sketch, or no image, has the name.
+    NoSuchName,
+    /// A sketch, or an image, has the name already.
+    NameTaken,
+    /// The sketch is of a kind that does not know the command, or the two are of different kinds.
+    WrongKind,
+    /// A sketch is not joined to itself.
+    SameName,
+    /// The fraction is not above 0 and at most 1.
+    BadFraction,
+    /// The sketch's own call refused.
+    Call(Error),
+}
+
+/// A call's refusal is the command's.
+impl From<Error> for Refusal {
+    ghost use Rattle.std.specs.Prelude.{◌≡◌};
+    ghost use Rattle.datasketches.specs.declared.reply.Refusal.TheVariants.{Call};
+
+    ghost from_gives = { λ error refusal. refusal ≡ Call error };
+
+    fn from(error: Error) -> Self {
+        Refusal::Call(error)
+    }
+}

@@ -1,0 +1,286 @@
+//! Named sketches and images.
+ghost use Rattle.std.specs.Prelude.{◌≡◌, [], true, None, Some, IfOk, IfErr, OnErr, IsTrue, string_bytes};
+ghost use Rattle.sketch_base.specs.Errors.{no_memory};
+ghost use Rattle.datasketches.specs.Answering.{Tells, Lists, status_of};
+ghost use Rattle.datasketches.specs.Fits.{Fits};
+ghost use Rattle.datasketches.specs.Histories.{Assignment, nothing_named, after_one, after};
+ghost use Rattle.datasketches.specs.Names.{at_name};
+ghost use Rattle.datasketches.specs.Replies.{told, is_refused};
+ghost use Rattle.datasketches.specs.State.{SessionState, IsUnchanged};
+ghost use Rattle.datasketches.specs.Steps.{OnSketches, Creates, ChangesNamed, JoinsNamed, Answers, Saves, Restores, ShowsImage, Step, Run};
+
+use crate::command::Command;
+use crate::image::Image;
+use crate::reply::{Refusal, Reply};
+use crate::shelf::Shelf;
+use crate::sketch::{Change, Join, Shape, Sketch};
+use sketch_base::Error;
+use sketch_frequencies::{ErrorType, FrequentItemValue};
+use std::alloc::Global;
+use std::hash::Hash;
+use std::marker::Model;
+
+/// Sketches of four kinds and saved images of them, each under a name of its own.
+///
+/// What a sketch promises of its own stream, a session promises of any list of commands: whatever histories its names
+/// had, after a run each sketch stands for the history that the accepted commands made.
+#[derive(Drop)]
+pub struct Session<T: Eq + Hash + Drop> {
+    alloc: Global,
+    sketches: Shelf<Sketch<T>>,
+    images: Shelf<Image>,
+}
+
+impl<T: Eq + Hash + Drop> Model for Session<T> {
+    ghost use Rattle.datasketches.specs.State.{SessionState};
+
+    ghost Value = { SessionState T };
+
+    ghost use Rattle.std.specs.Coded.{codes};
+    ghost use Rattle.sketch_bloom.specs.State.{state_code};
+
+    ghost coded = { Prim.hlevel (codes, state_code) };
+
+    ghost view = { λ s. record { sketches = s.sketches; images = s.images } };
+}
+
+impl<T: FrequentItemValue + Clone + Drop> Session<T> {
+    /// A session of no name. It takes no memory.
+    pub fn new(alloc: Global) -> Self
+        ensures empty { result ≡ record { sketches = []; images = [] } }
+        ensures fits { Fits T.eq T.codec T.content result nothing_named }
+    {
+        Session {
+            alloc,
+            sketches: Shelf::new(alloc),
+            images: Shelf::new(alloc),
+        }
+    }
+
+    /// Does one command.
+    ///
+    /// It does to the sketch or image that it makes or names what the sketch's own call does, and nothing to any other.
+    /// A refused command changes nothing.
+    pub fn apply(&mut self, command: Command<T>) -> Reply<T>
+        requires clones { (x y : T) → T.is_clone x y → IsTrue (T.eq x y) }
+        ensures step { Step T.eq T.hash_input T.codec T.content self.old command result self.new }
+        ensures fits { (a : Assignment T) → Fits T.eq T.codec T.content self.old a
+            → Fits T.eq T.codec T.content self.new (after_one T.hash_input a command result) }
+        ensures refused { is_refused result ≡ true → IsUnchanged self.old self.new }
+    {
+        match self.answer(command) {
+            Ok(reply) => reply,
+            Err(refusal) => Reply::Refused(refusal),
+        }
+    }
+
+    /// Does all the commands, one after another, and gives their replies in this order.
+    ///
+    /// # Errors
+    ///
+    /// `NoMemory` where there is no memory for the replies. No command is done then.
+    pub fn run(&mut self, commands: Vec<Command<T>>) -> Result<Vec<Reply<T>>, Error>
+        requires clones { (x y : T) → T.is_clone x y → IsTrue (T.eq x y) }
+        ensures run { IfOk result (λ replies. Run T.eq T.hash_input T.codec T.content self.old commands.items replies.items self.new) }
+        ensures fits { IfOk result (λ replies. (a : Assignment T) → Fits T.eq T.codec T.content self.old a
+            → Fits T.eq T.codec T.content self.new (after T.hash_input a commands.items replies.items)) }
+        ensures err { OnErr result (self.new ≡ self.old) }
+        ensures memory { IfErr result (λ e. e ≡ no_memory) }
+    {
+        let mut replies = Vec::with_capacity(self.alloc, commands.len())?;
+        for command in commands {
+            let reply = self.apply(command);
+            replies.push_reserved(reply);
+        }
+        Ok(replies)
+    }
+
+    fn answer(&mut self, command: Command<T>) -> Result<Reply<T>, Refusal>
+        requires clones { (x y : T) → T.is_clone x y → IsTrue (T.eq x y) }
+        ensures { Step T.eq T.hash_input T.codec T.content self.old command (told result) self.new }
+    {
+        match command {
+            Command::CreateFrequent { name, max_map_size } => {
+                self.create(name, Shape::Frequent { max_map_size })
+            }
+            Command::CreateCountI64 {
+                name,
+                num_hashes,
+                num_buckets,
+                seed,
+            } => self.create(
+                name,
+                Shape::CountI64 {
+                    num_hashes,
+                    num_buckets,
+                    seed,
+                },
+            ),
+            Command::CreateCountU64 {
+                name,
+                num_hashes,
+                num_buckets,
+                seed,
+            } => self.create(
+                name,
+                Shape::CountU64 {
+                    num_hashes,
+                    num_buckets,
+                    seed,
+                },
+            ),
+            Command::CreateBloom {
+                name,
+                num_bits,
+                num_hashes,
+                seed,
+            } => self.create(
+                name,
+                Shape::Bloom {
+                    num_bits,
+                    num_hashes,
+                    seed,
+                },
+            ),
+            Command::Add { name, item, weight } => {
+                self.change(name.as_str(), Change::Add { item, weight })
+            }
+            Command::AddSigned { name, item, weight } => {
+                self.change(name.as_str(), Change::AddSigned { item, weight })
+            }
+            Command::Insert { name, item } => self.change(name.as_str(), Change::Insert { item }),
+            Command::Merge { into, other } => self.join(into.as_str(), other.as_str(), Join::Merge),
+            Command::Union { into, other } => self.join(into.as_str(), other.as_str(), Join::Union),
+            Command::Intersect { into, other } => {
+                self.join(into.as_str(), other.as_str(), Join::Intersect)
+            }
+            Command::Difference { into, other } => {
+                self.join(into.as_str(), other.as_str(), Join::Difference)
+            }
+            Command::Reset { name } => self.change(name.as_str(), Change::Reset),
+            Command::Halve { name } => self.change(name.as_str(), Change::Halve),
+            Command::Decay {
+                name,
+                numerator,
+                denominator,
+            } => self.change(
+                name.as_str(),
+                Change::Decay {
+                    numerator,
+                    denominator,
+                },
+            ),
+            Command::Save { name, image } => self.save(name.as_str(), image),
+            Command::Restore { image, name } => self.restore(image.as_str(), name),
+            Command::ShowImage { image } => self.show_image(image.as_str()),
+            Command::Ask { name, item } => self.ask(name.as_str(), &item),
+            Command::GetStatus { name } => self.status(name.as_str()),
+            Command::ListRows {
+                name,
+                error_type,
+                threshold,
+            } => self.rows(name.as_str(), error_type, threshold),
+        }
+    }
+
+    fn create(&mut self, name: String, shape: Shape) -> Result<Reply<T>, Refusal>
+        ensures { OnSketches (Creates T.eq shape (string_bytes name)) self.old (told result) self.new }
+    {
+        if self.sketches.get(name.as_str()).is_some() {
+            return Err(Refusal::NameTaken);
+        }
+        let sketch = Sketch::new(self.alloc, shape)?;
+        self.sketches.insert(name, sketch)?;
+        Ok(Reply::Done)
+    }
+
+    fn change(&mut self, name: &str, change: Change<T>) -> Result<Reply<T>, Refusal>
+        ensures { OnSketches (ChangesNamed T.eq T.hash_input change name.now) self.old (told result) self.new }
+    {
+        self.sketches.change(name, change)?;
+        Ok(Reply::Done)
+    }
+
+    fn join(&mut self, into: &str, other: &str, join: Join) -> Result<Reply<T>, Refusal>
+        requires clones { (x y : T) → T.is_clone x y → IsTrue (T.eq x y) }
+        ensures { OnSketches (JoinsNamed T.eq join into.now other.now) self.old (told result) self.new }
+    {
+        self.sketches.join(into, other, join)?;
+        Ok(Reply::Done)
+    }
+
+    fn save(&mut self, name: &str, image: String) -> Result<Reply<T>, Refusal>
+        ensures { Saves T.codec T.content name.now (string_bytes image) self.old (told result) self.new }
+    {
+        let Some(sketch) = self.sketches.get(name) else {
+            return Err(Refusal::NoSuchName);
+        };
+        if self.images.get(image.as_str()).is_some() {
+            return Err(Refusal::NameTaken);
+        }
+        let saved = sketch.save()?;
+        self.images.insert(image, saved)?;
+        Ok(Reply::Done)
+    }
+
+    fn restore(&mut self, image: &str, name: String) -> Result<Reply<T>, Refusal>
+        ensures { Restores T.eq T.codec T.content image.now (string_bytes name) self.old (told result) self.new }
+    {
+        let saved = self.image(image)?;
+        if self.sketches.get(name.as_str()).is_some() {
+            return Err(Refusal::NameTaken);
+        }
+        let sketch = Sketch::restore(self.alloc, saved)?;
+        self.sketches.insert(name, sketch)?;
+        Ok(Reply::Done)
+    }
+
+    fn show_image(&self, image: &str) -> Result<Reply<T>, Refusal>
+        ensures { ShowsImage image.now self.now (told result) self.now }
+    {
+        Ok(Reply::Image(self.image(image)?.copy_bytes(self.alloc)?))
+    }
+
+    fn ask(&self, name: &str, item: &T) -> Result<Reply<T>, Refusal>
+        ensures { Answers (Tells T.eq T.hash_input item.now) name.now self.now (told result) self.now }
+    {
+        Ok(self.sketch(name)?.ask(item))
+    }
+
+    fn status(&self, name: &str) -> Result<Reply<T>, Refusal>
+        ensures { Answers (λ sketch r. r ≡ Reply.Status (status_of sketch)) name.now self.now (told result) self.now }
+    {
+        Ok(Reply::Status(self.sketch(name)?.status()))
+    }
+
+    fn rows(&self, name: &str, error_type: ErrorType, threshold: u64) -> Result<Reply<T>, Refusal>
+        requires clones { (x y : T) → T.is_clone x y → IsTrue (T.eq x y) }
+        ensures { Answers (Lists T.eq error_type threshold) name.now self.now (told result) self.now }
+    {
+        self.sketch(name)?.rows(error_type, threshold)
+    }
+
+    /// The sketch of the name.
+    fn sketch(&self, name: &str) -> Result<&Sketch<T>, Refusal>
+        ensures found { IfOk result (λ sketch. at_name name.now self.now.sketches ≡ Some sketch.now) }
+        ensures err { IfErr result (λ e. e ≡ Refusal.NoSuchName) }
+        ensures missing { OnErr result (at_name name.now self.now.sketches ≡ None) }
+    {
+        match self.sketches.get(name) {
+            Some(sketch) => Ok(sketch),
+            None => Err(Refusal::NoSuchName),
+        }
+    }
+
+    /// The image of the name.
+    fn image(&self, name: &str) -> Result<&Image, Refusal>
+        ensures found { IfOk result (λ image. at_name name.now self.now.images ≡ Some image.now) }
+        ensures err { IfErr result (λ e. e ≡ Refusal.NoSuchName) }
+        ensures missing { OnErr result (at_name name.now self.now.images ≡ None) }
+    {
+        match self.images.get(name) {
+            Some(image) => Ok(image),
+            None => Err(Refusal::NoSuchName),
+        }
+    }
+}

@@ -1,0 +1,467 @@
+//! A sketch of one of four kinds, and what each kind does on a command.
+ghost use Rattle.std.specs.Prelude.{◌≡◌, None, IfOk, IfErr, IsOk, OnOk, OnErr, IsTrue, pos};
+ghost use Rattle.sketch_base.specs.Errors.{refusal_of};
+ghost use Rattle.datasketches.specs.Answering.{Tells, Lists, status_of};
+ghost use Rattle.datasketches.specs.Changing.{Changes, Adds, AddsSigned, Inserts, Resets, Halves, Decays};
+ghost use Rattle.datasketches.specs.Histories.{begun, changed, joined};
+ghost use Rattle.datasketches.specs.Images.{IsWrittenBy, IsReadFrom, IsWriteRefusal, IsReadRefusal, GivesBack};
+ghost use Rattle.datasketches.specs.Joining.{Joins, Merges, Unites, Intersects, Subtracts};
+ghost use Rattle.datasketches.specs.Replies.{done_or, told};
+ghost use Rattle.datasketches.specs.Shapes.{empty_sketch, fault_of};
+ghost use Rattle.datasketches.specs.Stands.{StandsFor, Carries, CarriesBoth};
+
+use crate::image::Image;
+use crate::reply::{Refusal, Reply, Status};
+use sketch_base::Error;
+use sketch_bloom::{BloomFilter, BloomFilterBuilder, laws as bloom};
+use sketch_countmin::{CountMinSketch, laws as countmin};
+use sketch_frequencies::{ErrorType, FrequentItemValue, FrequentItemsSketch, laws as frequencies};
+use std::alloc::Global;
+use std::hash::Hash;
+
+/// What a sketch is made by: its kind and its numbers.
+#[derive(Clone, Copy)]
+pub enum Shape {
+    /// A frequent-items sketch of at most so many slots.
+    Frequent {
+        max_map_size: usize,
+    },
+    /// A Count-Min sketch of weights below zero and above.
+    CountI64 {
+        num_hashes: u8,
+        num_buckets: u32,
+        seed: u64,
+    },
+    /// A Count-Min sketch of weights of zero and above.
+    CountU64 {
+        num_hashes: u8,
+        num_buckets: u32,
+        seed: u64,
+    },
+    /// A Bloom filter of at least so many bits.
+    Bloom {
+        num_bits: u64,
+        num_hashes: u16,
+        seed: u64,
+    },
+}
+
+/// What is done to a sketch.
+#[derive(Drop)]
+pub enum Change<T> {
+    /// An item is added with a weight.
+    Add { item: T, weight: u64 },
+    /// An item is added with a weight that may be below zero.
+    AddSigned { item: T, weight: i64 },
+    /// An item is inserted.
+    Insert { item: T },
+    /// All is taken out.
+    Reset,
+    /// All weights are halved.
+    Halve,
+    /// All weights are scaled by a fraction.
+    Decay { numerator: u64, denominator: u64 },
+}
+
+/// What is done to a sketch with another one.
+#[derive(Clone, Copy)]
+pub enum Join {
+    /// The other's weights are added.
+    Merge,
+    /// The other's positions are added.
+    Union,
+    /// Only what is also in the other stays.
+    Intersect,
+    /// What is in the other goes.
+    Difference,
+}
+
+/// A sketch of some kind.
+#[derive(Drop)]
+pub enum Sketch<T: Eq + Hash + Drop> {
+    Frequent(FrequentItemsSketch<T>),
+    CountI64(CountMinSketch<i64>),
+    CountU64(CountMinSketch<u64>),
+    Bloom(BloomFilter),
+}
+
+impl<T: Eq + Hash + Drop> Sketch<T> {
+    /// An empty sketch of the shape.
+    pub fn new(alloc: Global, shape: Shape) -> Result<Self, Error>
+        ensures ok { IfOk result (λ sketch. sketch ≡ empty_sketch shape) }
+        ensures stands { IfOk result (λ sketch. StandsFor T.eq sketch (begun shape)) }
+        ensures accepted { IsOk result → fault_of shape ≡ None }
+        ensures refused { IfErr result (λ e. e ≡ refusal_of (fault_of shape)) }
+    {
+        match shape {
+            Shape::Frequent { max_map_size } => Ok(Sketch::Frequent(FrequentItemsSketch::new(
+                alloc,
+                max_map_size,
+            )?)),
+            Shape::CountI64 {
+                num_hashes,
+                num_buckets,
+                seed,
+            } => Ok(Sketch::CountI64(CountMinSketch::with_seed(
+                alloc,
+                num_hashes,
+                num_buckets,
+                seed,
+            )?)),
+            Shape::CountU64 {
+                num_hashes,
+                num_buckets,
+                seed,
+            } => Ok(Sketch::CountU64(CountMinSketch::with_seed(
+                alloc,
+                num_hashes,
+                num_buckets,
+                seed,
+            )?)),
+            Shape::Bloom {
+                num_bits,
+                num_hashes,
+                seed,
+            } => Ok(Sketch::Bloom(
+                BloomFilterBuilder::with_size(num_bits, num_hashes)
+                    .seed(seed)
+                    .build(alloc)?,
+            )),
+        }
+    }
+
+    /// Does the change, where the sketch is of a kind that knows it.
+    pub fn change(&mut self, change: Change<T>) -> Result<(), Refusal>
+        ensures own { Changes T.eq T.hash_input change self.old (done_or result) self.new }
+        ensures carries { OnOk result (Carries T.eq (changed T.hash_input change) self.old self.new) }
+        ensures refused { OnErr result (self.new ≡ self.old) }
+    {
+        match change {
+            Change::Add { item, weight } => self.add(item, weight),
+            Change::AddSigned { item, weight } => self.add_signed(item, weight),
+            Change::Insert { item } => self.insert(item),
+            Change::Reset => self.reset(),
+            Change::Halve => self.halve(),
+            Change::Decay {
+                numerator,
+                denominator,
+            } => self.decay(numerator, denominator),
+        }
+    }
+
+    fn add(&mut self, item: T, weight: u64) -> Result<(), Refusal>
+        ensures own { Adds T.eq T.hash_input item weight self.old (done_or result) self.new }
+        ensures carries { OnOk result (Carries T.eq (changed T.hash_input (Change.Add item weight)) self.old self.new) }
+        ensures refused { OnErr result (self.new ≡ self.old) }
+    {
+        match self {
+            Sketch::Frequent(sketch) => Ok(sketch.update_with_count(item, weight)?),
+            Sketch::CountU64(sketch) => Ok(sketch.update_with_weight(item, weight)?),
+            _ => Err(Refusal::WrongKind),
+        }
+    }
+
+    fn add_signed(&mut self, item: T, weight: i64) -> Result<(), Refusal>
+        ensures own { AddsSigned T.hash_input item weight self.old (done_or result) self.new }
+        ensures carries { OnOk result (Carries T.eq (changed T.hash_input (Change.AddSigned item weight)) self.old self.new) }
+        ensures refused { OnErr result (self.new ≡ self.old) }
+    {
+        match self {
+            Sketch::CountI64(sketch) => Ok(sketch.update_with_weight(item, weight)?),
+            _ => Err(Refusal::WrongKind),
+        }
+    }
+
+    fn insert(&mut self, item: T) -> Result<(), Refusal>
+        ensures own { Inserts T.hash_input item self.old (done_or result) self.new }
+        ensures carries { OnOk result (Carries T.eq (changed T.hash_input (Change.Insert item)) self.old self.new) }
+        ensures refused { OnErr result (self.new ≡ self.old) }
+    {
+        match self {
+            Sketch::Bloom(filter) => {
+                filter.insert(item);
+                Ok(())
+            }
+            _ => Err(Refusal::WrongKind),
+        }
+    }
+
+    fn reset(&mut self) -> Result<(), Refusal>
+        ensures own { Resets self.old (done_or result) self.new }
+        ensures carries { OnOk result (Carries T.eq (changed T.hash_input Change.Reset) self.old self.new) }
+        ensures refused { OnErr result (self.new ≡ self.old) }
+    {
+        match self {
+            Sketch::Frequent(sketch) => {
+                sketch.reset();
+                Ok(())
+            }
+            Sketch::Bloom(filter) => {
+                filter.reset();
+                Ok(())
+            }
+            _ => Err(Refusal::WrongKind),
+        }
+    }
+
+    fn halve(&mut self) -> Result<(), Refusal>
+        ensures own { Halves self.old (done_or result) self.new }
+        ensures carries { OnOk result (Carries T.eq (changed T.hash_input Change.Halve) self.old self.new) }
+        ensures refused { OnErr result (self.new ≡ self.old) }
+    {
+        match self {
+            Sketch::CountU64(sketch) => {
+                sketch.halve();
+                Ok(())
+            }
+            _ => Err(Refusal::WrongKind),
+        }
+    }
+
+    fn decay(&mut self, numerator: u64, denominator: u64) -> Result<(), Refusal>
+        ensures own { Decays numerator denominator self.old (done_or result) self.new }
+        ensures carries { OnOk result (Carries T.eq (changed T.hash_input (Change.Decay numerator denominator)) self.old self.new) }
+        ensures refused { OnErr result (self.new ≡ self.old) }
+    {
+        match self {
+            Sketch::CountU64(sketch) => {
+                if numerator == 0 || numerator > denominator {
+                    return Err(Refusal::BadFraction);
+                }
+                sketch.decay(numerator, denominator);
+                Ok(())
+            }
+            _ => Err(Refusal::WrongKind),
+        }
+    }
+
+    fn unite(&mut self, other: &Sketch<T>) -> Result<(), Refusal>
+        ensures own { Unites other.now self.old (done_or result) self.new }
+        ensures carries { OnOk result (CarriesBoth T.eq (joined Join.Union) self.old other.now self.new) }
+        ensures refused { OnErr result (self.new ≡ self.old) }
+    {
+        let Sketch::Bloom(other) = other else {
+            return Err(Refusal::WrongKind);
+        };
+        match self {
+            Sketch::Bloom(filter) => Ok(filter.union(other)?),
+            _ => Err(Refusal::WrongKind),
+        }
+    }
+
+    fn intersect(&mut self, other: &Sketch<T>) -> Result<(), Refusal>
+        ensures own { Intersects other.now self.old (done_or result) self.new }
+        ensures carries { OnOk result (CarriesBoth T.eq (joined Join.Intersect) self.old other.now self.new) }
+        ensures refused { OnErr result (self.new ≡ self.old) }
+    {
+        let Sketch::Bloom(other) = other else {
+            return Err(Refusal::WrongKind);
+        };
+        match self {
+            Sketch::Bloom(filter) => Ok(filter.intersect(other)?),
+            _ => Err(Refusal::WrongKind),
+        }
+    }
+
+    fn subtract(&mut self, other: &Sketch<T>) -> Result<(), Refusal>
+        ensures own { Subtracts other.now self.old (done_or result) self.new }
+        ensures carries { OnOk result (CarriesBoth T.eq (joined Join.Difference) self.old other.now self.new) }
+        ensures refused { OnErr result (self.new ≡ self.old) }
+    {
+        let Sketch::Bloom(other) = other else {
+            return Err(Refusal::WrongKind);
+        };
+        match self {
+            Sketch::Bloom(filter) => Ok(filter.difference(other)?),
+            _ => Err(Refusal::WrongKind),
+        }
+    }
+
+    /// An item's estimate and bounds, or whether it is contained.
+    pub fn ask(&self, item: &T) -> Reply<T>
+        ensures { Tells T.eq T.hash_input item.now self.now result }
+    {
+        match self {
+            Sketch::Frequent(sketch) => bounds(
+                sketch.estimate(item),
+                sketch.lower_bound(item),
+                sketch.upper_bound(item),
+            ),
+            Sketch::CountI64(sketch) => signed_bounds(
+                sketch.estimate(item),
+                sketch.lower_bound(item),
+                sketch.upper_bound(item),
+            ),
+            Sketch::CountU64(sketch) => bounds(
+                sketch.estimate(item),
+                sketch.lower_bound(item),
+                sketch.upper_bound(item),
+            ),
+            Sketch::Bloom(filter) => Reply::Contains(filter.contains(item)),
+        }
+    }
+
+    /// The sketch's numbers.
+    pub fn status(&self) -> Status
+        ensures { result ≡ status_of self.now }
+    {
+        match self {
+            Sketch::Frequent(sketch) => Status::Frequent {
+                active: sketch.num_active_items(),
+                error: sketch.maximum_error(),
+                total: sketch.total_weight(),
+                size: 1 << sketch.lg_cur_map_size(),
+                max: sketch.max_map_size(),
+                capacity: sketch.current_map_capacity(),
+            },
+            Sketch::CountI64(sketch) => Status::CountI64 {
+                total: sketch.total_weight(),
+                hashes: sketch.num_hashes(),
+                buckets: sketch.num_buckets(),
+                seed: sketch.seed(),
+            },
+            Sketch::CountU64(sketch) => Status::CountU64 {
+                total: sketch.total_weight(),
+                hashes: sketch.num_hashes(),
+                buckets: sketch.num_buckets(),
+                seed: sketch.seed(),
+            },
+            Sketch::Bloom(filter) => Status::Bloom {
+                bits: filter.bits_used(),
+                capacity: filter.capacity(),
+                hashes: filter.num_hashes(),
+                seed: filter.seed(),
+            },
+        }
+    }
+}
+
+impl<T: FrequentItemValue + Drop> Sketch<T> {
+    /// The sketch's image.
+    ///
+    /// # Errors
+    ///
+    /// A tracked item's own fault, where it cannot be written, and `NoMemory` where there is no memory for the image.
+    pub fn save(&self) -> Result<Image, Error>
+        ensures written { IfOk result (IsWrittenBy T.codec T.content self.now) }
+        ensures refused { IfErr result (IsWriteRefusal T.codec T.content self.now) }
+    {
+        match self {
+            Sketch::Frequent(sketch) => Ok(Image::Frequent(sketch.serialize()?)),
+            Sketch::CountI64(sketch) => Ok(Image::CountI64 {
+                seed: sketch.seed(),
+                bytes: sketch.serialize()?,
+            }),
+            Sketch::CountU64(sketch) => Ok(Image::CountU64 {
+                seed: sketch.seed(),
+                bytes: sketch.serialize()?,
+            }),
+            Sketch::Bloom(filter) => Ok(Image::Bloom(filter.serialize()?)),
+        }
+    }
+
+    /// The sketch of an image.
+    ///
+    /// # Errors
+    ///
+    /// The image's first fault, and `NoMemory` where there is no memory for the sketch.
+    pub fn restore(alloc: Global, image: &Image) -> Result<Self, Error>
+        ensures read { IfOk result (IsReadFrom T.codec T.content image.now) }
+        ensures stands { IfOk result (GivesBack T.eq T.codec T.content image.now) }
+        ensures refused { IfErr result (IsReadRefusal T.codec image.now) }
+    {
+        match image {
+            Image::Frequent(bytes) => {
+                frequencies::what_images_say::<T>();
+                Ok(Sketch::Frequent(FrequentItemsSketch::deserialize(alloc, bytes)?))
+            }
+            Image::CountI64 { seed, bytes } => {
+                countmin::what_images_say::<i64>();
+                Ok(Sketch::CountI64(CountMinSketch::deserialize_with_seed(alloc, bytes, *seed)?))
+            }
+            Image::CountU64 { seed, bytes } => {
+                countmin::what_images_say::<u64>();
+                Ok(Sketch::CountU64(CountMinSketch::deserialize_with_seed(alloc, bytes, *seed)?))
+            }
+            Image::Bloom(bytes) => {
+                bloom::what_images_say();
+                Ok(Sketch::Bloom(BloomFilter::deserialize(alloc, bytes)?))
+            }
+        }
+    }
+}
+
+impl<T: Eq + Hash + Clone + Drop> Sketch<T> {
+    /// Joins another sketch to this one, where both are of a kind that knows it.
+    pub fn join(&mut self, join: Join, other: &Sketch<T>) -> Result<(), Refusal>
+        requires clones { (x y : T) → T.is_clone x y → IsTrue (T.eq x y) }
+        ensures own { Joins T.eq join other.now self.old (done_or result) self.new }
+        ensures carries { OnOk result (CarriesBoth T.eq (joined join) self.old other.now self.new) }
+        ensures refused { OnErr result (self.new ≡ self.old) }
+    {
+        match join {
+            Join::Merge => self.merge(other),
+            Join::Union => self.unite(other),
+            Join::Intersect => self.intersect(other),
+            Join::Difference => self.subtract(other),
+        }
+    }
+
+    fn merge(&mut self, other: &Sketch<T>) -> Result<(), Refusal>
+        requires clones { (x y : T) → T.is_clone x y → IsTrue (T.eq x y) }
+        ensures own { Merges T.eq other.now self.old (done_or result) self.new }
+        ensures carries { OnOk result (CarriesBoth T.eq (joined Join.Merge) self.old other.now self.new) }
+        ensures refused { OnErr result (self.new ≡ self.old) }
+    {
+        match self {
+            Sketch::Frequent(sketch) => match other {
+                Sketch::Frequent(other) => Ok(sketch.merge(other)?),
+                _ => Err(Refusal::WrongKind),
+            },
+            Sketch::CountI64(sketch) => match other {
+                Sketch::CountI64(other) => Ok(sketch.merge(other)?),
+                _ => Err(Refusal::WrongKind),
+            },
+            Sketch::CountU64(sketch) => match other {
+                Sketch::CountU64(other) => Ok(sketch.merge(other)?),
+                _ => Err(Refusal::WrongKind),
+            },
+            Sketch::Bloom(_) => Err(Refusal::WrongKind),
+        }
+    }
+
+    /// The items above a threshold, where the sketch is of frequent items.
+    pub fn rows(&self, error_type: ErrorType, threshold: u64) -> Result<Reply<T>, Refusal>
+        requires clones { (x y : T) → T.is_clone x y → IsTrue (T.eq x y) }
+        ensures { Lists T.eq error_type threshold self.now (told result) }
+    {
+        match self {
+            Sketch::Frequent(sketch) => Ok(Reply::Rows(sketch.frequent_items_with_threshold(
+                error_type, threshold,
+            )?)),
+            _ => Err(Refusal::WrongKind),
+        }
+    }
+}
+
+/// An estimate and two bounds.
+fn bounds<T>(estimate: u64, lower: u64, upper: u64) -> Reply<T>
+    ensures { result ≡ Reply.Bounds (pos estimate) (pos lower) (pos upper) }
+{
+    Reply::Bounds {
+        estimate: i128::from(estimate),
+        lower: i128::from(lower),
+        upper: i128::from(upper),
+    }
+}
+
+/// The same with signs.
+fn signed_bounds<T>(estimate: i64, lower: i64, upper: i64) -> Reply<T>
+    ensures { result ≡ Reply.Bounds estimate lower upper }
+{
+    Reply::Bounds {
+        estimate: i128::from(estimate),
+        lower: i128::from(lower),
+        upper: i128::from(upper),
+    }
+}
