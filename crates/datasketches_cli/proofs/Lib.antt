@@ -1,9 +1,5 @@
-pub mod Cells
-pub mod Joining
 pub mod LineReading
 pub mod Lines
-pub mod Names
 pub mod Numbers
-pub mod Steps
 pub mod Transcripts
 pub mod Verbs

@@ -73,10 +73,3 @@ first_plus (x ∷ xs) None sign s h e = cc
 first_plus (x ∷ xs) (Some b) sign s h e =
     let same : b.now ≡ x = cc in
     subst (λ (n : ℕ). None ≡ signed_number (n ∷ xs)) (sym (eqb-true b.now sign.now (sym e) ∙ s) ∙ same) (sym (plus_none xs))
-
--- a shift that gives at most 2 ^ 30
-pub shift_fits : (lg size : ℕ) → 2 ^ lg ≡ size → size ≤ 2 ^ 30 → lg < 64
-shift_fits lg size e h = ⊎_elim (λ less. less) (λ more. omega (arith, e, h, pow_mono more)) (cases_lt lg 64)
-
-pub shifted : (lg size : ℕ) → 2 ^ lg ≡ size → size ≤ 2 ^ 30 → (1 * 2 ^ lg) % 2 ^ 64 ≡ size
-shifted lg size e h = omega (arith, e, h)

@@ -3,8 +3,8 @@ use Rattle.std.proofs.Common.{◌≡◌, ◌≢◌, ℕ, ◌+◌, Bool, true, fa
 use Rattle.std.specs.Option.{IfSome}
 use Rattle.std.specs.Io.BufRead.{take_through, drop_through, strip_last}
 use Rattle.std.specs.Io.KnownBytes.{Appends}
-use Rattle.datasketches_cli.specs.declared.command.Command.{Command}
-use Rattle.datasketches_cli.specs.declared.reply.Reply.{Reply}
+use Rattle.datasketches.specs.declared.command.Command.{Command}
+use Rattle.datasketches.specs.declared.reply.Reply.{Reply}
 use Rattle.datasketches_cli.specs.declared.serve.Ended.{Ended}
 use Rattle.datasketches_cli.specs.declared.serve.Ended.TheVariants.{All, BadLine}
 use Rattle.datasketches_cli.specs.declared.parse.Line.{Line}
@@ -13,19 +13,21 @@ use Rattle.datasketches_cli.specs.declared.parse.Line.TheVariants as what
 use Rattle.datasketches_cli.specs.Said.{IsSaid}
 use Rattle.datasketches_cli.specs.Reading.{TakesLine}
 use Rattle.datasketches_cli.specs.Serving.{HasAnswered, WritesFront}
-use Rattle.datasketches_cli.specs.Sketches.{Sketches}
-use Rattle.datasketches_cli.specs.Steps.{Step}
-use Rattle.datasketches_cli.specs.Transcript.{Transcript, Serves, lines_of, reply_line, bad_line}
+use Rattle.datasketches.specs.State.{SessionState}
+use Rattle.datasketches.specs.Steps.{Step}
+use Rattle.datasketches_cli.specs.Texts.{Text, text_codec, text_input}
+use Rattle.std.specs.String.{string_bytes, string_eq}
+use Rattle.datasketches_cli.specs.Transcript.{Transcript, new_session, Serves, lines_of, reply_line, bad_line}
 use Rattle.datasketches_cli.specs.Grammar.{Says, IsBlank, IsBad}
 use Rattle.datasketches_cli.proofs.Lines.{lines_first}
 
--- whatever comes of the rest of the input by these sketches, with what was written and gathered before it, comes of the whole input
-abbrev pub Leads : List ℕ → List ℕ → List ℕ → Sketches → ℕ → Type 0
-Leads input rest front sketches before = (ended : Ended) (more : List ℕ) → Transcript (before + 1) sketches (lines_of rest) ended more → Transcript 1 [] (lines_of input) ended (front ++ more)
+-- whatever comes of the rest of the input by these session, with what was written and gathered before it, comes of the whole input
+abbrev pub Leads : List ℕ → List ℕ → List ℕ → SessionState Text → ℕ → Type 0
+Leads input rest front session before = (ended : Ended) (more : List ℕ) → Transcript (before + 1) session (lines_of rest) ended more → Transcript 1 new_session (lines_of input) ended (front ++ more)
 
 -- where the input's bytes are known: some were read and some text was written, more is gathered, and the rest is still to come
-abbrev pub Midway : Option (List ℕ) → Option (List ℕ) → Option (List ℕ) → Option (List ℕ) → List ℕ → Sketches → ℕ → Type 0
-Midway was is held holds gathered sketches before = IfSome was (λ input. (rest : List ℕ) × (is ≡ Some rest) × (text : List ℕ) × Appends held holds text × Leads input rest (text ++ gathered) sketches before)
+abbrev pub Midway : Option (List ℕ) → Option (List ℕ) → Option (List ℕ) → Option (List ℕ) → List ℕ → SessionState Text → ℕ → Type 0
+Midway was is held holds gathered session before = IfSome was (λ input. (rest : List ℕ) × (is ≡ Some rest) × (text : List ℕ) × Appends held holds text × Leads input rest (text ++ gathered) session before)
 
 -- the text of a line as it was read
 abbrev pub text_of : List ℕ → List ℕ
@@ -42,19 +44,19 @@ appends_none None = tt
 appends_none (Some xs) = sym (append-nil xs)
 
 -- nothing was read or written
-pub begins : (was held : Option (List ℕ)) → Midway was was held held [] [] 0
+pub begins : (was held : Option (List ℕ)) → Midway was was held held [] new_session 0
 begins None held = tt
 begins (Some input) held = (input, refl, [], appends_none held, λ ended more t. t)
 
 -- some of what was gathered is written
-pub wrote : (was is held holds now : Option (List ℕ)) (gathered left : List ℕ) (sketches : Sketches) (before : ℕ) → Midway was is held holds gathered sketches before → WritesFront holds now gathered left → Midway was is held now left sketches before
-wrote None is held holds now gathered left sketches before m w = tt
-wrote (Some input) is held holds now gathered left sketches before (rest, e, text, told, leads) (front, more, split) = (
+pub wrote : (was is held holds now : Option (List ℕ)) (gathered left : List ℕ) (session : SessionState Text) (before : ℕ) → Midway was is held holds gathered session before → WritesFront holds now gathered left → Midway was is held now left session before
+wrote None is held holds now gathered left session before m w = tt
+wrote (Some input) is held holds now gathered left session before (rest, e, text, told, leads) (front, more, split) = (
   rest,
   e,
   text ++ front,
   appends_both held holds now text front told more,
-  subst (λ (l : List ℕ). Leads input rest l sketches before) (ap (λ (l : List ℕ). text ++ l) split ∙ sym (append_assoc text front left)) leads,
+  subst (λ (l : List ℕ). Leads input rest l session before) (ap (λ (l : List ℕ). text ++ l) split ∙ sym (append_assoc text front left)) leads,
 )
 
 -- the line that was read is the first of the rest
@@ -62,73 +64,73 @@ first_of : (rest line : List ℕ) → rest ≢ [] → line ≡ take_through 10 r
 first_of rest line some e = rw e (lines_first rest some)
 
 -- a blank line was read
-pub passed : (was is now held holds : Option (List ℕ)) (gathered line : List ℕ) (sketches : Sketches) (before : ℕ) → Midway was is held holds gathered sketches before → TakesLine true is now line → IsBlank (text_of line) → Midway was now held holds gathered sketches (before + 1)
-passed None is now held holds gathered line sketches before m t blank = tt
-passed (Some input) is now held holds gathered line sketches before (rest, e, text, told, leads) t blank =
+pub passed : (was is now held holds : Option (List ℕ)) (gathered line : List ℕ) (session : SessionState Text) (before : ℕ) → Midway was is held holds gathered session before → TakesLine true is now line → IsBlank (text_of line) → Midway was now held holds gathered session (before + 1)
+passed None is now held holds gathered line session before m t blank = tt
+passed (Some input) is now held holds gathered line session before (rest, e, text, told, leads) t blank =
     let t' = rw e at t in
     (drop_through 10 rest, t'.2, text, told, λ ended more goes. leads ended more (rw (first_of rest line t'.0 t'.1) (inl (blank, goes))))
 
 -- a command was read, done and answered
-pub answered : (was is now held holds : Option (List ℕ)) (gathered gathered' line : List ℕ) (sketches after : Sketches) (before : ℕ) (command : Command) (reply : Reply) → Midway was is held holds gathered sketches before → TakesLine true is now line → Says (text_of line) command → Step sketches command reply after → gathered' ≡ gathered ++ reply_line reply → Midway was now held holds gathered' after (before + 1)
-answered None is now held holds gathered gathered' line sketches after before command reply m t says step more = tt
-answered (Some input) is now held holds gathered gathered' line sketches after before command reply (rest, e, text, told, leads) t says step grown =
+pub answered : (was is now held holds : Option (List ℕ)) (gathered gathered' line : List ℕ) (session after : SessionState Text) (before : ℕ) (command : Command Text) (reply : Reply Text) → Midway was is held holds gathered session before → TakesLine true is now line → Says (text_of line) command → Step string_eq text_input text_codec string_bytes session command reply after → gathered' ≡ gathered ++ reply_line reply → Midway was now held holds gathered' after (before + 1)
+answered None is now held holds gathered gathered' line session after before command reply m t says step more = tt
+answered (Some input) is now held holds gathered gathered' line session after before command reply (rest, e, text, told, leads) t says step grown =
     let t' = rw e at t in
     let joined = λ (more : List ℕ). ap (λ (l : List ℕ). (text ++ l) ++ more) grown ∙ ap (λ (l : List ℕ). l ++ more) (sym (append_assoc text gathered (reply_line reply))) ∙ append_assoc (text ++ gathered) (reply_line reply) more in (
       drop_through 10 rest,
       t'.2,
       text,
       told,
-      λ ended more goes. subst (λ (l : List ℕ). Transcript 1 [] (lines_of input) ended l) (sym (joined more))
+      λ ended more goes. subst (λ (l : List ℕ). Transcript 1 new_session (lines_of input) ended l) (sym (joined more))
           (leads ended (reply_line reply ++ more) (rw (first_of rest line t'.0 t'.1) (inr (inl (command, reply, after, more, says, step, refl, goes))))),
     )
 
 -- a bad line was read, and named
-pub named : (was is now held holds holds' : Option (List ℕ)) (gathered line : List ℕ) (sketches : Sketches) (before : ℕ) → Midway was is held holds gathered sketches before → TakesLine true is now line → IsBad (text_of line) → Appends holds holds' (gathered ++ bad_line (before + 1)) → Serves was held holds' (BadLine (before + 1))
-named None is now held holds holds' gathered line sketches before m t bad wrote = tt
-named (Some input) is now held holds holds' gathered line sketches before (rest, e, text, told, leads) t bad wrote =
+pub named : (was is now held holds holds' : Option (List ℕ)) (gathered line : List ℕ) (session : SessionState Text) (before : ℕ) → Midway was is held holds gathered session before → TakesLine true is now line → IsBad (text_of line) → Appends holds holds' (gathered ++ bad_line (before + 1)) → Serves was held holds' (BadLine (before + 1))
+named None is now held holds holds' gathered line session before m t bad wrote = tt
+named (Some input) is now held holds holds' gathered line session before (rest, e, text, told, leads) t bad wrote =
     let t' = rw e at t in (
       text ++ (gathered ++ bad_line (before + 1)),
       appends_both held holds holds' text (gathered ++ bad_line (before + 1)) told wrote,
-      subst (λ (l : List ℕ). Transcript 1 [] (lines_of input) (BadLine (before + 1)) l) (append_assoc text gathered (bad_line (before + 1)))
+      subst (λ (l : List ℕ). Transcript 1 new_session (lines_of input) (BadLine (before + 1)) l) (append_assoc text gathered (bad_line (before + 1)))
           (leads (BadLine (before + 1)) (bad_line (before + 1)) (rw (first_of rest line t'.0 t'.1) (inr (inr (bad, refl, refl))))),
     )
 
 -- no line is left
-pub all_read : (was is now held holds holds' : Option (List ℕ)) (gathered line : List ℕ) (sketches : Sketches) (before : ℕ) → Midway was is held holds gathered sketches before → TakesLine false is now line → Appends holds holds' gathered → Serves was held holds' All
-all_read None is now held holds holds' gathered line sketches before m t wrote = tt
-all_read (Some input) is now held holds holds' gathered line sketches before (rest, e, text, told, leads) t wrote =
+pub all_read : (was is now held holds holds' : Option (List ℕ)) (gathered line : List ℕ) (session : SessionState Text) (before : ℕ) → Midway was is held holds gathered session before → TakesLine false is now line → Appends holds holds' gathered → Serves was held holds' All
+all_read None is now held holds holds' gathered line session before m t wrote = tt
+all_read (Some input) is now held holds holds' gathered line session before (rest, e, text, told, leads) t wrote =
     let none : rest ≡ [] = rw e at t in (
       text ++ gathered,
       appends_both held holds holds' text gathered told wrote,
-      subst (λ (l : List ℕ). Transcript 1 [] (lines_of input) All l) (append-nil (text ++ gathered)) (leads All [] (rw none (refl, refl))),
+      subst (λ (l : List ℕ). Transcript 1 new_session (lines_of input) All l) (append-nil (text ++ gathered)) (leads All [] (rw none (refl, refl))),
     )
 
 -- a turn with a blank line
-pub turns_blank : (was is now held mid holds : Option (List ℕ)) (gathered left left' line shown text : List ℕ) (sketches after : Sketches) (before : ℕ) (found : Bool) (said : Line) →
-    Midway was is held mid gathered sketches before → WritesFront mid holds gathered left → TakesLine found is now line → found ≡ true → shown ≡ line → text ≡ text_of shown → IsSaid text said → said ≡ Blank → after ≡ sketches → left' ≡ left →
+pub turns_blank : (was is now held mid holds : Option (List ℕ)) (gathered left left' line shown text : List ℕ) (session after : SessionState Text) (before : ℕ) (found : Bool) (said : Line) →
+    Midway was is held mid gathered session before → WritesFront mid holds gathered left → TakesLine found is now line → found ≡ true → shown ≡ line → text ≡ text_of shown → IsSaid text said → said ≡ Blank → after ≡ session → left' ≡ left →
     Midway was now held holds left' after (before + 1)
-turns_blank was is now held mid holds gathered left left' line shown text sketches after before found said m w t f s x says b k l =
+turns_blank was is now held mid holds gathered left left' line shown text session after before found said m w t f s x says b k l =
     let blank = rw (b, x, s) at says in
-    rw (k, l) (passed was is now held holds left line sketches before (wrote was is held mid holds gathered left sketches before m w) (rw f at t) blank)
+    rw (k, l) (passed was is now held holds left line session before (wrote was is held mid holds gathered left session before m w) (rw f at t) blank)
 
 -- a turn with a command
-pub turns_command : (was is now held mid holds : Option (List ℕ)) (gathered left left' line shown text : List ℕ) (sketches after : Sketches) (before : ℕ) (found : Bool) (said : Line) (command : Command) →
-    Midway was is held mid gathered sketches before → WritesFront mid holds gathered left → TakesLine found is now line → found ≡ true → shown ≡ line → text ≡ text_of shown → IsSaid text said → said ≡ what.Command command → HasAnswered sketches command after left left' →
+pub turns_command : (was is now held mid holds : Option (List ℕ)) (gathered left left' line shown text : List ℕ) (session after : SessionState Text) (before : ℕ) (found : Bool) (said : Line) (command : Command Text) →
+    Midway was is held mid gathered session before → WritesFront mid holds gathered left → TakesLine found is now line → found ≡ true → shown ≡ line → text ≡ text_of shown → IsSaid text said → said ≡ what.Command command → HasAnswered session command after left left' →
     Midway was now held holds left' after (before + 1)
-turns_command was is now held mid holds gathered left left' line shown text sketches after before found said command m w t f s x says b (reply, step, grown) =
+turns_command was is now held mid holds gathered left left' line shown text session after before found said command m w t f s x says b (reply, step, grown) =
     let says' = rw (b, x, s) at says in
-    answered was is now held holds left left' line sketches after before command reply (wrote was is held mid holds gathered left sketches before m w) (rw f at t) says' step grown
+    answered was is now held holds left left' line session after before command reply (wrote was is held mid holds gathered left session before m w) (rw f at t) says' step grown
 
 -- a turn with a bad line
-pub turns_bad : (was is now held mid holds holds' : Option (List ℕ)) (gathered left line shown text : List ℕ) (sketches : Sketches) (before : ℕ) (found : Bool) (said : Line) →
-    Midway was is held mid gathered sketches before → WritesFront mid holds gathered left → TakesLine found is now line → found ≡ true → shown ≡ line → text ≡ text_of shown → IsSaid text said → said ≡ Bad → Appends holds holds' (left ++ bad_line (before + 1)) →
+pub turns_bad : (was is now held mid holds holds' : Option (List ℕ)) (gathered left line shown text : List ℕ) (session : SessionState Text) (before : ℕ) (found : Bool) (said : Line) →
+    Midway was is held mid gathered session before → WritesFront mid holds gathered left → TakesLine found is now line → found ≡ true → shown ≡ line → text ≡ text_of shown → IsSaid text said → said ≡ Bad → Appends holds holds' (left ++ bad_line (before + 1)) →
     Serves was held holds' (BadLine (before + 1))
-turns_bad was is now held mid holds holds' gathered left line shown text sketches before found said m w t f s x says b wrote' =
+turns_bad was is now held mid holds holds' gathered left line shown text session before found said m w t f s x says b wrote' =
     let bad = rw (b, x, s) at says in
-    named was is now held holds holds' left line sketches before (wrote was is held mid holds gathered left sketches before m w) (rw f at t) bad wrote'
+    named was is now held holds holds' left line session before (wrote was is held mid holds gathered left session before m w) (rw f at t) bad wrote'
 
 -- the last turn, which finds no line
-pub turns_last : (was is now held mid holds holds' : Option (List ℕ)) (gathered left line : List ℕ) (sketches : Sketches) (before : ℕ) (found : Bool) →
-    Midway was is held mid gathered sketches before → WritesFront mid holds gathered left → TakesLine found is now line → found ≡ false → Appends holds holds' left → Serves was held holds' All
-turns_last was is now held mid holds holds' gathered left line sketches before found m w t f wrote' =
-    all_read was is now held holds holds' left line sketches before (wrote was is held mid holds gathered left sketches before m w) (rw f at t) wrote'
+pub turns_last : (was is now held mid holds holds' : Option (List ℕ)) (gathered left line : List ℕ) (session : SessionState Text) (before : ℕ) (found : Bool) →
+    Midway was is held mid gathered session before → WritesFront mid holds gathered left → TakesLine found is now line → found ≡ false → Appends holds holds' left → Serves was held holds' All
+turns_last was is now held mid holds holds' gathered left line session before found m w t f wrote' =
+    all_read was is now held holds holds' left line session before (wrote was is held mid holds gathered left session before m w) (rw f at t) wrote'

@@ -1,76 +1,104 @@
 -- The words of a line that are looked at, and the commands that they make.
 use Rattle.std.proofs.Common.{◌≡◌, ℕ, ◌≤◌, false, eqb, List, [], ◌∷◌, length, take, Option, None, sym, ◌∙◌, ap, subst, arith}
 use Rattle.std.specs.Borrow.{Bor}
-use Rattle.std.proofs.lemmas.List.{take_all}
-use Rattle.datasketches_cli.specs.declared.command.Command.{Command}
-use Rattle.datasketches_cli.specs.declared.command.Command.TheVariants as command
-use Rattle.datasketches_cli.specs.declared.parse.Edit.{Edit}
+use Rattle.std.specs.Str.{IsUtf8}
+use Rattle.std.proofs.lemmas.List.{take_all, length-take}
+use Rattle.datasketches.specs.declared.command.Command.{Command}
+use Rattle.datasketches.specs.declared.command.Command.TheVariants as command
+use Rattle.datasketches_cli.specs.Texts.{Text}
 use Rattle.datasketches_cli.specs.declared.parse.Edit.TheVariants as edit
+use Rattle.datasketches_cli.specs.declared.parse.JoinKind.TheVariants as join
 use Rattle.datasketches_cli.specs.declared.parse.Kind.{Kind}
 use Rattle.datasketches_cli.specs.declared.parse.Kind.TheVariants as kind
 use Rattle.datasketches_cli.specs.declared.parse.Verb.{Verb}
 use Rattle.datasketches_cli.specs.declared.parse.Verb.TheVariants as verb
-use Rattle.datasketches_cli.specs.declared.sketch.Change.{Change}
-use Rattle.datasketches_cli.specs.declared.sketch.Change.TheVariants as change
-use Rattle.datasketches_cli.specs.declared.sketch.Shape.{Shape}
-use Rattle.datasketches_cli.specs.declared.sketch.Shape.TheVariants as shape
-use Rattle.datasketches_cli.specs.Grammar.{words_of, IsBad, Make, MakeRest, MakeShape, MakeChange, AreCounts}
-use Rattle.datasketches_cli.specs.Said.{AreCountsOf, IsShapeOf, texts_of}
+use Rattle.datasketches_cli.specs.Grammar.{words_of, IsBad, Says, Make, MakeRest, AreCounts}
+use Rattle.datasketches_cli.specs.Said.{AreCountsOf, IsCommandOf, texts_of}
 
--- words that are no numbers of a Count-Min sketch make no shape of one
-no_signed : (words : List (List ℕ)) → ((hashes buckets seed : ℕ) → ¬ AreCounts words hashes buckets seed) → (shape : Shape) → ¬ MakeShape kind.CountI64 words shape
-no_signed words none (shape.CountI64 hashes buckets seed) made = none hashes buckets seed made
-no_signed words none (shape.Frequent max) made = made
-no_signed words none (shape.CountU64 hashes buckets seed) made = made
-no_signed words none (shape.Bloom bits hashes seed) made = made
+-- words that are no numbers of a Count-Min sketch make no command for one
+no_signed : (words : List (List ℕ)) → ((hashes buckets seed : ℕ) → ¬ AreCounts words hashes buckets seed) → (made : Command Text) → ¬ MakeRest (verb.Create kind.CountI64) words made
+no_signed words none (command.CreateFrequent name max) made = made
+no_signed words none (command.CreateCountI64 name hashes buckets seed) made = none hashes buckets seed made
+no_signed words none (command.CreateCountU64 name hashes buckets seed) made = made
+no_signed words none (command.CreateBloom name bits hashes seed) made = made
+no_signed words none (command.Add name item weight) made = made
+no_signed words none (command.AddSigned name item weight) made = made
+no_signed words none (command.Insert name item) made = made
+no_signed words none (command.Merge into other) made = made
+no_signed words none (command.Union into other) made = made
+no_signed words none (command.Intersect into other) made = made
+no_signed words none (command.Difference into other) made = made
+no_signed words none (command.Reset name) made = made
+no_signed words none (command.Halve name) made = made
+no_signed words none (command.Decay name n d) made = made
+no_signed words none (command.Save name image) made = made
+no_signed words none (command.Restore image name) made = made
+no_signed words none (command.ShowImage image) made = made
+no_signed words none (command.Ask name item) made = made
+no_signed words none (command.GetStatus name) made = made
+no_signed words none (command.ListRows name error_type threshold) made = made
 
-no_unsigned : (words : List (List ℕ)) → ((hashes buckets seed : ℕ) → ¬ AreCounts words hashes buckets seed) → (shape : Shape) → ¬ MakeShape kind.CountU64 words shape
-no_unsigned words none (shape.CountU64 hashes buckets seed) made = none hashes buckets seed made
-no_unsigned words none (shape.Frequent max) made = made
-no_unsigned words none (shape.CountI64 hashes buckets seed) made = made
-no_unsigned words none (shape.Bloom bits hashes seed) made = made
+no_unsigned : (words : List (List ℕ)) → ((hashes buckets seed : ℕ) → ¬ AreCounts words hashes buckets seed) → (made : Command Text) → ¬ MakeRest (verb.Create kind.CountU64) words made
+no_unsigned words none (command.CreateFrequent name max) made = made
+no_unsigned words none (command.CreateCountI64 name hashes buckets seed) made = made
+no_unsigned words none (command.CreateCountU64 name hashes buckets seed) made = none hashes buckets seed made
+no_unsigned words none (command.CreateBloom name bits hashes seed) made = made
+no_unsigned words none (command.Add name item weight) made = made
+no_unsigned words none (command.AddSigned name item weight) made = made
+no_unsigned words none (command.Insert name item) made = made
+no_unsigned words none (command.Merge into other) made = made
+no_unsigned words none (command.Union into other) made = made
+no_unsigned words none (command.Intersect into other) made = made
+no_unsigned words none (command.Difference into other) made = made
+no_unsigned words none (command.Reset name) made = made
+no_unsigned words none (command.Halve name) made = made
+no_unsigned words none (command.Decay name n d) made = made
+no_unsigned words none (command.Save name image) made = made
+no_unsigned words none (command.Restore image name) made = made
+no_unsigned words none (command.ShowImage image) made = made
+no_unsigned words none (command.Ask name item) made = made
+no_unsigned words none (command.GetStatus name) made = made
+no_unsigned words none (command.ListRows name error_type threshold) made = made
 
-pub no_shape_signed : (k : Kind) (words : List (List ℕ)) (found : Option (ℕ × ℕ × ℕ)) (r : Option Shape) → k ≡ kind.CountI64 → AreCountsOf words found → found ≡ None → r ≡ None → IsShapeOf k words r
-no_shape_signed k words found r is counts none e =
+pub no_command_signed : (k : Kind) (name : List ℕ) (words : List (List ℕ)) (found : Option (ℕ × ℕ × ℕ)) → k ≡ kind.CountI64 → AreCountsOf words found → found ≡ None → IsCommandOf (verb.Create k) name words None
+no_command_signed k name words found is counts none =
     let nothing = rw none at counts in
-    rw (is, e) (no_signed words nothing)
+    rw is (no_signed words nothing)
 
-pub no_shape_unsigned : (k : Kind) (words : List (List ℕ)) (found : Option (ℕ × ℕ × ℕ)) (r : Option Shape) → k ≡ kind.CountU64 → AreCountsOf words found → found ≡ None → r ≡ None → IsShapeOf k words r
-no_shape_unsigned k words found r is counts none e =
+pub no_command_unsigned : (k : Kind) (name : List ℕ) (words : List (List ℕ)) (found : Option (ℕ × ℕ × ℕ)) → k ≡ kind.CountU64 → AreCountsOf words found → found ≡ None → IsCommandOf (verb.Create k) name words None
+no_command_unsigned k name words found is counts none =
     let nothing = rw none at counts in
-    rw (is, e) (no_unsigned words nothing)
+    rw is (no_unsigned words nothing)
 
 -- at most three words follow the verb and the name
 short_counts : (words : List (List ℕ)) (hashes buckets seed : ℕ) → AreCounts words hashes buckets seed → length words ≤ 3
 short_counts words hashes buckets seed (h, b, s, e, x, y, z) = omega (arith, ap length e)
 
-short_shape : (k : Kind) (words : List (List ℕ)) (made : Shape) → MakeShape k words made → length words ≤ 3
-short_shape kind.Frequent words (shape.Frequent max) (m, e, n) = omega (arith, ap length e)
-short_shape kind.CountI64 words (shape.CountI64 hashes buckets seed) counts = short_counts words hashes buckets seed counts
-short_shape kind.CountU64 words (shape.CountU64 hashes buckets seed) counts = short_counts words hashes buckets seed counts
-short_shape kind.Bloom words (shape.Bloom bits hashes seed) (b, h, s, e, x, y, z) = omega (arith, ap length e)
-short_shape _ _ _ made = absurd made
-
-short_change : (k : Edit) (words : List (List ℕ)) (made : Change) → MakeChange k words made → length words ≤ 3
-short_change edit.Add words (change.Add item weight) (n, e, x) = omega (arith, ap length e)
-short_change edit.AddSigned words (change.AddSigned item weight) (n, e, x) = omega (arith, ap length e)
-short_change edit.Insert words (change.Insert item) e = omega (arith, ap length e)
-short_change edit.Reset words change.Reset e = omega (arith, ap length e)
-short_change edit.Halve words change.Halve e = omega (arith, ap length e)
-short_change edit.Decay words (change.Decay numerator denominator) (n, d, e, x, y) = omega (arith, ap length e)
-short_change _ _ _ made = absurd made
-
-short_rest : (v : Verb) (words : List (List ℕ)) (made : Command) → MakeRest v words made → length words ≤ 3
-short_rest (verb.Create k) words (command.Create name shape) m = short_shape k words shape m
-short_rest (verb.Change k) words (command.Change name change) m = short_change k words change m
-short_rest (verb.Join join) words (command.Join into other by) (same, e) = omega (arith, ap length e)
+short_rest : (v : Verb) (words : List (List ℕ)) (made : Command Text) → MakeRest v words made → length words ≤ 3
+short_rest (verb.Create kind.Frequent) words (command.CreateFrequent name max) (m, e, n) = omega (arith, ap length e)
+short_rest (verb.Create kind.CountI64) words (command.CreateCountI64 name hashes buckets seed) counts = short_counts words hashes buckets seed counts
+short_rest (verb.Create kind.CountU64) words (command.CreateCountU64 name hashes buckets seed) counts = short_counts words hashes buckets seed counts
+short_rest (verb.Create kind.Bloom) words (command.CreateBloom name bits hashes seed) (b, h, s, e, x, y, z) = omega (arith, ap length e)
+short_rest (verb.Change edit.Add) words (command.Add name item weight) (n, e, x) = omega (arith, ap length e)
+short_rest (verb.Change edit.AddSigned) words (command.AddSigned name item weight) (n, e, x) = omega (arith, ap length e)
+short_rest (verb.Change edit.Insert) words (command.Insert name item) e = omega (arith, ap length e)
+short_rest (verb.Change edit.Reset) words (command.Reset name) e = omega (arith, ap length e)
+short_rest (verb.Change edit.Halve) words (command.Halve name) e = omega (arith, ap length e)
+short_rest (verb.Change edit.Decay) words (command.Decay name numerator denominator) (n, d, e, x, y) = omega (arith, ap length e)
+short_rest (verb.Join join.Merge) words (command.Merge into other) e = omega (arith, ap length e)
+short_rest (verb.Join join.Union) words (command.Union into other) e = omega (arith, ap length e)
+short_rest (verb.Join join.Intersect) words (command.Intersect into other) e = omega (arith, ap length e)
+short_rest (verb.Join join.Difference) words (command.Difference into other) e = omega (arith, ap length e)
+short_rest verb.Save words (command.Save name image) e = omega (arith, ap length e)
+short_rest verb.Restore words (command.Restore image name) e = omega (arith, ap length e)
+short_rest verb.Image words (command.ShowImage image) e = omega (arith, ap length e)
 short_rest verb.Ask words (command.Ask name item) e = omega (arith, ap length e)
 short_rest verb.Status words (command.GetStatus name) e = omega (arith, ap length e)
 short_rest verb.Rows words (command.ListRows name error_type threshold) (n, e, x) = omega (arith, ap length e)
 short_rest _ _ _ made = absurd made
 
 -- the words that are looked at are all words of a command
-all_words : (words : List (List ℕ)) (made : Command) → Make words made → take 6 words ≡ words
+all_words : (words : List (List ℕ)) (made : Command Text) → Make words made → take 6 words ≡ words
 all_words words made (v, rest, e, m) = take_all 6 words (omega (arith, ap length e, short_rest v rest made m))
 
 no_words : (words : List (Bor (List ℕ))) → texts_of words ≡ [] → eqb (length words) 0 ≡ false → ⊥
@@ -78,9 +106,20 @@ no_words [] e some = cc
 no_words (x ∷ xs) e some = cc
 
 -- a line with a word whose first words make no command is bad
-pub says_nothing : (line text : List ℕ) (words : List (Bor (List ℕ))) (n : ℕ) → text ≡ line → texts_of words ≡ take 6 (words_of text) → n ≡ length words → eqb n 0 ≡ false → ((made : Command) → ¬ Make (texts_of words) made) → IsBad line
+pub says_nothing : (line text : List ℕ) (words : List (Bor (List ℕ))) (n : ℕ) → text ≡ line → texts_of words ≡ take 6 (words_of text) → n ≡ length words → eqb n 0 ≡ false → ((made : Command Text) → ¬ Make (texts_of words) made) → IsBad line
 says_nothing line text words n same told count some none =
     let here : texts_of words ≡ take 6 (words_of line) = told ∙ ap (λ (l : List ℕ). take 6 (words_of l)) same in (
       λ blank. no_words words (here ∙ ap (take 6) blank.1) (ap (λ (k : ℕ). eqb k 0) (sym count) ∙ some),
       λ made says. none made (subst (λ (l : List (List ℕ)). Make l made) (sym (here ∙ all_words (words_of line) made says.1)) says.1),
     )
+
+-- the first words of a line are all of them, where they make a command
+first_are_all : (words : List (List ℕ)) (made : Command Text) → Make (take 6 words) made → take 6 words ≡ words
+first_are_all words made (v, rest, e, m) = take_all 6 words (omega (arith, ap length e, length-take 6 words, short_rest v rest made m))
+
+-- a line whose first words make a command says it
+pub says_this : (line text : List ℕ) (words : List (Bor (List ℕ))) (made : Command Text) → text ≡ line → IsUtf8 line → texts_of words ≡ take 6 (words_of text) → Make (texts_of words) made → Says line made
+says_this line text words made same utf8 told makes =
+    let here : texts_of words ≡ take 6 (words_of line) = told ∙ ap (λ (l : List ℕ). take 6 (words_of l)) same in
+    let makes_first : Make (take 6 (words_of line)) made = subst (λ (l : List (List ℕ)). Make l made) here makes in
+    (utf8, subst (λ (l : List (List ℕ)). Make l made) (first_are_all (words_of line) made makes_first) makes_first)

@@ -4,22 +4,19 @@ use Rattle.std.specs.List.{slice_split}
 use Rattle.std.specs.Str.{IsUtf8, all_ascii_digits}
 use Rattle.std.specs.Str.Parse.{digits_value}
 use Rattle.std.specs.String.{string_bytes}
-use Rattle.sketch_frequencies.specs.declared.error_type.ErrorType.{ErrorType}
-use Rattle.sketch_frequencies.specs.declared.error_type.ErrorType.TheVariants.{NoFalseNegatives, NoFalsePositives}
-use Rattle.datasketches_cli.specs.declared.command.Command.{Command}
-use Rattle.datasketches_cli.specs.declared.command.Command.TheVariants as command
+use Rattle.datasketches.specs.ErrorType.{ErrorType}
+use Rattle.datasketches.specs.ErrorType.TheVariants.{NoFalseNegatives, NoFalsePositives}
+use Rattle.datasketches.specs.declared.command.Command.{Command}
+use Rattle.datasketches.specs.declared.command.Command.TheVariants as command
+use Rattle.datasketches_cli.specs.Texts.{Text}
 use Rattle.datasketches_cli.specs.declared.parse.Edit.{Edit}
 use Rattle.datasketches_cli.specs.declared.parse.Edit.TheVariants as edit
+use Rattle.datasketches_cli.specs.declared.parse.JoinKind.{JoinKind}
+use Rattle.datasketches_cli.specs.declared.parse.JoinKind.TheVariants as join
 use Rattle.datasketches_cli.specs.declared.parse.Kind.{Kind}
 use Rattle.datasketches_cli.specs.declared.parse.Kind.TheVariants as kind
 use Rattle.datasketches_cli.specs.declared.parse.Verb.{Verb}
 use Rattle.datasketches_cli.specs.declared.parse.Verb.TheVariants as verb
-use Rattle.datasketches_cli.specs.declared.sketch.Change.{Change}
-use Rattle.datasketches_cli.specs.declared.sketch.Change.TheVariants as change
-use Rattle.datasketches_cli.specs.declared.sketch.Join.{Join}
-use Rattle.datasketches_cli.specs.declared.sketch.Join.TheVariants as join
-use Rattle.datasketches_cli.specs.declared.sketch.Shape.{Shape}
-use Rattle.datasketches_cli.specs.declared.sketch.Shape.TheVariants as shape
 
 -- the words: what stands between the spaces
 abbrev pub words_of : List ℕ → List (List ℕ)
@@ -54,7 +51,7 @@ edit_word edit.Halve = codes "halve"
 edit_word edit.Decay = codes "decay"
 
 -- of one that joins sketches
-abbrev pub join_word : Join → List ℕ
+abbrev pub join_word : JoinKind → List ℕ
 join_word join.Merge = codes "merge"
 join_word join.Union = codes "union"
 join_word join.Intersect = codes "intersect"
@@ -65,6 +62,9 @@ abbrev pub verb_word : Verb → List ℕ
 verb_word (verb.Create kind) = kind_word kind
 verb_word (verb.Change edit) = edit_word edit
 verb_word (verb.Join join) = join_word join
+verb_word verb.Save = codes "save"
+verb_word verb.Restore = codes "restore"
+verb_word verb.Image = codes "image"
 verb_word verb.Ask = codes "ask"
 verb_word verb.Status = codes "status"
 verb_word verb.Rows = codes "rows"
@@ -80,45 +80,57 @@ AreCounts words hashes buckets seed =
     (h b s : List ℕ) × (words ≡ h ∷ b ∷ s ∷ []) × (number_below (2 ^ 8) h ≡ Some hashes)
     × (number_below (2 ^ 32) b ≡ Some buckets) × (number_below (2 ^ 64) s ≡ Some seed)
 
--- the words make the shape of a kind
-abbrev pub MakeShape : Kind → List (List ℕ) → Shape → Type 0
-MakeShape kind.Frequent words (shape.Frequent max_map_size) =
-    (max : List ℕ) × (words ≡ max ∷ []) × (number_below (2 ^ 64) max ≡ Some max_map_size)
-MakeShape kind.CountI64 words (shape.CountI64 hashes buckets seed) = AreCounts words hashes buckets seed
-MakeShape kind.CountU64 words (shape.CountU64 hashes buckets seed) = AreCounts words hashes buckets seed
-MakeShape kind.Bloom words (shape.Bloom bits hashes seed) =
-    (b h s : List ℕ) × (words ≡ b ∷ h ∷ s ∷ []) × (number_below (2 ^ 64) b ≡ Some bits)
-    × (number_below (2 ^ 16) h ≡ Some hashes) × (number_below (2 ^ 64) s ≡ Some seed)
-MakeShape _ _ _ = ⊥
-
--- the words make the change
-abbrev pub MakeChange : Edit → List (List ℕ) → Change → Type 0
-MakeChange edit.Add words (change.Add item weight) =
-    (number : List ℕ) × (words ≡ number ∷ string_bytes item ∷ []) × (number_below (2 ^ 64) number ≡ Some weight)
-MakeChange edit.AddSigned words (change.AddSigned item weight) =
-    (number : List ℕ) × (words ≡ number ∷ string_bytes item ∷ []) × (signed_number number ≡ Some weight)
-MakeChange edit.Insert words (change.Insert item) = words ≡ string_bytes item ∷ []
-MakeChange edit.Reset words change.Reset = words ≡ []
-MakeChange edit.Halve words change.Halve = words ≡ []
-MakeChange edit.Decay words (change.Decay numerator denominator) =
-    (n d : List ℕ) × (words ≡ n ∷ d ∷ []) × (number_below (2 ^ 64) n ≡ Some numerator)
-    × (number_below (2 ^ 64) d ≡ Some denominator)
-MakeChange _ _ _ = ⊥
-
 -- the name that a command begins with
-abbrev pub name_of : Command → List ℕ
-name_of (command.Create name shape) = string_bytes name
-name_of (command.Change name change) = string_bytes name
-name_of (command.Join into other join) = string_bytes into
+abbrev pub name_of : Command Text → List ℕ
+name_of (command.CreateFrequent name max_map_size) = string_bytes name
+name_of (command.CreateCountI64 name hashes buckets seed) = string_bytes name
+name_of (command.CreateCountU64 name hashes buckets seed) = string_bytes name
+name_of (command.CreateBloom name bits hashes seed) = string_bytes name
+name_of (command.Add name item weight) = string_bytes name
+name_of (command.AddSigned name item weight) = string_bytes name
+name_of (command.Insert name item) = string_bytes name
+name_of (command.Merge into other) = string_bytes into
+name_of (command.Union into other) = string_bytes into
+name_of (command.Intersect into other) = string_bytes into
+name_of (command.Difference into other) = string_bytes into
+name_of (command.Reset name) = string_bytes name
+name_of (command.Halve name) = string_bytes name
+name_of (command.Decay name numerator denominator) = string_bytes name
+name_of (command.Save name image) = string_bytes name
+name_of (command.Restore image name) = string_bytes image
+name_of (command.ShowImage image) = string_bytes image
 name_of (command.Ask name item) = string_bytes name
 name_of (command.GetStatus name) = string_bytes name
 name_of (command.ListRows name error_type threshold) = string_bytes name
 
 -- the words after the verb and the name make the rest of the command
-abbrev pub MakeRest : Verb → List (List ℕ) → Command → Type 0
-MakeRest (verb.Create kind) words (command.Create name shape) = MakeShape kind words shape
-MakeRest (verb.Change edit) words (command.Change name change) = MakeChange edit words change
-MakeRest (verb.Join join) words (command.Join into other by) = (by ≡ join) × (words ≡ string_bytes other ∷ [])
+abbrev pub MakeRest : Verb → List (List ℕ) → Command Text → Type 0
+MakeRest (verb.Create kind.Frequent) words (command.CreateFrequent name max_map_size) =
+    (max : List ℕ) × (words ≡ max ∷ []) × (number_below (2 ^ 64) max ≡ Some max_map_size)
+MakeRest (verb.Create kind.CountI64) words (command.CreateCountI64 name hashes buckets seed) =
+    AreCounts words hashes buckets seed
+MakeRest (verb.Create kind.CountU64) words (command.CreateCountU64 name hashes buckets seed) =
+    AreCounts words hashes buckets seed
+MakeRest (verb.Create kind.Bloom) words (command.CreateBloom name bits hashes seed) =
+    (b h s : List ℕ) × (words ≡ b ∷ h ∷ s ∷ []) × (number_below (2 ^ 64) b ≡ Some bits)
+    × (number_below (2 ^ 16) h ≡ Some hashes) × (number_below (2 ^ 64) s ≡ Some seed)
+MakeRest (verb.Change edit.Add) words (command.Add name item weight) =
+    (number : List ℕ) × (words ≡ number ∷ string_bytes item ∷ []) × (number_below (2 ^ 64) number ≡ Some weight)
+MakeRest (verb.Change edit.AddSigned) words (command.AddSigned name item weight) =
+    (number : List ℕ) × (words ≡ number ∷ string_bytes item ∷ []) × (signed_number number ≡ Some weight)
+MakeRest (verb.Change edit.Insert) words (command.Insert name item) = words ≡ string_bytes item ∷ []
+MakeRest (verb.Change edit.Reset) words (command.Reset name) = words ≡ []
+MakeRest (verb.Change edit.Halve) words (command.Halve name) = words ≡ []
+MakeRest (verb.Change edit.Decay) words (command.Decay name numerator denominator) =
+    (n d : List ℕ) × (words ≡ n ∷ d ∷ []) × (number_below (2 ^ 64) n ≡ Some numerator)
+    × (number_below (2 ^ 64) d ≡ Some denominator)
+MakeRest (verb.Join join.Merge) words (command.Merge into other) = words ≡ string_bytes other ∷ []
+MakeRest (verb.Join join.Union) words (command.Union into other) = words ≡ string_bytes other ∷ []
+MakeRest (verb.Join join.Intersect) words (command.Intersect into other) = words ≡ string_bytes other ∷ []
+MakeRest (verb.Join join.Difference) words (command.Difference into other) = words ≡ string_bytes other ∷ []
+MakeRest verb.Save words (command.Save name image) = words ≡ string_bytes image ∷ []
+MakeRest verb.Restore words (command.Restore image name) = words ≡ string_bytes name ∷ []
+MakeRest verb.Image words (command.ShowImage image) = words ≡ []
 MakeRest verb.Ask words (command.Ask name item) = words ≡ string_bytes item ∷ []
 MakeRest verb.Status words (command.GetStatus name) = words ≡ []
 MakeRest verb.Rows words (command.ListRows name error_type threshold) =
@@ -126,17 +138,17 @@ MakeRest verb.Rows words (command.ListRows name error_type threshold) =
 MakeRest _ _ _ = ⊥
 
 -- the words make the command
-abbrev pub Make : List (List ℕ) → Command → Type 0
+abbrev pub Make : List (List ℕ) → Command Text → Type 0
 Make words command =
     (verb : Verb) × (rest : List (List ℕ)) × (words ≡ verb_word verb ∷ name_of command ∷ rest)
     × MakeRest verb rest command
 
 -- the words make this command, or none where there is none
-abbrev pub IsMade : List (List ℕ) → Option Command → Type 0
-IsMade words made = MatchOption made ((command : Command) → ¬ Make words command) (Make words)
+abbrev pub IsMade : List (List ℕ) → Option (Command Text) → Type 0
+IsMade words made = MatchOption made ((command : Command Text) → ¬ Make words command) (Make words)
 
 -- the line is text, and its words make the command
-abbrev pub Says : List ℕ → Command → Type 0
+abbrev pub Says : List ℕ → Command Text → Type 0
 Says line command = IsUtf8 line × Make (words_of line) command
 
 -- the line is text without a word
@@ -145,4 +157,4 @@ IsBlank line = IsUtf8 line × (words_of line ≡ [])
 
 -- the line is not blank, and says no command
 abbrev pub IsBad : List ℕ → Type 0
-IsBad line = ¬ IsBlank line × ((command : Command) → ¬ Says line command)
+IsBad line = ¬ IsBlank line × ((command : Command Text) → ¬ Says line command)

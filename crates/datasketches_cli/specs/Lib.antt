@@ -1,16 +1,8 @@
-pub mod Answering
-pub mod Changing
 pub mod Counts
 pub mod Grammar
-pub mod Joining
-pub mod Places
 pub mod Printing
 pub mod Reading
-pub mod Replies
 pub mod Said
 pub mod Serving
-pub mod Shapes
-pub mod Sketches
-pub mod Steps
 pub mod Texts
 pub mod Transcript

@@ -3,16 +3,16 @@ use Rattle.std.specs.Prelude.{ℕ, true, false, List, ◌++◌, length, codes}
 use Rattle.std.specs.Fmt.{decimal, signed_decimal}
 use Rattle.std.specs.List.{flat_map}
 use Rattle.std.specs.String.{string_bytes}
-use Rattle.sketch_frequencies.specs.RowValue.{RowValue}
-use Rattle.sketch_base.specs.Faults.{fault_name}
+use Rattle.hex.specs.Hex.{encode_lower}
+use Rattle.datasketches.specs.Faults.{fault_name}
+use Rattle.datasketches.specs.RowValue.{RowValue}
+use Rattle.datasketches.specs.declared.reply.Reply.{Reply}
+use Rattle.datasketches.specs.declared.reply.Reply.TheVariants as reply
+use Rattle.datasketches.specs.declared.reply.Refusal.{Refusal}
+use Rattle.datasketches.specs.declared.reply.Refusal.TheVariants as refusal
+use Rattle.datasketches.specs.declared.reply.Status.{Status}
+use Rattle.datasketches.specs.declared.reply.Status.TheVariants as status
 use Rattle.datasketches_cli.specs.Texts.{Text}
-use Rattle.datasketches_cli.specs.declared.reply.Reply.{Reply}
-use Rattle.datasketches_cli.specs.declared.reply.Reply.TheVariants as reply
-use Rattle.datasketches_cli.specs.declared.reply.Refusal.{Refusal}
-use Rattle.datasketches_cli.specs.declared.reply.Refusal.TheVariants as refusal
-use Rattle.datasketches_cli.specs.declared.reply.FilterStatus.{FilterStatus}
-use Rattle.datasketches_cli.specs.declared.reply.Status.{Status}
-use Rattle.datasketches_cli.specs.declared.reply.Status.TheVariants as status
 
 -- a refusal's name
 abbrev pub refusal_name : Refusal → List ℕ
@@ -22,12 +22,6 @@ refusal_name refusal.WrongKind = codes "WrongKind"
 refusal_name refusal.SameName = codes "SameName"
 refusal_name refusal.BadFraction = codes "BadFraction"
 refusal_name (refusal.Call error) = fault_name error.fault
-
--- a filter's kind and its numbers
-abbrev pub filter_text : FilterStatus → List ℕ
-filter_text filter =
-    codes "bloom bits " ++ decimal filter.bits ++ codes " capacity " ++ decimal filter.capacity
-    ++ codes " hashes " ++ decimal filter.hashes ++ codes " seed " ++ decimal filter.seed
 
 -- a sketch's kind and its numbers
 abbrev pub status_text : Status → List ℕ
@@ -40,7 +34,9 @@ status_text (status.CountI64 total hashes buckets seed) =
 status_text (status.CountU64 total hashes buckets seed) =
     codes "countu total " ++ decimal total ++ codes " hashes " ++ decimal hashes
     ++ codes " buckets " ++ decimal buckets ++ codes " seed " ++ decimal seed
-status_text (status.Bloom filter) = filter_text filter
+status_text (status.Bloom bits capacity hashes seed) =
+    codes "bloom bits " ++ decimal bits ++ codes " capacity " ++ decimal capacity
+    ++ codes " hashes " ++ decimal hashes ++ codes " seed " ++ decimal seed
 
 -- an item and its numbers
 abbrev pub row_text : RowValue Text → List ℕ
@@ -49,7 +45,7 @@ row_text row =
     ++ codes " " ++ decimal row.lower_bound ++ codes " " ++ decimal row.upper_bound
 
 -- a reply's line, without its end
-abbrev pub reply_text : Reply → List ℕ
+abbrev pub reply_text : Reply Text → List ℕ
 reply_text reply.Done = codes "ok"
 reply_text (reply.Bounds estimate lower upper) =
     codes "estimate " ++ signed_decimal estimate ++ codes " lower " ++ signed_decimal lower
@@ -58,4 +54,5 @@ reply_text (reply.Contains true) = codes "yes"
 reply_text (reply.Contains false) = codes "no"
 reply_text (reply.Status status) = status_text status
 reply_text (reply.Rows rows) = codes "rows " ++ decimal (length rows.items) ++ flat_map row_text rows.items
+reply_text (reply.Image bytes) = codes "image " ++ encode_lower bytes.items
 reply_text (reply.Refused refusal) = codes "refused " ++ refusal_name refusal

@@ -1,16 +1,13 @@
 -- What parsing finds in a line.
 use Rattle.std.specs.Prelude.{◌≡◌, ◌≢◌, ℕ, List, map, Option, MatchOption}
 use Rattle.std.specs.Borrow.{Bor}
-use Rattle.sketch_frequencies.specs.declared.error_type.ErrorType.{ErrorType}
-use Rattle.datasketches_cli.specs.declared.command.Command.{Command}
-use Rattle.datasketches_cli.specs.declared.parse.Edit.{Edit}
-use Rattle.datasketches_cli.specs.declared.parse.Kind.{Kind}
+use Rattle.datasketches.specs.ErrorType.{ErrorType}
+use Rattle.datasketches.specs.declared.command.Command.{Command}
+use Rattle.datasketches_cli.specs.Texts.{Text}
 use Rattle.datasketches_cli.specs.declared.parse.Line.{Line}
 use Rattle.datasketches_cli.specs.declared.parse.Line.TheVariants as line
 use Rattle.datasketches_cli.specs.declared.parse.Verb.{Verb}
-use Rattle.datasketches_cli.specs.declared.sketch.Change.{Change}
-use Rattle.datasketches_cli.specs.declared.sketch.Shape.{Shape}
-use Rattle.datasketches_cli.specs.Grammar.{IsBlank, Says, IsBad, verb_word, report_word, name_of, AreCounts, MakeShape, MakeChange, MakeRest}
+use Rattle.datasketches_cli.specs.Grammar.{IsBlank, Says, IsBad, verb_word, report_word, name_of, AreCounts, MakeRest}
 
 -- the texts of some words
 abbrev pub texts_of : List (Bor (List ℕ)) → List (List ℕ)
@@ -26,25 +23,16 @@ IsReportOf word found =
     MatchOption found ((error_type : ErrorType) → word ≢ report_word error_type)
     (λ error_type. word ≡ report_word error_type)
 
--- the shape that the words make, or none where there is none
-abbrev pub IsShapeOf : Kind → List (List ℕ) → Option Shape → Type 0
-IsShapeOf kind words found = MatchOption found ((shape : Shape) → ¬ MakeShape kind words shape) (MakeShape kind words)
-
--- the numbers of a Count-Min sketch, likewise
+-- the numbers of a Count-Min sketch, or none where there are none
 abbrev pub AreCountsOf : List (List ℕ) → Option (ℕ × ℕ × ℕ) → Type 0
 AreCountsOf words found =
     MatchOption found ((hashes buckets seed : ℕ) → ¬ AreCounts words hashes buckets seed)
     (λ counts. AreCounts words counts.0 counts.1 counts.2)
 
--- the change, likewise
-abbrev pub IsChangeOf : Edit → List (List ℕ) → Option Change → Type 0
-IsChangeOf edit words found =
-    MatchOption found ((change : Change) → ¬ MakeChange edit words change) (MakeChange edit words)
-
 -- the command of a verb and a name, likewise
-abbrev pub IsCommandOf : Verb → List ℕ → List (List ℕ) → Option Command → Type 0
+abbrev pub IsCommandOf : Verb → List ℕ → List (List ℕ) → Option (Command Text) → Type 0
 IsCommandOf verb name rest found =
-    MatchOption found ((command : Command) → ¬ MakeRest verb rest command)
+    MatchOption found ((command : Command Text) → ¬ MakeRest verb rest command)
     (λ command. (name_of command ≡ name) × MakeRest verb rest command)
 
 -- the line says this

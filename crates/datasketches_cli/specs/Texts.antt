@@ -1,15 +1,19 @@
 -- Items, which are texts.
-use Rattle.std.specs.Prelude.{ℕ, List}
-use Rattle.std.specs.Hash as fed
-use Rattle.std.specs.List.{concat}
-use Rattle.std.specs.String.{string_bytes}
-use Rattle.std.specs.declared.string.String.{String}
+use Rattle.std.specs.Prelude.{ℕ, List, bytes_eq}
 use Rattle.std.specs.Global.{Global}
+use Rattle.std.specs.Hash as fed
+use Rattle.std.specs.String.{string_bytes}
+use Rattle.datasketches.specs.Items.{Codec, text_encoding, text_reading}
+use Rattle.std.specs.declared.string.String.{String}
 
 -- an item that a sketch counts, or a name
 abbrev pub Text : Type 0
 Text = String Global
 
--- the bytes that a text feeds to a hash: its own, and then 255
-abbrev pub text_bytes : Text → List ℕ
-text_bytes item = concat (fed.str (string_bytes item))
+-- how texts are told apart, written into images and read from them: by their bytes
+abbrev pub text_codec : Codec (List ℕ)
+text_codec = record { same = bytes_eq; encoding = text_encoding; reading = text_reading }
+
+-- what a text feeds to a hash: its bytes, and then 255
+abbrev pub text_input : Text → List (List ℕ)
+text_input item = fed.str (string_bytes item)

@@ -1,4 +1,4 @@
-//! Sketches under names, driven by lines.
+//! Sketches and saved images of them under names, driven by lines.
 //!
 //! The program takes no arguments. It reads lines from standard input, and writes a line for each to standard output:
 //!
@@ -15,6 +15,9 @@
 //! | `union INTO FROM`, `intersect INTO FROM`, `difference INTO FROM` | the same of filters | `ok` |
 //! | `reset NAME` | a sketch of frequent items or a filter to be emptied | `ok` |
 //! | `halve NAME`, `decay NAME NUMERATOR DENOMINATOR` | all weights of `countu` to be scaled | `ok` |
+//! | `save NAME IMAGE` | the image of a sketch to be kept under a name of its own | `ok` |
+//! | `restore IMAGE NAME` | a sketch to be made from an image | `ok` |
+//! | `image IMAGE` | the bytes of an image | `image` and the bytes in hexadecimal |
 //! | `ask NAME ITEM` | an item's estimate and the bounds of its true weight | `estimate E lower L upper U` |
 //! | | whether a filter contains an item | `yes` or `no` |
 //! | `status NAME` | a sketch's numbers | `frequent active A error E total W size S max M capacity C` |
@@ -34,14 +37,11 @@
 //! and where memory was refused outside a command `no memory`, each with status 2. Else the status is 0.
 #![tactic(auto)]
 
-mod command;
 mod counted;
-mod keeper;
 mod line_reader;
 mod parse;
 mod reply;
 mod serve;
-mod sketch;
 #[cfg(test)]
 mod tests;
 

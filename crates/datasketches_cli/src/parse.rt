@@ -2,11 +2,10 @@
 ghost use Rattle.std.specs.Prelude.{◌≡◌, ◌^◌, IfOk, take};
 ghost use Rattle.datasketches_cli.specs.Grammar.{words_of, number_below, signed_number, IsMade};
 ghost use Rattle.datasketches_cli.specs.Said.{IsSaid, IsVerbOf, IsReportOf, texts_of};
-ghost use Rattle.datasketches_cli.specs.Said.{IsShapeOf, AreCountsOf, IsChangeOf, IsCommandOf};
+ghost use Rattle.datasketches_cli.specs.Said.{AreCountsOf, IsCommandOf};
 
-use crate::command::Command;
-use crate::sketch::{Change, Join, Shape};
-use sketch_frequencies::ErrorType;
+use datasketches::Command;
+use datasketches::frequencies::ErrorType;
 use std::alloc::{AllocError, Global};
 
 /// What a line says.
@@ -15,7 +14,7 @@ pub enum Line {
     /// It has no word.
     Blank,
     /// It is a command.
-    Command(Command),
+    Command(Command<String>),
     /// It is no text, or no command.
     Bad,
 }
@@ -25,7 +24,10 @@ pub enum Line {
 enum Verb {
     Create(Kind),
     Change(Edit),
-    Join(Join),
+    Join(JoinKind),
+    Save,
+    Restore,
+    Image,
     Ask,
     Status,
     Rows,
@@ -51,8 +53,20 @@ enum Edit {
     Decay,
 }
 
+/// A way to join sketches.
+#[derive(Clone, Copy)]
+enum JoinKind {
+    Merge,
+    Union,
+    Intersect,
+    Difference,
+}
+
 /// How many words of a line are looked at: one more than the longest command has.
 const MOST_WORDS: usize = 6;
+
+/// The command that some words make, if they make one.
+type Made = Result<Option<Command<String>>, AllocError>;
 
 /// What a line says, which stands without its end.
 pub fn parse(alloc: Global, line: &[u8]) -> Result<Line, AllocError>
@@ -82,7 +96,7 @@ fn first_words(alloc: Global, text: &str) -> Result<Vec<&str>, AllocError>
 }
 
 /// The command that the words make.
-fn command_of(alloc: Global, words: &[&str]) -> Result<Option<Command>, AllocError>
+fn command_of(alloc: Global, words: &[&str]) -> Made
     ensures { IfOk result (IsMade (texts_of words.now)) }
 {
     let [verb, name, rest @ ..] = words else {
@@ -95,6 +109,9 @@ fn command_of(alloc: Global, words: &[&str]) -> Result<Option<Command>, AllocErr
         Verb::Create(kind) => create(alloc, kind, name, rest),
         Verb::Change(edit) => change(alloc, edit, name, rest),
         Verb::Join(by) => join(alloc, by, name, rest),
+        Verb::Save => save(alloc, name, rest),
+        Verb::Restore => restore(alloc, name, rest),
+        Verb::Image => image(alloc, name, rest),
         Verb::Ask => ask(alloc, name, rest),
         Verb::Status => status(alloc, name, rest),
         Verb::Rows => rows(alloc, name, rest),
@@ -116,10 +133,13 @@ fn verb_of(word: &str) -> Option<Verb>
         "reset" => Some(Verb::Change(Edit::Reset)),
         "halve" => Some(Verb::Change(Edit::Halve)),
         "decay" => Some(Verb::Change(Edit::Decay)),
-        "merge" => Some(Verb::Join(Join::Merge)),
-        "union" => Some(Verb::Join(Join::Union)),
-        "intersect" => Some(Verb::Join(Join::Intersect)),
-        "difference" => Some(Verb::Join(Join::Difference)),
+        "merge" => Some(Verb::Join(JoinKind::Merge)),
+        "union" => Some(Verb::Join(JoinKind::Union)),
+        "intersect" => Some(Verb::Join(JoinKind::Intersect)),
+        "difference" => Some(Verb::Join(JoinKind::Difference)),
+        "save" => Some(Verb::Save),
+        "restore" => Some(Verb::Restore),
+        "image" => Some(Verb::Image),
         "ask" => Some(Verb::Ask),
         "status" => Some(Verb::Status),
         "rows" => Some(Verb::Rows),
@@ -127,62 +147,180 @@ fn verb_of(word: &str) -> Option<Verb>
     }
 }
 
-fn create(
-    alloc: Global,
-    kind: Kind,
-    name: &str,
-    words: &[&str],
-) -> Result<Option<Command>, AllocError>
+fn create(alloc: Global, kind: Kind, name: &str, words: &[&str]) -> Made
     ensures { IfOk result (IsCommandOf (Verb.Create kind) name.now (texts_of words.now)) }
 {
-    let Some(shape) = shape_of(kind, words) else {
-        return Ok(None);
-    };
-    let name = String::from_str(alloc, name)?;
-    Ok(Some(Command::Create { name, shape }))
+    match kind {
+        Kind::Frequent => {
+            let [max_map_size] = words else {
+                return Ok(None);
+            };
+            let Some(max_map_size) = number_of(max_map_size) else {
+                return Ok(None);
+            };
+            let name = String::from_str(alloc, name)?;
+            Ok(Some(Command::CreateFrequent {
+                name,
+                max_map_size: max_map_size as usize,
+            }))
+        }
+        Kind::CountI64 => {
+            let Some((num_hashes, num_buckets, seed)) = counts_of(words) else {
+                return Ok(None);
+            };
+            let name = String::from_str(alloc, name)?;
+            Ok(Some(Command::CreateCountI64 {
+                name,
+                num_hashes,
+                num_buckets,
+                seed,
+            }))
+        }
+        Kind::CountU64 => {
+            let Some((num_hashes, num_buckets, seed)) = counts_of(words) else {
+                return Ok(None);
+            };
+            let name = String::from_str(alloc, name)?;
+            Ok(Some(Command::CreateCountU64 {
+                name,
+                num_hashes,
+                num_buckets,
+                seed,
+            }))
+        }
+        Kind::Bloom => {
+            let [num_bits, num_hashes, seed] = words else {
+                return Ok(None);
+            };
+            let (Some(num_bits), Some(num_hashes), Some(seed)) = (
+                number_of(num_bits),
+                number_of_u16(num_hashes),
+                number_of(seed),
+            ) else {
+                return Ok(None);
+            };
+            let name = String::from_str(alloc, name)?;
+            Ok(Some(Command::CreateBloom {
+                name,
+                num_bits,
+                num_hashes,
+                seed,
+            }))
+        }
+    }
 }
 
-fn change(
-    alloc: Global,
-    edit: Edit,
-    name: &str,
-    words: &[&str],
-) -> Result<Option<Command>, AllocError>
+fn change(alloc: Global, edit: Edit, name: &str, words: &[&str]) -> Made
     ensures { IfOk result (IsCommandOf (Verb.Change edit) name.now (texts_of words.now)) }
 {
-    let Some(change) = change_of(alloc, edit, words)? else {
-        return Ok(None);
-    };
-    let name = String::from_str(alloc, name)?;
-    Ok(Some(Command::Change { name, change }))
+    match (edit, words) {
+        (Edit::Add, [weight, item]) => {
+            let Some(weight) = number_of(weight) else {
+                return Ok(None);
+            };
+            let name = String::from_str(alloc, name)?;
+            let item = String::from_str(alloc, item)?;
+            Ok(Some(Command::Add { name, item, weight }))
+        }
+        (Edit::AddSigned, [weight, item]) => {
+            let Some(weight) = signed_number(weight) else {
+                return Ok(None);
+            };
+            let name = String::from_str(alloc, name)?;
+            let item = String::from_str(alloc, item)?;
+            Ok(Some(Command::AddSigned { name, item, weight }))
+        }
+        (Edit::Insert, [item]) => {
+            let name = String::from_str(alloc, name)?;
+            let item = String::from_str(alloc, item)?;
+            Ok(Some(Command::Insert { name, item }))
+        }
+        (Edit::Reset, []) => {
+            let name = String::from_str(alloc, name)?;
+            Ok(Some(Command::Reset { name }))
+        }
+        (Edit::Halve, []) => {
+            let name = String::from_str(alloc, name)?;
+            Ok(Some(Command::Halve { name }))
+        }
+        (Edit::Decay, [numerator, denominator]) => {
+            let (Some(numerator), Some(denominator)) = (
+                number_of(numerator),
+                number_of(denominator),
+            ) else {
+                return Ok(None);
+            };
+            let name = String::from_str(alloc, name)?;
+            Ok(Some(Command::Decay {
+                name,
+                numerator,
+                denominator,
+            }))
+        }
+        _ => Ok(None),
+    }
 }
 
-fn join(alloc: Global, by: Join, name: &str, words: &[&str]) -> Result<Option<Command>, AllocError>
+fn join(alloc: Global, by: JoinKind, name: &str, words: &[&str]) -> Made
     ensures { IfOk result (IsCommandOf (Verb.Join by) name.now (texts_of words.now)) }
 {
     let [other] = words else {
         return Ok(None);
     };
-    Ok(Some(Command::Join {
-        into: String::from_str(alloc, name)?,
-        other: String::from_str(alloc, other)?,
-        join: by,
+    let into = String::from_str(alloc, name)?;
+    let other = String::from_str(alloc, other)?;
+    Ok(Some(match by {
+        JoinKind::Merge => Command::Merge { into, other },
+        JoinKind::Union => Command::Union { into, other },
+        JoinKind::Intersect => Command::Intersect { into, other },
+        JoinKind::Difference => Command::Difference { into, other },
     }))
 }
 
-fn ask(alloc: Global, name: &str, words: &[&str]) -> Result<Option<Command>, AllocError>
+fn save(alloc: Global, name: &str, words: &[&str]) -> Made
+    ensures { IfOk result (IsCommandOf Verb.Save name.now (texts_of words.now)) }
+{
+    let [image] = words else {
+        return Ok(None);
+    };
+    let name = String::from_str(alloc, name)?;
+    let image = String::from_str(alloc, image)?;
+    Ok(Some(Command::Save { name, image }))
+}
+
+fn restore(alloc: Global, image: &str, words: &[&str]) -> Made
+    ensures { IfOk result (IsCommandOf Verb.Restore image.now (texts_of words.now)) }
+{
+    let [name] = words else {
+        return Ok(None);
+    };
+    let image = String::from_str(alloc, image)?;
+    let name = String::from_str(alloc, name)?;
+    Ok(Some(Command::Restore { image, name }))
+}
+
+fn image(alloc: Global, name: &str, words: &[&str]) -> Made
+    ensures { IfOk result (IsCommandOf Verb.Image name.now (texts_of words.now)) }
+{
+    if !words.is_empty() {
+        return Ok(None);
+    }
+    let image = String::from_str(alloc, name)?;
+    Ok(Some(Command::ShowImage { image }))
+}
+
+fn ask(alloc: Global, name: &str, words: &[&str]) -> Made
     ensures { IfOk result (IsCommandOf Verb.Ask name.now (texts_of words.now)) }
 {
     let [item] = words else {
         return Ok(None);
     };
-    Ok(Some(Command::Ask {
-        name: String::from_str(alloc, name)?,
-        item: String::from_str(alloc, item)?,
-    }))
+    let name = String::from_str(alloc, name)?;
+    let item = String::from_str(alloc, item)?;
+    Ok(Some(Command::Ask { name, item }))
 }
 
-fn status(alloc: Global, name: &str, words: &[&str]) -> Result<Option<Command>, AllocError>
+fn status(alloc: Global, name: &str, words: &[&str]) -> Made
     ensures { IfOk result (IsCommandOf Verb.Status name.now (texts_of words.now)) }
 {
     if !words.is_empty() {
@@ -192,7 +330,7 @@ fn status(alloc: Global, name: &str, words: &[&str]) -> Result<Option<Command>, 
     Ok(Some(Command::GetStatus { name }))
 }
 
-fn rows(alloc: Global, name: &str, words: &[&str]) -> Result<Option<Command>, AllocError>
+fn rows(alloc: Global, name: &str, words: &[&str]) -> Made
     ensures { IfOk result (IsCommandOf Verb.Rows name.now (texts_of words.now)) }
 {
     let [report, threshold] = words else {
@@ -209,48 +347,6 @@ fn rows(alloc: Global, name: &str, words: &[&str]) -> Result<Option<Command>, Al
     }))
 }
 
-/// The shape of a kind, by its numbers.
-fn shape_of(kind: Kind, words: &[&str]) -> Option<Shape>
-    ensures { IsShapeOf kind (texts_of words.now) result }
-{
-    match kind {
-        Kind::Frequent => {
-            let [max_map_size] = words else {
-                return None;
-            };
-            Some(Shape::Frequent {
-                max_map_size: number_of(max_map_size)? as usize,
-            })
-        }
-        Kind::CountI64 => {
-            let (num_hashes, num_buckets, seed) = counts_of(words)?;
-            Some(Shape::CountI64 {
-                num_hashes,
-                num_buckets,
-                seed,
-            })
-        }
-        Kind::CountU64 => {
-            let (num_hashes, num_buckets, seed) = counts_of(words)?;
-            Some(Shape::CountU64 {
-                num_hashes,
-                num_buckets,
-                seed,
-            })
-        }
-        Kind::Bloom => {
-            let [num_bits, num_hashes, seed] = words else {
-                return None;
-            };
-            Some(Shape::Bloom {
-                num_bits: number_of(num_bits)?,
-                num_hashes: number_of_u16(num_hashes)?,
-                seed: number_of(seed)?,
-            })
-        }
-    }
-}
-
 /// The numbers of a Count-Min sketch: its hashes, its buckets and its seed.
 fn counts_of(words: &[&str]) -> Option<(u8, u32, u64)>
     ensures { AreCountsOf (texts_of words.now) result }
@@ -263,48 +359,6 @@ fn counts_of(words: &[&str]) -> Option<(u8, u32, u64)>
         number_of_u32(num_buckets)?,
         number_of(seed)?,
     ))
-}
-
-/// The change of a kind, by its numbers and its item.
-fn change_of(alloc: Global, edit: Edit, words: &[&str]) -> Result<Option<Change>, AllocError>
-    ensures { IfOk result (IsChangeOf edit (texts_of words.now)) }
-{
-    let change = match (edit, words) {
-        (Edit::Add, [weight, item]) => {
-            let Some(weight) = number_of(weight) else {
-                return Ok(None);
-            };
-            let item = String::from_str(alloc, item)?;
-            Change::Add { item, weight }
-        }
-        (Edit::AddSigned, [weight, item]) => {
-            let Some(weight) = signed_number(weight) else {
-                return Ok(None);
-            };
-            let item = String::from_str(alloc, item)?;
-            Change::AddSigned { item, weight }
-        }
-        (Edit::Insert, [item]) => {
-            let item = String::from_str(alloc, item)?;
-            Change::Insert { item }
-        }
-        (Edit::Reset, []) => Change::Reset,
-        (Edit::Halve, []) => Change::Halve,
-        (Edit::Decay, [numerator, denominator]) => {
-            let (Some(numerator), Some(denominator)) = (
-                number_of(numerator),
-                number_of(denominator),
-            ) else {
-                return Ok(None);
-            };
-            Change::Decay {
-                numerator,
-                denominator,
-            }
-        }
-        _ => return Ok(None),
-    };
-    Ok(Some(change))
 }
 
 /// The kind of report that a word names.

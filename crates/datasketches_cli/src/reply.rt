@@ -1,192 +1,179 @@
-//! Replies, and the lines that they print.
-use sketch_base::Error;
-use sketch_frequencies::Row;
-use std::fmt;
+//! The lines that replies print.
+ghost use Rattle.std.specs.Prelude.{◌≡◌, ◌++◌, OnOk, string_bytes, codes};
+ghost use Rattle.hex.specs.Hex.{encode_lower};
+ghost use Rattle.std.specs.List.{flat_map};
+ghost use Rattle.datasketches_cli.specs.Printing.{reply_text, status_text, refusal_name, row_text};
 
-/// The answer to a command.
-#[derive(Drop)]
-pub enum Reply {
-    /// It was done.
-    Done,
-    /// An item's estimate and bounds.
-    Bounds {
-        estimate: i128,
-        lower: i128,
-        upper: i128,
-    },
-    /// Whether an item is contained.
-    Contains(bool),
-    /// A sketch's numbers.
-    Status(Status),
-    /// The items above a threshold.
-    Rows(Vec<Row<String>>),
-    /// It was refused, and nothing changed.
-    Refused(Refusal),
-}
+use crate::serve::Stopped;
+use datasketches::frequencies::Row;
+use datasketches::{Refusal, Reply, Status};
+use std::alloc::Global;
+use std::fmt::Write;
 
-/// A sketch's numbers.
-#[derive(Clone, Copy)]
-pub enum Status {
-    /// Those of a frequent-items sketch.
-    Frequent {
-        active: usize,
-        error: u64,
-        total: u64,
-        size: usize,
-        max: usize,
-        capacity: usize,
-    },
-    /// Those of a Count-Min sketch of weights below zero and above.
-    CountI64 {
-        total: i64,
-        hashes: u8,
-        buckets: u32,
-        seed: u64,
-    },
-    /// Those of a Count-Min sketch of weights of zero and above.
-    CountU64 {
-        total: u64,
-        hashes: u8,
-        buckets: u32,
-        seed: u64,
-    },
-    /// Those of a Bloom filter.
-    Bloom(FilterStatus),
-}
-
-/// A Bloom filter's numbers.
-#[derive(Clone, Copy)]
-pub struct FilterStatus {
-    pub bits: u64,
-    pub capacity: usize,
-    pub hashes: u16,
-    pub seed: u64,
-}
-
-/// Why a command was refused.
-#[derive(Drop)]
-pub enum Refusal {
-    /// No sketch has the name.
-    NoSuchName,
-    /// A sketch has the name already.
-    NameTaken,
-    /// The sketch is of a kind that does not know the command, or the two are of different kinds.
-    WrongKind,
-    /// A sketch is not joined to itself.
-    SameName,
-    /// The fraction is not above 0 and at most 1.
-    BadFraction,
-    /// The sketch's own call refused.
-    Call(Error),
-}
-
-impl fmt::Display for Status {
-    ghost use Rattle.std.specs.Prelude.{Some};
-    ghost use Rattle.datasketches_cli.specs.Printing.{status_text};
-
-    ghost output = { λ status. Some (status_text status) };
-
-    fn fmt<W: fmt::Write>(&self, f: &mut fmt::Formatter<W>) -> fmt::Result {
-        match self {
-            Status::Frequent {
-                active,
-                error,
-                total,
-                size,
-                max,
-                capacity,
-            } => write!(
-                f,
-                "frequent active {active} error {error} total {total} size {size} max {max} capacity {capacity}"
-            ),
-            Status::CountI64 {
-                total,
-                hashes,
-                buckets,
-                seed,
-            } => write!(
-                f,
-                "counti total {total} hashes {hashes} buckets {buckets} seed {seed}"
-            ),
-            Status::CountU64 {
-                total,
-                hashes,
-                buckets,
-                seed,
-            } => write!(
-                f,
-                "countu total {total} hashes {hashes} buckets {buckets} seed {seed}"
-            ),
-            Status::Bloom(filter) => write!(f, "{filter}"),
+/// Writes a reply's line, without its end.
+pub fn write_reply(alloc: Global, out: &mut String, reply: &Reply<String>) -> Result<(), Stopped>
+    ensures { OnOk result (string_bytes out.new ≡ string_bytes out.old ++ reply_text reply.now) }
+{
+    match reply {
+        Reply::Done => write!(out, "ok")?,
+        Reply::Bounds {
+            estimate,
+            lower,
+            upper,
+        } => write!(out, "estimate {estimate} lower {lower} upper {upper}")?,
+        Reply::Contains(true) => write!(out, "yes")?,
+        Reply::Contains(false) => write!(out, "no")?,
+        Reply::Status(status) => write_status(out, status)?,
+        Reply::Rows(rows) => {
+            write!(out, "rows {}", rows.len())?;
+            write_rows(out, rows)?;
         }
+        Reply::Image(bytes) => write_image(alloc, out, bytes)?,
+        Reply::Refused(refusal) => write!(out, "refused {}", refusal_name(refusal))?,
+    }
+    Ok(())
+}
+
+/// Writes a sketch's kind and its numbers.
+fn write_status(out: &mut String, status: &Status) -> Result<(), Stopped>
+    ensures { OnOk result (string_bytes out.new ≡ string_bytes out.old ++ status_text status.now) }
+{
+    match *status {
+        Status::Frequent {
+            active,
+            error,
+            total,
+            size,
+            max,
+            capacity,
+        } => write_frequent(out, active, error, total, size, max, capacity),
+        Status::CountI64 {
+            total,
+            hashes,
+            buckets,
+            seed,
+        } => write_count_i64(out, total, hashes, buckets, seed),
+        Status::CountU64 {
+            total,
+            hashes,
+            buckets,
+            seed,
+        } => write_count_u64(out, total, hashes, buckets, seed),
+        Status::Bloom {
+            bits,
+            capacity,
+            hashes,
+            seed,
+        } => write_bloom(out, bits, capacity, hashes, seed),
     }
 }
 
-impl fmt::Display for FilterStatus {
-    ghost use Rattle.std.specs.Prelude.{Some};
-    ghost use Rattle.datasketches_cli.specs.Printing.{filter_text};
+fn write_frequent(
+    out: &mut String,
+    active: usize,
+    error: u64,
+    total: u64,
+    size: usize,
+    max: usize,
+    capacity: usize,
+) -> Result<(), Stopped>
+    ensures { OnOk result (string_bytes out.new
+        ≡ string_bytes out.old ++ status_text (Status.Frequent active error total size max capacity)) }
+{
+    write!(
+        out,
+        "frequent active {active} error {error} total {total} size {size} max {max} capacity {capacity}"
+    )?;
+    Ok(())
+}
 
-    ghost output = { λ filter. Some (filter_text filter) };
+fn write_count_i64(
+    out: &mut String,
+    total: i64,
+    hashes: u8,
+    buckets: u32,
+    seed: u64,
+) -> Result<(), Stopped>
+    ensures { OnOk result (string_bytes out.new
+        ≡ string_bytes out.old ++ status_text (Status.CountI64 total hashes buckets seed)) }
+{
+    write!(
+        out,
+        "counti total {total} hashes {hashes} buckets {buckets} seed {seed}"
+    )?;
+    Ok(())
+}
 
-    fn fmt<W: fmt::Write>(&self, f: &mut fmt::Formatter<W>) -> fmt::Result {
+fn write_count_u64(
+    out: &mut String,
+    total: u64,
+    hashes: u8,
+    buckets: u32,
+    seed: u64,
+) -> Result<(), Stopped>
+    ensures { OnOk result (string_bytes out.new
+        ≡ string_bytes out.old ++ status_text (Status.CountU64 total hashes buckets seed)) }
+{
+    write!(
+        out,
+        "countu total {total} hashes {hashes} buckets {buckets} seed {seed}"
+    )?;
+    Ok(())
+}
+
+fn write_bloom(
+    out: &mut String,
+    bits: u64,
+    capacity: usize,
+    hashes: u16,
+    seed: u64,
+) -> Result<(), Stopped>
+    ensures { OnOk result (string_bytes out.new
+        ≡ string_bytes out.old ++ status_text (Status.Bloom bits capacity hashes seed)) }
+{
+    write!(
+        out,
+        "bloom bits {bits} capacity {capacity} hashes {hashes} seed {seed}"
+    )?;
+    Ok(())
+}
+
+/// Writes the bytes of an image as hexadecimal digits.
+fn write_image(alloc: Global, out: &mut String, bytes: &[u8]) -> Result<(), Stopped>
+    ensures { OnOk result (string_bytes out.new ≡ string_bytes out.old ++ codes "image " ++ encode_lower bytes.now) }
+{
+    let digits = hex::encode(alloc, bytes)?;
+    write!(out, "image {digits}")?;
+    Ok(())
+}
+
+/// Writes the items of a report with their numbers.
+fn write_rows(out: &mut String, rows: &[Row<String>]) -> Result<(), Stopped>
+    ensures { OnOk result (string_bytes out.new ≡ string_bytes out.old ++ flat_map row_text rows.now) }
+{
+    for row in rows {
         write!(
-            f,
-            "bloom bits {} capacity {} hashes {} seed {}",
-            self.bits, self.capacity, self.hashes, self.seed
-        )
+            out,
+            " {} {} {} {}",
+            row.item(),
+            row.estimate(),
+            row.lower_bound(),
+            row.upper_bound()
+        )?;
     }
+    Ok(())
 }
 
-impl fmt::Display for Refusal {
-    ghost use Rattle.std.specs.Prelude.{Some};
-    ghost use Rattle.datasketches_cli.specs.Printing.{refusal_name};
-
-    ghost output = { λ refusal. Some (refusal_name refusal) };
-
-    fn fmt<W: fmt::Write>(&self, f: &mut fmt::Formatter<W>) -> fmt::Result {
-        match self {
-            Refusal::NoSuchName => write!(f, "NoSuchName"),
-            Refusal::NameTaken => write!(f, "NameTaken"),
-            Refusal::WrongKind => write!(f, "WrongKind"),
-            Refusal::SameName => write!(f, "SameName"),
-            Refusal::BadFraction => write!(f, "BadFraction"),
-            Refusal::Call(error) => f.write_str(error.fault().name()),
-        }
-    }
-}
-
-impl fmt::Display for Reply {
-    ghost use Rattle.std.specs.Prelude.{Some};
-    ghost use Rattle.datasketches_cli.specs.Printing.{reply_text};
-
-    ghost output = { λ reply. Some (reply_text reply) };
-
-    fn fmt<W: fmt::Write>(&self, f: &mut fmt::Formatter<W>) -> fmt::Result {
-        match self {
-            Reply::Done => write!(f, "ok"),
-            Reply::Bounds {
-                estimate,
-                lower,
-                upper,
-            } => write!(f, "estimate {estimate} lower {lower} upper {upper}"),
-            Reply::Contains(true) => write!(f, "yes"),
-            Reply::Contains(false) => write!(f, "no"),
-            Reply::Status(status) => write!(f, "{status}"),
-            Reply::Rows(rows) => {
-                write!(f, "rows {}", rows.len())?;
-                for row in rows {
-                    write!(
-                        f,
-                        " {} {} {} {}",
-                        row.item(),
-                        row.estimate(),
-                        row.lower_bound(),
-                        row.upper_bound()
-                    )?;
-                }
-                Ok(())
-            }
-            Reply::Refused(refusal) => write!(f, "refused {refusal}"),
-        }
+/// A refusal's name.
+fn refusal_name(refusal: &Refusal) -> &'static str
+    ensures { result.now ≡ refusal_name refusal.now }
+{
+    match refusal {
+        Refusal::NoSuchName => "NoSuchName",
+        Refusal::NameTaken => "NameTaken",
+        Refusal::WrongKind => "WrongKind",
+        Refusal::SameName => "SameName",
+        Refusal::BadFraction => "BadFraction",
+        Refusal::Call(error) => error.fault().name(),
     }
 }

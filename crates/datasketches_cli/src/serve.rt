@@ -7,11 +7,11 @@ ghost use Rattle.datasketches_cli.specs.Counts.{HasGrown};
 ghost use Rattle.datasketches_cli.specs.Serving.{HasAnswered, WritesFront};
 ghost use Rattle.datasketches_cli.specs.Transcript.{Serves, bad_line};
 
-use crate::command::Command;
 use crate::counted::Counted;
-use crate::keeper::Keeper;
 use crate::line_reader::LineReader;
 use crate::parse::{Line, parse};
+use crate::reply::write_reply;
+use datasketches::{Command, Session};
 use std::alloc::{AllocError, Global};
 use std::fmt;
 use std::io::{self, Read, Write};
@@ -39,7 +39,7 @@ const WRITE_SIZE: usize = 1 << 16;
 
 /// Something failed.
 #[derive(Drop)]
-struct Stopped;
+pub struct Stopped;
 
 impl From<io::Error> for Stopped {
     fn from(_e: io::Error) -> Self {
@@ -59,7 +59,7 @@ impl From<AllocError> for Stopped {
     }
 }
 
-/// Does the commands of the reader's lines on sketches of its own, and writes a line for each.
+/// Does the commands of the reader's lines in a session of its own, and writes a line for each.
 ///
 /// A line ends at a line feed or at the end of input, and one carriage return before that is dropped. A line without a
 /// word gets no answer. After a line that is no command, `bad line` and its number are written, and nothing more is
@@ -115,7 +115,7 @@ fn serve_lines<R: Read, W: Write>(
     ensures all_read { IfOk result (λ ended. ended ≡ Ended.All → IsAtEnd (R.remaining reader.new.inner)) }
     ensures all_written { OnOk result (writer.new.failures ≡ writer.old.failures) }
 {
-    let mut keeper = Keeper::new(alloc);
+    let mut session = Session::new(alloc);
     let mut replies = String::new(alloc);
     let mut lines = LineReader::new(alloc)?;
     let mut line = Vec::new(alloc);
@@ -129,7 +129,7 @@ fn serve_lines<R: Read, W: Write>(
         let said = parse(alloc, without_end(&line))?;
         match said {
             Line::Blank => {}
-            Line::Command(command) => answer(&mut keeper, command, &mut replies)?,
+            Line::Command(command) => answer(alloc, &mut session, command, &mut replies)?,
             Line::Bad => {
                 write_bad(writer, &mut replies, number)?;
                 return Ok(Ended::BadLine(number));
@@ -140,12 +140,18 @@ fn serve_lines<R: Read, W: Write>(
 }
 
 /// Does a command, and gathers its reply.
-fn answer(keeper: &mut Keeper, command: Command, replies: &mut String) -> Result<(), Stopped>
-    ensures { OnOk result (HasAnswered keeper.old command keeper.new
+fn answer(
+    alloc: Global,
+    session: &mut Session<String>,
+    command: Command<String>,
+    replies: &mut String,
+) -> Result<(), Stopped>
+    ensures { OnOk result (HasAnswered session.old command session.new
         (string_bytes replies.old) (string_bytes replies.new)) }
 {
-    let reply = keeper.apply(command);
-    writeln!(replies, "{reply}")?;
+    let reply = session.apply(command);
+    write_reply(alloc, replies, &reply)?;
+    writeln!(replies)?;
     Ok(())
 }
 

@@ -219,6 +219,41 @@ const WRONG_KINDS: [Row; 31] = [
     ("difference f u", "refused WrongKind"),
 ];
 
+/// An image stays as it was saved, and is kept beside the sketches.
+const IMAGES: [Row; 22] = [
+    ("bloom f 64 1 9001", "ok"),
+    ("save f p", "ok"),
+    (
+        "image p",
+        "image 030115040100000029230000000000000100000000000000",
+    ),
+    ("insert f a", "ok"),
+    ("restore p g", "ok"),
+    ("ask g a", "no"),
+    ("union g f", "ok"),
+    ("ask g a", "yes"),
+    ("merge f g", "refused WrongKind"),
+    ("save f p", "refused NameTaken"),
+    ("restore q h", "refused NoSuchName"),
+    ("save q p", "refused NoSuchName"),
+    ("restore p f", "refused NameTaken"),
+    ("image f", "refused NoSuchName"),
+    ("frequent s 8", "ok"),
+    ("add s 3 ab", "ok"),
+    ("save s f", "ok"),
+    (
+        "image f",
+        "image 04010a03030000000100000000000000030000000000000000000000000000000300000000000000020000006162",
+    ),
+    ("restore f t", "ok"),
+    ("ask t ab", "estimate 3 lower 3 upper 3"),
+    (
+        "status t",
+        "frequent active 1 error 0 total 3 size 8 max 8 capacity 6",
+    ),
+    ("merge s t", "ok"),
+];
+
 /// How a run over the input ended, where it wrote this.
 fn outcome(alloc: Global, input: &[u8], output: &[u8]) -> Option<Ended> {
     let mut reader = Counted::new(Cursor::new(input));
@@ -249,7 +284,7 @@ fn played(alloc: Global, rows: &[Row]) -> Result<Option<Ended>, AllocError> {
 #[test]
 fn sessions(rt: HostRuntime) -> Result<(), Fail> {
     assert!(rt; played(rt.alloc(), &QUESTIONS)? == Some(Ended::BadLine(13)));
-    let sessions: [&[Row]; 7] = [
+    let sessions: [&[Row]; 8] = [
         &MERGES_AND_RESETS,
         &ROWS,
         &ORDER_OF_REFUSALS,
@@ -257,6 +292,7 @@ fn sessions(rt: HostRuntime) -> Result<(), Fail> {
         &COUNTS,
         &FILTERS_AND_COUNTS_THAT_REFUSE,
         &WRONG_KINDS,
+        &IMAGES,
     ];
     for session in sessions {
         assert!(rt;
@@ -278,7 +314,7 @@ fn outcome_of_fourth(alloc: Global, line: &[u8]) -> Result<Option<Ended>, AllocE
 
 #[test]
 fn lines_that_are_no_command(rt: HostRuntime) -> Result<(), Fail> {
-    let lines: [&[u8]; 36] = [
+    let lines: [&[u8]; 39] = [
         b"frequent",
         b"frequent s",
         b"frequent s 8 8",
@@ -309,7 +345,10 @@ fn lines_that_are_no_command(rt: HostRuntime) -> Result<(), Fail> {
         b"adds s - a",
         b"insert s",
         b"decay s 1",
-        b"save s p",
+        b"save s",
+        b"restore p",
+        b"image",
+        b"image p q",
         b"\xff",
         b"ask s \xc3\x28",
         b"\r x",

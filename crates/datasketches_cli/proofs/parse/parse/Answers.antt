@@ -1,6 +1,10 @@
 use Rattle.std.proofs.Common.{◌≡◌, ◌∙◌, length, sym, arith}
-use Rattle.datasketches_cli.proofs.Verbs.{says_nothing}
+use Rattle.datasketches_cli.proofs.Verbs.{says_nothing, says_this}
 use Rattle.datasketches_cli.proofs.parse.parse.Goals as goal
+
+pub returns-in-Some : goal.returns-in-Some
+returns-in-Some c =
+    says_this c.args.line.now c.in-Ok.text.now c.in_ok-words.words.items c.in-Some.command c.in-Ok.ensures.cases.0 c.in-Ok.ensures.cases.1 c.in_ok-words.ensures (rw (c.in-Some.is, c.deref.ensures.value) at c.in_ok-command.ensures)
 
 pub returns : goal.returns
 returns c =

@@ -15,9 +15,9 @@ returns-in-Bad-clause-served g c =
 pub loop-before-preserved : goal.loop-before-preserved
 loop-before-preserved g c = (
   elim c.match-said.branch [
-    | in-Blank w ↦ turns_blank _ _ _ _ _ _ _ _ _ _ _ _ _ _ _ _ _ c.loop-before.invariant.0 c.in_ok-write_due.ensures.written c.in_ok-read_line.ensures.line c.if-not-branch.false c.deref.ensures.value c.without_end.ensures c.in_ok-said.ensures w.in-Blank.is w.keeper-is (ap string_bytes w.replies-is)
+    | in-Blank w ↦ turns_blank _ _ _ _ _ _ _ _ _ _ _ _ _ _ _ _ _ c.loop-before.invariant.0 c.in_ok-write_due.ensures.written c.in_ok-read_line.ensures.line c.if-not-branch.false c.deref.ensures.value c.without_end.ensures c.in_ok-said.ensures w.in-Blank.is w.session-is (ap string_bytes w.replies-is)
     | in-Command+in_ok-answer-in-Command w ↦
-        (let done = rw (← w.keeper-is, ← w.replies-is) at w.in_ok-answer-in-Command.ensures in
+        (let done = rw (← w.session-is, ← w.replies-is) at w.in_ok-answer-in-Command.ensures in
         turns_command _ _ _ _ _ _ _ _ _ _ _ _ _ _ _ _ _ _ c.loop-before.invariant.0 c.in_ok-write_due.ensures.written c.in_ok-read_line.ensures.line c.if-not-branch.false c.deref.ensures.value c.without_end.ensures c.in_ok-said.ensures w.in-Command.is done)
   ],
   c.in_ok-write_due.ensures.kept ∙ c.loop-before.invariant.1,

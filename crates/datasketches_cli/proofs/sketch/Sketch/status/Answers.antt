@@ -1,8 +1,0 @@
-use Rattle.std.proofs.Common.{arith}
-use Rattle.datasketches_cli.proofs.Numbers.{shift_fits}
-use Rattle.datasketches_cli.proofs.sketch.Sketch.status.Goals as goal
-
-pub overflow_shl-result : goal.overflow_shl-result
-overflow_shl-result c =
-    let state = c.num_active_items.ensures.state in
-    shift_fits _ _ c.lg_cur_map_size.ensures (omega (arith, state.within, state.greatest))
