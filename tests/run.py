@@ -1,0 +1,210 @@
+#!/usr/bin/env python3
+"""Runs the built program where memory is refused and where streams fail. `README.md` says what each test shows.
+
+It takes the path of the program, and prints a line for each test that failed and then 'N passed, M failed'.
+"""
+import os
+import subprocess
+import sys
+import tempfile
+
+HERE = os.path.dirname(os.path.abspath(__file__))
+
+NO_MEMORY = b"refused NoMemory"
+
+# The main job, and each kind with its joins, images and refusals.
+WORKED = """frequent s 8
+add s 1 a
+add s 1 b
+add s 1 c
+add s 1 d
+add s 1 e
+add s 1 f
+add s 1 g
+status s
+ask s a
+rows s fn 0
+frequent s 8
+frequent t 64
+add t 5 a
+merge s t
+ask s a
+status s
+merge s s
+save t p
+image p
+restore p u
+ask u a
+rows u fp 1
+bloom f 64 1 9001
+save f q
+image q
+insert f a
+restore q g
+ask g a
+union g f
+ask g a
+merge f g
+save f q
+restore z h
+countu c 4 128 9001
+add c 100 x
+decay c 99 100
+ask c x
+halve c
+save c r
+restore r d
+merge d c
+ask d x
+status d
+counti i 1 3 9001
+adds i -3 x
+save i k
+restore k j
+merge j i
+ask j x
+reset s
+status s
+""".encode()
+
+
+def mixed():
+    """Two hundred lines of all kinds, whose only purges leave no choice: all counts are equal then."""
+    lines = ["frequent s 16", "frequent t 8", "countu c 2 16 9001", "counti i 2 16 9001", "bloom f 256 3 9001"]
+    for n in range(24):
+        lines += [
+            f"add s 2 item{n % 11}",
+            f"add t 1 item{n % 5}",
+            f"add c {n + 1} item{n}",
+            f"adds i {-n if n % 2 else n} item{n % 7}",
+            f"insert f item{n}",
+            f"ask c item{n // 2}",
+            f"ask f item{n + 1}",
+        ]
+    lines += ["save s p", "save t q", "save c r", "save i k", "save f m"]
+    lines += ["restore p s2", "restore q t2", "restore r c2", "restore k i2", "restore m f2"]
+    lines += ["merge s s2", "merge t t2", "merge c c2", "merge i i2", "union f f2", "difference f2 f"]
+    lines += ["image p", "image r", "image m", "rows t fn 0", "rows t fp 1", "status s", "status c2", "status f2"]
+    lines += ["halve c", "decay c2 1 3", "reset t2", "reset f"]
+    return ("\n".join(lines) + "\n").encode()
+
+
+class Tests:
+    def __init__(self, program, work):
+        self.program = program
+        self.work = work
+        self.passed = 0
+        self.failed = 0
+        self.library = os.path.join(work, "refused_memory.so")
+        compiler = os.environ.get("CC", "cc")
+        source = os.path.join(HERE, "refused_memory.c")
+        subprocess.run(
+            [compiler, "-shared", "-fPIC", "-O1", "-o", self.library, source, "-ldl"], check=True
+        )
+
+    def check(self, name, holds, said=""):
+        if holds:
+            self.passed += 1
+        else:
+            self.failed += 1
+            print(f"failed: {name} {said}")
+
+    def run(self, lines, refused_at=None):
+        """Its status, what it wrote, and the three numbers of the library, where that was loaded."""
+        env = {"PATH": "/usr/bin:/bin"}
+        report = os.path.join(self.work, "report")
+        if refused_at is not None:
+            env.update(LD_PRELOAD=self.library, REFUSED_AT=str(refused_at), REFUSED_REPORT=report)
+        ran = subprocess.run([self.program], input=lines, capture_output=True, env=env, timeout=60)
+        numbers = None
+        if refused_at is not None:
+            with open(report) as file:
+                numbers = [int(word) for word in file.read().split()]
+        return ran.returncode, ran.stdout, ran.stderr, numbers
+
+    def refused_in_turn(self, name, lines):
+        """Each request for memory refused in a run of its own, until a run meets no refusal."""
+        status, whole, said, numbers = self.run(lines, 0)
+        self.check(f"{name}: ends where nothing is refused", status in (0, 1) and said == b"", said)
+        self.check(f"{name}: no want of memory then", NO_MEMORY not in whole)
+        self.check(f"{name}: all memory is given back", numbers[2] == 0, numbers)
+        commands = lines.splitlines(keepends=True)
+        n = 1
+        while True:
+            status, out, said, numbers = self.run(lines, n)
+            where = f"{name}, request {n}:"
+            if numbers[1] == 0:
+                self.check(f"{where} the last run is whole", out == whole and status in (0, 1))
+                return n - 1
+            self.check(f"{where} it ends with a status", status in (0, 1, 2), status)
+            self.check(f"{where} all memory is given back", numbers[2] == 0, numbers)
+            replies = out.splitlines(keepends=True)
+            if status == 2:
+                self.check(f"{where} it says why", said == b"no memory\n", said)
+                self.check(f"{where} what it wrote is a beginning", whole.startswith(out))
+            else:
+                # the run of the other commands alone, with memory
+                left = b"".join(
+                    line for i, line in enumerate(commands)
+                    if i >= len(replies) or replies[i].rstrip() != NO_MEMORY
+                )
+                others = b"".join(reply for reply in replies if reply.rstrip() != NO_MEMORY)
+                self.check(f"{where} the others are as without it", self.run(left)[1] == others)
+            n += 1
+
+    def statuses(self):
+        cases = [
+            ("the end of the input", b"frequent s 8\nstatus s\n", 0, b"", 2),
+            ("a last line without its end", b"frequent s 8\nstatus s", 0, b"", 2),
+            ("no input", b"", 0, b"", 0),
+            ("a bad line", b"frequent s 8\nwhat\nstatus s\n", 1, b"", 2),
+            ("a line that is not UTF-8", b"frequent s 8\n\xff\n", 1, b"", 2),
+        ]
+        for name, lines, wanted, text, count in cases:
+            status, out, said, _ = self.run(lines)
+            holds = status == wanted and said == text and len(out.splitlines()) == count
+            self.check(f"status after {name}", holds, (status, out, said))
+
+    def failing_streams(self):
+        lines = WORKED * 3
+        with open("/dev/full", "wb") as full:
+            ran = subprocess.run([self.program], input=lines, stdout=full, stderr=subprocess.PIPE, timeout=60)
+        self.check("a full device", (ran.returncode, ran.stderr) == (2, b"input or output failed\n"), ran)
+        read_end, write_end = os.pipe()
+        os.close(read_end)
+        ran = subprocess.run([self.program], input=lines, stdout=write_end, stderr=subprocess.PIPE, timeout=60)
+        os.close(write_end)
+        self.check("a closed pipe", (ran.returncode, ran.stderr) == (2, b"input or output failed\n"), ran)
+        ran = subprocess.run(
+            ["/bin/sh", "-c", '"$0" >&-', self.program], input=lines, stderr=subprocess.PIPE, timeout=60
+        )
+        self.check("a closed output", (ran.returncode, ran.stderr) == (2, b"input or output failed\n"), ran)
+        directory = os.open(HERE, os.O_RDONLY)
+        ran = subprocess.run([self.program], stdin=directory, capture_output=True, timeout=60)
+        os.close(directory)
+        self.check("an input that cannot be read", (ran.returncode, ran.stderr) == (2, b"input or output failed\n"), ran)
+
+    def sizes(self):
+        """Shapes of the greatest sizes, where the process may have little memory: an answer, and no death."""
+        lines = b"bloom f 137438953152 1 9001\ncounti c 255 4210751 9001\nfrequent s 1073741824\nadd s 1 a\nask s a\n"
+        limited = 'ulimit -v 262144; exec "$0"'
+        ran = subprocess.run(["/bin/sh", "-c", limited, self.program], input=lines, capture_output=True, timeout=60)
+        wanted = b"refused NoMemory\nrefused NoMemory\nok\nok\nestimate 1 lower 1 upper 1\n"
+        self.check("the greatest sizes", (ran.returncode, ran.stdout) == (0, wanted), ran)
+
+
+def main():
+    program = os.path.abspath(sys.argv[1])
+    with tempfile.TemporaryDirectory() as work:
+        tests = Tests(program, work)
+        worked = tests.refused_in_turn("worked lines", WORKED)
+        many = tests.refused_in_turn("two hundred lines", mixed())
+        tests.statuses()
+        tests.failing_streams()
+        tests.sizes()
+        print(f"requests refused in turn: {worked} and {many}")
+        print(f"{tests.passed} passed, {tests.failed} failed")
+    sys.exit(1 if tests.failed else 0)
+
+
+main()
