@@ -2,9 +2,9 @@
 
 #[path = "../murmur3.rs"]
 mod murmur3;
+mod sketch;
 
-use murmur3::Murmur3;
-use std::hash::{Hash, Hasher};
+use sketch::{CountMin, Refusal, SignedCountMin};
 use std::hint::black_box;
 use std::time::Instant;
 
@@ -25,132 +25,8 @@ unsafe extern "C" {
     fn rattle_count_merge(task: &Task, numbers: *const u64, len: usize) -> u64;
     fn rattle_count_halve(task: &Task, numbers: *const u64, len: usize) -> u64;
     fn rattle_count_decay(task: &Task, numbers: *const u64, len: usize) -> u64;
-}
-
-#[inline(always)]
-fn hash_of<T: Hash>(item: &T, seed: u64) -> u64 {
-    let mut hasher = Murmur3::with_seed(seed);
-    item.hash(&mut hasher);
-    hasher.finish()
-}
-
-/// A divisor with its multiplier, by which a remainder takes products and no division.
-#[derive(Clone, Copy)]
-struct Divisor {
-    divisor: u64,
-    multiplier: u128,
-}
-
-impl Divisor {
-    fn new(divisor: u64) -> Self {
-        Divisor {
-            divisor,
-            multiplier: u128::MAX / divisor as u128 + 1,
-        }
-    }
-
-    #[inline(always)]
-    fn rem(&self, a: u64) -> u64 {
-        let low = self.multiplier.wrapping_mul(a as u128);
-        let d = self.divisor as u128;
-        let lo = (low as u64) as u128 * d;
-        let hi = (low >> 64) * d;
-        ((hi + (lo >> 64)) >> 64) as u64
-    }
-}
-
-#[derive(Debug)]
-enum Refusal {
-    Mismatch,
-    WeightOverflow,
-}
-
-/// The Count-Min sketch as a Rust programmer would write it.
-struct CountMin {
-    buckets: usize,
-    divisor: Divisor,
-    seed: u64,
-    row_seeds: Vec<u64>,
-    cells: Vec<u64>,
-    total: u64,
-}
-
-impl CountMin {
-    fn new(hashes: u8, buckets: u32, seed: u64) -> Self {
-        CountMin {
-            buckets: buckets as usize,
-            divisor: Divisor::new(buckets as u64),
-            seed,
-            row_seeds: (0..hashes as u64).map(|row| hash_of(&row, seed)).collect(),
-            cells: vec![0; hashes as usize * buckets as usize],
-            total: 0,
-        }
-    }
-
-    #[inline]
-    fn update<T: Hash>(&mut self, item: T) -> Result<(), Refusal> {
-        self.update_with_weight(item, 1)
-    }
-
-    #[inline]
-    fn update_with_weight<T: Hash>(&mut self, item: T, weight: u64) -> Result<(), Refusal> {
-        if weight == 0 {
-            return Ok(());
-        }
-        let total = self
-            .total
-            .checked_add(weight)
-            .ok_or(Refusal::WeightOverflow)?;
-        for (row, seed) in self.row_seeds.iter().enumerate() {
-            let bucket = self.divisor.rem(hash_of(&item, *seed)) as usize;
-            self.cells[row * self.buckets + bucket] += weight;
-        }
-        self.total = total;
-        Ok(())
-    }
-
-    #[inline]
-    fn estimate<T: Hash>(&self, item: T) -> u64 {
-        let mut least = u64::MAX;
-        for (row, seed) in self.row_seeds.iter().enumerate() {
-            let bucket = self.divisor.rem(hash_of(&item, *seed)) as usize;
-            least = least.min(self.cells[row * self.buckets + bucket]);
-        }
-        least
-    }
-
-    fn merge(&mut self, other: &CountMin) -> Result<(), Refusal> {
-        if self.buckets != other.buckets
-            || self.row_seeds.len() != other.row_seeds.len()
-            || self.seed != other.seed
-        {
-            return Err(Refusal::Mismatch);
-        }
-        let total = self
-            .total
-            .checked_add(other.total)
-            .ok_or(Refusal::WeightOverflow)?;
-        for (cell, more) in self.cells.iter_mut().zip(&other.cells) {
-            *cell += more;
-        }
-        self.total = total;
-        Ok(())
-    }
-
-    fn halve(&mut self) {
-        for cell in &mut self.cells {
-            *cell /= 2;
-        }
-        self.total /= 2;
-    }
-
-    fn decay(&mut self, numerator: u64, denominator: u64) {
-        let scaled = |value: u64| (value as u128 * numerator as u128 / denominator as u128) as u64;
-        for cell in &mut self.cells {
-            *cell = scaled(*cell);
-        }
-        self.total = scaled(self.total);
-    }
+    fn rattle_count_write(task: &Task, numbers: *const u64, len: usize) -> u64;
+    fn rattle_count_read(task: &Task, numbers: *const u64, len: usize) -> u64;
 }
 
 fn empty(task: &Task) -> CountMin {
@@ -224,12 +100,47 @@ fn rust_decay(task: &Task, numbers: &[u64]) -> Result<u64, Refusal> {
     Ok(answer(&sketch, numbers, 1))
 }
 
+fn filled_signed(task: &Task, numbers: &[u64]) -> Result<SignedCountMin, Refusal> {
+    let mut sketch = SignedCountMin::new(task.hashes, task.buckets, 9001);
+    for n in numbers {
+        sketch.update_with_weight(*n, task.weight as i64)?;
+    }
+    Ok(sketch)
+}
+
+fn rust_write(task: &Task, numbers: &[u64]) -> Result<u64, Refusal> {
+    let sketch = filled_signed(task, numbers)?;
+    let mut image = sketch.serialize()?;
+    for _ in 0..task.turns {
+        image = black_box(sketch.serialize()?);
+    }
+    Ok(digest(&image))
+}
+
+fn rust_read(task: &Task, numbers: &[u64]) -> Result<u64, Refusal> {
+    let mut sketch = filled_signed(task, numbers)?;
+    let image = sketch.serialize()?;
+    for _ in 0..task.turns {
+        sketch = black_box(SignedCountMin::deserialize_with_seed(&image, 9001)?);
+    }
+    Ok(digest(&sketch.serialize()?))
+}
+
+/// What bytes come to.
+fn digest(bytes: &[u8]) -> u64 {
+    bytes.iter().fold(0, |all: u64, byte| all.wrapping_mul(31).wrapping_add(*byte as u64))
+}
+
 type Rattle = unsafe extern "C" fn(&Task, *const u64, usize) -> u64;
 
 type Rust = fn(&Task, &[u64]) -> Result<u64, Refusal>;
 
-/// The least time of each side over several turns, by turns, and their ratio.
+/// The least time of each side over several turns, by turns, and their ratio. It does nothing unless the name has each
+/// word that the program was given.
 fn compare(name: &str, task: &Task, numbers: &[u64], count: u64, rattle: Rattle, rust: Rust) {
+    if std::env::args().skip(1).any(|word| !name.contains(&word)) {
+        return;
+    }
     let mut least = (f64::MAX, f64::MAX);
     for _ in 0..21 {
         let start = Instant::now();
@@ -318,5 +229,11 @@ fn main() {
             rattle_count_decay,
             rust_decay,
         );
+        let task = Task {
+            weight: black_box(1000),
+            ..task(500)
+        };
+        compare("write", &task, few, cells, rattle_count_write, rust_write);
+        compare("read", &task, few, cells, rattle_count_read, rust_read);
     }
 }

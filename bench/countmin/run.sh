@@ -1,5 +1,6 @@
 #!/usr/bin/env bash
-# Proves and builds the loops over copies of the crates, builds the driver beside them, and runs it.
+# Proves and builds the loops over copies of the crates, builds the driver beside them, and runs it. Words choose what is
+# timed: the rows whose name has each word.
 set -eu
 cd "$(dirname "$0")"
 crates=out/crates
@@ -17,4 +18,4 @@ printf 'sketch_base:\nsketch_countmin: sketch_base\ncount_loops staticlib: sketc
 heap="$(dirname "$(rt doc)")/c/liblibc_c.a"
 rustc --edition 2024 -O -C codegen-units=1 -C target-cpu=x86-64-v2 driver.rs -o out/driver \
     -L "$crates/count_loops/out" -l static=count_loops -C link-arg="$heap"
-out/driver
+out/driver "$@"

@@ -1,5 +1,8 @@
 //! Times the proved filters beside plain Rust, in one process.
 
+mod sketch;
+
+use sketch::Filter;
 use std::hint::black_box;
 
 /// The turns of which the least time counts.
@@ -36,110 +39,14 @@ unsafe extern "C" {
         unions: u64,
         intersections: u64,
     ) -> u64;
-}
-
-const P1: u64 = 0x9E37_79B1_85EB_CA87;
-const P2: u64 = 0xC2B2_AE3D_27D4_EB4F;
-const P3: u64 = 0x1656_67B1_9E37_79F9;
-const P4: u64 = 0x85EB_CA77_C2B2_AE63;
-const P5: u64 = 0x27D4_EB2F_1656_67C5;
-
-/// XXH64 of the eight bytes of a number.
-#[inline(always)]
-fn xxh64(n: u64, seed: u64) -> u64 {
-    let lane = n.wrapping_mul(P2).rotate_left(31).wrapping_mul(P1);
-    let mut h = seed.wrapping_add(P5).wrapping_add(8) ^ lane;
-    h = h.rotate_left(27).wrapping_mul(P1).wrapping_add(P4);
-    h = (h ^ (h >> 33)).wrapping_mul(P2);
-    h = (h ^ (h >> 29)).wrapping_mul(P3);
-    h ^ (h >> 32)
-}
-
-/// A Bloom filter as a Rust programmer would write it, for numbers.
-struct Filter {
-    words: Vec<u64>,
-    capacity: u64,
-    multiplier: u128,
-    num_hashes: u16,
-    seed: u64,
-    bits_used: u64,
-}
-
-impl Filter {
-    fn with_size(num_bits: u64, num_hashes: u16) -> Self {
-        let num_words = num_bits.div_ceil(64);
-        let capacity = 64 * num_words;
-        Filter {
-            words: vec![0; num_words as usize],
-            capacity,
-            multiplier: u128::MAX / capacity as u128 + 1,
-            num_hashes,
-            seed: 9001,
-            bits_used: 0,
-        }
-    }
-
-    /// A remainder by products, without a division.
-    #[inline(always)]
-    fn position(&self, hash: u64) -> u64 {
-        let low = self.multiplier.wrapping_mul((hash >> 1) as u128);
-        let below = (low as u64 as u128 * self.capacity as u128) >> 64;
-        (((low >> 64) * self.capacity as u128 + below) >> 64) as u64
-    }
-
-    #[inline(always)]
-    fn insert(&mut self, n: u64) {
-        let h0 = xxh64(n, self.seed);
-        let h1 = xxh64(n, h0);
-        let mut hash = h0;
-        for _ in 0..self.num_hashes {
-            hash = hash.wrapping_add(h1);
-            let position = self.position(hash);
-            let word = &mut self.words[(position / 64) as usize];
-            let bit = 1 << (position % 64);
-            self.bits_used += (*word & bit == 0) as u64;
-            *word |= bit;
-        }
-    }
-
-    #[inline(always)]
-    fn contains(&self, n: u64) -> bool {
-        let h0 = xxh64(n, self.seed);
-        let h1 = xxh64(n, h0);
-        let mut hash = h0;
-        for _ in 0..self.num_hashes {
-            hash = hash.wrapping_add(h1);
-            let position = self.position(hash);
-            if self.words[(position / 64) as usize] >> (position % 64) & 1 == 0 {
-                return false;
-            }
-        }
-        true
-    }
-
-    fn is_compatible(&self, other: &Filter) -> bool {
-        self.words.len() == other.words.len() && self.num_hashes == other.num_hashes && self.seed == other.seed
-    }
-
-    fn union(&mut self, other: &Filter) {
-        assert!(self.is_compatible(other));
-        let mut size = 0;
-        for (word, other) in self.words.iter_mut().zip(&other.words) {
-            *word |= other;
-            size += word.count_ones() as u64;
-        }
-        self.bits_used = size;
-    }
-
-    fn intersect(&mut self, other: &Filter) {
-        assert!(self.is_compatible(other));
-        let mut size = 0;
-        for (word, other) in self.words.iter_mut().zip(&other.words) {
-            *word &= other;
-            size += word.count_ones() as u64;
-        }
-        self.bits_used = size;
-    }
+    fn rattle_images(
+        num_bits: u64,
+        num_hashes: u16,
+        numbers: *const u64,
+        numbers_len: usize,
+        writes: u64,
+        reads: u64,
+    ) -> u64;
 }
 
 #[inline(never)]
@@ -179,6 +86,29 @@ fn rust_sets(num_bits: u64, num_hashes: u16, numbers: &[u64], others: &[u64], un
         sizes = sizes.wrapping_mul(31).wrapping_add(filter.bits_used);
     }
     sizes
+}
+
+#[inline(never)]
+fn rust_images(num_bits: u64, num_hashes: u16, numbers: &[u64], writes: u64, reads: u64) -> u64 {
+    let mut filter = Filter::with_size(num_bits, num_hashes);
+    for n in numbers {
+        filter.insert(*n);
+    }
+    let mut image = filter.serialize();
+    for _ in 0..writes {
+        image = black_box(filter.serialize());
+    }
+    let mut sizes = 0u64;
+    for _ in 0..reads {
+        filter = Filter::deserialize(&image).unwrap();
+        sizes = sizes.wrapping_mul(31).wrapping_add(filter.bits_used);
+    }
+    sizes.wrapping_add(digest(&image)).wrapping_add(digest(&filter.serialize()).wrapping_mul(7))
+}
+
+/// What bytes come to.
+fn digest(bytes: &[u8]) -> u64 {
+    bytes.iter().fold(0, |all: u64, byte| all.wrapping_mul(31).wrapping_add(*byte as u64))
 }
 
 /// The time that this thread has had on a processor, in seconds.
@@ -221,7 +151,7 @@ fn compare(name: &str, more: u64, each: u64, rattle: &dyn Fn(u64) -> u64, rust: 
 
 /// Numbers that are all different, from a place on.
 fn numbers(from: u64, count: u64) -> Vec<u64> {
-    (from..from + count).map(|n| n.wrapping_mul(P1)).collect()
+    (from..from + count).map(|n| n.wrapping_mul(0x9E37_79B1_85EB_CA87)).collect()
 }
 
 /// Items are inserted, and then looked for, and so are others.
@@ -295,10 +225,35 @@ fn compare_sets(bits: u32, count: u64, many: u64) {
     );
 }
 
+/// Images of one filter are written, and read.
+fn compare_images(bits: u32, count: u64, many: u64) {
+    let num_bits = 1u64 << bits;
+    let inserted = numbers(0, count);
+    let rattle = |writes, reads| unsafe {
+        rattle_images(num_bits, black_box(7), inserted.as_ptr(), inserted.len(), writes, reads)
+    };
+    let rust = |writes, reads| rust_images(num_bits, black_box(7), &inserted, writes, reads);
+    compare(
+        &format!("serialize, 2^{bits} bits, a word"),
+        many,
+        num_bits / 64,
+        &|turns| rattle(turns, 0),
+        &|turns| rust(turns, 0),
+    );
+    compare(
+        &format!("deserialize, 2^{bits} bits, a word"),
+        many,
+        num_bits / 64,
+        &|turns| rattle(0, turns),
+        &|turns| rust(0, turns),
+    );
+}
+
 fn main() {
     println!("{:<32} {:>12} {:>12} {:>8}", "what", "proved, ns", "plain, ns", "ratio");
     compare_items(20, 1 << 16, 4);
     compare_sets(20, 1000, 200);
     compare_items(27, 1 << 18, 2);
     compare_sets(27, 1 << 15, 25);
+    compare_images(27, 1 << 15, 10);
 }

@@ -1,0 +1,165 @@
+//! Some of the program's lines as a Rust programmer would serve them: those that make a sketch, feed it and ask it.
+#![allow(dead_code)]
+
+#[path = "../countmin/sketch.rs"]
+mod countmin;
+#[path = "../filters/sketch.rs"]
+mod filters;
+#[path = "../frequent/sketch.rs"]
+mod frequent;
+#[path = "../murmur3.rs"]
+mod murmur3;
+#[path = "../xxhash.rs"]
+mod xxhash;
+
+use countmin::CountMin;
+use filters::Filter;
+use frequent::Frequent;
+use std::collections::HashMap;
+use std::hash::{Hash, Hasher};
+use std::io::{self, BufRead, BufReader, BufWriter, Write};
+use std::process::ExitCode;
+use xxhash::Xxh64;
+
+/// The number e is the first over the second.
+const E_NUMERATOR: u128 = 2_718_281_828_459_045_235;
+const E_DENOMINATOR: u128 = 1_000_000_000_000_000_000;
+
+enum Sketch {
+    Frequent(Frequent<String>),
+    Count(CountMin),
+    Bloom(Filter),
+}
+
+/// The two hashes by which a filter finds an item's positions.
+fn filter_hashes(item: &str, seed: u64) -> (u64, u64) {
+    let hash = |seed| {
+        let mut hasher = Xxh64::with_seed(seed);
+        item.hash(&mut hasher);
+        hasher.finish()
+    };
+    let h0 = hash(seed);
+    (h0, hash(h0))
+}
+
+/// Does the command of a line, and answers whether it is one.
+fn serve(line: &str, sketches: &mut HashMap<String, Sketch>, out: &mut impl Write) -> io::Result<bool> {
+    let mut words = line.split(' ').filter(|word| !word.is_empty());
+    let Some(verb) = words.next() else {
+        return Ok(true);
+    };
+    let Some(name) = words.next() else {
+        return Ok(false);
+    };
+    let rest = [words.next(), words.next(), words.next(), words.next()];
+    let made = match (verb, rest) {
+        ("add", [Some(weight), Some(item), None, _]) => {
+            let Ok(weight) = weight.parse() else {
+                return Ok(false);
+            };
+            let done = match sketches.get_mut(name) {
+                None => "refused NoSuchName",
+                Some(Sketch::Frequent(sketch)) => match sketch.update_with_count(item.to_string(), weight) {
+                    Ok(()) => "ok",
+                    Err(_) => "refused WeightOverflow",
+                },
+                Some(Sketch::Count(sketch)) => match sketch.update_with_weight(item, weight) {
+                    Ok(()) => "ok",
+                    Err(_) => "refused WeightOverflow",
+                },
+                Some(Sketch::Bloom(_)) => "refused WrongKind",
+            };
+            writeln!(out, "{done}")?;
+            return Ok(true);
+        }
+        ("insert", [Some(item), None, ..]) => {
+            let done = match sketches.get_mut(name) {
+                None => "refused NoSuchName",
+                Some(Sketch::Bloom(filter)) => {
+                    let (h0, h1) = filter_hashes(item, filter.seed);
+                    filter.insert_hashes(h0, h1);
+                    "ok"
+                }
+                Some(_) => "refused WrongKind",
+            };
+            writeln!(out, "{done}")?;
+            return Ok(true);
+        }
+        ("ask", [Some(item), None, ..]) => {
+            match sketches.get(name) {
+                None => writeln!(out, "refused NoSuchName")?,
+                Some(Sketch::Frequent(sketch)) => {
+                    let count = sketch.table.get(&item.to_string());
+                    let estimate = count.map_or(0, |count| count + sketch.error);
+                    let lower = count.unwrap_or(0);
+                    writeln!(out, "estimate {estimate} lower {lower} upper {}", lower + sketch.error)?;
+                }
+                Some(Sketch::Count(sketch)) => {
+                    let estimate = sketch.estimate(item);
+                    writeln!(out, "estimate {estimate} lower {estimate} upper {}", upper(sketch, estimate))?;
+                }
+                Some(Sketch::Bloom(filter)) => {
+                    let (h0, h1) = filter_hashes(item, filter.seed);
+                    let said = if filter.contains_hashes(h0, h1) { "yes" } else { "no" };
+                    writeln!(out, "{said}")?;
+                }
+            }
+            return Ok(true);
+        }
+        ("frequent", [Some(max), None, ..]) => match max.parse() {
+            Ok(max) => Sketch::Frequent(Frequent::new(max)),
+            Err(_) => return Ok(false),
+        },
+        ("countu", [Some(hashes), Some(buckets), Some(seed), None]) => {
+            match (hashes.parse(), buckets.parse(), seed.parse()) {
+                (Ok(hashes), Ok(buckets), Ok(seed)) => Sketch::Count(CountMin::new(hashes, buckets, seed)),
+                _ => return Ok(false),
+            }
+        }
+        ("bloom", [Some(bits), Some(hashes), Some(seed), None]) => match (bits.parse(), hashes.parse(), seed.parse()) {
+            (Ok(bits), Ok(hashes), Ok(seed)) => {
+                let mut filter = Filter::with_size(bits, hashes);
+                filter.seed = seed;
+                Sketch::Bloom(filter)
+            }
+            _ => return Ok(false),
+        },
+        _ => return Ok(false),
+    };
+    if sketches.contains_key(name) {
+        writeln!(out, "refused NameTaken")?;
+    } else {
+        sketches.insert(name.to_string(), made);
+        writeln!(out, "ok")?;
+    }
+    Ok(true)
+}
+
+/// An estimate with e over the buckets of the total added.
+fn upper(sketch: &CountMin, estimate: u64) -> u64 {
+    let scale = E_DENOMINATOR * sketch.buckets as u128;
+    let margin = sketch.total as u128 * E_NUMERATOR / scale;
+    u64::try_from(estimate as u128 + margin).unwrap_or(u64::MAX)
+}
+
+fn main() -> io::Result<ExitCode> {
+    let mut input = BufReader::with_capacity(1 << 16, io::stdin().lock());
+    let mut out = BufWriter::with_capacity(1 << 16, io::stdout().lock());
+    let mut sketches = HashMap::new();
+    let mut line = String::new();
+    for number in 1u64.. {
+        line.clear();
+        if input.read_line(&mut line)? == 0 {
+            break;
+        }
+        let said = line.strip_suffix('\n').unwrap_or(&line);
+        let said = said.strip_suffix('\r').unwrap_or(said);
+        if !serve(said, &mut sketches, &mut out)? {
+            writeln!(out, "bad line {number}")?;
+            out.flush()?;
+            return Ok(ExitCode::from(1));
+        }
+    }
+    out.flush()?;
+    Ok(ExitCode::SUCCESS)
+}
