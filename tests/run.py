@@ -4,6 +4,7 @@
 It takes the path of the program, and prints a line for each test that failed and then 'N passed, M failed'.
 """
 import os
+import shutil
 import subprocess
 import sys
 import tempfile
@@ -96,7 +97,8 @@ class Tests:
         self.passed = 0
         self.failed = 0
         self.library = os.path.join(work, "refused_memory.so")
-        compiler = os.environ.get("CC", "cc")
+        names = [os.environ.get("CC", "cc"), "gcc", "clang"]
+        compiler = next(name for name in names if shutil.which(name))
         source = os.path.join(HERE, "refused_memory.c")
         subprocess.run(
             [compiler, "-shared", "-fPIC", "-O1", "-o", self.library, source, "-ldl"], check=True
