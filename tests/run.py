@@ -13,7 +13,7 @@ HERE = os.path.dirname(os.path.abspath(__file__))
 
 NO_MEMORY = b"refused NoMemory"
 
-# The main job, and each kind with its joins, images and refusals.
+# The main job, and each kind with its joins, images and refusals. The one purge leaves no choice: all counts are 1.
 WORKED = """frequent s 8
 add s 1 a
 add s 1 b
@@ -70,7 +70,7 @@ status s
 
 
 def mixed():
-    """Two hundred lines of all kinds, whose only purges leave no choice: all counts are equal then."""
+    """Two hundred lines of all kinds. No sketch of frequent items is purged, so that no reply is open."""
     lines = ["frequent s 16", "frequent t 8", "countu c 2 16 9001", "counti i 2 16 9001", "bloom f 256 3 9001"]
     for n in range(24):
         lines += [
