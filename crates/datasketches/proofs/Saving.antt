@@ -25,11 +25,6 @@ use Rattle.datasketches.specs.declared.sketch.Sketch.{Sketch}
 pub told_call : {T : Type 0} (result : Result (Reply T) Refusal) (error : ErrorValue) → IsErrAnd result (λ refusal. refusal ≡ Call error) → told result ≡ refused error
 told_call result error from = let p = err_from_is_err_and result from in ap told p.1 ∙ ap Refused p.2
 
--- a test that found nothing
-pub not_there : {V : Type 0} (found : Option V) → is_some found ≡ false → found ≡ None
-not_there None e = refl
-not_there (Some v) e = cc
-
 module _ {T : Type 0} (eq : T → T → Bool) where
   refused_case : (name : List ℕ) (shape : Shape) (old : List (List ℕ × Sketch T)) (reply : Reply T) (error : ErrorValue) (fault : Option Fault) → reply ≡ refused error → error ≡ refusal_of fault →
       MatchOption fault (MakesEmpty eq name shape old reply old) (λ f. Refuses (refused (invalid_argument f)) old reply old)

@@ -12,10 +12,13 @@ use Rattle.sketch_frequencies.specs.Stands.{HasFewItems, KeepsTailBudget}
 use Rattle.sketch_frequencies.specs.State.{FrequentState, capacity}
 use Rattle.sketch_frequencies.specs.Tables.{count_of}
 use Rattle.datasketches.specs.Fits.{Fits}
-use Rattle.datasketches.specs.Histories.{History, Assignment}
+use Rattle.datasketches.specs.Histories.{History, Assignment, after_one}
 use Rattle.datasketches.specs.Histories.History.{OfFrequent, OfCountI64, OfCountU64, OfBloom}
 use Rattle.datasketches.specs.Names.{at_name}
 use Rattle.datasketches.specs.State.{SessionState}
+use Rattle.datasketches.specs.Steps.{Step}
+use Rattle.datasketches.specs.declared.command.Command.{Command}
+use Rattle.datasketches.specs.declared.reply.Reply.{Reply}
 use Rattle.datasketches.specs.declared.sketch.Sketch.{Sketch}
 use Rattle.datasketches.specs.declared.sketch.Sketch.TheVariants.{Frequent, CountI64, CountU64, Bloom}
 
@@ -80,3 +83,11 @@ module _ {T C : Type 0} (eq : T → T → Bool) (codec : Codec C) (content : T �
   LeastCellIsRaisedByOthers = (s : CountState) (h : CountHistory) → IsCounted s h → 0 < s.buckets → IsExact h
       → (bytes : List ℕ) (least : ℤ) → IsLeastCell s bytes least
       → IsLeast s.hashes (others_share s.buckets s.seed h bytes) (least -ℤ own_value h bytes)
+
+module _ {T C : Type 0} (eq : T → T → Bool) (input : T → List (List ℕ)) (codec : Codec C) (content : T → C) where
+  -- whatever steps are made of, as of the lines of a program: what a session fitted, it fits after a step as the command
+  -- and its reply made of it
+  abbrev pub StepKeepsFit : Type 0
+  StepKeepsFit = (old new : SessionState T) (command : Command T) (reply : Reply T) (a : Assignment T)
+      → Fits eq codec content old a → Step eq input codec content old command reply new
+      → Fits eq codec content new (after_one input a command reply)

@@ -1,5 +1,5 @@
 -- Values under names.
-use Rattle.std.specs.Prelude.{◌≡◌, ◌<◌, ℕ, List, [], ◌∷◌, map, Option, Some, None, IfSome, bytes_eq, if◌then◌else◌}
+use Rattle.std.specs.Prelude.{◌≡◌, ◌<◌, ℕ, List, [], ◌∷◌, Option, Some, None, IfSome, bytes_eq, if◌then◌else◌}
 use Rattle.std.specs.Global.{Global}
 use Rattle.std.specs.List.{slice_get}
 use Rattle.std.specs.Map.{lookup}
@@ -33,10 +33,6 @@ module _ {V : Type 0} where
   -- each name has the value that it had
   abbrev pub AreSame : List (List ℕ × V) → List (List ℕ × V) → Type 0
   AreSame old new = (name : List ℕ) → at_name name new ≡ at_name name old
-
-  -- the values of a map, with the bytes of their names
-  abbrev pub by_names : List (Name × V) → List (List ℕ × V)
-  by_names entries = map (λ entry. (string_bytes entry.0, entry.1)) entries
 
   -- what stands at a place, if there is one
   abbrev pub at_place : Option ℕ → List V → Option V

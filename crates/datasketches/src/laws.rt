@@ -4,7 +4,7 @@
 //! A new session fits the assignment with no name, and [`run`](crate::Session::run) leaves a session that fits what
 //! its commands and replies made of the assignment. So the laws hold of each sketch of a session after any list of
 //! commands.
-ghost use Rattle.datasketches.specs.Laws.{HoldsFew, EnclosesWeights, ExactOfFew, WithinTailBudget, SmallSketchErrsLittle, LargeSketchErrsLittle, ContainsWhatIsDenoted, CellsAreShares, LeastCellIsRaisedByOthers};
+ghost use Rattle.datasketches.specs.Laws.{HoldsFew, EnclosesWeights, ExactOfFew, WithinTailBudget, SmallSketchErrsLittle, LargeSketchErrsLittle, ContainsWhatIsDenoted, CellsAreShares, LeastCellIsRaisedByOthers, StepKeepsFit};
 
 use sketch_countmin::laws as countmin;
 use sketch_frequencies::{FrequentItemValue, laws as frequencies};
@@ -37,4 +37,10 @@ pub fn what_counts_say<T: FrequentItemValue>()
 /// A filter says yes exactly where the set that its history denotes has all of the item's positions.
 pub fn what_filters_say<T: FrequentItemValue>()
     ensures denoted { ContainsWhatIsDenoted T.eq T.codec T.content }
+{}
+
+/// What a session fitted it fits after a step, with what the command and its reply made of it. So the promise holds
+/// wherever such steps are proved, as of the lines that a program serves.
+pub fn what_a_step_keeps<T: FrequentItemValue>()
+    ensures { StepKeepsFit T.eq T.hash_input T.codec T.content }
 {}
