@@ -37,6 +37,8 @@ fault_text fault.ErrorExceedsTotal = codes "weights and error exceed total weigh
 fault_text fault.InvalidUtf8 = codes "invalid UTF-8"
 fault_text fault.BadItem = codes "bad item"
 fault_text fault.NoMemory = codes "out of memory"
+fault_text fault.BadSampleSize = codes "sample size out of range"
+fault_text fault.BadWindows = codes "windows out of range"
 
 -- a fault's name
 abbrev pub fault_name : Fault → List ℕ
@@ -72,3 +74,5 @@ fault_name fault.ErrorExceedsTotal = codes "ErrorExceedsTotal"
 fault_name fault.InvalidUtf8 = codes "InvalidUtf8"
 fault_name fault.BadItem = codes "BadItem"
 fault_name fault.NoMemory = codes "NoMemory"
+fault_name fault.BadSampleSize = codes "BadSampleSize"
+fault_name fault.BadWindows = codes "BadWindows"

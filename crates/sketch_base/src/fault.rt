@@ -71,6 +71,10 @@ pub enum Fault {
     BadItem,
     /// No memory was to be had.
     NoMemory,
+    /// The number of counters that a purge samples is out of range.
+    BadSampleSize,
+    /// The number of windows is out of range.
+    BadWindows,
 }
 
 impl Fault {
@@ -111,6 +115,8 @@ impl Fault {
             Fault::InvalidUtf8 => "invalid UTF-8",
             Fault::BadItem => "bad item",
             Fault::NoMemory => "out of memory",
+            Fault::BadSampleSize => "sample size out of range",
+            Fault::BadWindows => "windows out of range",
         }
     }
 
@@ -151,6 +157,8 @@ impl Fault {
             Fault::InvalidUtf8 => "InvalidUtf8",
             Fault::BadItem => "BadItem",
             Fault::NoMemory => "NoMemory",
+            Fault::BadSampleSize => "BadSampleSize",
+            Fault::BadWindows => "BadWindows",
         }
     }
 }
