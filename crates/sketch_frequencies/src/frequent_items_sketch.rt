@@ -125,10 +125,10 @@ impl<T: Eq + Hash + Drop> FrequentItemsSketch<T> {
         if max_map_size > GREATEST_MAP_SIZE {
             return Err(Error::invalid_argument(Fault::MapSizeTooLarge));
         }
-        if sample_size < LEAST_SAMPLE_SIZE || sample_size > greatest_sample_of(max_map_size) {
-            return Err(Error::invalid_argument(Fault::BadSampleSize));
-        }
-        if sample_size % 2 != 0 {
+        if sample_size < LEAST_SAMPLE_SIZE
+            || sample_size % 2 != 0
+            || sample_size > greatest_sample_of(max_map_size)
+        {
             return Err(Error::invalid_argument(Fault::BadSampleSize));
         }
         let map = ReversePurgeItemHashMap::new(alloc, LEAST_MAP_SIZE)?;

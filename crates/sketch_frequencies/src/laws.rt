@@ -2,7 +2,7 @@
 //!
 //! The laws speak of the states that the calls of [`FrequentItemsSketch`] leave, as their contracts name them, with
 //! what an item says in place of the item.
-ghost use Rattle.std.specs.Prelude.{◌*◌, ◌<◌, ◌≤◌, IfOk, IfErr};
+ghost use Rattle.std.specs.Prelude.{◌≡◌, ◌*◌, ◌<◌, ◌≤◌, IfOk, IfErr};
 ghost use Rattle.sketch_frequencies.specs.History.{FrequentHistory, least_size, least_sample, total_weight, HasUsualSamples};
 ghost use Rattle.sketch_frequencies.specs.Image.{IsImageWritingRefusal};
 ghost use Rattle.sketch_frequencies.specs.Laws.{SpelledIsImage, ImageIsOfOne, ImageIsOfSome, ImageIsWithinTotal};
