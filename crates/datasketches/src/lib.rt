@@ -13,8 +13,6 @@ mod reply;
 mod session;
 mod shelf;
 mod sketch;
-#[cfg(test)]
-mod tests;
 
 pub use command::Command;
 pub use reply::{Refusal, Reply, Status};

@@ -21,8 +21,6 @@ mod seed_hash;
 mod short_copy;
 mod sketch_bytes;
 mod sketch_slice;
-#[cfg(test)]
-mod tests;
 mod words;
 mod xxhash;
 

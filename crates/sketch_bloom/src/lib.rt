@@ -12,8 +12,6 @@ mod image;
 pub mod laws;
 mod limits;
 mod set_operation;
-#[cfg(test)]
-mod tests;
 
 pub use bloom_filter::BloomFilter;
 pub use bloom_filter_builder::BloomFilterBuilder;

@@ -12,8 +12,6 @@ mod image;
 pub mod laws;
 mod limits;
 mod number_types;
-#[cfg(test)]
-mod tests;
 mod unsigned_count_min_value;
 
 pub use count_min_sketch::CountMinSketch;

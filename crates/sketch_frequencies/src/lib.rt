@@ -22,8 +22,6 @@ mod reverse_purge_item_iter;
 mod row;
 mod slot;
 mod slots;
-#[cfg(test)]
-mod tests;
 
 pub use error_type::ErrorType;
 pub use frequent_item_value::FrequentItemValue;

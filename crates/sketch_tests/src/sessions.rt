@@ -1,5 +1,5 @@
 //! Worked rows, each command once, the order of refusals, and the tail budget, over named sketches.
-use crate::{Command, Refusal, Reply, Session, Status};
+use datasketches::{Command, Refusal, Reply, Session, Status};
 use sketch_base::{Error, Fault};
 use sketch_frequencies::ErrorType;
 use std::alloc::Global;

@@ -1,7 +1,7 @@
 //! Worked rows, vectors from outside, printed texts, and that each call succeeds.
-use crate::count_min_sketch::bucket_count;
-use crate::laws::{merge_as_one_stream, restored, restored_from_bytes, what_images_say};
-use crate::{CountMinSketch, CountMinValue, Error, Fault, UnsignedCountMinValue};
+use sketch_base::Divisor;
+use sketch_countmin::laws::{merge_as_one_stream, restored, restored_from_bytes, what_images_say};
+use sketch_countmin::{CountMinSketch, CountMinValue, Error, Fault, UnsignedCountMinValue};
 use std::alloc::Global;
 use std::test::Fail;
 
@@ -10,7 +10,7 @@ fn bucket(hash: u64, num_buckets: u32) -> u64 {
     if num_buckets < 2 {
         return 0;
     }
-    bucket_count(num_buckets).rem(hash)
+    Divisor::new(num_buckets as u64).rem(hash)
 }
 
 #[test]

@@ -1,10 +1,8 @@
 //! Worked examples, and a larger run.
-use crate::error_type::ErrorType;
-use crate::frequent_item_value::FrequentItemValue;
-use crate::frequent_items_sketch::FrequentItemsSketch;
-use crate::laws;
-use crate::reverse_purge_item_hash_map::ReversePurgeItemHashMap;
 use sketch_base::{Error, Fault, SketchBytes, SketchSlice, murmur3_of};
+use sketch_frequencies::{
+    ErrorType, FrequentItemValue, FrequentItemsSketch, ReversePurgeItemHashMap, laws,
+};
 use std::alloc::Global;
 use std::hash::{Hash, Hasher};
 use std::process::Abort;

@@ -1,5 +1,5 @@
 //! Worked rows, vectors from outside, printed texts, and that each call succeeds.
-use crate::{BloomFilter, BloomFilterBuilder, Error, Fault, laws};
+use sketch_bloom::{BloomFilter, BloomFilterBuilder, Error, Fault, laws};
 use std::alloc::Global;
 use std::test::Fail;
 

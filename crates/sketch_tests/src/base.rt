@@ -3,7 +3,7 @@
 //! A number that is not published is that of a program in another language, written from the public descriptions.
 ghost use Rattle.std.specs.Prelude.{◌<◌};
 
-use crate::{
+use sketch_base::{
     Divisor, Error, ErrorKind, Family, Fault, MurmurHash3X64128, SketchBytes, SketchSlice,
     XxHash64, check_seed_hash, compute_seed_hash, murmur3_of, murmur3_of_u64, xxh64_of,
 };
