@@ -11,7 +11,7 @@ module _ {C : Type 0} (codec : Codec C) where
   abbrev pub SpelledIsImage : Type 0
   SpelledIsImage = (image : List ℕ) (s : FrequentState C) → IsSpelled codec image s → IsImage codec image s
 
-  -- no bytes are an image of two sketches, where equal items count as one
+  -- no bytes are an image of two sketches, where equal items count as one and sample sizes are left out
   abbrev pub ImageIsOfOne : Type 0
   ImageIsOfOne =
       (image : List ℕ) (s t : FrequentState C) → IsImage codec image s → IsImage codec image t →

@@ -15,8 +15,9 @@ use crate::frequent_items_sketch::FrequentItemsSketch;
 use sketch_base::Error;
 use std::alloc::Global;
 
-/// What is written is an image, no bytes are an image of two sketches, and they are one of some sketch exactly where no
-/// check fails. Whoever wrote the image, the counts and the error of what it says are at most the total.
+/// What is written is an image, no bytes are an image of two sketches but for their sample sizes, and they are one of
+/// some sketch exactly where no check fails. Whoever wrote the image, the counts and the error of what it says are at
+/// most the total.
 pub fn what_images_say<T: FrequentItemValue>()
     ensures spelled { SpelledIsImage T.codec }
     ensures one { ImageIsOfOne T.codec }
