@@ -1,0 +1,6 @@
+pub mod Newest
+pub mod Zips
+pub mod Outcomes
+pub mod Standing
+pub mod Steps
+pub mod Merging

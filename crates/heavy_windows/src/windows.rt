@@ -71,9 +71,10 @@ impl<T: Eq + Hash + Drop> Windows<T> {
         self.older.reserve(1)?;
         let newest = replace(&mut self.newest, window);
         self.older.push_back_reserved(newest);
-        if self.older.len() >= limit {
-            let _oldest = self.older.pop_front();
+        if self.older.len() < limit {
+            return Ok(());
         }
+        let _oldest = self.older.pop_front();
         Ok(())
     }
 
