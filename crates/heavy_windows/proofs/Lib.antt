@@ -4,3 +4,5 @@ pub mod Outcomes
 pub mod Standing
 pub mod Steps
 pub mod Merging
+pub mod Tenants
+pub mod Kept

@@ -41,8 +41,8 @@ module _ {T : Type 0} (eq : T → T → Bool) where
 
   join_total : (old window new : FrequentState T) → JoinsEqual eq old window new → new.total ≡ old.total + window.total
   join_total old window new j =
-      let own : j.own.total ≡ old.total = j.same_own.total in
-      let more : j.more.total ≡ window.total = j.same_more.total in
+      let own : j.own.total ≡ old.total = j.same_own.holds.total in
+      let more : j.more.total ≡ window.total = j.same_more.holds.total in
       ⊎_elim
       (λ (none : j.more.total ≡ 0). let e : new.total ≡ j.own.total = ap (λ s. s.total) (j.join.nothing none) in omega (arith, e, none, own, more))
       (λ (some : 0 < j.more.total). let e : new.total ≡ j.own.total + j.more.total = (j.join.added some).total in omega (arith, e, own, more))

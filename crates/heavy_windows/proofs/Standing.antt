@@ -20,7 +20,7 @@ module _ {T : Type 0} (eq : T → T → Bool) where
   window_updated max_map_size s s' item weight h stands budget is = record {
     stands = stands h is.stands;
     budget = budget h is.stands is.budget;
-    size = is.size;
+    sample = is.sample;
   }
 
   added_last : (max_map_size : ℕ) (item : T) (weight : ℕ) (hs front : List (FrequentHistory T)) (last : FrequentHistory T)
@@ -53,3 +53,17 @@ module _ {T : Type 0} (eq : T → T → Bool) where
       → ExtendsEach eq max_map_size windows (turned limit s windows) (turned_history limit max_map_size)
   opened limit max_map_size s windows fresh hs z =
       zip_turned (IsWindowOf eq max_map_size) limit s (fresh_history max_map_size) windows hs z fresh
+
+  -- the same of windows by what they are
+  pub opened_at : (limit max_map_size : ℕ) (s : FrequentState T) (windows before after : List (FrequentState T))
+      → before ≡ windows → after ≡ turned limit s windows → IsWindowOf eq max_map_size s (fresh_history max_map_size)
+      → ExtendsEach eq max_map_size before after (turned_history limit max_map_size)
+  opened_at limit max_map_size s windows before after b a fresh =
+      subst (λ ws. ExtendsEach eq max_map_size ws after (turned_history limit max_map_size)) (sym b)
+      (subst (λ ws. ExtendsEach eq max_map_size windows ws (turned_history limit max_map_size)) (sym a)
+        (opened limit max_map_size s windows fresh))
+
+  -- a new sketch is one of a fresh window
+  pub fresh_window : (max_map_size : ℕ) (s : FrequentState T) → StandsFor eq s (fresh_history max_map_size)
+      → KeepsTailBudget eq s (fresh_history max_map_size) → IsWindowOf eq max_map_size s (fresh_history max_map_size)
+  fresh_window max_map_size s stands budget = record { stands = stands; budget = budget; sample = refl }

@@ -4,14 +4,14 @@ use Rattle.std.specs.List.{AllZip}
 use Rattle.sketch_frequencies.specs.History.{FrequentHistory}
 use Rattle.sketch_frequencies.specs.Stands.{StandsFor, KeepsTailBudget}
 use Rattle.sketch_frequencies.specs.State.{FrequentState}
-use Rattle.heavy_windows.specs.Fresh.{IsOfSize}
+use Rattle.heavy_windows.specs.Fresh.{SamplesAsWindow}
 
 module _ {T : Type 0} (eq : T → T → Bool) where
-  -- the window is one of this history, keeps its tail budget, and only sketches of this greatest size took part
+  -- the window is one of this history, keeps its tail budget, and samples as one of this greatest size
   pub record IsWindowOf (max_map_size : ℕ) (s : FrequentState T) (h : FrequentHistory T) : Type 0 where
     pub stands : StandsFor eq s h
     pub budget : KeepsTailBudget eq s h
-    pub size : IsOfSize max_map_size h
+    pub sample : SamplesAsWindow max_map_size h
 
   -- each window is one of its history
   abbrev pub WindowsStandFor : ℕ → List (FrequentState T) → List (FrequentHistory T) → Type 0

@@ -1,5 +1,5 @@
 -- The windows of each tenant.
-use Rattle.std.specs.Prelude.{◌≡◌, ◌≢◌, ℕ, ◌≤◌, ◌==◌, List, [], length, sum_by, All, unwrap_or, None}
+use Rattle.std.specs.Prelude.{◌≡◌, ◌≢◌, ℕ, ◌<◌, ◌≤◌, ◌==◌, List, [], length, sum_by, All, Option, None, unwrap_or, IfSome}
 use Rattle.std.specs.Map.{lookup}
 use Rattle.sketch_frequencies.specs.State.{FrequentState}
 use Rattle.heavy_windows.specs.Sizes.{limits_fault}
@@ -12,9 +12,13 @@ pub record WindowsState (T : Type 0) : Type 0 where
   pub tenants : List (ℕ × List (FrequentState T))
 
 module _ {T : Type 0} where
-  -- the windows of a tenant, oldest first; an unknown one has none
+  -- the windows of a tenant, oldest first, if it is known
+  abbrev pub known : ℕ → WindowsState T → Option (List (FrequentState T))
+  known tenant s = lookup (λ key. tenant == key) s.tenants
+
+  -- the same; an unknown tenant has none
   abbrev pub at_tenant : ℕ → WindowsState T → List (FrequentState T)
-  at_tenant tenant s = unwrap_or (lookup (λ key. tenant == key) s.tenants) []
+  at_tenant tenant s = unwrap_or (known tenant s) []
 
   -- no tenant
   abbrev pub nothing_added : ℕ → ℕ → WindowsState T
@@ -22,13 +26,18 @@ module _ {T : Type 0} where
 
   -- the weight of all items of all windows
   abbrev pub windows_total : List (FrequentState T) → ℕ
-  windows_total windows = sum_by (λ s. s.total) windows
+  windows_total windows = sum_by (λ window. window.total) windows
 
-  -- each tenant has at most so many windows, of one greatest size
+  -- one window or more, at most so many, and each of this greatest size
+  pub record AreKept (limit max_map_size : ℕ) (windows : List (FrequentState T)) : Type 0 where
+    pub some : 0 < length windows
+    pub few : length windows ≤ limit
+    pub sizes : All (λ window. window.max_size ≡ max_map_size) windows
+
+  -- what holds of the windows of all tenants
   pub record IsWindows (s : WindowsState T) : Type 0 where
     pub limits : limits_fault s.limit s.max_map_size ≡ None
-    pub few : (tenant : ℕ) → length (at_tenant tenant s) ≤ s.limit
-    pub sizes : (tenant : ℕ) → All (λ window. window.max_size ≡ s.max_map_size) (at_tenant tenant s)
+    pub each : (tenant : ℕ) → IfSome (known tenant s) (AreKept s.limit s.max_map_size)
 
   -- no windows changed but those of this tenant
   pub record OnlyChanges (tenant : ℕ) (old new : WindowsState T) : Type 0 where
