@@ -88,3 +88,38 @@ module _ {T : Type 0} where
       let none : length windows ≡ 0 = ap length e in
       let some = is.some in
       omega (arith, none, some)
+
+  newest_size : (max_map_size : ℕ) (fresh : FrequentState T) (windows : List (FrequentState T))
+      → fresh.max_size ≡ max_map_size → All (λ w. w.max_size ≡ max_map_size) windows
+      → (newest fresh windows).max_size ≡ max_map_size
+  newest_size max_map_size fresh [] e sizes = e
+  newest_size max_map_size fresh (w ∷ ws) e sizes =
+      newest_size max_map_size w ws (sizes 0 w (omega arith)) (All-drop (λ w. w.max_size ≡ max_map_size) 1 (w ∷ ws) sizes)
+
+  pub kept_added : (eq : T → T → Bool) (limit max_map_size : ℕ) (fresh : FrequentState T) (old new : List (FrequentState T))
+      (item : T) (weight : ℕ) → AreKept limit max_map_size old → fresh.max_size ≡ max_map_size
+      → AddsToNewest eq fresh old item weight new → AreKept limit max_map_size new
+  kept_added eq limit max_map_size fresh old new item weight is e adds =
+      let front = take (length old - 1) old in
+      let n : length (front ++ adds.window ∷ []) ≡ length front + 1 = length-append front (adds.window ∷ []) in
+      let some = is.some in
+      let few = is.few in
+      let size = adds.step.max_size ∙ newest_size max_map_size fresh old e is.sizes in
+      subst (λ ws. AreKept limit max_map_size ws) (sym adds.windows)
+      (record {
+        some = omega (arith, n);
+        few = omega (arith, n, some, few, length-take (length old - 1) old);
+        sizes = All-append (λ w. w.max_size ≡ max_map_size) front (adds.window ∷ [])
+            (All-take (λ w. w.max_size ≡ max_map_size) (length old - 1) old is.sizes)
+            (one_of_size max_map_size adds.window size);
+      })
+
+  pub kept_added_either : {E : Type 0} (eq : T → T → Bool) (limit max_map_size : ℕ) (fresh : FrequentState T)
+      (old new : List (FrequentState T)) (item : T) (weight : ℕ) (r : Result (Unit {0}) E)
+      → AreKept limit max_map_size old → fresh.max_size ≡ max_map_size
+      → OnOk r ((any : FrequentState T) → AddsToNewest eq any old item weight new) → OnErr r (new ≡ old)
+      → AreKept limit max_map_size new
+  kept_added_either eq limit max_map_size fresh old new item weight (Ok x) is e adds same =
+      kept_added eq limit max_map_size fresh old new item weight is e (adds fresh)
+  kept_added_either eq limit max_map_size fresh old new item weight (Err x) is e adds same =
+      subst (λ ws. AreKept limit max_map_size ws) (sym same) is

@@ -67,3 +67,14 @@ module _ {T : Type 0} (eq : T → T → Bool) where
   pub fresh_window : (max_map_size : ℕ) (s : FrequentState T) → StandsFor eq s (fresh_history max_map_size)
       → KeepsTailBudget eq s (fresh_history max_map_size) → IsWindowOf eq max_map_size s (fresh_history max_map_size)
   fresh_window max_map_size s stands budget = record { stands = stands; budget = budget; sample = refl }
+
+  -- a first window, by what the windows are
+  pub first_at : (max_map_size : ℕ) (s s' : FrequentState T) (item : T) (weight : ℕ) (before after : List (FrequentState T))
+      → before ≡ [] → after ≡ s' ∷ []
+      → Extends eq s s' (λ g. Update g item weight) → ExtendsBudget eq s s' (λ g. Update g item weight)
+      → IsWindowOf eq max_map_size s (fresh_history max_map_size)
+      → ExtendsEach eq max_map_size before after (added_history max_map_size item weight)
+  first_at max_map_size s s' item weight before after b a stands budget fresh =
+      subst (λ ws. ExtendsEach eq max_map_size ws after (added_history max_map_size item weight)) (sym b)
+      (subst (λ ws. ExtendsEach eq max_map_size [] ws (added_history max_map_size item weight)) (sym a)
+        (first_updated max_map_size s s' item weight stands budget fresh))

@@ -17,3 +17,10 @@ module _ {T : Type 0} (eq : T → T → Bool) where
         step = subst (λ n. Steps eq n item weight s') (sym (newest_last fresh older s)) step;
         windows = sym (with_newest_last older s s');
       })
+
+  -- a first window
+  pub adds_first : (fresh : FrequentState T) (before after : List (FrequentState T)) (s' : FrequentState T) (item : T)
+      (weight : ℕ) → before ≡ [] → after ≡ s' ∷ [] → Steps eq fresh item weight s'
+      → AddsToNewest eq fresh before item weight after
+  adds_first fresh before after s' item weight b a step =
+      subst (λ ws. AddsToNewest eq fresh ws item weight after) (sym b) (record { window = s'; step = step; windows = a })
