@@ -6,3 +6,4 @@ pub mod Steps
 pub mod Merging
 pub mod Tenants
 pub mod Kept
+pub mod Reports

@@ -4,6 +4,7 @@ ghost use Rattle.sketch_base.specs.Errors.{invalid_argument, no_memory, refusal_
 ghost use Rattle.sketch_frequencies.specs.State.{Overflows, Fits, must_double};
 ghost use Rattle.heavy_windows.specs.Fresh.{fresh_state};
 ghost use Rattle.heavy_windows.specs.Histories.{added_history, turned_history};
+ghost use Rattle.heavy_windows.specs.Merging.{IsMerged};
 ghost use Rattle.heavy_windows.specs.Newest.{newest, turned};
 ghost use Rattle.heavy_windows.specs.Reports.{Reports, HasTotal, MissesNone, ShowsNoneBelow, IsPaidByTail};
 ghost use Rattle.heavy_windows.specs.Sizes.{limits_fault};
@@ -181,16 +182,30 @@ impl<T: Eq + Hash + Drop> HeavyWindows<T> {
             → IsErrOf result (invalid_argument Fault.WeightOverflow) }
         ensures memory { windows_total (at_tenant tenant self.now) < 2 ^ 64 → IfErr result (λ e. e ≡ no_memory) }
     {
-        let merged = match self.tenants.get(&tenant) {
-            Some(windows) => windows.merged(self.alloc, self.max_map_size)?,
-            None => FrequentItemsSketch::new(self.alloc, self.max_map_size)?,
-        };
+        let merged = self.merged(tenant)?;
         let rows = merged.frequent_items_with_threshold(error_type, threshold)?;
         Ok(Report {
             rows,
             maximum_error: merged.maximum_error(),
             total_weight: merged.total_weight(),
         })
+    }
+
+    /// The tenant's windows merged into a new sketch, oldest first.
+    fn merged(&self, tenant: u64) -> Result<FrequentItemsSketch<T>, Error>
+    where
+        T: Clone,
+        requires clones { (x y : T) → T.is_clone x y → IsTrue (T.eq x y) }
+        ensures merged { IfOk result (λ merged.
+            IsMerged T.eq self.now.max_map_size (at_tenant tenant self.now) merged) }
+        ensures overflow { 2 ^ 64 ≤ windows_total (at_tenant tenant self.now)
+            → IsErrOf result (invalid_argument Fault.WeightOverflow) }
+        ensures memory { windows_total (at_tenant tenant self.now) < 2 ^ 64 → IfErr result (λ e. e ≡ no_memory) }
+    {
+        match self.tenants.get(&tenant) {
+            Some(windows) => windows.merged(self.alloc, self.max_map_size),
+            None => FrequentItemsSketch::new(self.alloc, self.max_map_size),
+        }
     }
 }
 
