@@ -7,3 +7,4 @@ pub mod Stands
 pub mod Steps
 pub mod Merging
 pub mod Reports
+pub mod Laws

@@ -1,5 +1,5 @@
 //! Windows of many tenants.
-ghost use Rattle.std.specs.Prelude.{◌≡◌, ◌≢◌, ◌<◌, ◌≤◌, ◌^◌, [], false, None, IfOk, IfErr, IsOk, IsTrue, OnOk, OnErr, IsErrOf};
+ghost use Rattle.std.specs.Prelude.{◌≡◌, ◌≢◌, ℕ, ◌<◌, ◌≤◌, ◌^◌, [], false, None, IfOk, IfErr, IsOk, IsTrue, OnOk, OnErr, IsErrOf};
 ghost use Rattle.sketch_base.specs.Errors.{invalid_argument, no_memory, refusal_of};
 ghost use Rattle.sketch_frequencies.specs.State.{Overflows, Fits, must_double};
 ghost use Rattle.heavy_windows.specs.Fresh.{fresh_state};
@@ -8,7 +8,7 @@ ghost use Rattle.heavy_windows.specs.Merging.{IsMerged};
 ghost use Rattle.heavy_windows.specs.Newest.{newest, turned};
 ghost use Rattle.heavy_windows.specs.Reports.{Reports, HasTotal, MissesNone, ShowsNoneBelow, IsPaidByTail};
 ghost use Rattle.heavy_windows.specs.Sizes.{limits_fault};
-ghost use Rattle.heavy_windows.specs.Stands.{ExtendsEach};
+ghost use Rattle.heavy_windows.specs.Stands.{WindowsStandFor, ExtendsEach};
 ghost use Rattle.heavy_windows.specs.State.{at_tenant, nothing_added, windows_total, IsWindows, OnlyChanges};
 ghost use Rattle.heavy_windows.specs.Steps.{AddsToNewest};
 
@@ -23,6 +23,7 @@ use std::marker::Model;
 
 /// The least and the greatest table sizes of a window.
 const LEAST_MAP_SIZE: usize = 8;
+
 const GREATEST_MAP_SIZE: usize = 1 << 30;
 
 /// The most windows that a tenant may have.
@@ -62,6 +63,7 @@ impl<T: Eq + Hash + Drop> HeavyWindows<T> {
     pub fn new(alloc: Global, windows: usize, max_map_size: usize) -> Result<Self, Error>
         ensures ok { IfOk result (λ w. w ≡ nothing_added windows max_map_size) }
         ensures state { IfOk result IsWindows }
+        ensures stands { IfOk result (λ w. (tenant : ℕ) → WindowsStandFor T.eq max_map_size (at_tenant tenant w) []) }
         ensures accepted { limits_fault windows max_map_size ≡ None → IsOk result }
         ensures refused { IfErr result (λ e. e ≡ refusal_of (limits_fault windows max_map_size)) }
     {
