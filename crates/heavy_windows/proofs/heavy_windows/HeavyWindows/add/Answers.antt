@@ -68,7 +68,7 @@ put_first g c =
 pub invariant_of-self-2 : goal.invariant_of-self-2
 invariant_of-self-2 g c =
     let old : WindowsState g.row.T.Denot = record { limit = c.self.inside.limit; max_map_size = c.self.inside.max_map_size; tenants = c.self.inside.tenants.entries } in
-    let some : 0 < c.args.weight = omega (arith, c.if-weight-eq0.false) in
+    let some : 0 < c.args.weight = omega arith in
     put_kept c.args.tenant (c.update_with_count.new.self ∷ []) old _ (put_first g c)
     (kept_first g.T.PartialEq.eq c.self.inside.limit c.self.inside.max_map_size c.in_ok-window.window c.update_with_count.new.self c.args.item c.args.weight c.self.invariant.limits c.in_ok-window.ensures.ok (c.in_ok-update_with_count.ensures.step some))
     c.self.invariant
