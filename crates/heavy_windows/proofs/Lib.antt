@@ -1,0 +1,10 @@
+pub mod Newest
+pub mod Zips
+pub mod Outcomes
+pub mod Standing
+pub mod Steps
+pub mod Merging
+pub mod Tenants
+pub mod Kept
+pub mod Reports
+pub mod Sums
