@@ -14,8 +14,6 @@
 mod heavy_windows;
 pub mod laws;
 mod report;
-#[cfg(test)]
-mod tests;
 mod windows;
 
 pub use heavy_windows::HeavyWindows;

@@ -14,3 +14,5 @@ mod countmin;
 mod frequencies;
 #[cfg(test)]
 mod sessions;
+#[cfg(test)]
+mod windows;

@@ -1,5 +1,5 @@
 //! Worked rows: what a tenant's report says after each call, and which limits are refused.
-use crate::HeavyWindows;
+use heavy_windows::HeavyWindows;
 use sketch_base::{Error, Fault};
 use sketch_frequencies::ErrorType;
 use std::alloc::Global;
