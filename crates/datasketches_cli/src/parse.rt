@@ -1,9 +1,10 @@
 //! Lines to commands.
-ghost use Rattle.std.specs.Prelude.{◌≡◌, ◌^◌, IfOk, take};
+ghost use Rattle.std.specs.Prelude.{◌≡◌, ◌≤◌, ◌^◌, IfOk, take};
 ghost use Rattle.datasketches_cli.specs.Grammar.{words_of, number_below, signed_number, IsMade};
 ghost use Rattle.datasketches_cli.specs.Said.{IsSaid, IsVerbOf, IsReportOf, texts_of};
-ghost use Rattle.datasketches_cli.specs.Said.{AreCountsOf, IsCommandOf};
+ghost use Rattle.datasketches_cli.specs.Said.{AreCountsOf, IsCommandOf, with_word};
 
+use crate::search::first_place;
 use datasketches::Command;
 use datasketches::frequencies::ErrorType;
 use std::alloc::{AllocError, Global};
@@ -75,24 +76,48 @@ pub fn parse(alloc: Global, line: &[u8]) -> Result<Line, AllocError>
     let Ok(text) = str::from_utf8(line) else {
         return Ok(Line::Bad);
     };
-    let words = first_words(alloc, text)?;
+    let (words, count) = first_words(text);
+    let words = &words[..count];
     if words.is_empty() {
         return Ok(Line::Blank);
     }
-    match command_of(alloc, &words)? {
+    match command_of(alloc, words)? {
         Some(command) => Ok(Line::Command(command)),
         None => Ok(Line::Bad),
     }
 }
 
-/// The first words of a text, which stand between spaces.
-fn first_words(alloc: Global, text: &str) -> Result<Vec<&str>, AllocError>
-    ensures { IfOk result (λ words. texts_of words.items ≡ take MOST_WORDS (words_of text.now)) }
+/// The first words of a text, which stand between spaces, and how many there are.
+fn first_words(text: &str) -> ([&str; MOST_WORDS], usize)
+    ensures few { result.1 ≤ MOST_WORDS }
+    ensures words { texts_of (take result.1 result.0) ≡ take MOST_WORDS (words_of text.now) }
 {
-    text.split(' ')
-        .filter(|word| !word.is_empty())
-        .take(MOST_WORDS)
-        .collect(alloc)
+    let mut words = [""; MOST_WORDS];
+    let mut count = 0;
+    let mut rest = text;
+    while count < MOST_WORDS {
+        let (word, after) = next_word(rest);
+        if word.is_empty() {
+            return (words, count);
+        }
+        words[count] = word;
+        count += 1;
+        rest = after;
+    }
+    (words, count)
+}
+
+/// The first word of a text, which is empty where there is none, and the text after it.
+fn next_word(text: &str) -> (&str, &str)
+    ensures { words_of text.now ≡ with_word result.0.now (words_of result.1.now) }
+{
+    let bytes = text.as_bytes();
+    let mut start = 0;
+    while start < bytes.len() && bytes[start] == b' ' {
+        start += 1;
+    }
+    let (_, text) = text.split_at(start);
+    text.split_at(first_place(b' ', text.as_bytes()))
 }
 
 /// The command that the words make.
