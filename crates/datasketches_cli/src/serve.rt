@@ -1,10 +1,10 @@
 //! The loop from lines to replies.
-ghost use Rattle.std.specs.Prelude.{◌≡◌, ◌<◌, ◌⊎◌, ◌↔◌, [], ◌++◌, IsTrue, IfOk, IfErr, OnOk, Contains};
+ghost use Rattle.std.specs.Prelude.{◌≡◌, ◌<◌, ◌⊎◌, ◌↔◌, [], ◌++◌, None, IsTrue, IfOk, IfErr, OnOk, Contains};
 ghost use Rattle.std.specs.Prelude.{string_bytes, string_len};
 ghost use Rattle.std.specs.Io.BufRead.{strip_last};
-ghost use Rattle.std.specs.Io.KnownBytes.{Appends, IsAtEnd};
+ghost use Rattle.std.specs.Io.KnownBytes.{Appends, IsAtEnd, prepend_known};
 ghost use Rattle.datasketches_cli.specs.Counts.{HasGrown};
-ghost use Rattle.datasketches_cli.specs.Serving.{HasAnswered, WritesFront};
+ghost use Rattle.datasketches_cli.specs.Serving.{HasAnswered, SaysNext, WritesFront};
 ghost use Rattle.datasketches_cli.specs.Transcript.{Serves, bad_line};
 
 use crate::counted::Counted;
@@ -122,11 +122,10 @@ fn serve_lines<R: Read, W: Write>(
     for before in 0..u128::MAX {
         let number = before + 1;
         write_due(&lines, writer, &mut replies)?;
-        if !lines.read_line(reader, &mut line)? {
+        let Some(said) = next_line(alloc, &mut lines, reader, &mut line)? else {
             write_out(writer, &mut replies)?;
             return Ok(Ended::All);
-        }
-        let said = parse(alloc, without_end(&line))?;
+        };
         match said {
             Line::Blank => {}
             Line::Command(command) => answer(alloc, &mut session, command, &mut replies)?,
@@ -137,6 +136,30 @@ fn serve_lines<R: Read, W: Write>(
         }
     }
     Err(Stopped)
+}
+
+/// What the next line says, or `None` where no input is left.
+///
+/// A line that was read whole is looked at where it lies. Else it comes into the place of what `line` holds.
+fn next_line<R: Read>(
+    alloc: Global,
+    lines: &mut LineReader,
+    reader: &mut Counted<R>,
+    line: &mut Vec<u8>,
+) -> Result<Option<Line>, Stopped>
+    ensures said { IfOk result (SaysNext (prepend_known lines.old (R.remaining reader.old.inner))
+        (prepend_known lines.new (R.remaining reader.new.inner))) }
+    ensures end { IfOk result (λ said. said ≡ None → IsAtEnd (R.remaining reader.new.inner)) }
+{
+    if lines.has_line() {
+        let said = parse(alloc, without_end(lines.line()))?;
+        lines.skip_line();
+        return Ok(Some(said));
+    }
+    if !lines.read_line(reader, line)? {
+        return Ok(None);
+    }
+    Ok(Some(parse(alloc, without_end(line))?))
 }
 
 /// Does a command, and gathers its reply.
@@ -151,7 +174,7 @@ fn answer(
 {
     let reply = session.apply(command);
     write_reply(alloc, replies, &reply)?;
-    writeln!(replies)?;
+    replies.push_str("\n")?;
     Ok(())
 }
 
