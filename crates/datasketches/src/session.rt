@@ -68,7 +68,22 @@ impl<T: FrequentItemValue + Clone + Drop> Session<T> {
             → Fits T.eq T.codec T.content self.new (after_one T.hash_input a command result) }
         ensures refused { is_refused result ≡ true → IsUnchanged self.old self.new }
     {
-        match self.answer(command) {
+        let mut spare = String::new(self.alloc);
+        self.apply_sparing(command, &mut spare)
+    }
+
+    /// Does one command as [`Session::apply`] does, and leaves in `spare` a name that it does not keep.
+    ///
+    /// So a caller that makes many commands can use the memory of one name for the next. What `spare` holds then is
+    /// left open.
+    pub fn apply_sparing(&mut self, command: Command<T>, spare: &mut String) -> Reply<T>
+        requires clones { (x y : T) → T.is_clone x y → IsTrue (T.eq x y) }
+        ensures step { Step T.eq T.hash_input T.codec T.content self.old command result self.new }
+        ensures fits { (a : Assignment T) → Fits T.eq T.codec T.content self.old a
+            → Fits T.eq T.codec T.content self.new (after_one T.hash_input a command result) }
+        ensures refused { is_refused result ≡ true → IsUnchanged self.old self.new }
+    {
+        match self.answer(command, spare) {
             Ok(reply) => reply,
             Err(refusal) => Reply::Refused(refusal),
         }
@@ -95,7 +110,7 @@ impl<T: FrequentItemValue + Clone + Drop> Session<T> {
         Ok(replies)
     }
 
-    fn answer(&mut self, command: Command<T>) -> Result<Reply<T>, Refusal>
+    fn answer(&mut self, command: Command<T>, spare: &mut String) -> Result<Reply<T>, Refusal>
         requires clones { (x y : T) → T.is_clone x y → IsTrue (T.eq x y) }
         ensures { Step T.eq T.hash_input T.codec T.content self.old command (told result) self.new }
     {
@@ -143,12 +158,20 @@ impl<T: FrequentItemValue + Clone + Drop> Session<T> {
                 },
             ),
             Command::Add { name, item, weight } => {
-                self.change(name.as_str(), Change::Add { item, weight })
+                let done = self.change(name.as_str(), Change::Add { item, weight });
+                *spare = name;
+                done
             }
             Command::AddSigned { name, item, weight } => {
-                self.change(name.as_str(), Change::AddSigned { item, weight })
+                let done = self.change(name.as_str(), Change::AddSigned { item, weight });
+                *spare = name;
+                done
             }
-            Command::Insert { name, item } => self.change(name.as_str(), Change::Insert { item }),
+            Command::Insert { name, item } => {
+                let done = self.change(name.as_str(), Change::Insert { item });
+                *spare = name;
+                done
+            }
             Command::Merge { into, other } => self.join(into.as_str(), other.as_str(), Join::Merge),
             Command::Union { into, other } => self.join(into.as_str(), other.as_str(), Join::Union),
             Command::Intersect { into, other } => {
@@ -173,7 +196,11 @@ impl<T: FrequentItemValue + Clone + Drop> Session<T> {
             Command::Save { name, image } => self.save(name.as_str(), image),
             Command::Restore { image, name } => self.restore(image.as_str(), name),
             Command::ShowImage { image } => self.show_image(image.as_str()),
-            Command::Ask { name, item } => self.ask(name.as_str(), &item),
+            Command::Ask { name, item } => {
+                let told = self.ask(name.as_str(), &item);
+                *spare = name;
+                told
+            }
             Command::GetStatus { name } => self.status(name.as_str()),
             Command::ListRows {
                 name,

@@ -1,5 +1,5 @@
 //! Lines to commands.
-ghost use Rattle.std.specs.Prelude.{◌≡◌, ◌≤◌, ◌^◌, IfOk, take};
+ghost use Rattle.std.specs.Prelude.{◌≡◌, ◌≤◌, ◌^◌, IfOk, string_bytes, length, take};
 ghost use Rattle.datasketches_cli.specs.Grammar.{words_of, number_below, signed_number, IsMade};
 ghost use Rattle.datasketches_cli.specs.Said.{IsSaid, IsVerbOf, IsReportOf, texts_of};
 ghost use Rattle.datasketches_cli.specs.Said.{AreCountsOf, IsCommandOf, with_word};
@@ -8,6 +8,7 @@ use crate::search::first_place;
 use datasketches::Command;
 use datasketches::frequencies::ErrorType;
 use std::alloc::{AllocError, Global};
+use std::mem;
 
 /// What a line says.
 #[derive(Drop)]
@@ -69,42 +70,42 @@ const MOST_WORDS: usize = 6;
 /// The command that some words make, if they make one.
 type Made = Result<Option<Command<String>>, AllocError>;
 
-/// What a line says, which stands without its end.
-pub fn parse(alloc: Global, line: &[u8]) -> Result<Line, AllocError>
+/// What a line says, which stands without its end. The name of a command may take the memory of `spare`.
+pub fn parse(alloc: Global, line: &[u8], spare: &mut String) -> Result<Line, AllocError>
     ensures { IfOk result (IsSaid line.now) }
 {
     let Ok(text) = str::from_utf8(line) else {
         return Ok(Line::Bad);
     };
-    let (words, count) = first_words(text);
+    let mut words = [""; MOST_WORDS];
+    let count = first_words(text, &mut words);
     let words = &words[..count];
     if words.is_empty() {
         return Ok(Line::Blank);
     }
-    match command_of(alloc, words)? {
+    match command_of(alloc, words, spare)? {
         Some(command) => Ok(Line::Command(command)),
         None => Ok(Line::Bad),
     }
 }
 
-/// The first words of a text, which stand between spaces, and how many there are.
-fn first_words(text: &str) -> ([&str; MOST_WORDS], usize)
-    ensures few { result.1 ≤ MOST_WORDS }
-    ensures words { texts_of (take result.1 result.0) ≡ take MOST_WORDS (words_of text.now) }
+/// Puts the first words of a text, which stand between spaces, into an array. Answers how many there are.
+fn first_words<'a>(text: &'a str, words: &mut [&'a str; MOST_WORDS]) -> usize
+    ensures few { result ≤ length words.new }
+    ensures words { texts_of (take result words.new) ≡ take MOST_WORDS (words_of text.now) }
 {
-    let mut words = [""; MOST_WORDS];
     let mut count = 0;
     let mut rest = text;
     while count < MOST_WORDS {
         let (word, after) = next_word(rest);
         if word.is_empty() {
-            return (words, count);
+            return count;
         }
         words[count] = word;
         count += 1;
         rest = after;
     }
-    (words, count)
+    count
 }
 
 /// The first word of a text, which is empty where there is none, and the text after it.
@@ -121,7 +122,7 @@ fn next_word(text: &str) -> (&str, &str)
 }
 
 /// The command that the words make.
-fn command_of(alloc: Global, words: &[&str]) -> Made
+fn command_of(alloc: Global, words: &[&str], spare: &mut String) -> Made
     ensures { IfOk result (IsMade (texts_of words.now)) }
 {
     let [verb, name, rest @ ..] = words else {
@@ -132,12 +133,12 @@ fn command_of(alloc: Global, words: &[&str]) -> Made
     };
     match verb {
         Verb::Create(kind) => create(alloc, kind, name, rest),
-        Verb::Change(edit) => change(alloc, edit, name, rest),
+        Verb::Change(edit) => change(alloc, edit, name, rest, spare),
         Verb::Join(by) => join(alloc, by, name, rest),
         Verb::Save => save(alloc, name, rest),
         Verb::Restore => restore(alloc, name, rest),
         Verb::Image => image(alloc, name, rest),
-        Verb::Ask => ask(alloc, name, rest),
+        Verb::Ask => ask(alloc, name, rest, spare),
         Verb::Status => status(alloc, name, rest),
         Verb::Rows => rows(alloc, name, rest),
     }
@@ -235,7 +236,13 @@ fn create(alloc: Global, kind: Kind, name: &str, words: &[&str]) -> Made
     }
 }
 
-fn change(alloc: Global, edit: Edit, name: &str, words: &[&str]) -> Made
+fn change(
+    alloc: Global,
+    edit: Edit,
+    name: &str,
+    words: &[&str],
+    spare: &mut String,
+) -> Made
     ensures { IfOk result (IsCommandOf (Verb.Change edit) name.now (texts_of words.now)) }
 {
     match (edit, words) {
@@ -243,7 +250,7 @@ fn change(alloc: Global, edit: Edit, name: &str, words: &[&str]) -> Made
             let Some(weight) = number_of(weight) else {
                 return Ok(None);
             };
-            let name = String::from_str(alloc, name)?;
+            let name = copied(alloc, name, spare)?;
             let item = String::from_str(alloc, item)?;
             Ok(Some(Command::Add { name, item, weight }))
         }
@@ -251,12 +258,12 @@ fn change(alloc: Global, edit: Edit, name: &str, words: &[&str]) -> Made
             let Some(weight) = signed_number(weight) else {
                 return Ok(None);
             };
-            let name = String::from_str(alloc, name)?;
+            let name = copied(alloc, name, spare)?;
             let item = String::from_str(alloc, item)?;
             Ok(Some(Command::AddSigned { name, item, weight }))
         }
         (Edit::Insert, [item]) => {
-            let name = String::from_str(alloc, name)?;
+            let name = copied(alloc, name, spare)?;
             let item = String::from_str(alloc, item)?;
             Ok(Some(Command::Insert { name, item }))
         }
@@ -334,13 +341,13 @@ fn image(alloc: Global, name: &str, words: &[&str]) -> Made
     Ok(Some(Command::ShowImage { image }))
 }
 
-fn ask(alloc: Global, name: &str, words: &[&str]) -> Made
+fn ask(alloc: Global, name: &str, words: &[&str], spare: &mut String) -> Made
     ensures { IfOk result (IsCommandOf Verb.Ask name.now (texts_of words.now)) }
 {
     let [item] = words else {
         return Ok(None);
     };
-    let name = String::from_str(alloc, name)?;
+    let name = copied(alloc, name, spare)?;
     let item = String::from_str(alloc, item)?;
     Ok(Some(Command::Ask { name, item }))
 }
@@ -370,6 +377,16 @@ fn rows(alloc: Global, name: &str, words: &[&str]) -> Made
         error_type,
         threshold,
     }))
+}
+
+/// A copy of a text, in the memory of `spare`, which is empty then.
+fn copied(alloc: Global, text: &str, spare: &mut String) -> Result<String, AllocError>
+    ensures { IfOk result (λ copy. string_bytes copy ≡ text.now) }
+{
+    let mut copy = mem::replace(spare, String::new(alloc));
+    copy.clear();
+    copy.push_str(text)?;
+    Ok(copy)
 }
 
 /// The numbers of a Count-Min sketch: its hashes, its buckets and its seed.

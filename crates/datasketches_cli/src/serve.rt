@@ -119,16 +119,17 @@ fn serve_lines<R: Read, W: Write>(
     let mut replies = String::new(alloc);
     let mut lines = LineReader::new(alloc)?;
     let mut line = Vec::new(alloc);
+    let mut spare = String::new(alloc);
     for before in 0..u128::MAX {
         let number = before + 1;
         write_due(&lines, writer, &mut replies)?;
-        let Some(said) = next_line(alloc, &mut lines, reader, &mut line)? else {
+        let Some(said) = next_line(alloc, &mut lines, reader, &mut line, &mut spare)? else {
             write_out(writer, &mut replies)?;
             return Ok(Ended::All);
         };
         match said {
             Line::Blank => {}
-            Line::Command(command) => answer(alloc, &mut session, command, &mut replies)?,
+            Line::Command(command) => answer(alloc, &mut session, command, &mut spare, &mut replies)?,
             Line::Bad => {
                 write_bad(writer, &mut replies, number)?;
                 return Ok(Ended::BadLine(number));
@@ -146,20 +147,21 @@ fn next_line<R: Read>(
     lines: &mut LineReader,
     reader: &mut Counted<R>,
     line: &mut Vec<u8>,
+    spare: &mut String,
 ) -> Result<Option<Line>, Stopped>
     ensures said { IfOk result (SaysNext (prepend_known lines.old (R.remaining reader.old.inner))
         (prepend_known lines.new (R.remaining reader.new.inner))) }
     ensures end { IfOk result (λ said. said ≡ None → IsAtEnd (R.remaining reader.new.inner)) }
 {
     if lines.has_line() {
-        let said = parse(alloc, without_end(lines.line()))?;
+        let said = parse(alloc, without_end(lines.line()), spare)?;
         lines.skip_line();
         return Ok(Some(said));
     }
     if !lines.read_line(reader, line)? {
         return Ok(None);
     }
-    Ok(Some(parse(alloc, without_end(line))?))
+    Ok(Some(parse(alloc, without_end(line), spare)?))
 }
 
 /// Does a command, and gathers its reply.
@@ -167,12 +169,13 @@ fn answer(
     alloc: Global,
     session: &mut Session<String>,
     command: Command<String>,
+    spare: &mut String,
     replies: &mut String,
 ) -> Result<(), Stopped>
     ensures { OnOk result (HasAnswered session.old command session.new
         (string_bytes replies.old) (string_bytes replies.new)) }
 {
-    let reply = session.apply(command);
+    let reply = session.apply_sparing(command, spare);
     write_reply(alloc, replies, &reply)?;
     replies.push_str("\n")?;
     Ok(())
