@@ -16,7 +16,7 @@ mod sketch;
 #[cfg(test)]
 mod tests;
 
-pub use command::Command;
+pub use command::{Command, Spare};
 pub use reply::{Refusal, Reply, Status};
 pub use session::Session;
 

@@ -5,10 +5,9 @@ ghost use Rattle.datasketches_cli.specs.Said.{IsSaid, IsVerbOf, IsReportOf, text
 ghost use Rattle.datasketches_cli.specs.Said.{AreCountsOf, IsCommandOf, with_word};
 
 use crate::search::first_place;
-use datasketches::Command;
+use datasketches::{Command, Spare};
 use datasketches::frequencies::ErrorType;
 use std::alloc::{AllocError, Global};
-use std::mem;
 
 /// What a line says.
 #[derive(Drop)]
@@ -70,8 +69,8 @@ const MOST_WORDS: usize = 6;
 /// The command that some words make, if they make one.
 type Made = Result<Option<Command<String>>, AllocError>;
 
-/// What a line says, which stands without its end. The name of a command may take the memory of `spare`.
-pub fn parse(alloc: Global, line: &[u8], spare: &mut String) -> Result<Line, AllocError>
+/// What a line says, which stands without its end. Its name and its item may take the memory of `spare`.
+pub fn parse(alloc: Global, line: &[u8], spare: &mut Spare<String>) -> Result<Line, AllocError>
     ensures { IfOk result (IsSaid line.now) }
 {
     let Ok(text) = str::from_utf8(line) else {
@@ -122,7 +121,7 @@ fn next_word(text: &str) -> (&str, &str)
 }
 
 /// The command that the words make.
-fn command_of(alloc: Global, words: &[&str], spare: &mut String) -> Made
+fn command_of(alloc: Global, words: &[&str], spare: &mut Spare<String>) -> Made
     ensures { IfOk result (IsMade (texts_of words.now)) }
 {
     let [verb, name, rest @ ..] = words else {
@@ -241,7 +240,7 @@ fn change(
     edit: Edit,
     name: &str,
     words: &[&str],
-    spare: &mut String,
+    spare: &mut Spare<String>,
 ) -> Made
     ensures { IfOk result (IsCommandOf (Verb.Change edit) name.now (texts_of words.now)) }
 {
@@ -250,21 +249,21 @@ fn change(
             let Some(weight) = number_of(weight) else {
                 return Ok(None);
             };
-            let name = copied(alloc, name, spare)?;
-            let item = String::from_str(alloc, item)?;
+            let name = copied(alloc, name, &mut spare.name)?;
+            let item = copied(alloc, item, &mut spare.item)?;
             Ok(Some(Command::Add { name, item, weight }))
         }
         (Edit::AddSigned, [weight, item]) => {
             let Some(weight) = signed_number(weight) else {
                 return Ok(None);
             };
-            let name = copied(alloc, name, spare)?;
-            let item = String::from_str(alloc, item)?;
+            let name = copied(alloc, name, &mut spare.name)?;
+            let item = copied(alloc, item, &mut spare.item)?;
             Ok(Some(Command::AddSigned { name, item, weight }))
         }
         (Edit::Insert, [item]) => {
-            let name = copied(alloc, name, spare)?;
-            let item = String::from_str(alloc, item)?;
+            let name = copied(alloc, name, &mut spare.name)?;
+            let item = copied(alloc, item, &mut spare.item)?;
             Ok(Some(Command::Insert { name, item }))
         }
         (Edit::Reset, []) => {
@@ -341,14 +340,14 @@ fn image(alloc: Global, name: &str, words: &[&str]) -> Made
     Ok(Some(Command::ShowImage { image }))
 }
 
-fn ask(alloc: Global, name: &str, words: &[&str], spare: &mut String) -> Made
+fn ask(alloc: Global, name: &str, words: &[&str], spare: &mut Spare<String>) -> Made
     ensures { IfOk result (IsCommandOf Verb.Ask name.now (texts_of words.now)) }
 {
     let [item] = words else {
         return Ok(None);
     };
-    let name = copied(alloc, name, spare)?;
-    let item = String::from_str(alloc, item)?;
+    let name = copied(alloc, name, &mut spare.name)?;
+    let item = copied(alloc, item, &mut spare.item)?;
     Ok(Some(Command::Ask { name, item }))
 }
 
@@ -379,11 +378,11 @@ fn rows(alloc: Global, name: &str, words: &[&str]) -> Made
     }))
 }
 
-/// A copy of a text, in the memory of `spare`, which is empty then.
-fn copied(alloc: Global, text: &str, spare: &mut String) -> Result<String, AllocError>
+/// A copy of a text, in the memory of the spare one, if there is one.
+fn copied(alloc: Global, text: &str, spare: &mut Option<String>) -> Result<String, AllocError>
     ensures { IfOk result (λ copy. string_bytes copy ≡ text.now) }
 {
-    let mut copy = mem::replace(spare, String::new(alloc));
+    let mut copy = spare.take().unwrap_or(String::new(alloc));
     copy.clear();
     copy.push_str(text)?;
     Ok(copy)

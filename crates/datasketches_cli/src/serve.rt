@@ -11,7 +11,7 @@ use crate::counted::Counted;
 use crate::line_reader::LineReader;
 use crate::parse::{Line, parse};
 use crate::reply::write_reply;
-use datasketches::{Command, Session};
+use datasketches::{Command, Session, Spare};
 use std::alloc::{AllocError, Global};
 use std::fmt;
 use std::io::{self, Read, Write};
@@ -119,7 +119,7 @@ fn serve_lines<R: Read, W: Write>(
     let mut replies = String::new(alloc);
     let mut lines = LineReader::new(alloc)?;
     let mut line = Vec::new(alloc);
-    let mut spare = String::new(alloc);
+    let mut spare = Spare::new();
     for before in 0..u128::MAX {
         let number = before + 1;
         write_due(&lines, writer, &mut replies)?;
@@ -147,7 +147,7 @@ fn next_line<R: Read>(
     lines: &mut LineReader,
     reader: &mut Counted<R>,
     line: &mut Vec<u8>,
-    spare: &mut String,
+    spare: &mut Spare<String>,
 ) -> Result<Option<Line>, Stopped>
     ensures said { IfOk result (SaysNext (prepend_known lines.old (R.remaining reader.old.inner))
         (prepend_known lines.new (R.remaining reader.new.inner))) }
@@ -169,7 +169,7 @@ fn answer(
     alloc: Global,
     session: &mut Session<String>,
     command: Command<String>,
-    spare: &mut String,
+    spare: &mut Spare<String>,
     replies: &mut String,
 ) -> Result<(), Stopped>
     ensures { OnOk result (HasAnswered session.old command session.new
