@@ -1,5 +1,5 @@
 //! Lines to commands.
-ghost use Rattle.std.specs.Prelude.{◌≡◌, ◌≤◌, ◌^◌, IfOk, string_bytes, length, take};
+ghost use Rattle.std.specs.Prelude.{◌≡◌, ◌≤◌, ◌^◌, [], ◌∷◌, IfOk, string_bytes, length, take};
 ghost use Rattle.datasketches_cli.specs.Grammar.{words_of, number_below, signed_number, IsMade};
 ghost use Rattle.datasketches_cli.specs.Said.{IsSaid, IsVerbOf, IsReportOf, texts_of};
 ghost use Rattle.datasketches_cli.specs.Said.{AreCountsOf, IsCommandOf, with_word};
@@ -417,11 +417,26 @@ fn error_type_of(word: &str) -> Option<ErrorType>
 fn number_of(word: &str) -> Option<u64>
     ensures { result ≡ number_below (2 ^ 64) word.now }
 {
+    // most weights are of one digit
+    if let [byte] = word.as_bytes() {
+        return digit_of(*byte);
+    }
     // std's `parse` takes a sign in front of the digits
     if word.as_bytes().first() == Some(&b'+') {
         return None;
     }
     word.parse::<u64>().ok()
+}
+
+/// The number that a digit is.
+fn digit_of(byte: u8) -> Option<u64>
+    ensures { result ≡ number_below (2 ^ 64) (byte ∷ []) }
+{
+    if byte.is_ascii_digit() {
+        Some(u64::from(byte - b'0'))
+    } else {
+        None
+    }
 }
 
 /// The same of 32 bits.
