@@ -157,12 +157,20 @@ impl<T: FrequentItemValue + Clone + Drop> Session<T> {
                 },
             ),
             Command::Add { name, item, weight } => {
-                let done = self.change(name.as_str(), Change::Add { item, weight }, &mut spare.item);
+                let done = self.change(
+                    name.as_str(),
+                    Change::Add { item, weight },
+                    &mut spare.item,
+                );
                 spare.name = Some(name);
                 done
             }
             Command::AddSigned { name, item, weight } => {
-                let done = self.change(name.as_str(), Change::AddSigned { item, weight }, &mut spare.item);
+                let done = self.change(
+                    name.as_str(),
+                    Change::AddSigned { item, weight },
+                    &mut spare.item,
+                );
                 spare.name = Some(name);
                 done
             }

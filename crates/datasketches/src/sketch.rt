@@ -165,12 +165,7 @@ impl<T: Eq + Hash + Drop> Sketch<T> {
         }
     }
 
-    fn add_signed(
-        &mut self,
-        item: T,
-        weight: i64,
-        spare: &mut Option<T>,
-    ) -> Result<(), Refusal>
+    fn add_signed(&mut self, item: T, weight: i64, spare: &mut Option<T>) -> Result<(), Refusal>
         ensures own { AddsSigned T.hash_input item weight self.old (done_or result) self.new }
         ensures carries { OnOk result (Carries T.eq (changed T.hash_input (Change.AddSigned item weight)) self.old self.new) }
         ensures refused { OnErr result (self.new ≡ self.old) }

@@ -74,18 +74,18 @@ first_word [] word rest at plain e le w r =
 first_word (x ∷ xs) word rest zero plain e le w r = absurd (plain (omega arith) (eqb-true x 32 (rw (← e) at (passes_at_first is_space (x ∷ xs) 0 (omega (arith, e))))))
 first_word (x ∷ xs) word rest (suc n) plain e le w r = ⊎_elim
     (λ less.
-      let here : position_or_len is_space (x ∷ xs) < length (x ∷ xs) = omega (arith, e) in
-      let space : get_or (x ∷ xs) (suc n) 0 ≡ 32 = eqb-true _ 32 (rw (← e) at (passes_at_first is_space (x ∷ xs) 0 here)) in
-      let more : words_of rest ≡ words_of (drop (suc n + 1) (x ∷ xs)) = ap words_of r ∙ after_space (x ∷ xs) (suc n) less space in
-      ap (filter not_empty) (slice_split_first is_space (x ∷ xs) 0 here)
-      ∙ ap (λ (k : ℕ). filter not_empty (take k (x ∷ xs) ∷ slice_split is_space (drop (k + 1) (x ∷ xs)))) (sym e)
-      ∙ first_of (take (suc n) (x ∷ xs)) (slice_split is_space (drop (suc n + 1) (x ∷ xs))) (omega arith)
-      ∙ ap (λ (l : List (List ℕ)). with_word (take (suc n) (x ∷ xs)) l) (sym more)
-      ∙ ap (λ (l : List ℕ). with_word l (words_of rest)) (sym w))
+    let here : position_or_len is_space (x ∷ xs) < length (x ∷ xs) = omega (arith, e) in
+    let space : get_or (x ∷ xs) (suc n) 0 ≡ 32 = eqb-true _ 32 (rw (← e) at (passes_at_first is_space (x ∷ xs) 0 here)) in
+    let more : words_of rest ≡ words_of (drop (suc n + 1) (x ∷ xs)) = ap words_of r ∙ after_space (x ∷ xs) (suc n) less space in
+    ap (filter not_empty) (slice_split_first is_space (x ∷ xs) 0 here)
+    ∙ ap (λ (k : ℕ). filter not_empty (take k (x ∷ xs) ∷ slice_split is_space (drop (k + 1) (x ∷ xs)))) (sym e)
+    ∙ first_of (take (suc n) (x ∷ xs)) (slice_split is_space (drop (suc n + 1) (x ∷ xs))) (omega arith)
+    ∙ ap (λ (l : List (List ℕ)). with_word (take (suc n) (x ∷ xs)) l) (sym more)
+    ∙ ap (λ (l : List ℕ). with_word l (words_of rest)) (sym w))
     (λ ge.
-      let whole : word ≡ x ∷ xs = w ∙ take_all (suc n) (x ∷ xs) ge in
-      let nothing : rest ≡ [] = r ∙ drop_all (suc n) (x ∷ xs) ge in
-      ap (filter not_empty) (no_space (x ∷ xs) (omega (arith, e))) ∙ first_of (x ∷ xs) [] (omega arith) ∙ rw (whole, nothing) refl)
+    let whole : word ≡ x ∷ xs = w ∙ take_all (suc n) (x ∷ xs) ge in
+    let nothing : rest ≡ [] = r ∙ drop_all (suc n) (x ∷ xs) ge in
+    ap (filter not_empty) (no_space (x ∷ xs) (omega (arith, e))) ∙ first_of (x ∷ xs) [] (omega arith) ∙ rw (whole, nothing) refl)
     (cases_lt (suc n) (length (x ∷ xs)))
 
 -- ---- the words that are looked at
@@ -113,7 +113,7 @@ takes_one most text rest after words word count (le, long, told) less some next 
       omega arith,
       length-set words count word ∙ long,
       told ∙ ap (λ (l : List (List ℕ)). texts_of (take count words) ++ l) more ∙ sym (append_assoc (texts_of (take count words)) (word.now ∷ []) (take (most - (count + 1)) (words_of after)))
-      ∙ ap (λ (l : List (List ℕ)). l ++ take (most - (count + 1)) (words_of after)) (sym (texts_push (take count words) word) ∙ ap texts_of (sym (take_more_set words count word (omega arith)))),
+          ∙ ap (λ (l : List (List ℕ)). l ++ take (most - (count + 1)) (words_of after)) (sym (texts_push (take count words) word) ∙ ap texts_of (sym (take_more_set words count word (omega arith)))),
     )
 
 -- no word is left, or none more is looked at

@@ -5,8 +5,8 @@ ghost use Rattle.datasketches_cli.specs.Said.{IsSaid, IsVerbOf, IsReportOf, text
 ghost use Rattle.datasketches_cli.specs.Said.{AreCountsOf, IsCommandOf, with_word};
 
 use crate::search::first_place;
-use datasketches::{Command, Spare};
 use datasketches::frequencies::ErrorType;
+use datasketches::{Command, Spare};
 use std::alloc::{AllocError, Global};
 
 /// What a line says.
@@ -235,13 +235,7 @@ fn create(alloc: Global, kind: Kind, name: &str, words: &[&str]) -> Made
     }
 }
 
-fn change(
-    alloc: Global,
-    edit: Edit,
-    name: &str,
-    words: &[&str],
-    spare: &mut Spare<String>,
-) -> Made
+fn change(alloc: Global, edit: Edit, name: &str, words: &[&str], spare: &mut Spare<String>) -> Made
     ensures { IfOk result (IsCommandOf (Verb.Change edit) name.now (texts_of words.now)) }
 {
     match (edit, words) {

@@ -129,7 +129,13 @@ fn serve_lines<R: Read, W: Write>(
         };
         match said {
             Line::Blank => {}
-            Line::Command(command) => answer(alloc, &mut session, command, &mut spare, &mut replies)?,
+            Line::Command(command) => answer(
+                alloc,
+                &mut session,
+                command,
+                &mut spare,
+                &mut replies,
+            )?,
             Line::Bad => {
                 write_bad(writer, &mut replies, number)?;
                 return Ok(Ended::BadLine(number));

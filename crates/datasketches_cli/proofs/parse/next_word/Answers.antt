@@ -17,10 +17,10 @@ split_at-requires-2 c = first_boundary c.split_at.result.1.now c.first_place.res
 pub returns : goal.returns
 returns c =
     let plain : c.loop-start.start < length c.args.text.now → get_or c.args.text.now c.loop-start.start 0 ≢ 32 =
-      elim c.loop-start-test.branch [
-        | then-loop-start-test+else-bytes-start-eq32 w ↦ λ less. rw c.as_bytes-bytes.ensures.value at w.if-bytes-start-eq32.false
-        | else-loop-start-test w ↦ λ less. absurd (omega (arith, w.loop-start-test.false, ap length c.as_bytes-bytes.ensures.value))
-      ] in
+    elim c.loop-start-test.branch [
+      | then-loop-start-test+else-bytes-start-eq32 w ↦ λ less. rw c.as_bytes-bytes.ensures.value at w.if-bytes-start-eq32.false
+      | else-loop-start-test w ↦ λ less. absurd (omega (arith, w.loop-start-test.false, ap length c.as_bytes-bytes.ensures.value))
+    ] in
     let text = c.split_at.ensures.back in
     sym c.loop-start.invariant.2
     ∙ first_word (drop c.loop-start.start c.args.text.now) c.split_at-2.result.0.now c.split_at-2.result.1.now c.first_place.result (plain_after c.args.text.now c.loop-start.start plain)
