@@ -8,16 +8,19 @@ use sketch::{Frequent, Table};
 use std::hint::black_box;
 use std::time::Instant;
 
-/// How large a sketch may grow, and how often it is put to work.
+/// How large a sketch may grow, how many counters its purges sample where that is chosen, and how often it is put to work.
 #[repr(C)]
 #[derive(Clone, Copy)]
 struct Task {
     size: usize,
+    sample: usize,
     turns: u64,
 }
 
 unsafe extern "C" {
     fn rattle_frequent_update(task: &Task, items: *const i64, len: usize) -> u64;
+    fn rattle_frequent_sampled(task: &Task, items: *const i64, len: usize) -> u64;
+    fn rattle_frequent_error(task: &Task, items: *const i64, len: usize) -> u64;
     fn rattle_frequent_estimate(
         task: &Task,
         items: *const i64,
@@ -49,6 +52,14 @@ fn filled(task: &Task, items: &[i64]) -> Frequent<i64> {
 
 fn rust_update(task: &Task, items: &[i64], _: &[i64]) -> u64 {
     filled(task, items).summary()
+}
+
+fn rust_sampled(task: &Task, items: &[i64], _: &[i64]) -> u64 {
+    let mut sketch = Frequent::with_sample_size(task.size, task.sample);
+    for item in items {
+        sketch.update(*item).unwrap();
+    }
+    sketch.summary()
 }
 
 fn rust_estimate(task: &Task, items: &[i64], asked: &[i64]) -> u64 {
@@ -149,8 +160,12 @@ fn zipf(len: usize) -> Vec<i64> {
     (0..len).map(|_| draw()).collect()
 }
 
-/// The least time of each side over several turns, by turns, and their ratio. It does nothing unless the name has each
-/// word that the program was given.
+/// Whether the name has each word that the program was given.
+fn is_chosen(name: &str) -> bool {
+    std::env::args().skip(1).all(|word| name.contains(&word))
+}
+
+/// The least time of each side over several turns, by turns, and their ratio. It does nothing unless the name is chosen.
 fn compare(
     name: &str,
     task: &Task,
@@ -158,7 +173,7 @@ fn compare(
     rattle: &dyn Fn(&Task) -> u64,
     rust: &dyn Fn(&Task) -> u64,
 ) {
-    if std::env::args().skip(1).any(|word| !name.contains(&word)) {
+    if !is_chosen(name) {
         return;
     }
     let mut least = (f64::MAX, f64::MAX);
@@ -229,7 +244,7 @@ fn main() {
     let distinct: Vec<i64> = (0..len).map(mixed).collect();
     let others: Vec<i64> = (len..2 * len).map(mixed).collect();
     for size in [1024, 65536] {
-        let task = |turns| Task { size, turns };
+        let task = |turns| Task { size, sample: 0, turns };
         // as many as a full table holds
         let full = size * 3 / 4;
         let kept = full as u64;
@@ -273,5 +288,14 @@ fn main() {
         one("rows", task(few), kept * few, &distinct[..full], rattle_frequent_rows, rust_rows);
         one("write", task(turns), kept * turns, &distinct[..full], rattle_frequent_write, rust_write);
         one("read", task(turns), kept * turns, &distinct[..full], rattle_frequent_read, rust_read);
+    }
+    for sample in [2, 64, 1024] {
+        let task = Task { size: 4096, sample, turns: 1 };
+        let name = format!("sample {sample}, Zipf");
+        one(&name, task, many, &zipf, rattle_frequent_sampled, rust_sampled);
+        if is_chosen(&name) {
+            let error = unsafe { rattle_frequent_error(&task, zipf.as_ptr(), zipf.len()) };
+            println!("{:<16} {:>6}", "  its error", error);
+        }
     }
 }

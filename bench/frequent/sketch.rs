@@ -261,15 +261,21 @@ pub struct Frequent<T> {
     pub error: u64,
     pub total: u64,
     pub max_size: usize,
+    pub sample_size: usize,
 }
 
 impl<T: Eq + Hash + Clone> Frequent<T> {
     pub fn new(max_size: usize) -> Self {
+        Self::with_sample_size(max_size, (max_size * 3 / 4).min(MAX_SAMPLE_SIZE))
+    }
+
+    pub fn with_sample_size(max_size: usize, sample_size: usize) -> Self {
         Frequent {
             table: Table::new(8),
             error: 0,
             total: 0,
             max_size,
+            sample_size,
         }
     }
 
@@ -324,8 +330,7 @@ impl<T: Eq + Hash + Clone> Frequent<T> {
         }
         self.table.fill(probe, item, count);
         if self.table.active > self.table.slots.len() * 3 / 4 {
-            let sample_size = (self.max_size * 3 / 4).min(MAX_SAMPLE_SIZE);
-            self.error += self.table.purge(sample_size);
+            self.error += self.table.purge(self.sample_size);
         }
     }
 
@@ -467,6 +472,7 @@ impl Frequent<i64> {
             error,
             total,
             max_size: 1 << lg_max,
+            sample_size: ((1 << lg_max) * 3 / 4).min(MAX_SAMPLE_SIZE),
         })
     }
 }

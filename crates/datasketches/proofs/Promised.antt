@@ -1,5 +1,5 @@
 -- What a named sketch stands for, and what follows for each kind.
-use Rattle.std.proofs.Common.{◌≡◌, ℕ, Bool, true, List, Option, Some, sym, subst, ap, ◌∙◌, inl, inr}
+use Rattle.std.proofs.Common.{◌≡◌, ℕ, Bool, true, List, Option, Some, subst, inl, inr}
 use Rattle.std.specs.Prelude.{◌↔◌}
 use Rattle.std.proofs.lemmas.Cmp.{nat_cmp_total}
 use Rattle.std.specs.FinSet as set
@@ -12,8 +12,7 @@ use Rattle.sketch_countmin.specs.State.{CountState}
 use Rattle.sketch_frequencies.specs.Items.{Codec}
 use Rattle.datasketches.specs.Fits.{Paired}
 use Rattle.datasketches.specs.Histories.{History}
-use Rattle.datasketches.specs.Laws.{IsNamed, IsCounted, ContainsWhatIsDenoted}
-use Rattle.datasketches.specs.Names.{at_name}
+use Rattle.datasketches.specs.Laws.{IsNamed, IsCounted}
 use Rattle.datasketches.specs.Stands.{StandsFor}
 use Rattle.datasketches.specs.declared.sketch.Sketch.{Sketch}
 

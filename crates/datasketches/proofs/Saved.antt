@@ -67,11 +67,11 @@ module _ {T C : Type 0} (eq : T → T → Bool) (codec : Codec C) (content : T �
   pub frequent_back : frequent_laws.SpelledIsImage codec → (bytes : Vec ℕ Global) (new : FrequentState T) → IsState eq new → frequent.Restores codec content eq bytes.items new → frequent.RestoresBudget codec content eq bytes.items new → GivesBack eq codec content (image.Frequent bytes) (Frequent new)
   frequent_back spelled bytes new state restores budgets (OfFrequent h) i =
       let was = spelled bytes.items _ i.spelled in
-      let stands = restores i.sketch was h i.keeps.stands in
+      let stands = restores i.sketch was h i.encloses in
       record {
-        few = few_within _ _ _ state.few (subst (λ (n : ℕ). new.size ≤ n) stands.max_size state.within);
+        few = few_within _ _ _ state.few (subst (λ (n : ℕ). new.size ≤ n) stands.encloses.max_size state.within);
         stands = stands;
-        budget = budgets i.sketch was h i.keeps.stands i.keeps.budget;
+        budget = budgets i.sketch was h i.encloses i.budget;
       }
   frequent_back spelled bytes new state restores budgets (OfCountI64 h) i = absurd i
   frequent_back spelled bytes new state restores budgets (OfCountU64 h) i = absurd i
@@ -79,7 +79,7 @@ module _ {T C : Type 0} (eq : T → T → Bool) (codec : Codec C) (content : T �
 
   -- what was written for a sketch stands for what the sketch stands for
   pub saved_stands : (sketch : Sketch T) (image : Image) (h : History T) → IsWrittenBy codec content sketch image → StandsFor eq sketch h → IsImageOf eq codec content image h
-  saved_stands (Frequent s) (image.Frequent bytes) (OfFrequent h) written stands = record { sketch = s; spelled = written; keeps = stands }
+  saved_stands (Frequent s) (image.Frequent bytes) (OfFrequent h) written stands = record { sketch = s; spelled = written; encloses = stands.stands.encloses; budget = stands.budget }
   saved_stands (Frequent s) (image.Frequent bytes) (OfCountI64 h) written stands = absurd stands
   saved_stands (Frequent s) (image.Frequent bytes) (OfCountU64 h) written stands = absurd stands
   saved_stands (Frequent s) (image.Frequent bytes) (OfBloom h) written stands = absurd stands
@@ -111,7 +111,7 @@ module _ {T C : Type 0} (eq : T → T → Bool) (codec : Codec C) (content : T �
 module _ {T C : Type 0} (codec : Codec C) (content : T → C) where
   -- where an image was read, memory may be refused
   pub read_first : (saved : Image) (sketch : Sketch T) → IsReadFrom codec content saved sketch → IsReadRefusal codec saved no_memory
-  read_first (image.Frequent bytes) (Frequent s) read = inl (refl, or_else_none (frequent.early_fault bytes.items) _ read.no_fault)
+  read_first (image.Frequent bytes) (Frequent s) read = inl (refl, or_else_none (frequent.early_fault bytes.items) _ read.0.no_fault)
   read_first (image.Frequent bytes) (CountI64 s) read = absurd read
   read_first (image.Frequent bytes) (CountU64 s) read = absurd read
   read_first (image.Frequent bytes) (Bloom s) read = absurd read

@@ -1,7 +1,7 @@
 -- Commands that make a sketch or an image, by the clauses of the calls beneath.
-use Rattle.std.proofs.Common.{◌≡◌, ℕ, Bool, false, List, Option, Some, None, inl, inr, refl, ◌∙◌, ap}
+use Rattle.std.proofs.Common.{◌≡◌, ℕ, Bool, List, Option, Some, None, inl, inr, refl, ◌∙◌, ap}
 use Rattle.std.specs.Prelude.{Result, IsErrAnd}
-use Rattle.std.specs.Option.{MatchOption, is_some}
+use Rattle.std.specs.Option.{MatchOption}
 use Rattle.std.proofs.lemmas.Result.{err_from_is_err_and}
 use Rattle.sketch_base.specs.Errors.{ErrorValue, invalid_argument, no_memory, refusal_of}
 use Rattle.sketch_base.specs.declared.fault.Fault.{Fault}

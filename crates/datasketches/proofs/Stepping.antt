@@ -148,6 +148,8 @@ module _ {T C : Type 0} (eq : T → T → Bool) (input : T → List (List ℕ)) 
   pub step_fits : (command : Command T) (reply : Reply T) (old new : SessionState T) (a : Assignment T) → Fits eq codec content old a → Step eq input codec content old command reply new → Fits eq codec content new (after_one input a command reply)
   step_fits (command.CreateFrequent name max) reply old new a fits step =
       after_sketches eq codec content reply _ old new a fits step.1 (create_fits eq (shape.Frequent max) (string_bytes name) reply old.sketches new.sketches a.sketches fits.sketches step.0)
+  step_fits (command.CreateFrequentSampled name max sample) reply old new a fits step =
+      after_sketches eq codec content reply _ old new a fits step.1 (create_fits eq (shape.FrequentSampled max sample) (string_bytes name) reply old.sketches new.sketches a.sketches fits.sketches step.0)
   step_fits (command.CreateCountI64 name hashes buckets seed) reply old new a fits step =
       after_sketches eq codec content reply _ old new a fits step.1 (create_fits eq (shape.CountI64 hashes buckets seed) (string_bytes name) reply old.sketches new.sketches a.sketches fits.sketches step.0)
   step_fits (command.CreateCountU64 name hashes buckets seed) reply old new a fits step =
@@ -185,6 +187,8 @@ module _ {T C : Type 0} (eq : T → T → Bool) (input : T → List (List ℕ)) 
   pub step_same : (command : Command T) (reply : Reply T) (old new : SessionState T) → is_refused reply ≡ true → Step eq input codec content old command reply new → IsUnchanged old new
   step_same (command.CreateFrequent name max) reply old new r step =
       record { sketches = create_same eq (shape.Frequent max) (string_bytes name) reply old.sketches new.sketches r step.0; images = step.1 }
+  step_same (command.CreateFrequentSampled name max sample) reply old new r step =
+      record { sketches = create_same eq (shape.FrequentSampled max sample) (string_bytes name) reply old.sketches new.sketches r step.0; images = step.1 }
   step_same (command.CreateCountI64 name hashes buckets seed) reply old new r step =
       record { sketches = create_same eq (shape.CountI64 hashes buckets seed) (string_bytes name) reply old.sketches new.sketches r step.0; images = step.1 }
   step_same (command.CreateCountU64 name hashes buckets seed) reply old new r step =

@@ -54,7 +54,7 @@ module _ {T : Type 0} (input : T → List (List ℕ)) where
 module _ {T : Type 0} where
   -- a sketch is as it was made
   abbrev pub Resets : Sketch T → Reply T → Sketch T → Type 0
-  Resets (Frequent s) reply new = (reply ≡ Done) × (new ≡ Frequent (empty_state s.max_size))
+  Resets (Frequent s) reply new = (reply ≡ Done) × (new ≡ Frequent (empty_state s.max_size s.sample_size))
   Resets (Bloom s) reply new = (reply ≡ Done) × (new ≡ Bloom (cleared s))
   Resets old reply new = IsWrongKind old reply new
 

@@ -9,6 +9,7 @@ use Rattle.sketch_countmin.specs.History as count
 use Rattle.sketch_countmin.specs.History.{CountHistory}
 use Rattle.sketch_frequencies.specs.History as frequent
 use Rattle.sketch_frequencies.specs.History.{FrequentHistory}
+use Rattle.sketch_frequencies.specs.State.{greatest_sample_size}
 use Rattle.datasketches.specs.Names.{Name}
 use Rattle.datasketches.specs.Replies.{is_refused}
 use Rattle.datasketches.specs.declared.command.Command.{Command}
@@ -50,7 +51,8 @@ module _ {T : Type 0} where
 
   -- that of a new sketch
   abbrev pub begun : Shape → History T
-  begun (shape.Frequent max_map_size) = OfFrequent (frequent.New max_map_size)
+  begun (shape.Frequent max_map_size) = OfFrequent (frequent.New max_map_size (greatest_sample_size max_map_size))
+  begun (shape.FrequentSampled max_map_size sample_size) = OfFrequent (frequent.New max_map_size sample_size)
   begun (shape.CountI64 hashes buckets seed) = OfCountI64 (count.New hashes buckets seed)
   begun (shape.CountU64 hashes buckets seed) = OfCountU64 (count.New hashes buckets seed)
   begun (shape.Bloom bits hashes seed) = OfBloom (bloom.New (words_for bits) hashes seed)
@@ -108,6 +110,8 @@ module _ {T : Type 0} (input : T → List (List ℕ)) where
   -- what an accepted command makes of an assignment
   abbrev pub accepted : Assignment T → Command T → Assignment T
   accepted a (command.CreateFrequent name max_map_size) = made a name (shape.Frequent max_map_size)
+  accepted a (command.CreateFrequentSampled name max_map_size sample_size) =
+      made a name (shape.FrequentSampled max_map_size sample_size)
   accepted a (command.CreateCountI64 name hashes buckets seed) = made a name (shape.CountI64 hashes buckets seed)
   accepted a (command.CreateCountU64 name hashes buckets seed) = made a name (shape.CountU64 hashes buckets seed)
   accepted a (command.CreateBloom name bits hashes seed) = made a name (shape.Bloom bits hashes seed)

@@ -13,11 +13,12 @@ use Rattle.sketch_countmin.specs.State.{CountState}
 use Rattle.sketch_frequencies.specs.History.{FrequentHistory}
 use Rattle.sketch_frequencies.specs.Image as frequent
 use Rattle.sketch_frequencies.specs.Items.{Codec}
-use Rattle.sketch_frequencies.specs.State.{FrequentState}
+use Rattle.sketch_frequencies.specs.Stands as frequent_stands
+use Rattle.sketch_frequencies.specs.State.{FrequentState, greatest_sample_size}
 use Rattle.datasketches.specs.Histories.{History, restored}
 use Rattle.datasketches.specs.Histories.History.{OfFrequent, OfCountI64, OfCountU64, OfBloom}
 use Rattle.datasketches.specs.Replies.{least_signed, greatest_signed, least_unsigned, greatest_unsigned}
-use Rattle.datasketches.specs.Stands.{KeepsPromise, StandsFor}
+use Rattle.datasketches.specs.Stands.{StandsFor}
 use Rattle.datasketches.specs.declared.image.Image.{Image}
 use Rattle.datasketches.specs.declared.image.Image.TheVariants as image
 use Rattle.datasketches.specs.declared.sketch.Sketch.{Sketch}
@@ -49,9 +50,10 @@ module _ {T C : Type 0} (codec : Codec C) (content : T → C) where
   IsWriteRefusal (CountU64 s) e = e ≡ no_memory
   IsWriteRefusal (Bloom s) e = e ≡ no_memory
 
-  -- the bytes are an image of the sketch
+  -- the bytes are an image of the sketch; one of frequent items has the sample size of a new one
   abbrev pub IsReadFrom : Image → Sketch T → Type 0
-  IsReadFrom (image.Frequent bytes) (Frequent s) = frequent.IsImageOf codec content bytes.items s
+  IsReadFrom (image.Frequent bytes) (Frequent s) =
+      frequent.IsImageOf codec content bytes.items s × (s.sample_size ≡ greatest_sample_size s.max_size)
   IsReadFrom (image.CountI64 seed bytes) (CountI64 s) =
       count.IsImage least_signed greatest_signed seed bytes.items s
   IsReadFrom (image.CountU64 seed bytes) (CountU64 s) =
@@ -87,11 +89,12 @@ pub record IsCountImage (least : ℤ) (greatest seed : ℕ) (bytes : List ℕ) (
   pub stands : count_stands.StandsFor sketch h
 
 module _ {T C : Type 0} (eq : T → T → Bool) (codec : Codec C) (content : T → C) where
-  -- by a sketch of frequent items that keeps its promise of the history
+  -- by a sketch of frequent items that encloses the history and keeps its tail budget, whatever its purges sampled
   pub record IsFrequentImage (bytes : List ℕ) (h : FrequentHistory T) : Type 0 where
     pub sketch : FrequentState T
     pub spelled : frequent.IsSpelledFor codec content bytes sketch
-    pub keeps : KeepsPromise eq sketch h
+    pub encloses : frequent_stands.Encloses eq sketch h
+    pub budget : frequent_stands.KeepsTailBudget eq sketch h
 
   -- it was written by a sketch that stands for the history
   abbrev pub IsImageOf : Image → History T → Type 0

@@ -6,7 +6,7 @@ use Rattle.sketch_bloom.specs.State.{FilterState, item_positions, contains_item}
 use Rattle.sketch_countmin.specs.History.{CountHistory, IsExact, cell_share, own_value, others_share}
 use Rattle.sketch_countmin.specs.Rows.{cell_at}
 use Rattle.sketch_countmin.specs.State.{CountState, IsLeast, IsLeastCell}
-use Rattle.sketch_frequencies.specs.History.{FrequentHistory, true_weight, total_weight, own_size, least_size}
+use Rattle.sketch_frequencies.specs.History.{FrequentHistory, true_weight, total_weight, own_size, least_size, own_sample, least_sample, HasUsualSamples}
 use Rattle.sketch_frequencies.specs.Items.{Codec}
 use Rattle.sketch_frequencies.specs.Stands.{HasFewItems, KeepsTailBudget}
 use Rattle.sketch_frequencies.specs.State.{FrequentState, capacity}
@@ -52,15 +52,25 @@ module _ {T C : Type 0} (eq : T → T → Bool) (codec : Codec C) (content : T �
   WithinTailBudget = (s : FrequentState T) (h : FrequentHistory T) → IsNamed (Frequent s) (OfFrequent h)
       → KeepsTailBudget eq s h
 
-  -- up to a least size of 1024, three eighths of that size times the error are at most the total weight
+  -- its purges sample as many counters as the history says
+  abbrev pub SamplesItsOwn : Type 0
+  SamplesItsOwn = (s : FrequentState T) (h : FrequentHistory T) → IsNamed (Frequent s) (OfFrequent h)
+      → s.sample_size ≡ own_sample h
+
+  -- the least sample size times the error is at most twice the total weight
+  abbrev pub SampleBoundsError : Type 0
+  SampleBoundsError = (s : FrequentState T) (h : FrequentHistory T) → IsNamed (Frequent s) (OfFrequent h)
+      → least_sample h * s.error ≤ 2 * total_weight h
+
+  -- where no sample size was chosen: up to a least size of 1024, three eighths of that size times the error are at most the total weight
   abbrev pub SmallSketchErrsLittle : Type 0
   SmallSketchErrsLittle = (s : FrequentState T) (h : FrequentHistory T) → IsNamed (Frequent s) (OfFrequent h)
-      → least_size h ≤ 1024 → 3 * least_size h * s.error ≤ 8 * total_weight h
+      → HasUsualSamples h → least_size h ≤ 1024 → 3 * least_size h * s.error ≤ 8 * total_weight h
 
-  -- above it, 512 times the error are at most the total weight
+  -- and above it, 512 times the error are at most the total weight
   abbrev pub LargeSketchErrsLittle : Type 0
   LargeSketchErrsLittle = (s : FrequentState T) (h : FrequentHistory T) → IsNamed (Frequent s) (OfFrequent h)
-      → 1024 < least_size h → 512 * s.error ≤ total_weight h
+      → HasUsualSamples h → 1024 < least_size h → 512 * s.error ≤ total_weight h
 
   -- a filter contains an item exactly where the set that its history denotes has each of the item's positions
   abbrev pub ContainsWhatIsDenoted : Type 0

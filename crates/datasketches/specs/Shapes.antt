@@ -1,7 +1,7 @@
 -- What sketches are made by.
 use Rattle.std.specs.Prelude.{Option}
 use Rattle.sketch_base.specs.declared.fault.Fault.{Fault}
-use Rattle.sketch_frequencies.specs.Sizes.{size_fault}
+use Rattle.sketch_frequencies.specs.Sizes.{size_fault, sizes_fault}
 use Rattle.sketch_frequencies.specs.State as frequent
 use Rattle.sketch_countmin.specs.Shapes.{shape_fault}
 use Rattle.sketch_countmin.specs.State as count
@@ -15,13 +15,16 @@ use Rattle.datasketches.specs.declared.sketch.Sketch.TheVariants.{Frequent, Coun
 -- what is wrong with a shape, if anything
 abbrev pub fault_of : Shape → Option Fault
 fault_of (shape.Frequent max_map_size) = size_fault max_map_size
+fault_of (shape.FrequentSampled max_map_size sample_size) = sizes_fault max_map_size sample_size
 fault_of (shape.CountI64 hashes buckets seed) = shape_fault hashes buckets seed
 fault_of (shape.CountU64 hashes buckets seed) = shape_fault hashes buckets seed
 fault_of (shape.Bloom bits hashes seed) = request_fault (record { num_bits = bits; num_hashes = hashes; seed = seed })
 
 -- the empty sketch of a shape
 abbrev pub empty_sketch : {T : Type 0} → Shape → Sketch T
-empty_sketch (shape.Frequent max_map_size) = Frequent (frequent.empty_state max_map_size)
+empty_sketch (shape.Frequent max_map_size) =
+    Frequent (frequent.empty_state max_map_size (frequent.greatest_sample_size max_map_size))
+empty_sketch (shape.FrequentSampled max_map_size sample_size) = Frequent (frequent.empty_state max_map_size sample_size)
 empty_sketch (shape.CountI64 hashes buckets seed) = CountI64 (count.empty_state hashes buckets seed)
 empty_sketch (shape.CountU64 hashes buckets seed) = CountU64 (count.empty_state hashes buckets seed)
 empty_sketch (shape.Bloom bits hashes seed) = Bloom (bloom.empty_state (words_for bits) hashes seed)

@@ -14,7 +14,7 @@ use Rattle.datasketches.specs.declared.sketch.Sketch.TheVariants.{Frequent, Coun
 
 module _ {T : Type 0} (eq : T → T → Bool) where
   -- a sketch of frequent items holds at most three quarters of its greatest size in counters, encloses every true
-  -- weight within its error, and keeps the tail budget
+  -- weight within its error, samples as its history says, and keeps the tail budget
   pub record KeepsPromise (s : FrequentState T) (h : FrequentHistory T) : Type 0 where
     pub few : length s.counters ≤ capacity (own_size h)
     pub stands : frequent.StandsFor eq s h

@@ -151,6 +151,8 @@ module _ {T C : Type 0} (eq : T → T → Bool) (input : T → List (List ℕ)) 
   abbrev pub Step : SessionState T → Command T → Reply T → SessionState T → Type 0
   Step old (command.CreateFrequent name max_map_size) reply new =
       OnSketches (Creates eq (shape.Frequent max_map_size) (string_bytes name)) old reply new
+  Step old (command.CreateFrequentSampled name max_map_size sample_size) reply new =
+      OnSketches (Creates eq (shape.FrequentSampled max_map_size sample_size) (string_bytes name)) old reply new
   Step old (command.CreateCountI64 name hashes buckets seed) reply new =
       OnSketches (Creates eq (shape.CountI64 hashes buckets seed) (string_bytes name)) old reply new
   Step old (command.CreateCountU64 name hashes buckets seed) reply new =

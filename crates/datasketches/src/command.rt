@@ -11,6 +11,12 @@ pub enum Command<T> {
         name: String,
         max_map_size: usize,
     },
+    /// Makes a sketch of frequent items of at most so many slots whose purges sample so many counters.
+    CreateFrequentSampled {
+        name: String,
+        max_map_size: usize,
+        sample_size: usize,
+    },
     /// Makes a Count-Min sketch of weights below zero and above.
     CreateCountI64 {
         name: String,

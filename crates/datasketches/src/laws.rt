@@ -4,21 +4,25 @@
 //! A new session fits the assignment with no name, and [`run`](crate::Session::run) leaves a session that fits what
 //! its commands and replies made of the assignment. So the laws hold of each sketch of a session after any list of
 //! commands.
-ghost use Rattle.datasketches.specs.Laws.{HoldsFew, EnclosesWeights, ExactOfFew, WithinTailBudget, SmallSketchErrsLittle, LargeSketchErrsLittle, ContainsWhatIsDenoted, CellsAreShares, LeastCellIsRaisedByOthers, StepKeepsFit};
+ghost use Rattle.datasketches.specs.Laws.{HoldsFew, EnclosesWeights, ExactOfFew, WithinTailBudget, SamplesItsOwn, SampleBoundsError, SmallSketchErrsLittle, LargeSketchErrsLittle, ContainsWhatIsDenoted, CellsAreShares, LeastCellIsRaisedByOthers, StepKeepsFit};
 
 use sketch_countmin::laws as countmin;
 use sketch_frequencies::{FrequentItemValue, laws as frequencies};
 
 /// A sketch of frequent items holds at most three quarters of its greatest size in counters, encloses every true
-/// weight within its error, has no error where few items came, and keeps the tail budget.
+/// weight within its error, has no error where few items came, keeps the tail budget, and its purges sample as many
+/// counters as its history says.
 ///
-/// For a greatest size M, the least of all that took part, the error is at most 8 / 3M of the weight of all items
+/// For a sample size L, the least of all that took part, the error is at most 2 / L of the weight of all items. Where
+/// no sample size was chosen, that is, for a greatest size M, the least of all that took part, at most 8 / 3M of it
 /// where M is up to 1024, and at most 1 / 512 of it above.
 pub fn what_frequent_items_say<T: FrequentItemValue>()
     ensures few { HoldsFew T.eq T.codec T.content }
     ensures encloses { EnclosesWeights T.eq T.codec T.content }
     ensures exact { ExactOfFew T.eq T.codec T.content }
     ensures budget { WithinTailBudget T.eq T.codec T.content }
+    ensures sample { SamplesItsOwn T.eq T.codec T.content }
+    ensures sampled { SampleBoundsError T.eq T.codec T.content }
     ensures small { SmallSketchErrsLittle T.eq T.codec T.content }
     ensures large { LargeSketchErrsLittle T.eq T.codec T.content }
 {

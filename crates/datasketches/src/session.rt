@@ -117,6 +117,17 @@ impl<T: FrequentItemValue + Clone + Drop> Session<T> {
             Command::CreateFrequent { name, max_map_size } => {
                 self.create(name, Shape::Frequent { max_map_size })
             }
+            Command::CreateFrequentSampled {
+                name,
+                max_map_size,
+                sample_size,
+            } => self.create(
+                name,
+                Shape::FrequentSampled {
+                    max_map_size,
+                    sample_size,
+                },
+            ),
             Command::CreateCountI64 {
                 name,
                 num_hashes,

@@ -26,6 +26,11 @@ pub enum Shape {
     Frequent {
         max_map_size: usize,
     },
+    /// A frequent-items sketch of at most so many slots whose purges sample so many counters.
+    FrequentSampled {
+        max_map_size: usize,
+        sample_size: usize,
+    },
     /// A Count-Min sketch of weights below zero and above.
     CountI64 {
         num_hashes: u8,
@@ -97,6 +102,14 @@ impl<T: Eq + Hash + Drop> Sketch<T> {
             Shape::Frequent { max_map_size } => Ok(Sketch::Frequent(FrequentItemsSketch::new(
                 alloc,
                 max_map_size,
+            )?)),
+            Shape::FrequentSampled {
+                max_map_size,
+                sample_size,
+            } => Ok(Sketch::Frequent(FrequentItemsSketch::with_sample_size(
+                alloc,
+                max_map_size,
+                sample_size,
             )?)),
             Shape::CountI64 {
                 num_hashes,

@@ -9,6 +9,7 @@ use std::test::Fail;
 #[derive(Clone, Copy)]
 enum Does {
     CreateFrequent(usize),
+    CreateFrequentSampled(usize, usize),
     CreateCountI64(u32),
     CreateCountU64(u32),
     CreateBloom(u64),
@@ -48,6 +49,11 @@ fn command(alloc: Global, name: &str, does: Does, other: &str) -> Result<Command
     let other = String::from_str(alloc, other)?;
     Ok(match does {
         Does::CreateFrequent(max_map_size) => Command::CreateFrequent { name, max_map_size },
+        Does::CreateFrequentSampled(max_map_size, sample_size) => Command::CreateFrequentSampled {
+            name,
+            max_map_size,
+            sample_size,
+        },
         Does::CreateCountI64(num_buckets) => Command::CreateCountI64 {
             name,
             num_hashes: 4,
@@ -247,12 +253,26 @@ fn refuses_names_first(rt: HostRuntime) -> Result<(), Fail> {
 #[test]
 fn refuses_kinds_before_arguments(rt: HostRuntime) -> Result<(), Fail> {
     let size = Refusal::Call(Error::invalid_argument(Fault::MapSizeNotPowerOfTwo));
+    let sample = Refusal::Call(Error::invalid_argument(Fault::BadSampleSize));
     let mismatch = Refusal::Call(Error::invalid_argument(Fault::Mismatch));
     let rows = [
         ("u", Does::CreateCountU64(128), "", Said::Done),
         ("b", Does::CreateBloom(64), "", Said::Done),
         ("c", Does::CreateBloom(128), "", Said::Done),
         ("f", Does::CreateFrequent(12), "", Said::Refused(size)),
+        (
+            "f",
+            Does::CreateFrequentSampled(8, 3),
+            "",
+            Said::Refused(sample),
+        ),
+        ("f", Does::CreateFrequentSampled(8, 2), "", Said::Done),
+        (
+            "f",
+            Does::CreateFrequentSampled(8, 3),
+            "",
+            Said::Refused(Refusal::NameTaken),
+        ),
         ("b", Does::Merge, "c", Said::Refused(Refusal::WrongKind)),
         ("b", Does::Union, "c", Said::Refused(mismatch)),
         (

@@ -1,14 +1,13 @@
 -- Numbers in words.
-use Rattle.std.proofs.Common.{◌≡◌, ◌≢◌, ℕ, ◌+◌, ◌^◌, ◌*◌, ◌%◌, ◌<◌, ◌≤◌, List, [], ◌∷◌, length, get_or, Result, Ok, Err, Option, Some, None, Bool, true, false, cond, ◌&&◌, ltb, eqb, ⊎_elim, refl, sym, ◌∙◌, ap, subst, drop, ℤ, pos, neg_ℤ, w64, arith}
+use Rattle.std.proofs.Common.{◌≡◌, ◌≢◌, ℕ, ◌+◌, ◌^◌, ◌<◌, ◌≤◌, List, [], ◌∷◌, length, get_or, Result, Ok, Err, Option, Some, None, Bool, true, false, cond, ◌&&◌, ltb, eqb, refl, sym, ◌∙◌, ap, subst, drop, ℤ, pos, neg_ℤ, w64, arith}
 use Rattle.std.specs.Borrow.{Bor}
 use Rattle.std.specs.Option.{option_copied, option_eq, option_map}
 use Rattle.std.specs.List.{slice_get}
 use Rattle.std.specs.Result.{OkIff, result_ok}
 use Rattle.std.specs.Str.{all_ascii_digits}
 use Rattle.std.specs.Str.Parse.{ParsesUnsigned, ParsesSigned, digits_value}
-use Rattle.std.proofs.lemmas.Bool.{cases_lt, cond-false, eqb-true, eqb-false, false≢true}
+use Rattle.std.proofs.lemmas.Bool.{cond-false, eqb-true, eqb-false, false≢true}
 use Rattle.std.proofs.lemmas.Bool.Decides.{nat_tests}
-use Rattle.std.proofs.Math.Pow.{pow_mono}
 use Rattle.std.proofs.lemmas.Str.Parse.{IsNumeralModel, numerals_by_value, tells_all_ascii_digits, parse_plain, parse_signed_minus, parse_signed_plain}
 use Rattle.datasketches_cli.specs.Grammar.{number_below, signed_number}
 

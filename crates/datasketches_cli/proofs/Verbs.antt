@@ -18,6 +18,7 @@ use Rattle.datasketches_cli.specs.Said.{AreCountsOf, IsCommandOf, texts_of}
 -- words that are no numbers of a Count-Min sketch make no command for one
 no_signed : (words : List (List ℕ)) → ((hashes buckets seed : ℕ) → ¬ AreCounts words hashes buckets seed) → (made : Command Text) → ¬ MakeRest (verb.Create kind.CountI64) words made
 no_signed words none (command.CreateFrequent name max) made = made
+no_signed words none (command.CreateFrequentSampled name max sample) made = made
 no_signed words none (command.CreateCountI64 name hashes buckets seed) made = none hashes buckets seed made
 no_signed words none (command.CreateCountU64 name hashes buckets seed) made = made
 no_signed words none (command.CreateBloom name bits hashes seed) made = made
@@ -40,6 +41,7 @@ no_signed words none (command.ListRows name error_type threshold) made = made
 
 no_unsigned : (words : List (List ℕ)) → ((hashes buckets seed : ℕ) → ¬ AreCounts words hashes buckets seed) → (made : Command Text) → ¬ MakeRest (verb.Create kind.CountU64) words made
 no_unsigned words none (command.CreateFrequent name max) made = made
+no_unsigned words none (command.CreateFrequentSampled name max sample) made = made
 no_unsigned words none (command.CreateCountI64 name hashes buckets seed) made = made
 no_unsigned words none (command.CreateCountU64 name hashes buckets seed) made = none hashes buckets seed made
 no_unsigned words none (command.CreateBloom name bits hashes seed) made = made
@@ -76,6 +78,7 @@ short_counts words hashes buckets seed (h, b, s, e, x, y, z) = omega (arith, ap 
 
 short_rest : (v : Verb) (words : List (List ℕ)) (made : Command Text) → MakeRest v words made → length words ≤ 3
 short_rest (verb.Create kind.Frequent) words (command.CreateFrequent name max) (m, e, n) = omega (arith, ap length e)
+short_rest (verb.Create kind.FrequentSampled) words (command.CreateFrequentSampled name max sample) (m, n, e, x, y) = omega (arith, ap length e)
 short_rest (verb.Create kind.CountI64) words (command.CreateCountI64 name hashes buckets seed) counts = short_counts words hashes buckets seed counts
 short_rest (verb.Create kind.CountU64) words (command.CreateCountU64 name hashes buckets seed) counts = short_counts words hashes buckets seed counts
 short_rest (verb.Create kind.Bloom) words (command.CreateBloom name bits hashes seed) (b, h, s, e, x, y, z) = omega (arith, ap length e)

@@ -37,6 +37,7 @@ signed_number word =
 -- the first word of a command that makes a sketch
 abbrev pub kind_word : Kind → List ℕ
 kind_word kind.Frequent = codes "frequent"
+kind_word kind.FrequentSampled = codes "sampled"
 kind_word kind.CountI64 = codes "counti"
 kind_word kind.CountU64 = codes "countu"
 kind_word kind.Bloom = codes "bloom"
@@ -83,6 +84,7 @@ AreCounts words hashes buckets seed =
 -- the name that a command begins with
 abbrev pub name_of : Command Text → List ℕ
 name_of (command.CreateFrequent name max_map_size) = string_bytes name
+name_of (command.CreateFrequentSampled name max_map_size sample_size) = string_bytes name
 name_of (command.CreateCountI64 name hashes buckets seed) = string_bytes name
 name_of (command.CreateCountU64 name hashes buckets seed) = string_bytes name
 name_of (command.CreateBloom name bits hashes seed) = string_bytes name
@@ -107,6 +109,9 @@ name_of (command.ListRows name error_type threshold) = string_bytes name
 abbrev pub MakeRest : Verb → List (List ℕ) → Command Text → Type 0
 MakeRest (verb.Create kind.Frequent) words (command.CreateFrequent name max_map_size) =
     (max : List ℕ) × (words ≡ max ∷ []) × (number_below (2 ^ 64) max ≡ Some max_map_size)
+MakeRest (verb.Create kind.FrequentSampled) words (command.CreateFrequentSampled name max_map_size sample_size) =
+    (max sample : List ℕ) × (words ≡ max ∷ sample ∷ []) × (number_below (2 ^ 64) max ≡ Some max_map_size)
+    × (number_below (2 ^ 64) sample ≡ Some sample_size)
 MakeRest (verb.Create kind.CountI64) words (command.CreateCountI64 name hashes buckets seed) =
     AreCounts words hashes buckets seed
 MakeRest (verb.Create kind.CountU64) words (command.CreateCountU64 name hashes buckets seed) =

@@ -5,6 +5,7 @@
 //! | line | asks for | answer |
 //! |---|---|---|
 //! | `frequent NAME MAX` | a sketch of frequent items of at most MAX slots, a power of two from 8 to 2^30 | `ok` |
+//! | `sampled NAME MAX SAMPLE` | the same, whose purges sample SAMPLE counters, an even number from 2 to three quarters of MAX, at most 1024 | `ok` |
 //! | `counti NAME HASHES BUCKETS SEED` | a Count-Min sketch of weights below zero and above | `ok` |
 //! | `countu NAME HASHES BUCKETS SEED` | a Count-Min sketch of weights of zero and above | `ok` |
 //! | `bloom NAME BITS HASHES SEED` | a Bloom filter | `ok` |

@@ -38,6 +38,7 @@ enum Verb {
 #[derive(Clone, Copy)]
 enum Kind {
     Frequent,
+    FrequentSampled,
     CountI64,
     CountU64,
     Bloom,
@@ -149,6 +150,7 @@ fn verb_of(word: &str) -> Option<Verb>
 {
     match word {
         "frequent" => Some(Verb::Create(Kind::Frequent)),
+        "sampled" => Some(Verb::Create(Kind::FrequentSampled)),
         "counti" => Some(Verb::Create(Kind::CountI64)),
         "countu" => Some(Verb::Create(Kind::CountU64)),
         "bloom" => Some(Verb::Create(Kind::Bloom)),
@@ -187,6 +189,23 @@ fn create(alloc: Global, kind: Kind, name: &str, words: &[&str]) -> Made
             Ok(Some(Command::CreateFrequent {
                 name,
                 max_map_size: max_map_size as usize,
+            }))
+        }
+        Kind::FrequentSampled => {
+            let [max_map_size, sample_size] = words else {
+                return Ok(None);
+            };
+            let (Some(max_map_size), Some(sample_size)) = (
+                number_of(max_map_size),
+                number_of(sample_size),
+            ) else {
+                return Ok(None);
+            };
+            let name = String::from_str(alloc, name)?;
+            Ok(Some(Command::CreateFrequentSampled {
+                name,
+                max_map_size: max_map_size as usize,
+                sample_size: sample_size as usize,
             }))
         }
         Kind::CountI64 => {

@@ -82,7 +82,7 @@ const ROWS: [Row; 8] = [
     ("ask s c", "estimate 0 lower 0 upper 0"),
 ];
 
-const ORDER_OF_REFUSALS: [Row; 13] = [
+const ORDER_OF_REFUSALS: [Row; 16] = [
     ("add s 1 a", "refused NoSuchName"),
     ("ask s a", "refused NoSuchName"),
     ("status s", "refused NoSuchName"),
@@ -92,6 +92,9 @@ const ORDER_OF_REFUSALS: [Row; 13] = [
     ("frequent s 2147483648", "refused MapSizeTooLarge"),
     ("frequent s 8", "ok"),
     ("frequent s 12", "refused NameTaken"),
+    ("sampled t 8 3", "refused BadSampleSize"),
+    ("sampled t 8 2", "ok"),
+    ("sampled t 8 2", "refused NameTaken"),
     ("add s 18446744073709551615 a", "ok"),
     ("add s 1 b", "refused WeightOverflow"),
     ("add s 0 b", "ok"),

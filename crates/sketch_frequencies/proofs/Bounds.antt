@@ -1,21 +1,18 @@
 -- The tail budget with no item set aside bounds the error by the weight of all.
-use Rattle.std.proofs.Common.{◌≡◌, ℕ, ◌+◌, ◌-◌, ◌*◌, ◌/◌, ◌<◌, ◌≤◌, ◌^◌, Bool, [], refl, ap, subst, arith}
+use Rattle.std.proofs.Common.{◌≡◌, ℕ, ◌+◌, ◌-◌, ◌*◌, ◌/◌, ◌<◌, ◌≤◌, Bool, [], refl, ap, subst, arith}
 use Rattle.std.specs.Prelude.{IsTrue}
 use Rattle.std.specs.Int.{is_power_of_two}
-use Rattle.std.proofs.Math.Pow.{pow_mono}
-use Rattle.std.proofs.lemmas.Bool.{cases_lt}
-use Rattle.std.proofs.lemmas.Nat.{pow-add}
 use Rattle.sketch_frequencies.specs.Tables.{sum_outside}
-use Rattle.sketch_frequencies.specs.History.{FrequentHistory, total_weight, weight_outside, least_size, budget_size}
+use Rattle.sketch_frequencies.specs.History.{FrequentHistory, total_weight, weight_outside, least_size, least_sample, budget_size, HasUsualSamples}
 use Rattle.sketch_frequencies.specs.History.FrequentHistory.{New, Update, Merge, Reset, Restored}
 use Rattle.sketch_frequencies.specs.State.{FrequentState}
-use Rattle.sketch_frequencies.specs.Stands.{StandsFor, KeepsTailBudget}
-use Rattle.sketch_frequencies.proofs.Cases.{by_cases}
-use Rattle.sketch_frequencies.proofs.Powers.{power_of, power_twice, eight_is_power, doubled_fits}
+use Rattle.sketch_frequencies.specs.Stands.{Encloses, KeepsTailBudget}
+use Rattle.sketch_frequencies.proofs.Powers.{power_twice, eight_is_power, doubled_fits}
+use Rattle.sketch_frequencies.proofs.SampleSizes.{eighths, usual_least}
 
 -- with no item set aside the weight outside is the weight of all
 outside_none : {T : Type 0} (eq : T → T → Bool) (h : FrequentHistory T) → weight_outside eq [] h ≡ total_weight h
-outside_none eq (New m) = refl
+outside_none eq (New m n) = refl
 outside_none eq (Update h x w) = ap (λ n. n + w) (outside_none eq h)
 outside_none eq (Merge h g) = omega (arith, outside_none eq h, outside_none eq g)
 outside_none eq (Reset h) = refl
@@ -27,32 +24,29 @@ budget_of_all eq s h keeps =
     let whole : budget_size h - 0 ≡ budget_size h = omega arith in
     omega (arith, held, ap (λ n. n * s.error) whole, outside_none eq h)
 
--- a power of two from 8 on is a multiple of 8
-eighths : (m : ℕ) → IsTrue (is_power_of_two m) → 8 ≤ m → m ≡ 8 * (m / 8)
-eighths m power least =
-    let a = power_of m power in
-    by_cases (cases_lt a.0 3)
-    (λ low. let up : 2 ^ a.0 ≤ 2 ^ 2 = pow_mono {i = a.0} {j = 2} (omega (arith, low)) in absurd (omega (arith, up, a.1, least)))
-    (λ high.
-    let j : ℕ = a.0 - 3 in
-    let e : a.0 ≡ 3 + j = omega (arith, high) in
-    omega (arith, a.1, ap (λ n. 2 ^ n) e, pow-add 2 3 j))
-
 big_power : IsTrue (is_power_of_two 1024)
 big_power = power_twice 512 (power_twice 256 (power_twice 128 (power_twice 64 (power_twice 32 (power_twice 16 (power_twice 8 eight_is_power))))))
 
+-- by the least sample
+pub error_sampled : {T : Type 0} (eq : T → T → Bool) (s : FrequentState T) (h : FrequentHistory T) → Encloses eq s h → KeepsTailBudget eq s h → least_sample h * s.error ≤ 2 * total_weight h
+error_sampled eq s h encloses keeps =
+    let k = least_sample h / 2 in
+    let e : least_sample h ≡ 2 * k = omega (arith, encloses.sample.even) in
+    let all : k * s.error ≤ total_weight h = budget_of_all eq s h keeps in
+    rw e (omega (arith, all))
+
 -- up to 1024
-pub error_small : {T : Type 0} (eq : T → T → Bool) (s : FrequentState T) (h : FrequentHistory T) → StandsFor eq s h → KeepsTailBudget eq s h → least_size h ≤ 1024 → 3 * least_size h * s.error ≤ 8 * total_weight h
-error_small eq s h stands keeps small =
+pub error_small : {T : Type 0} (eq : T → T → Bool) (s : FrequentState T) (h : FrequentHistory T) → Encloses eq s h → KeepsTailBudget eq s h → HasUsualSamples h → least_size h ≤ 1024 → 3 * least_size h * s.error ≤ 8 * total_weight h
+error_small eq s h encloses keeps usual small =
     let k = least_size h / 8 in
-    let e : least_size h ≡ 8 * k = eighths (least_size h) stands.power stands.least in
-    let b : budget_size h ≡ 3 * k = omega (arith, e, small) in
+    let e : least_size h ≡ 8 * k = eighths (least_size h) encloses.power encloses.least in
+    let b : budget_size h ≡ 3 * k = omega (arith, e, small, usual_least h usual) in
     let all : 3 * k * s.error ≤ total_weight h = subst (λ (n : ℕ). n * s.error ≤ total_weight h) b (budget_of_all eq s h keeps) in
     rw e (omega (arith, all))
 
 -- above
-pub error_large : {T : Type 0} (eq : T → T → Bool) (s : FrequentState T) (h : FrequentHistory T) → StandsFor eq s h → KeepsTailBudget eq s h → 1024 < least_size h → 512 * s.error ≤ total_weight h
-error_large eq s h stands keeps large =
-    let twice = doubled_fits 1024 (least_size h) big_power stands.power large in
-    let b : budget_size h ≡ 512 = omega (arith, twice) in
+pub error_large : {T : Type 0} (eq : T → T → Bool) (s : FrequentState T) (h : FrequentHistory T) → Encloses eq s h → KeepsTailBudget eq s h → HasUsualSamples h → 1024 < least_size h → 512 * s.error ≤ total_weight h
+error_large eq s h encloses keeps usual large =
+    let twice = doubled_fits 1024 (least_size h) big_power encloses.power large in
+    let b : budget_size h ≡ 512 = omega (arith, twice, usual_least h usual) in
     subst (λ (n : ℕ). n * s.error ≤ total_weight h) b (budget_of_all eq s h keeps)

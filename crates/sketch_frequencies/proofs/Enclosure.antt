@@ -6,10 +6,10 @@ use Rattle.std.specs.Map.{keys_of}
 use Rattle.std.proofs.lemmas.Map.Made.{length-le_from_is_member}
 use Rattle.std.proofs.lemmas.Map.Entries.{length-keys_of}
 use Rattle.sketch_frequencies.specs.Tables.{count_of, put, purged}
-use Rattle.sketch_frequencies.specs.History.{FrequentHistory, own_size, least_size}
+use Rattle.sketch_frequencies.specs.History.{FrequentHistory, own_size, least_size, own_sample, least_sample}
 use Rattle.sketch_frequencies.specs.History.FrequentHistory.{New, Update, Merge, Reset, Restored}
-use Rattle.sketch_frequencies.specs.State.{FrequentState, IsState, capacity}
-use Rattle.sketch_frequencies.specs.Stands.{StandsFor, HasFewItems}
+use Rattle.sketch_frequencies.specs.State.{FrequentState, IsState, capacity, greatest_sample_size}
+use Rattle.sketch_frequencies.specs.Stands.{Encloses, StandsFor, HasFewItems}
 use Rattle.sketch_frequencies.specs.Steps.{Steps}
 use Rattle.sketch_frequencies.proofs.Cases.{by_cases}
 use Rattle.sketch_frequencies.proofs.Puts.{count_of-put, IsDistinct-put, positive-put, positive_from_tracked}
@@ -37,18 +37,30 @@ counted {eq = eq} laws old new x w ok step =
 
 -- no size that took part is greater than the sketch's own
 pub least_le_own : {T : Type 0} (h : FrequentHistory T) → least_size h ≤ own_size h
-least_le_own (New m) = omega arith
+least_le_own (New m n) = omega arith
 least_le_own (Update h x w) = least_le_own h
 least_le_own (Merge h g) = omega (arith, least_le_own h)
 least_le_own (Reset h) = omega arith
 least_le_own (Restored h) = least_le_own h
+
+-- nor is any sample greater than the sketch's own, where it is one that the sketch may have
+pub sample_le_own : {T : Type 0} (h : FrequentHistory T) (n : ℕ) → n ≤ least_sample h → n ≤ greatest_sample_size (own_size h) → n ≤ own_sample h
+sample_le_own (New m k) n a b = a
+sample_le_own (Update h x w) n a b = sample_le_own h n a b
+sample_le_own (Merge h g) n a b = sample_le_own h n (omega (arith, a)) b
+sample_le_own (Reset h) n a b = a
+sample_le_own (Restored h) n a b = b
+
+-- so a purge samples no fewer counters than the tail budget needs
+pub sample_enough : {T : Type 0} {eq : T → T → Bool} (s : FrequentState T) (h : FrequentHistory T) → StandsFor eq s h → least_sample h ≤ s.sample_size
+sample_enough s h stands = omega (arith, sample_le_own h (least_sample h) (omega arith) (omega (arith, stands.encloses.sample.greatest, least_le_own h)), stands.sample_size)
 
 -- few items after an update are few before it
 few_before : {T : Type 0} {eq : T → T → Bool} (h : FrequentHistory T) (x : T) (w : ℕ) → HasFewItems eq (Update h x w) → HasFewItems eq h
 few_before h x w few = record { items = few.items; fit = few.fit; cover = λ y p. few.cover y (omega (arith, p)) }
 
 -- every tracked item has a true weight above 0, so it is covered
-exact_after : {T : Type 0} {eq : T → T → Bool} → IsEquivalence eq → (old new : FrequentState T) (x : T) (w : ℕ) → 0 < w → IsState eq old → Steps eq old x w new → (h : FrequentHistory T) → StandsFor eq old h → HasFewItems eq (Update h x w) → new.error ≡ 0
+exact_after : {T : Type 0} {eq : T → T → Bool} → IsEquivalence eq → (old new : FrequentState T) (x : T) (w : ℕ) → 0 < w → IsState eq old → Steps eq old x w new → (h : FrequentHistory T) → Encloses eq old h → HasFewItems eq (Update h x w) → new.error ≡ 0
 exact_after {eq = eq} laws old new x w pos ok step h s few =
     let c1 = put eq old.counters x w in
     let apart = IsDistinct-put laws old.counters x w ok.distinct in
@@ -62,8 +74,8 @@ exact_after {eq = eq} laws old new x w pos ok step h s few =
     (λ at. absurd (omega (arith, over, at, fits, few.fit, s.max_size, ok.within, least_le_own h, length-keys_of c1))))
     (λ room. omega (arith, (step.kept room).error, none))
 
-pub stands_after : {T : Type 0} {eq : T → T → Bool} → IsEquivalence eq → (old new : FrequentState T) (x : T) (w : ℕ) → 0 < w → IsState eq old → Steps eq old x w new → (h : FrequentHistory T) → StandsFor eq old h → StandsFor eq new (Update h x w)
-stands_after {eq = eq} laws old new x w pos ok step h s =
+encloses_after : {T : Type 0} {eq : T → T → Bool} → IsEquivalence eq → (old new : FrequentState T) (x : T) (w : ℕ) → 0 < w → IsState eq old → Steps eq old x w new → (h : FrequentHistory T) → Encloses eq old h → Encloses eq new (Update h x w)
+encloses_after {eq = eq} laws old new x w pos ok step h s =
     let now = counted laws old new x w ok step in
     record {
       max_size = step.max_size ∙ s.max_size;
@@ -73,4 +85,11 @@ stands_after {eq = eq} laws old new x w pos ok step h s =
       exact = λ few. exact_after laws old new x w pos ok step h s few;
       least = s.least;
       power = s.power;
+      sample = s.sample;
     }
+
+pub stands_after : {T : Type 0} {eq : T → T → Bool} → IsEquivalence eq → (old new : FrequentState T) (x : T) (w : ℕ) → 0 < w → IsState eq old → Steps eq old x w new → (h : FrequentHistory T) → StandsFor eq old h → StandsFor eq new (Update h x w)
+stands_after laws old new x w pos ok step h s = record {
+  encloses = encloses_after laws old new x w pos ok step h s.encloses;
+  sample_size = step.sample_size ∙ s.sample_size;
+}

@@ -4,16 +4,16 @@ use Rattle.std.specs.Prelude.{IsTrue}
 use Rattle.std.specs.Int.{is_power_of_two}
 use Rattle.std.specs.List.{IsDistinct}
 use Rattle.std.proofs.lemmas.List.Elements.{All-nil}
-use Rattle.sketch_frequencies.specs.History.{FrequentHistory, own_size}
+use Rattle.sketch_frequencies.specs.History.{FrequentHistory, own_size, own_sample}
 use Rattle.sketch_frequencies.specs.History.FrequentHistory.{New, Reset}
 use Rattle.sketch_frequencies.specs.Stands.{StandsFor, KeepsTailBudget}
-use Rattle.sketch_frequencies.specs.State.{IsState, empty_state}
+use Rattle.sketch_frequencies.specs.State.{IsState, IsSampleSize, empty_state}
 use Rattle.sketch_frequencies.proofs.Powers.{eight_is_power}
 
 -- it is a state
-pub fresh_state : {T : Type 0} (eq : T → T → Bool) (m : ℕ) → 8 ≤ m → m ≤ 2 ^ 30 → IsTrue (is_power_of_two m) → IsState eq (empty_state m)
+pub fresh_state : {T : Type 0} (eq : T → T → Bool) (m n : ℕ) → 8 ≤ m → m ≤ 2 ^ 30 → IsTrue (is_power_of_two m) → IsSampleSize m n → IsState eq (empty_state m n)
 unfolding IsDistinct
-fresh_state eq m least most power = record {
+fresh_state eq m n least most power sample = record {
   distinct = tt;
   positive = All-nil _;
   few = omega arith;
@@ -24,23 +24,42 @@ fresh_state eq m least most power = record {
   size_power = eight_is_power;
   max_size_power = power;
   empty = λ _. refl;
+  sample = sample;
 }
 
 -- it stands for nothing fed
-pub new_stands : {T : Type 0} (eq : T → T → Bool) (m : ℕ) → 8 ≤ m → IsTrue (is_power_of_two m) → StandsFor eq (empty_state m) (New m)
-new_stands eq m least power = record { max_size = refl; total = refl; at_least = λ _. omega arith; at_most = λ _. omega arith; exact = λ _. refl; least = least; power = power }
-
--- after a reset it stands for what was reset, and keeps the tail budget
-pub reset_stands : {T : Type 0} (eq : T → T → Bool) (m : ℕ) → 8 ≤ m → IsTrue (is_power_of_two m) → (h : FrequentHistory T) → m ≡ own_size h → StandsFor eq (empty_state m) (Reset h)
-reset_stands eq m least power h own = record {
-  max_size = own;
-  total = refl;
-  at_least = λ _. omega arith;
-  at_most = λ _. omega arith;
-  exact = λ _. refl;
-  least = omega (arith, least, own);
-  power = subst (λ (n : ℕ). IsTrue (is_power_of_two n)) own power;
+pub new_stands : {T : Type 0} (eq : T → T → Bool) (m n : ℕ) → 8 ≤ m → IsTrue (is_power_of_two m) → IsSampleSize m n → StandsFor eq (empty_state m n) (New m n)
+new_stands eq m n least power sample = record {
+  encloses = record {
+    max_size = refl;
+    total = refl;
+    at_least = λ _. omega arith;
+    at_most = λ _. omega arith;
+    exact = λ _. refl;
+    least = least;
+    power = power;
+    sample = sample;
+  };
+  sample_size = refl;
 }
 
-pub reset_budget : {T : Type 0} (eq : T → T → Bool) (m : ℕ) (h : FrequentHistory T) → KeepsTailBudget eq (empty_state m) (Reset h)
-reset_budget eq m h = λ set short. omega arith
+-- after a reset it stands for what was reset, and keeps the tail budget
+pub reset_stands : {T : Type 0} (eq : T → T → Bool) (m n : ℕ) → 8 ≤ m → IsTrue (is_power_of_two m) → IsSampleSize m n → (h : FrequentHistory T) → m ≡ own_size h → n ≡ own_sample h → StandsFor eq (empty_state m n) (Reset h)
+reset_stands eq m n least power sample h own own_n =
+    let so_many : IsSampleSize m (own_sample h) = subst (λ (k : ℕ). IsSampleSize m k) own_n sample in
+    record {
+      encloses = record {
+        max_size = own;
+        total = refl;
+        at_least = λ _. omega arith;
+        at_most = λ _. omega arith;
+        exact = λ _. refl;
+        least = omega (arith, least, own);
+        power = subst (λ (k : ℕ). IsTrue (is_power_of_two k)) own power;
+        sample = subst (λ (k : ℕ). IsSampleSize k (own_sample h)) own so_many;
+      };
+      sample_size = own_n;
+    }
+
+pub reset_budget : {T : Type 0} (eq : T → T → Bool) (m n : ℕ) (h : FrequentHistory T) → KeepsTailBudget eq (empty_state m n) (Reset h)
+reset_budget eq m n h = λ set short. omega arith

@@ -12,10 +12,10 @@ use Rattle.sketch_base.specs.Checks.{first_failing}
 use Rattle.sketch_frequencies.specs.Image.{IsImage, IsImageOf, Restores, RestoresBudget, contents_of, state_of_contents, says_empty, header_checks, count_checks, weight_checks, max_size_at, size_at, total_at, error_at, weights_at}
 use Rattle.sketch_frequencies.specs.Items.{Codec}
 use Rattle.sketch_frequencies.specs.Reading.{AreCounters}
-use Rattle.sketch_frequencies.specs.State.{FrequentState, IsState, capacity, empty_state}
-use Rattle.sketch_frequencies.specs.Steps.{IsSameState}
+use Rattle.sketch_frequencies.specs.State.{FrequentState, IsState, IsSampleSize, capacity, greatest_sample_size, empty_state}
+use Rattle.sketch_frequencies.specs.Steps.{HoldsSame}
 use Rattle.sketch_frequencies.specs.Tables.{count_of, sum_of}
-use Rattle.sketch_frequencies.proofs.Alike.{stands_alike, budget_alike}
+use Rattle.sketch_frequencies.proofs.Alike.{encloses_alike, budget_alike}
 use Rattle.sketch_frequencies.proofs.Cases.{by_test}
 use Rattle.sketch_frequencies.proofs.Counting.{distinct_contents}
 use Rattle.sketch_frequencies.proofs.SameCounts.{same_map}
@@ -32,7 +32,7 @@ positive_from_contents {T} {C} content (e ∷ es) h =
     All-cons (λ (p : T × ℕ). 0 < p.1) e es (All-head Q (content e.0, e.1) (contents_of content es) h) (positive_from_contents content es (All-tail Q (content e.0, e.1) (contents_of content es) h))
 
 -- no bytes are an image of two states of contents
-pub image_is_of_one : {C : Type 0} (codec : Codec C) → IsEquivalence codec.same → (image : List ℕ) (s t : FrequentState C) → IsImage codec image s → IsImage codec image t → IsSameState codec.same s t
+pub image_is_of_one : {C : Type 0} (codec : Codec C) → IsEquivalence codec.same → (image : List ℕ) (s t : FrequentState C) → IsImage codec image s → IsImage codec image t → HoldsSame codec.same s t
 image_is_of_one codec laws image s t a b = record {
   counters = same_map laws s.counters t.counters a.state.distinct b.state.distinct a.state.positive b.state.positive (λ x. a.counters x ∙ sym (b.counters x));
   error = b.error ∙ sym a.error;
@@ -55,6 +55,7 @@ module _ {T C : Type 0} (codec : Codec C) (content : T → C) (eq : T → T → 
     size_power = h.size_power;
     max_size_power = h.max_size_power;
     empty = h.empty;
+    sample = h.sample;
   }
 
   none_equal_back : (k : T) (es : List (T × ℕ)) → AllByRecursion (λ q. codec.same (content k) q ≡ false) (keys_of (contents_of content es)) → AllByRecursion (λ q. eq k q ≡ false) (keys_of es)
@@ -80,6 +81,7 @@ module _ {T C : Type 0} (codec : Codec C) (content : T → C) (eq : T → T → 
         size_power = h.size_power;
         max_size_power = h.max_size_power;
         empty = h.empty;
+        sample = h.sample;
       }
 
   count_of-contents : (es : List (T × ℕ)) (x : T) → count_of codec.same (contents_of content es) (content x) ≡ count_of eq es x
@@ -87,7 +89,7 @@ module _ {T C : Type 0} (codec : Codec C) (content : T → C) (eq : T → T → 
   count_of-contents (e ∷ es) x = rw (alike x e.0) (by_test (codec.same (content x) (content e.0)) (λ b. unwrap_or (cond b (Some e.1) (lookup (codec.same (content x)) (contents_of content es))) 0 ≡ unwrap_or (cond b (Some e.1) (lookup (eq x) es)) 0) (λ _. refl) (λ _. count_of-contents es x))
 
   -- no bytes are an image of two sketches
-  pub one_sketch : IsEquivalence eq → (image : List ℕ) (s t : FrequentState T) → IsImageOf codec content image s → IsImageOf codec content image t → IsSameState eq s t
+  pub one_sketch : IsEquivalence eq → (image : List ℕ) (s t : FrequentState T) → IsImageOf codec content image s → IsImageOf codec content image t → HoldsSame eq s t
   one_sketch laws image s t a b =
       let own = state_from_contents s a.state in
       let other = state_from_contents t b.state in
@@ -99,20 +101,32 @@ module _ {T C : Type 0} (codec : Codec C) (content : T → C) (eq : T → T → 
         size = b.size ∙ sym a.size;
       }
 
-  -- what comes back stands for the restored history, and keeps its tail budget
-  pub restores : IsEquivalence eq → (image : List ℕ) (new : FrequentState T) → IsImageOf codec content image new → Restores codec content eq image new
-  restores laws image new is old was h stands =
-      let s = stands_alike laws old new (state_from_contents old was.state) (one_sketch laws image old new was is) h stands in
-      record { max_size = s.max_size; total = s.total; at_least = s.at_least; at_most = s.at_most; exact = λ few. s.exact (record { items = few.items; fit = few.fit; cover = few.cover }); least = s.least; power = s.power }
+  -- what comes back with the sample size of a new sketch stands for the restored history, and keeps its tail budget
+  pub restores : IsEquivalence eq → (image : List ℕ) (new : FrequentState T) → IsImageOf codec content image new → new.sample_size ≡ greatest_sample_size new.max_size → Restores codec content eq image new
+  restores laws image new is usual old was h stands =
+      let s = encloses_alike laws old new (state_from_contents old was.state) (one_sketch laws image old new was is) h stands in
+      record {
+        encloses = record {
+          max_size = s.max_size;
+          total = s.total;
+          at_least = s.at_least;
+          at_most = s.at_most;
+          exact = λ few. s.exact (record { items = few.items; fit = few.fit; cover = few.cover });
+          least = s.least;
+          power = s.power;
+          sample = s.sample;
+        };
+        sample_size = usual ∙ ap (λ (n : ℕ). greatest_sample_size n) s.max_size;
+      }
 
   pub restores_budget : IsEquivalence eq → (image : List ℕ) (new : FrequentState T) → IsImageOf codec content image new → RestoresBudget codec content eq image new
   restores_budget laws image new is old was h stands keeps = λ set short. budget_alike laws old new (one_sketch laws image old new was is) h keeps set short
 
   -- an image that says 'empty'
-  pub image_of_none : (image : List ℕ) (m : ℕ) → IsState eq (empty_state m) → first_failing (header_checks image) ≡ None → says_empty image ≡ true → m ≡ max_size_at image → IsImageOf codec content image (empty_state m)
-  image_of_none image m state checks empty max_size = record {
+  pub image_of_none : (image : List ℕ) (m n : ℕ) → IsState eq (empty_state m n) → first_failing (header_checks image) ≡ None → says_empty image ≡ true → m ≡ max_size_at image → IsImageOf codec content image (empty_state m n)
+  image_of_none image m n state checks empty max_size = record {
     no_fault = rw (checks, empty) refl;
-    state = contents_state (empty_state m) state;
+    state = contents_state (empty_state m n) state;
     max_size = max_size;
     size = rw empty refl;
     total = rw empty refl;
@@ -121,8 +135,8 @@ module _ {T C : Type 0} (codec : Codec C) (content : T → C) (eq : T → T → 
   }
 
   -- what was counted is a state
-  pub state_of_counters : (image : List ℕ) (s : FrequentState T) → AreCounters codec content eq image s.counters → length (weights_at image) ≤ capacity s.size → sum (weights_at image) + s.error ≤ s.total → 8 ≤ s.size → s.size ≤ s.max_size → s.max_size ≤ 2 ^ 30 → IsTrue (is_power_of_two s.size) → IsTrue (is_power_of_two s.max_size) → 0 < s.total → IsState eq s
-  state_of_counters image s read few within least below most size_power max_size_power some = record {
+  pub state_of_counters : (image : List ℕ) (s : FrequentState T) → AreCounters codec content eq image s.counters → length (weights_at image) ≤ capacity s.size → sum (weights_at image) + s.error ≤ s.total → 8 ≤ s.size → s.size ≤ s.max_size → s.max_size ≤ 2 ^ 30 → IsTrue (is_power_of_two s.size) → IsTrue (is_power_of_two s.max_size) → 0 < s.total → IsSampleSize s.max_size s.sample_size → IsState eq s
+  state_of_counters image s read few within least below most size_power max_size_power some sample = record {
     distinct = read.counted.distinct;
     positive = read.counted.positive;
     few = omega (arith, read.counted.few, few);
@@ -133,6 +147,7 @@ module _ {T C : Type 0} (codec : Codec C) (content : T → C) (eq : T → T → 
     size_power = size_power;
     max_size_power = max_size_power;
     empty = λ none. absurd (omega (arith, none, some));
+    sample = sample;
   }
 
   -- and the image is one of it

@@ -12,14 +12,14 @@ use Rattle.std.proofs.lemmas.List.Folds.{list_any-append}
 use Rattle.std.proofs.lemmas.Map.Entries.{length-keys_of}
 use Rattle.std.proofs.lemmas.Map.Made.{length-le_from_is_member}
 use Rattle.sketch_frequencies.specs.Tables.{Table, count_of, is_tracked, put, sum_of, sum_outside}
-use Rattle.sketch_frequencies.specs.History.{FrequentHistory, true_weight, total_weight, weight_outside, least_size, budget_size}
+use Rattle.sketch_frequencies.specs.History.{FrequentHistory, true_weight, total_weight, weight_outside, least_size, least_sample, budget_size}
 use Rattle.sketch_frequencies.specs.History.FrequentHistory.{New, Update, Merge, Reset, Restored}
-use Rattle.sketch_frequencies.specs.State.{FrequentState, IsState, capacity, sample_size}
-use Rattle.sketch_frequencies.specs.Stands.{StandsFor, KeepsTailBudget, HasFewItems}
+use Rattle.sketch_frequencies.specs.State.{FrequentState, IsState, IsSampleSize, capacity}
+use Rattle.sketch_frequencies.specs.Stands.{Encloses, StandsFor, KeepsTailBudget, HasFewItems}
 use Rattle.sketch_frequencies.specs.Steps.{Steps, StepsAlong, AddsAll, Joins}
 use Rattle.sketch_frequencies.specs.Growth.{Adds}
 use Rattle.sketch_frequencies.proofs.Cases.{by_test, by_cases}
-use Rattle.sketch_frequencies.proofs.Enclosure.{counted, least_le_own}
+use Rattle.sketch_frequencies.proofs.Enclosure.{counted, least_le_own, sample_enough}
 use Rattle.sketch_frequencies.proofs.Orders.{share, share_is, count_is_sum, count_of-permutation}
 use Rattle.sketch_frequencies.proofs.Powers.{doubled_fits, lesser_power}
 use Rattle.sketch_frequencies.proofs.Reports.{or_true, or_false}
@@ -37,16 +37,16 @@ state_step {T} {eq} laws old new x w pos ok step =
     let fits = doubled_fits old.size old.max_size ok.size_power ok.max_size_power below in
     let some : 0 < old.total = omega (arith, over, length_put_le eq old.counters x w, length_le_sum old.counters ok.positive, ok.sum, ok.least) in
     let wide : Table T = record { entries = old.counters; size = 2 * old.size } in
-    let mid : FrequentState T = record { counters = old.counters; error = old.error; total = old.total; max_size = old.max_size; size = 2 * old.size } in
+    let mid : FrequentState T = record { counters = old.counters; error = old.error; total = old.total; max_size = old.max_size; size = 2 * old.size; sample_size = old.sample_size } in
     let made : IsState eq mid = state_made laws old wide ok (IsPermutation-refl old.counters) refl fits some in
-    let adds : Adds eq mid x w new = record { total = step.total; max_size = step.max_size; kept = λ _. k; purge = λ more. absurd (omega (arith, more, length_put_le eq old.counters x w, ok.few, ok.least)) } in
+    let adds : Adds eq mid x w new = record { total = step.total; max_size = step.max_size; sample_size = step.sample_size; kept = λ _. k; purge = λ more. absurd (omega (arith, more, length_put_le eq old.counters x w, ok.few, ok.least)) } in
     state_after laws mid new x w pos made adds)
     (λ at.
     let k = step.purge over (omega (arith, ok.within)) in
-    state_after laws old new x w pos ok (record { total = step.total; max_size = step.max_size; kept = λ room. absurd (omega (arith, room, over)); purge = λ _. k })))
+    state_after laws old new x w pos ok (record { total = step.total; max_size = step.max_size; sample_size = step.sample_size; kept = λ room. absurd (omega (arith, room, over)); purge = λ _. k })))
     (λ room.
     let k = step.kept room in
-    state_after laws old new x w pos ok (record { total = step.total; max_size = step.max_size; kept = λ _. k; purge = λ over. absurd (omega (arith, room, over)) }))
+    state_after laws old new x w pos ok (record { total = step.total; max_size = step.max_size; sample_size = step.sample_size; kept = λ _. k; purge = λ over. absurd (omega (arith, room, over)) }))
 
 -- one step more
 pub steps_more : {T : Type 0} (eq : T → T → Bool) (old mid new : FrequentState T) (ps : List (T × ℕ)) (p : T × ℕ) → StepsAlong eq old ps mid → Steps eq mid p.0 p.1 new → StepsAlong eq old (ps ++ p ∷ []) new
@@ -58,11 +58,12 @@ pub record Ran {T : Type 0} (eq : T → T → Bool) (old : FrequentState T) (ps 
   pub state : IsState eq new
   pub total : new.total ≡ old.total + sum_of ps
   pub max_size : new.max_size ≡ old.max_size
+  pub sample_size : new.sample_size ≡ old.sample_size
   pub low : (y : T) → count_of eq new.counters y ≤ count_of eq old.counters y + sum_by (share eq y) ps
   pub high : (y : T) → count_of eq old.counters y + sum_by (share eq y) ps + old.error ≤ count_of eq new.counters y + new.error
 
 pub ran : {T : Type 0} {eq : T → T → Bool} → IsEquivalence eq → (old new : FrequentState T) (ps : List (T × ℕ)) → IsState eq old → All (λ p. 0 < p.1) ps → StepsAlong eq old ps new → Ran eq old ps new
-ran {T} {eq} laws old new [] ok pos is = subst (λ (s : FrequentState T). Ran eq old [] s) (sym is) (record { state = ok; total = omega arith; max_size = refl; low = λ y. omega arith; high = λ y. omega arith })
+ran {T} {eq} laws old new [] ok pos is = subst (λ (s : FrequentState T). Ran eq old [] s) (sym is) (record { state = ok; total = omega arith; max_size = refl; sample_size = refl; low = λ y. omega arith; high = λ y. omega arith })
 ran {T} {eq} laws old new (p ∷ ps) ok pos run =
     let P : T × ℕ → Type 0 = λ p. 0 < p.1 in
     let num : T × ℕ → ℕ = λ p. p.1 in
@@ -73,6 +74,7 @@ ran {T} {eq} laws old new (p ∷ ps) ok pos run =
       state = rest.state;
       total = omega (arith, rest.total, run.1.total, sum_by-cons num p ps);
       max_size = rest.max_size ∙ run.1.max_size;
+      sample_size = rest.sample_size ∙ run.1.sample_size;
       low = λ y. omega (arith, rest.low y, first.low y, same y, sum_by-cons (share eq y) p ps);
       high = λ y. omega (arith, rest.high y, first.high y, same y, sum_by-cons (share eq y) p ps);
     }
@@ -124,21 +126,21 @@ exact_run {T} {eq} laws old new (p ∷ ps) ok pos run none few short among here 
 
 -- no item weighs more than all
 true_le_total : {T : Type 0} (eq : T → T → Bool) (h : FrequentHistory T) (y : T) → true_weight eq h y ≤ total_weight h
-true_le_total eq (New m) y = omega arith
+true_le_total eq (New m n) y = omega arith
 true_le_total eq (Update h x w) y = by_test (eq x y) (λ b. true_weight eq h y + cond b w 0 ≤ total_weight h + w) (λ _. omega (arith, true_le_total eq h y)) (λ _. omega (arith, true_le_total eq h y))
 true_le_total eq (Merge h g) y = omega (arith, true_le_total eq h y, true_le_total eq g y)
 true_le_total eq (Reset h) y = omega arith
 true_le_total eq (Restored h) y = true_le_total eq h y
 
 -- the budget over a run of steps
-steps_budget : {T : Type 0} {eq : T → T → Bool} → IsEquivalence eq → (old new : FrequentState T) (ps : List (T × ℕ)) → IsState eq old → All (λ p. 0 < p.1) ps → StepsAlong eq old ps new → (n : ℕ) → n ≤ sample_size old.max_size / 2 → (set : List T) → length set ≤ n → (b : ℕ) → sum_outside eq set old.counters + (n - length set) * old.error ≤ b → sum_outside eq set new.counters + (n - length set) * new.error ≤ b + sum_outside eq set ps
+steps_budget : {T : Type 0} {eq : T → T → Bool} → IsEquivalence eq → (old new : FrequentState T) (ps : List (T × ℕ)) → IsState eq old → All (λ p. 0 < p.1) ps → StepsAlong eq old ps new → (n : ℕ) → n ≤ old.sample_size / 2 → (set : List T) → length set ≤ n → (b : ℕ) → sum_outside eq set old.counters + (n - length set) * old.error ≤ b → sum_outside eq set new.counters + (n - length set) * new.error ≤ b + sum_outside eq set ps
 steps_budget {T} {eq} laws old new [] ok pos is n half set short b held = subst (λ (s : FrequentState T). sum_outside eq set s.counters + (n - length set) * s.error ≤ b + 0) (sym is) (omega (arith, held))
 steps_budget {T} {eq} laws old new (p ∷ ps) ok pos run n half set short b held =
     let P : T × ℕ → Type 0 = λ p. 0 < p.1 in
     let share : T × ℕ → ℕ = λ e. cond (list_any (eq e.0) set) 0 e.1 in
     let mid_ok = state_step laws old run.0 p.0 p.1 (All-head P p ps pos) ok run.1 in
     let first = budget_step laws old run.0 p.0 p.1 ok run.1 n half set short b held in
-    let rest = steps_budget laws run.0 new ps mid_ok (All-tail P p ps pos) run.2 n (omega (arith, half, ap sample_size run.1.max_size)) set short (b + cond (list_any (eq p.0) set) 0 p.1) first in
+    let rest = steps_budget laws run.0 new ps mid_ok (All-tail P p ps pos) run.2 n (omega (arith, half, run.1.sample_size)) set short (b + cond (list_any (eq p.0) set) 0 p.1) first in
     omega (arith, rest, sum_by-cons share p ps)
 
 less_of_more : (d d' e : ℕ) → d ≤ d' → d * e ≤ d' * e
@@ -171,7 +173,7 @@ module _ {T : Type 0} {eq : T → T → Bool} (laws : IsEquivalence eq) (old oth
       by_cases (cases_lt 0 other.total)
       (λ some.
       let j = join.added some in
-      let run = steps_budget laws old j.last j.order ok (positive_in_order j) j.steps (budget_size (Merge h g)) (omega (arith, least_le_own h, s.max_size)) set short (weight_outside eq set h) start in
+      let run = steps_budget laws old j.last j.order ok (positive_in_order j) j.steps (budget_size (Merge h g)) (omega (arith, sample_enough old h s)) set short (weight_outside eq set h) start in
       let same = sum_by-IsPermutation share other.counters j.order j.whole in
       let moved = sum_by-IsPermutation share j.last.counters new.counters j.left.counters in
       rw j.left.error (omega (arith, run, same, moved, budget_other other_keeps set short)))
@@ -181,42 +183,69 @@ module _ {T : Type 0} {eq : T → T → Bool} (laws : IsEquivalence eq) (old oth
 
   -- a tracked item is among those that cover the history
   among_old : (few : HasFewItems eq h) → IsAmong eq few.items old
-  among_old few y there = few.cover y (omega (arith, positive_from_tracked eq old.counters y ok.positive (sym (is_tracked-keys eq old.counters y) ∙ there), s.at_least y))
+  among_old few y there = few.cover y (omega (arith, positive_from_tracked eq old.counters y ok.positive (sym (is_tracked-keys eq old.counters y) ∙ there), s.encloses.at_least y))
 
   among_other : (few : HasFewItems eq g) → All (λ p. list_any (eq p.0) few.items ≡ true) other.counters
-  among_other few = All-weaker (λ (p : T × ℕ). list_any (eq p.0) (keys_of other.counters) ≡ true) (λ p. list_any (eq p.0) few.items ≡ true) (λ p there. few.cover p.0 (omega (arith, positive_from_tracked eq other.counters p.0 other_ok.positive there, t.at_least p.0))) other.counters (keys_found laws other.counters)
+  among_other few = All-weaker (λ (p : T × ℕ). list_any (eq p.0) (keys_of other.counters) ≡ true) (λ p. list_any (eq p.0) few.items ≡ true) (λ p there. few.cover p.0 (omega (arith, positive_from_tracked eq other.counters p.0 other_ok.positive there, t.encloses.at_least p.0))) other.counters (keys_found laws other.counters)
 
-  -- what a join leaves stands for both histories
-  stands_joined : AddsAll eq old other new → StandsFor eq new (Merge h g)
-  stands_joined j =
+  -- the least sample of both is one that a sketch of the least size may have
+  sample_joined : IsSampleSize (least_size (Merge h g)) (least_sample (Merge h g))
+  sample_joined =
+      let a = s.encloses.sample in
+      let b = t.encloses.sample in
+      record {
+        least = omega (arith, a.least, b.least);
+        even = omega (arith, a.even, b.even);
+        greatest = omega (arith, a.greatest, b.greatest);
+      }
+
+  -- what a join leaves encloses both histories
+  encloses_joined : AddsAll eq old other new → Encloses eq new (Merge h g)
+  encloses_joined j =
+      let a = s.encloses in
+      let b = t.encloses in
       let r = ran laws old j.last j.order ok (positive_in_order j) j.steps in
       let shared = λ (y : T). sum_by-IsPermutation (share eq y) other.counters j.order j.whole ∙ sym (count_is_sum laws other.counters y other_ok.distinct) in
       let moved = λ (y : T). count_of-permutation laws j.last.counters new.counters y r.state.distinct j.left.counters in
       record {
-        max_size = j.max_size ∙ s.max_size;
-        total = omega (arith, j.total, s.total, t.total);
-        at_least = λ y. omega (arith, moved y, r.low y, shared y, s.at_least y, t.at_least y);
-        at_most = λ y. omega (arith, moved y, r.high y, shared y, s.at_most y, t.at_most y, j.left.error);
+        max_size = j.max_size ∙ a.max_size;
+        total = omega (arith, j.total, a.total, b.total);
+        at_least = λ y. omega (arith, moved y, r.low y, shared y, a.at_least y, b.at_least y);
+        at_most = λ y. omega (arith, moved y, r.high y, shared y, a.at_most y, b.at_most y, j.left.error);
         exact = λ few.
-            let none = s.exact (few_in_own h g few) in
-            let none' = t.exact (few_in_other h g few) in
+            let none = a.exact (few_in_own h g few) in
+            let none' = b.exact (few_in_other h g few) in
             let here = All-permutation (λ p. list_any (eq p.0) few.items ≡ true) other.counters j.order j.whole (among_other (few_in_other h g few)) in
-            let last = exact_run laws old j.last j.order ok (positive_in_order j) j.steps none few.items (omega (arith, few.fit, least_le_own h, s.max_size)) (among_old (few_in_own h g few)) here in
+            let last = exact_run laws old j.last j.order ok (positive_in_order j) j.steps none few.items (omega (arith, few.fit, least_le_own h, a.max_size)) (among_old (few_in_own h g few)) here in
             omega (arith, j.left.error, last, none');
-        least = omega (arith, s.least, t.least);
-        power = lesser_power (least_size h) (least_size g) s.power t.power;
+        least = omega (arith, a.least, b.least);
+        power = lesser_power (least_size h) (least_size g) a.power b.power;
+        sample = sample_joined;
       }
 
+  -- the sketch itself does, where nothing was fed into the other
+  encloses_alone : other.total ≡ 0 → Encloses eq old (Merge h g)
+  encloses_alone none =
+      let a = s.encloses in
+      let b = t.encloses in
+      record {
+        max_size = a.max_size;
+        total = omega (arith, a.total, b.total, none);
+        at_least = λ y. omega (arith, a.at_least y);
+        at_most = λ y. omega (arith, a.at_most y, true_le_total eq g y, b.total, none);
+        exact = λ few. a.exact (few_in_own h g few);
+        least = omega (arith, a.least, b.least);
+        power = lesser_power (least_size h) (least_size g) a.power b.power;
+        sample = sample_joined;
+      }
+
+  -- what a join leaves stands for both histories
   pub stands_merged : StandsFor eq new (Merge h g)
   stands_merged =
       by_cases (cases_lt 0 other.total)
-      (λ some. stands_joined (join.added some))
-      (λ none. subst (λ (n : FrequentState T). StandsFor eq n (Merge h g)) (sym (join.nothing (omega (arith, none)))) (record {
-        max_size = s.max_size;
-        total = omega (arith, s.total, t.total, none);
-        at_least = λ y. omega (arith, s.at_least y);
-        at_most = λ y. omega (arith, s.at_most y, true_le_total eq g y, t.total, none);
-        exact = λ few. s.exact (few_in_own h g few);
-        least = omega (arith, s.least, t.least);
-        power = lesser_power (least_size h) (least_size g) s.power t.power;
-      }))
+      (λ some.
+      let j = join.added some in
+      record { encloses = encloses_joined j; sample_size = j.sample_size ∙ s.sample_size })
+      (λ none.
+      let zero_is : other.total ≡ 0 = omega (arith, none) in
+      subst (λ (n : FrequentState T). StandsFor eq n (Merge h g)) (sym (join.nothing zero_is)) (record { encloses = encloses_alone zero_is; sample_size = s.sample_size }))

@@ -33,6 +33,7 @@ pub mod Ring
 pub mod RoundTrips
 pub mod Same
 pub mod SameCounts
+pub mod SampleSizes
 pub mod Samples
 pub mod Scans
 pub mod Shifts

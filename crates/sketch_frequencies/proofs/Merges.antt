@@ -64,16 +64,16 @@ module _ {T : Type 0} {eq : T → T → Bool} (laws : IsEquivalence eq) where
       record { order = so_far.done; same = record { order = given; whole = whole; same = so_far.same }; steps = so_far.steps }
 
   -- what a run of steps does to the numbers
-  steps_total : (old new : FrequentState T) (ps : List (T × ℕ)) → StepsAlong eq old ps new → (new.total ≡ old.total + sum_of ps) × (new.max_size ≡ old.max_size)
-  steps_total old new [] is = subst (λ (s : FrequentState T). (s.total ≡ old.total + 0) × (s.max_size ≡ old.max_size)) (sym is) (omega arith, refl)
+  steps_total : (old new : FrequentState T) (ps : List (T × ℕ)) → StepsAlong eq old ps new → (new.total ≡ old.total + sum_of ps) × (new.max_size ≡ old.max_size) × (new.sample_size ≡ old.sample_size)
+  steps_total old new [] is = subst (λ (s : FrequentState T). (s.total ≡ old.total + 0) × (s.max_size ≡ old.max_size) × (s.sample_size ≡ old.sample_size)) (sym is) (omega arith, refl, refl)
   steps_total old new (p ∷ ps) run =
       let num : T × ℕ → ℕ = λ p. p.1 in
       let rest = steps_total run.0 new ps run.2 in
-      (omega (arith, rest.0, run.1.total, sum_by-cons num p ps), rest.1 ∙ run.1.max_size)
+      (omega (arith, rest.0, run.1.total, sum_by-cons num p ps), rest.1 ∙ run.1.max_size, rest.2 ∙ run.1.sample_size)
 
   -- the other's error fits behind its counters
   pub settle_fits : (old other own last : FrequentState T) → IsState eq other → IsState eq last → IsSameState eq old own → AddsCounters eq own other.counters last → sum_of last.counters + last.error + other.error ≤ old.total + other.total
-  settle_fits old other own last other_ok last_ok same adds = omega (arith, last_ok.sum, (steps_total own last adds.order adds.steps).0, same_sum laws other.counters adds.order adds.same, other_ok.sum, same.total)
+  settle_fits old other own last other_ok last_ok same adds = omega (arith, last_ok.sum, (steps_total own last adds.order adds.steps).0, same_sum laws other.counters adds.order adds.same, other_ok.sum, same.holds.total)
 
   -- so it is a join with a sketch that is the same as the other
   pub joins_equal : (old other own last new : FrequentState T) → 0 < other.total → IsSameState eq old own → AddsCounters eq own other.counters last → new ≡ record last { error = last.error + other.error; total = old.total + other.total } → JoinsEqual eq old other new
@@ -86,14 +86,15 @@ module _ {T : Type 0} {eq : T → T → Bool} (laws : IsEquivalence eq) where
         last = last;
         steps = adds.steps;
         left = record { counters = IsPermutation-refl last.counters; error = refl; size = refl };
-        total = omega (arith, same.total);
+        total = omega (arith, same.holds.total);
         max_size = (steps_total own last adds.order adds.steps).1;
+        sample_size = (steps_total own last adds.order adds.steps).2;
       } in
       record {
         own = own;
         same_own = same;
         more = more;
-        same_more = record { counters = adds.same; error = refl; total = refl; max_size = refl; size = refl };
+        same_more = record { holds = record { counters = adds.same; error = refl; total = refl; max_size = refl; size = refl }; sample_size = refl };
         join = record { nothing = λ none. absurd (omega (arith, none, some)); added = λ _. subst (λ s. AddsAll eq own more s) (sym is) added };
       }
 
@@ -114,4 +115,4 @@ module _ {T : Type 0} {eq : T → T → Bool} (laws : IsEquivalence eq) where
 
   pub budget_joins_equal : (old other new : FrequentState T) → IsState eq old → IsState eq other → JoinsEqual eq old other new → (h g : FrequentHistory T) → StandsFor eq old h → StandsFor eq other g → KeepsTailBudget eq old h → KeepsTailBudget eq other g → KeepsTailBudget eq new (Merge h g)
   budget_joins_equal old other new ok other_ok j h g s t keeps other_keeps =
-      budget_merged laws j.own j.more new (state_alike laws old j.own ok j.same_own) (state_alike laws other j.more other_ok j.same_more) j.join h g (stands_alike laws old j.own ok j.same_own h s) (stands_alike laws other j.more other_ok j.same_more g t) (budget_alike laws old j.own j.same_own h keeps) (budget_alike laws other j.more j.same_more g other_keeps)
+      budget_merged laws j.own j.more new (state_alike laws old j.own ok j.same_own) (state_alike laws other j.more other_ok j.same_more) j.join h g (stands_alike laws old j.own ok j.same_own h s) (stands_alike laws other j.more other_ok j.same_more g t) (budget_alike laws old j.own j.same_own.holds h keeps) (budget_alike laws other j.more j.same_more.holds g other_keeps)

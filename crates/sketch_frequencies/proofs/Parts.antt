@@ -5,7 +5,7 @@ use Rattle.std.proofs.lemmas.Bool.{cases_lt, le-ltb}
 use Rattle.std.proofs.lemmas.Bool.Decides.{nat_tests}
 use Rattle.std.proofs.lemmas.List.Sorted.{length_permutation, IsPermutation-trans}
 use Rattle.sketch_frequencies.specs.Tables.{Table, is_tracked, put, IsSampleMiddle}
-use Rattle.sketch_frequencies.specs.State.{FrequentState, IsState, capacity, sample_size, must_grow, must_double}
+use Rattle.sketch_frequencies.specs.State.{FrequentState, IsState, capacity, must_grow, must_double}
 use Rattle.sketch_frequencies.specs.Steps.{Steps}
 use Rattle.sketch_frequencies.specs.Growth.{MakesRoom, Adds}
 use Rattle.sketch_frequencies.proofs.Cases.{by_cases}
@@ -53,13 +53,14 @@ pub step_with_room : {T : Type 0} (eq : T → T → Bool) (old new : FrequentSta
 step_with_room eq old new x w room adds = record {
   total = adds.total;
   max_size = adds.max_size;
+  sample_size = adds.sample_size;
   kept = adds.kept;
   doubled = λ over _. absurd (omega (arith, over, length_put eq old.counters x w, room));
   purge = λ over _. absurd (omega (arith, over, length_put eq old.counters x w, room));
 }
 
 -- from what the table's call says of a tracked item
-pub adds_tracked : {T : Type 0} (eq : T → T → Bool) (old : FrequentState T) (x : T) (w : ℕ) (t : Table T) → IsState eq old → is_tracked eq old.counters x ≡ true → IsPermutation (put eq old.counters x w) t.entries → t.size ≡ old.size → Adds eq old x w (record { counters = t.entries; error = old.error; total = old.total + w; max_size = old.max_size; size = t.size })
+pub adds_tracked : {T : Type 0} (eq : T → T → Bool) (old : FrequentState T) (x : T) (w : ℕ) (t : Table T) → IsState eq old → is_tracked eq old.counters x ≡ true → IsPermutation (put eq old.counters x w) t.entries → t.size ≡ old.size → Adds eq old x w (record { counters = t.entries; error = old.error; total = old.total + w; max_size = old.max_size; size = t.size; sample_size = old.sample_size })
 adds_tracked eq old x w t ok there p size = adds_kept eq old x w t p size (omega (arith, length_permutation (put eq old.counters x w) t.entries p, length_tracked eq old.counters x w there, ok.few, size))
 
 -- the step of a tracked item
@@ -69,6 +70,7 @@ step_tracked eq old new x w ok there adds =
     record {
       total = adds.total;
       max_size = adds.max_size;
+      sample_size = adds.sample_size;
       kept = adds.kept;
       doubled = λ over _. absurd (omega (arith, over, same, ok.few));
       purge = λ over _. absurd (omega (arith, over, same, ok.few));
@@ -106,6 +108,7 @@ module _ {T : Type 0} {eq : T → T → Bool} (laws : IsEquivalence eq) (old mid
   step_from new adds = record {
     total = adds.total ∙ ap (λ n. n + w) made.total;
     max_size = adds.max_size ∙ made.max_size;
+    sample_size = adds.sample_size ∙ made.sample_size;
     kept = λ h.
         let same = stays h in
         let k = adds.kept (omega (arith, put_made_length, h, same)) in
@@ -119,7 +122,7 @@ module _ {T : Type 0} {eq : T → T → Bool} (laws : IsEquivalence eq) (old mid
         let k = adds.purge (omega (arith, put_made_length, h, same)) in
         record {
           m = k.m;
-          middle = subst (λ (n : ℕ). IsSampleMiddle (sample_size n) (put eq old.counters x w) k.m) made.max_size (IsSampleMiddle-permutation (sample_size mid.max_size) k.m (put eq old.counters x w) (put eq mid.counters x w) put_made k.middle);
+          middle = subst (λ (n : ℕ). IsSampleMiddle n (put eq old.counters x w) k.m) made.sample_size (IsSampleMiddle-permutation mid.sample_size k.m (put eq old.counters x w) (put eq mid.counters x w) put_made k.middle);
           left = record { counters = IsPermutation-trans _ _ _ (purged-permutation k.m (put eq old.counters x w) (put eq mid.counters x w) put_made) k.left.counters; error = k.left.error ∙ ap (λ n. n + k.m) made.error; size = k.left.size ∙ same };
         };
   }

@@ -10,9 +10,10 @@ use Rattle.sketch_base.specs.Fields.{byte_at, le_at, words_in}
 use Rattle.sketch_base.specs.declared.fault.Fault.{Fault}
 use Rattle.sketch_base.specs.declared.fault.Fault.TheVariants.{InsufficientData, BadFamily, BadVersion, LgCurTooSmall, LgMaxTooLarge, LgCurAboveMax, BadPreamble, EmptyFlagMismatch, TooManyActive, ZeroTotal, WeightsExceedTotal, ErrorExceedsTotal, TableTooLarge}
 use Rattle.sketch_frequencies.specs.Bytes.{table_bytes}
+use Rattle.sketch_frequencies.specs.History.{FrequentHistory}
 use Rattle.sketch_frequencies.specs.History.FrequentHistory.{Restored}
 use Rattle.sketch_frequencies.specs.Items.{Codec}
-use Rattle.sketch_frequencies.specs.Stands.{Extends, ExtendsBudget}
+use Rattle.sketch_frequencies.specs.Stands.{Encloses, StandsFor, KeepsTailBudget}
 use Rattle.sketch_frequencies.specs.State.{FrequentState, IsState, capacity}
 use Rattle.sketch_frequencies.specs.Tables.{count_of}
 
@@ -152,7 +153,7 @@ weight_at codec image x =
     unless_empty image (weight_of codec.same x (items_or_none (items_at codec image)) (weights_at image))
 
 -- the bytes are an image of a sketch of contents: the counts are the weights of equal items added up, with no counter
--- where that is 0; what the bytes do not name here is free
+-- where that is 0; what the bytes do not name here is free, and they say nothing of how many counters a purge samples
 pub record IsImage {C : Type 0} (codec : Codec C) (image : List ℕ) (s : FrequentState C) : Type 0 where
   pub no_fault : first_fault codec image ≡ None
   pub state : IsState codec.same s
@@ -222,6 +223,7 @@ state_of_contents content s = record {
   total = s.total;
   max_size = s.max_size;
   size = s.size;
+  sample_size = s.sample_size;
 }
 
 module _ {T C : Type 0} (codec : Codec C) (content : T → C) where
@@ -239,10 +241,14 @@ module _ {T C : Type 0} (codec : Codec C) (content : T → C) where
       (e ≡ no_memory)
       ⊎ ((e ≡ invalid_argument e.fault) × Any (λ counter. codec.encoding (content counter.0) ≡ Err e.fault) counters)
 
-  -- what stood for a history, and had this image, comes back as what stands for the restored history
+  -- what enclosed a history, and had this image, comes back as what stands for the restored history
   abbrev pub Restores : (T → T → Bool) → List ℕ → FrequentState T → Type 0
-  Restores eq image new = (old : FrequentState T) → IsImageOf image old → Extends eq old new Restored
+  Restores eq image new =
+      (old : FrequentState T) → IsImageOf image old →
+      (h : FrequentHistory T) → Encloses eq old h → StandsFor eq new (Restored h)
 
   -- and where it kept the tail budget, so does what comes back
   abbrev pub RestoresBudget : (T → T → Bool) → List ℕ → FrequentState T → Type 0
-  RestoresBudget eq image new = (old : FrequentState T) → IsImageOf image old → ExtendsBudget eq old new Restored
+  RestoresBudget eq image new =
+      (old : FrequentState T) → IsImageOf image old →
+      (h : FrequentHistory T) → Encloses eq old h → KeepsTailBudget eq old h → KeepsTailBudget eq new (Restored h)

@@ -3,7 +3,7 @@ use Rattle.std.specs.Prelude.{◌≡◌, ◌↔◌, ℕ, ◌+◌, ◌≤◌, Lis
 use Rattle.sketch_frequencies.specs.Image.{IsImage, IsSpelled, first_fault}
 use Rattle.sketch_frequencies.specs.Items.{Codec}
 use Rattle.sketch_frequencies.specs.State.{FrequentState}
-use Rattle.sketch_frequencies.specs.Steps.{IsSameState}
+use Rattle.sketch_frequencies.specs.Steps.{HoldsSame}
 use Rattle.sketch_frequencies.specs.Tables.{sum_of}
 
 module _ {C : Type 0} (codec : Codec C) where
@@ -15,7 +15,7 @@ module _ {C : Type 0} (codec : Codec C) where
   abbrev pub ImageIsOfOne : Type 0
   ImageIsOfOne =
       (image : List ℕ) (s t : FrequentState C) → IsImage codec image s → IsImage codec image t →
-      IsSameState codec.same s t
+      HoldsSame codec.same s t
 
   -- bytes are an image of a sketch exactly where no check fails
   abbrev pub ImageIsOfSome : Type 0

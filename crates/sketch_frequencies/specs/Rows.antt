@@ -4,7 +4,7 @@ use Rattle.std.specs.List.{list_any, IsDistinct}
 use Rattle.sketch_frequencies.specs.Above.{is_above}
 use Rattle.sketch_frequencies.specs.History.{FrequentHistory, true_weight}
 use Rattle.sketch_frequencies.specs.RowValue.{RowValue}
-use Rattle.sketch_frequencies.specs.Stands.{StandsFor}
+use Rattle.sketch_frequencies.specs.Stands.{Encloses}
 use Rattle.sketch_frequencies.specs.State.{FrequentState, estimate_of}
 use Rattle.sketch_frequencies.specs.Tables.{count_of, is_tracked}
 use Rattle.sketch_frequencies.specs.declared.error_type.ErrorType.{ErrorType}
@@ -38,11 +38,11 @@ module _ {T : Type 0} (eq : T → T → Bool) where
   -- whatever the sketch stands for, no item of a true weight above the threshold and the error is missing
   abbrev pub MissesNone : ℕ → FrequentState T → List (RowValue T) → Type 0
   MissesNone threshold s rows =
-      (h : FrequentHistory T) → StandsFor eq s h → (x : T) → max threshold s.error < true_weight eq h x →
+      (h : FrequentHistory T) → Encloses eq s h → (x : T) → max threshold s.error < true_weight eq h x →
       list_any (λ row. eq x row.item) rows ≡ true
 
   -- whatever the sketch stands for, every item that is shown has a true weight above the threshold and the error
   abbrev pub ShowsNoneBelow : ℕ → FrequentState T → List (RowValue T) → Type 0
   ShowsNoneBelow threshold s rows =
-      (h : FrequentHistory T) → StandsFor eq s h →
+      (h : FrequentHistory T) → Encloses eq s h →
       All (λ row. max threshold s.error < true_weight eq h row.item) rows

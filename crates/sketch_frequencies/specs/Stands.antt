@@ -3,8 +3,8 @@ use Rattle.std.specs.Prelude.{◌≡◌, ℕ, ◌+◌, ◌-◌, ◌*◌, ◌<◌
 use Rattle.std.specs.Int.{is_power_of_two}
 use Rattle.std.specs.List.{list_any}
 use Rattle.sketch_frequencies.specs.Tables.{count_of, sum_outside}
-use Rattle.sketch_frequencies.specs.History.{FrequentHistory, true_weight, total_weight, weight_outside, own_size, least_size, budget_size}
-use Rattle.sketch_frequencies.specs.State.{FrequentState, capacity}
+use Rattle.sketch_frequencies.specs.History.{FrequentHistory, true_weight, total_weight, weight_outside, own_size, least_size, own_sample, least_sample, budget_size}
+use Rattle.sketch_frequencies.specs.State.{FrequentState, IsSampleSize, capacity}
 
 module _ {T : Type 0} (eq : T → T → Bool) where
   -- few items came: each one of a true weight above 0 is equal to one of a list that a table of the least size may hold
@@ -13,8 +13,8 @@ module _ {T : Type 0} (eq : T → T → Bool) where
     pub fit : length items ≤ capacity (least_size h)
     pub cover : (x : T) → 0 < true_weight eq h x → list_any (eq x) items ≡ true
 
-  -- the sketch is one of this history
-  pub record StandsFor (s : FrequentState T) (h : FrequentHistory T) : Type 0 where
+  -- the sketch is one of this history, but for how many counters its purges sample: so much an image keeps
+  pub record Encloses (s : FrequentState T) (h : FrequentHistory T) : Type 0 where
     pub max_size : s.max_size ≡ own_size h
     pub total : s.total ≡ total_weight h
     -- each true weight lies between the item's count and that count plus the error
@@ -22,9 +22,15 @@ module _ {T : Type 0} (eq : T → T → Bool) where
     pub at_most : (x : T) → true_weight eq h x ≤ count_of eq s.counters x + s.error
     -- where few items came, there is no error
     pub exact : HasFewItems h → s.error ≡ 0
-    -- the least size is one that a sketch may have
+    -- the least size and the least sample are those of a sketch that may be
     pub least : 8 ≤ least_size h
     pub power : IsTrue (is_power_of_two (least_size h))
+    pub sample : IsSampleSize (least_size h) (least_sample h)
+
+  -- the sketch is one of this history
+  pub record StandsFor (s : FrequentState T) (h : FrequentHistory T) : Type 0 where
+    pub encloses : Encloses s h
+    pub sample_size : s.sample_size ≡ own_sample h
 
   -- the tail budget: whichever few items are set aside, the kept counts of the others and the error for each place that
   -- is left are at most the weight of the others
@@ -59,12 +65,12 @@ module _ {T : Type 0} (eq : T → T → Bool) where
 
   -- the item's true weight is at least n, whatever the sketch stands for
   abbrev pub IsLowerBound : FrequentState T → T → ℕ → Type 0
-  IsLowerBound s x n = (h : FrequentHistory T) → StandsFor s h → n ≤ true_weight eq h x
+  IsLowerBound s x n = (h : FrequentHistory T) → Encloses s h → n ≤ true_weight eq h x
 
   -- it is at most n
   abbrev pub IsUpperBound : FrequentState T → T → ℕ → Type 0
-  IsUpperBound s x n = (h : FrequentHistory T) → StandsFor s h → true_weight eq h x ≤ n
+  IsUpperBound s x n = (h : FrequentHistory T) → Encloses s h → true_weight eq h x ≤ n
 
   -- it is n, where few items came
   abbrev pub IsExactOfFew : FrequentState T → T → ℕ → Type 0
-  IsExactOfFew s x n = (h : FrequentHistory T) → StandsFor s h → HasFewItems h → n ≡ true_weight eq h x
+  IsExactOfFew s x n = (h : FrequentHistory T) → Encloses s h → HasFewItems h → n ≡ true_weight eq h x

@@ -1,30 +1,44 @@
 -- A frequent-items sketch as its counters and four numbers.
-use Rattle.std.specs.Prelude.{◌≡◌, ℕ, ◌+◌, ◌*◌, ◌/◌, ◌^◌, ◌<◌, ◌≤◌, min, nat_lt, nat_le, not, ◌&&◌, Bool, IsTrue, List, [], length, All, if◌then◌else◌}
+use Rattle.std.specs.Prelude.{◌≡◌, ℕ, ◌+◌, ◌*◌, ◌/◌, ◌%◌, ◌^◌, ◌<◌, ◌≤◌, min, nat_lt, nat_le, not, ◌&&◌, Bool, IsTrue, List, [], length, All, if◌then◌else◌}
 use Rattle.std.specs.Int.{is_power_of_two}
 use Rattle.std.specs.List.{IsDistinct}
 use Rattle.std.specs.Map.{keys_of}
 use Rattle.sketch_frequencies.specs.Tables.{Table, count_of, is_tracked, sum_of}
 
--- the counters in some order, the error, the total, and the greatest and the current size of the table
+-- the counters in some order, the error, the total, the greatest and the current size of the table, and how many counters
+-- a purge samples
 pub record FrequentState (T : Type 0) : Type 0 where
   pub counters : List (T × ℕ)
   pub error : ℕ
   pub total : ℕ
   pub max_size : ℕ
   pub size : ℕ
+  pub sample_size : ℕ
 
 -- the counters of a table, with the other numbers
-abbrev pub state_of : {T : Type 0} → Table T → ℕ → ℕ → ℕ → FrequentState T
-state_of map error total max_size =
-    record { counters = map.entries; error = error; total = total; max_size = max_size; size = map.size }
+abbrev pub state_of : {T : Type 0} → Table T → (error total max_size sample_size : ℕ) → FrequentState T
+state_of map error total max_size sample_size = record {
+  counters = map.entries;
+  error = error;
+  total = total;
+  max_size = max_size;
+  size = map.size;
+  sample_size = sample_size;
+}
 
 -- how many counters a table of this size may hold: three quarters
 abbrev pub capacity : ℕ → ℕ
 capacity size = size * 3 / 4
 
--- how many counters a purge samples, by the greatest size
-abbrev pub sample_size : ℕ → ℕ
-sample_size max_size = min 1024 (capacity max_size)
+-- the most counters that a purge may sample, by the greatest size
+abbrev pub greatest_sample_size : ℕ → ℕ
+greatest_sample_size max_size = min 1024 (capacity max_size)
+
+-- a purge may sample so many, by the greatest size
+pub record IsSampleSize (max_size n : ℕ) : Type 0 where
+  pub least : 2 ≤ n
+  pub even : n % 2 ≡ 0
+  pub greatest : n ≤ greatest_sample_size max_size
 
 -- so much more weight would make the total pass the greatest `u64`
 abbrev pub Overflows : {T : Type 0} → FrequentState T → ℕ → Type 0
@@ -46,10 +60,12 @@ pub record IsState {T : Type 0} (eq : T → T → Bool) (s : FrequentState T) : 
   pub size_power : IsTrue (is_power_of_two s.size)
   pub max_size_power : IsTrue (is_power_of_two s.max_size)
   pub empty : s.total ≡ 0 → s.size ≡ 8
+  pub sample : IsSampleSize s.max_size s.sample_size
 
 -- the sketch into which nothing was fed
-abbrev pub empty_state : {T : Type 0} → ℕ → FrequentState T
-empty_state max_size = record { counters = []; error = 0; total = 0; max_size = max_size; size = 8 }
+abbrev pub empty_state : {T : Type 0} → (max_size sample_size : ℕ) → FrequentState T
+empty_state max_size sample_size =
+    record { counters = []; error = 0; total = 0; max_size = max_size; size = 8; sample_size = sample_size }
 
 -- the best single guess of an item's weight: its count and the error where it is tracked, else 0
 abbrev pub estimate_of : {T : Type 0} → (T → T → Bool) → FrequentState T → T → ℕ

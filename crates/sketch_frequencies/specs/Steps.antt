@@ -1,7 +1,7 @@
 -- What an update and a merge do to a sketch. Which counters a purge samples, and the order of a merge, are open.
 use Rattle.std.specs.Prelude.{◌≡◌, ℕ, ◌+◌, ◌*◌, ◌<◌, ◌≤◌, Bool, true, List, [], ◌∷◌, length, IsPermutation}
 use Rattle.sketch_frequencies.specs.Tables.{put, purged, IsSampleMiddle, IsSameMap}
-use Rattle.sketch_frequencies.specs.State.{FrequentState, capacity, sample_size}
+use Rattle.sketch_frequencies.specs.State.{FrequentState, capacity}
 
 module _ {T : Type 0} where
   -- these are the new sketch's counters, in some order, and its error and its size are e and n
@@ -13,7 +13,7 @@ module _ {T : Type 0} where
   -- m stood in the middle of a sample: each count lost m, those at or below it went, and the error grew by m
   pub record Purges (old : FrequentState T) (all : List (T × ℕ)) (new : FrequentState T) : Type 0 where
     pub m : ℕ
-    pub middle : IsSampleMiddle (sample_size old.max_size) all m
+    pub middle : IsSampleMiddle old.sample_size all m
     pub left : Becomes (purged m all) (old.error + m) old.size new
 
 module _ {T : Type 0} (eq : T → T → Bool) where
@@ -21,6 +21,7 @@ module _ {T : Type 0} (eq : T → T → Bool) where
   pub record Steps (old : FrequentState T) (x : T) (w : ℕ) (new : FrequentState T) : Type 0 where
     pub total : new.total ≡ old.total + w
     pub max_size : new.max_size ≡ old.max_size
+    pub sample_size : new.sample_size ≡ old.sample_size
     -- the counters fit
     pub kept :
         length (put eq old.counters x w) ≤ capacity old.size →
@@ -54,19 +55,25 @@ module _ {T : Type 0} (eq : T → T → Bool) where
     pub left : Becomes last.counters (last.error + other.error) last.size new
     pub total : new.total ≡ old.total + other.total
     pub max_size : new.max_size ≡ old.max_size
+    pub sample_size : new.sample_size ≡ old.sample_size
 
   -- new is old after the other was merged into it; an other into which nothing was fed changes nothing
   pub record Joins (old other new : FrequentState T) : Type 0 where
     pub nothing : other.total ≡ 0 → new ≡ old
     pub added : 0 < other.total → AddsAll old other new
 
-  -- the same sketch, up to which of equal items it holds
-  pub record IsSameState (s t : FrequentState T) : Type 0 where
+  -- the same sketch, up to which of equal items it holds and how many counters its purges sample: what an image says
+  pub record HoldsSame (s t : FrequentState T) : Type 0 where
     pub counters : IsSameMap eq s.counters t.counters
     pub error : t.error ≡ s.error
     pub total : t.total ≡ s.total
     pub max_size : t.max_size ≡ s.max_size
     pub size : t.size ≡ s.size
+
+  -- the same sketch, up to which of equal items it holds
+  pub record IsSameState (s t : FrequentState T) : Type 0 where
+    pub holds : HoldsSame s t
+    pub sample_size : t.sample_size ≡ s.sample_size
 
   -- the other was merged in, both with items equal to theirs
   pub record JoinsEqual (old other new : FrequentState T) : Type 0 where

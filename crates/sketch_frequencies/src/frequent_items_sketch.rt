@@ -5,12 +5,12 @@ ghost use Rattle.sketch_base.specs.Checks.{IsImageRefusal};
 ghost use Rattle.sketch_frequencies.specs.Bytes.{table_bytes};
 ghost use Rattle.sketch_frequencies.specs.Image.{IsImageOf, IsSpelledFor, IsImageWritingRefusal, Restores, RestoresBudget, early_fault, first_fault, early_fault_within, first_fault_within};
 ghost use Rattle.sketch_frequencies.specs.Growth.{MakesRoom, Adds, AddsCounters};
-ghost use Rattle.sketch_frequencies.specs.History.{FrequentHistory, least_size, total_weight};
+ghost use Rattle.sketch_frequencies.specs.History.{FrequentHistory, least_size, least_sample, total_weight, HasUsualSamples};
 ghost use Rattle.sketch_frequencies.specs.History.FrequentHistory.{New, Update, Merge, Reset};
 ghost use Rattle.sketch_frequencies.specs.Rows.{ShowsExactly, Descends, MissesNone, ShowsNoneBelow};
-ghost use Rattle.sketch_frequencies.specs.Sizes.{size_fault};
-ghost use Rattle.sketch_frequencies.specs.Stands.{StandsFor, KeepsTailBudget, Extends, ExtendsBudget, ExtendsBoth, ExtendsBothBudgets, IsLowerBound, IsUpperBound, IsExactOfFew};
-ghost use Rattle.sketch_frequencies.specs.State.{IsState, capacity, empty_state, estimate_of, must_double, must_grow, Overflows, Fits};
+ghost use Rattle.sketch_frequencies.specs.Sizes.{size_fault, sizes_fault};
+ghost use Rattle.sketch_frequencies.specs.Stands.{Encloses, StandsFor, KeepsTailBudget, Extends, ExtendsBudget, ExtendsBoth, ExtendsBothBudgets, IsLowerBound, IsUpperBound, IsExactOfFew};
+ghost use Rattle.sketch_frequencies.specs.State.{IsState, capacity, greatest_sample_size, empty_state, estimate_of, must_double, must_grow, Overflows, Fits};
 ghost use Rattle.sketch_frequencies.specs.Steps.{Steps, StepsEqual, IsSameState, JoinsEqual};
 ghost use Rattle.sketch_frequencies.specs.Tables.{count_of, is_tracked, put, sum_of};
 
@@ -20,7 +20,7 @@ use crate::image::{
     Numbers, begin_image, check_limit, check_weights, empty_image, image_size, read_counters,
     read_header, read_numbers, table_size, write_items, write_weights,
 };
-use crate::reverse_purge_item_hash_map::{ReversePurgeItemHashMap, capacity_of};
+use crate::reverse_purge_item_hash_map::{MAX_SAMPLE_SIZE, ReversePurgeItemHashMap, capacity_of};
 use crate::row::Row;
 use sketch_base::{Error, Fault};
 use std::alloc::Global;
@@ -33,18 +33,32 @@ const LEAST_MAP_SIZE: usize = 8;
 /// The most slots that a table may have.
 const GREATEST_MAP_SIZE: usize = 1 << 30;
 
+/// The fewest counters that a purge may sample.
+const LEAST_SAMPLE_SIZE: usize = 2;
+
+/// The most counters that a purge may sample in a sketch of this greatest size.
+fn greatest_sample_of(max_size: usize) -> usize
+    ensures { result ≡ greatest_sample_size max_size }
+{
+    capacity_of(max_size.min(GREATEST_MAP_SIZE)).min(MAX_SAMPLE_SIZE)
+}
+
 /// A sketch of the items that weigh most in a stream, in bounded memory.
 ///
 /// It keeps at most three quarters of its greatest table size in counters. Where one more would be too many, it takes
 /// a middle count of a sample from every counter, drops those that are left with nothing, and adds that count to its
 /// error. So each item's true weight lies between its `lower_bound` and its `upper_bound`, which differ by
 /// `maximum_error`.
+///
+/// How many counters a purge samples, the sample size, is chosen when the sketch is made: a small sample makes a purge
+/// cheap, and a large one keeps the error small. Half of it is the number of items that the tail budget may set aside.
 #[derive(Debug, Drop)]
 pub struct FrequentItemsSketch<T: Eq + Hash + Drop> {
     map: ReversePurgeItemHashMap<T>,
     error: u64,
     total: u64,
     max_size: usize,
+    sample_size: usize,
 }
 
 impl<T: Eq + Hash + Drop> Model for FrequentItemsSketch<T> {
@@ -52,25 +66,55 @@ impl<T: Eq + Hash + Drop> Model for FrequentItemsSketch<T> {
 
     ghost Value = { FrequentState T };
 
-    ghost view = { λ a. state_of a.map a.error a.total a.max_size };
+    ghost view = { λ a. state_of a.map a.error a.total a.max_size a.sample_size };
 
-    ghost invariant = { λ a. IsState T.eq (state_of a.map a.error a.total a.max_size) };
+    ghost invariant = { λ a. IsState T.eq (state_of a.map a.error a.total a.max_size a.sample_size) };
 }
 
 impl<T: Eq + Hash + Drop> FrequentItemsSketch<T> {
     /// An empty sketch whose table has 8 slots and may grow to `max_map_size`, a power of two from 8 to 2^30.
+    ///
+    /// Its purges sample as many counters as they may: three quarters of `max_map_size`, at most 1024. As
+    /// `with_sample_size` with that sample size.
     ///
     /// # Errors
     ///
     /// `MapSizeNotPowerOfTwo`, `MapSizeTooSmall` below 8 and `MapSizeTooLarge` above 2^30, in this order, and
     /// `NoMemory` where there is no memory for the table.
     pub fn new(alloc: Global, max_map_size: usize) -> Result<Self, Error>
-        ensures ok { IfOk result (λ sketch. sketch ≡ empty_state max_map_size) }
+        ensures ok { IfOk result (λ sketch. sketch ≡ empty_state max_map_size (greatest_sample_size max_map_size)) }
         ensures state { IfOk result (λ sketch. IsState T.eq sketch) }
-        ensures stands { IfOk result (λ sketch. StandsFor T.eq sketch (New max_map_size)) }
-        ensures budget { IfOk result (λ sketch. KeepsTailBudget T.eq sketch (New max_map_size)) }
+        ensures stands { IfOk result (λ sketch.
+            StandsFor T.eq sketch (New max_map_size (greatest_sample_size max_map_size))) }
+        ensures budget { IfOk result (λ sketch.
+            KeepsTailBudget T.eq sketch (New max_map_size (greatest_sample_size max_map_size))) }
         ensures accepted { IsOk result → size_fault max_map_size ≡ None }
         ensures refused { IfErr result (λ e. e ≡ refusal_of (size_fault max_map_size)) }
+    {
+        Self::with_sample_size(alloc, max_map_size, greatest_sample_of(max_map_size))
+    }
+
+    /// An empty sketch whose table has 8 slots and may grow to `max_map_size`, a power of two from 8 to 2^30, and whose
+    /// purges sample `sample_size` counters, an even number from 2 to three quarters of `max_map_size`, at most 1024.
+    ///
+    /// A small sample makes a purge cheap. It costs accuracy: of the weight of all items the error is at most two parts
+    /// in `sample_size`.
+    ///
+    /// # Errors
+    ///
+    /// `MapSizeNotPowerOfTwo`, `MapSizeTooSmall` below 8 and `MapSizeTooLarge` above 2^30, in this order,
+    /// `BadSampleSize` where `sample_size` is not such a number, and `NoMemory` where there is no memory for the table.
+    pub fn with_sample_size(
+        alloc: Global,
+        max_map_size: usize,
+        sample_size: usize,
+    ) -> Result<Self, Error>
+        ensures ok { IfOk result (λ sketch. sketch ≡ empty_state max_map_size sample_size) }
+        ensures state { IfOk result (λ sketch. IsState T.eq sketch) }
+        ensures stands { IfOk result (λ sketch. StandsFor T.eq sketch (New max_map_size sample_size)) }
+        ensures budget { IfOk result (λ sketch. KeepsTailBudget T.eq sketch (New max_map_size sample_size)) }
+        ensures accepted { IsOk result → sizes_fault max_map_size sample_size ≡ None }
+        ensures refused { IfErr result (λ e. e ≡ refusal_of (sizes_fault max_map_size sample_size)) }
     {
         if !max_map_size.is_power_of_two() {
             return Err(Error::invalid_argument(Fault::MapSizeNotPowerOfTwo));
@@ -81,12 +125,19 @@ impl<T: Eq + Hash + Drop> FrequentItemsSketch<T> {
         if max_map_size > GREATEST_MAP_SIZE {
             return Err(Error::invalid_argument(Fault::MapSizeTooLarge));
         }
+        if sample_size < LEAST_SAMPLE_SIZE
+            || sample_size % 2 != 0
+            || sample_size > greatest_sample_of(max_map_size)
+        {
+            return Err(Error::invalid_argument(Fault::BadSampleSize));
+        }
         let map = ReversePurgeItemHashMap::new(alloc, LEAST_MAP_SIZE)?;
         Ok(FrequentItemsSketch {
             map,
             error: 0,
             total: 0,
             max_size: max_map_size,
+            sample_size,
         })
     }
 
@@ -200,7 +251,8 @@ impl<T: Eq + Hash + Drop> FrequentItemsSketch<T> {
         Ok(())
     }
 
-    /// Merges another sketch into this one, which then stands for both streams and keeps its own greatest size.
+    /// Merges another sketch into this one, which then stands for both streams and keeps its own greatest size and
+    /// sample size.
     ///
     /// Each counter of the other is added as an update, in an order that is left open, and then its error and its
     /// total. The result is built aside and put in place at the end. An other into which nothing was fed changes
@@ -241,9 +293,9 @@ impl<T: Eq + Hash + Drop> FrequentItemsSketch<T> {
         Ok(())
     }
 
-    /// Forgets everything but the greatest size. The memory is kept for what comes next.
+    /// Forgets everything but the greatest size and the sample size. The memory is kept for what comes next.
     pub fn reset(&mut self)
-        ensures empty { self.new ≡ empty_state self.old.max_size }
+        ensures empty { self.new ≡ empty_state self.old.max_size self.old.sample_size }
         ensures state { IsState T.eq self.new }
         ensures stands { Extends T.eq self.old self.new Reset }
         ensures budget { (h : FrequentHistory T) → KeepsTailBudget T.eq self.new (Reset h) }
@@ -289,16 +341,19 @@ impl<T: Eq + Hash + Drop> FrequentItemsSketch<T> {
 
     /// The error: what each item's upper bound is above its lower bound.
     ///
-    /// For a greatest size M, the least of all that took part, it is at most 8 / 3M of the weight of all items where M
+    /// For a sample size L, the least of all that took part, it is at most 2 / L of the weight of all items. Where all
+    /// were made by `new`, that is, for a greatest size M, the least of all that took part, at most 8 / 3M of it where M
     /// is up to 1024, and at most 1 / 512 of it above.
     pub fn maximum_error(&self) -> u64
         ensures value { result ≡ self.now.error }
 
         // What the tail budget of a history says of it.
-        ensures small { (h : FrequentHistory T) → StandsFor T.eq self.now h → KeepsTailBudget T.eq self.now h
-            → least_size h ≤ 1024 → 3 * least_size h * result ≤ 8 * total_weight h }
-        ensures large { (h : FrequentHistory T) → StandsFor T.eq self.now h → KeepsTailBudget T.eq self.now h
-            → 1024 < least_size h → 512 * result ≤ total_weight h }
+        ensures sampled { (h : FrequentHistory T) → Encloses T.eq self.now h → KeepsTailBudget T.eq self.now h
+            → least_sample h * result ≤ 2 * total_weight h }
+        ensures small { (h : FrequentHistory T) → Encloses T.eq self.now h → KeepsTailBudget T.eq self.now h
+            → HasUsualSamples h → least_size h ≤ 1024 → 3 * least_size h * result ≤ 8 * total_weight h }
+        ensures large { (h : FrequentHistory T) → Encloses T.eq self.now h → KeepsTailBudget T.eq self.now h
+            → HasUsualSamples h → 1024 < least_size h → 512 * result ≤ total_weight h }
     {
         self.error
     }
@@ -349,6 +404,14 @@ impl<T: Eq + Hash + Drop> FrequentItemsSketch<T> {
         self.max_size
     }
 
+    /// How many counters a purge samples: an even number from 2 to three quarters of the greatest table size, at most
+    /// 1024.
+    pub fn sample_size(&self) -> usize
+        ensures { result ≡ self.now.sample_size }
+    {
+        self.sample_size
+    }
+
     /// The greatest table size as a power of two.
     pub fn lg_max_map_size(&self) -> u8
         ensures { 2 ^ result ≡ self.now.max_size }
@@ -393,6 +456,7 @@ impl<T: Eq + Hash + Drop> FrequentItemsSketch<T> {
             error: self.error,
             total: self.total,
             max_size: self.max_size,
+            sample_size: self.sample_size,
         })
     }
 
@@ -538,11 +602,10 @@ impl<T: Eq + Hash + Drop> FrequentItemsSketch<T> {
         ensures adds { Adds T.eq self.old item count self.new }
         ensures state { IsState T.eq self.new }
     {
-        let sample_size = self.maximum_map_capacity();
         self.map.insert(item, count);
         self.total += count;
         if self.map.num_active() > self.map.capacity() {
-            self.error += self.map.purge(sample_size);
+            self.error += self.map.purge(self.sample_size);
         }
     }
 
@@ -578,7 +641,7 @@ impl<T: Eq + Hash + Drop> FrequentItemsSketch<T> {
 
 impl<T: FrequentItemValue + Drop> FrequentItemsSketch<T> {
     /// An image of the sketch: it is 8 bytes long where nothing was fed, and else 32, 8 for each counter, and the bytes
-    /// of the items. The order of the items is left open.
+    /// of the items. The order of the items is left open. The sample size is not in it.
     ///
     /// # Errors
     ///
@@ -613,7 +676,8 @@ impl<T: FrequentItemValue + Drop> FrequentItemsSketch<T> {
     /// The bytes behind the image are ignored, and so are the unused ones within it. Weights of equal items are added
     /// up, and items of weight 0 are left out. The table takes as many slots as the image states, at most 2^30, of
     /// which three quarters may be free: see [`deserialize_with_limit`](Self::deserialize_with_limit). An image that
-    /// says that nothing was fed gives a table of 8 slots, whatever it states.
+    /// says that nothing was fed gives a table of 8 slots, whatever it states. An image says nothing of the sample size:
+    /// it is the one that `new` gives.
     ///
     /// # Errors
     ///
@@ -626,6 +690,7 @@ impl<T: FrequentItemValue + Drop> FrequentItemsSketch<T> {
     pub fn deserialize(alloc: Global, image: &[u8]) -> Result<Self, Error>
         ensures image { IfOk result (λ sketch. IsImageOf T.codec T.content image.now sketch) }
         ensures state { IfOk result (λ sketch. IsState T.eq sketch) }
+        ensures sample { IfOk result (λ sketch. sketch.sample_size ≡ greatest_sample_size sketch.max_size) }
         ensures stands { IfOk result (λ sketch. Restores T.codec T.content T.eq image.now sketch) }
         ensures budget { IfOk result (λ sketch. RestoresBudget T.codec T.content T.eq image.now sketch) }
         ensures err { IfErr result (IsImageRefusal (early_fault image.now) (first_fault T.codec image.now)) }
@@ -646,6 +711,7 @@ impl<T: FrequentItemValue + Drop> FrequentItemsSketch<T> {
     ) -> Result<Self, Error>
         ensures image { IfOk result (λ sketch. IsImageOf T.codec T.content image.now sketch) }
         ensures state { IfOk result (λ sketch. IsState T.eq sketch) }
+        ensures sample { IfOk result (λ sketch. sketch.sample_size ≡ greatest_sample_size sketch.max_size) }
         ensures stands { IfOk result (λ sketch. Restores T.codec T.content T.eq image.now sketch) }
         ensures budget { IfOk result (λ sketch. RestoresBudget T.codec T.content T.eq image.now sketch) }
         ensures within { IfOk result (λ sketch. table_bytes T.row sketch.size ≤ most_bytes) }
@@ -654,6 +720,7 @@ impl<T: FrequentItemValue + Drop> FrequentItemsSketch<T> {
     {
         let header = read_header(image)?;
         let max_size = table_size(header.lg_max);
+        let sample_size = greatest_sample_of(max_size);
         if header.is_empty {
             check_limit::<T>(LEAST_MAP_SIZE, most_bytes)?;
             let map = ReversePurgeItemHashMap::new(alloc, LEAST_MAP_SIZE)?;
@@ -662,6 +729,7 @@ impl<T: FrequentItemValue + Drop> FrequentItemsSketch<T> {
                 error: 0,
                 total: 0,
                 max_size,
+                sample_size,
             });
         }
         let size = table_size(header.lg_cur);
@@ -674,6 +742,7 @@ impl<T: FrequentItemValue + Drop> FrequentItemsSketch<T> {
             error: numbers.error,
             total: numbers.total,
             max_size,
+            sample_size,
         })
     }
 }

@@ -2,13 +2,13 @@
 //!
 //! The laws speak of the states that the calls of [`FrequentItemsSketch`] leave, as their contracts name them, with
 //! what an item says in place of the item.
-ghost use Rattle.std.specs.Prelude.{◌*◌, ◌<◌, ◌≤◌, IfOk, IfErr};
-ghost use Rattle.sketch_frequencies.specs.History.{FrequentHistory, least_size, total_weight};
+ghost use Rattle.std.specs.Prelude.{◌≡◌, ◌*◌, ◌<◌, ◌≤◌, IfOk, IfErr};
+ghost use Rattle.sketch_frequencies.specs.History.{FrequentHistory, least_size, least_sample, total_weight, HasUsualSamples};
 ghost use Rattle.sketch_frequencies.specs.Image.{IsImageWritingRefusal};
 ghost use Rattle.sketch_frequencies.specs.Laws.{SpelledIsImage, ImageIsOfOne, ImageIsOfSome, ImageIsWithinTotal};
-ghost use Rattle.sketch_frequencies.specs.Stands.{StandsFor, KeepsTailBudget};
-ghost use Rattle.sketch_frequencies.specs.State.{FrequentState};
-ghost use Rattle.sketch_frequencies.specs.Steps.{IsSameState};
+ghost use Rattle.sketch_frequencies.specs.Stands.{Encloses, KeepsTailBudget};
+ghost use Rattle.sketch_frequencies.specs.State.{FrequentState, greatest_sample_size};
+ghost use Rattle.sketch_frequencies.specs.Steps.{HoldsSame};
 
 use crate::frequent_item_value::FrequentItemValue;
 use crate::frequent_items_sketch::FrequentItemsSketch;
@@ -24,17 +24,21 @@ pub fn what_images_say<T: FrequentItemValue>()
     ensures within { ImageIsWithinTotal T.codec }
 {}
 
-/// What the tail budget says of the error. For a greatest size M, the least of all that took part, it is at most 8 / 3M
-/// of the weight of all items where M is up to 1024, and at most 1 / 512 of it above.
+/// What the tail budget says of the error. For a sample size L, the least of all that took part, it is at most 2 / L of
+/// the weight of all items. Where all were made by `new`, that is, for a greatest size M, the least of all that took
+/// part, at most 8 / 3M of it where M is up to 1024, and at most 1 / 512 of it above.
 pub fn what_the_error_costs<T: Eq>()
-    ensures small { (s : FrequentState T) (h : FrequentHistory T) → StandsFor T.eq s h → KeepsTailBudget T.eq s h
-        → least_size h ≤ 1024 → 3 * least_size h * s.error ≤ 8 * total_weight h }
-    ensures large { (s : FrequentState T) (h : FrequentHistory T) → StandsFor T.eq s h → KeepsTailBudget T.eq s h
-        → 1024 < least_size h → 512 * s.error ≤ total_weight h }
+    ensures sampled { (s : FrequentState T) (h : FrequentHistory T) → Encloses T.eq s h → KeepsTailBudget T.eq s h
+        → least_sample h * s.error ≤ 2 * total_weight h }
+    ensures small { (s : FrequentState T) (h : FrequentHistory T) → Encloses T.eq s h → KeepsTailBudget T.eq s h
+        → HasUsualSamples h → least_size h ≤ 1024 → 3 * least_size h * s.error ≤ 8 * total_weight h }
+    ensures large { (s : FrequentState T) (h : FrequentHistory T) → Encloses T.eq s h → KeepsTailBudget T.eq s h
+        → HasUsualSamples h → 1024 < least_size h → 512 * s.error ≤ total_weight h }
 {}
 
 /// Writes an image of the sketch and reads it again: the sketch that comes back has the same counters, up to which of
-/// equal items it holds, and the same error, total and sizes.
+/// equal items it holds, and the same error, total and sizes. Its purges sample as many counters as those of a sketch
+/// that `new` made of its greatest size.
 ///
 /// # Errors
 ///
@@ -43,7 +47,8 @@ pub fn restored<T: FrequentItemValue + Drop>(
     alloc: Global,
     sketch: &FrequentItemsSketch<T>,
 ) -> Result<FrequentItemsSketch<T>, Error>
-    ensures same { IfOk result (λ copy. IsSameState T.eq sketch.now copy) }
+    ensures same { IfOk result (λ copy. HoldsSame T.eq sketch.now copy) }
+    ensures sample { IfOk result (λ copy. copy.sample_size ≡ greatest_sample_size sketch.now.max_size) }
     ensures err { IfErr result (IsImageWritingRefusal T.codec T.content sketch.now.counters) }
 {
     let image = sketch.serialize()?;

@@ -81,6 +81,24 @@ fn refused_size(alloc: Global, max_map_size: usize) -> Option<Fault> {
     }
 }
 
+/// Why a greatest size or a sample size is refused.
+fn refused_sample(alloc: Global, max_map_size: usize, sample_size: usize) -> Option<Fault> {
+    match FrequentItemsSketch::<i64>::with_sample_size(alloc, max_map_size, sample_size) {
+        Ok(_) => None,
+        Err(refused) => Some(refused.fault()),
+    }
+}
+
+/// A sketch of 8 slots whose purges sample two counters, with the items 1 to 6, once each, and 7 with a weight.
+fn sampled(alloc: Global, count: u64) -> Result<FrequentItemsSketch<i64>, Error> {
+    let mut sketch = FrequentItemsSketch::with_sample_size(alloc, 8, 2)?;
+    for item in 1..=6 {
+        sketch.update(item)?;
+    }
+    sketch.update_with_count(7, count)?;
+    Ok(sketch)
+}
+
 /// How many rows a report has, the numbers of its first, and the items of its first and last.
 fn reported(
     sketch: &FrequentItemsSketch<i64>,
@@ -112,6 +130,40 @@ fn refuses_sizes(rt: HostRuntime) {
     ] {
         assert!(rt; refused_size(rt.alloc(), size) == wanted);
     }
+}
+
+#[test]
+fn refuses_sample_sizes(rt: HostRuntime) {
+    for (size, sample, wanted) in [
+        (12, 2, Some(Fault::MapSizeNotPowerOfTwo)),
+        (8, 0, Some(Fault::BadSampleSize)),
+        (8, 3, Some(Fault::BadSampleSize)),
+        (8, 8, Some(Fault::BadSampleSize)),
+        (2048, 1026, Some(Fault::BadSampleSize)),
+        (8, 2, None),
+        (8, 6, None),
+        (2048, 1024, None),
+    ] {
+        assert!(rt; refused_sample(rt.alloc(), size, sample) == wanted);
+    }
+}
+
+// The error is the greater of two counts: 1, or 100 where that of 7 is sampled.
+#[test]
+fn samples_two_counters(rt: HostRuntime) -> Result<(), Fail> {
+    let even = sampled(rt.alloc(), 1)?;
+    assert!(rt; numbers(&even) == (0, 1, 7));
+    let heavy = sampled(rt.alloc(), 100)?;
+    let wanted = match heavy.maximum_error() {
+        1 => ((1, 1, 106), 99),
+        _ => ((0, 100, 106), 0),
+    };
+    assert!(rt; (numbers(&heavy), heavy.lower_bound(&7)) == wanted);
+    let restored = laws::restored(rt.alloc(), &even)?;
+    for (sketch, sample) in [(&even, 2), (&restored, 6)] {
+        assert!(rt; (sketch.sample_size(), sketch.maximum_error()) == (sample, 1));
+    }
+    Ok(())
 }
 
 // Items 1 to `last`, once each.

@@ -7,20 +7,28 @@ returns-clause-few g c = λ s h is. (named_stands g.T.PartialEq.eq g.T.FrequentI
 pub returns-clause-encloses : goal.returns-clause-encloses
 returns-clause-encloses g c = λ s h is x.
     let keeps = named_stands g.T.PartialEq.eq g.T.FrequentItemValue.codec g.T.FrequentItemValue.content _ _ is in
-    (keeps.stands.at_least x, keeps.stands.at_most x)
+    (keeps.stands.encloses.at_least x, keeps.stands.encloses.at_most x)
 
 pub returns-clause-exact : goal.returns-clause-exact
-returns-clause-exact g c = λ s h is. (named_stands g.T.PartialEq.eq g.T.FrequentItemValue.codec g.T.FrequentItemValue.content _ _ is).stands.exact
+returns-clause-exact g c = λ s h is. (named_stands g.T.PartialEq.eq g.T.FrequentItemValue.codec g.T.FrequentItemValue.content _ _ is).stands.encloses.exact
 
 pub returns-clause-budget : goal.returns-clause-budget
 returns-clause-budget g c = λ s h is. (named_stands g.T.PartialEq.eq g.T.FrequentItemValue.codec g.T.FrequentItemValue.content _ _ is).budget
 
+pub returns-clause-sample : goal.returns-clause-sample
+returns-clause-sample g c = λ s h is. (named_stands g.T.PartialEq.eq g.T.FrequentItemValue.codec g.T.FrequentItemValue.content _ _ is).stands.sample_size
+
+pub returns-clause-sampled : goal.returns-clause-sampled
+returns-clause-sampled g c = λ s h is.
+    let keeps = named_stands g.T.PartialEq.eq g.T.FrequentItemValue.codec g.T.FrequentItemValue.content _ _ is in
+    c.what_the_error_costs.ensures.sampled s h keeps.stands.encloses keeps.budget
+
 pub returns-clause-small : goal.returns-clause-small
 returns-clause-small g c = λ s h is.
     let keeps = named_stands g.T.PartialEq.eq g.T.FrequentItemValue.codec g.T.FrequentItemValue.content _ _ is in
-    c.what_the_error_costs.ensures.small s h keeps.stands keeps.budget
+    c.what_the_error_costs.ensures.small s h keeps.stands.encloses keeps.budget
 
 pub returns-clause-large : goal.returns-clause-large
 returns-clause-large g c = λ s h is.
     let keeps = named_stands g.T.PartialEq.eq g.T.FrequentItemValue.codec g.T.FrequentItemValue.content _ _ is in
-    c.what_the_error_costs.ensures.large s h keeps.stands keeps.budget
+    c.what_the_error_costs.ensures.large s h keeps.stands.encloses keeps.budget

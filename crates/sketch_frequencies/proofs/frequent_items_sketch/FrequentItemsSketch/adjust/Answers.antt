@@ -12,16 +12,16 @@ adjust-requires g c = λ _. omega (arith, count_le_sum g.T.PartialEq.eq c.self.i
 pub returns-clause-present : goal.returns-clause-present
 returns-clause-present g c = λ _.
     let eq = g.T.PartialEq.eq in
-    let old = state_of c.self.inside.map c.self.inside.error c.self.inside.total c.self.inside.max_size in
+    let old = state_of c.self.inside.map c.self.inside.error c.self.inside.total c.self.inside.max_size c.self.inside.sample_size in
     let t = c.adjust.new.self in
-    let new : FrequentState g.row.T.Denot = record { counters = t.entries; error = old.error; total = old.total + c.args.count; max_size = old.max_size; size = t.size } in
+    let new : FrequentState g.row.T.Denot = record { counters = t.entries; error = old.error; total = old.total + c.args.count; max_size = old.max_size; size = t.size; sample_size = old.sample_size } in
     let there = sym c.adjust.ensures.tracked ∙ c.if-not-adjust.false in
     subst (λ s. Steps eq s c.args.item.now c.args.count new) c.self.view_is
     (step_tracked eq old new c.args.item.now c.args.count c.self.invariant there (adds_tracked eq old c.args.item.now c.args.count t c.self.invariant there (c.adjust.ensures.present c.if-not-adjust.false) c.adjust.ensures.size))
 
 pub invariant_of-self-2 : goal.invariant_of-self-2
 invariant_of-self-2 g c =
-    let old = state_of c.self.inside.map c.self.inside.error c.self.inside.total c.self.inside.max_size in
+    let old = state_of c.self.inside.map c.self.inside.error c.self.inside.total c.self.inside.max_size c.self.inside.sample_size in
     let there = sym c.adjust.ensures.tracked ∙ c.if-not-adjust.false in
     state_after g.met.T.Eq.laws old _ c.args.item.now c.args.count c.requires.positive c.self.invariant (adds_tracked g.T.PartialEq.eq old c.args.item.now c.args.count c.adjust.new.self c.self.invariant there (c.adjust.ensures.present c.if-not-adjust.false) c.adjust.ensures.size)
 

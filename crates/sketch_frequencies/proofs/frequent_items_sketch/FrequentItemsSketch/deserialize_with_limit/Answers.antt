@@ -1,9 +1,10 @@
-use Rattle.std.proofs.Common.{arith, ◌≤◌, ◌^◌, ℕ, ap, sym, ◌∙◌}
+use Rattle.std.proofs.Common.{arith, ◌≤◌, ◌^◌, ℕ, ap, sym, ◌∙◌, subst}
 use Rattle.std.proofs.Math.Pow.{pow_mono}
-use Rattle.sketch_frequencies.specs.State.{FrequentState}
+use Rattle.sketch_frequencies.specs.State.{FrequentState, IsSampleSize}
 use Rattle.sketch_frequencies.proofs.Fresh.{fresh_state}
 use Rattle.sketch_frequencies.proofs.Images.{image_of_none, state_of_counters, image_of_counters, restores, restores_budget}
 use Rattle.sketch_frequencies.proofs.Powers.{eight_is_power}
+use Rattle.sketch_frequencies.proofs.SampleSizes.{usual_sample}
 use Rattle.sketch_frequencies.proofs.Weights.{length-weights_at}
 use Rattle.sketch_frequencies.proofs.frequent_items_sketch.FrequentItemsSketch.deserialize_with_limit.Goals as goal
 
@@ -15,7 +16,10 @@ invariant_of-result g c =
     let h = c.in_ok-header.ensures in
     let low : 3 ≤ c.in_ok-header.header.lg_max = omega (arith, h.least, h.within) in
     let least : 2 ^ 3 ≤ 2 ^ c.in_ok-header.header.lg_max = pow_mono low in
-    rw c.in_ok-map.ensures.ok (fresh_state g.T.PartialEq.eq c.table_size-max_size.result (omega (arith, least, c.table_size-max_size.ensures.value)) c.table_size-max_size.ensures.limit c.table_size-max_size.ensures.power)
+    let m = c.table_size-max_size.result in
+    let n = c.greatest_sample_of-sample_size.result in
+    let sample : IsSampleSize m n = subst (λ (k : ℕ). IsSampleSize m k) (sym c.greatest_sample_of-sample_size.ensures) (usual_sample m (omega (arith, least, c.table_size-max_size.ensures.value)) c.table_size-max_size.ensures.power) in
+    rw c.in_ok-map.ensures.ok (fresh_state g.T.PartialEq.eq m n (omega (arith, least, c.table_size-max_size.ensures.value)) c.table_size-max_size.ensures.limit c.table_size-max_size.ensures.power sample)
 
 pub returns-then-header-clause-state : goal.returns-then-header-clause-state
 returns-then-header-clause-state g c = invariant_of-result g c
@@ -25,11 +29,14 @@ returns-then-header-clause-image g c =
     let h = c.in_ok-header.ensures in
     let low : 3 ≤ c.in_ok-header.header.lg_max = omega (arith, h.least, h.within) in
     let least : 2 ^ 3 ≤ 2 ^ c.in_ok-header.header.lg_max = pow_mono low in
-    let state = fresh_state g.T.PartialEq.eq c.table_size-max_size.result (omega (arith, least, c.table_size-max_size.ensures.value)) c.table_size-max_size.ensures.limit c.table_size-max_size.ensures.power in
-    rw c.in_ok-map.ensures.ok (image_of_none g.T.FrequentItemValue.codec g.T.FrequentItemValue.content g.T.PartialEq.eq g.met.T.FrequentItemValue.alike c.args.image.now c.table_size-max_size.result state h.checks (sym h.fields.is_empty ∙ c.if-header.true) (c.table_size-max_size.ensures.value ∙ ap (λ (n : ℕ). 2 ^ n) h.fields.lg_max))
+    let m = c.table_size-max_size.result in
+    let n = c.greatest_sample_of-sample_size.result in
+    let sample : IsSampleSize m n = subst (λ (k : ℕ). IsSampleSize m k) (sym c.greatest_sample_of-sample_size.ensures) (usual_sample m (omega (arith, least, c.table_size-max_size.ensures.value)) c.table_size-max_size.ensures.power) in
+    let state = fresh_state g.T.PartialEq.eq m n (omega (arith, least, c.table_size-max_size.ensures.value)) c.table_size-max_size.ensures.limit c.table_size-max_size.ensures.power sample in
+    rw c.in_ok-map.ensures.ok (image_of_none g.T.FrequentItemValue.codec g.T.FrequentItemValue.content g.T.PartialEq.eq g.met.T.FrequentItemValue.alike c.args.image.now m n state h.checks (sym h.fields.is_empty ∙ c.if-header.true) (c.table_size-max_size.ensures.value ∙ ap (λ (n : ℕ). 2 ^ n) h.fields.lg_max))
 
 pub returns-then-header-clause-stands : goal.returns-then-header-clause-stands
-returns-then-header-clause-stands g c = λ old was h stands. restores g.T.FrequentItemValue.codec g.T.FrequentItemValue.content g.T.PartialEq.eq g.met.T.FrequentItemValue.alike g.met.T.Eq.laws c.args.image.now _ (returns-then-header-clause-image g c) old was h stands
+returns-then-header-clause-stands g c = λ old was h stands. restores g.T.FrequentItemValue.codec g.T.FrequentItemValue.content g.T.PartialEq.eq g.met.T.FrequentItemValue.alike g.met.T.Eq.laws c.args.image.now _ (returns-then-header-clause-image g c) c.greatest_sample_of-sample_size.ensures old was h stands
 
 pub returns-then-header-clause-budget : goal.returns-then-header-clause-budget
 returns-then-header-clause-budget g c = λ old was h stands keeps. restores_budget g.T.FrequentItemValue.codec g.T.FrequentItemValue.content g.T.PartialEq.eq g.met.T.FrequentItemValue.alike g.met.T.Eq.laws c.args.image.now _ (returns-then-header-clause-image g c) old was h stands keeps
@@ -44,7 +51,7 @@ invariant_of-result-2 g c =
     let h = c.in_ok-header.ensures in
     let n = c.in_ok-numbers.ensures in
     let image = c.args.image.now in
-    let s : FrequentState g.row.T.Denot = record { counters = c.in_ok-map-2.map.entries; error = c.in_ok-numbers.numbers.error; total = c.in_ok-numbers.numbers.total; max_size = c.table_size-max_size.result; size = c.in_ok-map-2.map.size } in
+    let s : FrequentState g.row.T.Denot = record { counters = c.in_ok-map-2.map.entries; error = c.in_ok-numbers.numbers.error; total = c.in_ok-numbers.numbers.total; max_size = c.table_size-max_size.result; size = c.in_ok-map-2.map.size; sample_size = c.greatest_sample_of-sample_size.result } in
     let least : 2 ^ 3 ≤ 2 ^ c.in_ok-header.header.lg_cur = pow_mono h.least in
     let below : 2 ^ c.in_ok-header.header.lg_cur ≤ 2 ^ c.in_ok-header.header.lg_max = pow_mono h.within in
     let size = c.in_ok-map-2.ensures.size ∙ c.table_size-size.ensures.value in
@@ -57,6 +64,7 @@ invariant_of-result-2 g c =
     (rw c.in_ok-map-2.ensures.size c.table_size-size.ensures.power)
     c.table_size-max_size.ensures.power
     n.some
+    (subst (λ (k : ℕ). IsSampleSize c.table_size-max_size.result k) (sym c.greatest_sample_of-sample_size.ensures) (usual_sample c.table_size-max_size.result (omega (arith, least, below, c.table_size-max_size.ensures.value)) c.table_size-max_size.ensures.power))
 
 pub returns-clause-state : goal.returns-clause-state
 returns-clause-state g c = invariant_of-result-2 g c
@@ -65,13 +73,13 @@ pub returns-clause-image : goal.returns-clause-image
 returns-clause-image g c =
     let h = c.in_ok-header.ensures in
     let n = c.in_ok-numbers.ensures in
-    let s : FrequentState g.row.T.Denot = record { counters = c.in_ok-map-2.map.entries; error = c.in_ok-numbers.numbers.error; total = c.in_ok-numbers.numbers.total; max_size = c.table_size-max_size.result; size = c.in_ok-map-2.map.size } in
+    let s : FrequentState g.row.T.Denot = record { counters = c.in_ok-map-2.map.entries; error = c.in_ok-numbers.numbers.error; total = c.in_ok-numbers.numbers.total; max_size = c.table_size-max_size.result; size = c.in_ok-map-2.map.size; sample_size = c.greatest_sample_of-sample_size.result } in
     image_of_counters g.T.FrequentItemValue.codec g.T.FrequentItemValue.content g.T.PartialEq.eq g.met.T.FrequentItemValue.alike c.args.image.now s (invariant_of-result-2 g c) c.in_ok-map-2.ensures.counters h.checks (sym h.fields.is_empty ∙ c.if-header.false) n.checks c.in_ok-check_weights.ensures.checks n.fields.error n.fields.total
     (c.table_size-max_size.ensures.value ∙ ap (λ (k : ℕ). 2 ^ k) h.fields.lg_max)
     (c.in_ok-map-2.ensures.size ∙ c.table_size-size.ensures.value ∙ ap (λ (k : ℕ). 2 ^ k) h.fields.lg_cur)
 
 pub returns-clause-stands : goal.returns-clause-stands
-returns-clause-stands g c = λ old was h stands. restores g.T.FrequentItemValue.codec g.T.FrequentItemValue.content g.T.PartialEq.eq g.met.T.FrequentItemValue.alike g.met.T.Eq.laws c.args.image.now _ (returns-clause-image g c) old was h stands
+returns-clause-stands g c = λ old was h stands. restores g.T.FrequentItemValue.codec g.T.FrequentItemValue.content g.T.PartialEq.eq g.met.T.FrequentItemValue.alike g.met.T.Eq.laws c.args.image.now _ (returns-clause-image g c) c.greatest_sample_of-sample_size.ensures old was h stands
 
 pub returns-clause-budget : goal.returns-clause-budget
 returns-clause-budget g c = λ old was h stands keeps. restores_budget g.T.FrequentItemValue.codec g.T.FrequentItemValue.content g.T.PartialEq.eq g.met.T.FrequentItemValue.alike g.met.T.Eq.laws c.args.image.now _ (returns-clause-image g c) old was h stands keeps

@@ -14,12 +14,12 @@ overflow_add-result g c =
 
 pub returns-in-Some-clause-value : goal.returns-in-Some-clause-value
 returns-in-Some-clause-value g c =
-    let old = state_of c.self.inside.map c.self.inside.error c.self.inside.total c.self.inside.max_size in
+    let old = state_of c.self.inside.map c.self.inside.error c.self.inside.total c.self.inside.max_size c.self.inside.sample_size in
     subst (λ s. c.in-Some.count + old.error ≡ estimate_of g.T.PartialEq.eq s c.args.item.now) c.self.view_is (estimate_some g.T.PartialEq.eq old c.args.item.now _ (sym c.look_up.ensures ∙ c.in-Some.is))
 
 pub returns-in-None-clause-value : goal.returns-in-None-clause-value
 returns-in-None-clause-value g c =
-    let old = state_of c.self.inside.map c.self.inside.error c.self.inside.total c.self.inside.max_size in
+    let old = state_of c.self.inside.map c.self.inside.error c.self.inside.total c.self.inside.max_size c.self.inside.sample_size in
     subst (λ s. 0 ≡ estimate_of g.T.PartialEq.eq s c.args.item.now) c.self.view_is (estimate_none g.T.PartialEq.eq old c.args.item.now (sym c.look_up.ensures ∙ c.in-None.is))
 
 pub returns-in-Some-clause-exact : goal.returns-in-Some-clause-exact

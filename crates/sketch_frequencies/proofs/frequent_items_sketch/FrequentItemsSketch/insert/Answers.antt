@@ -1,4 +1,4 @@
-use Rattle.std.proofs.Common.{arith, ap, sym, subst, ◌≡◌, ◌<◌, ◌+◌, length, ℕ, min, ◌∙◌}
+use Rattle.std.proofs.Common.{arith, ap, sym, subst, ◌≡◌, ◌<◌, ◌+◌, length, ℕ, min, refl, ◌∙◌}
 use Rattle.std.proofs.lemmas.List.Sorted.{length_permutation, sum_by-IsPermutation}
 use Rattle.sketch_frequencies.specs.Tables.{is_tracked, put}
 use Rattle.sketch_frequencies.specs.State.{FrequentState, IsState, capacity, state_of}
@@ -13,22 +13,22 @@ insert-requires-clause-absent g c = ap (λ (s : FrequentState g.row.T.Denot). is
 pub returns-then-num_active-capacity-clause-adds : goal.returns-then-num_active-capacity-clause-adds
 returns-then-num_active-capacity-clause-adds g c =
     let eq = g.T.PartialEq.eq in
-    let old = state_of c.self.inside.map c.self.inside.error c.self.inside.total c.self.inside.max_size in
+    let old = state_of c.self.inside.map c.self.inside.error c.self.inside.total c.self.inside.max_size c.self.inside.sample_size in
     let t = c.insert.new.self in
     let u = c.purge.new.self in
-    let new : FrequentState g.row.T.Denot = record { counters = u.entries; error = old.error + c.purge.result; total = old.total + c.args.count; max_size = old.max_size; size = u.size } in
+    let new : FrequentState g.row.T.Denot = record { counters = u.entries; error = old.error + c.purge.result; total = old.total + c.args.count; max_size = old.max_size; size = u.size; sample_size = old.sample_size } in
     let over : capacity t.size < length t.entries = omega (arith, c.if-num_active-capacity.true, c.num_active.ensures.active, c.capacity.ensures) in
     let room : capacity old.size < length (put eq old.counters c.args.item c.args.count) → old.size ≡ old.max_size = subst (λ (s : FrequentState g.row.T.Denot). capacity s.size < length (put eq s.counters c.args.item c.args.count) → s.size ≡ s.max_size) (sym c.self.view_is) c.requires.room in
     let same : old.size ≡ old.max_size = room (omega (arith, over, length_permutation (put eq old.counters c.args.item c.args.count) t.entries c.insert.ensures.entries, c.insert.ensures.size)) in
     subst (λ s. Adds eq s c.args.item c.args.count new) c.self.view_is
-    (adds_purged eq old c.args.item c.args.count t u c.purge.result c.maximum_map_capacity-sample_size.result c.insert.ensures.entries c.insert.ensures.size over same (c.maximum_map_capacity-sample_size.ensures ∙ ap (λ s. capacity s.max_size) (sym c.self.view_is)) c.purge.ensures.middle c.purge.ensures.entries c.purge.ensures.size)
+    (adds_purged eq old c.args.item c.args.count t u c.purge.result c.self.inside.sample_size c.insert.ensures.entries c.insert.ensures.size over same refl c.self.invariant c.purge.ensures.middle c.purge.ensures.entries c.purge.ensures.size)
 
 pub returns-else-num_active-capacity-clause-adds : goal.returns-else-num_active-capacity-clause-adds
 returns-else-num_active-capacity-clause-adds g c =
     let eq = g.T.PartialEq.eq in
-    let old = state_of c.self.inside.map c.self.inside.error c.self.inside.total c.self.inside.max_size in
+    let old = state_of c.self.inside.map c.self.inside.error c.self.inside.total c.self.inside.max_size c.self.inside.sample_size in
     let t = c.insert.new.self in
-    let new : FrequentState g.row.T.Denot = record { counters = t.entries; error = old.error; total = old.total + c.args.count; max_size = old.max_size; size = t.size } in
+    let new : FrequentState g.row.T.Denot = record { counters = t.entries; error = old.error; total = old.total + c.args.count; max_size = old.max_size; size = t.size; sample_size = old.sample_size } in
     subst (λ s. Adds eq s c.args.item c.args.count new) c.self.view_is
     (adds_kept eq old c.args.item c.args.count t c.insert.ensures.entries c.insert.ensures.size (omega (arith, c.if-num_active-capacity.false, c.num_active.ensures.active, c.capacity.ensures)))
 
@@ -36,8 +36,8 @@ pub overflow_add-self-then-num_active-capacity : goal.overflow_add-self-then-num
 overflow_add-self-then-num_active-capacity g c =
     let t = c.insert.new.self in
     let es = put g.T.PartialEq.eq c.self.inside.map.entries c.args.item c.args.count in
-    let least : 0 < min c.maximum_map_capacity-sample_size.result (min (length t.entries) 1024) = omega (arith, c.maximum_map_capacity-sample_size.ensures, ap (λ s. s.max_size) c.self.view_is, c.if-num_active-capacity.true, c.num_active.ensures.active, c.self.invariant.least, c.self.invariant.within) in
-    omega (arith, sum_of-purged g.T.PartialEq.eq (min c.maximum_map_capacity-sample_size.result (min (length t.entries) 1024)) c.purge.result t.entries least c.purge.ensures.middle, sum_by-IsPermutation (λ (e : g.row.T.Denot × ℕ). e.1) es t.entries c.insert.ensures.entries, sum_of-put g.T.PartialEq.eq c.self.inside.map.entries c.args.item c.args.count, c.self.invariant.sum, c.requires.fits, ap (λ s. s.total) c.self.view_is)
+    let least : 0 < min c.self.inside.sample_size (min (length t.entries) 1024) = omega (arith, c.if-num_active-capacity.true, c.num_active.ensures.active, c.self.invariant.sample.least) in
+    omega (arith, sum_of-purged g.T.PartialEq.eq (min c.self.inside.sample_size (min (length t.entries) 1024)) c.purge.result t.entries least c.purge.ensures.middle, sum_by-IsPermutation (λ (e : g.row.T.Denot × ℕ). e.1) es t.entries c.insert.ensures.entries, sum_of-put g.T.PartialEq.eq c.self.inside.map.entries c.args.item c.args.count, c.self.invariant.sum, c.requires.fits, ap (λ s. s.total) c.self.view_is)
 
 pub invariant_of-self : goal.invariant_of-self
 invariant_of-self g c = state_after g.met.T.Eq.laws c.args.self.now _ c.args.item c.args.count c.requires.positive (subst (λ s. IsState g.T.PartialEq.eq s) c.self.view_is c.self.invariant) (returns-then-num_active-capacity-clause-adds g c)

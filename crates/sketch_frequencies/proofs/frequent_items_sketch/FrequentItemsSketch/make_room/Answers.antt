@@ -17,28 +17,29 @@ resize-requires-clause-limit g c =
 
 pub returns-in_err-resize-clause-succeeds : goal.returns-in_err-resize-clause-succeeds
 returns-in_err-resize-clause-succeeds g c = λ not_due.
-    let old = state_of c.self.inside.map c.self.inside.error c.self.inside.total c.self.inside.max_size in
+    let old = state_of c.self.inside.map c.self.inside.error c.self.inside.total c.self.inside.max_size c.self.inside.sample_size in
     let due = grow_from_parts old (omega (arith, c.if-num_active-capacity.false, c.num_active.ensures.active, c.capacity.ensures)) (omega (arith, c.if-size-self.false, c.len-size.ensures.size, c.self.invariant.within)) in
     absurd (false≢true (sym not_due ∙ (ap (λ (s : FrequentState g.row.T.Denot). must_grow s) (sym c.self.view_is) ∙ due)))
 
 pub invariant_of-self-2 : goal.invariant_of-self-2
 invariant_of-self-2 g c =
-    let old = state_of c.self.inside.map c.self.inside.error c.self.inside.total c.self.inside.max_size in
+    let old = state_of c.self.inside.map c.self.inside.error c.self.inside.total c.self.inside.max_size c.self.inside.sample_size in
     let below : old.size < old.max_size = omega (arith, c.if-size-self.false, c.len-size.ensures.size, c.self.invariant.within) in
     let fits = doubled_fits old.size old.max_size c.self.invariant.size_power c.self.invariant.max_size_power below in
     state_made g.met.T.Eq.laws old c.resize.new.self c.self.invariant c.resize.ensures.entries (c.in_ok-resize.ensures.ok ∙ ap (λ n. 2 * n) c.len-size.ensures.size) fits (omega (arith, c.if-num_active-capacity.false, c.num_active.ensures.active, c.capacity.ensures, length_le_sum old.counters c.self.invariant.positive, c.self.invariant.sum, c.self.invariant.least))
 
 pub returns-clause-ok : goal.returns-clause-ok
 returns-clause-ok g c =
-    let old = state_of c.self.inside.map c.self.inside.error c.self.inside.total c.self.inside.max_size in
+    let old = state_of c.self.inside.map c.self.inside.error c.self.inside.total c.self.inside.max_size c.self.inside.sample_size in
     let t = c.resize.new.self in
-    let new : FrequentState g.row.T.Denot = record { counters = t.entries; error = old.error; total = old.total; max_size = old.max_size; size = t.size } in
+    let new : FrequentState g.row.T.Denot = record { counters = t.entries; error = old.error; total = old.total; max_size = old.max_size; size = t.size; sample_size = old.sample_size } in
     let due = grow_from_parts old (omega (arith, c.if-num_active-capacity.false, c.num_active.ensures.active, c.capacity.ensures)) (omega (arith, c.if-size-self.false, c.len-size.ensures.size, c.self.invariant.within)) in
     let made : MakesRoom old new = record {
       counters = c.resize.ensures.entries;
       error = refl;
       total = refl;
       max_size = refl;
+      sample_size = refl;
       doubled = λ _. c.in_ok-resize.ensures.ok ∙ ap (λ n. 2 * n) c.len-size.ensures.size;
       stays = λ not_due. absurd (false≢true (sym not_due ∙ due));
     } in

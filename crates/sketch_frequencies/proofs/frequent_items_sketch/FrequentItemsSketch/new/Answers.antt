@@ -1,26 +1,12 @@
-use Rattle.std.proofs.Common.{arith, refl, sym, ◌∙◌}
-use Rattle.std.specs.List.{IsDistinct}
-use Rattle.std.proofs.lemmas.List.Elements.{All-nil}
-use Rattle.sketch_frequencies.proofs.Powers.{eight_is_power}
+use Rattle.std.proofs.Common.{◌≡◌, ℕ, ◌∙◌, ap, subst}
+use Rattle.std.specs.Prelude.{IfErr}
+use Rattle.sketch_base.specs.Errors.{refusal_of}
+use Rattle.sketch_frequencies.specs.Sizes.{sizes_fault}
+use Rattle.sketch_frequencies.proofs.SampleSizes.{usual_fault}
 use Rattle.sketch_frequencies.proofs.frequent_items_sketch.FrequentItemsSketch.new.Goals as goal
 
-pub new-requires-clause-power : goal.new-requires-clause-power
-new-requires-clause-power g c = eight_is_power
-
-pub invariant_of-result : goal.invariant_of-result
-unfolding IsDistinct
-invariant_of-result g c = rw c.in_ok-map.ensures.ok (record {
-  distinct = tt;
-  positive = All-nil _;
-  few = omega arith;
-  sum = omega arith;
-  least = omega arith;
-  within = omega arith;
-  greatest = omega arith;
-  size_power = eight_is_power;
-  max_size_power = sym c.is_power_of_two.ensures ∙ c.if-not-is_power_of_two.false;
-  empty = λ _. refl;
-})
-
-pub returns-clause-state : goal.returns-clause-state
-returns-clause-state g c = invariant_of-result g c
+pub returns-clause-refused : goal.returns-clause-refused
+returns-clause-refused g c =
+    let m = c.args.max_map_size in
+    let usual = ap (λ (n : ℕ). sizes_fault m n) c.greatest_sample_of.ensures ∙ usual_fault m in
+    subst (λ fault. IfErr c.with_sample_size.result (λ e. e ≡ refusal_of fault)) usual c.with_sample_size.ensures.refused

@@ -15,7 +15,7 @@ adjust_or_put_value-requires-clause-fits g c = λ _. omega (arith, count_le_sum 
 pub invariant_of-self : goal.invariant_of-self
 invariant_of-self g c =
     let eq = g.T.PartialEq.eq in
-    let old = state_of c.self.inside.map c.self.inside.error c.self.inside.total c.self.inside.max_size in
+    let old = state_of c.self.inside.map c.self.inside.error c.self.inside.total c.self.inside.max_size c.self.inside.sample_size in
     let t = c.adjust_or_put_value.new.self in
     let put_in = c.adjust_or_put_value.ensures in
     let room = subst (λ (s : FrequentState g.row.T.Denot). length s.counters < capacity s.size) (sym c.self.view_is) c.requires.room in
@@ -25,10 +25,10 @@ invariant_of-self g c =
 pub returns-clause-step : goal.returns-clause-step
 returns-clause-step g c =
     let eq = g.T.PartialEq.eq in
-    let old = state_of c.self.inside.map c.self.inside.error c.self.inside.total c.self.inside.max_size in
+    let old = state_of c.self.inside.map c.self.inside.error c.self.inside.total c.self.inside.max_size c.self.inside.sample_size in
     let t = c.adjust_or_put_value.new.self in
     let put_in = c.adjust_or_put_value.ensures in
-    let new : FrequentState g.row.T.Denot = state_of t old.error (old.total + c.args.count) old.max_size in
+    let new : FrequentState g.row.T.Denot = state_of t old.error (old.total + c.args.count) old.max_size old.sample_size in
     let room = subst (λ (s : FrequentState g.row.T.Denot). length s.counters < capacity s.size) (sym c.self.view_is) c.requires.room in
     let adds : Adds eq old c.args.item c.args.count new = adds_kept eq old c.args.item c.args.count t put_in.entries put_in.size (omega (arith, length_permutation (put eq old.counters c.args.item c.args.count) t.entries put_in.entries, length_put eq old.counters c.args.item c.args.count, room, put_in.size)) in
     subst (λ s. Steps eq s c.args.item c.args.count new) c.self.view_is

@@ -1,0 +1,71 @@
+-- How many counters a purge may sample.
+use Rattle.std.proofs.Common.{◌≡◌, ℕ, ◌+◌, ◌-◌, ◌*◌, ◌/◌, ◌≤◌, ◌^◌, Bool, true, false, leb, ltb, cond, not, Option, None, Some, refl, ap, arith}
+use Rattle.std.specs.Prelude.{IsTrue}
+use Rattle.std.specs.Int.{is_power_of_two}
+use Rattle.std.proofs.Math.Pow.{pow_mono}
+use Rattle.std.proofs.lemmas.Bool.{cases_lt, le-leb, ltb-false}
+use Rattle.std.proofs.lemmas.Nat.{pow-add}
+use Rattle.sketch_base.specs.Checks.{or_else}
+use Rattle.sketch_base.specs.declared.fault.Fault.{Fault}
+use Rattle.sketch_frequencies.specs.History.{FrequentHistory, own_size, least_size, own_sample, least_sample, HasUsualSamples}
+use Rattle.sketch_frequencies.specs.History.FrequentHistory.{New, Update, Merge, Reset, Restored}
+use Rattle.sketch_frequencies.specs.Sizes.{size_fault, sample_fault, sizes_fault}
+use Rattle.sketch_frequencies.specs.State.{IsSampleSize, greatest_sample_size}
+use Rattle.sketch_frequencies.proofs.Cases.{by_cases}
+use Rattle.sketch_frequencies.proofs.Powers.{power_of}
+
+-- a power of two from 8 on is a multiple of 8
+pub eighths : (m : ℕ) → IsTrue (is_power_of_two m) → 8 ≤ m → m ≡ 8 * (m / 8)
+eighths m power least =
+    let a = power_of m power in
+    by_cases (cases_lt a.0 3)
+    (λ low. let up : 2 ^ a.0 ≤ 2 ^ 2 = pow_mono {i = a.0} {j = 2} (omega (arith, low)) in absurd (omega (arith, up, a.1, least)))
+    (λ high.
+    let j : ℕ = a.0 - 3 in
+    let e : a.0 ≡ 3 + j = omega (arith, high) in
+    omega (arith, a.1, ap (λ n. 2 ^ n) e, pow-add 2 3 j))
+
+-- the most that a purge may sample, it may
+pub usual_sample : (m : ℕ) → 8 ≤ m → IsTrue (is_power_of_two m) → IsSampleSize m (greatest_sample_size m)
+usual_sample m least power =
+    let e = eighths m power least in
+    record { least = omega (arith, least); even = omega (arith, e); greatest = omega arith }
+
+-- what may be sampled passes the test
+sample_passes : (m n : ℕ) → IsSampleSize m n → sample_fault m n ≡ None
+sample_passes m n sample =
+    let low : leb 2 n ≡ true = le-leb _ _ sample.least in
+    let high : leb n (greatest_sample_size m) ≡ true = le-leb _ _ sample.greatest in
+    rw (low, sample.even, high) refl
+
+-- a size without a fault is one that a sketch may have
+size_passes : (power small large : Bool) (f f' f'' : Fault) → cond (not power) (Some f) (cond small (Some f') (cond large (Some f'') None)) ≡ None → (power ≡ true) × (small ≡ false)
+size_passes true false large f f' f'' e = (refl, refl)
+size_passes true true large f f' f'' e = absurd cc
+size_passes false small large f f' f'' e = absurd cc
+
+or_no_more : (a b : Option Fault) → (a ≡ None → b ≡ None) → or_else a b ≡ a
+or_no_more None b h = h refl
+or_no_more (Some f) b h = refl
+
+-- so with the usual sample only the greatest size may be wrong
+pub usual_fault : (m : ℕ) → sizes_fault m (greatest_sample_size m) ≡ size_fault m
+usual_fault m =
+    or_no_more (size_fault m) (sample_fault m (greatest_sample_size m)) (λ none.
+    let p = size_passes (is_power_of_two m) (ltb m 8) (ltb (2 ^ 30) m) _ _ _ none in
+    sample_passes m _ (usual_sample m (ltb-false m 8 p.1) p.0))
+
+-- where each new sketch had the sample size of `new`, so has the sketch, and so has the least size
+pub usual_own : {T : Type 0} (h : FrequentHistory T) → HasUsualSamples h → own_sample h ≡ greatest_sample_size (own_size h)
+usual_own (New m n) e = e
+usual_own (Update h x w) e = usual_own h e
+usual_own (Merge h g) e = usual_own h e.0
+usual_own (Reset h) e = usual_own h e
+usual_own (Restored h) e = refl
+
+pub usual_least : {T : Type 0} (h : FrequentHistory T) → HasUsualSamples h → least_sample h ≡ greatest_sample_size (least_size h)
+usual_least (New m n) e = e
+usual_least (Update h x w) e = usual_least h e
+usual_least (Merge h g) e = omega (arith, usual_least h e.0, usual_least g e.1)
+usual_least (Reset h) e = usual_own h e
+usual_least (Restored h) e = usual_least h e
