@@ -1,0 +1,110 @@
+use Rattle.std.proofs.Common.{◌≡◌, ◌<◌, ℕ, arith, List, [], ◌∷◌, Some, unwrap_or, refl, ap, sym, ◌∙◌, subst}
+use Rattle.std.proofs.Math.Dec.{eqb}
+use Rattle.std.proofs.lemmas.Result.{err_from_is_err_and, on_ok_weaker, on_err_weaker}
+use Rattle.std.specs.Map.{lookup}
+use Rattle.std.specs.Result.{OnOk}
+use Rattle.sketch_frequencies.specs.Steps.{Steps}
+use Rattle.heavy_windows.specs.Fresh.{fresh_state, fresh_history}
+use Rattle.heavy_windows.specs.Histories.{added_history}
+use Rattle.heavy_windows.specs.Stands.{ExtendsEach}
+use Rattle.heavy_windows.specs.State.{WindowsState, IsWindows, OnlyChanges, AreKept, at_tenant}
+use Rattle.heavy_windows.specs.Steps.{AddsToNewest}
+use Rattle.heavy_windows.proofs.Kept.{kept_added_either, kept_one, limit_is_some}
+use Rattle.heavy_windows.proofs.Standing.{fresh_window, first_at}
+use Rattle.heavy_windows.proofs.Steps.{adds_first}
+use Rattle.heavy_windows.proofs.Tenants.{PutsWindows, kept_of, put_in, put_at, put_kept, put_others, put_back, same_changes}
+use Rattle.heavy_windows.proofs.heavy_windows.HeavyWindows.add.Given as given
+use Rattle.heavy_windows.proofs.heavy_windows.HeavyWindows.add.Goals as goal
+
+-- the newest window was updated, or left as it was
+put : (g : given.Over) (c : goal.After-self-in-Some-1 g)
+    → PutsWindows c.args.tenant c.add.new.self
+      (record { limit = c.self.inside.limit; max_map_size = c.self.inside.max_map_size; tenants = c.self.inside.tenants.entries })
+      (record { limit = c.self.inside.limit; max_map_size = c.self.inside.max_map_size; tenants = (c.get_mut.follows.lender c.add.new.self).entries })
+put g c =
+    let found : lookup (eqb c.args.tenant) c.self.inside.tenants.entries ≡ Some c.in-Some.windows.now = sym c.in-Some.ensures.value in
+    put_in c.args.tenant c.self.inside.limit c.self.inside.max_map_size c.self.inside.tenants.entries (c.get_mut.follows.lender c.add.new.self).entries c.add.new.self
+    ((c.get_mut.follows.holds c.add.new.self).3 (rw found refl)).0
+
+pub invariant_of-self : goal.invariant_of-self
+invariant_of-self g c =
+    let old : WindowsState g.row.T.Denot = record { limit = c.self.inside.limit; max_map_size = c.self.inside.max_map_size; tenants = c.self.inside.tenants.entries } in
+    put_kept c.args.tenant c.add.new.self old _ (put g c)
+    (kept_added_either g.T.PartialEq.eq c.self.inside.limit c.self.inside.max_map_size (fresh_state c.self.inside.max_map_size) c.in-Some.windows.now c.add.new.self c.args.item c.args.weight c.add.result
+      (kept_of c.args.tenant old c.in-Some.windows.now c.self.invariant (sym c.in-Some.ensures.value))
+      refl c.add.ensures.adds c.add.ensures.err)
+    c.self.invariant
+
+pub returns-in-Some-clause-state : goal.returns-in-Some-clause-state
+returns-in-Some-clause-state g c = invariant_of-self g c
+
+pub returns-in-Some-clause-others : goal.returns-in-Some-clause-others
+returns-in-Some-clause-others g c =
+    let old : WindowsState g.row.T.Denot = record { limit = c.self.inside.limit; max_map_size = c.self.inside.max_map_size; tenants = c.self.inside.tenants.entries } in
+    let new : WindowsState g.row.T.Denot = record { limit = c.self.inside.limit; max_map_size = c.self.inside.max_map_size; tenants = (c.get_mut.follows.lender c.add.new.self).entries } in
+    subst (λ (s : WindowsState g.row.T.Denot). OnlyChanges c.args.tenant s new) c.self.view_is (put_others c.args.tenant c.add.new.self old new (put g c))
+
+pub returns-in-Some-clause-err : goal.returns-in-Some-clause-err
+returns-in-Some-clause-err g c =
+    on_err_weaker c.add.result
+    (λ e. put_back c.args.tenant c.self.inside.limit c.self.inside.max_map_size c.self.inside.tenants.entries (c.get_mut.follows.lender c.add.new.self).entries c.in-Some.windows.now c.args.self.now c.self.view_is (sym c.in-Some.ensures.value) (rw e (c.get_mut.follows.holds c.in-Some.windows.now).0))
+    c.add.ensures.err
+
+pub returns-in_err-insert-clause-others : goal.returns-in_err-insert-clause-others
+returns-in_err-insert-clause-others g c =
+    let old : WindowsState g.row.T.Denot = record { limit = c.self.inside.limit; max_map_size = c.self.inside.max_map_size; tenants = c.self.inside.tenants.entries } in
+    let e = c.in_err-insert.ensures.err ∙ ap (λ m. m.entries) c.get_mut.follows.holds-at-none in
+    same_changes c.args.tenant c.args.self.now _ (ap (λ es. record old { tenants = es }) e ∙ c.self.view_is)
+
+-- an unknown tenant got a first window
+put_first : (g : given.Over) (c : goal.Joined-branch-4 g)
+    → PutsWindows c.args.tenant (c.update_with_count.new.self ∷ [])
+      (record { limit = c.self.inside.limit; max_map_size = c.self.inside.max_map_size; tenants = c.self.inside.tenants.entries })
+      (record { limit = c.self.inside.limit; max_map_size = c.self.inside.max_map_size; tenants = c.insert.new.self.entries })
+put_first g c =
+    put_in c.args.tenant c.self.inside.limit c.self.inside.max_map_size c.self.inside.tenants.entries c.insert.new.self.entries (c.update_with_count.new.self ∷ [])
+    (rw (c.new-windows.ensures, c.get_mut.follows.holds-at-none) at c.in_ok-insert.ensures.updates.0)
+
+pub invariant_of-self-2 : goal.invariant_of-self-2
+invariant_of-self-2 g c =
+    let old : WindowsState g.row.T.Denot = record { limit = c.self.inside.limit; max_map_size = c.self.inside.max_map_size; tenants = c.self.inside.tenants.entries } in
+    let some : 0 < c.args.weight = omega (arith, c.if-weight-eq0.false) in
+    let size = (c.in_ok-update_with_count.ensures.step some).max_size ∙ ap (λ s. s.max_size) c.in_ok-window.ensures.ok in
+    put_kept c.args.tenant (c.update_with_count.new.self ∷ []) old _ (put_first g c)
+    (kept_one c.self.inside.limit c.self.inside.max_map_size c.update_with_count.new.self (limit_is_some c.self.inside.limit c.self.inside.max_map_size c.self.invariant.limits) size)
+    c.self.invariant
+
+pub returns-clause-state : goal.returns-clause-state
+returns-clause-state g c = invariant_of-self-2 g c
+
+pub returns-clause-others : goal.returns-clause-others
+returns-clause-others g c =
+    let old : WindowsState g.row.T.Denot = record { limit = c.self.inside.limit; max_map_size = c.self.inside.max_map_size; tenants = c.self.inside.tenants.entries } in
+    let new : WindowsState g.row.T.Denot = record { limit = c.self.inside.limit; max_map_size = c.self.inside.max_map_size; tenants = c.insert.new.self.entries } in
+    subst (λ (s : WindowsState g.row.T.Denot). OnlyChanges c.args.tenant s new) c.self.view_is (put_others c.args.tenant (c.update_with_count.new.self ∷ []) old new (put_first g c))
+
+pub returns-clause-adds : goal.returns-clause-adds
+returns-clause-adds g c = λ some.
+    let eq = g.T.PartialEq.eq in
+    let tenant = c.args.tenant in
+    let old : WindowsState g.row.T.Denot = record { limit = c.self.inside.limit; max_map_size = c.self.inside.max_map_size; tenants = c.self.inside.tenants.entries } in
+    let new : WindowsState g.row.T.Denot = record { limit = c.self.inside.limit; max_map_size = c.self.inside.max_map_size; tenants = c.insert.new.self.entries } in
+    let before : at_tenant tenant old ≡ [] = ap (λ o. unwrap_or o []) (sym c.in_default.ensures.value) in
+    let after = put_at tenant (c.update_with_count.new.self ∷ []) old new (put_first g c) in
+    let step = subst (λ s. Steps eq s c.args.item c.args.weight c.update_with_count.new.self) c.in_ok-window.ensures.ok (c.in_ok-update_with_count.ensures.step some) in
+    subst (λ (s : WindowsState g.row.T.Denot). AddsToNewest eq (fresh_state s.max_map_size) (at_tenant tenant s) c.args.item c.args.weight (at_tenant tenant new)) c.self.view_is
+    (adds_first eq (fresh_state c.self.inside.max_map_size) (at_tenant tenant old) (at_tenant tenant new) c.update_with_count.new.self c.args.item c.args.weight before after step)
+
+pub returns-clause-stands : goal.returns-clause-stands
+returns-clause-stands g c = λ some.
+    let eq = g.T.PartialEq.eq in
+    let tenant = c.args.tenant in
+    let max_map_size = c.self.inside.max_map_size in
+    let old : WindowsState g.row.T.Denot = record { limit = c.self.inside.limit; max_map_size = c.self.inside.max_map_size; tenants = c.self.inside.tenants.entries } in
+    let new : WindowsState g.row.T.Denot = record { limit = c.self.inside.limit; max_map_size = c.self.inside.max_map_size; tenants = c.insert.new.self.entries } in
+    let before : at_tenant tenant old ≡ [] = ap (λ o. unwrap_or o []) (sym c.in_default.ensures.value) in
+    let after = put_at tenant (c.update_with_count.new.self ∷ []) old new (put_first g c) in
+    subst (λ (s : WindowsState g.row.T.Denot). ExtendsEach eq s.max_map_size (at_tenant tenant s) (at_tenant tenant new) (added_history s.max_map_size c.args.item c.args.weight)) c.self.view_is
+    (first_at eq max_map_size c.in_ok-window.window c.update_with_count.new.self c.args.item c.args.weight (at_tenant tenant old) (at_tenant tenant new) before after
+      (c.in_ok-update_with_count.ensures.stands some) (c.in_ok-update_with_count.ensures.budget some)
+      (fresh_window eq max_map_size c.in_ok-window.window c.in_ok-window.ensures.stands c.in_ok-window.ensures.budget))

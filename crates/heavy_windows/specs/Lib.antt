@@ -1,0 +1,9 @@
+pub mod Newest
+pub mod Fresh
+pub mod Sizes
+pub mod State
+pub mod Histories
+pub mod Stands
+pub mod Steps
+pub mod Merging
+pub mod Reports

@@ -1,0 +1,24 @@
+-- What the windows of a tenant say of their histories, and how a call keeps it.
+use Rattle.std.specs.Prelude.{ℕ, Bool, List}
+use Rattle.std.specs.List.{AllZip}
+use Rattle.sketch_frequencies.specs.History.{FrequentHistory}
+use Rattle.sketch_frequencies.specs.Stands.{StandsFor, KeepsTailBudget}
+use Rattle.sketch_frequencies.specs.State.{FrequentState}
+use Rattle.heavy_windows.specs.Fresh.{SamplesAsWindow}
+
+module _ {T : Type 0} (eq : T → T → Bool) where
+  -- the window is one of this history, keeps its tail budget, and samples as one of this greatest size
+  pub record IsWindowOf (max_map_size : ℕ) (s : FrequentState T) (h : FrequentHistory T) : Type 0 where
+    pub stands : StandsFor eq s h
+    pub budget : KeepsTailBudget eq s h
+    pub sample : SamplesAsWindow max_map_size h
+
+  -- each window is one of its history
+  abbrev pub WindowsStandFor : ℕ → List (FrequentState T) → List (FrequentHistory T) → Type 0
+  WindowsStandFor max_map_size windows hs = AllZip (IsWindowOf max_map_size) windows hs
+
+  -- whatever the old windows stood for, the new ones stand for that, extended so
+  abbrev pub ExtendsEach :
+      ℕ → List (FrequentState T) → List (FrequentState T) → (List (FrequentHistory T) → List (FrequentHistory T)) → Type 0
+  ExtendsEach max_map_size old new extended =
+      (hs : List (FrequentHistory T)) → WindowsStandFor max_map_size old hs → WindowsStandFor max_map_size new (extended hs)

@@ -1,0 +1,46 @@
+-- The windows of each tenant.
+use Rattle.std.specs.Prelude.{◌≡◌, ◌≢◌, ℕ, ◌<◌, ◌≤◌, ◌==◌, List, [], length, sum_by, All, Option, None, unwrap_or, IfSome}
+use Rattle.std.specs.Map.{lookup}
+use Rattle.sketch_frequencies.specs.State.{FrequentState}
+use Rattle.heavy_windows.specs.Sizes.{limits_fault}
+
+-- how many windows a tenant may have, the greatest table size of each, and the windows of each tenant, oldest first, in
+-- some order of the tenants
+pub record WindowsState (T : Type 0) : Type 0 where
+  pub limit : ℕ
+  pub max_map_size : ℕ
+  pub tenants : List (ℕ × List (FrequentState T))
+
+module _ {T : Type 0} where
+  -- the windows of a tenant, oldest first, if it is known
+  abbrev pub known : ℕ → WindowsState T → Option (List (FrequentState T))
+  known tenant s = lookup (λ key. tenant == key) s.tenants
+
+  -- the same; an unknown tenant has none
+  abbrev pub at_tenant : ℕ → WindowsState T → List (FrequentState T)
+  at_tenant tenant s = unwrap_or (known tenant s) []
+
+  -- no tenant
+  abbrev pub nothing_added : ℕ → ℕ → WindowsState T
+  nothing_added limit max_map_size = record { limit = limit; max_map_size = max_map_size; tenants = [] }
+
+  -- the weight of all items of all windows
+  abbrev pub windows_total : List (FrequentState T) → ℕ
+  windows_total windows = sum_by (λ window. window.total) windows
+
+  -- one window or more, at most so many, and each of this greatest size
+  pub record AreKept (limit max_map_size : ℕ) (windows : List (FrequentState T)) : Type 0 where
+    pub some : 0 < length windows
+    pub few : length windows ≤ limit
+    pub sizes : All (λ window. window.max_size ≡ max_map_size) windows
+
+  -- what holds of the windows of all tenants
+  pub record IsWindows (s : WindowsState T) : Type 0 where
+    pub limits : limits_fault s.limit s.max_map_size ≡ None
+    pub each : (tenant : ℕ) → IfSome (known tenant s) (AreKept s.limit s.max_map_size)
+
+  -- no windows changed but those of this tenant
+  pub record OnlyChanges (tenant : ℕ) (old new : WindowsState T) : Type 0 where
+    pub limit : new.limit ≡ old.limit
+    pub max_map_size : new.max_map_size ≡ old.max_map_size
+    pub others : (other : ℕ) → other ≢ tenant → at_tenant other new ≡ at_tenant other old

@@ -1,0 +1,231 @@
+//! Windows of many tenants.
+ghost use Rattle.std.specs.Prelude.{◌≡◌, ◌≢◌, ◌<◌, ◌≤◌, ◌^◌, [], false, None, IfOk, IfErr, IsOk, IsTrue, OnOk, OnErr, IsErrOf};
+ghost use Rattle.sketch_base.specs.Errors.{invalid_argument, no_memory, refusal_of};
+ghost use Rattle.sketch_frequencies.specs.State.{Overflows, Fits, must_double};
+ghost use Rattle.heavy_windows.specs.Fresh.{fresh_state};
+ghost use Rattle.heavy_windows.specs.Histories.{added_history, turned_history};
+ghost use Rattle.heavy_windows.specs.Merging.{IsMerged};
+ghost use Rattle.heavy_windows.specs.Newest.{newest, turned};
+ghost use Rattle.heavy_windows.specs.Reports.{Reports, HasTotal, MissesNone, ShowsNoneBelow, IsPaidByTail};
+ghost use Rattle.heavy_windows.specs.Sizes.{limits_fault};
+ghost use Rattle.heavy_windows.specs.Stands.{ExtendsEach};
+ghost use Rattle.heavy_windows.specs.State.{at_tenant, nothing_added, windows_total, IsWindows, OnlyChanges};
+ghost use Rattle.heavy_windows.specs.Steps.{AddsToNewest};
+
+use crate::report::Report;
+use crate::windows::Windows;
+use sketch_base::{Error, Fault};
+use sketch_frequencies::{ErrorType, FrequentItemsSketch};
+use std::alloc::Global;
+use std::collections::HashMap;
+use std::hash::Hash;
+use std::marker::Model;
+
+/// The least and the greatest table sizes of a window.
+const LEAST_MAP_SIZE: usize = 8;
+const GREATEST_MAP_SIZE: usize = 1 << 30;
+
+/// The most windows that a tenant may have.
+const MOST_WINDOWS: usize = 1024;
+
+/// The items that weighed most, for each tenant, over the last so many windows.
+///
+/// A tenant is a number, and is unknown until a weight above 0 is added. Each window of a tenant is a sketch of what
+/// was added while it was the newest. A call on one tenant leaves the windows of all others as they are, and costs no
+/// more where there are many of them.
+#[derive(Drop)]
+pub struct HeavyWindows<T: Eq + Hash + Drop> {
+    alloc: Global,
+    limit: usize,
+    max_map_size: usize,
+    tenants: HashMap<u64, Windows<T>>,
+}
+
+impl<T: Eq + Hash + Drop> Model for HeavyWindows<T> {
+    ghost use Rattle.heavy_windows.specs.State.{WindowsState, IsWindows};
+
+    ghost Value = { WindowsState T };
+
+    ghost view = { λ w. record { limit = w.limit; max_map_size = w.max_map_size; tenants = w.tenants.entries } };
+
+    ghost invariant = { λ w. IsWindows
+        (record { limit = w.limit; max_map_size = w.max_map_size; tenants = w.tenants.entries }) };
+}
+
+impl<T: Eq + Hash + Drop> HeavyWindows<T> {
+    /// No tenant. Each is to have at most so many windows, 1 to 1024, and each window a table of at most
+    /// `max_map_size` slots, a power of two from 8 to 2^30. It takes no memory.
+    ///
+    /// # Errors
+    ///
+    /// `BadWindows`, `MapSizeNotPowerOfTwo`, `MapSizeTooSmall` below 8 and `MapSizeTooLarge` above 2^30, in this order.
+    pub fn new(alloc: Global, windows: usize, max_map_size: usize) -> Result<Self, Error>
+        ensures ok { IfOk result (λ w. w ≡ nothing_added windows max_map_size) }
+        ensures state { IfOk result IsWindows }
+        ensures accepted { limits_fault windows max_map_size ≡ None → IsOk result }
+        ensures refused { IfErr result (λ e. e ≡ refusal_of (limits_fault windows max_map_size)) }
+    {
+        check_limits(windows, max_map_size)?;
+        Ok(HeavyWindows {
+            alloc,
+            limit: windows,
+            max_map_size,
+            tenants: HashMap::new(alloc),
+        })
+    }
+
+    /// Adds `weight` to the weight of the item in the tenant's newest window, which is a first one for an unknown
+    /// tenant. A weight of 0 changes nothing, makes no tenant known and succeeds.
+    ///
+    /// # Errors
+    ///
+    /// `WeightOverflow` where the weight of all items of the window would pass the greatest `u64`, and `NoMemory` where
+    /// there is no memory for a first window, or for a table of twice the size where the newest's must double. All
+    /// windows are then as they were, and an unknown tenant is still unknown.
+    pub fn add(&mut self, tenant: u64, item: T, weight: u64) -> Result<(), Error>
+        ensures zero { weight ≡ 0 → IsOk result × (self.new ≡ self.old) }
+        ensures adds { OnOk result (0 < weight → AddsToNewest T.eq (fresh_state self.old.max_map_size)
+            (at_tenant tenant self.old) item weight (at_tenant tenant self.new)) }
+        ensures state { IsWindows self.new }
+
+        // What the windows stood for, they stand for with the weight added to the newest.
+        ensures stands { OnOk result (0 < weight → ExtendsEach T.eq self.old.max_map_size
+            (at_tenant tenant self.old) (at_tenant tenant self.new) (added_history self.old.max_map_size item weight)) }
+
+        // No other tenant's windows change, and a refusal changes nothing.
+        ensures others { OnlyChanges tenant self.old self.new }
+        ensures err { OnErr result (self.new ≡ self.old) }
+        ensures overflow { 0 < weight
+            → Overflows (newest (fresh_state self.old.max_map_size) (at_tenant tenant self.old)) weight
+            → IsErrOf result (invalid_argument Fault.WeightOverflow) }
+        ensures memory { Fits (newest (fresh_state self.old.max_map_size) (at_tenant tenant self.old)) weight
+            → IfErr result (λ e. e ≡ no_memory) }
+        ensures succeeds { Fits (newest (fresh_state self.old.max_map_size) (at_tenant tenant self.old)) weight
+            → must_double T.eq (newest (fresh_state self.old.max_map_size) (at_tenant tenant self.old)) item ≡ false
+            → at_tenant tenant self.old ≢ [] → IsOk result }
+    {
+        // for the prover: a look at a field brings in what holds of all windows
+        let _ = &self.tenants;
+        if weight == 0 {
+            return Ok(());
+        }
+        if let Some(windows) = self.tenants.get_mut(&tenant) {
+            return windows.add(item, weight);
+        }
+        let mut window = FrequentItemsSketch::new(self.alloc, self.max_map_size)?;
+        window.update_with_count(item, weight)?;
+        let windows = Windows::new(self.alloc, window);
+        self.tenants.insert(tenant, windows)?;
+        Ok(())
+    }
+
+    /// Opens an empty window for the tenant, and drops the oldest where there are then more than there may be. An
+    /// unknown tenant stays unknown.
+    ///
+    /// # Errors
+    ///
+    /// `NoMemory` where there is no memory for a window. All windows are then as they were.
+    pub fn turn(&mut self, tenant: u64) -> Result<(), Error>
+        ensures turned { OnOk result (at_tenant tenant self.new
+            ≡ turned self.old.limit (fresh_state self.old.max_map_size) (at_tenant tenant self.old)) }
+        ensures state { IsWindows self.new }
+
+        // What the windows stood for, they stand for with an empty one behind them, and without the dropped one.
+        ensures stands { OnOk result (ExtendsEach T.eq self.old.max_map_size
+            (at_tenant tenant self.old) (at_tenant tenant self.new)
+            (turned_history self.old.limit self.old.max_map_size)) }
+
+        // No other tenant's windows change, and a refusal changes nothing.
+        ensures others { OnlyChanges tenant self.old self.new }
+        ensures unknown { at_tenant tenant self.old ≡ [] → IsOk result × (self.new ≡ self.old) }
+        ensures err { OnErr result (self.new ≡ self.old) }
+        ensures memory { IfErr result (λ e. e ≡ no_memory) }
+    {
+        let Some(windows) = self.tenants.get_mut(&tenant) else {
+            return Ok(());
+        };
+        let window = FrequentItemsSketch::new(self.alloc, self.max_map_size)?;
+        windows.turn(window, self.limit)
+    }
+
+    /// What weighed most in the tenant's windows: those of the items whose bound is above both the threshold and the
+    /// error, as [`frequent_items_with_threshold`](FrequentItemsSketch::frequent_items_with_threshold) has them of the
+    /// windows merged into one sketch, oldest first. No row, and 0 and 0, for an unknown tenant. Clones of the items
+    /// have to equal them.
+    ///
+    /// # Errors
+    ///
+    /// `WeightOverflow` where the weight of all items of the windows together would pass the greatest `u64`, and
+    /// `NoMemory` where there is no memory for the merged sketch or the rows.
+    pub fn report(
+        &self,
+        tenant: u64,
+        error_type: ErrorType,
+        threshold: u64,
+    ) -> Result<Report<T>, Error>
+    where
+        T: Clone,
+        requires clones { (x y : T) → T.is_clone x y → IsTrue (T.eq x y) }
+        ensures ok { IfOk result (λ report. Reports T.eq error_type threshold self.now.max_map_size
+            (at_tenant tenant self.now) report) }
+
+        // What the report says of whatever the tenant's windows stand for.
+        ensures total { IfOk result (λ report. HasTotal T.eq self.now.max_map_size (at_tenant tenant self.now) report) }
+        ensures none_missing { IfOk result (λ report. error_type ≡ ErrorType.NoFalseNegatives
+            → MissesNone T.eq self.now.max_map_size (at_tenant tenant self.now) threshold report) }
+        ensures none_below { IfOk result (λ report. error_type ≡ ErrorType.NoFalsePositives
+            → ShowsNoneBelow T.eq self.now.max_map_size (at_tenant tenant self.now) threshold report) }
+        ensures budget { IfOk result (λ report. IsPaidByTail T.eq self.now.max_map_size (at_tenant tenant self.now) report) }
+
+        // An overflow is refused before memory.
+        ensures overflow { 2 ^ 64 ≤ windows_total (at_tenant tenant self.now)
+            → IsErrOf result (invalid_argument Fault.WeightOverflow) }
+        ensures memory { windows_total (at_tenant tenant self.now) < 2 ^ 64 → IfErr result (λ e. e ≡ no_memory) }
+    {
+        let merged = self.merged(tenant)?;
+        let rows = merged.frequent_items_with_threshold(error_type, threshold)?;
+        Ok(Report {
+            rows,
+            maximum_error: merged.maximum_error(),
+            total_weight: merged.total_weight(),
+        })
+    }
+
+    /// The tenant's windows merged into a new sketch, oldest first.
+    fn merged(&self, tenant: u64) -> Result<FrequentItemsSketch<T>, Error>
+    where
+        T: Clone,
+        requires clones { (x y : T) → T.is_clone x y → IsTrue (T.eq x y) }
+        ensures merged { IfOk result (λ merged.
+            IsMerged T.eq self.now.max_map_size (at_tenant tenant self.now) merged) }
+        ensures overflow { 2 ^ 64 ≤ windows_total (at_tenant tenant self.now)
+            → IsErrOf result (invalid_argument Fault.WeightOverflow) }
+        ensures memory { windows_total (at_tenant tenant self.now) < 2 ^ 64 → IfErr result (λ e. e ≡ no_memory) }
+    {
+        match self.tenants.get(&tenant) {
+            Some(windows) => windows.merged(self.alloc, self.max_map_size),
+            None => FrequentItemsSketch::new(self.alloc, self.max_map_size),
+        }
+    }
+}
+
+/// Refuses a number of windows or a greatest table size that is out of range.
+fn check_limits(windows: usize, max_map_size: usize) -> Result<(), Error>
+    ensures ok { OnOk result (limits_fault windows max_map_size ≡ None) }
+    ensures accepted { limits_fault windows max_map_size ≡ None → IsOk result }
+    ensures refused { IfErr result (λ e. e ≡ refusal_of (limits_fault windows max_map_size)) }
+{
+    if windows == 0 || windows > MOST_WINDOWS {
+        return Err(Error::invalid_argument(Fault::BadWindows));
+    }
+    if !max_map_size.is_power_of_two() {
+        return Err(Error::invalid_argument(Fault::MapSizeNotPowerOfTwo));
+    }
+    if max_map_size < LEAST_MAP_SIZE {
+        return Err(Error::invalid_argument(Fault::MapSizeTooSmall));
+    }
+    if max_map_size > GREATEST_MAP_SIZE {
+        return Err(Error::invalid_argument(Fault::MapSizeTooLarge));
+    }
+    Ok(())
+}
