@@ -1,4 +1,6 @@
 //! What a session does.
+ghost use Rattle.std.specs.Prelude.{◌≡◌, None};
+
 use sketch_frequencies::ErrorType;
 
 /// A command on named sketches and images. Sketches and images have names of their own.
@@ -116,4 +118,25 @@ pub enum Command<T> {
         error_type: ErrorType,
         threshold: u64,
     },
+}
+
+/// What commands did not keep: a name and an item, whose memory further commands may take.
+#[derive(Drop)]
+pub struct Spare<T> {
+    /// A name.
+    pub name: Option<String>,
+    /// An item.
+    pub item: Option<T>,
+}
+
+impl<T> Spare<T> {
+    /// Nothing yet.
+    pub fn new() -> Self
+        ensures { result ≡ record { name = None; item = None } }
+    {
+        Spare {
+            name: None,
+            item: None,
+        }
+    }
 }

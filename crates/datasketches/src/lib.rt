@@ -14,7 +14,7 @@ mod session;
 mod shelf;
 mod sketch;
 
-pub use command::Command;
+pub use command::{Command, Spare};
 pub use reply::{Refusal, Reply, Status};
 pub use session::Session;
 

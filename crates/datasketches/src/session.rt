@@ -9,7 +9,7 @@ ghost use Rattle.datasketches.specs.Replies.{told, is_refused};
 ghost use Rattle.datasketches.specs.State.{SessionState, IsUnchanged};
 ghost use Rattle.datasketches.specs.Steps.{OnSketches, Creates, ChangesNamed, JoinsNamed, Answers, Saves, Restores, ShowsImage, Step, Run};
 
-use crate::command::Command;
+use crate::command::{Command, Spare};
 use crate::image::Image;
 use crate::reply::{Refusal, Reply};
 use crate::shelf::Shelf;
@@ -68,7 +68,21 @@ impl<T: FrequentItemValue + Clone + Drop> Session<T> {
             → Fits T.eq T.codec T.content self.new (after_one T.hash_input a command result) }
         ensures refused { is_refused result ≡ true → IsUnchanged self.old self.new }
     {
-        match self.answer(command) {
+        let mut spare = Spare::new();
+        self.apply_sparing(command, &mut spare)
+    }
+
+    /// Does one command as [`Session::apply`] does, and may leave in `spare` a name and an item that it does not keep.
+    ///
+    /// So a caller of many commands can use the memory of one for the next. What `spare` holds is left open.
+    pub fn apply_sparing(&mut self, command: Command<T>, spare: &mut Spare<T>) -> Reply<T>
+        requires clones { (x y : T) → T.is_clone x y → IsTrue (T.eq x y) }
+        ensures step { Step T.eq T.hash_input T.codec T.content self.old command result self.new }
+        ensures fits { (a : Assignment T) → Fits T.eq T.codec T.content self.old a
+            → Fits T.eq T.codec T.content self.new (after_one T.hash_input a command result) }
+        ensures refused { is_refused result ≡ true → IsUnchanged self.old self.new }
+    {
+        match self.answer(command, spare) {
             Ok(reply) => reply,
             Err(refusal) => Reply::Refused(refusal),
         }
@@ -95,7 +109,7 @@ impl<T: FrequentItemValue + Clone + Drop> Session<T> {
         Ok(replies)
     }
 
-    fn answer(&mut self, command: Command<T>) -> Result<Reply<T>, Refusal>
+    fn answer(&mut self, command: Command<T>, spare: &mut Spare<T>) -> Result<Reply<T>, Refusal>
         requires clones { (x y : T) → T.is_clone x y → IsTrue (T.eq x y) }
         ensures { Step T.eq T.hash_input T.codec T.content self.old command (told result) self.new }
     {
@@ -154,12 +168,28 @@ impl<T: FrequentItemValue + Clone + Drop> Session<T> {
                 },
             ),
             Command::Add { name, item, weight } => {
-                self.change(name.as_str(), Change::Add { item, weight })
+                let done = self.change(
+                    name.as_str(),
+                    Change::Add { item, weight },
+                    &mut spare.item,
+                );
+                spare.name = Some(name);
+                done
             }
             Command::AddSigned { name, item, weight } => {
-                self.change(name.as_str(), Change::AddSigned { item, weight })
+                let done = self.change(
+                    name.as_str(),
+                    Change::AddSigned { item, weight },
+                    &mut spare.item,
+                );
+                spare.name = Some(name);
+                done
             }
-            Command::Insert { name, item } => self.change(name.as_str(), Change::Insert { item }),
+            Command::Insert { name, item } => {
+                let done = self.change(name.as_str(), Change::Insert { item }, &mut spare.item);
+                spare.name = Some(name);
+                done
+            }
             Command::Merge { into, other } => self.join(into.as_str(), other.as_str(), Join::Merge),
             Command::Union { into, other } => self.join(into.as_str(), other.as_str(), Join::Union),
             Command::Intersect { into, other } => {
@@ -168,8 +198,8 @@ impl<T: FrequentItemValue + Clone + Drop> Session<T> {
             Command::Difference { into, other } => {
                 self.join(into.as_str(), other.as_str(), Join::Difference)
             }
-            Command::Reset { name } => self.change(name.as_str(), Change::Reset),
-            Command::Halve { name } => self.change(name.as_str(), Change::Halve),
+            Command::Reset { name } => self.change(name.as_str(), Change::Reset, &mut spare.item),
+            Command::Halve { name } => self.change(name.as_str(), Change::Halve, &mut spare.item),
             Command::Decay {
                 name,
                 numerator,
@@ -180,11 +210,17 @@ impl<T: FrequentItemValue + Clone + Drop> Session<T> {
                     numerator,
                     denominator,
                 },
+                &mut spare.item,
             ),
             Command::Save { name, image } => self.save(name.as_str(), image),
             Command::Restore { image, name } => self.restore(image.as_str(), name),
             Command::ShowImage { image } => self.show_image(image.as_str()),
-            Command::Ask { name, item } => self.ask(name.as_str(), &item),
+            Command::Ask { name, item } => {
+                let told = self.ask(name.as_str(), &item);
+                spare.name = Some(name);
+                spare.item = Some(item);
+                told
+            }
             Command::GetStatus { name } => self.status(name.as_str()),
             Command::ListRows {
                 name,
@@ -205,10 +241,15 @@ impl<T: FrequentItemValue + Clone + Drop> Session<T> {
         Ok(Reply::Done)
     }
 
-    fn change(&mut self, name: &str, change: Change<T>) -> Result<Reply<T>, Refusal>
+    fn change(
+        &mut self,
+        name: &str,
+        change: Change<T>,
+        spare: &mut Option<T>,
+    ) -> Result<Reply<T>, Refusal>
         ensures { OnSketches (ChangesNamed T.eq T.hash_input change name.now) self.old (told result) self.new }
     {
-        self.sketches.change(name, change)?;
+        self.sketches.change(name, change, spare)?;
         Ok(Reply::Done)
     }
 

@@ -82,13 +82,18 @@ impl<V: Drop> Shelf<V> {
 }
 
 impl<T: Eq + Hash + Drop> Shelf<Sketch<T>> {
-    /// Changes the sketch of the name.
-    pub fn change(&mut self, name: &str, change: Change<T>) -> Result<(), Refusal>
+    /// Changes the sketch of the name. An item that it does not keep may come into `spare`.
+    pub fn change(
+        &mut self,
+        name: &str,
+        change: Change<T>,
+        spare: &mut Option<T>,
+    ) -> Result<(), Refusal>
         ensures { ChangesNamed T.eq T.hash_input change name.now self.old (done_or result) self.new }
     {
         match place_of(&self.places, name) {
             None => Err(Refusal::NoSuchName),
-            Some(place) => self.values[place].change(change),
+            Some(place) => self.values[place].change(change, spare),
         }
     }
 }

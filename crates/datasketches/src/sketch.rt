@@ -143,16 +143,16 @@ impl<T: Eq + Hash + Drop> Sketch<T> {
         }
     }
 
-    /// Does the change, where the sketch is of a kind that knows it.
-    pub fn change(&mut self, change: Change<T>) -> Result<(), Refusal>
+    /// Does the change, where the sketch is of a kind that knows it. An item that it does not keep may come into `spare`.
+    pub fn change(&mut self, change: Change<T>, spare: &mut Option<T>) -> Result<(), Refusal>
         ensures own { Changes T.eq T.hash_input change self.old (done_or result) self.new }
         ensures carries { OnOk result (Carries T.eq (changed T.hash_input change) self.old self.new) }
         ensures refused { OnErr result (self.new ≡ self.old) }
     {
         match change {
-            Change::Add { item, weight } => self.add(item, weight),
-            Change::AddSigned { item, weight } => self.add_signed(item, weight),
-            Change::Insert { item } => self.insert(item),
+            Change::Add { item, weight } => self.add(item, weight, spare),
+            Change::AddSigned { item, weight } => self.add_signed(item, weight, spare),
+            Change::Insert { item } => self.insert(item, spare),
             Change::Reset => self.reset(),
             Change::Halve => self.halve(),
             Change::Decay {
@@ -162,37 +162,46 @@ impl<T: Eq + Hash + Drop> Sketch<T> {
         }
     }
 
-    fn add(&mut self, item: T, weight: u64) -> Result<(), Refusal>
+    fn add(&mut self, item: T, weight: u64, spare: &mut Option<T>) -> Result<(), Refusal>
         ensures own { Adds T.eq T.hash_input item weight self.old (done_or result) self.new }
         ensures carries { OnOk result (Carries T.eq (changed T.hash_input (Change.Add item weight)) self.old self.new) }
         ensures refused { OnErr result (self.new ≡ self.old) }
     {
         match self {
             Sketch::Frequent(sketch) => Ok(sketch.update_with_count(item, weight)?),
-            Sketch::CountU64(sketch) => Ok(sketch.update_with_weight(item, weight)?),
+            Sketch::CountU64(sketch) => {
+                sketch.update_with_weight(&item, weight)?;
+                *spare = Some(item);
+                Ok(())
+            }
             _ => Err(Refusal::WrongKind),
         }
     }
 
-    fn add_signed(&mut self, item: T, weight: i64) -> Result<(), Refusal>
+    fn add_signed(&mut self, item: T, weight: i64, spare: &mut Option<T>) -> Result<(), Refusal>
         ensures own { AddsSigned T.hash_input item weight self.old (done_or result) self.new }
         ensures carries { OnOk result (Carries T.eq (changed T.hash_input (Change.AddSigned item weight)) self.old self.new) }
         ensures refused { OnErr result (self.new ≡ self.old) }
     {
         match self {
-            Sketch::CountI64(sketch) => Ok(sketch.update_with_weight(item, weight)?),
+            Sketch::CountI64(sketch) => {
+                sketch.update_with_weight(&item, weight)?;
+                *spare = Some(item);
+                Ok(())
+            }
             _ => Err(Refusal::WrongKind),
         }
     }
 
-    fn insert(&mut self, item: T) -> Result<(), Refusal>
+    fn insert(&mut self, item: T, spare: &mut Option<T>) -> Result<(), Refusal>
         ensures own { Inserts T.hash_input item self.old (done_or result) self.new }
         ensures carries { OnOk result (Carries T.eq (changed T.hash_input (Change.Insert item)) self.old self.new) }
         ensures refused { OnErr result (self.new ≡ self.old) }
     {
         match self {
             Sketch::Bloom(filter) => {
-                filter.insert(item);
+                filter.insert(&item);
+                *spare = Some(item);
                 Ok(())
             }
             _ => Err(Refusal::WrongKind),

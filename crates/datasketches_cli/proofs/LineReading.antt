@@ -1,13 +1,12 @@
 -- Lines that are taken from what was read, and more that is read.
-use Rattle.std.proofs.Common.{◌≡◌, ◌≢◌, ℕ, zero, suc, ◌+◌, ◌-◌, ◌<◌, ◌≤◌, Bool, true, false, not, eqb, ltb, cond, List, [], ◌∷◌, ◌++◌, length, get_or, take, drop, Option, None, Some, append_assoc, append-nil, refl, sym, ◌∙◌, ap, subst, arith, length-drop}
+use Rattle.std.proofs.Common.{◌≡◌, ◌≢◌, ℕ, zero, suc, ◌+◌, ◌-◌, ◌<◌, ◌≤◌, Bool, true, false, not, eqb, List, [], ◌∷◌, ◌++◌, length, get_or, take, drop, Option, None, Some, ⊎_elim, append_assoc, append-nil, refl, sym, ◌∙◌, ap, subst, arith, length-drop}
 use Rattle.std.specs.Io.BufRead.{take_through, drop_through}
 use Rattle.std.specs.Io.KnownBytes.{prepend_known}
-use Rattle.std.specs.List.{position, position_or_len, slice_range}
+use Rattle.std.specs.List.{Contains, position_or_len, slice_range}
 use Rattle.std.specs.Option.{IfSome}
-use Rattle.std.proofs.lemmas.Bool.{eqb-true, eqb-false, ne_eqb}
-use Rattle.std.proofs.lemmas.Bool.Decides.{nat_tests}
-use Rattle.std.proofs.lemmas.List.{drop-take, drop-drop, length-take-le}
-use Rattle.std.proofs.lemmas.List.Sums.{passes_at_first, fails_before_first}
+use Rattle.std.proofs.lemmas.Bool.{cases_lt, eqb-true, eqb-false, ne_eqb}
+use Rattle.std.proofs.lemmas.List.{drop-take, drop-drop, get_or_default, length-take-le, take-take}
+use Rattle.std.proofs.lemmas.List.Sums.{passes_at_first, fails_before_first, prefix_len-le-length}
 use Rattle.datasketches_cli.specs.Reading.{HasNoFeed, TakesFront, TakesLine, Fills}
 
 -- ---- the first line feed in a list
@@ -32,19 +31,21 @@ split_at (x ∷ xs) (suc n) (lt, e, h) =
     let more : suc n + 1 ≡ suc (n + 1) = omega arith in
     ((h 0 (omega arith), rest.0), rw more (ap (λ (l : List ℕ). x ∷ l) rest.1), rw more (ap (λ (l : List ℕ). x ∷ l) rest.2))
 
-found_first : (xs : List ℕ) (at : ℕ) (b : Bool) → ltb (position_or_len is_feed xs) (length xs) ≡ b → Some at ≡ cond b (Some (position_or_len is_feed xs)) None → IsFirstFeed xs at
-found_first xs at true t e =
-    let same : position_or_len is_feed xs ≡ at = cc in
-    let less : position_or_len is_feed xs < length xs = grind (arith, nat_tests) in
-    let here : get_or xs (position_or_len is_feed xs) 0 ≡ 10 = eqb-true _ 10 (passes_at_first is_feed xs 0 less) in
-    (omega arith, rw same at here, λ k l. eqb-false _ 10 (fails_before_first is_feed xs k 0 (omega arith)))
-found_first xs at false t e = cc
+-- the first line feed of a list that has one
+first_feed : (xs : List ℕ) → position_or_len is_feed xs < length xs → IsFirstFeed xs (position_or_len is_feed xs)
+first_feed xs less = (less, eqb-true _ 10 (passes_at_first is_feed xs 0 less), λ k l. eqb-false _ 10 (fails_before_first is_feed xs k 0 l))
 
-found_none : (xs : List ℕ) (b : Bool) (r : Option ℕ) → ltb (position_or_len is_feed xs) (length xs) ≡ b → r ≡ None → r ≡ cond b (Some (position_or_len is_feed xs)) None → HasNoFeed xs
-found_none xs true r t n e = cc
-found_none xs false r t n e =
-    let none : length xs ≤ position_or_len is_feed xs = grind (arith, nat_tests) in
-    no_feed xs (λ k l. eqb-false _ 10 (fails_before_first is_feed xs k 0 (omega arith)))
+pub from_contains : (xs : List ℕ) → Contains xs 10 → position_or_len is_feed xs < length xs
+from_contains xs (k, less, is) = ⊎_elim
+    (λ l. l)
+    (λ ge. absurd (eqb-false _ 10 (fails_before_first is_feed xs k 10 (omega arith)) is))
+    (cases_lt (position_or_len is_feed xs) (length xs))
+
+pub contains_from : (xs : List ℕ) → position_or_len is_feed xs < length xs → Contains xs 10
+contains_from xs less = (position_or_len is_feed xs, less, eqb-true _ 10 (passes_at_first is_feed xs 10 less))
+
+none_from : (xs : List ℕ) → ¬ Contains xs 10 → HasNoFeed xs
+none_from xs none = no_feed xs (λ k l is. none (k, l, get_or_default xs k 10 0 l ∙ is))
 
 -- what stays unread
 later_range : (xs : List ℕ) (a b n : ℕ) → a + n ≤ b → drop n (slice_range xs a b) ≡ slice_range xs (a + n) b
@@ -53,37 +54,70 @@ later_range xs a b n le =
     ap (λ (k : ℕ). drop n (take k (drop a xs))) count ∙ drop-take n (b - (a + n)) (drop a xs)
     ∙ ap (take (b - (a + n))) (drop-drop n a xs ∙ ap (λ (k : ℕ). drop k xs) (omega arith))
 
--- what was read goes through its first line feed
-pub takes_some : (items was held holds : List ℕ) (a b at n : ℕ) → slice_range items a b ≡ was → a ≤ b → b ≤ length items → Some at ≡ position is_feed (slice_range items a b) → n ≡ at + 1 → holds ≡ held ++ take n (slice_range items a b) → TakesFront true was (slice_range items (a + (at + 1)) b) held holds
-takes_some items was held holds a b at n e le lb found count grown =
-    let xs : List ℕ = slice_range items a b in
-    let first : IsFirstFeed xs at = found_first xs at (ltb (position_or_len is_feed xs) (length xs)) refl found in
-    let len : length xs ≡ b - a = length-take-le (b - a) (drop a items) (omega (arith, length-drop a items)) in
-    let short : at < length xs = first.0 in
-    let parts = split_at xs at first in (
-      take at xs,
-      parts.0,
-      sym e ∙ parts.1 ∙ ap (λ (l : List ℕ). take at xs ++ 10 ∷ l) (later_range items a b (at + 1) (omega arith)),
-      grown ∙ ap (λ (l : List ℕ). held ++ l) (ap (λ (k : ℕ). take k xs) count ∙ parts.2),
-    )
-
--- all that was read goes
-pub takes_all : (items was held holds : List ℕ) (a b : ℕ) (r : Option ℕ) → slice_range items a b ≡ was → r ≡ None → r ≡ position is_feed (slice_range items a b) → holds ≡ held ++ slice_range items a b → TakesFront false was (slice_range items b b) held holds
-takes_all items was held holds a b r e none found grown =
-    let zero_left : b - b ≡ 0 = omega arith in (
-      subst HasNoFeed e (found_none (slice_range items a b) (ltb (position_or_len is_feed (slice_range items a b)) (length (slice_range items a b))) r refl none found),
-      ap (λ (k : ℕ). take k (drop b items)) zero_left,
-      grown ∙ ap (λ (l : List ℕ). held ++ l) e,
-    )
-
--- ---- the lines of a whole input
-
 through_front : (front rest : List ℕ) → HasNoFeed front → (take_through 10 (front ++ 10 ∷ rest) ≡ front ++ 10 ∷ []) × (drop_through 10 (front ++ 10 ∷ rest) ≡ rest)
 through_front [] rest h = (refl, refl)
 through_front (x ∷ xs) rest (ne, h) =
     let more = through_front xs rest h in
     let test : eqb x 10 ≡ false = ne_eqb x 10 ne in
     (rw test (ap (λ (l : List ℕ). x ∷ l) more.0), rw test more.1)
+
+-- the line with its end is the list through its first line feed
+through_first : (xs : List ℕ) → position_or_len is_feed xs < length xs → (take_through 10 xs ≡ take (position_or_len is_feed xs + 1) xs) × (drop_through 10 xs ≡ drop (position_or_len is_feed xs + 1) xs)
+through_first xs less =
+    let at : ℕ = position_or_len is_feed xs in
+    let (pure, cut, same) = split_at xs at (first_feed xs less) in
+    let read = through_front (take at xs) (drop (at + 1) xs) pure in
+    (ap (take_through 10) cut ∙ read.0 ∙ sym same, ap (drop_through 10) cut ∙ read.1)
+
+-- the same of what was read and not handed on
+pub line_range : (items : List ℕ) (a b n : ℕ) → b ≤ length items → a ≤ b → n ≡ a + position_or_len is_feed (slice_range items a b) → Contains (slice_range items a b) 10 → slice_range items a (n + 1) ≡ take_through 10 (slice_range items a b)
+line_range items a b n within le e has =
+    let xs : List ℕ = slice_range items a b in
+    let less : position_or_len is_feed xs < length xs = from_contains xs has in
+    let len : length xs ≡ b - a = length-take-le (b - a) (drop a items) (omega (arith, length-drop a items)) in
+    let count : (n + 1) - a ≡ position_or_len is_feed xs + 1 = omega arith in
+    ap (λ (k : ℕ). take k (drop a items)) count ∙ sym (take-take (position_or_len is_feed xs + 1) (b - a) (drop a items) (omega arith)) ∙ sym (through_first xs less).0
+
+pub rest_range : (items : List ℕ) (a b n : ℕ) → b ≤ length items → a ≤ b → n ≡ a + position_or_len is_feed (slice_range items a b) → Contains (slice_range items a b) 10 → (n + 1 ≤ b) × (slice_range items (n + 1) b ≡ drop_through 10 (slice_range items a b))
+rest_range items a b n within le e has =
+    let xs : List ℕ = slice_range items a b in
+    let less : position_or_len is_feed xs < length xs = from_contains xs has in
+    let len : length xs ≡ b - a = length-take-le (b - a) (drop a items) (omega (arith, length-drop a items)) in
+    let place : a + (position_or_len is_feed xs + 1) ≡ n + 1 = omega arith in
+    (omega arith, ap (λ (k : ℕ). slice_range items k b) (sym place) ∙ sym (later_range items a b (position_or_len is_feed xs + 1) (omega arith)) ∙ sym (through_first xs less).1)
+
+-- whether there is a line
+pub feed_in_range : (items : List ℕ) (a b n : ℕ) → b ≤ length items → a ≤ b → n ≡ a + position_or_len is_feed (slice_range items a b) → (n < b → Contains (slice_range items a b) 10) × (Contains (slice_range items a b) 10 → n < b)
+feed_in_range items a b n within le e =
+    let xs : List ℕ = slice_range items a b in
+    let len : length xs ≡ b - a = length-take-le (b - a) (drop a items) (omega (arith, length-drop a items)) in
+    (λ l. contains_from xs (omega arith), λ has. omega (arith, from_contains xs has))
+
+-- there is none at the end
+pub feed_at_end : (items : List ℕ) (a b n : ℕ) → b ≤ length items → a ≤ b → n ≡ a + position_or_len is_feed (slice_range items a b) → ¬ Contains (slice_range items a b) 10 → n ≡ b + position_or_len is_feed (slice_range items b b)
+feed_at_end items a b n within le e none =
+    let xs : List ℕ = slice_range items a b in
+    let len : length xs ≡ b - a = length-take-le (b - a) (drop a items) (omega (arith, length-drop a items)) in
+    let zero_left : b - b ≡ 0 = omega arith in
+    let empty : position_or_len is_feed (slice_range items b b) ≡ 0 = ap (λ (k : ℕ). position_or_len is_feed (take k (drop b items))) zero_left in
+    let end : length xs ≤ position_or_len is_feed xs = ⊎_elim (λ l. absurd (none (contains_from xs l))) (λ ge. ge) (cases_lt (position_or_len is_feed xs) (length xs)) in
+    omega (arith, prefix_len-le-length (λ (x : ℕ). not (is_feed x)) xs)
+
+-- what was read goes through its first line feed
+pub takes_some : (was held holds : List ℕ) → Contains was 10 → holds ≡ held ++ take_through 10 was → TakesFront true was (drop_through 10 was) held holds
+takes_some was held holds has grown =
+    let at : ℕ = position_or_len is_feed was in
+    let (pure, cut, same) = split_at was at (first_feed was (from_contains was has)) in
+    let line = through_first was (from_contains was has) in
+    (take at was, pure, cut ∙ ap (λ (l : List ℕ). take at was ++ 10 ∷ l) (sym line.1), grown ∙ ap (λ (l : List ℕ). held ++ l) (line.0 ∙ same))
+
+-- all that was read goes
+pub takes_all : (items was held holds : List ℕ) (a b : ℕ) → slice_range items a b ≡ was → ¬ Contains was 10 → holds ≡ held ++ slice_range items a b → TakesFront false was (slice_range items b b) held holds
+takes_all items was held holds a b e none grown =
+    let zero_left : b - b ≡ 0 = omega arith in
+    (none_from was none, ap (λ (k : ℕ). take k (drop b items)) zero_left, grown ∙ ap (λ (l : List ℕ). held ++ l) e)
+
+-- ---- the lines of a whole input
 
 through_all : (xs : List ℕ) → HasNoFeed xs → (take_through 10 xs ≡ xs) × (drop_through 10 xs ≡ [])
 through_all [] h = (refl, refl)

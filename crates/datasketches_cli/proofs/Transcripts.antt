@@ -1,5 +1,5 @@
 -- The loop from lines to replies: what was written so far, and what is still to come.
-use Rattle.std.proofs.Common.{◌≡◌, ◌≢◌, ℕ, ◌+◌, Bool, true, false, List, [], ◌∷◌, ◌++◌, Option, None, Some, inl, inr, append_assoc, append-nil, refl, sym, ◌∙◌, ap, subst}
+use Rattle.std.proofs.Common.{◌≡◌, ◌≢◌, ℕ, ◌+◌, true, false, List, [], ◌∷◌, ◌++◌, Option, None, Some, inl, inr, append_assoc, append-nil, refl, sym, ◌∙◌, ap, subst}
 use Rattle.std.specs.Option.{IfSome}
 use Rattle.std.specs.Io.BufRead.{take_through, drop_through, strip_last}
 use Rattle.std.specs.Io.KnownBytes.{Appends}
@@ -10,9 +10,8 @@ use Rattle.datasketches_cli.specs.declared.serve.Ended.TheVariants.{All, BadLine
 use Rattle.datasketches_cli.specs.declared.parse.Line.{Line}
 use Rattle.datasketches_cli.specs.declared.parse.Line.TheVariants.{Blank, Bad}
 use Rattle.datasketches_cli.specs.declared.parse.Line.TheVariants as what
-use Rattle.datasketches_cli.specs.Said.{IsSaid}
 use Rattle.datasketches_cli.specs.Reading.{TakesLine}
-use Rattle.datasketches_cli.specs.Serving.{HasAnswered, WritesFront}
+use Rattle.datasketches_cli.specs.Serving.{HasAnswered, SaysNext, WritesFront}
 use Rattle.datasketches.specs.State.{SessionState}
 use Rattle.datasketches.specs.Steps.{Step}
 use Rattle.datasketches_cli.specs.Texts.{Text, text_codec, text_input}
@@ -106,31 +105,32 @@ all_read (Some input) is now held holds holds' gathered line session before (res
     )
 
 -- a turn with a blank line
-pub turns_blank : (was is now held mid holds : Option (List ℕ)) (gathered left left' line shown text : List ℕ) (session after : SessionState Text) (before : ℕ) (found : Bool) (said : Line) →
-    Midway was is held mid gathered session before → WritesFront mid holds gathered left → TakesLine found is now line → found ≡ true → shown ≡ line → text ≡ text_of shown → IsSaid text said → said ≡ Blank → after ≡ session → left' ≡ left →
+pub turns_blank : (was is now held mid holds : Option (List ℕ)) (gathered left left' : List ℕ) (session after : SessionState Text) (before : ℕ) (found : Option Line) (said : Line) →
+    Midway was is held mid gathered session before → WritesFront mid holds gathered left → SaysNext is now found → found ≡ Some said → said ≡ Blank → after ≡ session → left' ≡ left →
     Midway was now held holds left' after (before + 1)
-turns_blank was is now held mid holds gathered left left' line shown text session after before found said m w t f s x says b k l =
-    let blank = rw (b, x, s) at says in
-    rw (k, l) (passed was is now held holds left line session before (wrote was is held mid holds gathered left session before m w) (rw f at t) blank)
+turns_blank was is now held mid holds gathered left left' session after before found said m w next f b k l =
+    let (line, t, blank) = rw (f, b) at next in
+    rw (k, l) (passed was is now held holds left line session before (wrote was is held mid holds gathered left session before m w) t blank)
 
 -- a turn with a command
-pub turns_command : (was is now held mid holds : Option (List ℕ)) (gathered left left' line shown text : List ℕ) (session after : SessionState Text) (before : ℕ) (found : Bool) (said : Line) (command : Command Text) →
-    Midway was is held mid gathered session before → WritesFront mid holds gathered left → TakesLine found is now line → found ≡ true → shown ≡ line → text ≡ text_of shown → IsSaid text said → said ≡ what.Command command → HasAnswered session command after left left' →
+pub turns_command : (was is now held mid holds : Option (List ℕ)) (gathered left left' : List ℕ) (session after : SessionState Text) (before : ℕ) (found : Option Line) (said : Line) (command : Command Text) →
+    Midway was is held mid gathered session before → WritesFront mid holds gathered left → SaysNext is now found → found ≡ Some said → said ≡ what.Command command → HasAnswered session command after left left' →
     Midway was now held holds left' after (before + 1)
-turns_command was is now held mid holds gathered left left' line shown text session after before found said command m w t f s x says b (reply, step, grown) =
-    let says' = rw (b, x, s) at says in
-    answered was is now held holds left left' line session after before command reply (wrote was is held mid holds gathered left session before m w) (rw f at t) says' step grown
+turns_command was is now held mid holds gathered left left' session after before found said command m w next f b (reply, step, grown) =
+    let (line, t, says) = rw (f, b) at next in
+    answered was is now held holds left left' line session after before command reply (wrote was is held mid holds gathered left session before m w) t says step grown
 
 -- a turn with a bad line
-pub turns_bad : (was is now held mid holds holds' : Option (List ℕ)) (gathered left line shown text : List ℕ) (session : SessionState Text) (before : ℕ) (found : Bool) (said : Line) →
-    Midway was is held mid gathered session before → WritesFront mid holds gathered left → TakesLine found is now line → found ≡ true → shown ≡ line → text ≡ text_of shown → IsSaid text said → said ≡ Bad → Appends holds holds' (left ++ bad_line (before + 1)) →
+pub turns_bad : (was is now held mid holds holds' : Option (List ℕ)) (gathered left : List ℕ) (session : SessionState Text) (before : ℕ) (found : Option Line) (said : Line) →
+    Midway was is held mid gathered session before → WritesFront mid holds gathered left → SaysNext is now found → found ≡ Some said → said ≡ Bad → Appends holds holds' (left ++ bad_line (before + 1)) →
     Serves was held holds' (BadLine (before + 1))
-turns_bad was is now held mid holds holds' gathered left line shown text session before found said m w t f s x says b wrote' =
-    let bad = rw (b, x, s) at says in
-    named was is now held holds holds' left line session before (wrote was is held mid holds gathered left session before m w) (rw f at t) bad wrote'
+turns_bad was is now held mid holds holds' gathered left session before found said m w next f b wrote' =
+    let (line, t, bad) = rw (f, b) at next in
+    named was is now held holds holds' left line session before (wrote was is held mid holds gathered left session before m w) t bad wrote'
 
 -- the last turn, which finds no line
-pub turns_last : (was is now held mid holds holds' : Option (List ℕ)) (gathered left line : List ℕ) (session : SessionState Text) (before : ℕ) (found : Bool) →
-    Midway was is held mid gathered session before → WritesFront mid holds gathered left → TakesLine found is now line → found ≡ false → Appends holds holds' left → Serves was held holds' All
-turns_last was is now held mid holds holds' gathered left line session before found m w t f wrote' =
-    all_read was is now held holds holds' left line session before (wrote was is held mid holds gathered left session before m w) (rw f at t) wrote'
+pub turns_last : (was is now held mid holds holds' : Option (List ℕ)) (gathered left : List ℕ) (session : SessionState Text) (before : ℕ) (found : Option Line) →
+    Midway was is held mid gathered session before → WritesFront mid holds gathered left → SaysNext is now found → found ≡ None → Appends holds holds' left → Serves was held holds' All
+turns_last was is now held mid holds holds' gathered left session before found m w next f wrote' =
+    let none = rw f at next in
+    all_read was is now held holds holds' left [] session before (wrote was is held mid holds gathered left session before m w) none wrote'

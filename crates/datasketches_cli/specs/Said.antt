@@ -1,5 +1,5 @@
 -- What parsing finds in a line.
-use Rattle.std.specs.Prelude.{◌≡◌, ◌≢◌, ℕ, List, map, Option, MatchOption}
+use Rattle.std.specs.Prelude.{◌≡◌, ◌≢◌, ℕ, List, [], ◌∷◌, map, Option, MatchOption}
 use Rattle.std.specs.Borrow.{Bor}
 use Rattle.datasketches.specs.ErrorType.{ErrorType}
 use Rattle.datasketches.specs.declared.command.Command.{Command}
@@ -12,6 +12,11 @@ use Rattle.datasketches_cli.specs.Grammar.{IsBlank, Says, IsBad, verb_word, repo
 -- the texts of some words
 abbrev pub texts_of : List (Bor (List ℕ)) → List (List ℕ)
 texts_of words = map (λ word. word.now) words
+
+-- a word and those after it, and none where it is empty
+abbrev pub with_word : List ℕ → List (List ℕ) → List (List ℕ)
+with_word [] words = []
+with_word (x ∷ xs) words = (x ∷ xs) ∷ words
 
 -- the verb of the word, or none where the word is none's
 abbrev pub IsVerbOf : List ℕ → Option Verb → Type 0

@@ -1,11 +1,13 @@
 //! The lines of a reader that is handed over at each call.
-ghost use Rattle.std.specs.Prelude.{◌≡◌, ◌==◌, ◌↔◌, [], false, IsTrue, IfOk, Contains};
+ghost use Rattle.std.specs.Prelude.{◌≡◌, ◌≤◌, ◌+◌, ◌==◌, ◌↔◌, [], false, length, IsTrue, IfOk, Contains};
+ghost use Rattle.std.specs.Io.BufRead.{take_through, drop_through};
 ghost use Rattle.std.specs.Io.KnownBytes.{IsAtEnd, prepend_known};
-ghost use Rattle.std.specs.List.{position};
+ghost use Rattle.std.specs.List.{position_or_len, slice_range};
 ghost use Rattle.datasketches_cli.specs.Counts.{one_more};
 ghost use Rattle.datasketches_cli.specs.Reading.{Fills, TakesFront, TakesLine};
 
 use crate::counted::Counted;
+use crate::search::first_place;
 use std::alloc::Global;
 use std::io::{Error, ErrorKind, Read, Result};
 use std::marker::Model;
@@ -21,17 +23,20 @@ pub struct LineReader {
     buffer: Vec<u8>,
     start: usize,
     end: usize,
+    /// The place of the first line feed, or the end where there is none.
+    feed: usize,
 }
 
 impl Model for LineReader {
-    ghost use Rattle.std.specs.Prelude.{ℕ, ◌<◌, ◌≤◌, List, length};
-    ghost use Rattle.std.specs.List.{slice_range};
+    ghost use Rattle.std.specs.Prelude.{ℕ, ◌≡◌, ◌<◌, ◌≤◌, ◌+◌, ◌==◌, List, length};
+    ghost use Rattle.std.specs.List.{position_or_len, slice_range};
 
     ghost Value = { List ℕ };
 
     ghost view = { λ l. slice_range l.buffer.items l.start l.end };
 
-    ghost invariant = { λ l. (l.start ≤ l.end) × (l.end ≤ length l.buffer.items) × (0 < length l.buffer.items) };
+    ghost invariant = { λ l. (l.start ≤ l.end) × (l.end ≤ length l.buffer.items) × (0 < length l.buffer.items)
+        × (l.feed ≡ l.start + position_or_len (λ byte. byte == 10) (slice_range l.buffer.items l.start l.end)) };
 }
 
 impl LineReader {
@@ -43,6 +48,7 @@ impl LineReader {
             buffer: vec![in alloc; 0; READ_SIZE]?,
             start: 0,
             end: 0,
+            feed: 0,
         })
     }
 
@@ -50,7 +56,24 @@ impl LineReader {
     pub fn has_line(&self) -> bool
         ensures { IsTrue result ↔ Contains self.now 10 }
     {
-        self.buffer[self.start..self.end].contains(&b'\n')
+        self.feed < self.end
+    }
+
+    /// The next line with its end, where it was read already.
+    pub fn line(&self) -> &[u8]
+        requires { Contains self.now 10 }
+        ensures { result.now ≡ take_through 10 self.now }
+    {
+        &self.buffer[self.start..self.feed + 1]
+    }
+
+    /// Goes past it.
+    pub fn skip_line(&mut self)
+        requires { Contains self.old 10 }
+        ensures { self.new ≡ drop_through 10 self.old }
+    {
+        self.start = self.feed + 1;
+        self.feed = first_feed(&self.buffer, self.start, self.end);
     }
 
     /// Puts the next line, with its end, in the place of what `line` holds, or answers that no input is left.
@@ -83,19 +106,14 @@ impl LineReader {
     fn take_line(&mut self, line: &mut Vec<u8>) -> Result<bool>
         ensures { IfOk result (λ ended. TakesFront ended self.old self.new line.old.items line.new.items) }
     {
-        let unread = &self.buffer[self.start..self.end];
-        match first_feed(unread) {
-            Some(at) => {
-                line.extend_from_slice(&unread[..at + 1])?;
-                self.start += at + 1;
-                Ok(true)
-            }
-            None => {
-                line.extend_from_slice(unread)?;
-                self.start = self.end;
-                Ok(false)
-            }
+        if self.has_line() {
+            line.extend_from_slice(self.line())?;
+            self.skip_line();
+            return Ok(true);
         }
+        line.extend_from_slice(&self.buffer[self.start..self.end])?;
+        self.start = self.end;
+        Ok(false)
     }
 
     /// Reads more, where all that was read is handed on. Answers whether there may be more input.
@@ -107,9 +125,11 @@ impl LineReader {
     {
         self.start = 0;
         self.end = 0;
+        self.feed = 0;
         match reader.read(&mut self.buffer) {
             Ok(count) => {
                 self.end = count;
+                self.feed = first_feed(&self.buffer, 0, count);
                 Ok(count > 0)
             }
             Err(e) if e.kind() == ErrorKind::Interrupted => Ok(true),
@@ -118,9 +138,11 @@ impl LineReader {
     }
 }
 
-/// The place of the first line feed.
-fn first_feed(bytes: &[u8]) -> Option<usize>
-    ensures { result ≡ position (λ byte. byte == 10) bytes.now }
+/// The place of the first line feed in a range, or its end where there is none.
+fn first_feed(bytes: &[u8], start: usize, end: usize) -> usize
+    requires ordered { start ≤ end }
+    requires within { end ≤ length bytes.now }
+    ensures { result ≡ start + position_or_len (λ byte. byte == 10) (slice_range bytes.now start end) }
 {
-    bytes.iter().position(|byte| *byte == b'\n')
+    start + first_place(b'\n', &bytes[start..end])
 }

@@ -42,6 +42,7 @@ mod counted;
 mod line_reader;
 mod parse;
 mod reply;
+mod search;
 mod serve;
 #[cfg(test)]
 mod tests;

@@ -1,11 +1,12 @@
 //! Lines to commands.
-ghost use Rattle.std.specs.Prelude.{◌≡◌, ◌^◌, IfOk, take};
+ghost use Rattle.std.specs.Prelude.{◌≡◌, ◌≤◌, ◌^◌, [], ◌∷◌, IfOk, string_bytes, length, take};
 ghost use Rattle.datasketches_cli.specs.Grammar.{words_of, number_below, signed_number, IsMade};
 ghost use Rattle.datasketches_cli.specs.Said.{IsSaid, IsVerbOf, IsReportOf, texts_of};
-ghost use Rattle.datasketches_cli.specs.Said.{AreCountsOf, IsCommandOf};
+ghost use Rattle.datasketches_cli.specs.Said.{AreCountsOf, IsCommandOf, with_word};
 
-use datasketches::Command;
+use crate::search::first_place;
 use datasketches::frequencies::ErrorType;
+use datasketches::{Command, Spare};
 use std::alloc::{AllocError, Global};
 
 /// What a line says.
@@ -69,35 +70,59 @@ const MOST_WORDS: usize = 6;
 /// The command that some words make, if they make one.
 type Made = Result<Option<Command<String>>, AllocError>;
 
-/// What a line says, which stands without its end.
-pub fn parse(alloc: Global, line: &[u8]) -> Result<Line, AllocError>
+/// What a line says, which stands without its end. Its name and its item may take the memory of `spare`.
+pub fn parse(alloc: Global, line: &[u8], spare: &mut Spare<String>) -> Result<Line, AllocError>
     ensures { IfOk result (IsSaid line.now) }
 {
     let Ok(text) = str::from_utf8(line) else {
         return Ok(Line::Bad);
     };
-    let words = first_words(alloc, text)?;
+    let mut words = [""; MOST_WORDS];
+    let count = first_words(text, &mut words);
+    let words = &words[..count];
     if words.is_empty() {
         return Ok(Line::Blank);
     }
-    match command_of(alloc, &words)? {
+    match command_of(alloc, words, spare)? {
         Some(command) => Ok(Line::Command(command)),
         None => Ok(Line::Bad),
     }
 }
 
-/// The first words of a text, which stand between spaces.
-fn first_words(alloc: Global, text: &str) -> Result<Vec<&str>, AllocError>
-    ensures { IfOk result (λ words. texts_of words.items ≡ take MOST_WORDS (words_of text.now)) }
+/// Puts the first words of a text, which stand between spaces, into an array. Answers how many there are.
+fn first_words<'a>(text: &'a str, words: &mut [&'a str; MOST_WORDS]) -> usize
+    ensures few { result ≤ length words.new }
+    ensures words { texts_of (take result words.new) ≡ take MOST_WORDS (words_of text.now) }
 {
-    text.split(' ')
-        .filter(|word| !word.is_empty())
-        .take(MOST_WORDS)
-        .collect(alloc)
+    let mut count = 0;
+    let mut rest = text;
+    while count < MOST_WORDS {
+        let (word, after) = next_word(rest);
+        if word.is_empty() {
+            return count;
+        }
+        words[count] = word;
+        count += 1;
+        rest = after;
+    }
+    count
+}
+
+/// The first word of a text, which is empty where there is none, and the text after it.
+fn next_word(text: &str) -> (&str, &str)
+    ensures { words_of text.now ≡ with_word result.0.now (words_of result.1.now) }
+{
+    let bytes = text.as_bytes();
+    let mut start = 0;
+    while start < bytes.len() && bytes[start] == b' ' {
+        start += 1;
+    }
+    let (_, text) = text.split_at(start);
+    text.split_at(first_place(b' ', text.as_bytes()))
 }
 
 /// The command that the words make.
-fn command_of(alloc: Global, words: &[&str]) -> Made
+fn command_of(alloc: Global, words: &[&str], spare: &mut Spare<String>) -> Made
     ensures { IfOk result (IsMade (texts_of words.now)) }
 {
     let [verb, name, rest @ ..] = words else {
@@ -108,12 +133,12 @@ fn command_of(alloc: Global, words: &[&str]) -> Made
     };
     match verb {
         Verb::Create(kind) => create(alloc, kind, name, rest),
-        Verb::Change(edit) => change(alloc, edit, name, rest),
+        Verb::Change(edit) => change(alloc, edit, name, rest, spare),
         Verb::Join(by) => join(alloc, by, name, rest),
         Verb::Save => save(alloc, name, rest),
         Verb::Restore => restore(alloc, name, rest),
         Verb::Image => image(alloc, name, rest),
-        Verb::Ask => ask(alloc, name, rest),
+        Verb::Ask => ask(alloc, name, rest, spare),
         Verb::Status => status(alloc, name, rest),
         Verb::Rows => rows(alloc, name, rest),
     }
@@ -229,7 +254,7 @@ fn create(alloc: Global, kind: Kind, name: &str, words: &[&str]) -> Made
     }
 }
 
-fn change(alloc: Global, edit: Edit, name: &str, words: &[&str]) -> Made
+fn change(alloc: Global, edit: Edit, name: &str, words: &[&str], spare: &mut Spare<String>) -> Made
     ensures { IfOk result (IsCommandOf (Verb.Change edit) name.now (texts_of words.now)) }
 {
     match (edit, words) {
@@ -237,21 +262,21 @@ fn change(alloc: Global, edit: Edit, name: &str, words: &[&str]) -> Made
             let Some(weight) = number_of(weight) else {
                 return Ok(None);
             };
-            let name = String::from_str(alloc, name)?;
-            let item = String::from_str(alloc, item)?;
+            let name = copied(alloc, name, &mut spare.name)?;
+            let item = copied(alloc, item, &mut spare.item)?;
             Ok(Some(Command::Add { name, item, weight }))
         }
         (Edit::AddSigned, [weight, item]) => {
             let Some(weight) = signed_number(weight) else {
                 return Ok(None);
             };
-            let name = String::from_str(alloc, name)?;
-            let item = String::from_str(alloc, item)?;
+            let name = copied(alloc, name, &mut spare.name)?;
+            let item = copied(alloc, item, &mut spare.item)?;
             Ok(Some(Command::AddSigned { name, item, weight }))
         }
         (Edit::Insert, [item]) => {
-            let name = String::from_str(alloc, name)?;
-            let item = String::from_str(alloc, item)?;
+            let name = copied(alloc, name, &mut spare.name)?;
+            let item = copied(alloc, item, &mut spare.item)?;
             Ok(Some(Command::Insert { name, item }))
         }
         (Edit::Reset, []) => {
@@ -328,14 +353,14 @@ fn image(alloc: Global, name: &str, words: &[&str]) -> Made
     Ok(Some(Command::ShowImage { image }))
 }
 
-fn ask(alloc: Global, name: &str, words: &[&str]) -> Made
+fn ask(alloc: Global, name: &str, words: &[&str], spare: &mut Spare<String>) -> Made
     ensures { IfOk result (IsCommandOf Verb.Ask name.now (texts_of words.now)) }
 {
     let [item] = words else {
         return Ok(None);
     };
-    let name = String::from_str(alloc, name)?;
-    let item = String::from_str(alloc, item)?;
+    let name = copied(alloc, name, &mut spare.name)?;
+    let item = copied(alloc, item, &mut spare.item)?;
     Ok(Some(Command::Ask { name, item }))
 }
 
@@ -364,6 +389,16 @@ fn rows(alloc: Global, name: &str, words: &[&str]) -> Made
         error_type,
         threshold,
     }))
+}
+
+/// A copy of a text, in the memory of the spare one, if there is one.
+fn copied(alloc: Global, text: &str, spare: &mut Option<String>) -> Result<String, AllocError>
+    ensures { IfOk result (λ copy. string_bytes copy ≡ text.now) }
+{
+    let mut copy = spare.take().unwrap_or(String::new(alloc));
+    copy.clear();
+    copy.push_str(text)?;
+    Ok(copy)
 }
 
 /// The numbers of a Count-Min sketch: its hashes, its buckets and its seed.
@@ -395,11 +430,26 @@ fn error_type_of(word: &str) -> Option<ErrorType>
 fn number_of(word: &str) -> Option<u64>
     ensures { result ≡ number_below (2 ^ 64) word.now }
 {
+    // most weights are of one digit
+    if let [byte] = word.as_bytes() {
+        return digit_of(*byte);
+    }
     // std's `parse` takes a sign in front of the digits
     if word.as_bytes().first() == Some(&b'+') {
         return None;
     }
     word.parse::<u64>().ok()
+}
+
+/// The number that a digit is.
+fn digit_of(byte: u8) -> Option<u64>
+    ensures { result ≡ number_below (2 ^ 64) (byte ∷ []) }
+{
+    if byte.is_ascii_digit() {
+        Some(u64::from(byte - b'0'))
+    } else {
+        None
+    }
 }
 
 /// The same of 32 bits.

@@ -15,14 +15,14 @@ pub fn write_reply(alloc: Global, out: &mut String, reply: &Reply<String>) -> Re
     ensures { OnOk result (string_bytes out.new ≡ string_bytes out.old ++ reply_text reply.now) }
 {
     match reply {
-        Reply::Done => write!(out, "ok")?,
+        Reply::Done => out.push_str("ok")?,
         Reply::Bounds {
             estimate,
             lower,
             upper,
         } => write!(out, "estimate {estimate} lower {lower} upper {upper}")?,
-        Reply::Contains(true) => write!(out, "yes")?,
-        Reply::Contains(false) => write!(out, "no")?,
+        Reply::Contains(true) => out.push_str("yes")?,
+        Reply::Contains(false) => out.push_str("no")?,
         Reply::Status(status) => write_status(out, status)?,
         Reply::Rows(rows) => {
             write!(out, "rows {}", rows.len())?;

@@ -1,17 +1,17 @@
 //! The loop from lines to replies.
-ghost use Rattle.std.specs.Prelude.{◌≡◌, ◌<◌, ◌⊎◌, ◌↔◌, [], ◌++◌, IsTrue, IfOk, IfErr, OnOk, Contains};
+ghost use Rattle.std.specs.Prelude.{◌≡◌, ◌<◌, ◌⊎◌, ◌↔◌, [], ◌++◌, None, IsTrue, IfOk, IfErr, OnOk, Contains};
 ghost use Rattle.std.specs.Prelude.{string_bytes, string_len};
 ghost use Rattle.std.specs.Io.BufRead.{strip_last};
-ghost use Rattle.std.specs.Io.KnownBytes.{Appends, IsAtEnd};
+ghost use Rattle.std.specs.Io.KnownBytes.{Appends, IsAtEnd, prepend_known};
 ghost use Rattle.datasketches_cli.specs.Counts.{HasGrown};
-ghost use Rattle.datasketches_cli.specs.Serving.{HasAnswered, WritesFront};
+ghost use Rattle.datasketches_cli.specs.Serving.{HasAnswered, SaysNext, WritesFront};
 ghost use Rattle.datasketches_cli.specs.Transcript.{Serves, bad_line};
 
 use crate::counted::Counted;
 use crate::line_reader::LineReader;
 use crate::parse::{Line, parse};
 use crate::reply::write_reply;
-use datasketches::{Command, Session};
+use datasketches::{Command, Session, Spare};
 use std::alloc::{AllocError, Global};
 use std::fmt;
 use std::io::{self, Read, Write};
@@ -119,17 +119,23 @@ fn serve_lines<R: Read, W: Write>(
     let mut replies = String::new(alloc);
     let mut lines = LineReader::new(alloc)?;
     let mut line = Vec::new(alloc);
+    let mut spare = Spare::new();
     for before in 0..u128::MAX {
         let number = before + 1;
         write_due(&lines, writer, &mut replies)?;
-        if !lines.read_line(reader, &mut line)? {
+        let Some(said) = next_line(alloc, &mut lines, reader, &mut line, &mut spare)? else {
             write_out(writer, &mut replies)?;
             return Ok(Ended::All);
-        }
-        let said = parse(alloc, without_end(&line))?;
+        };
         match said {
             Line::Blank => {}
-            Line::Command(command) => answer(alloc, &mut session, command, &mut replies)?,
+            Line::Command(command) => answer(
+                alloc,
+                &mut session,
+                command,
+                &mut spare,
+                &mut replies,
+            )?,
             Line::Bad => {
                 write_bad(writer, &mut replies, number)?;
                 return Ok(Ended::BadLine(number));
@@ -139,19 +145,45 @@ fn serve_lines<R: Read, W: Write>(
     Err(Stopped)
 }
 
+/// What the next line says, or `None` where no input is left.
+///
+/// A line that was read whole is looked at where it lies. Else it comes into the place of what `line` holds.
+fn next_line<R: Read>(
+    alloc: Global,
+    lines: &mut LineReader,
+    reader: &mut Counted<R>,
+    line: &mut Vec<u8>,
+    spare: &mut Spare<String>,
+) -> Result<Option<Line>, Stopped>
+    ensures said { IfOk result (SaysNext (prepend_known lines.old (R.remaining reader.old.inner))
+        (prepend_known lines.new (R.remaining reader.new.inner))) }
+    ensures end { IfOk result (λ said. said ≡ None → IsAtEnd (R.remaining reader.new.inner)) }
+{
+    if lines.has_line() {
+        let said = parse(alloc, without_end(lines.line()), spare)?;
+        lines.skip_line();
+        return Ok(Some(said));
+    }
+    if !lines.read_line(reader, line)? {
+        return Ok(None);
+    }
+    Ok(Some(parse(alloc, without_end(line), spare)?))
+}
+
 /// Does a command, and gathers its reply.
 fn answer(
     alloc: Global,
     session: &mut Session<String>,
     command: Command<String>,
+    spare: &mut Spare<String>,
     replies: &mut String,
 ) -> Result<(), Stopped>
     ensures { OnOk result (HasAnswered session.old command session.new
         (string_bytes replies.old) (string_bytes replies.new)) }
 {
-    let reply = session.apply(command);
+    let reply = session.apply_sparing(command, spare);
     write_reply(alloc, replies, &reply)?;
-    writeln!(replies)?;
+    replies.push_str("\n")?;
     Ok(())
 }
 

@@ -4,21 +4,21 @@ use Rattle.datasketches_cli.proofs.Transcripts.{turns_blank, turns_command, turn
 use Rattle.datasketches_cli.proofs.serve.serve_lines.Goals as goal
 use Rattle.datasketches_cli.proofs.serve.serve_lines.Goals.{in-Blank, in-Command+in_ok-answer-in-Command}
 
-pub returns-then-not-branch-clause-served : goal.returns-then-not-branch-clause-served
-returns-then-not-branch-clause-served g c =
-    turns_last _ _ _ _ _ _ _ _ _ _ _ _ _ c.loop-before.invariant.0 c.in_ok-write_due.ensures.written c.in_ok-read_line.ensures.line c.if-not-branch.true c.in_ok-write_out.ensures.written
+pub returns-in_default-clause-served : goal.returns-in_default-clause-served
+returns-in_default-clause-served g c =
+    turns_last _ _ _ _ _ _ _ _ _ _ _ _ c.loop-before.invariant.0 c.in_ok-write_due.ensures.written c.in_ok-said.ensures.said c.in_default.is c.in_ok-write_out.ensures.written
 
 pub returns-in-Bad-clause-served : goal.returns-in-Bad-clause-served
 returns-in-Bad-clause-served g c =
-    turns_bad _ _ _ _ _ _ _ _ _ _ _ _ _ _ _ _ c.loop-before.invariant.0 c.in_ok-write_due.ensures.written c.in_ok-read_line.ensures.line c.if-not-branch.false c.deref.ensures.value c.without_end.ensures c.in_ok-said.ensures c.in-Bad.is c.in_ok-write_bad-in-Bad.ensures.written
+    turns_bad _ _ _ _ _ _ _ _ _ _ _ _ _ c.loop-before.invariant.0 c.in_ok-write_due.ensures.written c.in_ok-said.ensures.said c.in-Some.is c.in-Bad.is c.in_ok-write_bad-in-Bad.ensures.written
 
 pub loop-before-preserved : goal.loop-before-preserved
 loop-before-preserved g c = (
   elim c.match-said.branch [
-    | in-Blank w ↦ turns_blank _ _ _ _ _ _ _ _ _ _ _ _ _ _ _ _ _ c.loop-before.invariant.0 c.in_ok-write_due.ensures.written c.in_ok-read_line.ensures.line c.if-not-branch.false c.deref.ensures.value c.without_end.ensures c.in_ok-said.ensures w.in-Blank.is w.session-is (ap string_bytes w.replies-is)
+    | in-Blank w ↦ turns_blank _ _ _ _ _ _ _ _ _ _ _ _ _ _ c.loop-before.invariant.0 c.in_ok-write_due.ensures.written c.in_ok-said.ensures.said c.in-Some.is w.in-Blank.is w.session-is (ap string_bytes w.replies-is)
     | in-Command+in_ok-answer-in-Command w ↦
         (let done = rw (← w.session-is, ← w.replies-is) at w.in_ok-answer-in-Command.ensures in
-        turns_command _ _ _ _ _ _ _ _ _ _ _ _ _ _ _ _ _ _ c.loop-before.invariant.0 c.in_ok-write_due.ensures.written c.in_ok-read_line.ensures.line c.if-not-branch.false c.deref.ensures.value c.without_end.ensures c.in_ok-said.ensures w.in-Command.is done)
+        turns_command _ _ _ _ _ _ _ _ _ _ _ _ _ _ _ c.loop-before.invariant.0 c.in_ok-write_due.ensures.written c.in_ok-said.ensures.said c.in-Some.is w.in-Command.is done)
   ],
   c.in_ok-write_due.ensures.kept ∙ c.loop-before.invariant.1,
 )

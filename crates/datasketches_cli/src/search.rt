@@ -1,0 +1,64 @@
+//! The first place of a byte.
+ghost use Rattle.std.specs.Prelude.{◌≡◌, ◌+◌, ◌≤◌, ◌==◌, length};
+ghost use Rattle.std.specs.List.{position_or_len, slice_range};
+
+use std::simd::prelude::*;
+
+/// The first place of a byte, or the number of bytes where it is none of them.
+#[inline(always)]
+pub fn first_place(byte: u8, bytes: &[u8]) -> usize
+    ensures value { result ≡ position_or_len (λ other. other == byte) bytes.now }
+    ensures bound { result ≤ length bytes.now }
+{
+    let mut at = 0;
+    while bytes.len() - at >= 16 {
+        let found = first_in_16(byte, bytes, at);
+        if found < 16 {
+            return at + found;
+        }
+        at += 16;
+    }
+    if bytes.len() - at >= 8 {
+        let found = first_in_8(byte, bytes, at);
+        if found < 8 {
+            return at + found;
+        }
+        at += 8;
+    }
+    while at < bytes.len() && bytes[at] != byte {
+        at += 1;
+    }
+    at
+}
+
+/// The same of sixteen bytes, counted from the first of them.
+#[inline(always)]
+fn first_in_16(byte: u8, bytes: &[u8], at: usize) -> usize
+    requires { at + 16 ≤ length bytes.now }
+    ensures { result ≡ position_or_len (λ other. other == byte) (slice_range bytes.now at (at + 16)) }
+{
+    let marks = u8x16::from_slice(&bytes[at..])
+        .simd_eq(u8x16::splat(byte))
+        .to_bitmask();
+    if marks == 0 {
+        16
+    } else {
+        marks.trailing_zeros() as usize
+    }
+}
+
+/// The same of eight bytes.
+#[inline(always)]
+fn first_in_8(byte: u8, bytes: &[u8], at: usize) -> usize
+    requires { at + 8 ≤ length bytes.now }
+    ensures { result ≡ position_or_len (λ other. other == byte) (slice_range bytes.now at (at + 8)) }
+{
+    let marks = u8x8::from_slice(&bytes[at..])
+        .simd_eq(u8x8::splat(byte))
+        .to_bitmask();
+    if marks == 0 {
+        8
+    } else {
+        marks.trailing_zeros() as usize
+    }
+}
