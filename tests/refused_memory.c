@@ -1,42 +1,79 @@
-/* Loaded before the C library: refuses the request for memory of a given number, and says at the end what it saw.
+/* Loaded before the C library: refuses the request for memory of a given number, or fails a read or a write of a given
+ * number, and says at the end what it saw.
  *
  * REFUSED_AT is the number of the request that is refused, counted from 1 over malloc, calloc and realloc; 0 refuses
- * none. REFUSED_REPORT is a file that gets three numbers at the end: how many requests there were, whether one was
- * refused, and how many blocks were not given back.
+ * none. With REFUSED_MARKED the requests are counted behind one for MARK_BEGIN bytes, up to one for MARK_END, which are
+ * not counted themselves. REFUSED_REPORT is a file that gets three numbers at the end: how many requests there were,
+ * whether one was refused, and how many blocks were not given back.
+ *
+ * FAILS_READ_AT and FAILS_WRITE_AT are the numbers of a read of standard input and of a write to standard output that
+ * fail, and ONE_BYTE has each of these move one byte at most. Where one of the three is set, the three numbers are how
+ * many reads and writes there were, whether one failed, and 0.
  */
 #define _GNU_SOURCE
 #include <dlfcn.h>
 #include <stdio.h>
 #include <stdlib.h>
 #include <errno.h>
+#include <unistd.h>
+
+#define MARK_BEGIN 7919
+#define MARK_END 7927
 
 static void *(*real_malloc)(size_t);
 static void *(*real_realloc)(void *, size_t);
 static void *(*real_calloc)(size_t, size_t);
 static void (*real_free)(void *);
+static ssize_t (*real_read)(int, void *, size_t);
+static ssize_t (*real_write)(int, const void *, size_t);
 
 static long refused_at;
 static long requests;
 static long refusals;
 static long blocks;
+static int loaded;
 static int counting;
+
+static long fails_read_at;
+static long fails_write_at;
+static int one_byte;
+static int streams;
+static long reads;
+static long writes;
+static long failures;
+
+static long number_of(const char *name) {
+    const char *text = getenv(name);
+    return text ? atol(text) : 0;
+}
 
 __attribute__((constructor)) static void begin(void) {
     real_malloc = dlsym(RTLD_NEXT, "malloc");
     real_realloc = dlsym(RTLD_NEXT, "realloc");
     real_calloc = dlsym(RTLD_NEXT, "calloc");
     real_free = dlsym(RTLD_NEXT, "free");
-    const char *at = getenv("REFUSED_AT");
-    refused_at = at ? atol(at) : 0;
-    counting = 1;
+    real_read = dlsym(RTLD_NEXT, "read");
+    real_write = dlsym(RTLD_NEXT, "write");
+    refused_at = number_of("REFUSED_AT");
+    fails_read_at = number_of("FAILS_READ_AT");
+    fails_write_at = number_of("FAILS_WRITE_AT");
+    one_byte = number_of("ONE_BYTE") > 0;
+    streams = one_byte || fails_read_at || fails_write_at;
+    loaded = 1;
+    counting = !getenv("REFUSED_MARKED");
 }
 
 __attribute__((destructor)) static void end(void) {
+    loaded = 0;
     counting = 0;
     const char *path = getenv("REFUSED_REPORT");
     FILE *report = path ? fopen(path, "w") : NULL;
     if (report) {
-        fprintf(report, "%ld %ld %ld\n", requests, refusals, blocks);
+        if (streams) {
+            fprintf(report, "%ld %ld 0\n", reads + writes, failures);
+        } else {
+            fprintf(report, "%ld %ld %ld\n", requests, refusals, blocks);
+        }
         fclose(report);
     }
 }
@@ -59,11 +96,13 @@ void *malloc(size_t size) {
     if (!real_malloc) {
         real_malloc = dlsym(RTLD_NEXT, "malloc");
     }
-    if (refuses()) {
+    if (size == MARK_BEGIN || size == MARK_END) {
+        counting = loaded && size == MARK_BEGIN;
+    } else if (refuses()) {
         return NULL;
     }
     void *block = real_malloc(size);
-    blocks += counting && block;
+    blocks += loaded && block;
     return block;
 }
 
@@ -75,7 +114,7 @@ void *calloc(size_t count, size_t size) {
         return NULL;
     }
     void *block = real_calloc(count, size);
-    blocks += counting && block;
+    blocks += loaded && block;
     return block;
 }
 
@@ -84,13 +123,52 @@ void *realloc(void *block, size_t size) {
         return NULL;
     }
     void *moved = real_realloc(block, size);
-    blocks += counting && !block && moved;
+    blocks += loaded && !block && moved;
     return moved;
 }
 
 void free(void *block) {
-    blocks -= counting && block;
+    blocks -= loaded && block;
     if (real_free) {
         real_free(block);
     }
+}
+
+/* Whether this call is the one that fails. */
+static int fails(long *calls, long at) {
+    *calls += 1;
+    if (*calls != at) {
+        return 0;
+    }
+    failures += 1;
+    errno = EIO;
+    return 1;
+}
+
+ssize_t read(int file, void *bytes, size_t size) {
+    if (file == 0 && streams && loaded) {
+        if (fails(&reads, fails_read_at)) {
+            return -1;
+        }
+        if (one_byte && size > 1) {
+            size = 1;
+        }
+    }
+    return real_read(file, bytes, size);
+}
+
+ssize_t write(int file, const void *bytes, size_t size) {
+    if (file == 1 && streams && loaded) {
+        if (fails(&writes, fails_write_at)) {
+            return -1;
+        }
+        if (one_byte && size > 1) {
+            size = 1;
+        }
+    }
+    return real_write(file, bytes, size);
+}
+
+ssize_t __write(int file, const void *bytes, size_t size) {
+    return write(file, bytes, size);
 }

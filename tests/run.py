@@ -1,13 +1,17 @@
 #!/usr/bin/env python3
 """Runs the built program where memory is refused and where streams fail. `README.md` says what each test shows.
 
-It takes the path of the program, and prints a line for each test that failed and then 'N passed, M failed'.
+It takes the paths of the program and of the trials, and prints a line for each test that failed and then
+'N passed, M failed'. With `--after 'N passed, M failed'` before the paths it counts on from there.
 """
 import os
+import re
 import shutil
 import subprocess
 import sys
 import tempfile
+
+import trials
 
 HERE = os.path.dirname(os.path.abspath(__file__))
 
@@ -91,8 +95,9 @@ def mixed():
 
 
 class Tests:
-    def __init__(self, program, work):
+    def __init__(self, program, played, work):
         self.program = program
+        self.trials = played
         self.work = work
         self.passed = 0
         self.failed = 0
@@ -111,15 +116,20 @@ class Tests:
             self.failed += 1
             print(f"failed: {name} {said}")
 
-    def run(self, lines, refused_at=None):
-        """Its status, what it wrote, and the three numbers of the library, where that was loaded."""
+    def run(self, lines, refused_at=None, words=None, **settings):
+        """Its status, what it wrote, and the three numbers of the library, where that was loaded: of the program over the
+        lines, or of the trials with these words."""
         env = {"PATH": "/usr/bin:/bin"}
         report = os.path.join(self.work, "report")
         if refused_at is not None:
-            env.update(LD_PRELOAD=self.library, REFUSED_AT=str(refused_at), REFUSED_REPORT=report)
-        ran = subprocess.run([self.program], input=lines, capture_output=True, env=env, timeout=60)
+            settings["REFUSED_AT"] = refused_at
+        if settings:
+            env.update({name: str(value) for name, value in settings.items()})
+            env.update(LD_PRELOAD=self.library, REFUSED_REPORT=report)
+        command = [self.program] if words is None else [self.trials] + words
+        ran = subprocess.run(command, input=lines, capture_output=True, env=env, timeout=60)
         numbers = None
-        if refused_at is not None:
+        if settings:
             with open(report) as file:
                 numbers = [int(word) for word in file.read().split()]
         return ran.returncode, ran.stdout, ran.stderr, numbers
@@ -152,6 +162,91 @@ class Tests:
                 )
                 others = b"".join(reply for reply in replies if reply.rstrip() != NO_MEMORY)
                 self.check(f"{where} the others are as without it", self.run(left)[1] == others)
+            n += 1
+
+    def streams_that_fail(self):
+        """Each read and each write fails in a run of its own, until a run meets no failure: with streams that move as much
+        as is asked for, and with streams that move a byte."""
+        for name, lines, setting in [
+            ("streams", WORKED, {}),
+            ("a byte at a time", WORKED[: WORKED.index(b"bloom")], {"ONE_BYTE": 1}),
+        ]:
+            whole = self.run(lines)[1]
+            for which in ["FAILS_READ_AT", "FAILS_WRITE_AT"]:
+                n = 1
+                while True:
+                    status, out, said, numbers = self.run(lines, **{which: n, **setting})
+                    where = f"{name}, {which} {n}:"
+                    if numbers[1] == 0:
+                        self.check(f"{where} the last run is whole", (status, out, said) == (0, whole, b""), (status, said))
+                        break
+                    wanted = (2, b"input or output failed\n")
+                    self.check(f"{where} it says so", (status, said) == wanted, (status, said))
+                    self.check(f"{where} what it wrote is a beginning", whole.startswith(out))
+                    n += 1
+
+    def play(self, words, refused_at):
+        """The lines of a trial, and the three numbers of its marked calls."""
+        status, out, said, numbers = self.run(b"", refused_at, words, REFUSED_MARKED=1)
+        where = f"trial {' '.join(words[:1])}, request {refused_at}:"
+        self.check(f"{where} it ends", (status, said) == (0, b""), (status, said))
+        self.check(f"{where} all memory is given back", numbers[2] == 0, numbers)
+        return out.decode().splitlines(), numbers
+
+    def each_call(self):
+        """Each request of each call refused in a run of its own: the call says so, and leaves all as it was."""
+        for name, wanted in trials.CALLS.items():
+            lines, _ = self.play([name], 0)
+            self.check(f"trial {name}", lines == wanted, lines)
+            before = wanted[: wanted.index("call")]
+            n = 1
+            while True:
+                lines, numbers = self.play([name], n)
+                if numbers[1] == 0:
+                    break
+                where = f"trial {name}, request {n}:"
+                end = lines.index("after") if "after" in lines else len(lines)
+                self.check(f"{where} it is refused", lines[:end].count(trials.REFUSED) == 1, lines)
+                kept = len(lines) == len(wanted) and all(
+                    line in (whole, trials.REFUSED) or line == trials.LEFT.get(whole)
+                    for line, whole in zip(lines[:end], wanted)
+                )
+                self.check(f"{where} the other answers are as without it", kept, lines)
+                self.check(f"{where} all is as before", lines[end + 1 :] == before or end == len(lines), lines)
+                n += 1
+
+    def quiet_calls(self):
+        """They ask for no memory."""
+        for name, wanted in trials.QUIET.items():
+            lines, numbers = self.play([name], 0)
+            self.check(f"trial {name}", (lines, numbers[0]) == (wanted, 0), (lines, numbers))
+
+    def hard_items_and_ranges(self):
+        for name, wanted in trials.ITEMS.items():
+            lines, _ = self.play([name], 0)
+            self.check(f"trial {name}", lines == wanted, lines)
+
+    def list_of_calls(self, name):
+        """Each request of a list of calls refused in a run of its own: those of a session's run, or on windows."""
+        lines, _ = self.play([name], 0)
+        then = lines.index("then")
+        self.check(f"{name}: no want of memory", trials.REFUSED not in lines)
+        every = [str(place) for place in range(then)]
+        n = 1
+        while True:
+            lines, numbers = self.play([name], n)
+            if numbers[1] == 0:
+                return n - 1
+            where = f"{name}, request {n}:"
+            if lines[0] == f"run {trials.REFUSED}":
+                others, _ = self.play([name] + every, 0)
+                self.check(f"{where} nothing was done", lines[1:] == others, lines)
+            else:
+                places = [place for place, line in enumerate(lines[:then]) if line == trials.REFUSED]
+                others, _ = self.play([name] + [str(place) for place in places], 0)
+                self.check(f"{where} one is refused", len(places) == 1, places)
+                accepted = [line for place, line in enumerate(lines) if place not in places]
+                self.check(f"{where} the others are as without it", accepted == others, lines)
             n += 1
 
     def statuses(self):
@@ -193,20 +288,35 @@ class Tests:
         ran = subprocess.run(["/bin/sh", "-c", limited, self.program], input=lines, capture_output=True, timeout=60)
         wanted = b"refused NoMemory\nrefused NoMemory\nok\nok\nestimate 1 lower 1 upper 1\n"
         self.check("the greatest sizes", (ran.returncode, ran.stdout) == (0, wanted), ran)
+        limited += " sizes"
+        ran = subprocess.run(["/bin/sh", "-c", limited, self.trials], capture_output=True, timeout=60)
+        wanted = trials.SIZES
+        self.check("the greatest sizes, by calls", (ran.returncode, ran.stdout.decode().splitlines()) == (0, wanted), ran)
 
 
 def main():
-    program = os.path.abspath(sys.argv[1])
+    words = sys.argv[1:]
+    before = (0, 0)
+    if words[0] == "--after":
+        before = [int(number) for number in re.fullmatch(r"(\d+) passed, (\d+) failed", words[1]).groups()]
+        words = words[2:]
+    program, played = [os.path.abspath(path) for path in words]
     with tempfile.TemporaryDirectory() as work:
-        tests = Tests(program, work)
+        tests = Tests(program, played, work)
         worked = tests.refused_in_turn("worked lines", WORKED)
         many = tests.refused_in_turn("two hundred lines", mixed())
+        run = tests.list_of_calls("session")
+        windows = tests.list_of_calls("windows")
+        tests.each_call()
+        tests.quiet_calls()
+        tests.hard_items_and_ranges()
+        tests.streams_that_fail()
         tests.statuses()
         tests.failing_streams()
         tests.sizes()
-        print(f"requests refused in turn: {worked} and {many}")
-        print(f"{tests.passed} passed, {tests.failed} failed")
-    sys.exit(1 if tests.failed else 0)
+        print(f"requests refused in turn: {worked} and {many} of the program, {run} of a run of a session, {windows} on windows")
+        print(f"{before[0] + tests.passed} passed, {before[1] + tests.failed} failed")
+    sys.exit(1 if before[1] + tests.failed else 0)
 
 
 main()
