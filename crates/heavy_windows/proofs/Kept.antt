@@ -1,5 +1,5 @@
 -- How many windows a tenant has, and of which size.
-use Rattle.std.proofs.Common.{◌≡◌, ℕ, ◌+◌, ◌-◌, ◌<◌, ◌≤◌, nat_lt, Bool, true, false, ◌||◌, if◌then◌else◌, List, [], ◌∷◌, ◌++◌, length, take, drop, All, Option, Some, None, Result, Ok, Err, OnOk, OnErr, IfSome, unwrap_or, refl, sym, ◌∙◌, ap, subst, arith, ⊎_elim}
+use Rattle.std.proofs.Common.{◌≡◌, ℕ, ◌+◌, ◌-◌, ◌<◌, ◌≤◌, nat_lt, Bool, true, false, ◌||◌, if◌then◌else◌, List, [], ◌∷◌, ◌++◌, length, take, drop, All, Option, Some, None, Result, Ok, Err, OnOk, OnErr, refl, sym, ◌∙◌, ap, subst, arith, ⊎_elim}
 use Rattle.std.proofs.lemmas.Bool.{ltb-false, lt-ltb, le-ltb, cases_lt}
 use Rattle.std.proofs.lemmas.List.{length-append, length-drop, length-take}
 use Rattle.std.proofs.lemmas.List.Elements.{All-append, All-drop, All-take}
@@ -10,9 +10,9 @@ use Rattle.sketch_frequencies.specs.Sizes.{size_fault}
 use Rattle.sketch_frequencies.specs.State.{FrequentState}
 use Rattle.sketch_frequencies.specs.Steps.{Steps}
 use Rattle.heavy_windows.specs.Fresh.{fresh_state}
-use Rattle.heavy_windows.specs.Newest.{newest, with_newest, latest, turned}
+use Rattle.heavy_windows.specs.Newest.{newest, latest, turned}
 use Rattle.heavy_windows.specs.Sizes.{limits_fault}
-use Rattle.heavy_windows.specs.State.{WindowsState, known, at_tenant, AreKept, IsWindows}
+use Rattle.heavy_windows.specs.State.{AreKept}
 use Rattle.heavy_windows.specs.Steps.{AddsToNewest}
 
 neither : (a b : Bool) → (a || b) ≡ false → a ≡ false
@@ -25,7 +25,7 @@ no_fault true fault other e = absurd (cc e)
 no_fault false fault other e = (refl, e)
 
 -- the limits of windows that are not refused
-pub limit_is_some : (limit max_map_size : ℕ) → limits_fault limit max_map_size ≡ None → 0 < limit
+limit_is_some : (limit max_map_size : ℕ) → limits_fault limit max_map_size ≡ None → 0 < limit
 limit_is_some limit max_map_size e =
     let n = no_fault (nat_lt limit 1 || nat_lt 1024 limit) BadWindows (size_fault max_map_size) e in
     ltb-false limit 1 (neither (nat_lt limit 1) (nat_lt 1024 limit) n.0)
@@ -38,7 +38,7 @@ module _ {T : Type 0} where
       → All (λ w. w.max_size ≡ max_map_size) (window ∷ [])
   one_of_size max_map_size window e = grind (arith, e)
 
-  pub kept_one : (limit max_map_size : ℕ) (window : FrequentState T) → 0 < limit → window.max_size ≡ max_map_size
+  kept_one : (limit max_map_size : ℕ) (window : FrequentState T) → 0 < limit → window.max_size ≡ max_map_size
       → AreKept limit max_map_size (window ∷ [])
   kept_one limit max_map_size window some e = record {
     some = omega arith;
@@ -57,15 +57,15 @@ module _ {T : Type 0} where
       let few = is.few in
       ⊎_elim
       (λ (over : limit < length all).
-        subst (λ (b : Bool). AreKept limit max_map_size (if b then drop 1 all else all)) (sym (lt-ltb limit (length all) over))
-        (record {
-          some = omega (arith, some, n, length-drop 1 all);
-          few = omega (arith, few, n, length-drop 1 all);
-          sizes = All-drop (λ w. w.max_size ≡ max_map_size) 1 all sizes;
-        }))
+      subst (λ (b : Bool). AreKept limit max_map_size (if b then drop 1 all else all)) (sym (lt-ltb limit (length all) over))
+      (record {
+        some = omega (arith, some, n, length-drop 1 all);
+        few = omega (arith, few, n, length-drop 1 all);
+        sizes = All-drop (λ w. w.max_size ≡ max_map_size) 1 all sizes;
+      }))
       (λ (fits : length all ≤ limit).
-        subst (λ (b : Bool). AreKept limit max_map_size (if b then drop 1 all else all)) (sym (le-ltb limit (length all) fits))
-        (record { some = omega (arith, n); few = fits; sizes = sizes }))
+      subst (λ (b : Bool). AreKept limit max_map_size (if b then drop 1 all else all)) (sym (le-ltb limit (length all) fits))
+      (record { some = omega (arith, n); few = fits; sizes = sizes }))
       (cases_lt limit (length all))
 
   pub kept_turned : (limit max_map_size : ℕ) (windows : List (FrequentState T)) (window : FrequentState T)
@@ -123,3 +123,10 @@ module _ {T : Type 0} where
       kept_added eq limit max_map_size fresh old new item weight is e (adds fresh)
   kept_added_either eq limit max_map_size fresh old new item weight (Err x) is e adds same =
       subst (λ ws. AreKept limit max_map_size ws) (sym same) is
+
+  -- a first window
+  pub kept_first : (eq : T → T → Bool) (limit max_map_size : ℕ) (s s' : FrequentState T) (item : T) (weight : ℕ)
+      → limits_fault limit max_map_size ≡ None → s ≡ fresh_state max_map_size → Steps eq s item weight s'
+      → AreKept limit max_map_size (s' ∷ [])
+  kept_first eq limit max_map_size s s' item weight good e step =
+      kept_one limit max_map_size s' (limit_is_some limit max_map_size good) (step.max_size ∙ ap (λ w. w.max_size) e)

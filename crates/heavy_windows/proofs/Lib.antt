@@ -7,3 +7,4 @@ pub mod Merging
 pub mod Tenants
 pub mod Kept
 pub mod Reports
+pub mod Sums

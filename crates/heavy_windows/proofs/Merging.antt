@@ -1,17 +1,16 @@
 -- Windows that are merged one after another.
-use Rattle.std.proofs.Common.{◌≡◌, ℕ, ◌+◌, ◌<◌, ◌≤◌, ◌^◌, Bool, List, [], ◌∷◌, ◌++◌, length, sum_by, refl, sym, subst, ap, ◌∙◌, ⊎_elim, arith}
+use Rattle.std.proofs.Common.{◌≡◌, ℕ, ◌+◌, ◌<◌, ◌^◌, Bool, List, [], ◌∷◌, ◌++◌, length, refl, sym, subst, ap, ⊎_elim, arith}
 use Rattle.std.proofs.Math.Nat.{eq-zero-or-pos}
 use Rattle.std.proofs.lemmas.List.Sums.{sum_by-cons}
-use Rattle.std.specs.List.{AllZip, fold}
+use Rattle.std.specs.List.{fold}
 use Rattle.sketch_frequencies.specs.History.{FrequentHistory}
 use Rattle.sketch_frequencies.specs.History.FrequentHistory.{Merge}
 use Rattle.sketch_frequencies.specs.Stands.{StandsFor, KeepsTailBudget, ExtendsBoth, ExtendsBothBudgets}
 use Rattle.sketch_frequencies.specs.State.{FrequentState, IsState}
 use Rattle.sketch_frequencies.specs.Steps.{JoinsEqual}
 use Rattle.heavy_windows.specs.Fresh.{fresh_state, fresh_history}
-use Rattle.heavy_windows.specs.Histories.{report_history}
 use Rattle.heavy_windows.specs.Merging.{MergesAll, IsMerged}
-use Rattle.heavy_windows.specs.Stands.{IsWindowOf, WindowsStandFor}
+use Rattle.heavy_windows.specs.Stands.{WindowsStandFor}
 use Rattle.heavy_windows.specs.State.{windows_total}
 
 module _ {T : Type 0} (eq : T → T → Bool) where

@@ -1,17 +1,15 @@
 -- What a report says, from what its sketch says.
-use Rattle.std.proofs.Common.{◌≡◌, ℕ, ◌+◌, ◌-◌, ◌*◌, ◌/◌, ◌<◌, ◌≤◌, min, max, Bool, true, List, [], ◌∷◌, length, All, Result, Ok, Err, IfOk, refl, ap, sym, ◌∙◌, subst, arith}
-use Rattle.std.specs.List.{AllZip, fold, list_any}
-use Rattle.sketch_frequencies.specs.History.{FrequentHistory, least_sample, budget_size, true_weight, weight_outside}
+use Rattle.std.proofs.Common.{◌≡◌, ℕ, ◌+◌, ◌-◌, ◌*◌, ◌/◌, ◌≤◌, Bool, List, [], ◌∷◌, length, Result, Ok, Err, IfOk, refl, ap, sym, ◌∙◌, subst, arith}
+use Rattle.std.specs.List.{fold}
+use Rattle.sketch_frequencies.specs.History.{FrequentHistory, least_sample, budget_size, weight_outside}
 use Rattle.sketch_frequencies.specs.History.FrequentHistory.{Merge}
-use Rattle.sketch_frequencies.specs.RowValue.{RowValue}
-use Rattle.sketch_frequencies.specs.Rows as rows
 use Rattle.sketch_frequencies.specs.Stands.{StandsFor, KeepsTailBudget}
 use Rattle.sketch_frequencies.specs.State.{FrequentState, IsState, greatest_sample_size}
 use Rattle.sketch_frequencies.specs.Tables.{sum_outside}
 use Rattle.heavy_windows.specs.Fresh.{fresh_state, fresh_history, window_budget}
 use Rattle.heavy_windows.specs.Histories.{report_history}
 use Rattle.heavy_windows.specs.Merging.{IsMerged}
-use Rattle.heavy_windows.specs.Stands.{IsWindowOf, WindowsStandFor}
+use Rattle.heavy_windows.specs.Stands.{WindowsStandFor}
 use Rattle.heavy_windows.proofs.Merging.{chain_merged}
 
 module _ {T : Type 0} (eq : T → T → Bool) where
@@ -48,7 +46,7 @@ module _ {T : Type 0} (eq : T → T → Bool) where
   paid_by_tail max_map_size windows merged is error e hs z set fits =
       let b = budget_merged max_map_size windows hs z in
       let all : sum_outside eq set merged.counters + (budget_size (report_history max_map_size hs) - length set) * merged.error ≤ weight_outside eq set (report_history max_map_size hs) =
-          is.budget hs z set (subst (λ (n : ℕ). length set ≤ n) (sym b) fits) in
+      is.budget hs z set (subst (λ (n : ℕ). length set ≤ n) (sym b) fits) in
       let same : (window_budget max_map_size - length set) * error ≡ (budget_size (report_history max_map_size hs) - length set) * merged.error =
-          ap (λ (n : ℕ). (n - length set) * error) (sym b) ∙ ap (λ (n : ℕ). (budget_size (report_history max_map_size hs) - length set) * n) e in
+      ap (λ (n : ℕ). (n - length set) * error) (sym b) ∙ ap (λ (n : ℕ). (budget_size (report_history max_map_size hs) - length set) * n) e in
       omega (arith, all, same)

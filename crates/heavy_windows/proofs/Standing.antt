@@ -1,13 +1,12 @@
 -- What windows stand for after a call.
-use Rattle.std.proofs.Common.{◌≡◌, ℕ, ◌+◌, ◌-◌, Bool, List, [], ◌∷◌, ◌++◌, take, length, refl, ap, sym, subst}
-use Rattle.std.specs.List.{AllZip}
+use Rattle.std.proofs.Common.{◌≡◌, ℕ, Bool, List, [], ◌∷◌, ◌++◌, refl, sym, subst}
 use Rattle.sketch_frequencies.specs.History.{FrequentHistory}
 use Rattle.sketch_frequencies.specs.History.FrequentHistory.{Update}
 use Rattle.sketch_frequencies.specs.Stands.{StandsFor, KeepsTailBudget, Extends, ExtendsBudget}
 use Rattle.sketch_frequencies.specs.State.{FrequentState}
-use Rattle.heavy_windows.specs.Fresh.{fresh_state, fresh_history}
+use Rattle.heavy_windows.specs.Fresh.{fresh_history}
 use Rattle.heavy_windows.specs.Histories.{added_history, turned_history}
-use Rattle.heavy_windows.specs.Newest.{newest, with_newest, turned}
+use Rattle.heavy_windows.specs.Newest.{turned}
 use Rattle.heavy_windows.specs.Stands.{IsWindowOf, WindowsStandFor, ExtendsEach}
 use Rattle.heavy_windows.proofs.Newest.{newest_last, with_newest_last}
 use Rattle.heavy_windows.proofs.Zips.{ends, zip_push, zip_turned}
@@ -36,7 +35,7 @@ module _ {T : Type 0} (eq : T → T → Bool) where
       let e = ends (IsWindowOf eq max_map_size) older s hs z in
       subst (λ gs. WindowsStandFor eq max_map_size (older ++ s' ∷ []) gs) (sym (added_last max_map_size item weight hs e.front e.last e.whole))
       (zip_push (IsWindowOf eq max_map_size) older e.front s' (Update e.last item weight) e.zip
-        (window_updated max_map_size s s' item weight e.last stands budget e.related))
+      (window_updated max_map_size s s' item weight e.last stands budget e.related))
 
   -- a first window
   pub first_updated : (max_map_size : ℕ) (s s' : FrequentState T) (item : T) (weight : ℕ)
@@ -61,7 +60,7 @@ module _ {T : Type 0} (eq : T → T → Bool) where
   opened_at limit max_map_size s windows before after b a fresh =
       subst (λ ws. ExtendsEach eq max_map_size ws after (turned_history limit max_map_size)) (sym b)
       (subst (λ ws. ExtendsEach eq max_map_size windows ws (turned_history limit max_map_size)) (sym a)
-        (opened limit max_map_size s windows fresh))
+      (opened limit max_map_size s windows fresh))
 
   -- a new sketch is one of a fresh window
   pub fresh_window : (max_map_size : ℕ) (s : FrequentState T) → StandsFor eq s (fresh_history max_map_size)
@@ -77,4 +76,4 @@ module _ {T : Type 0} (eq : T → T → Bool) where
   first_at max_map_size s s' item weight before after b a stands budget fresh =
       subst (λ ws. ExtendsEach eq max_map_size ws after (added_history max_map_size item weight)) (sym b)
       (subst (λ ws. ExtendsEach eq max_map_size [] ws (added_history max_map_size item weight)) (sym a)
-        (first_updated max_map_size s s' item weight stands budget fresh))
+      (first_updated max_map_size s s' item weight stands budget fresh))

@@ -1,8 +1,7 @@
 -- What an update does to windows.
-use Rattle.std.proofs.Common.{◌≡◌, ℕ, ◌+◌, ◌-◌, Bool, List, [], ◌∷◌, ◌++◌, length, take, sym, subst}
+use Rattle.std.proofs.Common.{◌≡◌, ℕ, Bool, List, [], ◌∷◌, ◌++◌, sym, subst}
 use Rattle.sketch_frequencies.specs.State.{FrequentState}
 use Rattle.sketch_frequencies.specs.Steps.{Steps}
-use Rattle.heavy_windows.specs.Newest.{newest, with_newest}
 use Rattle.heavy_windows.specs.Steps.{AddsToNewest}
 use Rattle.heavy_windows.proofs.Newest.{newest_last, with_newest_last}
 

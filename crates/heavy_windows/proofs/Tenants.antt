@@ -1,5 +1,5 @@
 -- The windows of one tenant among those of all.
-use Rattle.std.proofs.Common.{◌≡◌, ◌≢◌, ℕ, ◌<◌, ◌≤◌, ◌==◌, Bool, true, false, cond, List, [], ◌∷◌, length, Option, Some, None, IfSome, unwrap_or, refl, sym, ◌∙◌, ap, subst, arith, ⊎_elim}
+use Rattle.std.proofs.Common.{◌≡◌, ◌≢◌, ℕ, ◌==◌, Bool, false, cond, List, [], Some, unwrap_or, refl, sym, ◌∙◌, ap, subst, arith, ⊎_elim}
 use Rattle.std.proofs.lemmas.Bool.{cases_eq, eq-eqb}
 use Rattle.std.proofs.Math.Dec.{eqb}
 use Rattle.std.proofs.lemmas.Map.Steps.{set_value_same}
@@ -46,27 +46,36 @@ module _ {T : Type 0} where
     limits = rw (p.limit, p.max_map_size) is.limits;
     each = λ other. rw (p.limit, p.max_map_size)
         (⊎_elim
-          (λ (same : other ≡ tenant). rw (same, put_known tenant windows old new p) kept)
-          (λ (apart : other ≡ tenant → ⊥). rw (known_other tenant windows old new p other apart) (is.each other))
-          (cases_eq other tenant));
+        (λ (same : other ≡ tenant). rw (same, put_known tenant windows old new p) kept)
+        (λ (apart : other ≡ tenant → ⊥). rw (known_other tenant windows old new p other apart) (is.each other))
+        (cases_eq other tenant));
   }
 
   -- the same of a map that was written
   pub put_in : (tenant limit max_map_size : ℕ) (old new : List (ℕ × List (FrequentState T))) (windows : List (FrequentState T))
       → ((other : ℕ) → lookup (eqb other) new ≡ cond (eqb tenant other) (Some windows) (lookup (eqb other) old))
       → PutsWindows tenant windows
-        (record { limit = limit; max_map_size = max_map_size; tenants = old })
-        (record { limit = limit; max_map_size = max_map_size; tenants = new })
+      (record { limit = limit; max_map_size = max_map_size; tenants = old })
+      (record { limit = limit; max_map_size = max_map_size; tenants = new })
   put_in tenant limit max_map_size old new windows e = record { limit = refl; max_map_size = refl; each = e }
 
+  -- the map was left as it was
+  pub put_none : (limit max_map_size : ℕ) (old new : List (ℕ × List (FrequentState T))) (now : WindowsState T)
+      → record { limit = limit; max_map_size = max_map_size; tenants = old } ≡ now → new ≡ old
+      → record { limit = limit; max_map_size = max_map_size; tenants = new } ≡ now
+  put_none limit max_map_size old new now e same =
+      subst
+      (λ (es : List (ℕ × List (FrequentState T))). record { limit = limit; max_map_size = max_map_size; tenants = es } ≡ now)
+      (sym same) e
+
   -- what was found, written back, changes nothing
-  pub put_back : (tenant limit max_map_size : ℕ) (old new : List (ℕ × List (FrequentState T))) (windows : List (FrequentState T))
-      (now : WindowsState T) → record { limit = limit; max_map_size = max_map_size; tenants = old } ≡ now
+  pub put_back : (tenant limit max_map_size : ℕ) (old new : List (ℕ × List (FrequentState T)))
+      (windows : List (FrequentState T)) (now : WindowsState T)
+      → record { limit = limit; max_map_size = max_map_size; tenants = old } ≡ now
       → lookup (eqb tenant) old ≡ Some windows → new ≡ set_value (eqb tenant) old windows
       → record { limit = limit; max_map_size = max_map_size; tenants = new } ≡ now
   put_back tenant limit max_map_size old new windows now e found written =
-      let same : new ≡ old = written ∙ set_value_same (eqb tenant) old windows found in
-      ap (λ (es : List (ℕ × List (FrequentState T))). record { limit = limit; max_map_size = max_map_size; tenants = es }) same ∙ e
+      put_none limit max_map_size old new now e (written ∙ set_value_same (eqb tenant) old windows found)
 
   pub same_changes : (tenant : ℕ) (old new : WindowsState T) → new ≡ old → OnlyChanges tenant old new
   same_changes tenant old new e = subst (λ s. OnlyChanges tenant old s) (sym e)

@@ -7,11 +7,11 @@ use Rattle.sketch_frequencies.specs.declared.error_type.ErrorType.{ErrorType}
 use Rattle.sketch_frequencies.specs.declared.error_type.ErrorType.TheVariants.{NoFalseNegatives, NoFalsePositives}
 use Rattle.heavy_windows.specs.Fresh.{fresh_state}
 use Rattle.heavy_windows.specs.Histories.{added_history, turned_history}
-use Rattle.heavy_windows.specs.Newest.{newest, turned}
+use Rattle.heavy_windows.specs.Newest.{turned}
 use Rattle.heavy_windows.specs.Reports.{Reports, HasTotal, MissesNone, ShowsNoneBelow, IsPaidByTail}
 use Rattle.heavy_windows.specs.Sizes.{limits_fault}
-use Rattle.heavy_windows.specs.Stands.{ExtendsEach}
-use Rattle.heavy_windows.specs.State.{WindowsState, at_tenant, nothing_added, windows_total, OnlyChanges}
+use Rattle.heavy_windows.specs.Stands.{ExtendsWindows}
+use Rattle.heavy_windows.specs.State.{WindowsState, at_tenant, newest_of, nothing_added, windows_total, OnlyChanges}
 use Rattle.heavy_windows.specs.Steps.{AddsToNewest}
 use Rattle.heavy_windows.specs.declared.report.Report.{Report}
 
@@ -27,26 +27,20 @@ module _ {T : Type 0} (eq : T → T → Bool) where
       (new : WindowsState T) : Type 0 where
     pub zero : weight ≡ 0 → IsOk result × (new ≡ old)
     pub adds : OnOk result (0 < weight → AddsToNewest eq (fresh_state old.max_map_size) (at_tenant tenant old) item weight (at_tenant tenant new))
-    pub stands :
-        OnOk result (0 < weight → ExtendsEach eq old.max_map_size (at_tenant tenant old) (at_tenant tenant new) (added_history old.max_map_size item weight))
+    pub stands : OnOk result (0 < weight → ExtendsWindows eq tenant old new (added_history old.max_map_size item weight))
     pub others : OnlyChanges tenant old new
     pub err : OnErr result (new ≡ old)
-    pub overflow :
-        0 < weight → Overflows (newest (fresh_state old.max_map_size) (at_tenant tenant old)) weight →
-        IsErrOf result (invalid_argument WeightOverflow)
-    pub memory :
-        Fits (newest (fresh_state old.max_map_size) (at_tenant tenant old)) weight → IfErr result (λ e. e ≡ no_memory)
+    pub overflow : 0 < weight → Overflows (newest_of tenant old) weight → IsErrOf result (invalid_argument WeightOverflow)
+    pub memory : Fits (newest_of tenant old) weight → IfErr result (λ e. e ≡ no_memory)
     pub succeeds :
-        Fits (newest (fresh_state old.max_map_size) (at_tenant tenant old)) weight →
-        must_double eq (newest (fresh_state old.max_map_size) (at_tenant tenant old)) item ≡ false →
+        Fits (newest_of tenant old) weight → must_double eq (newest_of tenant old) item ≡ false →
         at_tenant tenant old ≢ [] → IsOk result
 
   -- an empty window was opened for a tenant, or refused
   pub record IsTurn (tenant : ℕ) (old : WindowsState T) (result : Result ⊤ ErrorValue) (new : WindowsState T) :
       Type 0 where
     pub turns : OnOk result (at_tenant tenant new ≡ turned old.limit (fresh_state old.max_map_size) (at_tenant tenant old))
-    pub stands :
-        OnOk result (ExtendsEach eq old.max_map_size (at_tenant tenant old) (at_tenant tenant new) (turned_history old.limit old.max_map_size))
+    pub stands : OnOk result (ExtendsWindows eq tenant old new (turned_history old.limit old.max_map_size))
     pub others : OnlyChanges tenant old new
     pub unknown : at_tenant tenant old ≡ [] → IsOk result × (new ≡ old)
     pub err : OnErr result (new ≡ old)

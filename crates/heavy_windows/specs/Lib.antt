@@ -7,6 +7,7 @@ pub mod Stands
 pub mod Steps
 pub mod Merging
 pub mod Reports
+pub mod Laws
 pub mod Calls
 -- what a crate above names of those below
 pub use Rattle.sketch_base.specs.Errors

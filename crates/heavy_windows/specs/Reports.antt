@@ -2,7 +2,6 @@
 use Rattle.std.specs.Prelude.{◌≡◌, ℕ, ◌-◌, ◌*◌, ◌<◌, ◌≤◌, max, Bool, true, List, length, All}
 use Rattle.std.specs.List.{list_any}
 use Rattle.sketch_frequencies.specs.History.{FrequentHistory, true_weight, total_weight, weight_outside}
-use Rattle.sketch_frequencies.specs.RowValue.{RowValue}
 use Rattle.sketch_frequencies.specs.Rows.{ShowsExactly, Descends}
 use Rattle.sketch_frequencies.specs.State.{FrequentState}
 use Rattle.sketch_frequencies.specs.declared.error_type.ErrorType.{ErrorType}

@@ -5,6 +5,7 @@ use Rattle.sketch_frequencies.specs.History.{FrequentHistory}
 use Rattle.sketch_frequencies.specs.Stands.{StandsFor, KeepsTailBudget}
 use Rattle.sketch_frequencies.specs.State.{FrequentState}
 use Rattle.heavy_windows.specs.Fresh.{SamplesAsWindow}
+use Rattle.heavy_windows.specs.State.{WindowsState, at_tenant}
 
 module _ {T : Type 0} (eq : T → T → Bool) where
   -- the window is one of this history, keeps its tail budget, and samples as one of this greatest size
@@ -22,3 +23,9 @@ module _ {T : Type 0} (eq : T → T → Bool) where
       ℕ → List (FrequentState T) → List (FrequentState T) → (List (FrequentHistory T) → List (FrequentHistory T)) → Type 0
   ExtendsEach max_map_size old new extended =
       (hs : List (FrequentHistory T)) → WindowsStandFor max_map_size old hs → WindowsStandFor max_map_size new (extended hs)
+
+  -- the same of the windows of a tenant
+  abbrev pub ExtendsWindows :
+      ℕ → WindowsState T → WindowsState T → (List (FrequentHistory T) → List (FrequentHistory T)) → Type 0
+  ExtendsWindows tenant old new extended =
+      ExtendsEach old.max_map_size (at_tenant tenant old) (at_tenant tenant new) extended

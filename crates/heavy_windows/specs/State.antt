@@ -2,6 +2,8 @@
 use Rattle.std.specs.Prelude.{◌≡◌, ◌≢◌, ℕ, ◌<◌, ◌≤◌, ◌==◌, List, [], length, sum_by, All, Option, None, unwrap_or, IfSome}
 use Rattle.std.specs.Map.{lookup}
 use Rattle.sketch_frequencies.specs.State.{FrequentState}
+use Rattle.heavy_windows.specs.Fresh.{fresh_state}
+use Rattle.heavy_windows.specs.Newest.{newest}
 use Rattle.heavy_windows.specs.Sizes.{limits_fault}
 
 -- how many windows a tenant may have, the greatest table size of each, and the windows of each tenant, oldest first, in
@@ -19,6 +21,10 @@ module _ {T : Type 0} where
   -- the same; an unknown tenant has none
   abbrev pub at_tenant : ℕ → WindowsState T → List (FrequentState T)
   at_tenant tenant s = unwrap_or (known tenant s) []
+
+  -- the newest of them, or a fresh one
+  abbrev pub newest_of : ℕ → WindowsState T → FrequentState T
+  newest_of tenant s = newest (fresh_state s.max_map_size) (at_tenant tenant s)
 
   -- no tenant
   abbrev pub nothing_added : ℕ → ℕ → WindowsState T

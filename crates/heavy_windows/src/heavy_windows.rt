@@ -1,15 +1,15 @@
 //! Windows of many tenants.
-ghost use Rattle.std.specs.Prelude.{◌≡◌, ◌≢◌, ◌<◌, ◌≤◌, ◌^◌, [], false, None, IfOk, IfErr, IsOk, IsTrue, OnOk, OnErr, IsErrOf};
+ghost use Rattle.std.specs.Prelude.{◌≡◌, ◌≢◌, ℕ, ◌<◌, ◌≤◌, ◌^◌, [], false, None, IfOk, IfErr, IsOk, IsTrue, OnOk, OnErr, IsErrOf};
 ghost use Rattle.sketch_base.specs.Errors.{invalid_argument, no_memory, refusal_of};
 ghost use Rattle.sketch_frequencies.specs.State.{Overflows, Fits, must_double};
 ghost use Rattle.heavy_windows.specs.Fresh.{fresh_state};
 ghost use Rattle.heavy_windows.specs.Histories.{added_history, turned_history};
 ghost use Rattle.heavy_windows.specs.Merging.{IsMerged};
-ghost use Rattle.heavy_windows.specs.Newest.{newest, turned};
+ghost use Rattle.heavy_windows.specs.Newest.{turned};
 ghost use Rattle.heavy_windows.specs.Reports.{Reports, HasTotal, MissesNone, ShowsNoneBelow, IsPaidByTail};
 ghost use Rattle.heavy_windows.specs.Sizes.{limits_fault};
-ghost use Rattle.heavy_windows.specs.Stands.{ExtendsEach};
-ghost use Rattle.heavy_windows.specs.State.{at_tenant, nothing_added, windows_total, IsWindows, OnlyChanges};
+ghost use Rattle.heavy_windows.specs.Stands.{WindowsStandFor, ExtendsWindows};
+ghost use Rattle.heavy_windows.specs.State.{at_tenant, newest_of, nothing_added, windows_total, IsWindows, OnlyChanges};
 ghost use Rattle.heavy_windows.specs.Steps.{AddsToNewest};
 
 use crate::report::Report;
@@ -21,8 +21,10 @@ use std::collections::HashMap;
 use std::hash::Hash;
 use std::marker::Model;
 
-/// The least and the greatest table sizes of a window.
+/// The least table size that a window may be limited to.
 const LEAST_MAP_SIZE: usize = 8;
+
+/// The greatest.
 const GREATEST_MAP_SIZE: usize = 1 << 30;
 
 /// The most windows that a tenant may have.
@@ -62,6 +64,7 @@ impl<T: Eq + Hash + Drop> HeavyWindows<T> {
     pub fn new(alloc: Global, windows: usize, max_map_size: usize) -> Result<Self, Error>
         ensures ok { IfOk result (λ w. w ≡ nothing_added windows max_map_size) }
         ensures state { IfOk result IsWindows }
+        ensures stands { IfOk result (λ w. (tenant : ℕ) → WindowsStandFor T.eq max_map_size (at_tenant tenant w) []) }
         ensures accepted { limits_fault windows max_map_size ≡ None → IsOk result }
         ensures refused { IfErr result (λ e. e ≡ refusal_of (limits_fault windows max_map_size)) }
     {
@@ -89,19 +92,19 @@ impl<T: Eq + Hash + Drop> HeavyWindows<T> {
         ensures state { IsWindows self.new }
 
         // What the windows stood for, they stand for with the weight added to the newest.
-        ensures stands { OnOk result (0 < weight → ExtendsEach T.eq self.old.max_map_size
-            (at_tenant tenant self.old) (at_tenant tenant self.new) (added_history self.old.max_map_size item weight)) }
+        ensures stands { OnOk result (0 < weight → ExtendsWindows T.eq tenant self.old self.new
+            (added_history self.old.max_map_size item weight)) }
 
         // No other tenant's windows change, and a refusal changes nothing.
         ensures others { OnlyChanges tenant self.old self.new }
         ensures err { OnErr result (self.new ≡ self.old) }
         ensures overflow { 0 < weight
-            → Overflows (newest (fresh_state self.old.max_map_size) (at_tenant tenant self.old)) weight
+            → Overflows (newest_of tenant self.old) weight
             → IsErrOf result (invalid_argument Fault.WeightOverflow) }
-        ensures memory { Fits (newest (fresh_state self.old.max_map_size) (at_tenant tenant self.old)) weight
+        ensures memory { Fits (newest_of tenant self.old) weight
             → IfErr result (λ e. e ≡ no_memory) }
-        ensures succeeds { Fits (newest (fresh_state self.old.max_map_size) (at_tenant tenant self.old)) weight
-            → must_double T.eq (newest (fresh_state self.old.max_map_size) (at_tenant tenant self.old)) item ≡ false
+        ensures succeeds { Fits (newest_of tenant self.old) weight
+            → must_double T.eq (newest_of tenant self.old) item ≡ false
             → at_tenant tenant self.old ≢ [] → IsOk result }
     {
         // for the prover: a look at a field brings in what holds of all windows
@@ -131,8 +134,7 @@ impl<T: Eq + Hash + Drop> HeavyWindows<T> {
         ensures state { IsWindows self.new }
 
         // What the windows stood for, they stand for with an empty one behind them, and without the dropped one.
-        ensures stands { OnOk result (ExtendsEach T.eq self.old.max_map_size
-            (at_tenant tenant self.old) (at_tenant tenant self.new)
+        ensures stands { OnOk result (ExtendsWindows T.eq tenant self.old self.new
             (turned_history self.old.limit self.old.max_map_size)) }
 
         // No other tenant's windows change, and a refusal changes nothing.

@@ -12,6 +12,7 @@
 #![tactic(auto)]
 
 mod heavy_windows;
+pub mod laws;
 mod report;
 #[cfg(test)]
 mod tests;

@@ -1,26 +1,25 @@
-use Rattle.std.proofs.Common.{◌≡◌, ◌<◌, ℕ, arith, List, [], ◌∷◌, Some, unwrap_or, refl, ap, sym, ◌∙◌, subst}
+use Rattle.std.proofs.Common.{◌≡◌, ◌<◌, arith, [], ◌∷◌, Some, unwrap_or, refl, ap, sym, subst}
 use Rattle.std.proofs.Math.Dec.{eqb}
-use Rattle.std.proofs.lemmas.Result.{err_from_is_err_and, on_ok_weaker, on_err_weaker}
+use Rattle.std.proofs.lemmas.Result.{on_err_weaker}
 use Rattle.std.specs.Map.{lookup}
-use Rattle.std.specs.Result.{OnOk}
 use Rattle.sketch_frequencies.specs.Steps.{Steps}
-use Rattle.heavy_windows.specs.Fresh.{fresh_state, fresh_history}
+use Rattle.heavy_windows.specs.Fresh.{fresh_state}
 use Rattle.heavy_windows.specs.Histories.{added_history}
 use Rattle.heavy_windows.specs.Stands.{ExtendsEach}
-use Rattle.heavy_windows.specs.State.{WindowsState, IsWindows, OnlyChanges, AreKept, at_tenant}
+use Rattle.heavy_windows.specs.State.{WindowsState, OnlyChanges, at_tenant}
 use Rattle.heavy_windows.specs.Steps.{AddsToNewest}
-use Rattle.heavy_windows.proofs.Kept.{kept_added_either, kept_one, limit_is_some}
+use Rattle.heavy_windows.proofs.Kept.{kept_added_either, kept_first}
 use Rattle.heavy_windows.proofs.Standing.{fresh_window, first_at}
 use Rattle.heavy_windows.proofs.Steps.{adds_first}
-use Rattle.heavy_windows.proofs.Tenants.{PutsWindows, kept_of, put_in, put_at, put_kept, put_others, put_back, same_changes}
+use Rattle.heavy_windows.proofs.Tenants.{PutsWindows, kept_of, put_in, put_at, put_kept, put_others, put_back, put_none, same_changes}
 use Rattle.heavy_windows.proofs.heavy_windows.HeavyWindows.add.Given as given
 use Rattle.heavy_windows.proofs.heavy_windows.HeavyWindows.add.Goals as goal
 
 -- the newest window was updated, or left as it was
 put : (g : given.Over) (c : goal.After-self-in-Some-1 g)
     → PutsWindows c.args.tenant c.add.new.self
-      (record { limit = c.self.inside.limit; max_map_size = c.self.inside.max_map_size; tenants = c.self.inside.tenants.entries })
-      (record { limit = c.self.inside.limit; max_map_size = c.self.inside.max_map_size; tenants = (c.get_mut.follows.lender c.add.new.self).entries })
+    (record { limit = c.self.inside.limit; max_map_size = c.self.inside.max_map_size; tenants = c.self.inside.tenants.entries })
+    (record { limit = c.self.inside.limit; max_map_size = c.self.inside.max_map_size; tenants = (c.get_mut.follows.lender c.add.new.self).entries })
 put g c =
     let found : lookup (eqb c.args.tenant) c.self.inside.tenants.entries ≡ Some c.in-Some.windows.now = sym c.in-Some.ensures.value in
     put_in c.args.tenant c.self.inside.limit c.self.inside.max_map_size c.self.inside.tenants.entries (c.get_mut.follows.lender c.add.new.self).entries c.add.new.self
@@ -31,8 +30,8 @@ invariant_of-self g c =
     let old : WindowsState g.row.T.Denot = record { limit = c.self.inside.limit; max_map_size = c.self.inside.max_map_size; tenants = c.self.inside.tenants.entries } in
     put_kept c.args.tenant c.add.new.self old _ (put g c)
     (kept_added_either g.T.PartialEq.eq c.self.inside.limit c.self.inside.max_map_size (fresh_state c.self.inside.max_map_size) c.in-Some.windows.now c.add.new.self c.args.item c.args.weight c.add.result
-      (kept_of c.args.tenant old c.in-Some.windows.now c.self.invariant (sym c.in-Some.ensures.value))
-      refl c.add.ensures.adds c.add.ensures.err)
+    (kept_of c.args.tenant old c.in-Some.windows.now c.self.invariant (sym c.in-Some.ensures.value))
+    refl c.add.ensures.adds c.add.ensures.err)
     c.self.invariant
 
 pub returns-in-Some-clause-state : goal.returns-in-Some-clause-state
@@ -52,15 +51,16 @@ returns-in-Some-clause-err g c =
 
 pub returns-in_err-insert-clause-others : goal.returns-in_err-insert-clause-others
 returns-in_err-insert-clause-others g c =
-    let old : WindowsState g.row.T.Denot = record { limit = c.self.inside.limit; max_map_size = c.self.inside.max_map_size; tenants = c.self.inside.tenants.entries } in
-    let e = c.in_err-insert.ensures.err ∙ ap (λ m. m.entries) c.get_mut.follows.holds-at-none in
-    same_changes c.args.tenant c.args.self.now _ (ap (λ es. record old { tenants = es }) e ∙ c.self.view_is)
+    let old = c.self.inside.tenants.entries in
+    let same : c.insert.new.self.entries ≡ old = rw c.get_mut.follows.holds-at-none at c.in_err-insert.ensures.err in
+    let new : WindowsState g.row.T.Denot = record { limit = c.self.inside.limit; max_map_size = c.self.inside.max_map_size; tenants = c.insert.new.self.entries } in
+    same_changes c.args.tenant c.args.self.now new (put_none c.self.inside.limit c.self.inside.max_map_size old c.insert.new.self.entries c.args.self.now c.self.view_is same)
 
 -- an unknown tenant got a first window
 put_first : (g : given.Over) (c : goal.Joined-branch-4 g)
     → PutsWindows c.args.tenant (c.update_with_count.new.self ∷ [])
-      (record { limit = c.self.inside.limit; max_map_size = c.self.inside.max_map_size; tenants = c.self.inside.tenants.entries })
-      (record { limit = c.self.inside.limit; max_map_size = c.self.inside.max_map_size; tenants = c.insert.new.self.entries })
+    (record { limit = c.self.inside.limit; max_map_size = c.self.inside.max_map_size; tenants = c.self.inside.tenants.entries })
+    (record { limit = c.self.inside.limit; max_map_size = c.self.inside.max_map_size; tenants = c.insert.new.self.entries })
 put_first g c =
     put_in c.args.tenant c.self.inside.limit c.self.inside.max_map_size c.self.inside.tenants.entries c.insert.new.self.entries (c.update_with_count.new.self ∷ [])
     (rw (c.new-windows.ensures, c.get_mut.follows.holds-at-none) at c.in_ok-insert.ensures.updates.0)
@@ -68,10 +68,9 @@ put_first g c =
 pub invariant_of-self-2 : goal.invariant_of-self-2
 invariant_of-self-2 g c =
     let old : WindowsState g.row.T.Denot = record { limit = c.self.inside.limit; max_map_size = c.self.inside.max_map_size; tenants = c.self.inside.tenants.entries } in
-    let some : 0 < c.args.weight = omega (arith, c.if-weight-eq0.false) in
-    let size = (c.in_ok-update_with_count.ensures.step some).max_size ∙ ap (λ s. s.max_size) c.in_ok-window.ensures.ok in
+    let some : 0 < c.args.weight = omega arith in
     put_kept c.args.tenant (c.update_with_count.new.self ∷ []) old _ (put_first g c)
-    (kept_one c.self.inside.limit c.self.inside.max_map_size c.update_with_count.new.self (limit_is_some c.self.inside.limit c.self.inside.max_map_size c.self.invariant.limits) size)
+    (kept_first g.T.PartialEq.eq c.self.inside.limit c.self.inside.max_map_size c.in_ok-window.window c.update_with_count.new.self c.args.item c.args.weight c.self.invariant.limits c.in_ok-window.ensures.ok (c.in_ok-update_with_count.ensures.step some))
     c.self.invariant
 
 pub returns-clause-state : goal.returns-clause-state
@@ -106,5 +105,5 @@ returns-clause-stands g c = λ some.
     let after = put_at tenant (c.update_with_count.new.self ∷ []) old new (put_first g c) in
     subst (λ (s : WindowsState g.row.T.Denot). ExtendsEach eq s.max_map_size (at_tenant tenant s) (at_tenant tenant new) (added_history s.max_map_size c.args.item c.args.weight)) c.self.view_is
     (first_at eq max_map_size c.in_ok-window.window c.update_with_count.new.self c.args.item c.args.weight (at_tenant tenant old) (at_tenant tenant new) before after
-      (c.in_ok-update_with_count.ensures.stands some) (c.in_ok-update_with_count.ensures.budget some)
-      (fresh_window eq max_map_size c.in_ok-window.window c.in_ok-window.ensures.stands c.in_ok-window.ensures.budget))
+    (c.in_ok-update_with_count.ensures.stands some) (c.in_ok-update_with_count.ensures.budget some)
+    (fresh_window eq max_map_size c.in_ok-window.window c.in_ok-window.ensures.stands c.in_ok-window.ensures.budget))

@@ -1,13 +1,11 @@
-use Rattle.std.proofs.Common.{◌≡◌, ℕ, List, [], Some, unwrap_or, refl, ap, sym, ◌∙◌, subst}
+use Rattle.std.proofs.Common.{◌≡◌, [], Some, unwrap_or, refl, ap, sym, ◌∙◌, subst}
 use Rattle.std.proofs.Math.Dec.{eqb}
 use Rattle.std.proofs.lemmas.Result.{err_from_is_err_and, on_ok_weaker, on_err_weaker}
 use Rattle.std.specs.Map.{lookup}
 use Rattle.std.specs.Result.{OnOk}
-use Rattle.heavy_windows.specs.Fresh.{fresh_state, fresh_history}
 use Rattle.heavy_windows.specs.Histories.{turned_history}
-use Rattle.heavy_windows.specs.Newest.{turned}
 use Rattle.heavy_windows.specs.Stands.{ExtendsEach}
-use Rattle.heavy_windows.specs.State.{WindowsState, IsWindows, OnlyChanges, AreKept, at_tenant}
+use Rattle.heavy_windows.specs.State.{WindowsState, IsWindows, OnlyChanges, at_tenant}
 use Rattle.heavy_windows.proofs.Kept.{kept_either}
 use Rattle.heavy_windows.proofs.Standing.{fresh_window, opened_at}
 use Rattle.heavy_windows.proofs.Tenants.{PutsWindows, kept_of, put_in, put_at, put_kept, put_others, put_back, same_changes}
@@ -38,8 +36,8 @@ returns-in_err-window-clause-err g c =
 -- the windows were turned, or left as they were
 put : (g : given.Over) (c : goal.After-self-2-1 g)
     → PutsWindows c.args.tenant c.turn.new.self
-      (record { limit = c.self.inside.limit; max_map_size = c.self.inside.max_map_size; tenants = c.self.inside.tenants.entries })
-      (record { limit = c.self.inside.limit; max_map_size = c.self.inside.max_map_size; tenants = (c.get_mut.follows.lender c.turn.new.self).entries })
+    (record { limit = c.self.inside.limit; max_map_size = c.self.inside.max_map_size; tenants = c.self.inside.tenants.entries })
+    (record { limit = c.self.inside.limit; max_map_size = c.self.inside.max_map_size; tenants = (c.get_mut.follows.lender c.turn.new.self).entries })
 put g c =
     let found : lookup (eqb c.args.tenant) c.self.inside.tenants.entries ≡ Some c.in-Some.windows.now = sym c.in-Some.ensures.value in
     put_in c.args.tenant c.self.inside.limit c.self.inside.max_map_size c.self.inside.tenants.entries (c.get_mut.follows.lender c.turn.new.self).entries c.turn.new.self
@@ -50,8 +48,8 @@ invariant_of-self-2 g c =
     let old : WindowsState g.row.T.Denot = record { limit = c.self.inside.limit; max_map_size = c.self.inside.max_map_size; tenants = c.self.inside.tenants.entries } in
     put_kept c.args.tenant c.turn.new.self old _ (put g c)
     (kept_either c.self.inside.limit c.self.inside.max_map_size c.in-Some.windows.now c.turn.new.self c.in_ok-window.window c.turn.result
-      (kept_of c.args.tenant old c.in-Some.windows.now c.self.invariant (sym c.in-Some.ensures.value))
-      (ap (λ s. s.max_size) c.in_ok-window.ensures.ok) c.turn.ensures.turned c.turn.ensures.err)
+    (kept_of c.args.tenant old c.in-Some.windows.now c.self.invariant (sym c.in-Some.ensures.value))
+    (ap (λ s. s.max_size) c.in_ok-window.ensures.ok) c.turn.ensures.turned c.turn.ensures.err)
     c.self.invariant
 
 pub returns-clause-state : goal.returns-clause-state
@@ -78,6 +76,6 @@ returns-clause-stands g c =
     let after = put_at tenant c.turn.new.self _ new (put g c) in
     subst (λ (s : WindowsState g.row.T.Denot). OnOk c.turn.result (ExtendsEach eq s.max_map_size (at_tenant tenant s) (at_tenant tenant new) (turned_history s.limit s.max_map_size))) c.self.view_is
     (on_ok_weaker c.turn.result
-      (λ done. opened_at eq c.self.inside.limit c.self.inside.max_map_size c.in_ok-window.window c.in-Some.windows.now _ (at_tenant tenant new) before (after ∙ done)
-        (fresh_window eq c.self.inside.max_map_size c.in_ok-window.window c.in_ok-window.ensures.stands c.in_ok-window.ensures.budget))
-      c.turn.ensures.turned)
+    (λ done. opened_at eq c.self.inside.limit c.self.inside.max_map_size c.in_ok-window.window c.in-Some.windows.now _ (at_tenant tenant new) before (after ∙ done)
+    (fresh_window eq c.self.inside.max_map_size c.in_ok-window.window c.in_ok-window.ensures.stands c.in_ok-window.ensures.budget))
+    c.turn.ensures.turned)

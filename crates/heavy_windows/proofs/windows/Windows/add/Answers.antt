@@ -1,6 +1,5 @@
-use Rattle.std.proofs.Common.{ℕ, ◌≡◌, ◌+◌, ◌<◌, ◌≤◌, ◌^◌, Bool, false, List, [], ◌∷◌, ◌++◌, subst}
+use Rattle.std.proofs.Common.{◌≡◌, [], ◌∷◌, ◌++◌, subst}
 use Rattle.std.proofs.lemmas.Result.{on_ok_weaker}
-use Rattle.sketch_frequencies.specs.State.{FrequentState, must_double}
 use Rattle.heavy_windows.specs.Histories.{added_history}
 use Rattle.heavy_windows.specs.Newest.{newest}
 use Rattle.heavy_windows.specs.Stands.{ExtendsEach}
@@ -20,7 +19,7 @@ pub returns-clause-stands : goal.returns-clause-stands
 returns-clause-stands g c =
     on_ok_both c.update_with_count.result
     (λ stands budget max_map_size. subst (λ ws. ExtendsEach g.T.PartialEq.eq max_map_size ws (c.self.inside.older.items ++ c.update_with_count.new.self ∷ []) (added_history max_map_size c.args.item c.args.weight)) c.self.view_is
-      (newest_updated g.T.PartialEq.eq max_map_size c.self.inside.older.items c.self.inside.newest c.update_with_count.new.self c.args.item c.args.weight (stands c.requires.some) (budget c.requires.some)))
+    (newest_updated g.T.PartialEq.eq max_map_size c.self.inside.older.items c.self.inside.newest c.update_with_count.new.self c.args.item c.args.weight (stands c.requires.some) (budget c.requires.some)))
     c.update_with_count.ensures.stands c.update_with_count.ensures.budget
 
 pub returns-clause-overflow : goal.returns-clause-overflow

@@ -1,4 +1,4 @@
-use Rattle.std.proofs.Common.{◌≡◌, ◌+◌, ◌<◌, ◌^◌, sum_by}
+use Rattle.std.proofs.Common.{◌≡◌, ◌+◌, ◌<◌, ◌^◌}
 use Rattle.std.specs.VecDeque.Iter.{deque_iter_rest}
 use Rattle.heavy_windows.specs.State.{windows_total}
 use Rattle.heavy_windows.proofs.windows.Windows.check_total.Given as goal

@@ -1,7 +1,6 @@
 use Rattle.std.proofs.Common.{[], ◌∷◌, ◌++◌}
 use Rattle.std.specs.VecDeque.Iter.{deque_iter_rest}
 use Rattle.sketch_frequencies.specs.State.{IsState}
-use Rattle.heavy_windows.specs.Fresh.{fresh_state}
 use Rattle.heavy_windows.proofs.Merging.{Continues}
 use Rattle.heavy_windows.proofs.windows.Windows.merged.Given as goal
 
