@@ -1,6 +1,8 @@
+pub mod Asking
 pub mod LineReading
 pub mod Lines
 pub mod Numbers
+pub mod Printed
 pub mod Searching
 pub mod Transcripts
 pub mod Verbs

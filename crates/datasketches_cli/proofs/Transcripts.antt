@@ -3,8 +3,9 @@ use Rattle.std.proofs.Common.{◌≡◌, ◌≢◌, ℕ, ◌+◌, true, false, L
 use Rattle.std.specs.Option.{IfSome}
 use Rattle.std.specs.Io.BufRead.{take_through, drop_through, strip_last}
 use Rattle.std.specs.Io.KnownBytes.{Appends}
-use Rattle.datasketches.specs.declared.command.Command.{Command}
-use Rattle.datasketches.specs.declared.reply.Reply.{Reply}
+use Rattle.datasketches_cli.specs.declared.request.Answer.{Answer}
+use Rattle.datasketches_cli.specs.declared.request.Request.{Request}
+use Rattle.datasketches_cli.specs.declared.serving.Serving.{Serving}
 use Rattle.datasketches_cli.specs.declared.serve.Ended.{Ended}
 use Rattle.datasketches_cli.specs.declared.serve.Ended.TheVariants.{All, BadLine}
 use Rattle.datasketches_cli.specs.declared.parse.Line.{Line}
@@ -12,21 +13,19 @@ use Rattle.datasketches_cli.specs.declared.parse.Line.TheVariants.{Blank, Bad}
 use Rattle.datasketches_cli.specs.declared.parse.Line.TheVariants as what
 use Rattle.datasketches_cli.specs.Reading.{TakesLine}
 use Rattle.datasketches_cli.specs.Serving.{HasAnswered, SaysNext, WritesFront}
-use Rattle.datasketches.specs.State.{SessionState}
-use Rattle.datasketches.specs.Steps.{Step}
-use Rattle.datasketches_cli.specs.Texts.{Text, text_codec, text_input}
-use Rattle.std.specs.String.{string_bytes, string_eq}
-use Rattle.datasketches_cli.specs.Transcript.{Transcript, new_session, Serves, lines_of, reply_line, bad_line}
-use Rattle.datasketches_cli.specs.Grammar.{Says, IsBlank, IsBad}
+use Rattle.datasketches_cli.specs.Transcript.{Transcript, Serves, lines_of, answer_line, bad_line}
+use Rattle.datasketches_cli.specs.Steps.{nothing_served, ServingStep}
+use Rattle.datasketches_cli.specs.Asking.{Says, IsBad}
+use Rattle.datasketches_cli.specs.Grammar.{IsBlank}
 use Rattle.datasketches_cli.proofs.Lines.{lines_first}
 
--- whatever comes of the rest of the input by these session, with what was written and gathered before it, comes of the whole input
-abbrev pub Leads : List ℕ → List ℕ → List ℕ → SessionState Text → ℕ → Type 0
-Leads input rest front session before = (ended : Ended) (more : List ℕ) → Transcript (before + 1) session (lines_of rest) ended more → Transcript 1 new_session (lines_of input) ended (front ++ more)
+-- whatever comes of the rest of the input by what serves it, with what was written and gathered before it, comes of the whole input
+abbrev pub Leads : List ℕ → List ℕ → List ℕ → Serving → ℕ → Type 0
+Leads input rest front serving before = (ended : Ended) (more : List ℕ) → Transcript (before + 1) serving (lines_of rest) ended more → Transcript 1 nothing_served (lines_of input) ended (front ++ more)
 
 -- where the input's bytes are known: some were read and some text was written, more is gathered, and the rest is still to come
-abbrev pub Midway : Option (List ℕ) → Option (List ℕ) → Option (List ℕ) → Option (List ℕ) → List ℕ → SessionState Text → ℕ → Type 0
-Midway was is held holds gathered session before = IfSome was (λ input. (rest : List ℕ) × (is ≡ Some rest) × (text : List ℕ) × Appends held holds text × Leads input rest (text ++ gathered) session before)
+abbrev pub Midway : Option (List ℕ) → Option (List ℕ) → Option (List ℕ) → Option (List ℕ) → List ℕ → Serving → ℕ → Type 0
+Midway was is held holds gathered serving before = IfSome was (λ input. (rest : List ℕ) × (is ≡ Some rest) × (text : List ℕ) × Appends held holds text × Leads input rest (text ++ gathered) serving before)
 
 -- the text of a line as it was read
 abbrev pub text_of : List ℕ → List ℕ
@@ -43,19 +42,19 @@ appends_none None = tt
 appends_none (Some xs) = sym (append-nil xs)
 
 -- nothing was read or written
-pub begins : (was held : Option (List ℕ)) → Midway was was held held [] new_session 0
+pub begins : (was held : Option (List ℕ)) → Midway was was held held [] nothing_served 0
 begins None held = tt
 begins (Some input) held = (input, refl, [], appends_none held, λ ended more t. t)
 
 -- some of what was gathered is written
-pub wrote : (was is held holds now : Option (List ℕ)) (gathered left : List ℕ) (session : SessionState Text) (before : ℕ) → Midway was is held holds gathered session before → WritesFront holds now gathered left → Midway was is held now left session before
-wrote None is held holds now gathered left session before m w = tt
-wrote (Some input) is held holds now gathered left session before (rest, e, text, told, leads) (front, more, split) = (
+pub wrote : (was is held holds now : Option (List ℕ)) (gathered left : List ℕ) (serving : Serving) (before : ℕ) → Midway was is held holds gathered serving before → WritesFront holds now gathered left → Midway was is held now left serving before
+wrote None is held holds now gathered left serving before m w = tt
+wrote (Some input) is held holds now gathered left serving before (rest, e, text, told, leads) (front, more, split) = (
   rest,
   e,
   text ++ front,
   appends_both held holds now text front told more,
-  subst (λ (l : List ℕ). Leads input rest l session before) (ap (λ (l : List ℕ). text ++ l) split ∙ sym (append_assoc text front left)) leads,
+  subst (λ (l : List ℕ). Leads input rest l serving before) (ap (λ (l : List ℕ). text ++ l) split ∙ sym (append_assoc text front left)) leads,
 )
 
 -- the line that was read is the first of the rest
@@ -63,74 +62,74 @@ first_of : (rest line : List ℕ) → rest ≢ [] → line ≡ take_through 10 r
 first_of rest line some e = rw e (lines_first rest some)
 
 -- a blank line was read
-pub passed : (was is now held holds : Option (List ℕ)) (gathered line : List ℕ) (session : SessionState Text) (before : ℕ) → Midway was is held holds gathered session before → TakesLine true is now line → IsBlank (text_of line) → Midway was now held holds gathered session (before + 1)
-passed None is now held holds gathered line session before m t blank = tt
-passed (Some input) is now held holds gathered line session before (rest, e, text, told, leads) t blank =
+pub passed : (was is now held holds : Option (List ℕ)) (gathered line : List ℕ) (serving : Serving) (before : ℕ) → Midway was is held holds gathered serving before → TakesLine true is now line → IsBlank (text_of line) → Midway was now held holds gathered serving (before + 1)
+passed None is now held holds gathered line serving before m t blank = tt
+passed (Some input) is now held holds gathered line serving before (rest, e, text, told, leads) t blank =
     let t' = rw e at t in
     (drop_through 10 rest, t'.2, text, told, λ ended more goes. leads ended more (rw (first_of rest line t'.0 t'.1) (inl (blank, goes))))
 
--- a command was read, done and answered
-pub answered : (was is now held holds : Option (List ℕ)) (gathered gathered' line : List ℕ) (session after : SessionState Text) (before : ℕ) (command : Command Text) (reply : Reply Text) → Midway was is held holds gathered session before → TakesLine true is now line → Says (text_of line) command → Step string_eq text_input text_codec string_bytes session command reply after → gathered' ≡ gathered ++ reply_line reply → Midway was now held holds gathered' after (before + 1)
-answered None is now held holds gathered gathered' line session after before command reply m t says step more = tt
-answered (Some input) is now held holds gathered gathered' line session after before command reply (rest, e, text, told, leads) t says step grown =
+-- a request was read, done and answered
+pub answered : (was is now held holds : Option (List ℕ)) (gathered gathered' line : List ℕ) (serving after : Serving) (before : ℕ) (request : Request) (answer : Answer) → Midway was is held holds gathered serving before → TakesLine true is now line → Says (text_of line) request → ServingStep serving request answer after → gathered' ≡ gathered ++ answer_line answer → Midway was now held holds gathered' after (before + 1)
+answered None is now held holds gathered gathered' line serving after before request answer m t says step more = tt
+answered (Some input) is now held holds gathered gathered' line serving after before request answer (rest, e, text, told, leads) t says step grown =
     let t' = rw e at t in
-    let joined = λ (more : List ℕ). ap (λ (l : List ℕ). (text ++ l) ++ more) grown ∙ ap (λ (l : List ℕ). l ++ more) (sym (append_assoc text gathered (reply_line reply))) ∙ append_assoc (text ++ gathered) (reply_line reply) more in (
+    let joined = λ (more : List ℕ). ap (λ (l : List ℕ). (text ++ l) ++ more) grown ∙ ap (λ (l : List ℕ). l ++ more) (sym (append_assoc text gathered (answer_line answer))) ∙ append_assoc (text ++ gathered) (answer_line answer) more in (
       drop_through 10 rest,
       t'.2,
       text,
       told,
-      λ ended more goes. subst (λ (l : List ℕ). Transcript 1 new_session (lines_of input) ended l) (sym (joined more))
-          (leads ended (reply_line reply ++ more) (rw (first_of rest line t'.0 t'.1) (inr (inl (command, reply, after, more, says, step, refl, goes))))),
+      λ ended more goes. subst (λ (l : List ℕ). Transcript 1 nothing_served (lines_of input) ended l) (sym (joined more))
+          (leads ended (answer_line answer ++ more) (rw (first_of rest line t'.0 t'.1) (inr (inl (request, answer, after, more, says, step, refl, goes))))),
     )
 
 -- a bad line was read, and named
-pub named : (was is now held holds holds' : Option (List ℕ)) (gathered line : List ℕ) (session : SessionState Text) (before : ℕ) → Midway was is held holds gathered session before → TakesLine true is now line → IsBad (text_of line) → Appends holds holds' (gathered ++ bad_line (before + 1)) → Serves was held holds' (BadLine (before + 1))
-named None is now held holds holds' gathered line session before m t bad wrote = tt
-named (Some input) is now held holds holds' gathered line session before (rest, e, text, told, leads) t bad wrote =
+pub named : (was is now held holds holds' : Option (List ℕ)) (gathered line : List ℕ) (serving : Serving) (before : ℕ) → Midway was is held holds gathered serving before → TakesLine true is now line → IsBad (text_of line) → Appends holds holds' (gathered ++ bad_line (before + 1)) → Serves was held holds' (BadLine (before + 1))
+named None is now held holds holds' gathered line serving before m t bad wrote = tt
+named (Some input) is now held holds holds' gathered line serving before (rest, e, text, told, leads) t bad wrote =
     let t' = rw e at t in (
       text ++ (gathered ++ bad_line (before + 1)),
       appends_both held holds holds' text (gathered ++ bad_line (before + 1)) told wrote,
-      subst (λ (l : List ℕ). Transcript 1 new_session (lines_of input) (BadLine (before + 1)) l) (append_assoc text gathered (bad_line (before + 1)))
+      subst (λ (l : List ℕ). Transcript 1 nothing_served (lines_of input) (BadLine (before + 1)) l) (append_assoc text gathered (bad_line (before + 1)))
           (leads (BadLine (before + 1)) (bad_line (before + 1)) (rw (first_of rest line t'.0 t'.1) (inr (inr (bad, refl, refl))))),
     )
 
 -- no line is left
-pub all_read : (was is now held holds holds' : Option (List ℕ)) (gathered line : List ℕ) (session : SessionState Text) (before : ℕ) → Midway was is held holds gathered session before → TakesLine false is now line → Appends holds holds' gathered → Serves was held holds' All
-all_read None is now held holds holds' gathered line session before m t wrote = tt
-all_read (Some input) is now held holds holds' gathered line session before (rest, e, text, told, leads) t wrote =
+pub all_read : (was is now held holds holds' : Option (List ℕ)) (gathered line : List ℕ) (serving : Serving) (before : ℕ) → Midway was is held holds gathered serving before → TakesLine false is now line → Appends holds holds' gathered → Serves was held holds' All
+all_read None is now held holds holds' gathered line serving before m t wrote = tt
+all_read (Some input) is now held holds holds' gathered line serving before (rest, e, text, told, leads) t wrote =
     let none : rest ≡ [] = rw e at t in (
       text ++ gathered,
       appends_both held holds holds' text gathered told wrote,
-      subst (λ (l : List ℕ). Transcript 1 new_session (lines_of input) All l) (append-nil (text ++ gathered)) (leads All [] (rw none (refl, refl))),
+      subst (λ (l : List ℕ). Transcript 1 nothing_served (lines_of input) All l) (append-nil (text ++ gathered)) (leads All [] (rw none (refl, refl))),
     )
 
 -- a turn with a blank line
-pub turns_blank : (was is now held mid holds : Option (List ℕ)) (gathered left left' : List ℕ) (session after : SessionState Text) (before : ℕ) (found : Option Line) (said : Line) →
-    Midway was is held mid gathered session before → WritesFront mid holds gathered left → SaysNext is now found → found ≡ Some said → said ≡ Blank → after ≡ session → left' ≡ left →
+pub turns_blank : (was is now held mid holds : Option (List ℕ)) (gathered left left' : List ℕ) (serving after : Serving) (before : ℕ) (found : Option Line) (said : Line) →
+    Midway was is held mid gathered serving before → WritesFront mid holds gathered left → SaysNext is now found → found ≡ Some said → said ≡ Blank → after ≡ serving → left' ≡ left →
     Midway was now held holds left' after (before + 1)
-turns_blank was is now held mid holds gathered left left' session after before found said m w next f b k l =
+turns_blank was is now held mid holds gathered left left' serving after before found said m w next f b k l =
     let (line, t, blank) = rw (f, b) at next in
-    rw (k, l) (passed was is now held holds left line session before (wrote was is held mid holds gathered left session before m w) t blank)
+    rw (k, l) (passed was is now held holds left line serving before (wrote was is held mid holds gathered left serving before m w) t blank)
 
--- a turn with a command
-pub turns_command : (was is now held mid holds : Option (List ℕ)) (gathered left left' : List ℕ) (session after : SessionState Text) (before : ℕ) (found : Option Line) (said : Line) (command : Command Text) →
-    Midway was is held mid gathered session before → WritesFront mid holds gathered left → SaysNext is now found → found ≡ Some said → said ≡ what.Command command → HasAnswered session command after left left' →
+-- a turn with a request
+pub turns_command : (was is now held mid holds : Option (List ℕ)) (gathered left left' : List ℕ) (serving after : Serving) (before : ℕ) (found : Option Line) (said : Line) (request : Request) →
+    Midway was is held mid gathered serving before → WritesFront mid holds gathered left → SaysNext is now found → found ≡ Some said → said ≡ what.Request request → HasAnswered serving request after left left' →
     Midway was now held holds left' after (before + 1)
-turns_command was is now held mid holds gathered left left' session after before found said command m w next f b (reply, step, grown) =
+turns_command was is now held mid holds gathered left left' serving after before found said request m w next f b (answer, step, grown) =
     let (line, t, says) = rw (f, b) at next in
-    answered was is now held holds left left' line session after before command reply (wrote was is held mid holds gathered left session before m w) t says step grown
+    answered was is now held holds left left' line serving after before request answer (wrote was is held mid holds gathered left serving before m w) t says step grown
 
 -- a turn with a bad line
-pub turns_bad : (was is now held mid holds holds' : Option (List ℕ)) (gathered left : List ℕ) (session : SessionState Text) (before : ℕ) (found : Option Line) (said : Line) →
-    Midway was is held mid gathered session before → WritesFront mid holds gathered left → SaysNext is now found → found ≡ Some said → said ≡ Bad → Appends holds holds' (left ++ bad_line (before + 1)) →
+pub turns_bad : (was is now held mid holds holds' : Option (List ℕ)) (gathered left : List ℕ) (serving : Serving) (before : ℕ) (found : Option Line) (said : Line) →
+    Midway was is held mid gathered serving before → WritesFront mid holds gathered left → SaysNext is now found → found ≡ Some said → said ≡ Bad → Appends holds holds' (left ++ bad_line (before + 1)) →
     Serves was held holds' (BadLine (before + 1))
-turns_bad was is now held mid holds holds' gathered left session before found said m w next f b wrote' =
+turns_bad was is now held mid holds holds' gathered left serving before found said m w next f b wrote' =
     let (line, t, bad) = rw (f, b) at next in
-    named was is now held holds holds' left line session before (wrote was is held mid holds gathered left session before m w) t bad wrote'
+    named was is now held holds holds' left line serving before (wrote was is held mid holds gathered left serving before m w) t bad wrote'
 
 -- the last turn, which finds no line
-pub turns_last : (was is now held mid holds holds' : Option (List ℕ)) (gathered left : List ℕ) (session : SessionState Text) (before : ℕ) (found : Option Line) →
-    Midway was is held mid gathered session before → WritesFront mid holds gathered left → SaysNext is now found → found ≡ None → Appends holds holds' left → Serves was held holds' All
-turns_last was is now held mid holds holds' gathered left session before found m w next f wrote' =
+pub turns_last : (was is now held mid holds holds' : Option (List ℕ)) (gathered left : List ℕ) (serving : Serving) (before : ℕ) (found : Option Line) →
+    Midway was is held mid gathered serving before → WritesFront mid holds gathered left → SaysNext is now found → found ≡ None → Appends holds holds' left → Serves was held holds' All
+turns_last was is now held mid holds holds' gathered left serving before found m w next f wrote' =
     let none = rw f at next in
-    all_read was is now held holds holds' left [] session before (wrote was is held mid holds gathered left session before m w) none wrote'
+    all_read was is now held holds holds' left [] serving before (wrote was is held mid holds gathered left serving before m w) none wrote'

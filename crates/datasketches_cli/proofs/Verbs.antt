@@ -12,7 +12,10 @@ use Rattle.datasketches_cli.specs.declared.parse.Kind.{Kind}
 use Rattle.datasketches_cli.specs.declared.parse.Kind.TheVariants as kind
 use Rattle.datasketches_cli.specs.declared.parse.Verb.{Verb}
 use Rattle.datasketches_cli.specs.declared.parse.Verb.TheVariants as verb
-use Rattle.datasketches_cli.specs.Grammar.{words_of, IsBad, Says, Make, MakeRest, AreCounts}
+use Rattle.datasketches_cli.specs.Grammar.{words_of, MakeRest, AreCounts}
+use Rattle.datasketches_cli.specs.Asking.{Ask, Says, IsBad}
+use Rattle.datasketches_cli.specs.declared.request.Request.{Request}
+use Rattle.datasketches_cli.specs.declared.request.Request.TheVariants as request
 use Rattle.datasketches_cli.specs.Said.{AreCountsOf, IsCommandOf, texts_of}
 
 -- words that are no numbers of a Count-Min sketch make no command for one
@@ -100,29 +103,37 @@ short_rest verb.Status words (command.GetStatus name) e = omega (arith, ap lengt
 short_rest verb.Rows words (command.ListRows name error_type threshold) (n, e, x) = omega (arith, ap length e)
 short_rest _ _ _ made = absurd made
 
--- the words that are looked at are all words of a command
-all_words : (words : List (List ℕ)) (made : Command Text) → Make words made → take 6 words ≡ words
-all_words words made (v, rest, e, m) = take_all 6 words (omega (arith, ap length e, short_rest v rest made m))
+-- at most five words make a request
+short_asked : (words : List (List ℕ)) (asked : Request) → Ask words asked → length words ≤ 5
+short_asked words (request.Command command) (v, rest, e, m) = omega (arith, ap length e, short_rest v rest command m)
+short_asked words (request.Windows windows max) (rest, e, (n, m, f, x, y)) = omega (arith, ap length e, ap length f)
+short_asked words (request.Add tenant weight item) (rest, e, (t, w, f, x, y)) = omega (arith, ap length e, ap length f)
+short_asked words (request.Turn tenant) (rest, e, (t, f, x)) = omega (arith, ap length e, ap length f)
+short_asked words (request.Report tenant error_type threshold) (rest, e, (t, n, f, x, y)) = omega (arith, ap length e, ap length f)
+
+-- the words that are looked at are all words of a request
+all_words : (words : List (List ℕ)) (asked : Request) → Ask words asked → take 6 words ≡ words
+all_words words asked asks = take_all 6 words (omega (arith, short_asked words asked asks))
 
 no_words : (words : List (Bor (List ℕ))) → texts_of words ≡ [] → eqb (length words) 0 ≡ false → ⊥
 no_words [] e some = cc
 no_words (x ∷ xs) e some = cc
 
--- a line with a word whose first words make no command is bad
-pub says_nothing : (line text : List ℕ) (words : List (Bor (List ℕ))) (n : ℕ) → text ≡ line → texts_of words ≡ take 6 (words_of text) → n ≡ length words → eqb n 0 ≡ false → ((made : Command Text) → ¬ Make (texts_of words) made) → IsBad line
+-- a line with a word whose first words ask for nothing is bad
+pub says_nothing : (line text : List ℕ) (words : List (Bor (List ℕ))) (n : ℕ) → text ≡ line → texts_of words ≡ take 6 (words_of text) → n ≡ length words → eqb n 0 ≡ false → ((asked : Request) → ¬ Ask (texts_of words) asked) → IsBad line
 says_nothing line text words n same told count some none =
     let here : texts_of words ≡ take 6 (words_of line) = told ∙ ap (λ (l : List ℕ). take 6 (words_of l)) same in (
       λ blank. no_words words (here ∙ ap (take 6) blank.1) (ap (λ (k : ℕ). eqb k 0) (sym count) ∙ some),
-      λ made says. none made (subst (λ (l : List (List ℕ)). Make l made) (sym (here ∙ all_words (words_of line) made says.1)) says.1),
+      λ asked says. none asked (subst (λ (l : List (List ℕ)). Ask l asked) (sym (here ∙ all_words (words_of line) asked says.1)) says.1),
     )
 
--- the first words of a line are all of them, where they make a command
-first_are_all : (words : List (List ℕ)) (made : Command Text) → Make (take 6 words) made → take 6 words ≡ words
-first_are_all words made (v, rest, e, m) = take_all 6 words (omega (arith, ap length e, length-take 6 words, short_rest v rest made m))
+-- the first words of a line are all of them, where they make a request
+first_are_all : (words : List (List ℕ)) (asked : Request) → Ask (take 6 words) asked → take 6 words ≡ words
+first_are_all words asked asks = take_all 6 words (omega (arith, length-take 6 words, short_asked (take 6 words) asked asks))
 
--- a line whose first words make a command says it
-pub says_this : (line text : List ℕ) (words : List (Bor (List ℕ))) (made : Command Text) → text ≡ line → IsUtf8 line → texts_of words ≡ take 6 (words_of text) → Make (texts_of words) made → Says line made
-says_this line text words made same utf8 told makes =
+-- a line whose first words make a request says it
+pub says_this : (line text : List ℕ) (words : List (Bor (List ℕ))) (asked : Request) → text ≡ line → IsUtf8 line → texts_of words ≡ take 6 (words_of text) → Ask (texts_of words) asked → Says line asked
+says_this line text words asked same utf8 told asks =
     let here : texts_of words ≡ take 6 (words_of line) = told ∙ ap (λ (l : List ℕ). take 6 (words_of l)) same in
-    let makes_first : Make (take 6 (words_of line)) made = subst (λ (l : List (List ℕ)). Make l made) here makes in
-    (utf8, subst (λ (l : List (List ℕ)). Make l made) (first_are_all (words_of line) made makes_first) makes_first)
+    let asks_first : Ask (take 6 (words_of line)) asked = subst (λ (l : List (List ℕ)). Ask l asked) here asks in
+    (utf8, subst (λ (l : List (List ℕ)). Ask l asked) (first_are_all (words_of line) asked asks_first) asks_first)

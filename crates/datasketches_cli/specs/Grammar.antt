@@ -152,14 +152,6 @@ Make words command =
 abbrev pub IsMade : List (List ℕ) → Option (Command Text) → Type 0
 IsMade words made = MatchOption made ((command : Command Text) → ¬ Make words command) (Make words)
 
--- the line is text, and its words make the command
-abbrev pub Says : List ℕ → Command Text → Type 0
-Says line command = IsUtf8 line × Make (words_of line) command
-
 -- the line is text without a word
 abbrev pub IsBlank : List ℕ → Type 0
 IsBlank line = IsUtf8 line × (words_of line ≡ [])
-
--- the line is not blank, and says no command
-abbrev pub IsBad : List ℕ → Type 0
-IsBad line = ¬ IsBlank line × ((command : Command Text) → ¬ Says line command)

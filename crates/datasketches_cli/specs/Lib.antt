@@ -1,8 +1,10 @@
+pub mod Asking
 pub mod Counts
 pub mod Grammar
 pub mod Printing
 pub mod Reading
 pub mod Said
 pub mod Serving
+pub mod Steps
 pub mod Texts
 pub mod Transcript

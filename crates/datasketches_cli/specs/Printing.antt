@@ -12,6 +12,9 @@ use Rattle.datasketches.specs.declared.reply.Refusal.{Refusal}
 use Rattle.datasketches.specs.declared.reply.Refusal.TheVariants as refusal
 use Rattle.datasketches.specs.declared.reply.Status.{Status}
 use Rattle.datasketches.specs.declared.reply.Status.TheVariants as status
+use Rattle.heavy_windows.specs.declared.report.Report.{Report}
+use Rattle.datasketches_cli.specs.declared.request.Answer.{Answer}
+use Rattle.datasketches_cli.specs.declared.request.Answer.TheVariants as answer
 use Rattle.datasketches_cli.specs.Texts.{Text}
 
 -- a refusal's name
@@ -56,3 +59,14 @@ reply_text (reply.Status status) = status_text status
 reply_text (reply.Rows rows) = codes "rows " ++ decimal (length rows.items) ++ flat_map row_text rows.items
 reply_text (reply.Image bytes) = codes "image " ++ encode_lower bytes.items
 reply_text (reply.Refused refusal) = codes "refused " ++ refusal_name refusal
+
+-- the line of a report on a tenant, without its end
+abbrev pub report_text : Report Text → List ℕ
+report_text report =
+    codes "report total " ++ decimal report.total_weight ++ codes " error " ++ decimal report.maximum_error
+    ++ codes " rows " ++ decimal (length report.rows.items) ++ flat_map row_text report.rows.items
+
+-- an answer's line, without its end
+abbrev pub answer_text : Answer → List ℕ
+answer_text (answer.Reply reply) = reply_text reply
+answer_text (answer.Report report) = report_text report

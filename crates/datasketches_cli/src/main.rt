@@ -42,8 +42,10 @@ mod counted;
 mod line_reader;
 mod parse;
 mod reply;
+mod request;
 mod search;
 mod serve;
+mod serving;
 #[cfg(test)]
 mod tests;
 

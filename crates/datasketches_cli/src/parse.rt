@@ -2,8 +2,10 @@
 ghost use Rattle.std.specs.Prelude.{◌≡◌, ◌≤◌, ◌^◌, [], ◌∷◌, IfOk, string_bytes, length, take};
 ghost use Rattle.datasketches_cli.specs.Grammar.{words_of, number_below, signed_number, IsMade};
 ghost use Rattle.datasketches_cli.specs.Said.{IsSaid, IsVerbOf, IsReportOf, texts_of};
-ghost use Rattle.datasketches_cli.specs.Said.{AreCountsOf, IsCommandOf, with_word};
+ghost use Rattle.datasketches_cli.specs.Said.{AreCountsOf, IsCommandOf, IsRestOf, IsRequestOf, IsWindowsRequestOf, with_word};
+ghost use Rattle.datasketches_cli.specs.Asking.{MakeWindows, MakeAdd, MakeTurn, MakeReport};
 
+use crate::request::Request;
 use crate::search::first_place;
 use datasketches::frequencies::ErrorType;
 use datasketches::{Command, Spare};
@@ -14,9 +16,9 @@ use std::alloc::{AllocError, Global};
 pub enum Line {
     /// It has no word.
     Blank,
-    /// It is a command.
-    Command(Command<String>),
-    /// It is no text, or no command.
+    /// It asks for this.
+    Request(Request),
+    /// It is no text, or asks for nothing.
     Bad,
 }
 
@@ -67,6 +69,9 @@ enum JoinKind {
 /// How many words of a line are looked at: one more than the longest command has.
 const MOST_WORDS: usize = 6;
 
+/// The request that some words make, if they make one.
+type Asked = Result<Option<Request>, AllocError>;
+
 /// The command that some words make, if they make one.
 type Made = Result<Option<Command<String>>, AllocError>;
 
@@ -83,10 +88,89 @@ pub fn parse(alloc: Global, line: &[u8], spare: &mut Spare<String>) -> Result<Li
     if words.is_empty() {
         return Ok(Line::Blank);
     }
-    match command_of(alloc, words, spare)? {
-        Some(command) => Ok(Line::Command(command)),
+    match request_of(alloc, words, spare)? {
+        Some(request) => Ok(Line::Request(request)),
         None => Ok(Line::Bad),
     }
+}
+
+/// The request that the words make.
+fn request_of(alloc: Global, words: &[&str], spare: &mut Spare<String>) -> Asked
+    ensures { IfOk result (IsRequestOf (texts_of words.now)) }
+{
+    match command_of(alloc, words, spare)? {
+        Some(command) => Ok(Some(Request::Command(command))),
+        None => Ok(windows_request_of(alloc, words)?),
+    }
+}
+
+/// The request on windows that the words make.
+fn windows_request_of(alloc: Global, words: &[&str]) -> Asked
+    ensures { IfOk result (IsWindowsRequestOf (texts_of words.now)) }
+{
+    let [verb, rest @ ..] = words else {
+        return Ok(None);
+    };
+    match *verb {
+        "windows" => Ok(windows(rest)),
+        "hadd" => Ok(hadd(alloc, rest)?),
+        "hturn" => Ok(hturn(rest)),
+        "hreport" => Ok(hreport(rest)),
+        _ => Ok(None),
+    }
+}
+
+fn windows(words: &[&str]) -> Option<Request>
+    ensures { IsRestOf MakeWindows (texts_of words.now) result }
+{
+    let [windows, max_map_size] = words else {
+        return None;
+    };
+    Some(Request::Windows {
+        windows: number_of(windows)?,
+        max_map_size: number_of(max_map_size)?,
+    })
+}
+
+fn hadd(alloc: Global, words: &[&str]) -> Asked
+    ensures { IfOk result (IsRestOf MakeAdd (texts_of words.now)) }
+{
+    let [tenant, weight, item] = words else {
+        return Ok(None);
+    };
+    let (Some(tenant), Some(weight)) = (number_of(tenant), number_of(weight)) else {
+        return Ok(None);
+    };
+    let item = String::from_str(alloc, item)?;
+    Ok(Some(Request::Add {
+        tenant,
+        weight,
+        item,
+    }))
+}
+
+fn hturn(words: &[&str]) -> Option<Request>
+    ensures { IsRestOf MakeTurn (texts_of words.now) result }
+{
+    let [tenant] = words else {
+        return None;
+    };
+    Some(Request::Turn {
+        tenant: number_of(tenant)?,
+    })
+}
+
+fn hreport(words: &[&str]) -> Option<Request>
+    ensures { IsRestOf MakeReport (texts_of words.now) result }
+{
+    let [tenant, report, threshold] = words else {
+        return None;
+    };
+    Some(Request::Report {
+        tenant: number_of(tenant)?,
+        error_type: error_type_of(report)?,
+        threshold: number_of(threshold)?,
+    })
 }
 
 /// Puts the first words of a text, which stand between spaces, into an array. Answers how many there are.

@@ -2,16 +2,43 @@
 ghost use Rattle.std.specs.Prelude.{◌≡◌, ◌++◌, OnOk, string_bytes, codes};
 ghost use Rattle.hex.specs.Hex.{encode_lower};
 ghost use Rattle.std.specs.List.{flat_map};
-ghost use Rattle.datasketches_cli.specs.Printing.{reply_text, status_text, refusal_name, row_text};
+ghost use Rattle.datasketches_cli.specs.Printing.{answer_text, report_text, reply_text, status_text, refusal_name, row_text};
 
+use crate::request::Answer;
 use crate::serve::Stopped;
 use datasketches::frequencies::Row;
 use datasketches::{Refusal, Reply, Status};
+use heavy_windows::Report;
 use std::alloc::Global;
 use std::fmt::Write;
 
+/// Writes an answer's line, without its end.
+pub fn write_answer(alloc: Global, out: &mut String, answer: &Answer) -> Result<(), Stopped>
+    ensures { OnOk result (string_bytes out.new ≡ string_bytes out.old ++ answer_text answer.now) }
+{
+    match answer {
+        Answer::Reply(reply) => write_reply(alloc, out, reply),
+        Answer::Report(report) => write_report(out, report),
+    }
+}
+
+/// Writes what weighed most in a tenant's windows.
+fn write_report(out: &mut String, report: &Report<String>) -> Result<(), Stopped>
+    ensures { OnOk result (string_bytes out.new ≡ string_bytes out.old ++ report_text report.now) }
+{
+    write!(
+        out,
+        "report total {} error {} rows {}",
+        report.total_weight,
+        report.maximum_error,
+        report.rows.len()
+    )?;
+    write_rows(out, &report.rows)?;
+    Ok(())
+}
+
 /// Writes a reply's line, without its end.
-pub fn write_reply(alloc: Global, out: &mut String, reply: &Reply<String>) -> Result<(), Stopped>
+fn write_reply(alloc: Global, out: &mut String, reply: &Reply<String>) -> Result<(), Stopped>
     ensures { OnOk result (string_bytes out.new ≡ string_bytes out.old ++ reply_text reply.now) }
 {
     match reply {

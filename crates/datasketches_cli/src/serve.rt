@@ -10,8 +10,10 @@ ghost use Rattle.datasketches_cli.specs.Transcript.{Serves, bad_line};
 use crate::counted::Counted;
 use crate::line_reader::LineReader;
 use crate::parse::{Line, parse};
-use crate::reply::write_reply;
-use datasketches::{Command, Session, Spare};
+use crate::reply::write_answer;
+use crate::request::Request;
+use crate::serving::Serving;
+use datasketches::Spare;
 use std::alloc::{AllocError, Global};
 use std::fmt;
 use std::io::{self, Read, Write};
@@ -19,9 +21,9 @@ use std::io::{self, Read, Write};
 /// How a run ended.
 #[derive(Clone, Copy, Debug, PartialEq, Eq)]
 pub enum Ended {
-    /// All lines were read, and each command was answered.
+    /// All lines were read, and each request was answered.
     All,
-    /// The line of this number, counted from 1, is no command.
+    /// The line of this number, counted from 1, asks for nothing.
     BadLine(u128),
 }
 
@@ -30,7 +32,7 @@ pub enum Ended {
 pub enum CliFault {
     /// A read or a write failed.
     Io,
-    /// There was no memory, outside of any command.
+    /// There was no memory, outside of any request.
     Memory,
 }
 
@@ -59,10 +61,10 @@ impl From<AllocError> for Stopped {
     }
 }
 
-/// Does the commands of the reader's lines in a session of its own, and writes a line for each.
+/// Does what the reader's lines ask for, in a session and with windows of its own, and writes a line for each.
 ///
 /// A line ends at a line feed or at the end of input, and one carriage return before that is dropped. A line without a
-/// word gets no answer. After a line that is no command, `bad line` and its number are written, and nothing more is
+/// word gets no answer. After a line that asks for nothing, `bad line` and its number are written, and nothing more is
 /// done. Replies are written before more input is waited for. Where it answers without an error, the writer's count of
 /// failures is as it was, and after `All` the reader has no byte left.
 ///
@@ -115,7 +117,7 @@ fn serve_lines<R: Read, W: Write>(
     ensures all_read { IfOk result (λ ended. ended ≡ Ended.All → IsAtEnd (R.remaining reader.new.inner)) }
     ensures all_written { OnOk result (writer.new.failures ≡ writer.old.failures) }
 {
-    let mut session = Session::new(alloc);
+    let mut serving = Serving::new(alloc);
     let mut replies = String::new(alloc);
     let mut lines = LineReader::new(alloc)?;
     let mut line = Vec::new(alloc);
@@ -129,10 +131,10 @@ fn serve_lines<R: Read, W: Write>(
         };
         match said {
             Line::Blank => {}
-            Line::Command(command) => answer(
+            Line::Request(request) => answer(
                 alloc,
-                &mut session,
-                command,
+                &mut serving,
+                request,
                 &mut spare,
                 &mut replies,
             )?,
@@ -170,19 +172,19 @@ fn next_line<R: Read>(
     Ok(Some(parse(alloc, without_end(line), spare)?))
 }
 
-/// Does a command, and gathers its reply.
+/// Does what a line asks for, and gathers its answer.
 fn answer(
     alloc: Global,
-    session: &mut Session<String>,
-    command: Command<String>,
+    serving: &mut Serving,
+    request: Request,
     spare: &mut Spare<String>,
     replies: &mut String,
 ) -> Result<(), Stopped>
-    ensures { OnOk result (HasAnswered session.old command session.new
+    ensures { OnOk result (HasAnswered serving.old request serving.new
         (string_bytes replies.old) (string_bytes replies.new)) }
 {
-    let reply = session.apply_sparing(command, spare);
-    write_reply(alloc, replies, &reply)?;
+    let answer = serving.apply(alloc, request, spare);
+    write_answer(alloc, replies, &answer)?;
     replies.push_str("\n")?;
     Ok(())
 }

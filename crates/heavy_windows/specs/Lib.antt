@@ -8,3 +8,6 @@ pub mod Steps
 pub mod Merging
 pub mod Reports
 pub mod Laws
+pub mod Calls
+-- what a crate above names of those below
+pub use Rattle.sketch_base.specs.Errors

@@ -1,5 +1,5 @@
 use Rattle.std.proofs.Common.{rules, sym, ◌∙◌}
-use Rattle.datasketches_cli.proofs.Words.{takes_one, has_all, has_most}
+use Rattle.datasketches_cli.proofs.Words.{takes_one}
 use Rattle.datasketches_cli.proofs.parse.first_words.Goals as goal
 
 pub loop-count-preserved : goal.loop-count-preserved

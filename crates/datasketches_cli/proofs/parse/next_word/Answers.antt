@@ -1,4 +1,4 @@
-use Rattle.std.proofs.Common.{◌≡◌, ◌≢◌, ◌<◌, ◌≤◌, ◌∙◌, eqb, length, get_or, drop, refl, sym, ap, arith}
+use Rattle.std.proofs.Common.{◌≢◌, ◌<◌, ◌∙◌, length, get_or, drop, refl, sym, ap, arith}
 use Rattle.std.proofs.lemmas.Str.{IsCharBoundary-start}
 use Rattle.datasketches_cli.proofs.Words.{skips, first_boundary, first_word, plain_after}
 use Rattle.datasketches_cli.proofs.parse.next_word.Goals as goal

@@ -1,0 +1,85 @@
+-- What serves the lines, and what a request does to it.
+use Rattle.std.specs.Prelude.{◌≡◌, ℕ, [], Option, Some, None, Result, Ok, Err, ⊤}
+use Rattle.std.specs.String.{string_bytes, string_eq}
+use Rattle.datasketches.specs.ErrorType.{ErrorType}
+use Rattle.datasketches.specs.Steps.{Step}
+use Rattle.datasketches.specs.declared.reply.Refusal.{Refusal}
+use Rattle.datasketches.specs.declared.reply.Refusal.TheVariants.{NoSuchName, NameTaken, Call}
+use Rattle.datasketches.specs.declared.reply.Reply.{Reply}
+use Rattle.datasketches.specs.declared.reply.Reply.TheVariants.{Done, Refused}
+use Rattle.heavy_windows.specs.Calls.{IsMade, IsAddition, IsTurn, IsReport}
+use Rattle.heavy_windows.specs.Errors.{ErrorValue}
+use Rattle.heavy_windows.specs.State.{WindowsState}
+use Rattle.heavy_windows.specs.declared.report.Report.{Report}
+use Rattle.datasketches_cli.specs.declared.request.Answer.{Answer}
+use Rattle.datasketches_cli.specs.declared.request.Answer.TheVariants as answer
+use Rattle.datasketches_cli.specs.declared.request.Request.{Request}
+use Rattle.datasketches_cli.specs.declared.request.Request.TheVariants as request
+use Rattle.datasketches_cli.specs.declared.serving.Serving.{Serving}
+use Rattle.datasketches_cli.specs.Texts.{Text, text_codec, text_input}
+
+-- windows of tenants, if there are any
+abbrev pub Windows : Type 0
+Windows = Option (WindowsState Text)
+
+-- no sketch, no image and no windows
+abbrev pub nothing_served : Serving
+nothing_served = record { session = record { sketches = []; images = [] }; windows = None }
+
+-- a call's refusal is the request's
+abbrev pub passed_on : {X : Type 0} → Result X ErrorValue → Result X Refusal
+passed_on (Ok x) = Ok x
+passed_on (Err e) = Err (Call e)
+
+-- windows are made where there are none
+abbrev pub Opens : ℕ → ℕ → Windows → Result ⊤ Refusal → Windows → Type 0
+Opens windows max_map_size (Some old) outcome new = (outcome ≡ Err NameTaken) × (new ≡ Some old)
+Opens windows max_map_size None (Ok _) new =
+    (made : WindowsState Text) × IsMade windows max_map_size (Ok made) × (new ≡ Some made)
+Opens windows max_map_size None (Err refusal) new =
+    (e : ErrorValue) × IsMade {T = Text} windows max_map_size (Err e) × (refusal ≡ Call e) × (new ≡ None)
+
+-- a call is made where there are windows
+abbrev pub OnWindows : (WindowsState Text → Result ⊤ ErrorValue → WindowsState Text → Type 0) → Windows → Result ⊤ Refusal → Windows → Type 0
+OnWindows Does None outcome new = (outcome ≡ Err NoSuchName) × (new ≡ None)
+OnWindows Does (Some old) outcome new =
+    (result : Result ⊤ ErrorValue) × (after : WindowsState Text) × Does old result after × (outcome ≡ passed_on result) × (new ≡ Some after)
+
+abbrev pub AddsTo : ℕ → ℕ → Text → Windows → Result ⊤ Refusal → Windows → Type 0
+AddsTo tenant weight item = OnWindows (IsAddition string_eq tenant weight item)
+
+abbrev pub TurnsFor : ℕ → Windows → Result ⊤ Refusal → Windows → Type 0
+TurnsFor tenant = OnWindows (IsTurn string_eq tenant)
+
+abbrev pub ReportsOn : ℕ → ErrorType → ℕ → Windows → Result (Report Text) Refusal → Type 0
+ReportsOn tenant kind threshold None outcome = outcome ≡ Err NoSuchName
+ReportsOn tenant kind threshold (Some windows) outcome =
+    (result : Result (Report Text) ErrorValue) × IsReport string_eq tenant kind threshold windows result × (outcome ≡ passed_on result)
+
+-- the answer to what was done or refused
+abbrev pub done_or_refused : Result ⊤ Refusal → Answer
+done_or_refused (Ok _) = answer.Reply Done
+done_or_refused (Err refusal) = answer.Reply (Refused refusal)
+
+-- the answer to what was reported or refused
+abbrev pub report_or_refused : Result (Report Text) Refusal → Answer
+report_or_refused (Ok report) = answer.Report report
+report_or_refused (Err refusal) = answer.Reply (Refused refusal)
+
+-- a request to windows had this outcome, and left the session alone
+abbrev pub OfWindows : (Windows → Result ⊤ Refusal → Windows → Type 0) → Serving → Answer → Serving → Type 0
+OfWindows Does old given new =
+    (outcome : Result ⊤ Refusal) × Does old.windows outcome new.windows × (given ≡ done_or_refused outcome)
+    × (new.session ≡ old.session)
+
+-- what a request does: a command is a step of the session; the others are calls on the windows
+abbrev pub ServingStep : Serving → Request → Answer → Serving → Type 0
+ServingStep old (request.Command command) given new =
+    (reply : Reply Text) × Step string_eq text_input text_codec string_bytes old.session command reply new.session
+    × (given ≡ answer.Reply reply) × (new.windows ≡ old.windows)
+ServingStep old (request.Windows windows max_map_size) given new = OfWindows (Opens windows max_map_size) old given new
+ServingStep old (request.Add tenant weight item) given new = OfWindows (AddsTo tenant weight item) old given new
+ServingStep old (request.Turn tenant) given new = OfWindows (TurnsFor tenant) old given new
+ServingStep old (request.Report tenant kind threshold) given new =
+    (outcome : Result (Report Text) Refusal) × ReportsOn tenant kind threshold old.windows outcome
+    × (given ≡ report_or_refused outcome) × (new ≡ old)
