@@ -12,33 +12,33 @@ COUNTS = "counts 18 3 64 9001 5 6 7 0"
 
 # Each call that may answer want of memory: what was said before, the answers, and what was said after.
 CALLS = {
-    "new_frequent": ["call", "accepted"],
-    "update": [SIX, "call", "accepted", "after", SEVENTH],
-    "update_with_count": [SIX, "call", "accepted", "after", SEVENTH_OF_5],
-    "update_ref": [SIX, "call", "accepted", "after", SEVENTH],
-    "update_with_count_ref": [SIX, "call", "accepted", "after", SEVENTH_OF_5],
-    "merge_frequent": [SIX, OTHER, "call", "accepted", "after", MERGED, OTHER],
-    "clone_frequent": [SIX, "call", SIX, "after", SIX],
-    "rows": [ROWS, "call", "rows b=5 a=3", "call", "rows 6", "after", ROWS],
-    "clone_row": ["call", "row a=1"],
+    "frequent_new": ["call", "accepted"],
+    "frequent_update": [SIX, "call", "accepted", "after", SEVENTH],
+    "frequent_update_with_count": [SIX, "call", "accepted", "after", SEVENTH_OF_5],
+    "frequent_update_ref": [SIX, "call", "accepted", "after", SEVENTH],
+    "frequent_update_with_count_ref": [SIX, "call", "accepted", "after", SEVENTH_OF_5],
+    "frequent_merge": [SIX, OTHER, "call", "accepted", "after", MERGED, OTHER],
+    "frequent_clone": [SIX, "call", SIX, "after", SIX],
+    "frequent_rows": [ROWS, "call", "rows b=5 a=3", "call", "rows 6", "after", ROWS],
+    "frequent_clone_row": ["call", "row a=1"],
     # 32 bytes, 8 for each weight and 5 for each item
-    "serialize_frequent": [SIX, "call", "bytes 110 645", "after", SIX],
-    "deserialize_frequent": ["call", SIX, "call", SIX],
-    "new_table": ["call", "accepted"],
-    "add_ref": [TABLE, "call", "accepted", "after", "table 7 8 3 3 3 4"],
-    "resize": [TABLE, "call", "accepted", "after", "table 6 32 3 3 3 0"],
-    "clone_table": [TABLE, "call", TABLE, "after", TABLE],
-    "entries": [TABLE, "call", "entries 6", "after", TABLE],
-    "new_filter": ["call", "accepted"],
-    "clone_filter": [FILTER, "call", FILTER, "call", FILTER, "after", FILTER],
-    "serialize_filter": [FILTER, "call", "bytes 64 336", "after", FILTER],
-    "deserialize_filter": ["call", FILTER, "call", FILTER],
-    "new_counts": ["call", "accepted", "call", "accepted"],
-    "clone_counts": [COUNTS, "call", COUNTS, "call", COUNTS, "after", COUNTS],
+    "frequent_serialize": [SIX, "call", "bytes 110 645", "after", SIX],
+    "frequent_deserialize": ["call", SIX, "call", SIX],
+    "table_new": ["call", "accepted"],
+    "table_add_ref": [TABLE, "call", "accepted", "after", "table 7 8 3 3 3 4"],
+    "table_resize": [TABLE, "call", "accepted", "after", "table 6 32 3 3 3 0"],
+    "table_clone": [TABLE, "call", TABLE, "after", TABLE],
+    "table_entries": [TABLE, "call", "entries 6", "after", TABLE],
+    "filter_new": ["call", "accepted"],
+    "filter_clone": [FILTER, "call", FILTER, "call", FILTER, "after", FILTER],
+    "filter_serialize": [FILTER, "call", "bytes 64 336", "after", FILTER],
+    "filter_deserialize": ["call", FILTER, "call", FILTER],
+    "counts_new": ["call", "accepted", "call", "accepted"],
+    "counts_clone": [COUNTS, "call", COUNTS, "call", COUNTS, "after", COUNTS],
     # 24 bytes, and 8 for each of 3 x 64 cells
-    "serialize_counts": [COUNTS, "call", "bytes 1560 511", "after", COUNTS],
-    "deserialize_counts": ["call", COUNTS] * 4,
-    "bytes": ["call", "accepted"],
+    "counts_serialize": [COUNTS, "call", "bytes 1560 511", "after", COUNTS],
+    "counts_deserialize": ["call", COUNTS] * 4,
+    "bytes_new": ["call", "accepted"],
     "bytes_beyond": ["call", "accepted", "bytes 12 16"],
 }
 
@@ -47,11 +47,10 @@ LEFT = {"bytes 12 16": "bytes 4 7"}
 
 # Calls that take no memory.
 QUIET = {
-    "quiet_frequent": [
-        "accepted 13",
-        "frequent 1 1 15 6 8 9/8/9 0/0/1",
-        "frequent 0 0 0 6 8 0/0/0 0/0/0",
-    ],
+    # the seventh item is one counter too many, and all counts are 1
+    "quiet_updates": ["accepted 7", "frequent 0 1 7 6 8 0/0/1 0/0/1"],
+    "quiet_updates_by_reference": ["accepted 4", "frequent 1 0 4 6 8 4/4/4"],
+    "quiet_merges": ["accepted", "frequent 1 0 1 6 8 1/1/1", "frequent 0 0 0 6 8 0/0/0"],
     "quiet_filters": [
         "accepted 3 false false",
         "filter 3 256 3 9001 2",
@@ -75,16 +74,13 @@ SKETCH = [
     "frequent 0 2 14 6 8 0/0/2 0/0/2 0/0/2 0/0/2",
 ]
 MARKED_ALONE = "frequent 1 0 2 6 8 0/0/0 0/0/0 2/2/2 0/0/0"
-MARKED = [
+CLONES = [
     "accepted",
     "frequent 2 0 5 6 8 0/0/0 1/1/1 4/4/4 0/0/0",
     "accepted",
     "frequent 2 0 7 6 8 0/0/0 1/1/1 6/6/6 0/0/0",
-    "accepted",
-    "accepted",
-    "accepted",
-    MARKED_ALONE,
 ]
+MARKED = ["accepted"] * 4 + [MARKED_ALONE]
 REFUSED = "refused memory NoMemory"
 WITHOUT_MARKED = "frequent 1 0 1 6 8 0/0/0 1/1/1 0/0/0 0/0/0"
 ENTRIES = ["table 6 8 13 6 2 3 3 2", "purged 2", "table 2 8 2 2 0 1 1 0", "table 6 32 13 6 2 3 3 2"]
@@ -92,13 +88,16 @@ ENTRIES = ["table 6 8 13 6 2 3 3 2", "purged 2", "table 2 8 2 2 0 1 1 0", "table
 # Items that are hard to hash, to clone, to write or to tell apart, and weights at the ends of their types.
 ITEMS = {
     "mute_sketch": SKETCH,
+    "mute_clones": CLONES,
     "mute_marked": MARKED,
     "mute_table": ENTRIES,
     "unclonable_sketch": SKETCH,
-    "unclonable_marked": [REFUSED, WITHOUT_MARKED, REFUSED, WITHOUT_MARKED, REFUSED, REFUSED, "accepted", MARKED_ALONE],
+    "unclonable_clones": [REFUSED, WITHOUT_MARKED] * 2,
+    "unclonable_marked": ["accepted", REFUSED, REFUSED, "accepted", MARKED_ALONE],
     "unclonable_table": [ENTRIES[0], REFUSED, ENTRIES[3]],
     "unwritable_sketch": SKETCH,
-    "unwritable_marked": MARKED[:6] + ["refused argument BadItem", MARKED_ALONE],
+    "unwritable_clones": CLONES,
+    "unwritable_marked": ["accepted"] * 3 + ["refused argument BadItem", MARKED_ALONE],
     "unwritable_table": ENTRIES,
     # 33 equals 1 here, and 34 equals 2
     "letter_sketch": [
@@ -108,9 +107,10 @@ ITEMS = {
         "rows 2=25 3=9 1=2",
         "frequent 0 2 14 6 8 0/0/2 0/0/2 0/0/2 0/0/2",
     ],
+    "letter_clones": CLONES,
     "letter_marked": MARKED,
     "letter_table": ["table 5 8 13 5 4 3 3 4", "purged 3", "table 1 8 1 1 1 0 0 1", "table 5 32 13 5 4 3 3 4"],
-    "small_weights": [
+    "great_small_weights": [
         "accepted",
         "127 -127",
         "refused argument WeightOverflow",
