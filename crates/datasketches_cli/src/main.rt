@@ -1,4 +1,4 @@
-//! Sketches and saved images of them under names, driven by lines.
+//! Sketches and saved images of them under names, and windows of tenants beside them, driven by lines.
 //!
 //! The program takes no arguments. It reads lines from standard input, and writes a line for each to standard output:
 //!
@@ -26,6 +26,11 @@
 //! | | | `bloom bits N capacity C hashes H seed S` |
 //! | `rows NAME fn THRESHOLD` | the frequent items above a threshold, none of them missing | `rows N`, and for each a space and `ITEM ESTIMATE LOWER UPPER` |
 //! | `rows NAME fp THRESHOLD` | the same, none of the others shown | the same |
+//! | `windows N MAX` | windows of tenants, at most N for each, of at most MAX slots each | `ok` |
+//! | `hadd TENANT WEIGHT ITEM` | a weight to be added to an item in a tenant's newest window | `ok` |
+//! | `hturn TENANT` | an empty window to be opened for a tenant, where the oldest goes that is one too many | `ok` |
+//! | `hreport TENANT fn THRESHOLD` | the frequent items of a tenant's windows above a threshold, none of them missing | `report total W error E` and what `rows` prints |
+//! | `hreport TENANT fp THRESHOLD` | the same, none of the others shown | the same |
 //!
 //! A line ends at a line feed or at the end of input, and one carriage return before that is dropped. Words stand
 //! between spaces, and a line without a word gets no answer. A number is one or more digits, with a value in its type;

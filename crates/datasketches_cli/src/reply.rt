@@ -13,6 +13,7 @@ use std::alloc::Global;
 use std::fmt::Write;
 
 /// Writes an answer's line, without its end.
+#[inline(always)]
 pub fn write_answer(alloc: Global, out: &mut String, answer: &Answer) -> Result<(), Stopped>
     ensures { OnOk result (string_bytes out.new ≡ string_bytes out.old ++ answer_text answer.now) }
 {
@@ -38,6 +39,7 @@ fn write_report(out: &mut String, report: &Report<String>) -> Result<(), Stopped
 }
 
 /// Writes a reply's line, without its end.
+#[inline(always)]
 fn write_reply(alloc: Global, out: &mut String, reply: &Reply<String>) -> Result<(), Stopped>
     ensures { OnOk result (string_bytes out.new ≡ string_bytes out.old ++ reply_text reply.now) }
 {

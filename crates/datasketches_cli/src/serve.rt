@@ -173,6 +173,7 @@ fn next_line<R: Read>(
 }
 
 /// Does what a line asks for, and gathers its answer.
+#[inline(always)]
 fn answer(
     alloc: Global,
     serving: &mut Serving,

@@ -27,6 +27,7 @@ impl Serving {
     }
 
     /// Does what a line asks for. A refused request changes nothing.
+    #[inline(always)]
     pub fn apply(&mut self, alloc: Global, request: Request, spare: &mut Spare<String>) -> Answer
         ensures { ServingStep self.old request result self.new }
     {

@@ -257,6 +257,35 @@ const IMAGES: [Row; 22] = [
     ("merge s t", "ok"),
 ];
 
+/// Windows of tenants: two for each, and what weighed most in them.
+const WINDOWS: [Row; 19] = [
+    ("hturn 1", "refused NoSuchName"),
+    ("hadd 1 5 a", "refused NoSuchName"),
+    ("hreport 1 fn 0", "refused NoSuchName"),
+    ("windows 0 8", "refused BadWindows"),
+    ("windows 2 9", "refused MapSizeNotPowerOfTwo"),
+    ("windows 2 8", "ok"),
+    ("windows 2 8", "refused NameTaken"),
+    ("hadd 1 5 a", "ok"),
+    ("hturn 1", "ok"),
+    ("hadd 1 7 a", "ok"),
+    ("hadd 1 2 b", "ok"),
+    ("hadd 2 9 a", "ok"),
+    (
+        "hreport 1 fn 0",
+        "report total 14 error 0 rows 2 a 12 12 12 b 2 2 2",
+    ),
+    ("hturn 1", "ok"),
+    (
+        "hreport 1 fn 0",
+        "report total 9 error 0 rows 2 a 7 7 7 b 2 2 2",
+    ),
+    ("hreport 3 fp 0", "report total 0 error 0 rows 0"),
+    ("hadd 2 18446744073709551615 b", "refused WeightOverflow"),
+    ("hreport 2 fp 1", "report total 9 error 0 rows 1 a 9 9 9"),
+    ("hturn x", "bad line 19"),
+];
+
 /// How a run over the input ended, where it wrote this.
 fn outcome(alloc: Global, input: &[u8], output: &[u8]) -> Option<Ended> {
     let mut reader = Counted::new(Cursor::new(input));
@@ -287,6 +316,7 @@ fn played(alloc: Global, rows: &[Row]) -> Result<Option<Ended>, AllocError> {
 #[test]
 fn sessions(rt: HostRuntime) -> Result<(), Fail> {
     assert!(rt; played(rt.alloc(), &QUESTIONS)? == Some(Ended::BadLine(13)));
+    assert!(rt; played(rt.alloc(), &WINDOWS)? == Some(Ended::BadLine(19)));
     let sessions: [&[Row]; 8] = [
         &MERGES_AND_RESETS,
         &ROWS,
