@@ -70,6 +70,17 @@ merge j i
 ask j x
 reset s
 status s
+sampled w 8 2
+add w 3 a
+windows 2 8
+hadd 1 5 a
+hturn 1
+hadd 1 7 a
+hreport 1 fn 0
+hadd 2 9 a
+hturn 1
+hreport 1 fn 0
+hreport 3 fp 0
 """.encode()
 
 

@@ -49,20 +49,22 @@ LEFT = {"bytes 12 16": "bytes 4 7"}
 QUIET = {
     # the seventh item is one counter too many, and all counts are 1
     "quiet_updates": ["accepted 7", "frequent 0 1 7 6 8 0/0/1 0/0/1"],
-    "quiet_updates_by_reference": ["accepted 4", "frequent 1 0 4 6 8 4/4/4"],
+    "quiet_updates_by_reference": ["true true true true", "frequent 1 0 4 6 8 4/4/4"],
     "quiet_merges": ["accepted", "frequent 1 0 1 6 8 1/1/1", "frequent 0 0 0 6 8 0/0/0"],
     "quiet_filters": [
-        "accepted 3 false false",
+        "true true true false false",
         "filter 3 256 3 9001 2",
         "filter 0 256 3 9001",
         "filter 0 256 3 9001",
     ],
     "quiet_counts": [
-        "accepted 4 false",
+        "true true true true false",
         "counts 11 3 64 9001 0 4 7 0",
         "counts 2 3 64 9001 0 2 0 0",
     ],
-    "quiet_bytes": ["accepted 5 25185 3 -4"],
+    # 97 + 98, 3, and the bytes of -4: 252 and seven of 255
+    "quiet_writes": ["true true true", "bytes 14 2235"],
+    "quiet_reads": ["25185 3"],
     "quiet_session": ["answered 8 refused 0"],
 }
 
