@@ -241,6 +241,7 @@ impl<T: FrequentItemValue + Clone + Drop> Session<T> {
         Ok(Reply::Done)
     }
 
+    #[inline(always)]
     fn change(
         &mut self,
         name: &str,

@@ -1,5 +1,5 @@
 -- What each call does, in one piece, for whoever chains calls.
-use Rattle.std.specs.Prelude.{◌≡◌, ◌≢◌, ℕ, ◌+◌, ◌<◌, ◌≤◌, ◌^◌, Bool, false, [], Option, None, Result, Ok, Err, ⊤, IsOk, IfOk, IfErr, OnOk, OnErr, IsErrOf}
+use Rattle.std.specs.Prelude.{◌≡◌, ◌≢◌, ℕ, ◌<◌, ◌≤◌, ◌^◌, Bool, false, [], None, Result, Ok, Err, ⊤, IsOk, IfOk, IfErr, OnOk, OnErr, IsErrOf}
 use Rattle.sketch_base.specs.Errors.{ErrorValue, invalid_argument, no_memory, refusal_of}
 use Rattle.sketch_base.specs.declared.fault.Fault.TheVariants.{WeightOverflow}
 use Rattle.sketch_frequencies.specs.State.{Overflows, Fits, must_double}
