@@ -205,7 +205,8 @@ class Tests:
         return out.decode().splitlines(), numbers
 
     def each_call(self):
-        """Each request of each call refused in a run of its own: the call says so, and leaves all as it was."""
+        """Each request of each call refused in a run of its own: the call says so, and leaves all as it was, or it does
+        without."""
         for name, wanted in trials.CALLS.items():
             lines, _ = self.play([name], 0)
             self.check(f"trial {name}", lines == wanted, lines)
@@ -217,6 +218,9 @@ class Tests:
                     break
                 where = f"trial {name}, request {n}:"
                 end = lines.index("after") if "after" in lines else len(lines)
+                if lines == wanted:
+                    n += 1  # it asked for less in the end
+                    continue
                 self.check(f"{where} it is refused", lines[:end].count(trials.REFUSED) == 1, lines)
                 kept = len(lines) == len(wanted) and all(
                     line in (whole, trials.REFUSED) or line == trials.LEFT.get(whole)

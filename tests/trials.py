@@ -65,7 +65,7 @@ QUIET = {
     # 97 + 98, 3, and the bytes of -4: 252 and seven of 255
     "quiet_writes": ["true true true", "bytes 14 2235"],
     "quiet_reads": ["25185 3"],
-    "quiet_session": ["answered 8 refused 0"],
+    "quiet_session": ["answered 9 refused 0"],
 }
 
 SKETCH = [
