@@ -467,71 +467,127 @@ fn a_line_may_be_long(rt: HostRuntime) -> Result<(), Fail> {
     Ok(())
 }
 
-/// Gives these bytes, one at a time, and then fails.
+/// Gives these bytes, so many a call at most, and fails at the call behind so many.
 #[derive(Drop)]
-struct BreakingReader<'a> {
+struct FailingReader<'a> {
     left: &'a [u8],
+    step: usize,
+    calls: usize,
 }
 
-impl Read for BreakingReader<'_> {
+impl Read for FailingReader<'_> {
     fn read(&mut self, buf: &mut [u8]) -> IoResult<usize> {
-        let Some((first, rest)) = self.left.split_first() else {
+        if self.calls == 0 {
             return Err(Error::from(ErrorKind::ConnectionReset));
-        };
-        if buf.is_empty() {
-            return Ok(0);
         }
-        buf[0] = *first;
-        self.left = rest;
-        Ok(1)
+        self.calls -= 1;
+        let count = self.step.min(buf.len()).min(self.left.len());
+        let (given, left) = self.left.split_at(count);
+        buf[..count].copy_from_slice(given);
+        self.left = left;
+        Ok(count)
     }
 }
 
-/// Takes some bytes and then fails, or takes all and fails to pass them on.
+/// Takes so many bytes a call at most, and fails at the call behind so many.
 #[derive(Drop)]
-struct BreakingWriter {
-    room: usize,
-    is_stuck: bool,
+struct FailingWriter {
+    taken: Vec<u8>,
+    step: usize,
+    calls: usize,
 }
 
-impl Write for BreakingWriter {
+impl Write for FailingWriter {
     fn write(&mut self, buf: &[u8]) -> IoResult<usize> {
-        if self.room == 0 {
+        if self.calls == 0 {
             return Err(Error::from(ErrorKind::BrokenPipe));
         }
-        let count = self.room.min(buf.len());
-        self.room -= count;
+        self.calls -= 1;
+        let count = self.step.min(buf.len());
+        self.taken.extend_from_slice(&buf[..count])?;
         Ok(count)
     }
 
     fn flush(&mut self) -> IoResult<()> {
-        if self.is_stuck {
+        if self.calls == 0 {
             return Err(Error::from(ErrorKind::BrokenPipe));
         }
+        self.calls -= 1;
         Ok(())
     }
 }
 
-// The replies to the lines before the failure are written by then.
-#[test]
-fn a_reader_that_fails(rt: HostRuntime) {
-    let left = b"frequent s 8\nadd s 1 a\nask s a\nask";
-    let mut reader = Counted::new(BreakingReader { left });
-    let mut writer = Counted::new(Vec::new(rt.alloc()));
-    assert!(rt; serve(rt.alloc(), &mut reader, &mut writer) == Err(CliFault::Io));
-    assert!(rt; (reader.failures(), writer.failures()) == (1, 0));
-    assert!(rt;
-        writer.into_inner().as_slice() == b"ok\nok\nestimate 1 lower 1 upper 1\n".as_slice()
-    );
+const THREE_LINES: &[u8] = b"frequent s 8\nadd s 1 a\nask s a\n";
+
+const THREE_REPLIES: &[u8] = b"ok\nok\nestimate 1 lower 1 upper 1\n";
+
+/// How a run ends whose reader fails behind so many calls, and whether what was written is a beginning of the replies.
+fn with_failing_reader(
+    alloc: Global,
+    step: usize,
+    calls: usize,
+) -> (Result<Ended, CliFault>, u64, bool) {
+    let mut reader = Counted::new(FailingReader {
+        left: THREE_LINES,
+        step,
+        calls,
+    });
+    let mut writer = Counted::new(Vec::new(alloc));
+    let ended = serve(alloc, &mut reader, &mut writer);
+    let written = writer.into_inner();
+    (
+        ended,
+        reader.failures(),
+        THREE_REPLIES.starts_with(&written),
+    )
 }
 
+/// The same of a writer.
+fn with_failing_writer(
+    alloc: Global,
+    step: usize,
+    calls: usize,
+) -> (Result<Ended, CliFault>, u64, bool) {
+    let mut reader = Counted::new(Cursor::new(THREE_LINES));
+    let mut writer = Counted::new(FailingWriter {
+        taken: Vec::new(alloc),
+        step,
+        calls,
+    });
+    let ended = serve(alloc, &mut reader, &mut writer);
+    let failures = writer.failures();
+    let written = writer.into_inner().taken;
+    (ended, failures, THREE_REPLIES.starts_with(&written))
+}
+
+/// The first number of calls behind which a run is whole, where each shorter one answers `Io`, counts one failure, and
+/// writes a beginning of the replies.
+fn calls_of_a_whole_run(alloc: Global, is_reader: bool, step: usize) -> Option<usize> {
+    for calls in 0..100 {
+        let outcome = if is_reader {
+            with_failing_reader(alloc, step, calls)
+        } else {
+            with_failing_writer(alloc, step, calls)
+        };
+        match outcome {
+            (Err(CliFault::Io), 1, true) => {}
+            (Ok(Ended::All), 0, true) => return Some(calls),
+            _ => return None,
+        }
+    }
+    None
+}
+
+// The input has 31 bytes, and its end takes a call more. The replies have 33, and are passed on in one more call.
 #[test]
-fn a_writer_that_fails(rt: HostRuntime) {
-    for (room, is_stuck) in [(0, false), (1, false), (2, false), (100, true)] {
-        let mut reader = Counted::new(Cursor::new(b"frequent s 8\n".as_slice()));
-        let mut writer = Counted::new(BreakingWriter { room, is_stuck });
-        assert!(rt; serve(rt.alloc(), &mut reader, &mut writer) == Err(CliFault::Io));
-        assert!(rt; (reader.failures(), writer.failures()) == (0, 1));
+fn streams_that_fail_in_turn(rt: HostRuntime) {
+    for (is_reader, step, wanted) in [
+        (true, 100, 2),
+        (true, 1, 32),
+        (false, 100, 2),
+        (false, 1, 34),
+    ] {
+        assert!(rt; calls_of_a_whole_run(rt.alloc(), is_reader, step) == Some(wanted));
     }
 }
 
