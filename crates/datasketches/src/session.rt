@@ -75,6 +75,7 @@ impl<T: FrequentItemValue + Clone + Drop> Session<T> {
     /// Does one command as [`Session::apply`] does, and may leave in `spare` a name and an item that it does not keep.
     ///
     /// So a caller of many commands can use the memory of one for the next. What `spare` holds is left open.
+    #[inline(always)]
     pub fn apply_sparing(&mut self, command: Command<T>, spare: &mut Spare<T>) -> Reply<T>
         requires clones { (x y : T) → T.is_clone x y → IsTrue (T.eq x y) }
         ensures step { Step T.eq T.hash_input T.codec T.content self.old command result self.new }
@@ -109,6 +110,8 @@ impl<T: FrequentItemValue + Clone + Drop> Session<T> {
         Ok(replies)
     }
 
+    // where the command is known, nothing is left of the others
+    #[inline(always)]
     fn answer(&mut self, command: Command<T>, spare: &mut Spare<T>) -> Result<Reply<T>, Refusal>
         requires clones { (x y : T) → T.is_clone x y → IsTrue (T.eq x y) }
         ensures { Step T.eq T.hash_input T.codec T.content self.old command (told result) self.new }

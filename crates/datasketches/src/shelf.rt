@@ -83,7 +83,7 @@ impl<V: Drop> Shelf<V> {
 
 impl<T: Eq + Hash + Drop> Shelf<Sketch<T>> {
     /// Changes the sketch of the name. An item that it does not keep may come into `spare`.
-    #[inline(never)]
+    #[inline(always)]
     pub fn change(
         &mut self,
         name: &str,

@@ -144,6 +144,7 @@ impl<T: Eq + Hash + Drop> Sketch<T> {
     }
 
     /// Does the change, where the sketch is of a kind that knows it. An item that it does not keep may come into `spare`.
+    #[inline(always)]
     pub fn change(&mut self, change: Change<T>, spare: &mut Option<T>) -> Result<(), Refusal>
         ensures own { Changes T.eq T.hash_input change self.old (done_or result) self.new }
         ensures carries { OnOk result (Carries T.eq (changed T.hash_input change) self.old self.new) }

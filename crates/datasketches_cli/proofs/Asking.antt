@@ -10,7 +10,7 @@ use Rattle.datasketches_cli.specs.declared.request.Request.{Request}
 use Rattle.datasketches_cli.specs.declared.request.Request.TheVariants as request
 use Rattle.datasketches_cli.specs.Asking.{Ask, MakeOnWindows, MakeWindows, MakeAdd, MakeTurn, MakeReport}
 use Rattle.datasketches_cli.specs.Grammar.{Make}
-use Rattle.datasketches_cli.specs.Said.{texts_of, IsRestOf, IsWindowsRequestOf, IsRequestOf}
+use Rattle.datasketches_cli.specs.Said.{texts_of, IsRestOf, IsWindowsRequestOf}
 use Rattle.datasketches_cli.specs.Texts.{Text}
 
 -- words that begin with different verbs differ
@@ -91,18 +91,18 @@ after_hreport words rest (Some (request.Add tenant weight item)) e made = absurd
 after_hreport words rest (Some (request.Turn tenant)) e made = absurd made
 after_hreport words rest (Some (request.Report tenant error_type threshold)) e made = (rest, e, made)
 
--- words that make no command make what they make on windows
-no_request : (words : List (List ℕ)) → ((made : Command Text) → ¬ Make words made) → ((asked : Request) → ¬ MakeOnWindows words asked) → (asked : Request) → ¬ Ask words asked
+-- words that make no command and nothing on windows ask for nothing
+pub no_request : (words : List (List ℕ)) → ((made : Command Text) → ¬ Make words made) → ((asked : Request) → ¬ MakeOnWindows words asked) → (asked : Request) → ¬ Ask words asked
 no_request words none others (request.Command command) made = none command made
 no_request words none others (request.Windows windows max) made = others (request.Windows windows max) made
 no_request words none others (request.Add tenant weight item) made = others (request.Add tenant weight item) made
 no_request words none others (request.Turn tenant) made = others (request.Turn tenant) made
 no_request words none others (request.Report tenant error_type threshold) made = others (request.Report tenant error_type threshold) made
 
-pub on_windows : (words : List (List ℕ)) (found : Option Request) → ((made : Command Text) → ¬ Make words made) → IsWindowsRequestOf words found → IsRequestOf words found
-on_windows words None none others = no_request words none others
-on_windows words (Some (request.Command command)) none made = absurd made
-on_windows words (Some (request.Windows windows max)) none made = made
-on_windows words (Some (request.Add tenant weight item)) none made = made
-on_windows words (Some (request.Turn tenant)) none made = made
-on_windows words (Some (request.Report tenant error_type threshold)) none made = made
+-- words that make a request on windows ask for it
+pub on_windows : (words : List (List ℕ)) (asked : Request) → MakeOnWindows words asked → Ask words asked
+on_windows words (request.Command command) made = absurd made
+on_windows words (request.Windows windows max) made = made
+on_windows words (request.Add tenant weight item) made = made
+on_windows words (request.Turn tenant) made = made
+on_windows words (request.Report tenant error_type threshold) made = made

@@ -8,11 +8,10 @@ use Rattle.datasketches_cli.specs.declared.request.Request.{Request}
 use Rattle.datasketches_cli.specs.declared.serving.Serving.{Serving}
 use Rattle.datasketches_cli.specs.declared.serve.Ended.{Ended}
 use Rattle.datasketches_cli.specs.declared.serve.Ended.TheVariants.{All, BadLine}
-use Rattle.datasketches_cli.specs.declared.parse.Line.{Line}
-use Rattle.datasketches_cli.specs.declared.parse.Line.TheVariants.{Blank, Bad}
-use Rattle.datasketches_cli.specs.declared.parse.Line.TheVariants as what
+use Rattle.datasketches_cli.specs.declared.answering.Line.{Line}
+use Rattle.datasketches_cli.specs.declared.answering.Line.TheVariants.{Blank, Answered, Bad}
 use Rattle.datasketches_cli.specs.Reading.{TakesLine}
-use Rattle.datasketches_cli.specs.Serving.{HasAnswered, SaysNext, WritesFront}
+use Rattle.datasketches_cli.specs.Serving.{AnswersNext, WritesFront}
 use Rattle.datasketches_cli.specs.Transcript.{Transcript, Serves, lines_of, answer_line, bad_line}
 use Rattle.datasketches_cli.specs.Steps.{nothing_served, ServingStep}
 use Rattle.datasketches_cli.specs.Asking.{Says, IsBad}
@@ -103,33 +102,29 @@ all_read (Some input) is now held holds holds' gathered line serving before (res
       subst (λ (l : List ℕ). Transcript 1 nothing_served (lines_of input) All l) (append-nil (text ++ gathered)) (leads All [] (rw none (refl, refl))),
     )
 
--- a turn with a blank line
-pub turns_blank : (was is now held mid holds : Option (List ℕ)) (gathered left left' : List ℕ) (serving after : Serving) (before : ℕ) (found : Option Line) (said : Line) →
-    Midway was is held mid gathered serving before → WritesFront mid holds gathered left → SaysNext is now found → found ≡ Some said → said ≡ Blank → after ≡ serving → left' ≡ left →
+-- a turn with a line that is not bad
+pub turns : (was is now held mid holds : Option (List ℕ)) (gathered left left' : List ℕ) (serving after : Serving) (before : ℕ) (found : Option Line) (became : Line) →
+    Midway was is held mid gathered serving before → WritesFront mid holds gathered left → AnswersNext is now serving after left left' found → found ≡ Some became → became ≢ Bad →
     Midway was now held holds left' after (before + 1)
-turns_blank was is now held mid holds gathered left left' serving after before found said m w next f b k l =
-    let (line, t, blank) = rw (f, b) at next in
-    rw (k, l) (passed was is now held holds left line serving before (wrote was is held mid holds gathered left serving before m w) t blank)
-
--- a turn with a request
-pub turns_command : (was is now held mid holds : Option (List ℕ)) (gathered left left' : List ℕ) (serving after : Serving) (before : ℕ) (found : Option Line) (said : Line) (request : Request) →
-    Midway was is held mid gathered serving before → WritesFront mid holds gathered left → SaysNext is now found → found ≡ Some said → said ≡ what.Request request → HasAnswered serving request after left left' →
-    Midway was now held holds left' after (before + 1)
-turns_command was is now held mid holds gathered left left' serving after before found said request m w next f b (answer, step, grown) =
-    let (line, t, says) = rw (f, b) at next in
+turns was is now held mid holds gathered left left' serving after before found Blank m w next f good =
+    let (line, t, (blank, (s, l))) = rw f at next in
+    rw (s, l) (passed was is now held holds left line serving before (wrote was is held mid holds gathered left serving before m w) t blank)
+turns was is now held mid holds gathered left left' serving after before found Answered m w next f good =
+    let (line, t, (request, says, (answer, step, grown))) = rw f at next in
     answered was is now held holds left left' line serving after before request answer (wrote was is held mid holds gathered left serving before m w) t says step grown
+turns was is now held mid holds gathered left left' serving after before found Bad m w next f good = absurd (good refl)
 
 -- a turn with a bad line
-pub turns_bad : (was is now held mid holds holds' : Option (List ℕ)) (gathered left : List ℕ) (serving : Serving) (before : ℕ) (found : Option Line) (said : Line) →
-    Midway was is held mid gathered serving before → WritesFront mid holds gathered left → SaysNext is now found → found ≡ Some said → said ≡ Bad → Appends holds holds' (left ++ bad_line (before + 1)) →
+pub turns_bad : (was is now held mid holds holds' : Option (List ℕ)) (gathered left left' : List ℕ) (serving after : Serving) (before : ℕ) (found : Option Line) (became : Line) →
+    Midway was is held mid gathered serving before → WritesFront mid holds gathered left → AnswersNext is now serving after left left' found → found ≡ Some became → became ≡ Bad → Appends holds holds' (left' ++ bad_line (before + 1)) →
     Serves was held holds' (BadLine (before + 1))
-turns_bad was is now held mid holds holds' gathered left serving before found said m w next f b wrote' =
-    let (line, t, bad) = rw (f, b) at next in
-    named was is now held holds holds' left line serving before (wrote was is held mid holds gathered left serving before m w) t bad wrote'
+turns_bad was is now held mid holds holds' gathered left left' serving after before found became m w next f b wrote' =
+    let (line, t, (bad, (s, l))) = rw (f, b) at next in
+    named was is now held holds holds' left line serving before (wrote was is held mid holds gathered left serving before m w) t bad (rw (sym l) wrote')
 
 -- the last turn, which finds no line
-pub turns_last : (was is now held mid holds holds' : Option (List ℕ)) (gathered left : List ℕ) (serving : Serving) (before : ℕ) (found : Option Line) →
-    Midway was is held mid gathered serving before → WritesFront mid holds gathered left → SaysNext is now found → found ≡ None → Appends holds holds' left → Serves was held holds' All
-turns_last was is now held mid holds holds' gathered left serving before found m w next f wrote' =
-    let none = rw f at next in
-    all_read was is now held holds holds' left [] serving before (wrote was is held mid holds gathered left serving before m w) none wrote'
+pub turns_last : (was is now held mid holds holds' : Option (List ℕ)) (gathered left left' : List ℕ) (serving after : Serving) (before : ℕ) (found : Option Line) →
+    Midway was is held mid gathered serving before → WritesFront mid holds gathered left → AnswersNext is now serving after left left' found → found ≡ None → Appends holds holds' left' → Serves was held holds' All
+turns_last was is now held mid holds holds' gathered left left' serving after before found m w next f wrote' =
+    let (none, (s, l)) = rw f at next in
+    all_read was is now held holds holds' left [] serving before (wrote was is held mid holds gathered left serving before m w) none (rw (sym l) wrote')

@@ -1,5 +1,7 @@
 -- The words of a line that are looked at, and the commands that they make.
-use Rattle.std.proofs.Common.{◌≡◌, ℕ, ◌≤◌, false, eqb, List, [], ◌∷◌, length, take, Option, None, sym, ◌∙◌, ap, subst, arith}
+use Rattle.std.proofs.Common.{◌≡◌, ℕ, ◌-◌, ◌<◌, ◌≤◌, false, eqb, List, [], ◌∷◌, length, get_or, take, drop, Option, None, Some, refl, sym, ◌∙◌, ap, subst, arith}
+use Rattle.std.specs.Prelude.{codes, if◌then◌else◌}
+use Rattle.std.specs.Str.{bytes_eq}
 use Rattle.std.specs.Borrow.{Bor}
 use Rattle.std.specs.Str.{IsUtf8}
 use Rattle.std.proofs.lemmas.List.{take_all, length-take}
@@ -12,7 +14,7 @@ use Rattle.datasketches_cli.specs.declared.parse.Kind.{Kind}
 use Rattle.datasketches_cli.specs.declared.parse.Kind.TheVariants as kind
 use Rattle.datasketches_cli.specs.declared.parse.Verb.{Verb}
 use Rattle.datasketches_cli.specs.declared.parse.Verb.TheVariants as verb
-use Rattle.datasketches_cli.specs.Grammar.{words_of, MakeRest, AreCounts}
+use Rattle.datasketches_cli.specs.Grammar.{words_of, verb_word, Make, MakeRest, AreCounts, IsMade}
 use Rattle.datasketches_cli.specs.Asking.{Ask, Says, IsBad}
 use Rattle.datasketches_cli.specs.declared.request.Request.{Request}
 use Rattle.datasketches_cli.specs.declared.request.Request.TheVariants as request
@@ -137,3 +139,83 @@ says_this line text words asked same utf8 told asks =
     let here : texts_of words ≡ take 6 (words_of line) = told ∙ ap (λ (l : List ℕ). take 6 (words_of l)) same in
     let asks_first : Ask (take 6 (words_of line)) asked = subst (λ (l : List (List ℕ)). Ask l asked) here asks in
     (utf8, subst (λ (l : List (List ℕ)). Ask l asked) (first_are_all (words_of line) asked asks_first) asks_first)
+
+-- the verb of a word, and any where it has none
+abbrev verb_named : List ℕ → Verb
+verb_named word =
+    if bytes_eq word (codes "frequent") then verb.Create kind.Frequent
+    else if bytes_eq word (codes "sampled") then verb.Create kind.FrequentSampled
+    else if bytes_eq word (codes "counti") then verb.Create kind.CountI64
+    else if bytes_eq word (codes "countu") then verb.Create kind.CountU64
+    else if bytes_eq word (codes "bloom") then verb.Create kind.Bloom
+    else if bytes_eq word (codes "add") then verb.Change edit.Add
+    else if bytes_eq word (codes "adds") then verb.Change edit.AddSigned
+    else if bytes_eq word (codes "insert") then verb.Change edit.Insert
+    else if bytes_eq word (codes "reset") then verb.Change edit.Reset
+    else if bytes_eq word (codes "halve") then verb.Change edit.Halve
+    else if bytes_eq word (codes "decay") then verb.Change edit.Decay
+    else if bytes_eq word (codes "merge") then verb.Join join.Merge
+    else if bytes_eq word (codes "union") then verb.Join join.Union
+    else if bytes_eq word (codes "intersect") then verb.Join join.Intersect
+    else if bytes_eq word (codes "difference") then verb.Join join.Difference
+    else if bytes_eq word (codes "save") then verb.Save
+    else if bytes_eq word (codes "restore") then verb.Restore
+    else if bytes_eq word (codes "image") then verb.Image
+    else if bytes_eq word (codes "ask") then verb.Ask
+    else if bytes_eq word (codes "status") then verb.Status
+    else verb.Rows
+
+is_named : (v : Verb) → verb_named (verb_word v) ≡ v
+is_named (verb.Create kind.Frequent) = refl
+is_named (verb.Create kind.FrequentSampled) = refl
+is_named (verb.Create kind.CountI64) = refl
+is_named (verb.Create kind.CountU64) = refl
+is_named (verb.Create kind.Bloom) = refl
+is_named (verb.Change edit.Add) = refl
+is_named (verb.Change edit.AddSigned) = refl
+is_named (verb.Change edit.Insert) = refl
+is_named (verb.Change edit.Reset) = refl
+is_named (verb.Change edit.Halve) = refl
+is_named (verb.Change edit.Decay) = refl
+is_named (verb.Join join.Merge) = refl
+is_named (verb.Join join.Union) = refl
+is_named (verb.Join join.Intersect) = refl
+is_named (verb.Join join.Difference) = refl
+is_named verb.Save = refl
+is_named verb.Restore = refl
+is_named verb.Image = refl
+is_named verb.Ask = refl
+is_named verb.Status = refl
+is_named verb.Rows = refl
+
+-- two verbs of one word are the same
+same_verb : (v w : Verb) (xs ys : List (List ℕ)) → verb_word v ∷ xs ≡ verb_word w ∷ ys → v ≡ w
+same_verb v w xs ys e = sym (is_named v) ∙ ap (λ (l : List (List ℕ)). verb_named (get_or l 0 [])) e ∙ is_named w
+
+-- what is made of a verb, a name and the words after them is made of all of them
+is_made : (words rest : List (List ℕ)) (v : Verb) (name : List ℕ) (made : Option (Command Text)) → words ≡ verb_word v ∷ name ∷ rest → IsCommandOf v name rest made → IsMade words made
+is_made words rest v name None e none =
+    λ command makes.
+    let (w, others, f, makes_rest) = makes in
+    let both = sym e ∙ f in
+    let verb_is : w ≡ v = sym (same_verb v w (name ∷ rest) _ both) in
+    let rest_is : others ≡ rest = sym (ap (drop 2) both) in
+    none command (rw (verb_is, rest_is) at makes_rest)
+is_made words rest v name (Some command) e (name_is, makes) = (v, rest, rw name_is e, makes)
+
+pub is_made_by : (words rest : List (List ℕ)) (v w : Verb) (name : List ℕ) (made : Option (Command Text)) → words ≡ verb_word v ∷ name ∷ rest → v ≡ w → IsCommandOf w name rest made → IsMade words made
+is_made_by words rest v w name made e same makes = is_made words rest v name made e (rw same makes)
+
+-- a verb, a name and the words that follow them
+pub split_command : (words : List (Bor (List ℕ))) (first second : Bor (List ℕ)) (v : Verb) (n : ℕ) → 2 ≤ length words → n ≡ length words - 2 → (get_or words 0 first).now ≡ verb_word v → texts_of words ≡ verb_word v ∷ (get_or words 1 second).now ∷ texts_of (take n (drop 2 words))
+split_command [] first second v n some count e = absurd (omega arith)
+split_command (x ∷ []) first second v n some count e = absurd (omega arith)
+split_command (x ∷ y ∷ xs) first second v n some count e =
+    let whole : take n xs ≡ xs = take_all n xs (omega (arith, count)) in
+    ap (λ (w : List ℕ). w ∷ y.now ∷ texts_of xs) e ∙ ap (λ (l : List (Bor (List ℕ))). verb_word v ∷ y.now ∷ texts_of l) (sym whole)
+
+-- one word makes no command
+pub none_of_one : (words : List (Bor (List ℕ))) → length words < 2 → (command : Command Text) → ¬ Make (texts_of words) command
+none_of_one [] few command (v, rest, e, makes) = cc
+none_of_one (x ∷ []) few command (v, rest, e, makes) = cc
+none_of_one (x ∷ y ∷ xs) few command made = omega arith

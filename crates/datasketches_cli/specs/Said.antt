@@ -4,12 +4,10 @@ use Rattle.std.specs.Borrow.{Bor}
 use Rattle.datasketches.specs.ErrorType.{ErrorType}
 use Rattle.datasketches.specs.declared.command.Command.{Command}
 use Rattle.datasketches_cli.specs.Texts.{Text}
-use Rattle.datasketches_cli.specs.declared.parse.Line.{Line}
-use Rattle.datasketches_cli.specs.declared.parse.Line.TheVariants as line
 use Rattle.datasketches_cli.specs.declared.parse.Verb.{Verb}
 use Rattle.datasketches_cli.specs.declared.request.Request.{Request}
-use Rattle.datasketches_cli.specs.Asking.{Ask, MakeOnWindows, Says, IsBad}
-use Rattle.datasketches_cli.specs.Grammar.{IsBlank, verb_word, report_word, name_of, AreCounts, MakeRest}
+use Rattle.datasketches_cli.specs.Asking.{MakeOnWindows}
+use Rattle.datasketches_cli.specs.Grammar.{verb_word, report_word, name_of, AreCounts, MakeRest}
 
 -- the texts of some words
 abbrev pub texts_of : List (Bor (List ℕ)) → List (List ℕ)
@@ -46,15 +44,6 @@ IsCommandOf verb name rest found =
 abbrev pub IsRestOf : (List (List ℕ) → Request → Type 0) → List (List ℕ) → Option Request → Type 0
 IsRestOf MakeIt words found = MatchOption found ((request : Request) → ¬ MakeIt words request) (MakeIt words)
 
--- the request of all words, likewise: one on windows, and any
+-- the request on windows of all words, likewise
 abbrev pub IsWindowsRequestOf : List (List ℕ) → Option Request → Type 0
 IsWindowsRequestOf words found = IsRestOf MakeOnWindows words found
-
-abbrev pub IsRequestOf : List (List ℕ) → Option Request → Type 0
-IsRequestOf words found = IsRestOf Ask words found
-
--- the line says this
-abbrev pub IsSaid : List ℕ → Line → Type 0
-IsSaid text line.Blank = IsBlank text
-IsSaid text (line.Request request) = Says text request
-IsSaid text line.Bad = IsBad text

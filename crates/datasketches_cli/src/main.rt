@@ -43,6 +43,7 @@
 //! and where memory was refused outside a command `no memory`, each with status 2. Else the status is 0.
 #![tactic(auto)]
 
+mod answering;
 mod counted;
 mod line_reader;
 mod parse;

@@ -1,8 +1,8 @@
-//! Lines to commands.
+//! Words to requests.
 ghost use Rattle.std.specs.Prelude.{◌≡◌, ◌≤◌, ◌^◌, [], ◌∷◌, IfOk, string_bytes, length, take};
-ghost use Rattle.datasketches_cli.specs.Grammar.{words_of, number_below, signed_number, IsMade};
-ghost use Rattle.datasketches_cli.specs.Said.{IsSaid, IsVerbOf, IsReportOf, texts_of};
-ghost use Rattle.datasketches_cli.specs.Said.{AreCountsOf, IsCommandOf, IsRestOf, IsRequestOf, IsWindowsRequestOf, with_word};
+ghost use Rattle.datasketches_cli.specs.Grammar.{words_of, number_below, signed_number};
+ghost use Rattle.datasketches_cli.specs.Said.{IsVerbOf, IsReportOf, texts_of};
+ghost use Rattle.datasketches_cli.specs.Said.{AreCountsOf, IsCommandOf, IsRestOf, IsWindowsRequestOf, with_word};
 ghost use Rattle.datasketches_cli.specs.Asking.{MakeWindows, MakeAdd, MakeTurn, MakeReport};
 
 use crate::request::Request;
@@ -11,20 +11,9 @@ use datasketches::frequencies::ErrorType;
 use datasketches::{Command, Spare};
 use std::alloc::{AllocError, Global};
 
-/// What a line says.
-#[derive(Drop)]
-pub enum Line {
-    /// It has no word.
-    Blank,
-    /// It asks for this.
-    Request(Request),
-    /// It is no text, or asks for nothing.
-    Bad,
-}
-
 /// The first word of a command.
 #[derive(Clone, Copy)]
-enum Verb {
+pub enum Verb {
     Create(Kind),
     Change(Edit),
     Join(JoinKind),
@@ -38,7 +27,7 @@ enum Verb {
 
 /// A kind of sketch.
 #[derive(Clone, Copy)]
-enum Kind {
+pub enum Kind {
     Frequent,
     FrequentSampled,
     CountI64,
@@ -48,7 +37,7 @@ enum Kind {
 
 /// A kind of change.
 #[derive(Clone, Copy)]
-enum Edit {
+pub enum Edit {
     Add,
     AddSigned,
     Insert,
@@ -59,7 +48,7 @@ enum Edit {
 
 /// A way to join sketches.
 #[derive(Clone, Copy)]
-enum JoinKind {
+pub enum JoinKind {
     Merge,
     Union,
     Intersect,
@@ -67,45 +56,16 @@ enum JoinKind {
 }
 
 /// How many words of a line are looked at: one more than the longest command has.
-const MOST_WORDS: usize = 6;
+pub const MOST_WORDS: usize = 6;
 
 /// The request that some words make, if they make one.
-type Asked = Result<Option<Request>, AllocError>;
+pub type Asked = Result<Option<Request>, AllocError>;
 
 /// The command that some words make, if they make one.
-type Made = Result<Option<Command<String>>, AllocError>;
-
-/// What a line says, which stands without its end. Its name and its item may take the memory of `spare`.
-pub fn parse(alloc: Global, line: &[u8], spare: &mut Spare<String>) -> Result<Line, AllocError>
-    ensures { IfOk result (IsSaid line.now) }
-{
-    let Ok(text) = str::from_utf8(line) else {
-        return Ok(Line::Bad);
-    };
-    let mut words = [""; MOST_WORDS];
-    let count = first_words(text, &mut words);
-    let words = &words[..count];
-    if words.is_empty() {
-        return Ok(Line::Blank);
-    }
-    match request_of(alloc, words, spare)? {
-        Some(request) => Ok(Line::Request(request)),
-        None => Ok(Line::Bad),
-    }
-}
-
-/// The request that the words make.
-fn request_of(alloc: Global, words: &[&str], spare: &mut Spare<String>) -> Asked
-    ensures { IfOk result (IsRequestOf (texts_of words.now)) }
-{
-    match command_of(alloc, words, spare)? {
-        Some(command) => Ok(Some(Request::Command(command))),
-        None => Ok(windows_request_of(alloc, words)?),
-    }
-}
+pub type Made = Result<Option<Command<String>>, AllocError>;
 
 /// The request on windows that the words make.
-fn windows_request_of(alloc: Global, words: &[&str]) -> Asked
+pub fn windows_request_of(alloc: Global, words: &[&str]) -> Asked
     ensures { IfOk result (IsWindowsRequestOf (texts_of words.now)) }
 {
     let [verb, rest @ ..] = words else {
@@ -174,7 +134,7 @@ fn hreport(words: &[&str]) -> Option<Request>
 }
 
 /// Puts the first words of a text, which stand between spaces, into an array. Answers how many there are.
-fn first_words<'a>(text: &'a str, words: &mut [&'a str; MOST_WORDS]) -> usize
+pub fn first_words<'a>(text: &'a str, words: &mut [&'a str; MOST_WORDS]) -> usize
     ensures few { result ≤ length words.new }
     ensures words { texts_of (take result words.new) ≡ take MOST_WORDS (words_of text.now) }
 {
@@ -205,42 +165,44 @@ fn next_word(text: &str) -> (&str, &str)
     text.split_at(first_place(b' ', text.as_bytes()))
 }
 
-/// The command that the words make.
-fn command_of(alloc: Global, words: &[&str], spare: &mut Spare<String>) -> Made
-    ensures { IfOk result (IsMade (texts_of words.now)) }
+/// The command of a verb and a name.
+pub fn command_of(
+    alloc: Global,
+    verb: Verb,
+    name: &str,
+    words: &[&str],
+    spare: &mut Spare<String>,
+) -> Made
+    ensures { IfOk result (IsCommandOf verb name.now (texts_of words.now)) }
 {
-    let [verb, name, rest @ ..] = words else {
-        return Ok(None);
-    };
-    let Some(verb) = verb_of(verb) else {
-        return Ok(None);
-    };
     match verb {
-        Verb::Create(kind) => create(alloc, kind, name, rest),
-        Verb::Change(edit) => change(alloc, edit, name, rest, spare),
-        Verb::Join(by) => join(alloc, by, name, rest),
-        Verb::Save => save(alloc, name, rest),
-        Verb::Restore => restore(alloc, name, rest),
-        Verb::Image => image(alloc, name, rest),
-        Verb::Ask => ask(alloc, name, rest, spare),
-        Verb::Status => status(alloc, name, rest),
-        Verb::Rows => rows(alloc, name, rest),
+        Verb::Create(kind) => create(alloc, kind, name, words),
+        Verb::Change(edit) => change(alloc, edit, name, words, spare),
+        Verb::Join(by) => join(alloc, by, name, words),
+        Verb::Save => save(alloc, name, words),
+        Verb::Restore => restore(alloc, name, words),
+        Verb::Image => image(alloc, name, words),
+        Verb::Ask => ask(alloc, name, words, spare),
+        Verb::Status => status(alloc, name, words),
+        Verb::Rows => rows(alloc, name, words),
     }
 }
 
 /// The verb that a word is.
-fn verb_of(word: &str) -> Option<Verb>
+pub fn verb_of(word: &str) -> Option<Verb>
     ensures { IsVerbOf word.now result }
 {
     match word {
+        // most lines begin with one of these
+        "add" => Some(Verb::Change(Edit::Add)),
+        "insert" => Some(Verb::Change(Edit::Insert)),
+        "ask" => Some(Verb::Ask),
+        "adds" => Some(Verb::Change(Edit::AddSigned)),
         "frequent" => Some(Verb::Create(Kind::Frequent)),
         "sampled" => Some(Verb::Create(Kind::FrequentSampled)),
         "counti" => Some(Verb::Create(Kind::CountI64)),
         "countu" => Some(Verb::Create(Kind::CountU64)),
         "bloom" => Some(Verb::Create(Kind::Bloom)),
-        "add" => Some(Verb::Change(Edit::Add)),
-        "adds" => Some(Verb::Change(Edit::AddSigned)),
-        "insert" => Some(Verb::Change(Edit::Insert)),
         "reset" => Some(Verb::Change(Edit::Reset)),
         "halve" => Some(Verb::Change(Edit::Halve)),
         "decay" => Some(Verb::Change(Edit::Decay)),
@@ -251,7 +213,6 @@ fn verb_of(word: &str) -> Option<Verb>
         "save" => Some(Verb::Save),
         "restore" => Some(Verb::Restore),
         "image" => Some(Verb::Image),
-        "ask" => Some(Verb::Ask),
         "status" => Some(Verb::Status),
         "rows" => Some(Verb::Rows),
         _ => None,
@@ -338,55 +299,101 @@ fn create(alloc: Global, kind: Kind, name: &str, words: &[&str]) -> Made
     }
 }
 
-fn change(alloc: Global, edit: Edit, name: &str, words: &[&str], spare: &mut Spare<String>) -> Made
+pub fn change(
+    alloc: Global,
+    edit: Edit,
+    name: &str,
+    words: &[&str],
+    spare: &mut Spare<String>,
+) -> Made
     ensures { IfOk result (IsCommandOf (Verb.Change edit) name.now (texts_of words.now)) }
 {
-    match (edit, words) {
-        (Edit::Add, [weight, item]) => {
-            let Some(weight) = number_of(weight) else {
-                return Ok(None);
-            };
-            let name = copied(alloc, name, &mut spare.name)?;
-            let item = copied(alloc, item, &mut spare.item)?;
-            Ok(Some(Command::Add { name, item, weight }))
-        }
-        (Edit::AddSigned, [weight, item]) => {
-            let Some(weight) = signed_number(weight) else {
-                return Ok(None);
-            };
-            let name = copied(alloc, name, &mut spare.name)?;
-            let item = copied(alloc, item, &mut spare.item)?;
-            Ok(Some(Command::AddSigned { name, item, weight }))
-        }
-        (Edit::Insert, [item]) => {
-            let name = copied(alloc, name, &mut spare.name)?;
-            let item = copied(alloc, item, &mut spare.item)?;
-            Ok(Some(Command::Insert { name, item }))
-        }
-        (Edit::Reset, []) => {
-            let name = String::from_str(alloc, name)?;
-            Ok(Some(Command::Reset { name }))
-        }
-        (Edit::Halve, []) => {
-            let name = String::from_str(alloc, name)?;
-            Ok(Some(Command::Halve { name }))
-        }
-        (Edit::Decay, [numerator, denominator]) => {
-            let (Some(numerator), Some(denominator)) = (
-                number_of(numerator),
-                number_of(denominator),
-            ) else {
-                return Ok(None);
-            };
-            let name = String::from_str(alloc, name)?;
-            Ok(Some(Command::Decay {
-                name,
-                numerator,
-                denominator,
-            }))
-        }
-        _ => Ok(None),
+    match edit {
+        Edit::Add => add(alloc, name, words, spare),
+        Edit::AddSigned => add_signed(alloc, name, words, spare),
+        Edit::Insert => insert(alloc, name, words, spare),
+        Edit::Reset => reset(alloc, name, words),
+        Edit::Halve => halve(alloc, name, words),
+        Edit::Decay => decay(alloc, name, words),
     }
+}
+
+#[inline(always)]
+pub fn add(alloc: Global, name: &str, words: &[&str], spare: &mut Spare<String>) -> Made
+    ensures { IfOk result (IsCommandOf (Verb.Change Edit.Add) name.now (texts_of words.now)) }
+{
+    let [weight, item] = words else {
+        return Ok(None);
+    };
+    let Some(weight) = number_of(weight) else {
+        return Ok(None);
+    };
+    let name = copied(alloc, name, &mut spare.name)?;
+    let item = copied(alloc, item, &mut spare.item)?;
+    Ok(Some(Command::Add { name, item, weight }))
+}
+
+fn add_signed(alloc: Global, name: &str, words: &[&str], spare: &mut Spare<String>) -> Made
+    ensures { IfOk result (IsCommandOf (Verb.Change Edit.AddSigned) name.now (texts_of words.now)) }
+{
+    let [weight, item] = words else {
+        return Ok(None);
+    };
+    let Some(weight) = signed_number(weight) else {
+        return Ok(None);
+    };
+    let name = copied(alloc, name, &mut spare.name)?;
+    let item = copied(alloc, item, &mut spare.item)?;
+    Ok(Some(Command::AddSigned { name, item, weight }))
+}
+
+#[inline(always)]
+pub fn insert(alloc: Global, name: &str, words: &[&str], spare: &mut Spare<String>) -> Made
+    ensures { IfOk result (IsCommandOf (Verb.Change Edit.Insert) name.now (texts_of words.now)) }
+{
+    let [item] = words else {
+        return Ok(None);
+    };
+    let name = copied(alloc, name, &mut spare.name)?;
+    let item = copied(alloc, item, &mut spare.item)?;
+    Ok(Some(Command::Insert { name, item }))
+}
+
+fn reset(alloc: Global, name: &str, words: &[&str]) -> Made
+    ensures { IfOk result (IsCommandOf (Verb.Change Edit.Reset) name.now (texts_of words.now)) }
+{
+    if !words.is_empty() {
+        return Ok(None);
+    }
+    let name = String::from_str(alloc, name)?;
+    Ok(Some(Command::Reset { name }))
+}
+
+fn halve(alloc: Global, name: &str, words: &[&str]) -> Made
+    ensures { IfOk result (IsCommandOf (Verb.Change Edit.Halve) name.now (texts_of words.now)) }
+{
+    if !words.is_empty() {
+        return Ok(None);
+    }
+    let name = String::from_str(alloc, name)?;
+    Ok(Some(Command::Halve { name }))
+}
+
+fn decay(alloc: Global, name: &str, words: &[&str]) -> Made
+    ensures { IfOk result (IsCommandOf (Verb.Change Edit.Decay) name.now (texts_of words.now)) }
+{
+    let [numerator, denominator] = words else {
+        return Ok(None);
+    };
+    let (Some(numerator), Some(denominator)) = (number_of(numerator), number_of(denominator)) else {
+        return Ok(None);
+    };
+    let name = String::from_str(alloc, name)?;
+    Ok(Some(Command::Decay {
+        name,
+        numerator,
+        denominator,
+    }))
 }
 
 fn join(alloc: Global, by: JoinKind, name: &str, words: &[&str]) -> Made
@@ -437,7 +444,8 @@ fn image(alloc: Global, name: &str, words: &[&str]) -> Made
     Ok(Some(Command::ShowImage { image }))
 }
 
-fn ask(alloc: Global, name: &str, words: &[&str], spare: &mut Spare<String>) -> Made
+#[inline(always)]
+pub fn ask(alloc: Global, name: &str, words: &[&str], spare: &mut Spare<String>) -> Made
     ensures { IfOk result (IsCommandOf Verb.Ask name.now (texts_of words.now)) }
 {
     let [item] = words else {
@@ -476,6 +484,7 @@ fn rows(alloc: Global, name: &str, words: &[&str]) -> Made
 }
 
 /// A copy of a text, in the memory of the spare one, if there is one.
+#[inline(always)]
 fn copied(alloc: Global, text: &str, spare: &mut Option<String>) -> Result<String, AllocError>
     ensures { IfOk result (λ copy. string_bytes copy ≡ text.now) }
 {

@@ -2,7 +2,8 @@
 ghost use Rattle.std.specs.Prelude.{◌≡◌, ◌++◌, OnOk, string_bytes, codes};
 ghost use Rattle.hex.specs.Hex.{encode_lower};
 ghost use Rattle.std.specs.List.{flat_map};
-ghost use Rattle.datasketches_cli.specs.Printing.{answer_text, report_text, reply_text, status_text, refusal_name, row_text};
+ghost use Rattle.datasketches_cli.specs.Printing.{report_text, reply_text, status_text, refusal_name, row_text};
+ghost use Rattle.datasketches_cli.specs.Transcript.{answer_line};
 
 use crate::request::Answer;
 use crate::serve::Stopped;
@@ -12,18 +13,22 @@ use heavy_windows::Report;
 use std::alloc::Global;
 use std::fmt::Write;
 
-/// Writes an answer's line, without its end.
+/// Writes an answer's line.
 #[inline(always)]
 pub fn write_answer(alloc: Global, out: &mut String, answer: &Answer) -> Result<(), Stopped>
-    ensures { OnOk result (string_bytes out.new ≡ string_bytes out.old ++ answer_text answer.now) }
+    ensures { OnOk result (string_bytes out.new ≡ string_bytes out.old ++ answer_line answer.now) }
 {
     match answer {
         Answer::Reply(reply) => write_reply(alloc, out, reply),
-        Answer::Report(report) => write_report(out, report),
+        Answer::Report(report) => {
+            write_report(out, report)?;
+            out.push_str("\n")?;
+            Ok(())
+        }
     }
 }
 
-/// Writes what weighed most in a tenant's windows.
+/// Writes what weighed most in a tenant's windows, without the line's end.
 fn write_report(out: &mut String, report: &Report<String>) -> Result<(), Stopped>
     ensures { OnOk result (string_bytes out.new ≡ string_bytes out.old ++ report_text report.now) }
 {
@@ -38,27 +43,34 @@ fn write_report(out: &mut String, report: &Report<String>) -> Result<(), Stopped
     Ok(())
 }
 
-/// Writes a reply's line, without its end.
+/// Writes a reply's line.
 #[inline(always)]
 fn write_reply(alloc: Global, out: &mut String, reply: &Reply<String>) -> Result<(), Stopped>
-    ensures { OnOk result (string_bytes out.new ≡ string_bytes out.old ++ reply_text reply.now) }
+    ensures { OnOk result (string_bytes out.new ≡ string_bytes out.old ++ (reply_text reply.now ++ codes "\n")) }
 {
     match reply {
-        Reply::Done => out.push_str("ok")?,
+        Reply::Done => out.push_str("ok\n")?,
         Reply::Bounds {
             estimate,
             lower,
             upper,
-        } => write!(out, "estimate {estimate} lower {lower} upper {upper}")?,
-        Reply::Contains(true) => out.push_str("yes")?,
-        Reply::Contains(false) => out.push_str("no")?,
-        Reply::Status(status) => write_status(out, status)?,
+        } => writeln!(out, "estimate {estimate} lower {lower} upper {upper}")?,
+        Reply::Contains(true) => out.push_str("yes\n")?,
+        Reply::Contains(false) => out.push_str("no\n")?,
+        Reply::Status(status) => {
+            write_status(out, status)?;
+            out.push_str("\n")?;
+        }
         Reply::Rows(rows) => {
             write!(out, "rows {}", rows.len())?;
             write_rows(out, rows)?;
+            out.push_str("\n")?;
         }
-        Reply::Image(bytes) => write_image(alloc, out, bytes)?,
-        Reply::Refused(refusal) => write!(out, "refused {}", refusal_name(refusal))?,
+        Reply::Image(bytes) => {
+            write_image(alloc, out, bytes)?;
+            out.push_str("\n")?;
+        }
+        Reply::Refused(refusal) => writeln!(out, "refused {}", refusal_name(refusal))?,
     }
     Ok(())
 }

@@ -4,14 +4,12 @@ ghost use Rattle.std.specs.Prelude.{string_bytes, string_len};
 ghost use Rattle.std.specs.Io.BufRead.{strip_last};
 ghost use Rattle.std.specs.Io.KnownBytes.{Appends, IsAtEnd, prepend_known};
 ghost use Rattle.datasketches_cli.specs.Counts.{HasGrown};
-ghost use Rattle.datasketches_cli.specs.Serving.{HasAnswered, SaysNext, WritesFront};
+ghost use Rattle.datasketches_cli.specs.Serving.{AnswersNext, WritesFront};
 ghost use Rattle.datasketches_cli.specs.Transcript.{Serves, bad_line};
 
+use crate::answering::{Line, answer_line};
 use crate::counted::Counted;
 use crate::line_reader::LineReader;
-use crate::parse::{Line, parse};
-use crate::reply::write_answer;
-use crate::request::Request;
 use crate::serving::Serving;
 use datasketches::Spare;
 use std::alloc::{AllocError, Global};
@@ -125,69 +123,55 @@ fn serve_lines<R: Read, W: Write>(
     for before in 0..u128::MAX {
         let number = before + 1;
         write_due(&lines, writer, &mut replies)?;
-        let Some(said) = next_line(alloc, &mut lines, reader, &mut line, &mut spare)? else {
+        let became = answer_next(
+            alloc,
+            &mut lines,
+            reader,
+            &mut line,
+            &mut serving,
+            &mut spare,
+            &mut replies,
+        )?;
+        let Some(became) = became else {
             write_out(writer, &mut replies)?;
             return Ok(Ended::All);
         };
-        match said {
-            Line::Blank => {}
-            Line::Request(request) => answer(
-                alloc,
-                &mut serving,
-                request,
-                &mut spare,
-                &mut replies,
-            )?,
-            Line::Bad => {
-                write_bad(writer, &mut replies, number)?;
-                return Ok(Ended::BadLine(number));
-            }
+        if let Line::Bad = became {
+            write_bad(writer, &mut replies, number)?;
+            return Ok(Ended::BadLine(number));
         }
     }
     Err(Stopped)
 }
 
-/// What the next line says, or `None` where no input is left.
+/// Does what the next line asks for, and gathers its answer. `None` where no input is left.
 ///
 /// A line that was read whole is looked at where it lies. Else it comes into the place of what `line` holds.
-fn next_line<R: Read>(
+fn answer_next<R: Read>(
     alloc: Global,
     lines: &mut LineReader,
     reader: &mut Counted<R>,
     line: &mut Vec<u8>,
+    serving: &mut Serving,
     spare: &mut Spare<String>,
+    replies: &mut String,
 ) -> Result<Option<Line>, Stopped>
-    ensures said { IfOk result (SaysNext (prepend_known lines.old (R.remaining reader.old.inner))
-        (prepend_known lines.new (R.remaining reader.new.inner))) }
+    ensures answered { IfOk result (AnswersNext (prepend_known lines.old (R.remaining reader.old.inner))
+        (prepend_known lines.new (R.remaining reader.new.inner)) serving.old serving.new
+        (string_bytes replies.old) (string_bytes replies.new)) }
     ensures end { IfOk result (λ said. said ≡ None → IsAtEnd (R.remaining reader.new.inner)) }
 {
     if lines.has_line() {
-        let said = parse(alloc, without_end(lines.line()), spare)?;
+        let became = answer_line(alloc, serving, without_end(lines.line()), spare, replies)?;
         lines.skip_line();
-        return Ok(Some(said));
+        return Ok(Some(became));
     }
-    if !lines.read_line(reader, line)? {
-        return Ok(None);
+    if lines.read_line(reader, line)? {
+        let became = answer_line(alloc, serving, without_end(line), spare, replies)?;
+        Ok(Some(became))
+    } else {
+        Ok(None)
     }
-    Ok(Some(parse(alloc, without_end(line), spare)?))
-}
-
-/// Does what a line asks for, and gathers its answer.
-#[inline(always)]
-fn answer(
-    alloc: Global,
-    serving: &mut Serving,
-    request: Request,
-    spare: &mut Spare<String>,
-    replies: &mut String,
-) -> Result<(), Stopped>
-    ensures { OnOk result (HasAnswered serving.old request serving.new
-        (string_bytes replies.old) (string_bytes replies.new)) }
-{
-    let answer = serving.apply(alloc, request, spare);
-    write_answer(alloc, replies, &answer)?;
-    replies.push_str("\n")?;
-    Ok(())
 }
 
 /// Writes the gathered replies, and names a bad line.

@@ -20,6 +20,9 @@ use std::alloc::Global;
 use std::hash::Hash;
 use std::mem;
 
+/// The most counts of a small sample.
+const SMALL_SAMPLE_SIZE: usize = 64;
+
 /// Where a look-up ended: at the item's slot, with its count, or at the free one where the item goes.
 #[derive(Drop)]
 pub(crate) struct Probe {
@@ -366,13 +369,30 @@ pub(crate) fn lower<T: Eq + Hash + Drop>(slots: &mut [Slot<T>], amount: u64) -> 
 }
 
 /// A middle count of the first `size` entries.
+///
+/// A sample's room is cleared before it is filled, and a small sketch is purged often: so a small sample has less of it.
 pub(crate) fn middle_of<T>(slots: &[Slot<T>], size: usize) -> u64
     requires some { 0 < size }
     requires few { size ≤ 1024 }
     requires active { size ≤ length (entries_of slots.now) }
     ensures { IsSampleMiddle size (entries_of slots.now) result }
 {
-    let mut sample: ArrayVec<u64, MAX_SAMPLE_SIZE> = ArrayVec::new_in(());
+    if size <= SMALL_SAMPLE_SIZE {
+        middle_in::<T, SMALL_SAMPLE_SIZE>(slots, size)
+    } else {
+        middle_in::<T, MAX_SAMPLE_SIZE>(slots, size)
+    }
+}
+
+/// The same, with room for `N` counts.
+fn middle_in<T, const N: usize>(slots: &[Slot<T>], size: usize) -> u64
+    requires some { 0 < size }
+    requires few { size ≤ N }
+    requires room { N ≤ 1024 }
+    requires active { size ≤ length (entries_of slots.now) }
+    ensures { IsSampleMiddle size (entries_of slots.now) result }
+{
+    let mut sample: ArrayVec<u64, N> = ArrayVec::new_in(());
     for slot in slots {
         if sample.len() == size {
             break;

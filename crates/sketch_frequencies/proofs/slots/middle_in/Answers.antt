@@ -3,8 +3,17 @@ use Rattle.std.proofs.lemmas.List.{map-append, length-map, take_all}
 use Rattle.sketch_frequencies.specs.Slots.{entries_of}
 use Rattle.sketch_frequencies.proofs.Samples.{entries_front, entries_taken, entries_passed}
 use Rattle.sketch_frequencies.proofs.Middle.{IsSampleMiddle-from_sort}
-use Rattle.sketch_frequencies.proofs.slots.middle_of.Goals as goal
-use Rattle.sketch_frequencies.proofs.slots.middle_of.Goals.{in-Taken, in_default, else-loop-slot-test, then-loop-slot-test+then-len-size}
+use Rattle.sketch_frequencies.proofs.slots.middle_in.Goals as goal
+use Rattle.sketch_frequencies.proofs.slots.middle_in.Goals.{in-Taken, in_default, else-loop-slot-test, then-loop-slot-test+then-len-size}
+
+pub new_in-sample-requires : goal.new_in-sample-requires
+new_in-sample-requires g c = omega (arith, c.requires.room)
+
+pub len-requires : goal.len-requires
+len-requires g c = omega (arith, c.requires.room)
+
+pub as_mut_slice-counts-requires : goal.as_mut_slice-counts-requires
+as_mut_slice-counts-requires g c = omega (arith, c.requires.room)
 
 pub loop-slot-preserved : goal.loop-slot-preserved
 loop-slot-preserved g c =

@@ -1,6 +1,6 @@
 use Rattle.std.proofs.Common.{◌≡◌, ◌≤◌, map, take, length}
 use Rattle.sketch_frequencies.specs.Slots.{entries_of}
-use Rattle.sketch_frequencies.proofs.slots.middle_of.Given as goal
+use Rattle.sketch_frequencies.proofs.slots.middle_in.Given as goal
 
 -- the counts so far, of no more entries than are wanted
 abbrev pub invariant-loop-slot : goal.invariant-loop-slot
