@@ -45,27 +45,87 @@ CALLS = {
 # What a call that was refused leaves, where that is no line of the above.
 LEFT = {"bytes 12 16": "bytes 4 7"}
 
-# Calls that take no memory.
+SPAM = 0xFBCEA83C8A378BF1
+FOX = 0xE34BBC7BBC071B6C ^ 0x7A433CA9C49A9347
+OVERFLOW = "refused argument WeightOverflow"
+
+# Calls that take no memory. Hashes, positions and buckets are published, or those of a program in another language,
+# written from the public descriptions.
 QUIET = {
+    "quiet_hashes": [
+        f"texts {SPAM} {SPAM} {0x44BC2CF5AD770999} {FOX} {FOX} {0xCB57126DD8878D21}",
+        f"items {0x3A92A5C0E5AA0E19} {0xF9870733D517E9C1} {0xB1214042AB4DFAD7}",
+    ],
+    "quiet_seeds": [f"seed {0x93CC}", "faults ZeroSeedHash SeedHashMismatch none"],
+    "quiet_refusals": [
+        "refusal memory NoMemory out of memory",
+        "refusal argument Mismatch shapes or seeds differ",
+        "refusal data BadFamily wrong family",
+        "families none none BadFamily",
+    ],
+    # lengths of 8, 8 and 4 + 2; 7, 252 and seven of 255, 2, and 97 + 98
+    "quiet_items": ["sizes 8 8 6", "writes" + 3 * " none", "bytes 22 2241"],
+    # 97 + 98, 5, 2 + 1, 3, the bytes of -2, which are 254 and three of 255, 7, and those of -4: 252 and seven of 255
+    "quiet_writes": ["writes" + 7 * " none", "bytes 29 3269"],
+    "quiet_reads": ["numbers 5 258 3 -2 7 -4", "97 98 left 2"],
+    "quiet_short_reads": ["reads" + 7 * " InsufficientData", "InsufficientData left 3"],
+    # the greatest number of 64 bits ends in 615
+    "quiet_fields": ["fields 258 3 -2 7", "615 by 1000", "faults none InsufficientData none BadVersion"],
     # the seventh item is one counter too many, and all counts are 1
     "quiet_updates": ["accepted 7", "frequent 0 1 7 6 8 0/0/1 0/0/1"],
-    "quiet_updates_by_reference": ["true true true true", "frequent 1 0 4 6 8 4/4/4"],
-    "quiet_merges": ["accepted", "frequent 1 0 1 6 8 1/1/1", "frequent 0 0 0 6 8 0/0/0"],
+    "quiet_updates_of_tracked": ["frequent 6 0 7 6 64 2/2/2 0/0/0"],
+    "quiet_updates_by_reference": ["faults" + 4 * " none", "frequent 1 0 4 6 8 4/4/4"],
+    # again all counts are 1
+    "quiet_purges": ["frequent 0 1 1537 1536 2048 0/0/1 0/0/1"],
+    "quiet_merges": ["frequent 1 0 1 6 8 1/1/1", "frequent 0 0 0 6 8 0/0/0"],
+    "quiet_frequent_refusals": [
+        "faults" + 5 * " WeightOverflow",
+        "frequent 1 0 18446744073709551615 6 8"
+        " 18446744073709551615/18446744073709551615/18446744073709551615 0/0/0",
+    ],
+    # 1 to 7 are 28, an `Option<i64>` takes 16 bytes, and 16 slots 28 bytes each
+    "quiet_frequent_questions": ["numbers 7 28 0 48 12 64 6 4 48 448", "tracked 3 3 3", "absent 0 0 0", "false"],
+    "quiet_bounds": ["tracked 5 6 6", "absent 0 0 1"],
+    "quiet_rows": ["row 2 2 2 1", "row 1 1 1 2", "equal false true"],
     "quiet_filters": [
         "true true true false false",
         "filter 3 256 3 9001 2",
         "filter 0 256 3 9001",
         "filter 0 256 3 9001",
     ],
-    "quiet_counts": [
-        "true true true true false",
-        "counts 11 3 64 9001 0 4 7 0",
-        "counts 2 3 64 9001 0 2 0 0",
+    # the positions of 5 are 103, 108 and 113, and those of 6 are 121, 39 and 213
+    "quiet_filter_questions": [
+        "numbers 3 256 3 7 32",
+        "contained true false",
+        "empty false true",
+        "compatible false true",
+        "equal false true",
     ],
-    # 97 + 98, 3, and the bytes of -4: 252 and seven of 255
-    "quiet_writes": ["true true true", "bytes 14 2235"],
-    "quiet_reads": ["25185 3"],
-    "quiet_session": ["answered 9 refused 0"],
+    "quiet_filter_refusals": ["faults" + 3 * " Mismatch", "filter 3 256 3 9001 2"],
+    "quiet_counts": ["faults" + 4 * " none", "false", "counts 11 3 64 9001 0 4 7 0", "counts 2 3 64 9001 0 2 0 0"],
+    # 1, 2 and 4 have buckets of their own in the first row, and the margin is e times 100 / 64
+    "quiet_count_questions": ["numbers 100 3 64 9001 1560", "counted 60 60 64", "absent 0 0 4", "false"],
+    "quiet_equal_counts": ["equal false true", "true"],
+    "quiet_count_refusals": ["faults WeightOverflow WeightOverflow WeightOverflow Mismatch", "255"],
+    "quiet_signed_refusals": ["WeightOverflow 0"],
+    # four words, 3 x 64 cells and 3 seeds of 8 bytes, and 8 slots of 28
+    "quiet_images": ["large" + 3 * " TableTooLarge", "none" + 3 * " InsufficientData"],
+    # the middle one of 0, 3, 3, 3 and 7 is 3
+    "quiet_table_changes": ["table 5 8 7 3 0", "purged 3", "table 1 8 4 0 0"],
+    # 8 slots of 28 bytes; what is absent is told from three entries of one home by a fourth slot
+    "quiet_table_questions": ["numbers 3 8 3 6 224", "counts 3 0", "5 0 looked 4"],
+    "quiet_table_walk": ["start 3 0", "sum 10 end 0 left 0 true"],
+    "quiet_new_session": ["refused NoSuchName"],
+    # 1, 9 and 3 are 13, of which a half is 6, and of that 3; the margin of -9 is e times 9 / 16
+    "quiet_session": 17 * ["done"]
+    + ["bounds 9 9 9", "bounds 3 3 3", "bounds -9 -9 -8", "contains true", "contains false"]
+    + ["frequent 2 0 11 8 8 6", "countu 3 2 16 9001", "counti 9 2 16 9001", "bloom 0 128 2 9001"],
+    "quiet_session_refusals": 18 * ["refused NoSuchName"]
+    + 12 * ["refused WrongKind"]
+    + ["refused NameTaken", "refused SameName", "refused SameName", "refused BadFraction", "refused BadFraction"]
+    + 3 * [OVERFLOW],
+    "quiet_windows": ["new BadWindows", "faults none none none WeightOverflow none", "report 10 0 a=8 b=2"],
+    "quiet_full_windows": ["faults none WeightOverflow"],
 }
 
 SKETCH = [

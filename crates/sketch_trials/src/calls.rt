@@ -1,7 +1,10 @@
-//! Each call that may answer want of memory, alone, and the calls that take none.
+//! Each call that may answer want of memory, alone.
 use crate::table::{free_table, grow, put, put_ref};
-use crate::tell::{tell_bytes, tell_counts, tell_error, tell_filter, tell_frequent, tell_outcome};
-use crate::trial::{Stopped, Trial};
+use crate::tell::{
+    tell_bytes, tell_counts, tell_error, tell_filter, tell_frequent, tell_outcome, tell_table,
+};
+use crate::texts::{sketch_of, text, texts};
+use crate::trial::{Stopped, Trial, say, say_line};
 use datasketches::bloom::{BloomFilter, BloomFilterBuilder};
 use datasketches::codec::SketchBytes;
 use datasketches::countmin::CountMinSketch;
@@ -13,44 +16,21 @@ use std::fmt::Write;
 /// The answer of a call, with the requests for memory of that call counted.
 macro_rules! counted {
     ($trial:ident, $call:expr) => {{
-        writeln!($trial.text, "call")?;
-        $trial.begin()?;
+        $trial.begin_call();
         let answer = $call;
-        $trial.end()?;
+        $trial.end();
         answer
     }};
 }
 
 /// What stands behind it was said after the call.
-fn after(trial: &mut Trial) -> Result<(), Stopped> {
-    writeln!(trial.text, "after")?;
-    Ok(())
-}
-
-fn text(alloc: Global, text: &str) -> Result<String, AllocError> {
-    String::from_str(alloc, text)
-}
-
-/// A sketch that holds these texts, once each.
-fn texts(
-    alloc: Global,
-    max_map_size: usize,
-    items: &[&str],
-) -> Result<FrequentItemsSketch<String>, Stopped> {
-    let mut sketch = FrequentItemsSketch::new(alloc, max_map_size)?;
-    for item in items {
-        sketch.update(text(alloc, item)?)?;
-    }
-    Ok(sketch)
+fn after(trial: &mut Trial) {
+    say_line!(trial, "after");
 }
 
 /// The texts that are asked for.
-fn asked(alloc: Global) -> Result<Vec<String>, Stopped> {
-    let mut asked = Vec::new(alloc);
-    for item in ["a", "b", "c", "g"] {
-        asked.push(text(alloc, item)?)?;
-    }
-    Ok(asked)
+fn asked(alloc: Global) -> Result<Vec<String>, AllocError> {
+    texts(alloc, &["a", "b", "c", "g"])
 }
 
 const SIX: [&str; 6] = ["a", "b", "c", "d", "e", "f"];
@@ -58,166 +38,201 @@ const SIX: [&str; 6] = ["a", "b", "c", "d", "e", "f"];
 pub fn new_frequent(trial: &mut Trial) -> Result<(), Stopped> {
     let alloc = trial.alloc;
     let made = counted!(trial, FrequentItemsSketch::<String>::new(alloc, 64));
-    tell_outcome(trial, made)
+    tell_outcome(trial, made);
+    Ok(())
+}
+
+/// A sketch of six texts, whose table must double for a seventh, and the texts that are asked for.
+#[derive(Drop)]
+struct Six {
+    asked: Vec<String>,
+    sketch: FrequentItemsSketch<String>,
+    seventh: String,
+}
+
+/// Makes it, and says what it holds.
+fn prepare(trial: &mut Trial) -> Result<Six, Stopped> {
+    let asked = asked(trial.alloc)?;
+    let seventh = text(trial.alloc, "g")?;
+    let sketch = sketch_of(trial.alloc, 64, &SIX)?;
+    tell_frequent(trial, &sketch, &asked);
+    Ok(Six {
+        asked,
+        sketch,
+        seventh,
+    })
+}
+
+/// Whether a change was accepted, and what a sketch holds after it.
+fn tell_changed(
+    trial: &mut Trial,
+    changed: Result<(), Error>,
+    sketch: &FrequentItemsSketch<String>,
+    asked: &[String],
+) {
+    tell_outcome(trial, changed);
+    after(trial);
+    tell_frequent(trial, sketch, asked);
+}
+
+/// What a made sketch holds, or why there is none.
+fn tell_made(
+    trial: &mut Trial,
+    made: Result<FrequentItemsSketch<String>, Error>,
+    asked: &[String],
+) {
+    match made {
+        Ok(sketch) => tell_frequent(trial, &sketch, asked),
+        Err(e) => tell_error(trial, e),
+    }
+}
+
+/// What an image has, or why there is none.
+fn tell_image(trial: &mut Trial, image: Result<Vec<u8>, Error>) {
+    match image {
+        Ok(image) => tell_bytes(trial, &image),
+        Err(e) => tell_error(trial, e),
+    }
 }
 
 /// The table must double for the seventh item.
 pub fn update(trial: &mut Trial) -> Result<(), Stopped> {
-    let alloc = trial.alloc;
-    let asked = asked(alloc)?;
-    let mut sketch = texts(alloc, 64, &SIX)?;
-    tell_frequent(trial, &sketch, &asked)?;
-    let item = text(alloc, "g")?;
-    let result = counted!(trial, sketch.update(item));
-    tell_outcome(trial, result)?;
-    after(trial)?;
-    tell_frequent(trial, &sketch, &asked)
+    let Six {
+        asked,
+        mut sketch,
+        seventh,
+    } = prepare(trial)?;
+    let updated = counted!(trial, sketch.update(seventh));
+    tell_changed(trial, updated, &sketch, &asked);
+    Ok(())
 }
 
 pub fn update_with_count(trial: &mut Trial) -> Result<(), Stopped> {
-    let alloc = trial.alloc;
-    let asked = asked(alloc)?;
-    let mut sketch = texts(alloc, 64, &SIX)?;
-    tell_frequent(trial, &sketch, &asked)?;
-    let item = text(alloc, "g")?;
-    let result = counted!(trial, sketch.update_with_count(item, 5));
-    tell_outcome(trial, result)?;
-    after(trial)?;
-    tell_frequent(trial, &sketch, &asked)
+    let Six {
+        asked,
+        mut sketch,
+        seventh,
+    } = prepare(trial)?;
+    let updated = counted!(trial, sketch.update_with_count(seventh, 5));
+    tell_changed(trial, updated, &sketch, &asked);
+    Ok(())
 }
 
 /// The item is cloned, and the table doubles.
 pub fn update_ref(trial: &mut Trial) -> Result<(), Stopped> {
-    let alloc = trial.alloc;
-    let asked = asked(alloc)?;
-    let mut sketch = texts(alloc, 64, &SIX)?;
-    tell_frequent(trial, &sketch, &asked)?;
-    let item = text(alloc, "g")?;
-    let result = counted!(trial, sketch.update_ref(&item));
-    tell_outcome(trial, result)?;
-    after(trial)?;
-    tell_frequent(trial, &sketch, &asked)
+    let mut six = prepare(trial)?;
+    let updated = counted!(trial, six.sketch.update_ref(&six.seventh));
+    tell_changed(trial, updated, &six.sketch, &six.asked);
+    Ok(())
 }
 
 pub fn update_with_count_ref(trial: &mut Trial) -> Result<(), Stopped> {
-    let alloc = trial.alloc;
-    let asked = asked(alloc)?;
-    let mut sketch = texts(alloc, 64, &SIX)?;
-    tell_frequent(trial, &sketch, &asked)?;
-    let item = text(alloc, "g")?;
-    let result = counted!(trial, sketch.update_with_count_ref(&item, 5));
-    tell_outcome(trial, result)?;
-    after(trial)?;
-    tell_frequent(trial, &sketch, &asked)
+    let mut six = prepare(trial)?;
+    let updated = counted!(trial, six.sketch.update_with_count_ref(&six.seventh, 5));
+    tell_changed(trial, updated, &six.sketch, &six.asked);
+    Ok(())
 }
 
 /// Items are cloned, and the table doubles.
 pub fn merge_frequent(trial: &mut Trial) -> Result<(), Stopped> {
-    let alloc = trial.alloc;
-    let asked = asked(alloc)?;
-    let mut sketch = texts(alloc, 64, &SIX)?;
-    let other = texts(alloc, 64, &["a", "g", "h"])?;
-    tell_frequent(trial, &sketch, &asked)?;
-    tell_frequent(trial, &other, &asked)?;
-    let result = counted!(trial, sketch.merge(&other));
-    tell_outcome(trial, result)?;
-    after(trial)?;
-    tell_frequent(trial, &sketch, &asked)?;
-    tell_frequent(trial, &other, &asked)
+    let mut six = prepare(trial)?;
+    let other = sketch_of(trial.alloc, 64, &["a", "g", "h"])?;
+    tell_frequent(trial, &other, &six.asked);
+    let merged = counted!(trial, six.sketch.merge(&other));
+    tell_changed(trial, merged, &six.sketch, &six.asked);
+    tell_frequent(trial, &other, &six.asked);
+    Ok(())
 }
 
 pub fn clone_frequent(trial: &mut Trial) -> Result<(), Stopped> {
-    let alloc = trial.alloc;
-    let asked = asked(alloc)?;
-    let sketch = texts(alloc, 64, &SIX)?;
-    tell_frequent(trial, &sketch, &asked)?;
-    match counted!(trial, sketch.try_clone()) {
-        Ok(clone) => tell_frequent(trial, &clone, &asked)?,
-        Err(e) => tell_error(trial, e)?,
-    }
-    after(trial)?;
-    tell_frequent(trial, &sketch, &asked)
+    let six = prepare(trial)?;
+    let clone = counted!(trial, six.sketch.try_clone());
+    tell_made(trial, clone, &six.asked);
+    after(trial);
+    tell_frequent(trial, &six.sketch, &six.asked);
+    Ok(())
+}
+
+/// A sketch of six texts of weights that differ.
+fn weighted(alloc: Global) -> Result<FrequentItemsSketch<String>, Stopped> {
+    let mut sketch = sketch_of(alloc, 64, &SIX)?;
+    sketch.update_with_count(text(alloc, "a")?, 2)?;
+    sketch.update_with_count(text(alloc, "b")?, 4)?;
+    Ok(sketch)
 }
 
 pub fn rows(trial: &mut Trial) -> Result<(), Stopped> {
-    let alloc = trial.alloc;
-    let asked = asked(alloc)?;
-    let mut sketch = texts(alloc, 64, &SIX)?;
-    sketch.update_with_count(text(alloc, "a")?, 2)?;
-    sketch.update_with_count(text(alloc, "b")?, 4)?;
-    tell_frequent(trial, &sketch, &asked)?;
+    let asked = asked(trial.alloc)?;
+    let sketch = weighted(trial.alloc)?;
+    tell_frequent(trial, &sketch, &asked);
     let rows = counted!(
         trial,
         sketch.frequent_items_with_threshold(ErrorType::NoFalsePositives, 1)
     );
-    tell_rows(trial, rows)?;
+    tell_rows(trial, rows);
     let rows = counted!(trial, sketch.frequent_items(ErrorType::NoFalseNegatives));
-    match rows {
-        Ok(rows) => writeln!(trial.text, "rows {}", rows.len())?,
-        Err(e) => tell_error(trial, e)?,
-    }
-    after(trial)?;
-    tell_frequent(trial, &sketch, &asked)
+    tell_length(trial, "rows", rows);
+    after(trial);
+    tell_frequent(trial, &sketch, &asked);
+    Ok(())
 }
 
-fn tell_rows(trial: &mut Trial, rows: Result<Vec<Row<String>>, Error>) -> Result<(), Stopped> {
+/// How long a list is, or why there is none.
+fn tell_length<V: Drop>(trial: &mut Trial, word: &str, list: Result<Vec<V>, Error>) {
+    match list {
+        Ok(list) => say_line!(trial, "{word} {}", list.len()),
+        Err(e) => tell_error(trial, e),
+    }
+}
+
+fn tell_rows(trial: &mut Trial, rows: Result<Vec<Row<String>>, Error>) {
     match rows {
         Ok(rows) => {
-            write!(trial.text, "rows")?;
+            say!(trial, "rows");
             for row in &rows {
-                write!(trial.text, " {}={}", row.item(), row.estimate())?;
+                say!(trial, " {}={}", row.item(), row.estimate());
             }
-            writeln!(trial.text)?;
+            say_line!(trial);
         }
-        Err(e) => tell_error(trial, e)?,
+        Err(e) => tell_error(trial, e),
     }
-    Ok(())
 }
 
 pub fn clone_row(trial: &mut Trial) -> Result<(), Stopped> {
     let alloc = trial.alloc;
-    let sketch = texts(alloc, 64, &["a"])?;
+    let sketch = sketch_of(alloc, 64, &["a"])?;
     for row in &sketch.frequent_items(ErrorType::NoFalseNegatives)? {
         match counted!(trial, row.try_clone()) {
-            Ok(clone) => writeln!(trial.text, "row {}={}", clone.item(), clone.estimate())?,
-            Err(e) => tell_error(trial, e)?,
+            Ok(clone) => say_line!(trial, "row {}={}", clone.item(), clone.estimate()),
+            Err(e) => tell_error(trial, e),
         }
     }
     Ok(())
 }
 
 pub fn serialize_frequent(trial: &mut Trial) -> Result<(), Stopped> {
-    let alloc = trial.alloc;
-    let asked = asked(alloc)?;
-    let sketch = texts(alloc, 64, &SIX)?;
-    tell_frequent(trial, &sketch, &asked)?;
-    match counted!(trial, sketch.serialize()) {
-        Ok(image) => tell_bytes(trial, &image)?,
-        Err(e) => tell_error(trial, e)?,
-    }
-    after(trial)?;
-    tell_frequent(trial, &sketch, &asked)
+    let six = prepare(trial)?;
+    let image = counted!(trial, six.sketch.serialize());
+    tell_image(trial, image);
+    after(trial);
+    tell_frequent(trial, &six.sketch, &six.asked);
+    Ok(())
 }
 
 pub fn deserialize_frequent(trial: &mut Trial) -> Result<(), Stopped> {
     let alloc = trial.alloc;
     let asked = asked(alloc)?;
-    let image = texts(alloc, 64, &SIX)?.serialize()?;
-    match counted!(
+    let image = sketch_of(alloc, 64, &SIX)?.serialize()?;
+    let made = counted!(
         trial,
         FrequentItemsSketch::<String>::deserialize(alloc, &image)
-    ) {
-        Ok(sketch) => tell_frequent(trial, &sketch, &asked)?,
-        Err(e) => tell_error(trial, e)?,
-    }
-    let limited = counted!(
+    );
+    tell_made(trial, made, &asked);
+    let made = counted!(
         trial,
         FrequentItemsSketch::<String>::deserialize_with_limit(alloc, &image, 1024)
     );
-    match limited {
-        Ok(sketch) => tell_frequent(trial, &sketch, &asked)?,
-        Err(e) => tell_error(trial, e)?,
-    }
+    tell_made(trial, made, &asked);
     Ok(())
 }
 
@@ -230,74 +245,66 @@ fn table(alloc: Global, items: &[&str]) -> Result<ReversePurgeItemHashMap<String
     Ok(map)
 }
 
-/// A table's numbers, and the counts of the items.
-fn tell_table(
-    trial: &mut Trial,
-    map: &ReversePurgeItemHashMap<String>,
-    items: &[String],
-) -> Result<(), Stopped> {
-    write!(trial.text, "table {} {}", map.num_active(), map.len())?;
-    for item in items {
-        write!(trial.text, " {}", map.get(item))?;
-    }
-    writeln!(trial.text)?;
-    Ok(())
-}
-
 pub fn new_table(trial: &mut Trial) -> Result<(), Stopped> {
     let alloc = trial.alloc;
     let made = counted!(trial, free_table::<String>(alloc, 8));
-    tell_outcome(trial, made)
+    tell_outcome(trial, made);
+    Ok(())
+}
+
+/// Whether a change was accepted, and what a table holds after it.
+fn tell_changed_table(
+    trial: &mut Trial,
+    changed: Result<(), Error>,
+    map: &ReversePurgeItemHashMap<String>,
+    asked: &[String],
+) {
+    tell_outcome(trial, changed);
+    after(trial);
+    tell_table(trial, map, asked);
 }
 
 pub fn add_ref(trial: &mut Trial) -> Result<(), Stopped> {
-    let alloc = trial.alloc;
-    let asked = asked(alloc)?;
-    let mut map = table(alloc, &SIX)?;
-    tell_table(trial, &map, &asked)?;
-    let item = text(alloc, "g")?;
-    let result = counted!(trial, put_ref(&mut map, &item, 4));
-    tell_outcome(trial, result)?;
-    after(trial)?;
-    tell_table(trial, &map, &asked)
+    let asked = asked(trial.alloc)?;
+    let item = text(trial.alloc, "g")?;
+    let mut map = table(trial.alloc, &SIX)?;
+    tell_table(trial, &map, &asked);
+    let added = counted!(trial, put_ref(&mut map, &item, 4));
+    tell_changed_table(trial, added, &map, &asked);
+    Ok(())
 }
 
 pub fn resize(trial: &mut Trial) -> Result<(), Stopped> {
-    let alloc = trial.alloc;
-    let asked = asked(alloc)?;
-    let mut map = table(alloc, &SIX)?;
-    tell_table(trial, &map, &asked)?;
-    let result = counted!(trial, grow(&mut map, 32));
-    tell_outcome(trial, result)?;
-    after(trial)?;
-    tell_table(trial, &map, &asked)
+    let asked = asked(trial.alloc)?;
+    let mut map = table(trial.alloc, &SIX)?;
+    tell_table(trial, &map, &asked);
+    let resized = counted!(trial, grow(&mut map, 32));
+    tell_changed_table(trial, resized, &map, &asked);
+    Ok(())
 }
 
 pub fn clone_table(trial: &mut Trial) -> Result<(), Stopped> {
-    let alloc = trial.alloc;
-    let asked = asked(alloc)?;
-    let map = table(alloc, &SIX)?;
-    tell_table(trial, &map, &asked)?;
+    let asked = asked(trial.alloc)?;
+    let map = table(trial.alloc, &SIX)?;
+    tell_table(trial, &map, &asked);
     match counted!(trial, map.try_clone()) {
-        Ok(clone) => tell_table(trial, &clone, &asked)?,
-        Err(e) => tell_error(trial, e)?,
+        Ok(clone) => tell_table(trial, &clone, &asked),
+        Err(e) => tell_error(trial, e),
     }
-    after(trial)?;
-    tell_table(trial, &map, &asked)
+    after(trial);
+    tell_table(trial, &map, &asked);
+    Ok(())
 }
 
 pub fn entries(trial: &mut Trial) -> Result<(), Stopped> {
-    let alloc = trial.alloc;
-    let asked = asked(alloc)?;
-    let map = table(alloc, &SIX)?;
-    tell_table(trial, &map, &asked)?;
+    let asked = asked(trial.alloc)?;
+    let map = table(trial.alloc, &SIX)?;
+    tell_table(trial, &map, &asked);
     let entries = counted!(trial, map.active_entries());
-    match entries {
-        Ok(entries) => writeln!(trial.text, "entries {}", entries.len())?,
-        Err(e) => tell_error(trial, e)?,
-    }
-    after(trial)?;
-    tell_table(trial, &map, &asked)
+    tell_length(trial, "entries", entries);
+    after(trial);
+    tell_table(trial, &map, &asked);
+    Ok(())
 }
 
 /// A filter of these numbers.
@@ -312,55 +319,55 @@ fn filter(alloc: Global, items: &[u64]) -> Result<BloomFilter, Error> {
 pub fn new_filter(trial: &mut Trial) -> Result<(), Stopped> {
     let alloc = trial.alloc;
     let made = counted!(trial, BloomFilterBuilder::with_size(256, 3).build(alloc));
-    tell_outcome(trial, made)
+    tell_outcome(trial, made);
+    Ok(())
+}
+
+/// What a made filter holds, or why there is none.
+fn tell_made_filter(trial: &mut Trial, made: Result<BloomFilter, Error>) {
+    match made {
+        Ok(filter) => tell_filter(trial, &filter),
+        Err(e) => tell_error(trial, e),
+    }
+}
+
+/// A clone by the trait.
+fn cloned_filter(filter: &BloomFilter) -> Result<BloomFilter, Error> {
+    Ok(filter.clone()?)
 }
 
 pub fn clone_filter(trial: &mut Trial) -> Result<(), Stopped> {
-    let alloc = trial.alloc;
-    let filter = filter(alloc, &[1, 2, 5])?;
-    tell_filter(trial, &filter)?;
-    match counted!(trial, filter.try_clone()) {
-        Ok(clone) => tell_filter(trial, &clone)?,
-        Err(e) => tell_error(trial, e)?,
-    }
-    writeln!(trial.text, "call")?;
-    trial.begin()?;
-    let clone: Result<BloomFilter, AllocError> = filter.clone();
-    trial.end()?;
-    match clone {
-        Ok(clone) => tell_filter(trial, &clone)?,
-        Err(e) => tell_error(trial, Error::from(e))?,
-    }
-    after(trial)?;
-    tell_filter(trial, &filter)
+    let filter = filter(trial.alloc, &[1, 2, 5])?;
+    tell_filter(trial, &filter);
+    let clone = counted!(trial, filter.try_clone());
+    tell_made_filter(trial, clone);
+    let clone = counted!(trial, cloned_filter(&filter));
+    tell_made_filter(trial, clone);
+    after(trial);
+    tell_filter(trial, &filter);
+    Ok(())
 }
 
 pub fn serialize_filter(trial: &mut Trial) -> Result<(), Stopped> {
-    let alloc = trial.alloc;
-    let filter = filter(alloc, &[1, 2, 5])?;
-    tell_filter(trial, &filter)?;
-    match counted!(trial, filter.serialize()) {
-        Ok(image) => tell_bytes(trial, &image)?,
-        Err(e) => tell_error(trial, e)?,
-    }
-    after(trial)?;
-    tell_filter(trial, &filter)
+    let filter = filter(trial.alloc, &[1, 2, 5])?;
+    tell_filter(trial, &filter);
+    let image = counted!(trial, filter.serialize());
+    tell_image(trial, image);
+    after(trial);
+    tell_filter(trial, &filter);
+    Ok(())
 }
 
 pub fn deserialize_filter(trial: &mut Trial) -> Result<(), Stopped> {
     let alloc = trial.alloc;
     let image = filter(alloc, &[1, 2, 5])?.serialize()?;
-    match counted!(trial, BloomFilter::deserialize(alloc, &image)) {
-        Ok(filter) => tell_filter(trial, &filter)?,
-        Err(e) => tell_error(trial, e)?,
-    }
-    match counted!(
+    let made = counted!(trial, BloomFilter::deserialize(alloc, &image));
+    tell_made_filter(trial, made);
+    let made = counted!(
         trial,
         BloomFilter::deserialize_with_limit(alloc, &image, 32)
-    ) {
-        Ok(filter) => tell_filter(trial, &filter)?,
-        Err(e) => tell_error(trial, e)?,
-    }
+    );
+    tell_made_filter(trial, made);
     Ok(())
 }
 
@@ -376,67 +383,64 @@ fn counts(alloc: Global, num_buckets: u32) -> Result<CountMinSketch<u64>, Error>
 pub fn new_counts(trial: &mut Trial) -> Result<(), Stopped> {
     let alloc = trial.alloc;
     let made = counted!(trial, CountMinSketch::<u64>::new(alloc, 3, 64));
-    tell_outcome(trial, made)?;
+    tell_outcome(trial, made);
     let made = counted!(trial, CountMinSketch::<i8>::with_seed(alloc, 3, 64, 7));
-    tell_outcome(trial, made)
+    tell_outcome(trial, made);
+    Ok(())
+}
+
+/// What a made sketch holds, or why there is none.
+fn tell_made_counts(trial: &mut Trial, made: Result<CountMinSketch<u64>, Error>) {
+    match made {
+        Ok(sketch) => tell_counts(trial, &sketch),
+        Err(e) => tell_error(trial, e),
+    }
+}
+
+/// A clone by the trait.
+fn cloned_counts(sketch: &CountMinSketch<u64>) -> Result<CountMinSketch<u64>, Error> {
+    Ok(sketch.clone()?)
 }
 
 pub fn clone_counts(trial: &mut Trial) -> Result<(), Stopped> {
-    let alloc = trial.alloc;
-    let sketch = counts(alloc, 64)?;
-    tell_counts(trial, &sketch)?;
-    match counted!(trial, sketch.try_clone()) {
-        Ok(clone) => tell_counts(trial, &clone)?,
-        Err(e) => tell_error(trial, e)?,
-    }
-    writeln!(trial.text, "call")?;
-    trial.begin()?;
-    let clone: Result<CountMinSketch<u64>, AllocError> = sketch.clone();
-    trial.end()?;
-    match clone {
-        Ok(clone) => tell_counts(trial, &clone)?,
-        Err(e) => tell_error(trial, Error::from(e))?,
-    }
-    after(trial)?;
-    tell_counts(trial, &sketch)
+    let sketch = counts(trial.alloc, 64)?;
+    tell_counts(trial, &sketch);
+    let clone = counted!(trial, sketch.try_clone());
+    tell_made_counts(trial, clone);
+    let clone = counted!(trial, cloned_counts(&sketch));
+    tell_made_counts(trial, clone);
+    after(trial);
+    tell_counts(trial, &sketch);
+    Ok(())
 }
 
 pub fn serialize_counts(trial: &mut Trial) -> Result<(), Stopped> {
-    let alloc = trial.alloc;
-    let sketch = counts(alloc, 64)?;
-    tell_counts(trial, &sketch)?;
-    match counted!(trial, sketch.serialize()) {
-        Ok(image) => tell_bytes(trial, &image)?,
-        Err(e) => tell_error(trial, e)?,
+    let sketch = counts(trial.alloc, 64)?;
+    tell_counts(trial, &sketch);
+    let image = counted!(trial, sketch.serialize());
+    tell_image(trial, image);
+    after(trial);
+    tell_counts(trial, &sketch);
+    Ok(())
+}
+
+/// The sketch of an image, by one of the four calls.
+fn read_counts(alloc: Global, place: u8, image: &[u8]) -> Result<CountMinSketch<u64>, Error> {
+    let size = 4096;
+    match place {
+        0 => CountMinSketch::deserialize(alloc, image),
+        1 => CountMinSketch::deserialize_with_seed(alloc, image, 9001),
+        2 => CountMinSketch::deserialize_with_limit(alloc, image, size),
+        _ => CountMinSketch::deserialize_with_seed_and_limit(alloc, image, 9001, size),
     }
-    after(trial)?;
-    tell_counts(trial, &sketch)
 }
 
 pub fn deserialize_counts(trial: &mut Trial) -> Result<(), Stopped> {
     let alloc = trial.alloc;
     let image = counts(alloc, 64)?.serialize()?;
-    let size = 4096;
     for place in 0..4 {
-        let sketch = match place {
-            0 => counted!(trial, CountMinSketch::<u64>::deserialize(alloc, &image)),
-            1 => counted!(
-                trial,
-                CountMinSketch::<u64>::deserialize_with_seed(alloc, &image, 9001)
-            ),
-            2 => counted!(
-                trial,
-                CountMinSketch::<u64>::deserialize_with_limit(alloc, &image, size)
-            ),
-            _ => counted!(
-                trial,
-                CountMinSketch::<u64>::deserialize_with_seed_and_limit(alloc, &image, 9001, size)
-            ),
-        };
-        match sketch {
-            Ok(sketch) => tell_counts(trial, &sketch)?,
-            Err(e) => tell_error(trial, e)?,
-        }
+        let made = counted!(trial, read_counts(alloc, place, &image));
+        tell_made_counts(trial, made);
     }
     Ok(())
 }
@@ -444,7 +448,8 @@ pub fn deserialize_counts(trial: &mut Trial) -> Result<(), Stopped> {
 pub fn bytes(trial: &mut Trial) -> Result<(), Stopped> {
     let alloc = trial.alloc;
     let made = counted!(trial, SketchBytes::with_capacity(alloc, 4));
-    tell_outcome(trial, made)
+    tell_outcome(trial, made);
+    Ok(())
 }
 
 /// A write beyond the capacity.
@@ -452,6 +457,7 @@ pub fn bytes_beyond(trial: &mut Trial) -> Result<(), Stopped> {
     let mut bytes = SketchBytes::with_capacity(trial.alloc, 4)?;
     bytes.write_u32_le(7)?;
     let beyond = counted!(trial, bytes.write_u64_le(9));
-    tell_outcome(trial, beyond)?;
-    tell_bytes(trial, &bytes.into_bytes())
+    tell_outcome(trial, beyond);
+    tell_bytes(trial, &bytes.into_bytes());
+    Ok(())
 }

@@ -6,7 +6,7 @@ ghost use Rattle.std.specs.Hash as fed;
 
 use crate::table::{free_table, grow, purge, put, put_ref};
 use crate::tell::{tell_error, tell_frequent, tell_outcome};
-use crate::trial::{Stopped, Trial};
+use crate::trial::{Stopped, Trial, say, say_line};
 use datasketches::codec::{SketchBytes, SketchSlice};
 use datasketches::error::{Error, Fault};
 use datasketches::frequencies::{
@@ -320,11 +320,11 @@ where
     requires clones { (x y : T) → T.is_clone x y → IsTrue (T.eq x y) }
 {
     let rows = sketch.frequent_items_with_threshold(ErrorType::NoFalsePositives, 1)?;
-    write!(trial.text, "rows")?;
+    say!(trial, "rows");
     for row in &rows {
-        write!(trial.text, " {}={}", row.item().number(), row.estimate())?;
+        say!(trial, " {}={}", row.item().number(), row.estimate());
     }
-    writeln!(trial.text)?;
+    say_line!(trial);
     Ok(())
 }
 
@@ -336,14 +336,15 @@ where
 {
     let asked = asked::<T>(trial.alloc)?;
     let mut sketch = updated::<T>(trial.alloc)?;
-    tell_frequent(trial, &sketch, &asked)?;
+    tell_frequent(trial, &sketch, &asked);
     sketch.merge(&of_one::<T>(trial.alloc, 2 + APART, 20)?)?;
-    tell_frequent(trial, &sketch, &asked)?;
+    tell_frequent(trial, &sketch, &asked);
     let copy = restored(trial.alloc, &sketch)?;
-    tell_frequent(trial, &copy, &asked)?;
+    tell_frequent(trial, &copy, &asked);
     tell_rows(trial, &copy)?;
     purged(&mut sketch)?;
-    tell_frequent(trial, &sketch, &asked)
+    tell_frequent(trial, &sketch, &asked);
+    Ok(())
 }
 
 /// An update and a merge that clone a marked item.
@@ -355,11 +356,12 @@ where
     let asked = asked::<T>(trial.alloc)?;
     let mut sketch = of_one::<T>(trial.alloc, 2, 1)?;
     let updated = sketch.update_with_count_ref(&T::of(MARKED), 4);
-    tell_outcome(trial, updated)?;
-    tell_frequent(trial, &sketch, &asked)?;
+    tell_outcome(trial, updated);
+    tell_frequent(trial, &sketch, &asked);
     let merged = sketch.merge(&of_one::<T>(trial.alloc, MARKED, 2)?);
-    tell_outcome(trial, merged)?;
-    tell_frequent(trial, &sketch, &asked)
+    tell_outcome(trial, merged);
+    tell_frequent(trial, &sketch, &asked);
+    Ok(())
 }
 
 /// The calls that clone or write, of a sketch of a marked item, which is not cloned for an update where it is tracked.
@@ -371,11 +373,12 @@ where
     let asked = asked::<T>(trial.alloc)?;
     let mut sketch = of_one::<T>(trial.alloc, MARKED, 1)?;
     let updated = sketch.update_ref(&T::of(MARKED));
-    tell_outcome(trial, updated)?;
-    tell_outcome(trial, sketch.try_clone())?;
-    tell_outcome(trial, sketch.frequent_items(ErrorType::NoFalseNegatives))?;
-    tell_outcome(trial, sketch.serialize())?;
-    tell_frequent(trial, &sketch, &asked)
+    tell_outcome(trial, updated);
+    tell_outcome(trial, sketch.try_clone());
+    tell_outcome(trial, sketch.frequent_items(ErrorType::NoFalseNegatives));
+    tell_outcome(trial, sketch.serialize());
+    tell_frequent(trial, &sketch, &asked);
+    Ok(())
 }
 
 /// The calls of the table.
@@ -416,10 +419,13 @@ where
     match map.try_clone() {
         Ok(mut clone) => {
             let middle = purge(&mut clone);
-            writeln!(trial.text, "purged {middle}")?;
+            say_line!(trial, "purged {middle}");
             tell_table(trial, &clone)
         }
-        Err(e) => tell_error(trial, e),
+        Err(e) => {
+            tell_error(trial, e);
+            Ok(())
+        }
     }
 }
 
@@ -433,18 +439,18 @@ fn tell_table<T: FrequentItemValue + Numbered + Drop>(
         sum = sum.wrapping_add(count);
     }
     let entries = map.active_entries()?;
-    write!(
-        trial.text,
+    say!(
+        trial,
         "table {} {} {} {}",
         map.num_active(),
         map.len(),
         sum,
         entries.len()
-    )?;
+    );
     for item in &asked::<T>(trial.alloc)? {
         let (count, _) = map.get_counted(item);
-        write!(trial.text, " {count}")?;
+        say!(trial, " {count}");
     }
-    writeln!(trial.text)?;
+    say_line!(trial);
     Ok(())
 }

@@ -20,12 +20,18 @@
 ghost use Rattle.std.specs.Prelude.{IsTrue};
 
 mod calls;
+mod commands;
 mod items;
-mod quiet;
+mod quiet_base;
+mod quiet_filters;
+mod quiet_frequent;
+mod quiet_session;
+mod quiet_table;
 mod ranges;
 mod session;
 mod table;
 mod tell;
+mod texts;
 mod trial;
 mod windows;
 
@@ -53,10 +59,10 @@ fn main(rt: HostRuntime) -> ExitCode {
         }
     }
     let played = play(&mut trial, name.as_str(), &places);
-    if played.is_err() || rt.print(&trial.text).is_err() {
-        return ExitCode::from(3);
+    match trial.text() {
+        Ok(text) if played.is_ok() && rt.print(text).is_ok() => ExitCode::SUCCESS,
+        _ => ExitCode::from(3),
     }
-    ExitCode::SUCCESS
 }
 
 /// Plays the trial of the name.
@@ -141,14 +147,47 @@ fn play_bytes(trial: &mut Trial, call: &str) -> Result<(), Stopped> {
 
 fn play_quiet(trial: &mut Trial, calls: &str) -> Result<(), Stopped> {
     match calls {
-        "updates" => quiet::updates(trial),
-        "updates_by_reference" => quiet::updates_by_reference(trial),
-        "merges" => quiet::merges(trial),
-        "filters" => quiet::filters(trial),
-        "counts" => quiet::counts(trial),
-        "writes" => quiet::writes(trial),
-        "reads" => quiet::reads(trial),
-        "session" => quiet::session(trial),
+        "updates" => quiet_frequent::updates(trial),
+        "updates_of_tracked" => quiet_frequent::updates_of_tracked(trial),
+        "updates_by_reference" => quiet_frequent::updates_by_reference(trial),
+        "purges" => quiet_frequent::purges(trial),
+        "merges" => quiet_frequent::merges(trial),
+        "frequent_refusals" => quiet_frequent::frequent_refusals(trial),
+        "frequent_questions" => quiet_frequent::frequent_questions(trial),
+        "bounds" => quiet_frequent::bounds(trial),
+        "rows" => quiet_frequent::rows(trial),
+        "filters" => quiet_filters::filters(trial),
+        "filter_questions" => quiet_filters::filter_questions(trial),
+        "filter_refusals" => quiet_filters::filter_refusals(trial),
+        "counts" => quiet_filters::counts(trial),
+        "count_questions" => quiet_filters::count_questions(trial),
+        "equal_counts" => quiet_filters::equal_counts(trial),
+        "count_refusals" => quiet_filters::count_refusals(trial),
+        "signed_refusals" => quiet_filters::signed_refusals(trial),
+        "images" => quiet_filters::images(trial),
+        _ => play_quiet_parts(trial, calls),
+    }
+}
+
+/// The same of what the sketches are made of, and of what is made of them.
+fn play_quiet_parts(trial: &mut Trial, calls: &str) -> Result<(), Stopped> {
+    match calls {
+        "hashes" => quiet_base::hashes(trial),
+        "seeds" => quiet_base::seeds(trial),
+        "refusals" => quiet_base::refusals(trial),
+        "writes" => quiet_base::writes(trial),
+        "items" => quiet_base::items(trial),
+        "reads" => quiet_base::reads(trial),
+        "short_reads" => quiet_base::short_reads(trial),
+        "fields" => quiet_base::fields(trial),
+        "table_changes" => quiet_table::changes(trial),
+        "table_questions" => quiet_table::questions(trial),
+        "table_walk" => quiet_table::walk(trial),
+        "new_session" => quiet_session::new_session(trial),
+        "session" => quiet_session::session(trial),
+        "session_refusals" => quiet_session::refusals(trial),
+        "windows" => quiet_session::windows(trial),
+        "full_windows" => quiet_session::full_windows(trial),
         _ => Err(Stopped),
     }
 }

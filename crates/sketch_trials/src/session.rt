@@ -1,106 +1,62 @@
 //! A run of a session over commands of all kinds.
-use crate::tell::{tell_error, tell_reply};
-use crate::trial::{Stopped, Trial};
-use datasketches::frequencies::ErrorType;
+use crate::commands::{Said, commands};
+use crate::tell::{tell_error, tell_replies};
+use crate::trial::{Stopped, Trial, say, say_line};
 use datasketches::{Command, Session};
 use std::alloc::{AllocError, Global};
 use std::fmt::Write;
 
-fn text(alloc: Global, text: &str) -> Result<String, AllocError> {
-    String::from_str(alloc, text)
-}
-
-fn add(alloc: Global, name: &str, weight: u64, item: &str) -> Result<Command<String>, AllocError> {
-    Ok(Command::Add {
-        name: text(alloc, name)?,
-        item: text(alloc, item)?,
-        weight,
-    })
-}
-
-fn insert(alloc: Global, name: &str, item: &str) -> Result<Command<String>, AllocError> {
-    Ok(Command::Insert {
-        name: text(alloc, name)?,
-        item: text(alloc, item)?,
-    })
-}
-
-fn merge(alloc: Global, into: &str, other: &str) -> Result<Command<String>, AllocError> {
-    Ok(Command::Merge {
-        into: text(alloc, into)?,
-        other: text(alloc, other)?,
-    })
-}
-
-fn save(alloc: Global, name: &str, image: &str) -> Result<Command<String>, AllocError> {
-    Ok(Command::Save {
-        name: text(alloc, name)?,
-        image: text(alloc, image)?,
-    })
-}
-
-fn restore(alloc: Global, image: &str, name: &str) -> Result<Command<String>, AllocError> {
-    Ok(Command::Restore {
-        image: text(alloc, image)?,
-        name: text(alloc, name)?,
-    })
-}
-
-fn ask(alloc: Global, name: &str, item: &str) -> Result<Command<String>, AllocError> {
-    Ok(Command::Ask {
-        name: text(alloc, name)?,
-        item: text(alloc, item)?,
-    })
-}
-
-fn rows(alloc: Global, name: &str) -> Result<Command<String>, AllocError> {
-    Ok(Command::ListRows {
-        name: text(alloc, name)?,
-        error_type: ErrorType::NoFalseNegatives,
-        threshold: 0,
-    })
-}
-
-fn frequent(alloc: Global, name: &str, max_map_size: usize) -> Result<Command<String>, AllocError> {
-    Ok(Command::CreateFrequent {
-        name: text(alloc, name)?,
-        max_map_size,
-    })
-}
+/// A text that is kept on the heap.
+const LONG: &str = "a longer item, not kept in place";
 
 /// Sketches of all four kinds.
-fn create(alloc: Global, commands: &mut Vec<Command<String>>) -> Result<(), AllocError> {
-    commands.push(frequent(alloc, "f", 8)?)?;
-    commands.push(frequent(alloc, "g", 64)?)?;
-    commands.push(Command::CreateCountU64 {
-        name: text(alloc, "c")?,
-        num_hashes: 2,
-        num_buckets: 16,
-        seed: 9001,
-    })?;
-    commands.push(Command::CreateCountI64 {
-        name: text(alloc, "i")?,
-        num_hashes: 2,
-        num_buckets: 16,
-        seed: 9001,
-    })?;
-    commands.push(Command::CreateBloom {
-        name: text(alloc, "b")?,
-        num_bits: 128,
-        num_hashes: 2,
-        seed: 9001,
-    })?;
-    commands.push(Command::CreateBloom {
-        name: text(alloc, "d")?,
-        num_bits: 128,
-        num_hashes: 2,
-        seed: 9001,
-    })?;
-    Ok(())
-}
+const MADE: [Said; 6] = [
+    Said::Frequent("f", 8),
+    Said::Frequent("g", 64),
+    Said::CountU64("c"),
+    Said::CountI64("i"),
+    Said::Bloom("b"),
+    Said::Bloom("d"),
+];
+
+/// Images, and sketches that come back from them.
+const SAVED: [Said; 15] = [
+    Said::Save("f", "f"),
+    Said::ShowImage("f"),
+    Said::Save("g", "g"),
+    Said::ShowImage("g"),
+    Said::Save("c", "c"),
+    Said::ShowImage("c"),
+    Said::Save("i", "i"),
+    Said::ShowImage("i"),
+    Said::Save("b", "b"),
+    Said::ShowImage("b"),
+    Said::Restore("f", "f2"),
+    Said::Restore("g", "g2"),
+    Said::Restore("c", "c2"),
+    Said::Restore("i", "i2"),
+    Said::Restore("b", "b2"),
+];
+
+/// The joins, and what is done to weights and sets.
+const JOINED: [Said; 13] = [
+    Said::Merge("f", "f2"),
+    Said::Merge("g", "g2"),
+    Said::Merge("c", "c2"),
+    Said::Merge("i", "i2"),
+    Said::Merge("c", "i"),
+    Said::Union("b", "d"),
+    Said::Intersect("b2", "b"),
+    Said::Difference("d", "b2"),
+    Said::Halve("c2"),
+    Said::Decay("c", 1, 3),
+    Said::Reset("f2"),
+    Said::ListRows("g"),
+    Said::ListRows("f"),
+];
 
 /// The one purge leaves no choice, since all counts are 3. All weights in `g` differ.
-fn feed(alloc: Global, commands: &mut Vec<Command<String>>) -> Result<(), AllocError> {
+fn feed(all: &mut Vec<Said>) -> Result<(), AllocError> {
     for (weight, item) in [
         (1, "p"),
         (2, "q"),
@@ -110,139 +66,67 @@ fn feed(alloc: Global, commands: &mut Vec<Command<String>>) -> Result<(), AllocE
         (32, "u"),
         (64, "v"),
     ] {
-        commands.push(add(alloc, "f", 3, item)?)?;
-        commands.push(add(alloc, "g", weight, item)?)?;
-        commands.push(insert(alloc, "b", item)?)?;
+        all.push(Said::Add("f", 3, item))?;
+        all.push(Said::Add("g", weight, item))?;
+        all.push(Said::Insert("b", item))?;
     }
-    for (weight, item) in [
-        (200, "q"),
-        (400, "r"),
-        (800, "a longer item, not kept in place"),
-    ] {
-        commands.push(add(alloc, "g", weight, item)?)?;
-        commands.push(add(alloc, "f", weight, item)?)?;
-        commands.push(add(alloc, "c", weight, item)?)?;
-        commands.push(insert(alloc, "d", item)?)?;
+    for (weight, item) in [(200, "q"), (400, "r"), (800, LONG)] {
+        all.push(Said::Add("g", weight, item))?;
+        all.push(Said::Add("f", weight, item))?;
+        all.push(Said::Add("c", weight, item))?;
+        all.push(Said::Insert("d", item))?;
     }
-    commands.push(Command::AddSigned {
-        name: text(alloc, "i")?,
-        item: text(alloc, "q")?,
-        weight: -7,
-    })?;
-    Ok(())
-}
-
-/// Images, and sketches that come back from them.
-fn save_all(alloc: Global, commands: &mut Vec<Command<String>>) -> Result<(), AllocError> {
-    for name in ["f", "g", "c", "i", "b"] {
-        commands.push(save(alloc, name, name)?)?;
-        commands.push(Command::ShowImage {
-            image: text(alloc, name)?,
-        })?;
-    }
-    for (image, name) in [
-        ("f", "f2"),
-        ("g", "g2"),
-        ("c", "c2"),
-        ("i", "i2"),
-        ("b", "b2"),
-    ] {
-        commands.push(restore(alloc, image, name)?)?;
-    }
-    Ok(())
-}
-
-/// The joins, and what is done to weights and sets.
-fn join(alloc: Global, commands: &mut Vec<Command<String>>) -> Result<(), AllocError> {
-    for (into, other) in [
-        ("f", "f2"),
-        ("g", "g2"),
-        ("c", "c2"),
-        ("i", "i2"),
-        ("c", "i"),
-    ] {
-        commands.push(merge(alloc, into, other)?)?;
-    }
-    commands.push(Command::Union {
-        into: text(alloc, "b")?,
-        other: text(alloc, "d")?,
-    })?;
-    commands.push(Command::Intersect {
-        into: text(alloc, "b2")?,
-        other: text(alloc, "b")?,
-    })?;
-    commands.push(Command::Difference {
-        into: text(alloc, "d")?,
-        other: text(alloc, "b2")?,
-    })?;
-    commands.push(Command::Halve {
-        name: text(alloc, "c2")?,
-    })?;
-    commands.push(Command::Decay {
-        name: text(alloc, "c")?,
-        numerator: 1,
-        denominator: 3,
-    })?;
-    commands.push(Command::Reset {
-        name: text(alloc, "f2")?,
-    })?;
-    commands.push(rows(alloc, "g")?)?;
-    commands.push(rows(alloc, "f")?)?;
+    all.push(Said::AddSigned("i", -7, "q"))?;
     Ok(())
 }
 
 /// What is asked of every sketch in the end.
 fn questions(alloc: Global) -> Result<Vec<Command<String>>, AllocError> {
-    let mut commands = Vec::new(alloc);
+    let mut asked = Vec::new(alloc);
     for name in ["f", "g", "c", "i", "b", "d", "f2", "g2", "c2", "i2", "b2"] {
-        commands.push(Command::GetStatus {
-            name: text(alloc, name)?,
-        })?;
-        for item in ["p", "q", "r", "a longer item, not kept in place"] {
-            commands.push(ask(alloc, name, item)?)?;
+        asked.push(Said::GetStatus(name))?;
+        for item in ["p", "q", "r", LONG] {
+            asked.push(Said::Ask(name, item))?;
         }
     }
     for name in ["f", "g", "c", "i", "b"] {
-        commands.push(Command::ShowImage {
-            image: text(alloc, name)?,
-        })?;
+        asked.push(Said::ShowImage(name))?;
     }
-    commands.push(rows(alloc, "g")?)?;
-    Ok(commands)
+    asked.push(Said::ListRows("g"))?;
+    commands(alloc, &asked)
+}
+
+/// All commands but those of the given places.
+fn all_but(alloc: Global, left_out: &[usize]) -> Result<Vec<Command<String>>, AllocError> {
+    let mut all = Vec::from_slice(alloc, &MADE)?;
+    feed(&mut all)?;
+    all.extend_from_slice(&SAVED)?;
+    all.extend_from_slice(&JOINED)?;
+    let mut kept = Vec::new(alloc);
+    for (place, said) in all.iter().enumerate() {
+        if !left_out.contains(&place) {
+            kept.push(*said)?;
+        }
+    }
+    commands(alloc, &kept)
 }
 
 /// Runs the commands but for those of the given places, and then asks.
 pub fn session(trial: &mut Trial, left_out: &[usize]) -> Result<(), Stopped> {
     let alloc = trial.alloc;
-    let mut all = Vec::new(alloc);
-    create(alloc, &mut all)?;
-    feed(alloc, &mut all)?;
-    save_all(alloc, &mut all)?;
-    join(alloc, &mut all)?;
-    let mut commands = Vec::new(alloc);
-    for (place, command) in all.into_iter().enumerate() {
-        if !left_out.contains(&place) {
-            commands.push(command)?;
-        }
-    }
+    let commands = all_but(alloc, left_out)?;
     let mut session = Session::new(alloc);
-    trial.begin()?;
+    trial.begin();
     let replies = session.run(commands);
-    trial.end()?;
+    trial.end();
     match replies {
-        Ok(replies) => {
-            for reply in &replies {
-                tell_reply(trial, reply)?;
-            }
-        }
+        Ok(replies) => tell_replies(trial, &replies),
         Err(e) => {
-            write!(trial.text, "run ")?;
-            tell_error(trial, e)?;
+            say!(trial, "run ");
+            tell_error(trial, e);
         }
     }
-    writeln!(trial.text, "then")?;
-    for reply in &session.run(questions(alloc)?)? {
-        tell_reply(trial, reply)?;
-    }
+    say_line!(trial, "then");
+    tell_replies(trial, &session.run(questions(alloc)?)?);
     Ok(())
 }

@@ -1,31 +1,51 @@
 //! What sketches and answers say, in words.
-use crate::trial::{Stopped, Trial};
+use crate::trial::{Trial, say, say_line};
 use datasketches::bloom::BloomFilter;
 use datasketches::countmin::CountMinSketch;
 use datasketches::error::{Error, ErrorKind};
-use datasketches::frequencies::FrequentItemsSketch;
+use datasketches::frequencies::{FrequentItemsSketch, ReversePurgeItemHashMap};
 use datasketches::{Refusal, Reply, Status};
+use std::fmt;
 use std::fmt::Write;
 use std::hash::Hash;
 
 /// Whether a call was accepted, and what refused it.
-pub fn tell_outcome<V: Drop>(trial: &mut Trial, answer: Result<V, Error>) -> Result<(), Stopped> {
+pub fn tell_outcome<V: Drop>(trial: &mut Trial, answer: Result<V, Error>) {
     match answer {
-        Ok(_) => writeln!(trial.text, "accepted")?,
-        Err(e) => tell_error(trial, e)?,
+        Ok(_) => say_line!(trial, "accepted"),
+        Err(e) => tell_error(trial, e),
     }
-    Ok(())
 }
 
 /// What refused a call.
-pub fn tell_error(trial: &mut Trial, error: Error) -> Result<(), Stopped> {
-    let kind = match error.kind() {
+pub fn tell_error(trial: &mut Trial, error: Error) {
+    say_line!(trial, "refused {} {}", kind_of(error), error.fault().name());
+}
+
+/// The kind of a refusal.
+pub fn kind_of(error: Error) -> &'static str {
+    match error.kind() {
         ErrorKind::InvalidArgument => "argument",
         ErrorKind::InvalidData => "data",
         ErrorKind::OutOfMemory => "memory",
-    };
-    writeln!(trial.text, "refused {} {}", kind, error.fault().name())?;
-    Ok(())
+    }
+}
+
+/// The fault for which a call was refused, if it was.
+pub fn fault_of<V: Drop>(answer: Result<V, Error>) -> &'static str {
+    match answer {
+        Ok(_) => "none",
+        Err(e) => e.fault().name(),
+    }
+}
+
+/// Values on a line of their own, behind a word.
+pub fn tell_values<V: fmt::Display>(trial: &mut Trial, word: &str, values: &[V]) {
+    say!(trial, "{word}");
+    for value in values {
+        say!(trial, " {value}");
+    }
+    say_line!(trial);
 }
 
 /// A sketch's numbers, and for each of the items its estimate and bounds.
@@ -33,100 +53,115 @@ pub fn tell_frequent<T: Eq + Hash + Drop>(
     trial: &mut Trial,
     sketch: &FrequentItemsSketch<T>,
     items: &[T],
-) -> Result<(), Stopped> {
-    write!(
-        trial.text,
+) {
+    say!(
+        trial,
         "frequent {} {} {} {} {}",
         sketch.num_active_items(),
         sketch.maximum_error(),
         sketch.total_weight(),
         sketch.current_map_capacity(),
         sketch.max_map_size()
-    )?;
+    );
     for item in items {
-        write!(
-            trial.text,
+        say!(
+            trial,
             " {}/{}/{}",
             sketch.estimate(item),
             sketch.lower_bound(item),
             sketch.upper_bound(item)
-        )?;
+        );
     }
-    writeln!(trial.text)?;
-    Ok(())
+    say_line!(trial);
+}
+
+/// A table's numbers, and the counts of the items.
+pub fn tell_table<T: Eq + Hash + Drop>(
+    trial: &mut Trial,
+    map: &ReversePurgeItemHashMap<T>,
+    items: &[T],
+) {
+    say!(trial, "table {} {}", map.num_active(), map.len());
+    for item in items {
+        say!(trial, " {}", map.get(item));
+    }
+    say_line!(trial);
 }
 
 /// A filter's numbers, and the items that it contains, of those from 0 to 7.
-pub fn tell_filter(trial: &mut Trial, filter: &BloomFilter) -> Result<(), Stopped> {
-    write!(
-        trial.text,
+pub fn tell_filter(trial: &mut Trial, filter: &BloomFilter) {
+    say!(
+        trial,
         "filter {} {} {} {}",
         filter.bits_used(),
         filter.capacity(),
         filter.num_hashes(),
         filter.seed()
-    )?;
+    );
     for item in 0..8u64 {
         if filter.contains(&item) {
-            write!(trial.text, " {item}")?;
+            say!(trial, " {item}");
         }
     }
-    writeln!(trial.text)?;
-    Ok(())
+    say_line!(trial);
 }
 
 /// A Count-Min sketch's numbers, and the estimates of the items from 0 to 3.
-pub fn tell_counts(trial: &mut Trial, sketch: &CountMinSketch<u64>) -> Result<(), Stopped> {
-    write!(
-        trial.text,
+pub fn tell_counts(trial: &mut Trial, sketch: &CountMinSketch<u64>) {
+    say!(
+        trial,
         "counts {} {} {} {}",
         sketch.total_weight(),
         sketch.num_hashes(),
         sketch.num_buckets(),
         sketch.seed()
-    )?;
+    );
     for item in 0..4u64 {
-        write!(trial.text, " {}", sketch.estimate(item))?;
+        say!(trial, " {}", sketch.estimate(item));
     }
-    writeln!(trial.text)?;
-    Ok(())
+    say_line!(trial);
 }
 
 /// How many bytes there are, and their sum.
-pub fn tell_bytes(trial: &mut Trial, bytes: &[u8]) -> Result<(), Stopped> {
+pub fn tell_bytes(trial: &mut Trial, bytes: &[u8]) {
     let mut sum = 0u64;
     for byte in bytes {
         sum = sum.wrapping_add(*byte as u64);
     }
-    writeln!(trial.text, "bytes {} {}", bytes.len(), sum)?;
-    Ok(())
+    say_line!(trial, "bytes {} {}", bytes.len(), sum);
+}
+
+/// The replies to commands.
+pub fn tell_replies(trial: &mut Trial, replies: &[Reply<String>]) {
+    for reply in replies {
+        tell_reply(trial, reply);
+    }
 }
 
 /// The reply to a command.
-pub fn tell_reply(trial: &mut Trial, reply: &Reply<String>) -> Result<(), Stopped> {
+fn tell_reply(trial: &mut Trial, reply: &Reply<String>) {
     match reply {
-        Reply::Done => writeln!(trial.text, "done")?,
+        Reply::Done => say_line!(trial, "done"),
         Reply::Bounds {
             estimate,
             lower,
             upper,
-        } => writeln!(trial.text, "bounds {estimate} {lower} {upper}")?,
-        Reply::Contains(found) => writeln!(trial.text, "contains {found}")?,
-        Reply::Status(status) => tell_status(trial, status)?,
+        } => say_line!(trial, "bounds {estimate} {lower} {upper}"),
+        Reply::Contains(found) => say_line!(trial, "contains {found}"),
+        Reply::Status(status) => tell_status(trial, status),
         Reply::Rows(rows) => {
-            write!(trial.text, "rows")?;
+            say!(trial, "rows");
             for row in rows {
-                write!(trial.text, " {}={}", row.item(), row.estimate())?;
+                say!(trial, " {}={}", row.item(), row.estimate());
             }
-            writeln!(trial.text)?;
+            say_line!(trial);
         }
-        Reply::Image(bytes) => tell_bytes(trial, bytes)?,
-        Reply::Refused(refusal) => tell_refusal(trial, refusal)?,
+        Reply::Image(bytes) => tell_bytes(trial, bytes),
+        Reply::Refused(refusal) => tell_refusal(trial, refusal),
     }
-    Ok(())
 }
 
-fn tell_status(trial: &mut Trial, status: &Status) -> Result<(), Stopped> {
+fn tell_status(trial: &mut Trial, status: &Status) {
     match status {
         Status::Frequent {
             active,
@@ -135,40 +170,38 @@ fn tell_status(trial: &mut Trial, status: &Status) -> Result<(), Stopped> {
             size,
             max,
             capacity,
-        } => writeln!(
-            trial.text,
+        } => say_line!(
+            trial,
             "frequent {active} {error} {total} {size} {max} {capacity}"
-        )?,
+        ),
         Status::CountI64 {
             total,
             hashes,
             buckets,
             seed,
-        } => writeln!(trial.text, "counti {total} {hashes} {buckets} {seed}")?,
+        } => say_line!(trial, "counti {total} {hashes} {buckets} {seed}"),
         Status::CountU64 {
             total,
             hashes,
             buckets,
             seed,
-        } => writeln!(trial.text, "countu {total} {hashes} {buckets} {seed}")?,
+        } => say_line!(trial, "countu {total} {hashes} {buckets} {seed}"),
         Status::Bloom {
             bits,
             capacity,
             hashes,
             seed,
-        } => writeln!(trial.text, "bloom {bits} {capacity} {hashes} {seed}")?,
+        } => say_line!(trial, "bloom {bits} {capacity} {hashes} {seed}"),
     }
-    Ok(())
 }
 
-fn tell_refusal(trial: &mut Trial, refusal: &Refusal) -> Result<(), Stopped> {
+fn tell_refusal(trial: &mut Trial, refusal: &Refusal) {
     match refusal {
-        Refusal::Call(error) => tell_error(trial, *error)?,
-        Refusal::NoSuchName => writeln!(trial.text, "refused NoSuchName")?,
-        Refusal::NameTaken => writeln!(trial.text, "refused NameTaken")?,
-        Refusal::WrongKind => writeln!(trial.text, "refused WrongKind")?,
-        Refusal::SameName => writeln!(trial.text, "refused SameName")?,
-        Refusal::BadFraction => writeln!(trial.text, "refused BadFraction")?,
+        Refusal::Call(error) => tell_error(trial, *error),
+        Refusal::NoSuchName => say_line!(trial, "refused NoSuchName"),
+        Refusal::NameTaken => say_line!(trial, "refused NameTaken"),
+        Refusal::WrongKind => say_line!(trial, "refused WrongKind"),
+        Refusal::SameName => say_line!(trial, "refused SameName"),
+        Refusal::BadFraction => say_line!(trial, "refused BadFraction"),
     }
-    Ok(())
 }

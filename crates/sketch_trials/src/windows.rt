@@ -1,6 +1,6 @@
 //! Calls on the windows of tenants.
 use crate::tell::{tell_error, tell_outcome};
-use crate::trial::{Stopped, Trial};
+use crate::trial::{Stopped, Trial, say, say_line};
 use datasketches::frequencies::ErrorType;
 use heavy_windows::{HeavyWindows, Report};
 use std::fmt::Write;
@@ -43,10 +43,10 @@ pub fn windows(trial: &mut Trial, left_out: &[usize]) -> Result<(), Stopped> {
             make(trial, &mut windows, *call)?;
         }
     }
-    writeln!(trial.text, "then")?;
+    say_line!(trial, "then");
     for tenant in 1..=3 {
         let report = windows.report(tenant, ErrorType::NoFalseNegatives, 0)?;
-        tell_report(trial, &report)?;
+        tell_report(trial, &report);
     }
     Ok(())
 }
@@ -56,38 +56,40 @@ fn make(trial: &mut Trial, windows: &mut HeavyWindows<String>, call: Call) -> Re
     match call {
         Call::Add(tenant, weight, item) => {
             let item = String::from_str(trial.alloc, item)?;
-            trial.begin()?;
+            trial.begin();
             let added = windows.add(tenant, item, weight);
-            trial.end()?;
-            tell_outcome(trial, added)
+            trial.end();
+            tell_outcome(trial, added);
         }
         Call::Turn(tenant) => {
-            trial.begin()?;
+            trial.begin();
             let turned = windows.turn(tenant);
-            trial.end()?;
-            tell_outcome(trial, turned)
+            trial.end();
+            tell_outcome(trial, turned);
         }
         Call::Report(tenant) => {
-            trial.begin()?;
+            trial.begin();
             let report = windows.report(tenant, ErrorType::NoFalseNegatives, 0);
-            trial.end()?;
+            trial.end();
             match report {
                 Ok(report) => tell_report(trial, &report),
                 Err(e) => tell_error(trial, e),
             }
         }
     }
+    Ok(())
 }
 
-fn tell_report(trial: &mut Trial, report: &Report<String>) -> Result<(), Stopped> {
-    write!(
-        trial.text,
+/// What a report says.
+pub fn tell_report(trial: &mut Trial, report: &Report<String>) {
+    say!(
+        trial,
         "report {} {}",
-        report.total_weight, report.maximum_error
-    )?;
+        report.total_weight,
+        report.maximum_error
+    );
     for row in &report.rows {
-        write!(trial.text, " {}={}", row.item(), row.estimate())?;
+        say!(trial, " {}={}", row.item(), row.estimate());
     }
-    writeln!(trial.text)?;
-    Ok(())
+    say_line!(trial);
 }
