@@ -317,19 +317,19 @@ const BLOCK: usize = 64;
 
 /// Puts the weights of the counters in the slots one after another, and answers how many bytes they take.
 ///
-/// A free slot puts a 0, over which the next weight comes, so that no branch depends on the slot.
-#[inline(always)]
-fn gather_weights<T>(slots: &[Slot<T>], bytes: &mut [u8]) -> usize
+/// A free slot puts `none`, over which the next weight comes, so that no branch depends on the slot. It is a reference that
+/// is handed over: of a number the compiler makes a branch again.
+#[inline(never)]
+fn gather_weights<T>(slots: &[Slot<T>], none: &u64, bytes: &mut [u8]) -> usize
     requires { 8 * length slots.now ≤ length bytes.old }
     ensures weights { take result bytes.new ≡ encoded_weights (entries_of slots.now) }
     ensures few { result ≤ 8 * length slots.now }
 {
-    let none = 0;
     let mut size = 0;
     for slot in slots {
         let (count, taken) = match slot {
             Slot::Taken { count, .. } => (count, 8),
-            Slot::Free => (&none, 0),
+            Slot::Free => (none, 0),
         };
         bytes[size..size + 8].copy_from_slice(&count.to_le_bytes());
         size += taken;
@@ -347,10 +347,10 @@ pub(crate) fn write_weights<T>(out: &mut SketchBytes, slots: &[Slot<T>]) -> Resu
     // The label is there for the prover alone: its goals are named after it.
     'whole: for b in 0..blocks {
         let at = BLOCK * b;
-        let size = gather_weights(&slots[at..at + BLOCK], &mut bytes);
+        let size = gather_weights(&slots[at..at + BLOCK], &0, &mut bytes);
         out.write(&bytes[..size])?;
     }
-    let last = gather_weights(&slots[BLOCK * blocks..], &mut bytes);
+    let last = gather_weights(&slots[BLOCK * blocks..], &0, &mut bytes);
     out.write(&bytes[..last])?;
     Ok(())
 }
