@@ -317,8 +317,8 @@ const BLOCK: usize = 64;
 
 /// Puts the weights of the counters in the slots one after another, and answers how many bytes they take.
 ///
-/// A free slot puts `none`, over which the next weight comes, so that no branch depends on the slot. It is a reference that
-/// is handed over: of a number the compiler makes a branch again.
+/// A free slot puts `none`, over which the next weight comes, so that no branch depends on the slot. `none` is a reference,
+/// and the function is not inlined: with a number of its own the compiler made a branch again.
 #[inline(never)]
 fn gather_weights<T>(slots: &[Slot<T>], none: &u64, bytes: &mut [u8]) -> usize
     requires { 8 * length slots.now ≤ length bytes.old }
