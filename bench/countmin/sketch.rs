@@ -10,28 +10,26 @@ pub fn hash_of<T: Hash>(item: &T, seed: u64) -> u64 {
     hasher.finish()
 }
 
-/// A divisor with its multiplier, by which a remainder takes products and no division.
+/// A divisor with its multiplier, by which a remainder takes two products and a subtraction, and no division.
 #[derive(Clone, Copy)]
 pub struct Divisor {
     pub divisor: u64,
-    pub multiplier: u128,
+    pub multiplier: u64,
 }
 
 impl Divisor {
     pub fn new(divisor: u64) -> Self {
         Divisor {
             divisor,
-            multiplier: u128::MAX / divisor as u128 + 1,
+            multiplier: u64::MAX / divisor,
         }
     }
 
     #[inline(always)]
     pub fn rem(&self, a: u64) -> u64 {
-        let low = self.multiplier.wrapping_mul(a as u128);
-        let d = self.divisor as u128;
-        let lo = (low as u64) as u128 * d;
-        let hi = (low >> 64) * d;
-        ((hi + (lo >> 64)) >> 64) as u64
+        let quotient = ((a as u128 * self.multiplier as u128) >> 64) as u64;
+        let rest = a - quotient * self.divisor;
+        if rest >= self.divisor { rest - self.divisor } else { rest }
     }
 }
 

@@ -32,7 +32,7 @@ pub enum Fault {
 pub struct Filter {
     pub words: Vec<u64>,
     pub capacity: u64,
-    pub multiplier: u128,
+    pub multiplier: u64,
     pub num_hashes: u16,
     pub seed: u64,
     pub bits_used: u64,
@@ -45,19 +45,20 @@ impl Filter {
         Filter {
             words: vec![0; num_words as usize],
             capacity,
-            multiplier: u128::MAX / capacity as u128 + 1,
+            multiplier: u64::MAX / capacity,
             num_hashes,
             seed: 9001,
             bits_used: 0,
         }
     }
 
-    /// A remainder by products, without a division.
+    /// A remainder by two products and a subtraction, without a division.
     #[inline(always)]
     pub fn position(&self, hash: u64) -> u64 {
-        let low = self.multiplier.wrapping_mul((hash >> 1) as u128);
-        let below = (low as u64 as u128 * self.capacity as u128) >> 64;
-        (((low >> 64) * self.capacity as u128 + below) >> 64) as u64
+        let half = hash >> 1;
+        let quotient = ((half as u128 * self.multiplier as u128) >> 64) as u64;
+        let rest = half - quotient * self.capacity;
+        if rest >= self.capacity { rest - self.capacity } else { rest }
     }
 
     #[inline(always)]
@@ -175,7 +176,7 @@ impl Filter {
         Ok(Filter {
             words,
             capacity,
-            multiplier: u128::MAX / capacity as u128 + 1,
+            multiplier: u64::MAX / capacity,
             num_hashes,
             seed: field(8),
             bits_used,

@@ -1,9 +1,9 @@
 -- The multiplier of a divisor.
-use Rattle.std.specs.Prelude.{◌≡◌, ℕ, ◌+◌, ◌-◌, ◌/◌, ◌^◌, ◌<◌}
+use Rattle.std.specs.Prelude.{◌≡◌, ℕ, ◌-◌, ◌/◌, ◌^◌, ◌<◌}
 
--- 2 ^ 128 over the divisor, rounded up
+-- 2 ^ 64 - 1 over the divisor, rounded down
 abbrev pub reciprocal : ℕ → ℕ
-reciprocal divisor = (2 ^ 128 - 1) / divisor + 1
+reciprocal divisor = (2 ^ 64 - 1) / divisor
 
 -- a divisor above 1 and its multiplier
 pub record IsReciprocal (divisor multiplier : ℕ) : Type 0 where

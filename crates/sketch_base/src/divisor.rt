@@ -1,19 +1,19 @@
 //! Remainders by a divisor that is known before, without a division.
 ghost use Rattle.std.specs.Prelude.{◌≡◌, ◌%◌, ◌<◌};
-ghost use Rattle.sketch_base.specs.Reciprocal.{IsReciprocal};
+ghost use Rattle.sketch_base.specs.Reciprocal.{reciprocal};
 
 use std::marker::Model;
 
-/// A divisor above 1, with a multiplier of 128 bits by which a remainder takes three products and no division.
+/// A divisor above 1, with a multiplier of 64 bits by which a remainder takes two products and no division.
 /// A contract sees it as the number.
 ///
-/// The way is that of Daniel Lemire, Owen Kaser and Nathan Kurz, 'Faster remainder by direct computation' (2019), with
-/// 128 bits in place of 64. It holds for each divisor of 64 bits, since the multiplier is off by less than
-/// the divisor, and that times a number of 64 bits is below 2^128.
+/// The multiplier is 2^64 - 1 over the divisor, rounded down. The upper half of its product with a number is then the
+/// quotient or one less, so that the number without so many divisors is below twice the divisor, and one subtraction
+/// gives the remainder where it is due. It holds for each divisor and each number of 64 bits.
 #[derive(Clone, Copy, Debug)]
 pub struct Divisor {
     divisor: u64,
-    multiplier: u128,
+    multiplier: u64,
 }
 
 impl Model for Divisor {
@@ -39,7 +39,7 @@ impl Divisor {
     {
         Divisor {
             divisor,
-            multiplier: u128::MAX / divisor as u128 + 1,
+            multiplier: u64::MAX / divisor,
         }
     }
 
@@ -62,14 +62,17 @@ impl Divisor {
     }
 }
 
+/// The remainder by the multiplier.
+///
+/// The subtraction goes round where it is not due, so that the lesser of the two numbers is the remainder. This compiles
+/// to a move, where a test by `if` became a branch that no processor predicts.
 #[inline(always)]
-fn direct_remainder(a: u64, multiplier: u128, divisor: u64) -> u64
-    requires { IsReciprocal divisor multiplier }
+fn direct_remainder(a: u64, multiplier: u64, divisor: u64) -> u64
+    requires positive { 0 < divisor }
+    requires multiplier { reciprocal divisor ≡ multiplier }
     ensures { result ≡ a % divisor }
 {
-    let low = multiplier.wrapping_mul(a as u128);
-    let d = divisor as u128;
-    let lo = (low & 0xFFFF_FFFF_FFFF_FFFF) * d;
-    let hi = (low >> 64) * d;
-    ((hi + (lo >> 64)) >> 64) as u64
+    let quotient = (a as u128 * multiplier as u128 >> 64) as u64;
+    let rest = a - quotient * divisor;
+    rest.min(rest.wrapping_sub(divisor))
 }

@@ -1,6 +1,7 @@
--- How cells are written, one after another.
-use Rattle.std.proofs.Common.{◌≡◌, ℕ, ◌+◌, ◌<◌, List, [], ◌∷◌, ◌++◌, length, get_or, map, take, ℤ, sym, ap, ◌∙◌, append_assoc}
+-- How cells are written, one after another and in blocks.
+use Rattle.std.proofs.Common.{◌≡◌, ℕ, ◌+◌, ◌-◌, ◌<◌, ◌≤◌, List, [], ◌∷◌, ◌++◌, length, get_or, map, take, drop, ℤ, sym, ap, ◌∙◌, append_assoc, arith}
 use Rattle.std.specs.List.{flat_map}
+use Rattle.std.proofs.Math.Seq.{take-add}
 use Rattle.std.proofs.lemmas.List.{take_more, map-append}
 use Rattle.std.proofs.lemmas.List.Concat.{flat_map-append}
 use Rattle.sketch_countmin.specs.Values.{bytes_of}
@@ -19,3 +20,24 @@ bytes_more done more z old now new bytes more_is now_is bytes_are new_is =
     ∙ (append_assoc old (flat_map bytes_of done) bytes
     ∙ ap (λ (bs : List ℕ). old ++ bs) (ap (λ (bs : List ℕ). flat_map bytes_of done ++ bs) bytes_are
     ∙ (sym (flat_map-append bytes_of done (z ∷ [])) ∙ ap (flat_map bytes_of) (sym more_is)))))
+
+-- a number takes eight bytes
+pub bytes_long : (z : ℤ) (bytes : List ℕ) → bytes ≡ bytes_of z → length bytes ≡ 8
+bytes_long z bytes e = ap length e
+
+-- the numbers of several values more
+pub numbers_block : {T : Type 0} (number : T → ℤ) (counts part : List T) (i n : ℕ) → i ≤ n → part ≡ take (n - i) (drop i counts) → map number (take n counts) ≡ map number (take i counts) ++ map number part
+numbers_block number counts part i n le part_is =
+    let n_is : n ≡ i + (n - i) = omega arith in
+    ap (λ (m : ℕ). map number (take m counts)) n_is
+    ∙ (ap (map number) (take-add i (n - i) counts)
+    ∙ (ap (λ y. map number (take i counts ++ y)) (sym part_is) ∙ map-append number (take i counts) part))
+
+-- the bytes of several numbers more
+pub bytes_block : (done part more : List ℤ) (old now new bytes : List ℕ) → more ≡ done ++ part → now ≡ old ++ flat_map bytes_of done → bytes ≡ flat_map bytes_of part → new ≡ now ++ bytes → new ≡ old ++ flat_map bytes_of more
+bytes_block done part more old now new bytes more_is now_is bytes_are new_is =
+    new_is
+    ∙ (ap (λ (bs : List ℕ). bs ++ bytes) now_is
+    ∙ (append_assoc old (flat_map bytes_of done) bytes
+    ∙ ap (λ (bs : List ℕ). old ++ bs) (ap (λ (bs : List ℕ). flat_map bytes_of done ++ bs) bytes_are
+    ∙ (sym (flat_map-append bytes_of done part) ∙ ap (flat_map bytes_of) (sym more_is)))))

@@ -169,7 +169,25 @@ pub fn begin_image(
     Ok(out)
 }
 
-/// Writes the cells.
+/// How many cells are written at once.
+const BLOCK: usize = 8;
+
+/// The bytes of a block of cells.
+#[inline(always)]
+fn bytes_of_block<T: CountMinValue>(cells: &[T]) -> [u8; 64]
+    requires { length cells.now ≡ BLOCK }
+    ensures bytes { result ≡ flat_map bytes_of (map T.number cells.now) }
+    ensures in_range { All (InRange T.least T.greatest) (map T.number cells.now) }
+{
+    let mut bytes = [0; 64];
+    // The label is there for the prover alone.
+    'fills: for i in 0..BLOCK {
+        bytes[8 * i..8 * i + 8].copy_from_slice(&cells[i].to_bytes());
+    }
+    bytes
+}
+
+/// Writes the cells, a block at a time, and then one by one.
 pub fn write_cells<T: CountMinValue>(out: &mut SketchBytes, counts: &[T]) -> Result<(), Error>
     ensures ok { OnOk result (out.new.bytes ≡ out.old.bytes ++ flat_map bytes_of (map T.number counts.now)) }
     ensures err { IfErr result (λ e. e ≡ no_memory) }
@@ -177,8 +195,14 @@ pub fn write_cells<T: CountMinValue>(out: &mut SketchBytes, counts: &[T]) -> Res
     // What the type says, for the caller's proof.
     ensures in_range { OnOk result (All (InRange T.least T.greatest) (map T.number counts.now)) }
 {
-    for value in counts {
-        out.write(&value.to_bytes())?;
+    let blocks = counts.len() / BLOCK;
+    // The labels are there for the prover alone: its goals are named after them.
+    'whole: for b in 0..blocks {
+        let at = BLOCK * b;
+        out.write(&bytes_of_block(&counts[at..at + BLOCK]))?;
+    }
+    'rest: for i in BLOCK * blocks..counts.len() {
+        out.write(&counts[i].to_bytes())?;
     }
     Ok(())
 }

@@ -11,6 +11,7 @@ pub mod Existence
 pub mod Filters
 pub mod Fresh
 pub mod Full
+pub mod Gathering
 pub mod Homes
 pub mod Images
 pub mod Joins

@@ -1,5 +1,5 @@
 //! The images of sketches: how they are read and written.
-ghost use Rattle.std.specs.Prelude.{◌≡◌, ◌+◌, ◌*◌, ◌<◌, ◌≤◌, ◌^◌, ◌++◌, None, Some, length, slice_index, sum, IfOk, IfErr, OnOk, IsTrue};
+ghost use Rattle.std.specs.Prelude.{◌≡◌, ◌+◌, ◌*◌, ◌<◌, ◌≤◌, ◌^◌, ◌++◌, None, Some, length, take, slice_index, sum, IfOk, IfErr, OnOk, IsTrue};
 ghost use Rattle.std.specs.Int.{is_power_of_two};
 ghost use Rattle.sketch_base.specs.Checks.{first_failing};
 ghost use Rattle.sketch_base.specs.Errors.{invalid_data, no_memory};
@@ -312,16 +312,46 @@ fn write_header(
     ])
 }
 
+/// How many slots are looked at before their weights are written at once.
+const BLOCK: usize = 64;
+
+/// Puts the weights of the counters in the slots one after another, and answers how many bytes they take.
+///
+/// A free slot puts `none`, over which the next weight comes, so that no branch depends on the slot. `none` is a reference,
+/// and the function is not inlined: with a number of its own the compiler made a branch again.
+#[inline(never)]
+fn gather_weights<T>(slots: &[Slot<T>], none: &u64, bytes: &mut [u8]) -> usize
+    requires { 8 * length slots.now ≤ length bytes.old }
+    ensures weights { take result bytes.new ≡ encoded_weights (entries_of slots.now) }
+    ensures few { result ≤ 8 * length slots.now }
+{
+    let mut size = 0;
+    for slot in slots {
+        let (count, taken) = match slot {
+            Slot::Taken { count, .. } => (count, 8),
+            Slot::Free => (none, 0),
+        };
+        bytes[size..size + 8].copy_from_slice(&count.to_le_bytes());
+        size += taken;
+    }
+    size
+}
+
 /// Writes the weights of the counters in the slots.
 pub(crate) fn write_weights<T>(out: &mut SketchBytes, slots: &[Slot<T>]) -> Result<(), Error>
     ensures ok { OnOk result (out.new.bytes ≡ out.old.bytes ++ encoded_weights (entries_of slots.now)) }
     ensures err { IfErr result (λ e. e ≡ no_memory) }
 {
-    for slot in slots {
-        if let Slot::Taken { count, .. } = slot {
-            out.write_u64_le(*count)?;
-        }
+    let mut bytes = [0; 8 * BLOCK];
+    let blocks = slots.len() / BLOCK;
+    // The label is there for the prover alone: its goals are named after it.
+    'whole: for b in 0..blocks {
+        let at = BLOCK * b;
+        let size = gather_weights(&slots[at..at + BLOCK], &0, &mut bytes);
+        out.write(&bytes[..size])?;
     }
+    let last = gather_weights(&slots[BLOCK * blocks..], &0, &mut bytes);
+    out.write(&bytes[..last])?;
     Ok(())
 }
 

@@ -1,11 +1,11 @@
-use Rattle.std.proofs.Common.{ℕ, ◌+◌, ◌*◌, ◌/◌, ◌%◌, ◌^◌, refl, sym, ap, ◌∙◌}
-use Rattle.std.proofs.lemmas.Nat.{and_mask}
-use Rattle.sketch_base.proofs.DirectRemainder.{direct_is}
+use Rattle.std.proofs.Common.{◌*◌, ◌/◌, ◌^◌, ◌∙◌}
+use Rattle.sketch_base.proofs.DirectRemainder.{near_quotient, lesser_rest}
 use Rattle.sketch_base.proofs.divisor.direct_remainder.Goals as goal
+
+pub overflow_sub-rest : goal.overflow_sub-rest
+overflow_sub-rest c = (near_quotient c.args.a c.args.multiplier c.args.divisor c.requires.positive c.ranges.a.fits c.requires.multiplier).0
 
 pub returns : goal.returns
 returns c =
-    let d : ℕ = c.args.divisor in
-    let low : ℕ = (c.args.multiplier * c.args.a) % 2 ^ 128 in
-    ap (λ (n : ℕ). (low / 2 ^ 64 * d + n * d / 2 ^ 64) / 2 ^ 64) (and_mask low 64)
-    ∙ direct_is c.args.a c.args.multiplier d low c.requires.above_one c.ranges.divisor.fits c.ranges.a.fits (sym c.requires.value) refl
+    let near = near_quotient c.args.a c.args.multiplier c.args.divisor c.requires.positive c.ranges.a.fits c.requires.multiplier in
+    c.min.ensures ∙ lesser_rest c.args.a c.args.divisor (c.args.a * c.args.multiplier / 2 ^ 64) c.ranges.a.fits c.ranges.divisor.fits near.0 near.1

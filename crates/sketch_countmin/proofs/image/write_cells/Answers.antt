@@ -1,19 +1,42 @@
-use Rattle.std.proofs.Common.{◌≡◌, ℕ, ◌+◌, ◌++◌, List, [], ◌∷◌, map, take, ℤ, All, sym, subst}
-use Rattle.std.proofs.lemmas.List.Elements.{All-push}
+use Rattle.std.proofs.Common.{◌≡◌, ℕ, ◌+◌, ◌-◌, ◌*◌, ◌/◌, ◌++◌, List, [], ◌∷◌, length, map, take, drop, ℤ, All, refl, sym, subst, arith}
+use Rattle.std.proofs.lemmas.List.Elements.{All-append, All-push}
 use Rattle.sketch_countmin.specs.Values.{InRange}
-use Rattle.sketch_countmin.proofs.Writing.{numbers_more, bytes_more}
+use Rattle.sketch_countmin.proofs.Writing.{numbers_more, bytes_more, numbers_block, bytes_block}
 use Rattle.sketch_countmin.proofs.image.write_cells.Goals as goal
 
-pub loop-value-preserved : goal.loop-value-preserved
-loop-value-preserved g c =
+pub whole-preserved : goal.whole-preserved
+whole-preserved g c =
     let number = g.T.CountMinValue.number in
     let range : ℤ → Type 0 = InRange g.T.CountMinValue.least g.T.CountMinValue.greatest in
-    let i : ℕ = c.loop-value.value-index in
+    let at : ℕ = 8 * c.whole.b in
+    let next : ℕ = 8 * (c.whole.b + 1) in
     let counts = c.args.counts.now in
-    let x = c.value-item.result in
-    let done : List ℤ = map number (take i counts) in
-    let more : map number (take (i + 1) counts) ≡ done ++ number x ∷ [] = numbers_more number counts i x c.loop-value-test.true c.value-item.is in
+    let part = take (at + 8 - at) (drop at counts) in
+    let same : next ≡ at + 8 = omega arith in
+    let done : List ℤ = map number (take at counts) in
+    let more : map number (take next counts) ≡ done ++ map number part = subst (λ (m : ℕ). map number (take m counts) ≡ done ++ map number part) (sym same) (numbers_block number counts part at (at + 8) (omega arith) refl) in
     record {
-      written = bytes_more done (map number (take (i + 1) counts)) (number x) c.args.out.now.bytes c.loop-value.out.bytes c.write.new.self.bytes c.to_bytes.result more c.loop-value.invariant.written c.to_bytes.ensures.value c.in_ok-write.ensures.ok;
-      in_range = subst (λ (zs : List ℤ). All range zs) (sym more) (All-push range done (number x) c.loop-value.invariant.in_range c.to_bytes.ensures.in_range);
+      written = bytes_block done (map number part) (map number (take next counts)) c.args.out.now.bytes c.whole.out.bytes c.write.new.self.bytes c.bytes_of_block.result more c.whole.invariant.written c.bytes_of_block.ensures.bytes c.in_ok-write.ensures.ok;
+      in_range = subst (λ (zs : List ℤ). All range zs) (sym more) (All-append range done (map number part) c.whole.invariant.in_range c.bytes_of_block.ensures.in_range);
+    }
+
+pub rest-init : goal.rest-init
+rest-init g c =
+    let number = g.T.CountMinValue.number in
+    let range : ℤ → Type 0 = InRange g.T.CountMinValue.least g.T.CountMinValue.greatest in
+    let end : c.whole.b ≡ length c.args.counts.now / 8 = omega (arith, c.whole-test.false, c.whole.auto.b-end) in
+    rw (sym end) (record { written = c.whole.invariant.written; in_range = c.whole.invariant.in_range })
+
+pub rest-preserved : goal.rest-preserved
+rest-preserved g c =
+    let number = g.T.CountMinValue.number in
+    let range : ℤ → Type 0 = InRange g.T.CountMinValue.least g.T.CountMinValue.greatest in
+    let i : ℕ = c.rest.i in
+    let counts = c.args.counts.now in
+    let x = c.index-counts-i.result in
+    let done : List ℤ = map number (take i counts) in
+    let more : map number (take (i + 1) counts) ≡ done ++ number x ∷ [] = numbers_more number counts i x c.rest-test.true c.index-counts-i.is in
+    record {
+      written = bytes_more done (map number (take (i + 1) counts)) (number x) c.args.out.now.bytes c.rest.out.bytes c.write-in-rest.new.self.bytes c.to_bytes.result more c.rest.invariant.written c.to_bytes.ensures.value c.in_ok-write-2.ensures.ok;
+      in_range = subst (λ (zs : List ℤ). All range zs) (sym more) (All-push range done (number x) c.rest.invariant.in_range c.to_bytes.ensures.in_range);
     }

@@ -1,26 +1,26 @@
-use Rattle.std.proofs.Common.{◌++◌, List, ℕ, sym, ap, ◌∙◌, append_assoc, take}
-use Rattle.std.specs.Int.{w64, to_le_bytes}
+use Rattle.std.proofs.Common.{◌≡◌, ◌+◌, ◌-◌, ◌*◌, ◌/◌, ◌++◌, ℕ, List, length, take, drop, ap, refl, ◌∙◌, subst, arith}
+use Rattle.std.proofs.lemmas.List.{take_all}
 use Rattle.sketch_frequencies.specs.Image.{encoded_weights}
 use Rattle.sketch_frequencies.specs.Slots.{entries_of}
-use Rattle.sketch_frequencies.proofs.Samples.{entries_taken, entries_passed}
-use Rattle.sketch_frequencies.proofs.Spellings.{weights_push}
+use Rattle.sketch_frequencies.proofs.Gathering.{weights_of_part}
 use Rattle.sketch_frequencies.proofs.image.write_weights.Goals as goal
-use Rattle.sketch_frequencies.proofs.image.write_weights.Goals.{in-Taken+in_ok-write_u64_le, in_default}
 
-pub loop-slot-preserved : goal.loop-slot-preserved
-loop-slot-preserved g c =
+pub whole-preserved : goal.whole-preserved
+whole-preserved g c =
     let slots = c.args.slots.now in
-    let i = c.loop-slot.slot-index in
-    let old = c.args.out.now.bytes in
-    let weights = encoded_weights (entries_of (take i slots)) in
-    elim c.match-slot.branch [
-      | in-Taken+in_ok-write_u64_le w ↦
-          let t = w.in-Taken in
-          let bytes = to_le_bytes w64 t.count in
-          let more = entries_taken i slots t.drift t.count t.item c.slot-item.result c.loop-slot-test.true (sym c.slot-item.is ∙ t.is) in
-          ap (λ o. o.bytes) w.out-is ∙ w.in_ok-write_u64_le.ensures.ok ∙ ap (λ (l : List ℕ). l ++ bytes) c.loop-slot.invariant ∙ append_assoc old weights bytes
-          ∙ ap (λ (l : List ℕ). old ++ l) (sym (weights_push (entries_of (take i slots)) (t.item, t.count)) ∙ ap encoded_weights (sym more))
-      | in_default w ↦
-          let more = entries_passed i slots c.slot-item.result c.loop-slot-test.true (sym c.slot-item.is ∙ w.in_default.is) in
-          ap (λ o. o.bytes) w.out-is ∙ c.loop-slot.invariant ∙ ap (λ (l : List ℕ). old ++ l) (ap encoded_weights (sym more))
-    ]
+    let old : List ℕ = c.args.out.now.bytes in
+    let at : ℕ = 64 * c.whole.b in
+    let next : at + 64 ≡ 64 * (c.whole.b + 1) = omega arith in
+    subst (λ (n : ℕ). c.write.new.self.bytes ≡ old ++ encoded_weights (entries_of (take n slots))) next
+    (weights_of_part slots (take (at + 64 - at) (drop at slots)) at (at + 64) old c.whole.out.bytes c.write.new.self.bytes _ (omega arith) refl c.whole.invariant c.gather_weights-size.ensures.weights c.in_ok-write.ensures.ok)
+
+pub returns-clause-ok : goal.returns-clause-ok
+returns-clause-ok g c =
+    let slots = c.args.slots.now in
+    let old : List ℕ = c.args.out.now.bytes in
+    let n : ℕ = length slots in
+    let at : ℕ = 64 * (n / 64) in
+    let end : c.whole.b ≡ n / 64 = omega (arith, c.whole-test.false, c.whole.auto.b-end) in
+    let done : c.whole.out.bytes ≡ old ++ encoded_weights (entries_of (take at slots)) = c.whole.invariant ∙ ap (λ (b : ℕ). old ++ encoded_weights (entries_of (take (64 * b) slots))) end in
+    weights_of_part slots (take (n - at) (drop at slots)) at n old c.whole.out.bytes c.write-2.new.self.bytes _ (omega arith) refl done c.gather_weights-last.ensures.weights c.in_ok-write-2.ensures.ok
+    ∙ ap (λ l. old ++ encoded_weights (entries_of l)) (take_all n slots (omega arith))
