@@ -12,7 +12,7 @@ COUNTS = "counts 18 3 64 9001 5 6 7 0"
 
 # Each call that may answer want of memory: what was said before, the answers, and what was said after.
 CALLS = {
-    "frequent_new": ["call", "accepted"],
+    "frequent_new": ["call", "accepted", "call", "accepted"],
     "frequent_update": [SIX, "call", "accepted", "after", SEVENTH],
     "frequent_update_with_count": [SIX, "call", "accepted", "after", SEVENTH_OF_5],
     "frequent_update_ref": [SIX, "call", "accepted", "after", SEVENTH],
@@ -45,6 +45,20 @@ CALLS = {
 # What a call that was refused leaves, where that is no line of the above.
 LEFT = {"bytes 12 16": "bytes 4 7"}
 
+
+def values(bits, signed):
+    """What the calls on the values of a type of so many bits answer."""
+    least, greatest = (-(2 ** (bits - 1)), 2 ** (bits - 1) - 1) if signed else (0, 2**bits - 1)
+    wide = 2**32 if bits == 64 else "ValueOutOfRange"
+    ones = -1 if signed else greatest if bits == 64 else "ValueOutOfRange"
+    return [
+        f"numbers 0 1 {least} {greatest}",
+        f"checked {greatest} none {greatest} {'none' if signed else 0} 2 none",
+        f"scaled 1 back {least} ordered true size {bits // 8}",
+        f"read {least} {wide} {ones}",
+    ] + ([] if signed else [f"half {greatest // 2}"])
+
+
 SPAM = 0xFBCEA83C8A378BF1
 FOX = 0xE34BBC7BBC071B6C ^ 0x7A433CA9C49A9347
 OVERFLOW = "refused argument WeightOverflow"
@@ -65,12 +79,23 @@ QUIET = {
     ],
     # lengths of 8, 8 and 4 + 2; 7, 252 and seven of 255, 2, and 97 + 98
     "quiet_items": ["sizes 8 8 6", "writes" + 3 * " none", "bytes 22 2241"],
+    "quiet_texts": [
+        "wrong family",
+        "Error { kind: InvalidData, fault: BadFamily }",
+        "Error {",
+        "    kind: InvalidData,",
+        "    fault: BadFamily,",
+        "}",
+        "true true",
+    ],
     # 97 + 98, 5, 2 + 1, 3, the bytes of -2, which are 254 and three of 255, 7, and those of -4: 252 and seven of 255
     "quiet_writes": ["writes" + 7 * " none", "bytes 29 3269"],
     "quiet_reads": ["numbers 5 258 3 -2 7 -4", "97 98 left 2"],
     "quiet_short_reads": ["reads" + 7 * " InsufficientData", "InsufficientData left 3"],
     # the greatest number of 64 bits ends in 615
     "quiet_fields": ["fields 258 3 -2 7", "615 by 1000", "faults none InsufficientData none BadVersion"],
+    "quiet_signed_values": [line for bits in (8, 16, 32, 64) for line in values(bits, True)],
+    "quiet_unsigned_values": [line for bits in (8, 16, 32, 64) for line in values(bits, False)],
     # the seventh item is one counter too many, and all counts are 1
     "quiet_updates": ["accepted 7", "frequent 0 1 7 6 8 0/0/1 0/0/1"],
     "quiet_updates_of_tracked": ["frequent 6 0 7 6 64 2/2/2 0/0/0"],
@@ -109,7 +134,7 @@ QUIET = {
     "quiet_count_refusals": ["faults WeightOverflow WeightOverflow WeightOverflow Mismatch", "255"],
     "quiet_signed_refusals": ["WeightOverflow 0"],
     # four words, 3 x 64 cells and 3 seeds of 8 bytes, and 8 slots of 28
-    "quiet_images": ["large" + 3 * " TableTooLarge", "none" + 3 * " InsufficientData"],
+    "quiet_images": ["large" + 4 * " TableTooLarge", "seed SeedHashMismatch", "none" + 3 * " InsufficientData"],
     # the middle one of 0, 3, 3, 3 and 7 is 3
     "quiet_table_changes": ["table 5 8 7 3 0", "purged 3", "table 1 8 4 0 0"],
     # 8 slots of 28 bytes; what is absent is told from three entries of one home by a fourth slot
@@ -122,7 +147,10 @@ QUIET = {
     + ["frequent 2 0 11 8 8 6", "countu 3 2 16 9001", "counti 9 2 16 9001", "bloom 0 128 2 9001"],
     "quiet_session_refusals": 18 * ["refused NoSuchName"]
     + 12 * ["refused WrongKind"]
-    + ["refused NameTaken", "refused SameName", "refused SameName", "refused BadFraction", "refused BadFraction"]
+    + 6 * ["refused NameTaken"]
+    + 2 * ["refused SameName"]
+    + 5 * ["refused argument Mismatch"]
+    + 2 * ["refused BadFraction"]
     + 3 * [OVERFLOW],
     "quiet_windows": ["new BadWindows", "faults none none none WeightOverflow none", "report 10 0 a=8 b=2"],
     "quiet_full_windows": ["faults none WeightOverflow"],

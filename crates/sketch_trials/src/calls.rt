@@ -39,6 +39,11 @@ pub fn new_frequent(trial: &mut Trial) -> Result<(), Stopped> {
     let alloc = trial.alloc;
     let made = counted!(trial, FrequentItemsSketch::<String>::new(alloc, 64));
     tell_outcome(trial, made);
+    let made = counted!(
+        trial,
+        FrequentItemsSketch::<String>::with_sample_size(alloc, 64, 2)
+    );
+    tell_outcome(trial, made);
     Ok(())
 }
 

@@ -12,12 +12,12 @@ const SEED: u64 = 9001;
 pub enum Said {
     /// A sketch of frequent items of at most so many slots.
     Frequent(&'static str, usize),
-    /// A Count-Min sketch of 2 hashes and 16 buckets.
-    CountU64(&'static str),
+    /// A Count-Min sketch of 2 hashes and so many buckets.
+    CountU64(&'static str, u32),
     /// The same of weights below zero and above.
-    CountI64(&'static str),
-    /// A filter of 128 bits and 2 hashes.
-    Bloom(&'static str),
+    CountI64(&'static str, u32),
+    /// A filter of 128 bits and so many hashes.
+    Bloom(&'static str, u16),
     Add(&'static str, u64, &'static str),
     AddSigned(&'static str, i64, &'static str),
     Insert(&'static str, &'static str),
@@ -62,11 +62,10 @@ fn texts_of(said: Said) -> (&'static str, &'static str) {
         | Said::Restore(first, second)
         | Said::Ask(first, second) => (first, second),
         Said::Frequent(name, _) => (name, ""),
+        Said::CountU64(name, _) | Said::CountI64(name, _) => (name, ""),
+        Said::Bloom(name, _) => (name, ""),
         Said::Decay(name, _, _) => (name, ""),
-        Said::CountU64(name)
-        | Said::CountI64(name)
-        | Said::Bloom(name)
-        | Said::Reset(name)
+        Said::Reset(name)
         | Said::Halve(name)
         | Said::ShowImage(name)
         | Said::GetStatus(name)
@@ -81,22 +80,22 @@ fn command(said: Said, first: String, second: String) -> Command<String> {
             name: first,
             max_map_size,
         },
-        Said::CountU64(_) => Command::CreateCountU64 {
+        Said::CountU64(_, num_buckets) => Command::CreateCountU64 {
             name: first,
             num_hashes: 2,
-            num_buckets: 16,
+            num_buckets,
             seed: SEED,
         },
-        Said::CountI64(_) => Command::CreateCountI64 {
+        Said::CountI64(_, num_buckets) => Command::CreateCountI64 {
             name: first,
             num_hashes: 2,
-            num_buckets: 16,
+            num_buckets,
             seed: SEED,
         },
-        Said::Bloom(_) => Command::CreateBloom {
+        Said::Bloom(_, num_hashes) => Command::CreateBloom {
             name: first,
             num_bits: 128,
-            num_hashes: 2,
+            num_hashes,
             seed: SEED,
         },
         Said::Add(_, weight, _) => Command::Add {

@@ -27,6 +27,7 @@ mod quiet_filters;
 mod quiet_frequent;
 mod quiet_session;
 mod quiet_table;
+mod quiet_values;
 mod ranges;
 mod session;
 mod table;
@@ -180,6 +181,9 @@ fn play_quiet_parts(trial: &mut Trial, calls: &str) -> Result<(), Stopped> {
         "reads" => quiet_base::reads(trial),
         "short_reads" => quiet_base::short_reads(trial),
         "fields" => quiet_base::fields(trial),
+        "texts" => quiet_base::texts(trial),
+        "signed_values" => quiet_values::signed(trial),
+        "unsigned_values" => quiet_values::unsigned(trial),
         "table_changes" => quiet_table::changes(trial),
         "table_questions" => quiet_table::questions(trial),
         "table_walk" => quiet_table::walk(trial),

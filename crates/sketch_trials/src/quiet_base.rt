@@ -106,6 +106,23 @@ pub fn refusals(trial: &mut Trial) -> Result<(), Stopped> {
     Ok(())
 }
 
+/// The texts of a refusal, one for users and two for programmers, in memory that is there.
+pub fn texts(trial: &mut Trial) -> Result<(), Stopped> {
+    let error = Error::invalid_data(Fault::BadFamily);
+    let mut texts = String::with_capacity(trial.alloc, 256)?;
+    trial.begin();
+    let written = writeln!(texts, "{error}").is_ok()
+        && writeln!(texts, "{error:?}").is_ok()
+        && writeln!(texts, "{error:#?}").is_ok();
+    let same = match error.clone() {
+        Ok(copy) => copy == error,
+        Err(_) => false,
+    };
+    trial.end();
+    say_line!(trial, "{texts}{written} {same}");
+    Ok(())
+}
+
 /// Writes of each width within the capacity.
 fn write_all(bytes: &mut SketchBytes) -> [&'static str; 7] {
     [

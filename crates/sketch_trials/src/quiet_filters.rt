@@ -199,7 +199,7 @@ pub fn signed_refusals(trial: &mut Trial) -> Result<(), Stopped> {
     Ok(())
 }
 
-/// Images of sketches that would take a byte more than they may, and no image.
+/// Images of sketches that would take a byte more than they may, one that is read under another seed, and no image.
 pub fn images(trial: &mut Trial) -> Result<(), Stopped> {
     let alloc = trial.alloc;
     let filter = BloomFilterBuilder::with_size(256, 3)
@@ -211,8 +211,12 @@ pub fn images(trial: &mut Trial) -> Result<(), Stopped> {
     let large = [
         fault_of(BloomFilter::deserialize_with_limit(alloc, &filter, 31)),
         fault_of(CountMinSketch::<u64>::deserialize_with_limit(alloc, &counts, 1559)),
+        fault_of(CountMinSketch::<u64>::deserialize_with_seed_and_limit(
+            alloc, &counts, 9001, 1559,
+        )),
         fault_of(FrequentItemsSketch::<i64>::deserialize_with_limit(alloc, &frequent, 223)),
     ];
+    let seed = fault_of(CountMinSketch::<u64>::deserialize_with_seed(alloc, &counts, 9002));
     let none = [
         fault_of(BloomFilter::deserialize(alloc, b"")),
         fault_of(CountMinSketch::<u64>::deserialize(alloc, b"")),
@@ -220,6 +224,7 @@ pub fn images(trial: &mut Trial) -> Result<(), Stopped> {
     ];
     trial.end();
     tell_values(trial, "large", &large);
+    tell_values(trial, "seed", &[seed]);
     tell_values(trial, "none", &none);
     Ok(())
 }

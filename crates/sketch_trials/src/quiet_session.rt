@@ -9,18 +9,22 @@ use datasketches::{Command, Reply, Session, Spare};
 use heavy_windows::HeavyWindows;
 use std::alloc::Global;
 
-/// Sketches of all four kinds, and an item of two of them.
-const MADE: [Said; 10] = [
+/// Sketches of all four kinds, an item of two of them, and an image.
+const MADE: [Said; 14] = [
     Said::Frequent("f", 8),
     Said::Frequent("e", 8),
-    Said::CountU64("c"),
-    Said::CountU64("c2"),
-    Said::CountI64("i"),
-    Said::CountI64("i2"),
-    Said::Bloom("b"),
-    Said::Bloom("b2"),
+    Said::CountU64("c", 16),
+    Said::CountU64("c2", 16),
+    Said::CountI64("i", 16),
+    Said::CountI64("i2", 16),
+    Said::Bloom("b", 2),
+    Said::Bloom("b2", 2),
+    Said::CountU64("c3", 17),
+    Said::CountI64("i3", 17),
+    Said::Bloom("b3", 3),
     Said::Add("f", 5, "x"),
     Said::Add("c", 1, "x"),
+    Said::Save("f", "q"),
 ];
 
 /// Changes that are accepted.
@@ -96,10 +100,20 @@ const UNKNOWN: [Said; 12] = [
 ];
 
 /// Commands that are refused for what else they say.
-const REFUSED: [Said; 8] = [
+const REFUSED: [Said; 18] = [
     Said::Frequent("c", 8),
+    Said::CountU64("i", 16),
+    Said::CountI64("f", 16),
+    Said::Bloom("c", 2),
+    Said::Save("c", "q"),
+    Said::Restore("q", "c"),
     Said::Merge("f", "f"),
     Said::Union("b", "b"),
+    Said::Merge("c", "c3"),
+    Said::Merge("i", "i3"),
+    Said::Union("b", "b3"),
+    Said::Intersect("b", "b3"),
+    Said::Difference("b", "b3"),
     Said::Decay("c", 0, 2),
     Said::Decay("c", 3, 2),
     Said::Add("f", u64::MAX, "x"),

@@ -13,10 +13,10 @@ const LONG: &str = "a longer item, not kept in place";
 const MADE: [Said; 6] = [
     Said::Frequent("f", 8),
     Said::Frequent("g", 64),
-    Said::CountU64("c"),
-    Said::CountI64("i"),
-    Said::Bloom("b"),
-    Said::Bloom("d"),
+    Said::CountU64("c", 16),
+    Said::CountI64("i", 16),
+    Said::Bloom("b", 2),
+    Said::Bloom("d", 2),
 ];
 
 /// Images, and sketches that come back from them.
