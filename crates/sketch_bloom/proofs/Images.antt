@@ -1,7 +1,12 @@
 -- What is read is what the image says.
-use Rattle.std.proofs.Common.{◌≡◌, ℕ, zero, suc, ◌==◌, Bool, true, false, ◌||◌, ◌⊎◌, inl, inr, List, length, drop, None, refl, sym, ap, subst, ◌∙◌, eq-eqb, arith}
+use Rattle.std.proofs.Common.{◌≡◌, ℕ, zero, suc, ◌<◌, ◌^◌, ◌==◌, Bool, true, false, ◌||◌, ◌⊎◌, inl, inr, List, [], ◌∷◌, ◌++◌, length, drop, get_or, All, None, refl, sym, ap, subst, ◌∙◌, append_assoc, eq-eqb, arith}
+use Rattle.std.specs.Int.{w64}
+use Rattle.std.proofs.lemmas.Bool.{cases_lt}
+use Rattle.std.proofs.lemmas.List.Elements.{All-get_or}
+use Rattle.std.proofs.lemmas.Nat.{pow_pos}
+use Rattle.std.proofs.Math.ListN.{get_or-eq_default}
 use Rattle.std.specs.FinSet as set
-use Rattle.sketch_base.specs.Fields.{words_in}
+use Rattle.sketch_base.specs.Fields.{le_at, words_in}
 use Rattle.sketch_bloom.specs.BitSet.{set_of}
 use Rattle.sketch_bloom.specs.History.BloomHistory.{Restored}
 use Rattle.sketch_bloom.specs.Image.{IsImage, Restores, early_fault, bit_count_at, uncounted}
@@ -15,6 +20,19 @@ use Rattle.sketch_bloom.proofs.States.{state_of}
 pub length-words_in : (n : ℕ) (bytes : List ℕ) → length (words_in n bytes) ≡ n
 length-words_in zero bytes = refl
 length-words_in (suc n) bytes = omega (arith, length-words_in n (drop 8 bytes))
+
+-- a word that was read is the first of those that were still to be read
+pub next_word : (words : List ℕ) (left after place word : ℕ) (bytes rest : List ℕ) → left ≡ suc after → word ≡ le_at w64 bytes place → rest ≡ drop 8 (drop place bytes) → (words ++ word ∷ []) ++ words_in after rest ≡ words ++ words_in left (drop place bytes)
+unfolding le_at
+next_word words left after place word bytes rest left_is word_is rest_is =
+    rw (left_is, word_is, rest_is) (append_assoc words (le_at w64 bytes place ∷ []) (words_in after (drop 8 (drop place bytes))))
+
+-- a number at any place fits where all do
+pub all_fit : (words : List ℕ) → All (λ (w : ℕ). w < 2 ^ 64) words → (k : ℕ) → get_or words k 0 < 2 ^ 64
+all_fit words fit k = elim (cases_lt k (length words)) as (λ _. get_or words k 0 < 2 ^ 64) [
+  | inl l ↦ All-get_or (λ (w : ℕ). w < 2 ^ 64) words k 0 l fit
+  | inr g ↦ rw (get_or-eq_default words 0 g) (pow_pos 64)
+]
 
 -- a test that one of two facts meets
 pub either_true : (a b : Bool) → (a ≡ true) ⊎ (b ≡ true) → (a || b) ≡ true

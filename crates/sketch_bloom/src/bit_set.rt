@@ -98,18 +98,6 @@ pub fn clear(words: &mut [u64])
     words.fill(0);
 }
 
-/// The size of the set.
-pub fn size_of(words: &[u64]) -> u64
-    requires { length words.now ≤ MAX_NUM_WORDS }
-    ensures { result ≡ set.len (set_of words.now) }
-{
-    let mut size = 0;
-    for word in words {
-        size += word.count_ones() as u64;
-    }
-    size
-}
-
 /// Combines the set with another, eight words at a time, then four, and answers the size of what it leaves.
 #[inline(always)]
 pub fn combine(words: &mut [u64], other: &[u64], operation: SetOperation) -> u64

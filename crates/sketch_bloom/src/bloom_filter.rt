@@ -15,11 +15,11 @@ ghost use Rattle.sketch_bloom.specs.State.{IsFilterState, IsCompatible, capacity
 use crate::bit_set;
 use crate::image::{
     EMPTY_FLAG_MASK, PREAMBLE_LONGS_EMPTY, PREAMBLE_LONGS_NONEMPTY, UNCOUNTED, begin_image,
-    read_preamble, write_words,
+    read_preamble, read_words, write_words,
 };
 use crate::limits::{MAX_NUM_HASHES, MAX_NUM_WORDS};
 use crate::set_operation::SetOperation;
-use sketch_base::image::{u64_at, words_at};
+use sketch_base::image::u64_at;
 use sketch_base::{Divisor, Error, Fault, xxh64_of};
 use std::alloc::{AllocError, Global};
 use std::fmt;
@@ -353,8 +353,7 @@ impl BloomFilter {
         if preamble.is_empty {
             return Self::with_words(alloc, num_words, num_hashes, preamble.seed);
         }
-        let words = words_at(alloc, image, 32, num_words)?;
-        let bits_used = bit_set::size_of(&words);
+        let (words, bits_used) = read_words(alloc, image, num_words)?;
         let stored = u64_at(image, 24);
         if stored != UNCOUNTED && stored != bits_used {
             return Err(Error::invalid_data(Fault::BadBitCount));

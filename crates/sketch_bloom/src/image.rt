@@ -1,14 +1,16 @@
 //! The images of filters: how they are read and written.
-ghost use Rattle.std.specs.Prelude.{◌≡◌, ◌+◌, ◌*◌, ◌<◌, ◌≤◌, ◌^◌, ◌++◌, None, Some, false, length, All, IfOk, IfErr, OnOk};
+ghost use Rattle.std.specs.Prelude.{◌≡◌, ◌+◌, ◌*◌, ◌<◌, ◌≤◌, ◌^◌, ◌++◌, None, Some, false, length, drop, All, IfOk, IfErr, OnOk};
+ghost use Rattle.std.specs.FinSet as set;
 ghost use Rattle.sketch_base.specs.Errors.{invalid_data, no_memory};
-ghost use Rattle.sketch_base.specs.Fields.{bytes_of_words};
+ghost use Rattle.sketch_base.specs.Fields.{bytes_of_words, words_in};
+ghost use Rattle.sketch_bloom.specs.BitSet.{set_of};
 ghost use Rattle.sketch_bloom.specs.Image.{early_fault, preamble};
 ghost use Rattle.sketch_bloom.specs.Preamble.{IsPreamble};
 
 use crate::limits::{MAX_NUM_HASHES, MAX_NUM_WORDS};
 use sketch_base::image::{SERIAL_VERSION, check_length, check_version, u16_at, u32_at, u64_at};
 use sketch_base::{Error, Family, Fault, SketchBytes};
-use std::alloc::Global;
+use std::alloc::{AllocError, Global};
 
 /// The longs of the preamble of an empty filter.
 pub const PREAMBLE_LONGS_EMPTY: u8 = 3;
@@ -70,6 +72,30 @@ pub fn read_preamble(image: &[u8]) -> Result<Preamble, Error>
     })
 }
 
+/// Reads so many words that stand behind the preamble, and counts the bits that are set.
+///
+/// Both in one pass, since a large image is out of the cache before a second one.
+pub fn read_words(
+    alloc: Global,
+    image: &[u8],
+    num_words: usize,
+) -> Result<(Vec<u64>, u64), AllocError>
+    requires there { 32 + 8 * num_words ≤ length image.now }
+    requires few { num_words ≤ MAX_NUM_WORDS }
+    ensures words { IfOk result (λ read. read.0.items ≡ words_in num_words (drop 32 image.now)) }
+    ensures size { IfOk result (λ read. read.1 ≡ set.len (set_of read.0.items)) }
+{
+    let mut words = Vec::with_capacity(alloc, num_words)?;
+    let mut size = 0;
+    // The label is there for the prover alone.
+    'reads: for i in 0..num_words {
+        let word = u64_at(image, 32 + 8 * i);
+        words.push_reserved(word);
+        size += word.count_ones() as u64;
+    }
+    Ok((words, size))
+}
+
 /// A buffer with room for so many bytes, in which the preamble of an image stands.
 pub fn begin_image(
     alloc: Global,
@@ -97,7 +123,24 @@ pub fn begin_image(
     Ok(out)
 }
 
-/// Writes the words.
+/// How many words are written at once.
+const BLOCK: usize = 8;
+
+/// The bytes of a block of words.
+#[inline(always)]
+fn bytes_of_block(words: &[u64]) -> [u8; 64]
+    requires { length words.now ≡ BLOCK }
+    ensures { result ≡ bytes_of_words words.now }
+{
+    let mut bytes = [0; 64];
+    // The label is there for the prover alone.
+    'fills: for i in 0..BLOCK {
+        bytes[8 * i..8 * i + 8].copy_from_slice(&words[i].to_le_bytes());
+    }
+    bytes
+}
+
+/// Writes the words, a block at a time, and then one by one.
 pub fn write_words(out: &mut SketchBytes, words: &[u64]) -> Result<(), Error>
     ensures ok { OnOk result (out.new.bytes ≡ out.old.bytes ++ bytes_of_words words.now) }
     ensures err { IfErr result (λ e. e ≡ no_memory) }
@@ -105,8 +148,14 @@ pub fn write_words(out: &mut SketchBytes, words: &[u64]) -> Result<(), Error>
     // What the type says, for the caller's proof.
     ensures words_fit { All (λ word. word < 2 ^ 64) words.now }
 {
-    for word in words {
-        out.write_u64_le(*word)?;
+    let blocks = words.len() / BLOCK;
+    // The labels are there for the prover alone: its goals are named after them.
+    'whole: for b in 0..blocks {
+        let at = BLOCK * b;
+        out.write(&bytes_of_block(&words[at..at + BLOCK]))?;
+    }
+    'rest: for i in BLOCK * blocks..words.len() {
+        out.write_u64_le(words[i])?;
     }
     Ok(())
 }
