@@ -212,30 +212,61 @@ pub(crate) fn table_size(lg: u8) -> usize
     1usize << lg
 }
 
-/// How many bytes the items in the slots take.
+/// The item in the first slot that is taken.
+fn first_item<T>(slots: &[Slot<T>]) -> Option<&T> {
+    for slot in slots {
+        if let Slot::Taken { item, .. } = slot {
+            return Some(item);
+        }
+    }
+    None
+}
+
+/// Whether each item in the slots takes so many bytes.
 ///
-/// Answers `NoMemory` where that passes the greatest `usize`, since so many are never to be had.
-fn items_size<T: FrequentItemValue>(slots: &[Slot<T>]) -> Result<usize, Error>
-    ensures { IfErr result (λ e. e ≡ no_memory) }
-{
+/// Of a type whose items all take the same, as numbers do, the compiler knows it, and no slot is looked at.
+fn take_each<T: FrequentItemValue>(slots: &[Slot<T>], size: usize) -> bool {
+    for slot in slots {
+        if let Slot::Taken { item, .. } = slot {
+            if T::serialize_size(item) != size {
+                return false;
+            }
+        }
+    }
+    true
+}
+
+/// The sum of what the items in the slots take, or nothing where it passes the greatest `usize`.
+///
+/// At a free slot `other` is measured and adds nothing, so that no branch depends on the slot.
+fn sum_of_sizes<T: FrequentItemValue>(slots: &[Slot<T>], other: &T) -> Option<usize> {
     let mut size = 0usize;
     for slot in slots {
-        // a free slot adds 0, so that items of one size make no branch that depends on the slot
-        let taken = match slot {
-            Slot::Taken { item, .. } => T::serialize_size(item),
-            Slot::Free => 0,
+        let (item, counted) = match slot {
+            Slot::Taken { item, .. } => (item, usize::MAX),
+            Slot::Free => (other, 0),
         };
-        let Some(sum) = size.checked_add(taken) else {
-            return Err(Error::new(ErrorKind::OutOfMemory, Fault::NoMemory));
-        };
-        size = sum;
+        size = size.checked_add(T::serialize_size(item) & counted)?;
     }
-    Ok(size)
+    Some(size)
+}
+
+/// How many bytes the items in the slots take, of which there are so many, or nothing where that passes the greatest
+/// `usize`.
+fn items_size<T: FrequentItemValue>(slots: &[Slot<T>], active: usize) -> Option<usize> {
+    let Some(item) = first_item(slots) else {
+        return Some(0);
+    };
+    let each = T::serialize_size(item);
+    if take_each(slots, each) {
+        return each.checked_mul(active);
+    }
+    sum_of_sizes(slots, item)
 }
 
 /// How many bytes the image takes of a sketch with so many counters in these slots.
 ///
-/// Answers `NoMemory` where that passes the greatest `usize`.
+/// Answers `NoMemory` where that passes the greatest `usize`, since so many are never to be had.
 pub(crate) fn image_size<T: FrequentItemValue>(
     slots: &[Slot<T>],
     active: usize,
@@ -243,7 +274,10 @@ pub(crate) fn image_size<T: FrequentItemValue>(
     requires { active ≤ 2 ^ 30 }
     ensures { IfErr result (λ e. e ≡ no_memory) }
 {
-    let Some(size) = items_size(slots)?.checked_add(32 + 8 * active) else {
+    let Some(items) = items_size(slots, active) else {
+        return Err(Error::new(ErrorKind::OutOfMemory, Fault::NoMemory));
+    };
+    let Some(size) = items.checked_add(32 + 8 * active) else {
         return Err(Error::new(ErrorKind::OutOfMemory, Fault::NoMemory));
     };
     Ok(size)
