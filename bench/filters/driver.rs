@@ -255,5 +255,8 @@ fn main() {
     compare_sets(20, 1000, 200);
     compare_items(27, 1 << 18, 2);
     compare_sets(27, 1 << 15, 25);
+    compare_images(13, 1 << 8, 1 << 16);
+    compare_images(19, 1 << 10, 1 << 10);
+    compare_images(23, 1 << 12, 100);
     compare_images(27, 1 << 15, 10);
 }

@@ -39,6 +39,7 @@ unsafe extern "C" {
     fn rattle_frequent_rows(task: &Task, items: *const i64, len: usize) -> u64;
     fn rattle_frequent_texts(task: &Task, items: *const i64, len: usize) -> u64;
     fn rattle_frequent_write(task: &Task, items: *const i64, len: usize) -> u64;
+    fn rattle_frequent_write_texts(task: &Task, items: *const i64, len: usize) -> u64;
     fn rattle_frequent_read(task: &Task, items: *const i64, len: usize) -> u64;
 }
 
@@ -120,6 +121,18 @@ fn rust_texts(task: &Task, items: &[i64], _: &[i64]) -> u64 {
 
 fn rust_write(task: &Task, items: &[i64], _: &[i64]) -> u64 {
     let sketch = filled(task, items);
+    let mut image = sketch.serialize();
+    for _ in 0..task.turns {
+        image = black_box(sketch.serialize());
+    }
+    digest(&image)
+}
+
+fn rust_write_texts(task: &Task, _: &[i64], _: &[i64]) -> u64 {
+    let mut sketch = Frequent::new(task.size);
+    for n in 0..task.size / 4 * 3 {
+        sketch.update_with_count_ref(&format!("the item {n}"), 1).unwrap();
+    }
     let mut image = sketch.serialize();
     for _ in 0..task.turns {
         image = black_box(sketch.serialize());
@@ -287,6 +300,14 @@ fn main() {
         one("walk", task(turns), kept * turns, &distinct[..full], rattle_frequent_walk, rust_walk);
         one("rows", task(few), kept * few, &distinct[..full], rattle_frequent_rows, rust_rows);
         one("write", task(turns), kept * turns, &distinct[..full], rattle_frequent_write, rust_write);
+        one(
+            "write, text",
+            task(turns),
+            kept * turns,
+            &[],
+            rattle_frequent_write_texts,
+            rust_write_texts,
+        );
         one("read", task(turns), kept * turns, &distinct[..full], rattle_frequent_read, rust_read);
     }
     for sample in [2, 64, 1024] {

@@ -384,11 +384,44 @@ impl<T: Eq + Hash + Clone> Frequent<T> {
     }
 }
 
-impl Frequent<i64> {
+/// An item that can be written into an image.
+pub trait Written: Sized {
+    /// How many bytes the items of a table take.
+    fn size_of_all(table: &Table<Self>) -> usize;
+
+    fn write(&self, image: &mut Vec<u8>);
+}
+
+impl Written for i64 {
+    fn size_of_all(table: &Table<i64>) -> usize {
+        8 * table.active
+    }
+
+    fn write(&self, image: &mut Vec<u8>) {
+        image.extend_from_slice(&self.to_le_bytes());
+    }
+}
+
+impl Written for String {
+    fn size_of_all(table: &Table<String>) -> usize {
+        let size = |slot: &Slot<String>| match slot {
+            Slot::Taken { item, .. } => 4 + item.len(),
+            Slot::Free => 0,
+        };
+        table.slots.iter().map(size).sum()
+    }
+
+    fn write(&self, image: &mut Vec<u8>) {
+        image.extend_from_slice(&(self.len() as u32).to_le_bytes());
+        image.extend_from_slice(self.as_bytes());
+    }
+}
+
+impl<T: Written> Frequent<T> {
     /// The image of a sketch into which something was fed.
     pub fn serialize(&self) -> Vec<u8> {
         let active = self.table.active;
-        let mut image = Vec::with_capacity(32 + 16 * active);
+        let mut image = Vec::with_capacity(32 + 8 * active + T::size_of_all(&self.table));
         let lg = |size: usize| size.trailing_zeros() as u8;
         image.extend_from_slice(&[4, 1, 10, lg(self.max_size), lg(self.table.slots.len()), 0, 0, 0]);
         image.extend_from_slice(&(active as u32).to_le_bytes());
@@ -402,12 +435,14 @@ impl Frequent<i64> {
         }
         for slot in &self.table.slots {
             if let Slot::Taken { item, .. } = slot {
-                image.extend_from_slice(&item.to_le_bytes());
+                item.write(&mut image);
             }
         }
         image
     }
+}
 
+impl Frequent<i64> {
     /// The sketch of the image of one into which something was fed.
     pub fn deserialize(image: &[u8]) -> Result<Self, Refusal> {
         let (preamble, rest) = image.split_first_chunk::<32>().ok_or(Refusal::InsufficientData)?;
