@@ -1,14 +1,13 @@
 //! The fields of images, which stand at fixed places, and what all images are checked for.
 //!
-//! Numbers have their lowest byte first. Only `words_at` takes memory.
-ghost use Rattle.std.specs.Prelude.{◌≡◌, ◌≢◌, ◌+◌, ◌*◌, ◌<◌, ◌≤◌, length, drop, OnOk, IfOk, IfErr};
+//! Numbers have their lowest byte first. None of these calls takes memory.
+ghost use Rattle.std.specs.Prelude.{◌≡◌, ◌≢◌, ◌+◌, ◌<◌, ◌≤◌, length, OnOk, IfErr};
 ghost use Rattle.std.specs.Int.{w16, w32, w64};
 ghost use Rattle.sketch_base.specs.Errors.{invalid_data};
-ghost use Rattle.sketch_base.specs.Fields.{le_at, signed_le_at, words_in};
+ghost use Rattle.sketch_base.specs.Fields.{le_at, signed_le_at};
 
 use crate::error::Error;
 use crate::fault::Fault;
-use std::alloc::{AllocError, Global};
 
 /// The version of the formats, which stands in each image.
 pub const SERIAL_VERSION: u8 = 1;
@@ -87,21 +86,4 @@ pub fn u64_at(image: &[u8], place: usize) -> u64
     let mut bytes = [0; 8];
     bytes.copy_from_slice(&image[place..place + 8]);
     u64::from_le_bytes(bytes)
-}
-
-/// The unsigned numbers of eight bytes each, so many of them, that stand one after another from a place on.
-pub fn words_at(
-    alloc: Global,
-    image: &[u8],
-    place: usize,
-    count: usize,
-) -> Result<Vec<u64>, AllocError>
-    requires { place + 8 * count ≤ length image.now }
-    ensures { IfOk result (λ words. words.items ≡ words_in count (drop place image.now)) }
-{
-    let mut words = Vec::with_capacity(alloc, count)?;
-    for i in 0..count {
-        words.push_reserved(u64_at(image, place + 8 * i));
-    }
-    Ok(words)
 }
