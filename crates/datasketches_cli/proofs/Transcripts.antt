@@ -3,11 +3,13 @@ use Rattle.std.proofs.Common.{◌≡◌, ◌≢◌, ℕ, ◌+◌, true, false, L
 use Rattle.std.specs.Option.{IfSome}
 use Rattle.std.specs.Io.BufRead.{take_through, drop_through, strip_last}
 use Rattle.std.specs.Io.KnownBytes.{Appends}
+use Rattle.std.specs.String.{string_bytes}
 use Rattle.datasketches_cli.specs.declared.request.Answer.{Answer}
 use Rattle.datasketches_cli.specs.declared.request.Request.{Request}
 use Rattle.datasketches_cli.specs.declared.serving.Serving.{Serving}
 use Rattle.datasketches_cli.specs.declared.serve.Ended.{Ended}
 use Rattle.datasketches_cli.specs.declared.serve.Ended.TheVariants.{All, BadLine}
+use Rattle.datasketches_cli.specs.declared.answering.Answering.{Answering}
 use Rattle.datasketches_cli.specs.declared.answering.Line.{Line}
 use Rattle.datasketches_cli.specs.declared.answering.Line.TheVariants.{Blank, Answered, Bad}
 use Rattle.datasketches_cli.specs.Reading.{TakesLine}
@@ -16,6 +18,7 @@ use Rattle.datasketches_cli.specs.Transcript.{Transcript, Serves, lines_of, answ
 use Rattle.datasketches_cli.specs.Steps.{nothing_served, ServingStep}
 use Rattle.datasketches_cli.specs.Asking.{Says, IsBad}
 use Rattle.datasketches_cli.specs.Grammar.{IsBlank}
+use Rattle.datasketches_cli.specs.Texts.{Text}
 use Rattle.datasketches_cli.proofs.Lines.{lines_first}
 
 -- whatever comes of the rest of the input by what serves it, with what was written and gathered before it, comes of the whole input
@@ -102,29 +105,33 @@ all_read (Some input) is now held holds holds' gathered line serving before (res
       subst (λ (l : List ℕ). Transcript 1 nothing_served (lines_of input) All l) (append-nil (text ++ gathered)) (leads All [] (rw none (refl, refl))),
     )
 
+-- the same but for what is gathered
+abbrev pub with_replies : Answering → Text → Answering
+with_replies old replies = record { alloc = old.alloc; serving = old.serving; spare = old.spare; replies = replies }
+
 -- a turn with a line that is not bad
-pub turns : (was is now held mid holds : Option (List ℕ)) (gathered left left' : List ℕ) (serving after : Serving) (before : ℕ) (found : Option Line) (became : Line) →
-    Midway was is held mid gathered serving before → WritesFront mid holds gathered left → AnswersNext is now serving after left left' found → found ≡ Some became → became ≢ Bad →
-    Midway was now held holds left' after (before + 1)
-turns was is now held mid holds gathered left left' serving after before found Blank m w next f good =
+pub turns : (was is now held mid holds : Option (List ℕ)) (old new : Answering) (left : Text) (before : ℕ) (found : Option Line) (became : Line) →
+    Midway was is held mid (string_bytes old.replies) old.serving before → WritesFront mid holds (string_bytes old.replies) (string_bytes left) → AnswersNext is now (with_replies old left) new found → found ≡ Some became → became ≢ Bad →
+    Midway was now held holds (string_bytes new.replies) new.serving (before + 1)
+turns was is now held mid holds old new left before found Blank m w next f good =
     let (line, t, (blank, (s, l))) = rw f at next in
-    rw (s, l) (passed was is now held holds left line serving before (wrote was is held mid holds gathered left serving before m w) t blank)
-turns was is now held mid holds gathered left left' serving after before found Answered m w next f good =
+    rw (s, l) (passed was is now held holds (string_bytes left) line old.serving before (wrote was is held mid holds (string_bytes old.replies) (string_bytes left) old.serving before m w) t blank)
+turns was is now held mid holds old new left before found Answered m w next f good =
     let (line, t, (request, says, (answer, step, grown))) = rw f at next in
-    answered was is now held holds left left' line serving after before request answer (wrote was is held mid holds gathered left serving before m w) t says step grown
-turns was is now held mid holds gathered left left' serving after before found Bad m w next f good = absurd (good refl)
+    answered was is now held holds (string_bytes left) (string_bytes new.replies) line old.serving new.serving before request answer (wrote was is held mid holds (string_bytes old.replies) (string_bytes left) old.serving before m w) t says step grown
+turns was is now held mid holds old new left before found Bad m w next f good = absurd (good refl)
 
 -- a turn with a bad line
-pub turns_bad : (was is now held mid holds holds' : Option (List ℕ)) (gathered left left' : List ℕ) (serving after : Serving) (before : ℕ) (found : Option Line) (became : Line) →
-    Midway was is held mid gathered serving before → WritesFront mid holds gathered left → AnswersNext is now serving after left left' found → found ≡ Some became → became ≡ Bad → Appends holds holds' (left' ++ bad_line (before + 1)) →
+pub turns_bad : (was is now held mid holds holds' : Option (List ℕ)) (old new : Answering) (left : Text) (before : ℕ) (found : Option Line) (became : Line) →
+    Midway was is held mid (string_bytes old.replies) old.serving before → WritesFront mid holds (string_bytes old.replies) (string_bytes left) → AnswersNext is now (with_replies old left) new found → found ≡ Some became → became ≡ Bad → Appends holds holds' (string_bytes new.replies ++ bad_line (before + 1)) →
     Serves was held holds' (BadLine (before + 1))
-turns_bad was is now held mid holds holds' gathered left left' serving after before found became m w next f b wrote' =
+turns_bad was is now held mid holds holds' old new left before found became m w next f b wrote' =
     let (line, t, (bad, (s, l))) = rw (f, b) at next in
-    named was is now held holds holds' left line serving before (wrote was is held mid holds gathered left serving before m w) t bad (rw (sym l) wrote')
+    named was is now held holds holds' (string_bytes left) line old.serving before (wrote was is held mid holds (string_bytes old.replies) (string_bytes left) old.serving before m w) t bad (rw (sym l) wrote')
 
 -- the last turn, which finds no line
-pub turns_last : (was is now held mid holds holds' : Option (List ℕ)) (gathered left left' : List ℕ) (serving after : Serving) (before : ℕ) (found : Option Line) →
-    Midway was is held mid gathered serving before → WritesFront mid holds gathered left → AnswersNext is now serving after left left' found → found ≡ None → Appends holds holds' left' → Serves was held holds' All
-turns_last was is now held mid holds holds' gathered left left' serving after before found m w next f wrote' =
+pub turns_last : (was is now held mid holds holds' : Option (List ℕ)) (old new : Answering) (left : Text) (before : ℕ) (found : Option Line) →
+    Midway was is held mid (string_bytes old.replies) old.serving before → WritesFront mid holds (string_bytes old.replies) (string_bytes left) → AnswersNext is now (with_replies old left) new found → found ≡ None → Appends holds holds' (string_bytes new.replies) → Serves was held holds' All
+turns_last was is now held mid holds holds' old new left before found m w next f wrote' =
     let (none, (s, l)) = rw f at next in
-    all_read was is now held holds holds' left [] serving before (wrote was is held mid holds gathered left serving before m w) none (rw (sym l) wrote')
+    all_read was is now held holds holds' (string_bytes left) [] old.serving before (wrote was is held mid holds (string_bytes old.replies) (string_bytes left) old.serving before m w) none (rw (sym l) wrote')

@@ -1,8 +1,8 @@
 -- The words of a line that are looked at, and the commands that they make.
-use Rattle.std.proofs.Common.{◌≡◌, ℕ, ◌-◌, ◌<◌, ◌≤◌, false, eqb, List, [], ◌∷◌, length, get_or, take, drop, Option, None, Some, refl, sym, ◌∙◌, ap, subst, arith}
-use Rattle.std.specs.Prelude.{codes, if◌then◌else◌}
+use Rattle.std.proofs.Common.{◌≡◌, ℕ, ◌-◌, ◌<◌, ◌≤◌, false, eqb, List, [], ◌∷◌, length, get_or, take, drop, filter, Option, None, Some, inl, inr, refl, sym, ◌∙◌, ap, subst, arith}
 use Rattle.std.specs.Str.{bytes_eq}
 use Rattle.std.specs.Borrow.{Bor}
+use Rattle.std.specs.Prelude.{MatchOption}
 use Rattle.std.specs.Str.{IsUtf8}
 use Rattle.std.proofs.lemmas.List.{take_all, length-take}
 use Rattle.datasketches.specs.declared.command.Command.{Command}
@@ -10,72 +10,23 @@ use Rattle.datasketches.specs.declared.command.Command.TheVariants as command
 use Rattle.datasketches_cli.specs.Texts.{Text}
 use Rattle.datasketches_cli.specs.declared.parse.Edit.TheVariants as edit
 use Rattle.datasketches_cli.specs.declared.parse.JoinKind.TheVariants as join
-use Rattle.datasketches_cli.specs.declared.parse.Kind.{Kind}
 use Rattle.datasketches_cli.specs.declared.parse.Kind.TheVariants as kind
 use Rattle.datasketches_cli.specs.declared.parse.Verb.{Verb}
 use Rattle.datasketches_cli.specs.declared.parse.Verb.TheVariants as verb
-use Rattle.datasketches_cli.specs.Grammar.{words_of, verb_word, Make, MakeRest, AreCounts, IsMade}
+use Rattle.datasketches_cli.specs.Grammar.{words_of, verb_word, Make, MakeRest, AreCounts}
 use Rattle.datasketches_cli.specs.Asking.{Ask, Says, IsBad}
 use Rattle.datasketches_cli.specs.declared.request.Request.{Request}
 use Rattle.datasketches_cli.specs.declared.request.Request.TheVariants as request
-use Rattle.datasketches_cli.specs.Said.{AreCountsOf, IsCommandOf, texts_of}
+use Rattle.datasketches_cli.specs.Said.{IsCommandOf, texts_of}
 
 -- words that are no numbers of a Count-Min sketch make no command for one
-no_signed : (words : List (List ℕ)) → ((hashes buckets seed : ℕ) → ¬ AreCounts words hashes buckets seed) → (made : Command Text) → ¬ MakeRest (verb.Create kind.CountI64) words made
-no_signed words none (command.CreateFrequent name max) made = made
-no_signed words none (command.CreateFrequentSampled name max sample) made = made
+pub no_signed : (words : List (List ℕ)) → ((hashes buckets seed : ℕ) → ¬ AreCounts words hashes buckets seed) → (made : Command Text) → ¬ MakeRest (verb.Create kind.CountI64) words made
 no_signed words none (command.CreateCountI64 name hashes buckets seed) made = none hashes buckets seed made
-no_signed words none (command.CreateCountU64 name hashes buckets seed) made = made
-no_signed words none (command.CreateBloom name bits hashes seed) made = made
-no_signed words none (command.Add name item weight) made = made
-no_signed words none (command.AddSigned name item weight) made = made
-no_signed words none (command.Insert name item) made = made
-no_signed words none (command.Merge into other) made = made
-no_signed words none (command.Union into other) made = made
-no_signed words none (command.Intersect into other) made = made
-no_signed words none (command.Difference into other) made = made
-no_signed words none (command.Reset name) made = made
-no_signed words none (command.Halve name) made = made
-no_signed words none (command.Decay name n d) made = made
-no_signed words none (command.Save name image) made = made
-no_signed words none (command.Restore image name) made = made
-no_signed words none (command.ShowImage image) made = made
-no_signed words none (command.Ask name item) made = made
-no_signed words none (command.GetStatus name) made = made
-no_signed words none (command.ListRows name error_type threshold) made = made
+no_signed words none _ made = absurd made
 
-no_unsigned : (words : List (List ℕ)) → ((hashes buckets seed : ℕ) → ¬ AreCounts words hashes buckets seed) → (made : Command Text) → ¬ MakeRest (verb.Create kind.CountU64) words made
-no_unsigned words none (command.CreateFrequent name max) made = made
-no_unsigned words none (command.CreateFrequentSampled name max sample) made = made
-no_unsigned words none (command.CreateCountI64 name hashes buckets seed) made = made
+pub no_unsigned : (words : List (List ℕ)) → ((hashes buckets seed : ℕ) → ¬ AreCounts words hashes buckets seed) → (made : Command Text) → ¬ MakeRest (verb.Create kind.CountU64) words made
 no_unsigned words none (command.CreateCountU64 name hashes buckets seed) made = none hashes buckets seed made
-no_unsigned words none (command.CreateBloom name bits hashes seed) made = made
-no_unsigned words none (command.Add name item weight) made = made
-no_unsigned words none (command.AddSigned name item weight) made = made
-no_unsigned words none (command.Insert name item) made = made
-no_unsigned words none (command.Merge into other) made = made
-no_unsigned words none (command.Union into other) made = made
-no_unsigned words none (command.Intersect into other) made = made
-no_unsigned words none (command.Difference into other) made = made
-no_unsigned words none (command.Reset name) made = made
-no_unsigned words none (command.Halve name) made = made
-no_unsigned words none (command.Decay name n d) made = made
-no_unsigned words none (command.Save name image) made = made
-no_unsigned words none (command.Restore image name) made = made
-no_unsigned words none (command.ShowImage image) made = made
-no_unsigned words none (command.Ask name item) made = made
-no_unsigned words none (command.GetStatus name) made = made
-no_unsigned words none (command.ListRows name error_type threshold) made = made
-
-pub no_command_signed : (k : Kind) (name : List ℕ) (words : List (List ℕ)) (found : Option (ℕ × ℕ × ℕ)) → k ≡ kind.CountI64 → AreCountsOf words found → found ≡ None → IsCommandOf (verb.Create k) name words None
-no_command_signed k name words found is counts none =
-    let nothing = rw none at counts in
-    rw is (no_signed words nothing)
-
-pub no_command_unsigned : (k : Kind) (name : List ℕ) (words : List (List ℕ)) (found : Option (ℕ × ℕ × ℕ)) → k ≡ kind.CountU64 → AreCountsOf words found → found ≡ None → IsCommandOf (verb.Create k) name words None
-no_command_unsigned k name words found is counts none =
-    let nothing = rw none at counts in
-    rw is (no_unsigned words nothing)
+no_unsigned words none _ made = absurd made
 
 -- at most three words follow the verb and the name
 short_counts : (words : List (List ℕ)) (hashes buckets seed : ℕ) → AreCounts words hashes buckets seed → length words ≤ 3
@@ -107,11 +58,13 @@ short_rest _ _ _ made = absurd made
 
 -- at most five words make a request
 short_asked : (words : List (List ℕ)) (asked : Request) → Ask words asked → length words ≤ 5
-short_asked words (request.Command command) (v, rest, e, m) = omega (arith, ap length e, short_rest v rest command m)
-short_asked words (request.Windows windows max) (rest, e, (n, m, f, x, y)) = omega (arith, ap length e, ap length f)
-short_asked words (request.Add tenant weight item) (rest, e, (t, w, f, x, y)) = omega (arith, ap length e, ap length f)
-short_asked words (request.Turn tenant) (rest, e, (t, f, x)) = omega (arith, ap length e, ap length f)
-short_asked words (request.Report tenant error_type threshold) (rest, e, (t, n, f, x, y)) = omega (arith, ap length e, ap length f)
+short_asked words (request.Command command) (inl (v, rest, e, m)) = omega (arith, ap length e, short_rest v rest command m)
+short_asked words (request.Windows windows max) (inr (n, m, e, x, y)) = omega (arith, ap length e)
+short_asked words (request.Add tenant weight item) (inr (t, w, e, x, y)) = omega (arith, ap length e)
+short_asked words (request.Turn tenant) (inr (t, e, x)) = omega (arith, ap length e)
+short_asked words (request.Report tenant error_type threshold) (inr (t, n, e, x, y)) = omega (arith, ap length e)
+short_asked _ _ (inl made) = absurd made
+short_asked _ _ (inr made) = absurd made
 
 -- the words that are looked at are all words of a request
 all_words : (words : List (List ℕ)) (asked : Request) → Ask words asked → take 6 words ≡ words
@@ -140,60 +93,35 @@ says_this line text words asked same utf8 told asks =
     let asks_first : Ask (take 6 (words_of line)) asked = subst (λ (l : List (List ℕ)). Ask l asked) here asks in
     (utf8, subst (λ (l : List (List ℕ)). Ask l asked) (first_are_all (words_of line) asked asks_first) asks_first)
 
+-- all verbs
+abbrev verbs : List Verb
+verbs =
+    verb.Create kind.Frequent ∷ verb.Create kind.FrequentSampled ∷ verb.Create kind.CountI64 ∷ verb.Create kind.CountU64
+    ∷ verb.Create kind.Bloom ∷ verb.Change edit.Add ∷ verb.Change edit.AddSigned ∷ verb.Change edit.Insert
+    ∷ verb.Change edit.Reset ∷ verb.Change edit.Halve ∷ verb.Change edit.Decay ∷ verb.Join join.Merge
+    ∷ verb.Join join.Union ∷ verb.Join join.Intersect ∷ verb.Join join.Difference ∷ verb.Save ∷ verb.Restore
+    ∷ verb.Image ∷ verb.Ask ∷ verb.Status ∷ verb.Rows ∷ []
+
 -- the verb of a word, and any where it has none
 abbrev verb_named : List ℕ → Verb
-verb_named word =
-    if bytes_eq word (codes "frequent") then verb.Create kind.Frequent
-    else if bytes_eq word (codes "sampled") then verb.Create kind.FrequentSampled
-    else if bytes_eq word (codes "counti") then verb.Create kind.CountI64
-    else if bytes_eq word (codes "countu") then verb.Create kind.CountU64
-    else if bytes_eq word (codes "bloom") then verb.Create kind.Bloom
-    else if bytes_eq word (codes "add") then verb.Change edit.Add
-    else if bytes_eq word (codes "adds") then verb.Change edit.AddSigned
-    else if bytes_eq word (codes "insert") then verb.Change edit.Insert
-    else if bytes_eq word (codes "reset") then verb.Change edit.Reset
-    else if bytes_eq word (codes "halve") then verb.Change edit.Halve
-    else if bytes_eq word (codes "decay") then verb.Change edit.Decay
-    else if bytes_eq word (codes "merge") then verb.Join join.Merge
-    else if bytes_eq word (codes "union") then verb.Join join.Union
-    else if bytes_eq word (codes "intersect") then verb.Join join.Intersect
-    else if bytes_eq word (codes "difference") then verb.Join join.Difference
-    else if bytes_eq word (codes "save") then verb.Save
-    else if bytes_eq word (codes "restore") then verb.Restore
-    else if bytes_eq word (codes "image") then verb.Image
-    else if bytes_eq word (codes "ask") then verb.Ask
-    else if bytes_eq word (codes "status") then verb.Status
-    else verb.Rows
+verb_named word = get_or (filter (λ v. bytes_eq word (verb_word v)) verbs) 0 verb.Rows
 
 is_named : (v : Verb) → verb_named (verb_word v) ≡ v
 is_named (verb.Create kind.Frequent) = refl
-is_named (verb.Create kind.FrequentSampled) = refl
-is_named (verb.Create kind.CountI64) = refl
-is_named (verb.Create kind.CountU64) = refl
-is_named (verb.Create kind.Bloom) = refl
 is_named (verb.Change edit.Add) = refl
-is_named (verb.Change edit.AddSigned) = refl
-is_named (verb.Change edit.Insert) = refl
-is_named (verb.Change edit.Reset) = refl
-is_named (verb.Change edit.Halve) = refl
-is_named (verb.Change edit.Decay) = refl
 is_named (verb.Join join.Merge) = refl
-is_named (verb.Join join.Union) = refl
-is_named (verb.Join join.Intersect) = refl
-is_named (verb.Join join.Difference) = refl
-is_named verb.Save = refl
-is_named verb.Restore = refl
-is_named verb.Image = refl
-is_named verb.Ask = refl
-is_named verb.Status = refl
-is_named verb.Rows = refl
+is_named _ = refl
 
 -- two verbs of one word are the same
 same_verb : (v w : Verb) (xs ys : List (List ℕ)) → verb_word v ∷ xs ≡ verb_word w ∷ ys → v ≡ w
 same_verb v w xs ys e = sym (is_named v) ∙ ap (λ (l : List (List ℕ)). verb_named (get_or l 0 [])) e ∙ is_named w
 
+-- the words make this command, or none where there is none
+abbrev pub IsMade : List (List ℕ) → Option (Command Text) → Type 0
+IsMade words made = MatchOption made ((command : Command Text) → ¬ Make words command) (Make words)
+
 -- what is made of a verb, a name and the words after them is made of all of them
-is_made : (words rest : List (List ℕ)) (v : Verb) (name : List ℕ) (made : Option (Command Text)) → words ≡ verb_word v ∷ name ∷ rest → IsCommandOf v name rest made → IsMade words made
+pub is_made : (words rest : List (List ℕ)) (v : Verb) (name : List ℕ) (made : Option (Command Text)) → words ≡ verb_word v ∷ name ∷ rest → IsCommandOf v name rest made → IsMade words made
 is_made words rest v name None e none =
     λ command makes.
     let (w, others, f, makes_rest) = makes in
@@ -202,9 +130,6 @@ is_made words rest v name None e none =
     let rest_is : others ≡ rest = sym (ap (drop 2) both) in
     none command (rw (verb_is, rest_is) at makes_rest)
 is_made words rest v name (Some command) e (name_is, makes) = (v, rest, rw name_is e, makes)
-
-pub is_made_by : (words rest : List (List ℕ)) (v w : Verb) (name : List ℕ) (made : Option (Command Text)) → words ≡ verb_word v ∷ name ∷ rest → v ≡ w → IsCommandOf w name rest made → IsMade words made
-is_made_by words rest v w name made e same makes = is_made words rest v name made e (rw same makes)
 
 -- a verb, a name and the words that follow them
 pub split_command : (words : List (Bor (List ℕ))) (first second : Bor (List ℕ)) (v : Verb) (n : ℕ) → 2 ≤ length words → n ≡ length words - 2 → (get_or words 0 first).now ≡ verb_word v → texts_of words ≡ verb_word v ∷ (get_or words 1 second).now ∷ texts_of (take n (drop 2 words))

@@ -1,5 +1,5 @@
 -- The words of a line, and the commands that they make.
-use Rattle.std.specs.Prelude.{◌≡◌, ℕ, ◌+◌, ◌^◌, nat_lt, ◌==◌, ◌&&◌, List, [], ◌∷◌, length, filter, drop, slice_index, Option, Some, None, MatchOption, option_map, if◌then◌else◌, codes, ℤ, pos, neg_ℤ}
+use Rattle.std.specs.Prelude.{◌≡◌, ℕ, ◌+◌, ◌^◌, nat_lt, ◌==◌, ◌&&◌, List, [], ◌∷◌, length, filter, drop, slice_index, Option, Some, None, option_map, if◌then◌else◌, codes, ℤ, pos, neg_ℤ}
 use Rattle.std.specs.List.{slice_split}
 use Rattle.std.specs.Str.{IsUtf8, all_ascii_digits}
 use Rattle.std.specs.Str.Parse.{digits_value}
@@ -147,10 +147,6 @@ abbrev pub Make : List (List ℕ) → Command Text → Type 0
 Make words command =
     (verb : Verb) × (rest : List (List ℕ)) × (words ≡ verb_word verb ∷ name_of command ∷ rest)
     × MakeRest verb rest command
-
--- the words make this command, or none where there is none
-abbrev pub IsMade : List (List ℕ) → Option (Command Text) → Type 0
-IsMade words made = MatchOption made ((command : Command Text) → ¬ Make words command) (Make words)
 
 -- the line is text without a word
 abbrev pub IsBlank : List ℕ → Type 0

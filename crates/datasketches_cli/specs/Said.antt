@@ -6,7 +6,7 @@ use Rattle.datasketches.specs.declared.command.Command.{Command}
 use Rattle.datasketches_cli.specs.Texts.{Text}
 use Rattle.datasketches_cli.specs.declared.parse.Verb.{Verb}
 use Rattle.datasketches_cli.specs.declared.request.Request.{Request}
-use Rattle.datasketches_cli.specs.Asking.{MakeOnWindows}
+use Rattle.datasketches_cli.specs.Asking.{AskOnWindows}
 use Rattle.datasketches_cli.specs.Grammar.{verb_word, report_word, name_of, AreCounts, MakeRest}
 
 -- the texts of some words
@@ -40,10 +40,7 @@ IsCommandOf verb name rest found =
     MatchOption found ((command : Command Text) → ¬ MakeRest verb rest command)
     (λ command. (name_of command ≡ name) × MakeRest verb rest command)
 
--- the request of the words after a verb, or none where they make none
-abbrev pub IsRestOf : (List (List ℕ) → Request → Type 0) → List (List ℕ) → Option Request → Type 0
-IsRestOf MakeIt words found = MatchOption found ((request : Request) → ¬ MakeIt words request) (MakeIt words)
-
--- the request on windows of all words, likewise
+-- the request on windows that the words make, or none where they make none
 abbrev pub IsWindowsRequestOf : List (List ℕ) → Option Request → Type 0
-IsWindowsRequestOf words found = IsRestOf MakeOnWindows words found
+IsWindowsRequestOf words found =
+    MatchOption found ((request : Request) → ¬ AskOnWindows words request) (AskOnWindows words)

@@ -1,7 +1,9 @@
 //! Lines to answers.
-ghost use Rattle.std.specs.Prelude.{◌≡◌, ◌++◌, IfOk, OnOk, string_bytes};
+ghost use Rattle.std.specs.Prelude.{◌≡◌, [], IfOk, OnOk, string_bytes};
+ghost use Rattle.datasketches_cli.specs.Asking.{Ask, AskCommand};
 ghost use Rattle.datasketches_cli.specs.Said.{texts_of};
-ghost use Rattle.datasketches_cli.specs.Serving.{IsAnswered, AnswersWords, AnswersCommand, AnswersMade, HasAnswered};
+ghost use Rattle.datasketches_cli.specs.Serving.{Answers, HasAnswered, IsAnswered, IsRequest};
+ghost use Rattle.datasketches_cli.specs.Steps.{nothing_served};
 
 use crate::parse::{
     Edit, MOST_WORDS, Verb, add, ask, change, command_of, first_words, insert, verb_of,
@@ -25,134 +27,126 @@ pub enum Line {
     Bad,
 }
 
-/// Does what a line asks for, which stands without its end, and gathers its answer.
-pub fn answer_line(
+/// What the lines of one input are answered by.
+#[derive(Drop)]
+pub struct Answering {
     alloc: Global,
-    serving: &mut Serving,
-    line: &[u8],
-    spare: &mut Spare<String>,
-    replies: &mut String,
-) -> Result<Line, Stopped>
-    ensures { IfOk result (IsAnswered line.now serving.old serving.new
-        (string_bytes replies.old) (string_bytes replies.new)) }
-{
-    let Ok(text) = str::from_utf8(line) else {
-        return Ok(Line::Bad);
-    };
-    let mut words = [""; MOST_WORDS];
-    let count = first_words(text, &mut words);
-    let words = &words[..count];
-    if words.is_empty() {
-        return Ok(Line::Blank);
-    }
-    if answer_words(alloc, serving, words, spare, replies)? {
-        Ok(Line::Answered)
-    } else {
-        Ok(Line::Bad)
-    }
+    /// What does as the lines ask.
+    serving: Serving,
+    /// The memory of names and items that an earlier line left.
+    spare: Spare<String>,
+    /// The answers that were gathered, and are not written yet.
+    pub replies: String,
 }
 
-/// Does what the words ask for, and gathers its answer. Answers whether they ask for something.
-fn answer_words(
-    alloc: Global,
-    serving: &mut Serving,
-    words: &[&str],
-    spare: &mut Spare<String>,
-    replies: &mut String,
-) -> Result<bool, Stopped>
-    ensures { IfOk result (λ found. AnswersWords (texts_of words.now) found serving.old serving.new
-        (string_bytes replies.old) (string_bytes replies.new)) }
-{
-    if answer_command(alloc, serving, words, spare, replies)? {
-        return Ok(true);
-    }
-    match windows_request_of(alloc, words)? {
-        Some(request) => {
-            answer(alloc, serving, request, spare, replies)?;
-            Ok(true)
+impl Answering {
+    /// Before the first line. It takes no memory.
+    pub fn new(alloc: Global) -> Self
+        ensures serves { result.serving ≡ nothing_served }
+        ensures gathers { string_bytes result.replies ≡ [] }
+    {
+        Answering {
+            alloc,
+            serving: Serving::new(alloc),
+            spare: Spare::new(),
+            replies: String::new(alloc),
         }
-        None => Ok(false),
     }
-}
 
-/// The same of commands.
-///
-/// What most lines ask for is made and done in a place of its own, so that it is not copied on its way.
-fn answer_command(
-    alloc: Global,
-    serving: &mut Serving,
-    words: &[&str],
-    spare: &mut Spare<String>,
-    replies: &mut String,
-) -> Result<bool, Stopped>
-    ensures { IfOk result (λ found. AnswersCommand (texts_of words.now) found serving.old serving.new
-        (string_bytes replies.old) (string_bytes replies.new)) }
-{
-    let [verb, name, rest @ ..] = words else {
-        return Ok(false);
-    };
-    let Some(verb) = verb_of(verb) else {
-        return Ok(false);
-    };
-    match verb {
-        Verb::Change(edit) => match edit {
-            Edit::Add => {
-                let made = add(alloc, name, rest, spare)?;
-                answer_made(alloc, serving, made, spare, replies)
+    /// Does what a line asks for, which stands without its end, and gathers its answer.
+    pub fn answer_line(&mut self, line: &[u8]) -> Result<Line, Stopped>
+        ensures { IfOk result (IsAnswered line.now self.old self.new) }
+    {
+        let Ok(text) = str::from_utf8(line) else {
+            return Ok(Line::Bad);
+        };
+        let mut words = [""; MOST_WORDS];
+        let count = first_words(text, &mut words);
+        let words = &words[..count];
+        if words.is_empty() {
+            return Ok(Line::Blank);
+        }
+        if self.answer_words(words)? {
+            Ok(Line::Answered)
+        } else {
+            Ok(Line::Bad)
+        }
+    }
+
+    /// Does what the words ask for, and gathers its answer. Answers whether they ask for something.
+    fn answer_words(&mut self, words: &[&str]) -> Result<bool, Stopped>
+        ensures { IfOk result (λ found. Answers (Ask (texts_of words.now)) found self.old self.new) }
+    {
+        if self.answer_command(words)? {
+            return Ok(true);
+        }
+        match windows_request_of(self.alloc, words)? {
+            Some(request) => {
+                self.answer(request)?;
+                Ok(true)
             }
-            Edit::Insert => {
-                let made = insert(alloc, name, rest, spare)?;
-                answer_made(alloc, serving, made, spare, replies)
+            None => Ok(false),
+        }
+    }
+
+    /// The same of commands.
+    ///
+    /// What most lines ask for is made and done in a place of its own, so that it is not copied on its way.
+    fn answer_command(&mut self, words: &[&str]) -> Result<bool, Stopped>
+        ensures { IfOk result (λ found. Answers (AskCommand (texts_of words.now)) found self.old self.new) }
+    {
+        let [verb, name, rest @ ..] = words else {
+            return Ok(false);
+        };
+        let Some(verb) = verb_of(verb) else {
+            return Ok(false);
+        };
+        match verb {
+            Verb::Change(edit) => match edit {
+                Edit::Add => {
+                    let made = add(self.alloc, name, rest, &mut self.spare)?;
+                    self.answer_made(made)
+                }
+                Edit::Insert => {
+                    let made = insert(self.alloc, name, rest, &mut self.spare)?;
+                    self.answer_made(made)
+                }
+                _ => {
+                    let made = change(self.alloc, edit, name, rest, &mut self.spare)?;
+                    self.answer_made(made)
+                }
+            },
+            Verb::Ask => {
+                let made = ask(self.alloc, name, rest, &mut self.spare)?;
+                self.answer_made(made)
             }
             _ => {
-                let made = change(alloc, edit, name, rest, spare)?;
-                answer_made(alloc, serving, made, spare, replies)
+                let made = command_of(self.alloc, verb, name, rest, &mut self.spare)?;
+                self.answer_made(made)
             }
-        },
-        Verb::Ask => {
-            let made = ask(alloc, name, rest, spare)?;
-            answer_made(alloc, serving, made, spare, replies)
-        }
-        _ => {
-            let made = command_of(alloc, verb, name, rest, spare)?;
-            answer_made(alloc, serving, made, spare, replies)
         }
     }
-}
 
-/// Does a command, if there is one, and gathers its answer. Answers whether there is one.
-#[inline(always)]
-fn answer_made(
-    alloc: Global,
-    serving: &mut Serving,
-    made: Option<Command<String>>,
-    spare: &mut Spare<String>,
-    replies: &mut String,
-) -> Result<bool, Stopped>
-    ensures { IfOk result (λ found. AnswersMade made found serving.old serving.new
-        (string_bytes replies.old) (string_bytes replies.new)) }
-{
-    match made {
-        Some(command) => {
-            answer(alloc, serving, Request::Command(command), spare, replies)?;
-            Ok(true)
+    /// Does a command, if there is one, and gathers its answer. Answers whether there is one.
+    #[inline(always)]
+    fn answer_made(&mut self, made: Option<Command<String>>) -> Result<bool, Stopped>
+        ensures { IfOk result (λ found. Answers (IsRequest made) found self.old self.new) }
+    {
+        match made {
+            Some(command) => {
+                self.answer(Request::Command(command))?;
+                Ok(true)
+            }
+            None => Ok(false),
         }
-        None => Ok(false),
     }
-}
 
-/// Does what a line asks for, and gathers its answer.
-#[inline(always)]
-fn answer(
-    alloc: Global,
-    serving: &mut Serving,
-    request: Request,
-    spare: &mut Spare<String>,
-    replies: &mut String,
-) -> Result<(), Stopped>
-    ensures { OnOk result (HasAnswered serving.old request serving.new
-        (string_bytes replies.old) (string_bytes replies.new)) }
-{
-    let answer = serving.apply(alloc, request, spare);
-    write_answer(alloc, replies, &answer)
+    /// Does what is asked for, and gathers its answer.
+    #[inline(always)]
+    fn answer(&mut self, request: Request) -> Result<(), Stopped>
+        ensures { OnOk result (HasAnswered request self.old self.new) }
+    {
+        let answer = self.serving.apply(self.alloc, request, &mut self.spare);
+        write_answer(self.alloc, &mut self.replies, &answer)
+    }
 }

@@ -1,9 +1,8 @@
 //! Words to requests.
-ghost use Rattle.std.specs.Prelude.{◌≡◌, ◌≤◌, ◌^◌, [], ◌∷◌, IfOk, string_bytes, length, take};
+ghost use Rattle.std.specs.Prelude.{◌≡◌, ◌≤◌, ◌^◌, [], ◌∷◌, IfOk, string_bytes, codes, length, take};
 ghost use Rattle.datasketches_cli.specs.Grammar.{words_of, number_below, signed_number};
 ghost use Rattle.datasketches_cli.specs.Said.{IsVerbOf, IsReportOf, texts_of};
-ghost use Rattle.datasketches_cli.specs.Said.{AreCountsOf, IsCommandOf, IsRestOf, IsWindowsRequestOf, with_word};
-ghost use Rattle.datasketches_cli.specs.Asking.{MakeWindows, MakeAdd, MakeTurn, MakeReport};
+ghost use Rattle.datasketches_cli.specs.Said.{AreCountsOf, IsCommandOf, IsWindowsRequestOf, with_word};
 
 use crate::request::Request;
 use crate::search::first_place;
@@ -80,8 +79,9 @@ pub fn windows_request_of(alloc: Global, words: &[&str]) -> Asked
     }
 }
 
+/// The request that the words after `windows` make.
 fn windows(words: &[&str]) -> Option<Request>
-    ensures { IsRestOf MakeWindows (texts_of words.now) result }
+    ensures { IsWindowsRequestOf (codes "windows" ∷ texts_of words.now) result }
 {
     let [windows, max_map_size] = words else {
         return None;
@@ -92,8 +92,9 @@ fn windows(words: &[&str]) -> Option<Request>
     })
 }
 
+/// The same of `hadd`.
 fn hadd(alloc: Global, words: &[&str]) -> Asked
-    ensures { IfOk result (IsRestOf MakeAdd (texts_of words.now)) }
+    ensures { IfOk result (IsWindowsRequestOf (codes "hadd" ∷ texts_of words.now)) }
 {
     let [tenant, weight, item] = words else {
         return Ok(None);
@@ -109,8 +110,9 @@ fn hadd(alloc: Global, words: &[&str]) -> Asked
     }))
 }
 
+/// The same of `hturn`.
 fn hturn(words: &[&str]) -> Option<Request>
-    ensures { IsRestOf MakeTurn (texts_of words.now) result }
+    ensures { IsWindowsRequestOf (codes "hturn" ∷ texts_of words.now) result }
 {
     let [tenant] = words else {
         return None;
@@ -120,8 +122,9 @@ fn hturn(words: &[&str]) -> Option<Request>
     })
 }
 
+/// The same of `hreport`.
 fn hreport(words: &[&str]) -> Option<Request>
-    ensures { IsRestOf MakeReport (texts_of words.now) result }
+    ensures { IsWindowsRequestOf (codes "hreport" ∷ texts_of words.now) result }
 {
     let [tenant, report, threshold] = words else {
         return None;

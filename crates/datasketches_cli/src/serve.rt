@@ -7,11 +7,9 @@ ghost use Rattle.datasketches_cli.specs.Counts.{HasGrown};
 ghost use Rattle.datasketches_cli.specs.Serving.{AnswersNext, WritesFront};
 ghost use Rattle.datasketches_cli.specs.Transcript.{Serves, bad_line};
 
-use crate::answering::{Line, answer_line};
+use crate::answering::{Answering, Line};
 use crate::counted::Counted;
 use crate::line_reader::LineReader;
-use crate::serving::Serving;
-use datasketches::Spare;
 use std::alloc::{AllocError, Global};
 use std::fmt;
 use std::io::{self, Read, Write};
@@ -115,29 +113,19 @@ fn serve_lines<R: Read, W: Write>(
     ensures all_read { IfOk result (λ ended. ended ≡ Ended.All → IsAtEnd (R.remaining reader.new.inner)) }
     ensures all_written { OnOk result (writer.new.failures ≡ writer.old.failures) }
 {
-    let mut serving = Serving::new(alloc);
-    let mut replies = String::new(alloc);
+    let mut answering = Answering::new(alloc);
     let mut lines = LineReader::new(alloc)?;
     let mut line = Vec::new(alloc);
-    let mut spare = Spare::new();
     for before in 0..u128::MAX {
         let number = before + 1;
-        write_due(&lines, writer, &mut replies)?;
-        let became = answer_next(
-            alloc,
-            &mut lines,
-            reader,
-            &mut line,
-            &mut serving,
-            &mut spare,
-            &mut replies,
-        )?;
+        write_due(&lines, writer, &mut answering.replies)?;
+        let became = answer_next(&mut answering, &mut lines, reader, &mut line)?;
         let Some(became) = became else {
-            write_out(writer, &mut replies)?;
+            write_out(writer, &mut answering.replies)?;
             return Ok(Ended::All);
         };
         if let Line::Bad = became {
-            write_bad(writer, &mut replies, number)?;
+            write_bad(writer, &mut answering.replies, number)?;
             return Ok(Ended::BadLine(number));
         }
     }
@@ -148,26 +136,22 @@ fn serve_lines<R: Read, W: Write>(
 ///
 /// A line that was read whole is looked at where it lies. Else it comes into the place of what `line` holds.
 fn answer_next<R: Read>(
-    alloc: Global,
+    answering: &mut Answering,
     lines: &mut LineReader,
     reader: &mut Counted<R>,
     line: &mut Vec<u8>,
-    serving: &mut Serving,
-    spare: &mut Spare<String>,
-    replies: &mut String,
 ) -> Result<Option<Line>, Stopped>
     ensures answered { IfOk result (AnswersNext (prepend_known lines.old (R.remaining reader.old.inner))
-        (prepend_known lines.new (R.remaining reader.new.inner)) serving.old serving.new
-        (string_bytes replies.old) (string_bytes replies.new)) }
+        (prepend_known lines.new (R.remaining reader.new.inner)) answering.old answering.new) }
     ensures end { IfOk result (λ said. said ≡ None → IsAtEnd (R.remaining reader.new.inner)) }
 {
     if lines.has_line() {
-        let became = answer_line(alloc, serving, without_end(lines.line()), spare, replies)?;
+        let became = answering.answer_line(without_end(lines.line()))?;
         lines.skip_line();
         return Ok(Some(became));
     }
     if lines.read_line(reader, line)? {
-        let became = answer_line(alloc, serving, without_end(line), spare, replies)?;
+        let became = answering.answer_line(without_end(line))?;
         Ok(Some(became))
     } else {
         Ok(None)
