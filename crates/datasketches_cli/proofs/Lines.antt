@@ -2,19 +2,15 @@
 use Rattle.std.proofs.Common.{◌≡◌, ◌≢◌, ℕ, ◌-◌, ◌<◌, ◌⊎◌, Bool, true, false, eqb, ltb, ◌&&◌, List, [], ◌∷◌, ◌++◌, length, get_or, take, map, inl, inr, ⊎_elim, refl, sym, ◌∙◌, ap, arith}
 use Rattle.std.specs.Io.BufRead.{take_through, drop_through, strip_last}
 use Rattle.std.specs.List.{slice_split, onto_first}
-use Rattle.std.proofs.lemmas.Bool.{eqb-true, ne_eqb, cond-false, and_right}
+use Rattle.std.proofs.lemmas.Bool.{eqb-true, eqb-false, ne_eqb, cond-false, and_right}
 use Rattle.std.proofs.lemmas.Grind.{common_steps}
 use Rattle.std.proofs.lemmas.List.Splits.{length-slice_split}
+use Rattle.datasketches_cli.specs.Reading.{HasNoFeed}
 use Rattle.datasketches_cli.specs.Transcript.{without_empty_last, lines_of}
 
 -- what stands between line feeds
 abbrev parts_of : List ℕ → List (List ℕ)
 parts_of input = slice_split (λ byte. eqb byte 10) input
-
--- no byte is a line feed
-abbrev HasNoFeed : List ℕ → Type 0
-HasNoFeed [] = Unit {0}
-HasNoFeed (x ∷ xs) = (eqb x 10 ≡ false) × HasNoFeed xs
 
 -- a first line that ends in a line feed, and what follows it
 abbrev HasFeed : List ℕ → Type 0
@@ -27,7 +23,7 @@ IsUnended xs = (take_through 10 xs ≡ xs) × (drop_through 10 xs ≡ []) × (pa
 cut_more : (x : ℕ) (xs : List ℕ) (b : Bool) → eqb x 10 ≡ b → HasFeed xs ⊎ IsUnended xs → HasFeed (x ∷ xs) ⊎ IsUnended (x ∷ xs)
 cut_more x xs true e h = inl ([], rw e (ap (λ (n : ℕ). n ∷ []) (eqb-true x 10 e)), rw e refl)
 cut_more x xs false e (inl (front, t, p)) = inl (x ∷ front, rw e (ap (λ (l : List ℕ). x ∷ l) t), rw e (ap (onto_first x) p))
-cut_more x xs false e (inr (t, d, p, a)) = inr (rw e (ap (λ (l : List ℕ). x ∷ l) t), rw e d, rw e (ap (onto_first x) p), (e, a))
+cut_more x xs false e (inr (t, d, p, a)) = inr (rw e (ap (λ (l : List ℕ). x ∷ l) t), rw e d, rw e (ap (onto_first x) p), (eqb-false x 10 e, a))
 
 -- an input has a line feed, or none
 cut : (xs : List ℕ) → HasFeed xs ⊎ IsUnended xs
@@ -39,7 +35,7 @@ strip_fed : (front : List ℕ) → strip_last 10 (front ++ 10 ∷ []) ≡ front
 strip_fed front = grind (arith, common_steps)
 
 last_no_feed : (x : ℕ) (xs : List ℕ) → HasNoFeed (x ∷ xs) → eqb (get_or (x ∷ xs) (length xs) 0) 10 ≡ false
-last_no_feed x [] h = h.0
+last_no_feed x [] h = ne_eqb x 10 h.0
 last_no_feed x (y ∷ ys) h = last_no_feed y ys h.1
 
 -- there is none to drop

@@ -39,15 +39,6 @@ appends_both (Some a) None c x y p q = absurd p
 appends_both (Some a) (Some b) None x y p q = absurd q
 appends_both (Some a) (Some b) (Some c) x y p q = q ∙ ap (λ (l : List ℕ). l ++ y) p ∙ append_assoc a x y
 
-appends_none : (held : Option (List ℕ)) → Appends held held []
-appends_none None = tt
-appends_none (Some xs) = sym (append-nil xs)
-
--- nothing was read or written
-pub begins : (was held : Option (List ℕ)) → Midway was was held held [] nothing_served 0
-begins None held = tt
-begins (Some input) held = (input, refl, [], appends_none held, λ ended more t. t)
-
 -- some of what was gathered is written
 pub wrote : (was is held holds now : Option (List ℕ)) (gathered left : List ℕ) (serving : Serving) (before : ℕ) → Midway was is held holds gathered serving before → WritesFront holds now gathered left → Midway was is held now left serving before
 wrote None is held holds now gathered left serving before m w = tt

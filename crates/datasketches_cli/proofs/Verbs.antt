@@ -1,5 +1,5 @@
 -- The words of a line that are looked at, and the commands that they make.
-use Rattle.std.proofs.Common.{◌≡◌, ℕ, ◌-◌, ◌<◌, ◌≤◌, false, eqb, List, [], ◌∷◌, length, get_or, take, drop, filter, Option, None, Some, inl, inr, refl, sym, ◌∙◌, ap, subst, arith}
+use Rattle.std.proofs.Common.{◌≡◌, ℕ, ◌-◌, ◌<◌, ◌≤◌, List, [], ◌∷◌, length, get_or, take, drop, filter, Option, None, Some, inl, inr, refl, sym, ◌∙◌, ap, subst, arith}
 use Rattle.std.specs.Str.{bytes_eq}
 use Rattle.std.specs.Borrow.{Bor}
 use Rattle.std.specs.Prelude.{MatchOption}
@@ -14,7 +14,7 @@ use Rattle.datasketches_cli.specs.declared.parse.Kind.TheVariants as kind
 use Rattle.datasketches_cli.specs.declared.parse.Verb.{Verb}
 use Rattle.datasketches_cli.specs.declared.parse.Verb.TheVariants as verb
 use Rattle.datasketches_cli.specs.Grammar.{words_of, verb_word, Make, MakeRest, AreCounts}
-use Rattle.datasketches_cli.specs.Asking.{Ask, Says, IsBad}
+use Rattle.datasketches_cli.specs.Asking.{Ask, Says}
 use Rattle.datasketches_cli.specs.declared.request.Request.{Request}
 use Rattle.datasketches_cli.specs.declared.request.Request.TheVariants as request
 use Rattle.datasketches_cli.specs.Said.{IsCommandOf, texts_of}
@@ -65,22 +65,6 @@ short_asked words (request.Turn tenant) (inr (t, e, x)) = omega (arith, ap lengt
 short_asked words (request.Report tenant error_type threshold) (inr (t, n, e, x, y)) = omega (arith, ap length e)
 short_asked _ _ (inl made) = absurd made
 short_asked _ _ (inr made) = absurd made
-
--- the words that are looked at are all words of a request
-all_words : (words : List (List ℕ)) (asked : Request) → Ask words asked → take 6 words ≡ words
-all_words words asked asks = take_all 6 words (omega (arith, short_asked words asked asks))
-
-no_words : (words : List (Bor (List ℕ))) → texts_of words ≡ [] → eqb (length words) 0 ≡ false → ⊥
-no_words [] e some = cc
-no_words (x ∷ xs) e some = cc
-
--- a line with a word whose first words ask for nothing is bad
-pub says_nothing : (line text : List ℕ) (words : List (Bor (List ℕ))) (n : ℕ) → text ≡ line → texts_of words ≡ take 6 (words_of text) → n ≡ length words → eqb n 0 ≡ false → ((asked : Request) → ¬ Ask (texts_of words) asked) → IsBad line
-says_nothing line text words n same told count some none =
-    let here : texts_of words ≡ take 6 (words_of line) = told ∙ ap (λ (l : List ℕ). take 6 (words_of l)) same in (
-      λ blank. no_words words (here ∙ ap (take 6) blank.1) (ap (λ (k : ℕ). eqb k 0) (sym count) ∙ some),
-      λ asked says. none asked (subst (λ (l : List (List ℕ)). Ask l asked) (sym (here ∙ all_words (words_of line) asked says.1)) says.1),
-    )
 
 -- the first words of a line are all of them, where they make a request
 first_are_all : (words : List (List ℕ)) (asked : Request) → Ask (take 6 words) asked → take 6 words ≡ words

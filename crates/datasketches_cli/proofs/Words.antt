@@ -1,5 +1,5 @@
 -- The words of a text, one after another.
-use Rattle.std.proofs.Common.{◌≡◌, ◌≢◌, ℕ, zero, suc, ◌+◌, ◌-◌, ◌<◌, ◌≤◌, ⊎_elim, Bool, true, false, eqb, ltb, List, [], ◌∷◌, ◌++◌, length, get_or, take, drop, filter, set, append_assoc, append-nil, refl, sym, ◌∙◌, ap, subst, arith, length-drop}
+use Rattle.std.proofs.Common.{◌≡◌, ◌≢◌, ℕ, zero, suc, ◌+◌, ◌-◌, ◌<◌, ◌≤◌, ⊎_elim, Bool, true, false, eqb, ltb, List, [], ◌∷◌, ◌++◌, length, get_or, take, drop, filter, set, append_assoc, refl, sym, ◌∙◌, ap, subst, arith, length-drop}
 use Rattle.std.specs.Borrow.{Bor}
 use Rattle.std.specs.List.{position_or_len, slice_split, onto_first}
 use Rattle.std.specs.Str.{IsUtf8, IsCharBoundary}
@@ -115,14 +115,3 @@ takes_one most text rest after words word count (le, long, told) less some next 
       told ∙ ap (λ (l : List (List ℕ)). texts_of (take count words) ++ l) more ∙ sym (append_assoc (texts_of (take count words)) (word.now ∷ []) (take (most - (count + 1)) (words_of after)))
           ∙ ap (λ (l : List (List ℕ)). l ++ take (most - (count + 1)) (words_of after)) (sym (texts_push (take count words) word) ∙ ap texts_of (sym (take_more_set words count word (omega arith)))),
     )
-
--- no word is left, or none more is looked at
-pub has_all : (most : ℕ) (text rest after : List ℕ) (words : List (Bor (List ℕ))) (word : List ℕ) (count : ℕ) → HasTaken most text words count rest → length word ≡ 0 → words_of rest ≡ with_word word (words_of after) → texts_of (take count words) ≡ take most (words_of text)
-has_all most text rest after words (x ∷ xs) count (le, long, told) none next = absurd (omega arith)
-has_all most text rest after words [] count (le, long, told) none next =
-    sym (told ∙ ap (λ (l : List (List ℕ)). texts_of (take count words) ++ take (most - count) l) next ∙ ap (λ (l : List (List ℕ)). texts_of (take count words) ++ l) (take_all (most - count) [] (omega arith)) ∙ append-nil (texts_of (take count words)))
-
-pub has_most : (most : ℕ) (text rest : List ℕ) (words : List (Bor (List ℕ))) (count : ℕ) → HasTaken most text words count rest → ¬ (count < most) → texts_of (take count words) ≡ take most (words_of text)
-has_most most text rest words count (le, long, told) end =
-    let none : most - count ≡ 0 = omega arith in
-    sym (told ∙ ap (λ (k : ℕ). texts_of (take count words) ++ take k (words_of rest)) none ∙ append-nil (texts_of (take count words)))
