@@ -79,26 +79,36 @@ fn of_words(alloc: Global, seed: u64, first: &str, second: &str) -> Result<Bloom
     Ok(filter)
 }
 
-/// The answer of each set operation.
-fn answers(filter: &mut BloomFilter, other: &BloomFilter) -> [Option<Error>; 3] {
+/// A filter with two words in it, less another of the same seed.
+fn difference(alloc: Global) -> Result<BloomFilter, Error> {
+    let mut left = of_words(alloc, 123, "apple", "shared")?;
+    left.difference(&of_words(alloc, 123, "grape", "shared")?)?;
+    Ok(left)
+}
+
+/// Whether each set operation is refused for a mismatch.
+fn refuses(filter: &mut BloomFilter, other: &BloomFilter) -> [bool; 3] {
+    let mismatch = Some(Error::invalid_argument(Fault::Mismatch));
     [
-        filter.union(other).err(),
-        filter.intersect(other).err(),
-        filter.difference(other).err(),
+        filter.union(other).err() == mismatch,
+        filter.intersect(other).err() == mismatch,
+        filter.difference(other).err() == mismatch,
     ]
+}
+
+/// The same, and whether the filter is then as it was.
+fn refuses_all(filter: &mut BloomFilter, other: &BloomFilter) -> Result<([bool; 3], bool), Error> {
+    let before = filter.clone()?;
+    Ok((refuses(filter, other), *filter == before))
 }
 
 #[test]
 fn takes_away_what_another_filter_holds(rt: HostRuntime) -> Result<(), Fail> {
-    let mut left = of_words(rt.alloc(), 123, "apple", "shared")?;
-    left.difference(&of_words(rt.alloc(), 123, "grape", "shared")?)?;
+    let mut left = difference(rt.alloc())?;
     assert!(rt; (left.contains(&"shared"), left.contains(&"apple")) == (false, true));
-
-    let before = left.clone()?;
     let other = of_words(rt.alloc(), 124, "apple", "shared")?;
-    let mismatch = Some(Error::invalid_argument(Fault::Mismatch));
-    assert!(rt; answers(&mut left, &other) == [mismatch, mismatch, mismatch]);
-    assert!(rt; left == before && left != other && !left.is_compatible(&other));
+    assert!(rt; refuses_all(&mut left, &other)? == ([true; 3], true));
+    assert!(rt; left != other && !left.is_compatible(&other));
     Ok(())
 }
 
@@ -186,10 +196,16 @@ fn combines_large_sets(rt: HostRuntime) -> Result<(), Fail> {
     Ok(())
 }
 
+/// The filter of a builder's clone.
+fn built(alloc: Global, builder: &BloomFilterBuilder) -> Result<BloomFilter, Error> {
+    builder.clone()?.build(alloc)
+}
+
 #[test]
 fn prints_its_fields(rt: HostRuntime) -> Result<(), Fail> {
     let builder = BloomFilterBuilder::with_size(100, 3).seed(5);
-    let text = format!(in rt.alloc(); "{builder:?} {:?}", builder.clone()?.build(rt.alloc())?)?;
+    let filter = built(rt.alloc(), &builder)?;
+    let text = format!(in rt.alloc(); "{builder:?} {filter:?}")?;
     let wanted = "BloomFilterBuilder { num_bits: 100, num_hashes: 3, seed: 5 } \
         BloomFilter { capacity: 128, num_hashes: 3, seed: 5, bits_used: 0, .. }";
     assert!(rt; text.as_str() == wanted);
@@ -281,22 +297,31 @@ fn reads_cut_images(rt: HostRuntime) {
     assert!(rt; bits_of(rt.alloc(), &NO_BITS) == Ok(0));
 }
 
-/// What two filters write, one with the image of two bits and an empty one.
-fn written(alloc: Global) -> Result<(Vec<u8>, Vec<u8>), Error> {
+/// Whether this is the image of a filter.
+fn writes(filter: &BloomFilter, image: &[u8]) -> Result<bool, Error> {
+    Ok(filter.serialize()?.as_slice() == image)
+}
+
+/// Whether the filter of the image of two bits writes it, and then, emptied, the image of no bits.
+fn writes_both(alloc: Global) -> Result<(bool, bool), Error> {
     let mut filter = BloomFilter::deserialize_with_limit(alloc, &TWO_BITS, 8)?;
-    let full = filter.serialize()?;
+    let is_full = writes(&filter, &TWO_BITS)?;
     filter.reset();
-    Ok((full, filter.serialize()?))
+    Ok((is_full, writes(&filter, &NO_BITS)?))
+}
+
+/// Whether a filter of many items comes back from its image.
+fn comes_back(alloc: Global) -> Result<bool, Error> {
+    let filter = filled(alloc, 1_048_576, 7, 0, 30_000)?;
+    Ok(laws::restored(alloc, &filter)? == filter)
 }
 
 #[test]
 fn writes_images(rt: HostRuntime) -> Result<(), Fail> {
-    let (full, empty) = written(rt.alloc())?;
-    assert!(rt; full.as_slice() == TWO_BITS.as_slice() && empty.as_slice() == NO_BITS.as_slice());
+    assert!(rt; writes_both(rt.alloc())? == (true, true));
     let refused = BloomFilter::deserialize_with_limit(rt.alloc(), &NO_BITS, 7).err();
     assert!(rt; refused == Some(Error::invalid_data(Fault::TableTooLarge)));
-    let filter = filled(rt.alloc(), 1_048_576, 7, 0, 30_000)?;
-    assert!(rt; laws::restored(rt.alloc(), &filter)? == filter);
+    assert!(rt; comes_back(rt.alloc())?);
     laws::what_images_say();
     Ok(())
 }

@@ -118,7 +118,10 @@ fn refuses_weights_that_overflow(rt: HostRuntime) -> Result<(), Fail> {
 }
 
 /// The estimate of an item, its lower and upper bound, the total, and whether that is 0.
-fn shown(sketch: &CountMinSketch<u64>) -> (u64, u64, u64, u64, bool) {
+type Shown = (u64, u64, u64, u64, bool);
+
+/// What a sketch shows of one item.
+fn shown(sketch: &CountMinSketch<u64>) -> Shown {
     (
         sketch.estimate("x"),
         sketch.lower_bound("x"),
@@ -128,23 +131,38 @@ fn shown(sketch: &CountMinSketch<u64>) -> (u64, u64, u64, u64, bool) {
     )
 }
 
+/// A sketch of one item.
+fn weighed(alloc: Global, weight: u64) -> Result<CountMinSketch<u64>, Error> {
+    let mut sketch = CountMinSketch::new(alloc, 4, 128)?;
+    sketch.update_with_weight("x", weight)?;
+    Ok(sketch)
+}
+
+/// What a sketch with a weight of 100 shows after a decay, and then halved.
+fn decayed_and_halved(alloc: Global) -> Result<[Shown; 2], Error> {
+    let mut sketch = weighed(alloc, 100)?;
+    sketch.decay(99, 100);
+    let decayed = shown(&sketch);
+    sketch.halve();
+    Ok([decayed, shown(&sketch)])
+}
+
+/// What a sketch with a weight of 3 shows halved, and halved again.
+fn halved_twice(alloc: Global) -> Result<[Shown; 2], Error> {
+    let mut sketch = weighed(alloc, 3)?;
+    sketch.halve();
+    let halved = shown(&sketch);
+    sketch.halve();
+    Ok([halved, shown(&sketch)])
+}
+
 #[test]
 fn halves_and_decays(rt: HostRuntime) -> Result<(), Fail> {
-    let mut sketch = CountMinSketch::new(rt.alloc(), 4, 128)?;
-    sketch.update_with_weight("x", 128)?;
-    assert!(rt; shown(&sketch) == (128, 128, 130, 128, false));
-    let mut sketch = CountMinSketch::new(rt.alloc(), 4, 128)?;
-    sketch.update_with_weight("x", 100)?;
-    sketch.decay(99, 100);
-    assert!(rt; shown(&sketch) == (99, 99, 101, 99, false));
-    sketch.halve();
-    assert!(rt; shown(&sketch) == (49, 49, 50, 49, false));
-    let mut sketch = CountMinSketch::new(rt.alloc(), 4, 128)?;
-    sketch.update_with_weight("x", 3)?;
-    sketch.halve();
-    assert!(rt; shown(&sketch) == (1, 1, 1, 1, false));
-    sketch.halve();
-    assert!(rt; shown(&sketch) == (0, 0, 0, 0, true));
+    assert!(rt; shown(&weighed(rt.alloc(), 128)?) == (128, 128, 130, 128, false));
+    let wanted = [(99, 99, 101, 99, false), (49, 49, 50, 49, false)];
+    assert!(rt; decayed_and_halved(rt.alloc())? == wanted);
+    let wanted = [(1, 1, 1, 1, false), (0, 0, 0, 0, true)];
+    assert!(rt; halved_twice(rt.alloc())? == wanted);
     Ok(())
 }
 
@@ -174,19 +192,37 @@ fn mismatch(alloc: Global, num_hashes: u8, num_buckets: u32, seed: u64) -> Resul
     sketch.merge(&CountMinSketch::with_seed(alloc, num_hashes, num_buckets, seed)?)
 }
 
+/// A sketch of one item.
+fn of_apple(alloc: Global) -> Result<CountMinSketch<i64>, Error> {
+    let mut sketch = CountMinSketch::new(alloc, 4, 128)?;
+    sketch.update("apple")?;
+    Ok(sketch)
+}
+
+/// A sketch with another item in it.
+fn with_banana(mut sketch: CountMinSketch<i64>) -> Result<CountMinSketch<i64>, Error> {
+    sketch.update_with_weight("banana", 2)?;
+    Ok(sketch)
+}
+
+/// Whether a sketch is another one than that of one stream, and is the same after a merge.
+fn merges_as_one_stream(
+    alloc: Global,
+    left: &mut CountMinSketch<i64>,
+) -> Result<(bool, bool), Error> {
+    let stream = with_banana(left.clone()?)?;
+    let right = with_banana(CountMinSketch::new(alloc, 4, 128)?)?;
+    Ok((*left != stream, merge_as_one_stream(left, &right, &stream)?))
+}
+
 #[test]
 fn merges_sketches_of_one_shape(rt: HostRuntime) -> Result<(), Fail> {
     let differ = Err(Error::invalid_argument(Fault::Mismatch));
     for (num_hashes, num_buckets, seed) in [(4, 64, 9001), (3, 128, 9001), (4, 128, 9002)] {
         assert!(rt; mismatch(rt.alloc(), num_hashes, num_buckets, seed) == differ);
     }
-    let mut left = CountMinSketch::<i64>::new(rt.alloc(), 4, 128)?;
-    left.update("apple")?;
-    let mut stream = left.clone()?;
-    let mut right = CountMinSketch::<i64>::new(rt.alloc(), 4, 128)?;
-    right.update_with_weight("banana", 2)?;
-    stream.update_with_weight("banana", 2)?;
-    assert!(rt; left != stream && merge_as_one_stream(&mut left, &right, &stream)?);
+    let mut left = of_apple(rt.alloc())?;
+    assert!(rt; merges_as_one_stream(rt.alloc(), &mut left)? == (true, true));
     assert!(rt; (left.total_weight(), left.estimate("banana")) == (3, 2));
     Ok(())
 }
@@ -227,11 +263,17 @@ fn gives_the_least_of_crowded_cells(rt: HostRuntime) -> Result<(), Fail> {
     Ok(())
 }
 
-#[test]
-fn shows_its_cells(rt: HostRuntime) -> Result<(), Fail> {
-    let mut sketch = CountMinSketch::<i64>::new(rt.alloc(), 4, 7)?;
+/// A sketch of two items and seven buckets.
+fn of_two(alloc: Global) -> Result<CountMinSketch<i64>, Error> {
+    let mut sketch = CountMinSketch::new(alloc, 4, 7)?;
     sketch.update_with_weight("apple", 5)?;
     sketch.update_with_weight("banana", -2)?;
+    Ok(sketch)
+}
+
+#[test]
+fn shows_its_cells(rt: HostRuntime) -> Result<(), Fail> {
+    let sketch = of_two(rt.alloc())?;
     let text = format!(in rt.alloc(); "{sketch:?}")?;
     let wanted =
         "CountMinSketch { num_hashes: 4, num_buckets: 7, seed: 9001, total_weight: 7, counts: [\
@@ -417,16 +459,30 @@ fn reads_under_a_seed_and_a_limit(rt: HostRuntime) {
     }
 }
 
-/// What three sketches write: the one of three cells, an empty one, and one whose image has zeros for its cells.
-fn written(alloc: Global) -> Result<(Vec<u8>, Vec<u8>, Vec<u8>), Error> {
+/// Whether this is the image of a sketch.
+fn writes<T: CountMinValue>(sketch: &CountMinSketch<T>, image: &[u8]) -> Result<bool, Error> {
+    Ok(sketch.serialize()?.as_slice() == image)
+}
+
+/// Whether the sketch of three cells writes their image.
+fn writes_three(alloc: Global) -> Result<bool, Error> {
     let three = CountMinSketch::<i8>::deserialize_with_limit(alloc, &THREE_CELLS, 11)?;
-    let empty = CountMinSketch::<i64>::new(alloc, 4, 128)?;
+    writes(&three, &THREE_CELLS)
+}
+
+/// The sketch of an image that has zeros for its cells.
+fn of_zeros(alloc: Global) -> Result<CountMinSketch<i64>, Error> {
     let mut image = Vec::with_capacity(alloc, 24 + 8 * 512)?;
     image.extend_from_slice(&NO_WEIGHT)?;
     image[3] = 0;
     image.resize(24 + 8 * 512, 0)?;
-    let zeros = CountMinSketch::<i64>::deserialize_with_seed(alloc, &image, 9001)?;
-    Ok((three.serialize()?, empty.serialize()?, zeros.serialize()?))
+    CountMinSketch::deserialize_with_seed(alloc, &image, 9001)
+}
+
+/// Whether an empty sketch, and one of zeros, write the image of no weight.
+fn writes_no_weight(alloc: Global) -> Result<(bool, bool), Error> {
+    let is_empty = writes(&CountMinSketch::<i64>::new(alloc, 4, 128)?, &NO_WEIGHT)?;
+    Ok((is_empty, writes(&of_zeros(alloc)?, &NO_WEIGHT)?))
 }
 
 /// Whether a sketch of many weights comes back from its image.
@@ -440,11 +496,8 @@ fn comes_back(alloc: Global) -> Result<bool, Error> {
 
 #[test]
 fn writes_images(rt: HostRuntime) -> Result<(), Fail> {
-    let (three, empty, zeros) = written(rt.alloc())?;
-    assert!(rt; three.as_slice() == THREE_CELLS.as_slice());
-    assert!(rt;
-        empty.as_slice() == NO_WEIGHT.as_slice() && zeros.as_slice() == NO_WEIGHT.as_slice()
-    );
+    assert!(rt; writes_three(rt.alloc())?);
+    assert!(rt; writes_no_weight(rt.alloc())? == (true, true));
     assert!(rt; comes_back(rt.alloc())?);
     what_images_say::<i64>();
     Ok(())

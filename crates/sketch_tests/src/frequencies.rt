@@ -1,7 +1,7 @@
 //! Worked examples, and a larger run.
 use sketch_base::{Error, Fault, SketchBytes, SketchSlice, murmur3_of};
 use sketch_frequencies::{
-    ErrorType, FrequentItemValue, FrequentItemsSketch, ReversePurgeItemHashMap, laws,
+    ErrorType, FrequentItemValue, FrequentItemsSketch, ReversePurgeItemHashMap, Row, laws,
 };
 use std::alloc::Global;
 use std::hash::{Hash, Hasher};
@@ -31,6 +31,22 @@ fn of_one(
     let mut sketch = FrequentItemsSketch::new(alloc, max_map_size)?;
     sketch.update_with_count(item, count)?;
     Ok(sketch)
+}
+
+/// A sketch with another merged into it.
+fn merged(
+    sketch: &FrequentItemsSketch<i64>,
+    other: &FrequentItemsSketch<i64>,
+) -> Result<FrequentItemsSketch<i64>, Error> {
+    let mut merged = sketch.try_clone()?;
+    merged.merge(other)?;
+    Ok(merged)
+}
+
+/// A sketch after a reset.
+fn emptied(mut sketch: FrequentItemsSketch<i64>) -> FrequentItemsSketch<i64> {
+    sketch.reset();
+    sketch
 }
 
 /// How many items are tracked, the error and the total.
@@ -97,6 +113,22 @@ fn sampled(alloc: Global, count: u64) -> Result<FrequentItemsSketch<i64>, Error>
     Ok(sketch)
 }
 
+/// The numbers of such a sketch, and the lower bound of 7.
+fn sampled_numbers(alloc: Global, count: u64) -> Result<((usize, u64, u64), u64), Error> {
+    let sketch = sampled(alloc, count)?;
+    Ok((numbers(&sketch), sketch.lower_bound(&7)))
+}
+
+/// The sample size and the error of such a sketch with seven items once each, and of one that is restored from it.
+fn sample_sizes(alloc: Global) -> Result<[(usize, u64); 2], Error> {
+    let sketch = sampled(alloc, 1)?;
+    let restored = laws::restored(alloc, &sketch)?;
+    Ok([
+        (sketch.sample_size(), sketch.maximum_error()),
+        (restored.sample_size(), restored.maximum_error()),
+    ])
+}
+
 /// How many rows a report has, the numbers of its first, and the items of its first and last.
 fn reported(
     sketch: &FrequentItemsSketch<i64>,
@@ -149,18 +181,14 @@ fn refuses_sample_sizes(rt: HostRuntime) {
 // The error is the greater of two counts: 1, or 100 where that of 7 is sampled.
 #[test]
 fn samples_two_counters(rt: HostRuntime) -> Result<(), Fail> {
-    let even = sampled(rt.alloc(), 1)?;
-    assert!(rt; numbers(&even) == (0, 1, 7));
-    let heavy = sampled(rt.alloc(), 100)?;
-    let wanted = match heavy.maximum_error() {
+    assert!(rt; sampled_numbers(rt.alloc(), 1)? == ((0, 1, 7), 0));
+    let found = sampled_numbers(rt.alloc(), 100)?;
+    let wanted = match found.0.1 {
         1 => ((1, 1, 106), 99),
         _ => ((0, 100, 106), 0),
     };
-    assert!(rt; (numbers(&heavy), heavy.lower_bound(&7)) == wanted);
-    let restored = laws::restored(rt.alloc(), &even)?;
-    for (sketch, sample) in [(&even, 2), (&restored, 6)] {
-        assert!(rt; (sketch.sample_size(), sketch.maximum_error()) == (sample, 1));
-    }
+    assert!(rt; found == wanted);
+    assert!(rt; sample_sizes(rt.alloc())? == [(2, 1), (6, 1)]);
     Ok(())
 }
 
@@ -194,45 +222,76 @@ fn keeps_the_heavy_item(rt: HostRuntime) -> Result<(), Fail> {
     Ok(())
 }
 
+/// A light sketch of 8 slots and a heavy one of 64, the second merged into the first, or the first into the second.
+fn of_both(alloc: Global, into_light: bool) -> Result<FrequentItemsSketch<i64>, Error> {
+    let light = once_each(alloc, 8, 7)?;
+    let heavy = of_one(alloc, 64, 1, 5)?;
+    if into_light {
+        merged(&light, &heavy)
+    } else {
+        merged(&heavy, &light)
+    }
+}
+
+/// What such a sketch says: its numbers, what is said of item 1, whether no more is paid than there was, with item 1 and
+/// without it, and its greatest size.
+fn said_of_merged(
+    alloc: Global,
+    into_light: bool,
+) -> Result<((usize, u64, u64), (u64, u64, u64), (bool, bool), usize), Error> {
+    let sketch = of_both(alloc, into_light)?;
+    Ok((
+        numbers(&sketch),
+        said(&sketch, 1),
+        (paid(&sketch, 1, 3) <= 12, paid(&sketch, 2, 2) <= 6),
+        sketch.max_map_size(),
+    ))
+}
+
 // The least size is 8, so three items may be set aside. With item 1 aside two places are left, and the others weigh 6.
 #[test]
 fn merges_sketches_of_unequal_sizes(rt: HostRuntime) -> Result<(), Fail> {
-    let light = once_each(rt.alloc(), 8, 7)?;
-    let heavy = of_one(rt.alloc(), 64, 1, 5)?;
-    let mut small = light.try_clone()?;
-    small.merge(&heavy)?;
-    let mut large = heavy.try_clone()?;
-    large.merge(&light)?;
-    for (sketch, size) in [(&small, 8), (&large, 64)] {
-        assert!(rt; numbers(sketch) == (1, 1, 12));
-        assert!(rt; said(sketch, 1) == (5, 6, 6));
-        assert!(rt; paid(sketch, 1, 3) <= 12);
-        assert!(rt; paid(sketch, 2, 2) <= 6);
-        assert!(rt; sketch.max_map_size() == size);
+    for (into_light, size) in [(true, 8), (false, 64)] {
+        let said = said_of_merged(rt.alloc(), into_light)?;
+        assert!(rt; said == ((1, 1, 12), (5, 6, 6), (true, true), size));
     }
-    large.reset();
-    assert!(rt; numbers(&large) == (0, 0, 0));
-    assert!(rt; sizes(&large) == (3, 6, 64, 6, 48));
+    let empty = emptied(of_both(rt.alloc(), false)?);
+    assert!(rt; numbers(&empty) == (0, 0, 0));
+    assert!(rt; sizes(&empty) == (3, 6, 64, 6, 48));
     Ok(())
+}
+
+/// Whether an update and a merge are refused since the total would overflow, and whether an update that adds no weight is
+/// refused.
+fn refuses(sketch: &mut FrequentItemsSketch<i64>, other: &FrequentItemsSketch<i64>) -> [bool; 3] {
+    let overflow = Err(Error::invalid_argument(Fault::WeightOverflow));
+    [
+        sketch.update_with_count(2, 1) == overflow,
+        sketch.merge(other) == overflow,
+        sketch.update_with_count(2, 0) != Ok(()),
+    ]
 }
 
 #[test]
 fn refuses_totals_that_overflow(rt: HostRuntime) -> Result<(), Fail> {
-    let overflow = Err(Error::invalid_argument(Fault::WeightOverflow));
     let mut sketch = of_one(rt.alloc(), 8, 1, u64::MAX)?;
     let other = of_one(rt.alloc(), 8, 2, 1)?;
-    assert!(rt; sketch.update_with_count(2, 1) == overflow);
-    assert!(rt; sketch.merge(&other) == overflow);
-    assert!(rt; sketch.update_with_count(2, 0) == Ok(()));
+    assert!(rt; refuses(&mut sketch, &other) == [true, true, false]);
     assert!(rt; numbers(&sketch) == (1, 0, u64::MAX));
     assert!(rt; numbers(&other) == (1, 0, 1));
     Ok(())
 }
 
+/// A sketch of the item 2 and of the item 1 with a weight of 5.
+fn of_two(alloc: Global) -> Result<FrequentItemsSketch<i64>, Error> {
+    let mut sketch = of_one(alloc, 64, 2, 1)?;
+    sketch.update_with_count(1, 5)?;
+    Ok(sketch)
+}
+
 #[test]
 fn reports_items_above_a_threshold(rt: HostRuntime) -> Result<(), Fail> {
-    let mut sketch = of_one(rt.alloc(), 64, 2, 1)?;
-    sketch.update_with_count(1, 5)?;
+    let sketch = of_two(rt.alloc())?;
     for (error_type, threshold, wanted) in [
         (ErrorType::NoFalsePositives, 3, (1, 5, 5, 5, 1, 1)),
         (ErrorType::NoFalseNegatives, 0, (2, 5, 5, 5, 1, 2)),
@@ -242,35 +301,60 @@ fn reports_items_above_a_threshold(rt: HostRuntime) -> Result<(), Fail> {
     Ok(())
 }
 
-#[test]
-fn clones_texts(rt: HostRuntime) -> Result<(), Fail> {
-    let text = String::from_str(rt.alloc(), "ab")?;
-    let mut sketch = FrequentItemsSketch::new(rt.alloc(), 8)?;
+/// The rows of a sketch of the text "ab" with a weight of 3.
+fn rows_of_text(alloc: Global) -> Result<Vec<Row<String>>, Error> {
+    let text = String::from_str(alloc, "ab")?;
+    let mut sketch = FrequentItemsSketch::new(alloc, 8)?;
     sketch.update_ref(&text)?;
     sketch.update_with_count_ref(&text, 2)?;
-    let rows = sketch.frequent_items(ErrorType::NoFalsePositives)?;
+    sketch.frequent_items(ErrorType::NoFalsePositives)
+}
+
+/// A row's clone, where it is equal to it.
+fn equal_clone(row: &Row<String>) -> Result<Option<Row<String>>, Error> {
+    let cloned = row.try_clone()?;
+    Ok(if cloned == *row { Some(cloned) } else { None })
+}
+
+#[test]
+fn clones_texts(rt: HostRuntime) -> Result<(), Fail> {
+    let rows = rows_of_text(rt.alloc())?;
     let [row] = rows.as_slice() else {
         return Err(Fail::from("not one row"));
     };
-    let cloned = row.try_clone()?;
-    assert!(rt; cloned == *row && cloned.lower_bound() == 3);
-    assert!(rt; cloned.item().as_str() == "ab");
+    let Some(cloned) = equal_clone(row)? else {
+        return Err(Fail::from("not an equal row"));
+    };
+    assert!(rt; cloned.lower_bound() == 3 && cloned.item().as_str() == "ab");
     assert!(rt; format!(in rt.alloc(); "{cloned}")?.as_str() == "ab 3 3 3");
     Ok(())
 }
 
-// As many items as 4096 slots may hold. An `Option<i64>` takes 16 bytes.
-#[test]
-fn keeps_thousands_of_items(rt: HostRuntime) -> Result<(), Fail> {
-    let mut sketch = FrequentItemsSketch::new(rt.alloc(), 4096)?;
+/// A sketch of as many items as 4096 slots may hold.
+fn of_thousands(alloc: Global) -> Result<FrequentItemsSketch<i64>, Error> {
+    let mut sketch = FrequentItemsSketch::new(alloc, 4096)?;
     for item in 1..=3072i64 {
         sketch.update_ref(&item)?;
     }
-    let mut merged = FrequentItemsSketch::new(rt.alloc(), 4096)?;
-    merged.merge(&sketch)?;
-    let cloned = merged.try_clone()?;
-    assert!(rt; numbers(&cloned) == (3072, 0, 3072));
-    assert!(rt; cloned.frequent_items(ErrorType::NoFalseNegatives)?.len() == 3072);
+    Ok(sketch)
+}
+
+/// The clone of a sketch into which such a one is merged.
+fn clone_of_thousands(alloc: Global) -> Result<FrequentItemsSketch<i64>, Error> {
+    let empty = FrequentItemsSketch::new(alloc, 4096)?;
+    merged(&empty, &of_thousands(alloc)?)?.try_clone()
+}
+
+/// How many rows a sketch lists that leaves none out.
+fn num_rows(sketch: &FrequentItemsSketch<i64>) -> Result<usize, Error> {
+    Ok(sketch.frequent_items(ErrorType::NoFalseNegatives)?.len())
+}
+
+// An `Option<i64>` takes 16 bytes.
+#[test]
+fn keeps_thousands_of_items(rt: HostRuntime) -> Result<(), Fail> {
+    let cloned = clone_of_thousands(rt.alloc())?;
+    assert!(rt; numbers(&cloned) == (3072, 0, 3072) && num_rows(&cloned)? == 3072);
     assert!(rt; cloned.estimated_size() == 4096 * 28);
     Ok(())
 }
@@ -401,25 +485,27 @@ fn shape<T: Eq + Hash + Drop>(
     )
 }
 
+/// The counts of the five items.
+fn counts_of_five(map: &ReversePurgeItemHashMap<Mute>) -> [u64; 5] {
+    [0, 1, 2, 3, 4].map(|item| map.get(&Mute(item)))
+}
+
 // The middle count m is one of theirs, and what is left are the counts above m, less m, each once.
 #[test]
 fn five_items_that_feed_nothing(rt: HostRuntime) -> Result<(), Fail> {
-    let counts = [3, 0, 2, 0, 5];
-    let mut map = of_five(&rt, rt.alloc(), counts)?;
+    let mut map = of_five(&rt, rt.alloc(), [3, 0, 2, 0, 5])?;
     // An `Option` of an item takes 16 bytes.
     assert!(rt; shape(&map) == (8, 3, 6, 5, 224));
     assert!(rt; map.num_active() > 0);
-    let middle = map.purge(1);
-    assert!(rt; counts.iter().any(|count| *count as u64 == middle));
-    for (item, count) in (0u64..5).zip(counts) {
-        assert!(rt; map.get(&Mute(item)) == (count as u64).saturating_sub(middle));
-    }
-    let left = counts
-        .iter()
-        .filter(|count| **count as u64 > middle)
-        .count();
-    let clone = map.try_clone()?;
-    assert!(rt; clone.num_active() == left && map.active_entries()?.len() == left);
+    let wanted = match map.purge(1) {
+        0 => ([3, 0, 2, 0, 5], 3),
+        2 => ([1, 0, 0, 0, 3], 2),
+        3 => ([0, 0, 0, 0, 2], 1),
+        5 => ([0; 5], 0),
+        _ => ([999; 5], 0),
+    };
+    assert!(rt; (counts_of_five(&map), map.active_entries()?.len()) == wanted);
+    assert!(rt; map.try_clone()?.num_active() == wanted.1);
     Ok(())
 }
 
@@ -437,23 +523,32 @@ fn seven_items_that_feed_nothing(rt: HostRuntime) -> Result<(), Fail> {
     Ok(())
 }
 
+/// A table of eight slots with these items and counts.
+fn with_counts(
+    rt: &impl Abort,
+    alloc: Global,
+    items: &[i64],
+    counts: [u8; 5],
+) -> Result<ReversePurgeItemHashMap<i64>, Error> {
+    let mut map = table(rt, alloc, 8)?;
+    for (item, count) in items.iter().zip(counts) {
+        add(rt, &mut map, *item, count);
+    }
+    Ok(map)
+}
+
 // The counts are 0, 3, 0, 5 and 1, and the middle one is 1. A sixth item with their home then has to pass the two that
 // are left, whatever stood there before.
 #[test]
 fn a_cluster_round_the_end(rt: HostRuntime) -> Result<(), Fail> {
     let items = items_of_the_last_slot();
-    let mut map = table(&rt, rt.alloc(), 8)?;
-    for (item, count) in items.iter().zip([0u8, 3, 0, 5, 1]) {
-        add(&rt, &mut map, *item, count);
-    }
+    let mut map = with_counts(&rt, rt.alloc(), &items, [0, 3, 0, 5, 1])?;
     assert!(rt; purge(&rt, &mut map) == 1);
     assert!(rt; map.get_counted(&items[5]) == (0, 3));
     for size in [8, 16, 4] {
         resize(&rt, &mut map, size)?;
         assert!(rt; map.len() == size && map.num_active() == 2);
-        for (item, count) in items.iter().zip([0u64, 2, 0, 4, 0, 0]) {
-            assert!(rt; map.get(item) == count);
-        }
+        assert!(rt; items.map(|item| map.get(&item)) == [0, 2, 0, 4, 0, 0]);
     }
     Ok(())
 }
@@ -628,15 +723,28 @@ fn reads_other_images(rt: HostRuntime) -> Result<(), Fail> {
     Ok(())
 }
 
-/// The image of one item with its weight.
-fn written<T: FrequentItemValue + Drop>(
+/// Whether this is the image of one item with its weight.
+fn writes<T: FrequentItemValue + Drop>(
     alloc: Global,
     item: T,
     count: u64,
-) -> Result<Vec<u8>, Error> {
+    image: &[u8],
+) -> Result<bool, Error> {
     let mut sketch = FrequentItemsSketch::new(alloc, 8)?;
     sketch.update_with_count(item, count)?;
-    sketch.serialize()
+    Ok(sketch.serialize()?.as_slice() == image)
+}
+
+/// Whether this is the image of an empty sketch that is limited to 64 slots.
+fn writes_empty(alloc: Global, image: &[u8]) -> Result<bool, Error> {
+    let empty = FrequentItemsSketch::<i64>::new(alloc, 64)?;
+    Ok(empty.serialize()?.as_slice() == image)
+}
+
+/// The numbers of a sketch of 3000 items, once each, that is written and read again.
+fn numbers_of_restored(alloc: Global) -> Result<(usize, u64, u64), Error> {
+    let sketch = once_each(alloc, 4096, 3000)?;
+    Ok(numbers(&laws::restored(alloc, &sketch)?))
 }
 
 /// Why an image is refused whose table may take so many bytes.
@@ -650,18 +758,14 @@ fn refused_above(alloc: Global, image: &[u8], most_bytes: usize) -> Option<Fault
 // A table of 8 slots for `i64` takes 8 times 28 bytes.
 #[test]
 fn writes_images(rt: HostRuntime) -> Result<(), Fail> {
-    assert!(rt; written(rt.alloc(), 7i64, 2)?.as_slice() == SEVEN.as_slice());
-    assert!(rt; written(rt.alloc(), 7u64, 2)?.as_slice() == SEVEN.as_slice());
-    let text = String::from_str(rt.alloc(), "ab")?;
-    assert!(rt; written(rt.alloc(), text, 3)?.as_slice() == TEXT.as_slice());
-    let empty = FrequentItemsSketch::<i64>::new(rt.alloc(), 64)?;
-    assert!(rt; empty.serialize()?.as_slice() == EMPTY.as_slice());
+    assert!(rt; writes(rt.alloc(), 7i64, 2, &SEVEN)? && writes(rt.alloc(), 7u64, 2, &SEVEN)?);
+    assert!(rt; writes(rt.alloc(), String::from_str(rt.alloc(), "ab")?, 3, &TEXT)?);
+    assert!(rt; writes_empty(rt.alloc(), &EMPTY)?);
     for (most_bytes, wanted) in [(224, None), (223, Some(Fault::TableTooLarge))] {
         assert!(rt; refused_above(rt.alloc(), &SEVEN, most_bytes) == wanted);
         assert!(rt; refused_above(rt.alloc(), &EMPTY, most_bytes) == wanted);
     }
-    let sketch = once_each(rt.alloc(), 4096, 3000)?;
-    assert!(rt; numbers(&laws::restored(rt.alloc(), &sketch)?) == (3000, 0, 3000));
+    assert!(rt; numbers_of_restored(rt.alloc())? == (3000, 0, 3000));
     laws::what_images_say::<i64>();
     Ok(())
 }

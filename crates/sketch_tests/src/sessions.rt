@@ -137,19 +137,25 @@ fn commands(alloc: Global, rows: &[(&str, Does, &str, Said)]) -> Result<Vec<Comm
     Ok(commands)
 }
 
-/// The first row whose command has another reply, in a run of all, than the row says.
-fn first_wrong(alloc: Global, rows: &[(&str, Does, &str, Said)]) -> Result<Option<usize>, Error> {
-    let replies = Session::new(alloc).run(commands(alloc, rows)?)?;
-    for (place, ((_, _, _, wanted), reply)) in rows.iter().zip(&replies).enumerate() {
+/// The first row that has another reply than it says.
+fn first_other(rows: &[(&str, Does, &str, Said)], replies: &[Reply<i64>]) -> Option<usize> {
+    for (place, ((_, _, _, wanted), reply)) in rows.iter().zip(replies).enumerate() {
         if summary(reply) != *wanted {
-            return Ok(Some(place));
+            return Some(place);
         }
     }
-    Ok(if replies.len() == rows.len() {
+    if replies.len() == rows.len() {
         None
     } else {
         Some(replies.len())
-    })
+    }
+}
+
+/// The first row whose command has another reply, in a run of all, than the row says.
+fn first_wrong(alloc: Global, rows: &[(&str, Does, &str, Said)]) -> Result<Option<usize>, Error> {
+    let commands = commands(alloc, rows)?;
+    let replies = Session::new(alloc).run(commands)?;
+    Ok(first_other(rows, &replies))
 }
 
 #[test]
@@ -384,23 +390,47 @@ fn of_unequal_sizes(alloc: Global, session: &mut Session<i64>) -> Result<(), Err
     apply(alloc, session, "large", Does::Merge, "light")
 }
 
+/// A session in which both were made.
+fn of_both(alloc: Global) -> Result<Session<i64>, Error> {
+    let mut session = Session::new(alloc);
+    with_heavy_item(alloc, &mut session)?;
+    of_unequal_sizes(alloc, &mut session)?;
+    Ok(session)
+}
+
+/// What is kept of the items from `from` to 7, and the numbers.
+fn kept_and_numbers(
+    alloc: Global,
+    session: &mut Session<i64>,
+    name: &str,
+    from: i64,
+) -> Result<(i128, (u64, u64, usize)), Error> {
+    let kept = kept(alloc, session, name, from)?;
+    Ok((kept, numbers(alloc, session, name)?))
+}
+
+/// The numbers after a reset.
+fn numbers_of_reset(
+    alloc: Global,
+    session: &mut Session<i64>,
+    name: &str,
+) -> Result<(u64, u64, usize), Error> {
+    apply(alloc, session, name, Does::Reset, "")?;
+    numbers(alloc, session, name)
+}
+
 // The least size is 8, so three items may be set aside: what is kept and three times the error are at most the total.
 // With item 1 aside, what is kept of the others and twice the error are at most 6, which the others weigh.
 #[test]
 fn keeps_the_tail_budget(rt: HostRuntime) -> Result<(), Fail> {
-    let mut session = Session::new(rt.alloc());
-    with_heavy_item(rt.alloc(), &mut session)?;
-    of_unequal_sizes(rt.alloc(), &mut session)?;
-    let rows = [
-        ("heavy", 1, 99, (1, 106, 8)),
-        ("large", 1, 5, (1, 12, 64)),
-        ("large", 2, 0, (1, 12, 64)),
-    ];
-    for (name, from, sum, wanted) in rows {
-        assert!(rt; kept(rt.alloc(), &mut session, name, from)? == sum);
-        assert!(rt; numbers(rt.alloc(), &mut session, name)? == wanted);
+    let mut session = of_both(rt.alloc())?;
+    for (name, from, wanted) in [
+        ("heavy", 1, (99, (1, 106, 8))),
+        ("large", 1, (5, (1, 12, 64))),
+        ("large", 2, (0, (1, 12, 64))),
+    ] {
+        assert!(rt; kept_and_numbers(rt.alloc(), &mut session, name, from)? == wanted);
     }
-    apply(rt.alloc(), &mut session, "large", Does::Reset, "")?;
-    assert!(rt; numbers(rt.alloc(), &mut session, "large")? == (0, 0, 64));
+    assert!(rt; numbers_of_reset(rt.alloc(), &mut session, "large")? == (0, 0, 64));
     Ok(())
 }
