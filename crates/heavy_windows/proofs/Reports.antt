@@ -1,11 +1,15 @@
 -- What a report says, from what its sketch says.
-use Rattle.std.proofs.Common.{◌≡◌, ℕ, ◌+◌, ◌-◌, ◌*◌, ◌/◌, ◌≤◌, Bool, List, [], ◌∷◌, length, Result, Ok, Err, IfOk, refl, ap, sym, ◌∙◌, subst, arith}
+use Rattle.std.proofs.Common.{◌≡◌, ℕ, ◌+◌, ◌-◌, ◌*◌, ◌/◌, ◌≤◌, Bool, List, All, [], ◌∷◌, length, Result, Ok, Err, IfOk, refl, ap, sym, ◌∙◌, subst, arith}
+use Rattle.std.proofs.lemmas.List.Elements.{All-weaker}
 use Rattle.std.specs.List.{fold}
-use Rattle.sketch_frequencies.specs.History.{FrequentHistory, least_sample, budget_size, weight_outside}
+use Rattle.sketch_frequencies.specs.History.{FrequentHistory, true_weight, least_sample, budget_size, weight_outside}
 use Rattle.sketch_frequencies.specs.History.FrequentHistory.{Merge}
+use Rattle.sketch_frequencies.specs.RowValue.{RowValue}
+use Rattle.sketch_frequencies.specs.Rows.{Shows, ShowsExactly}
 use Rattle.sketch_frequencies.specs.Stands.{StandsFor, KeepsTailBudget}
 use Rattle.sketch_frequencies.specs.State.{FrequentState, IsState, greatest_sample_size}
 use Rattle.sketch_frequencies.specs.Tables.{sum_outside}
+use Rattle.sketch_frequencies.specs.declared.error_type.ErrorType.{ErrorType}
 use Rattle.heavy_windows.specs.Fresh.{fresh_state, fresh_history, window_budget}
 use Rattle.heavy_windows.specs.Histories.{report_history}
 use Rattle.heavy_windows.specs.Merging.{IsMerged}
@@ -50,3 +54,19 @@ module _ {T : Type 0} (eq : T → T → Bool) where
       let same : (window_budget max_map_size - length set) * error ≡ (budget_size (report_history max_map_size hs) - length set) * merged.error =
       ap (λ (n : ℕ). (n - length set) * error) (sym b) ∙ ap (λ (n : ℕ). (budget_size (report_history max_map_size hs) - length set) * n) e in
       omega (arith, all, same)
+
+  -- the bounds of each row enclose the true weight of its item
+  pub rows_enclose : (kind : ErrorType) (threshold max_map_size : ℕ) (windows : List (FrequentState T))
+      (merged : FrequentState T) (rows : List (RowValue T))
+      → IsMerged eq max_map_size windows merged → ShowsExactly eq kind threshold merged rows
+      → (hs : List (FrequentHistory T)) → WindowsStandFor eq max_map_size windows hs
+      → All (λ row. (row.lower_bound ≤ true_weight eq (report_history max_map_size hs) row.item)
+      × (true_weight eq (report_history max_map_size hs) row.item ≤ row.upper_bound)) rows
+  rows_enclose kind threshold max_map_size windows merged rows is exact hs z =
+      let h = report_history max_map_size hs in
+      let encloses = (is.stands hs z).encloses in
+      All-weaker (Shows eq kind threshold merged)
+      (λ (row : RowValue T). (row.lower_bound ≤ true_weight eq h row.item) × (true_weight eq h row.item ≤ row.upper_bound))
+      (λ row shown.
+      (subst (λ (n : ℕ). n ≤ true_weight eq h row.item) (sym shown.lower_bound) (encloses.at_least row.item),
+      subst (λ (n : ℕ). true_weight eq h row.item ≤ n) (sym shown.upper_bound) (encloses.at_most row.item))) rows exact.shown

@@ -44,6 +44,12 @@ module _ {T : Type 0} (eq : T → T → Bool) where
     ShowsNoneBelow threshold report = OfWhatTheyStandFor (λ h.
         All (λ row. max threshold report.maximum_error < true_weight eq h row.item) report.rows.items)
 
+    -- the true weight of each item that is shown lies between its bounds
+    abbrev pub EnclosesEach : Report T → Type 0
+    EnclosesEach report = OfWhatTheyStandFor (λ h.
+        All (λ row. (row.lower_bound ≤ true_weight eq h row.item) × (true_weight eq h row.item ≤ row.upper_bound))
+        report.rows.items)
+
     -- whichever few items are set aside, the error for each place that is left is at most the weight of the others
     abbrev pub IsPaidByTail : Report T → Type 0
     IsPaidByTail report = OfWhatTheyStandFor (λ h.

@@ -6,7 +6,7 @@ ghost use Rattle.heavy_windows.specs.Fresh.{fresh_state};
 ghost use Rattle.heavy_windows.specs.Histories.{added_history, turned_history};
 ghost use Rattle.heavy_windows.specs.Merging.{IsMerged};
 ghost use Rattle.heavy_windows.specs.Newest.{turned};
-ghost use Rattle.heavy_windows.specs.Reports.{Reports, HasTotal, MissesNone, ShowsNoneBelow, IsPaidByTail};
+ghost use Rattle.heavy_windows.specs.Reports.{Reports, HasTotal, EnclosesEach, MissesNone, ShowsNoneBelow, IsPaidByTail};
 ghost use Rattle.heavy_windows.specs.Sizes.{limits_fault};
 ghost use Rattle.heavy_windows.specs.Stands.{WindowsStandFor, ExtendsWindows};
 ghost use Rattle.heavy_windows.specs.State.{at_tenant, newest_of, nothing_added, windows_total, IsWindows, OnlyChanges};
@@ -152,8 +152,8 @@ impl<T: Eq + Hash + Drop> HeavyWindows<T> {
 
     /// What weighed most in the tenant's windows: those of the items whose bound is above both the threshold and the
     /// error, as [`frequent_items_with_threshold`](FrequentItemsSketch::frequent_items_with_threshold) has them of the
-    /// windows merged into one sketch, oldest first. No row, and 0 and 0, for an unknown tenant. Clones of the items
-    /// have to equal them.
+    /// windows merged into one sketch, oldest first. No row, and 0 and 0, for an unknown tenant. Each row's
+    /// bounds enclose what its item weighed in the windows together. Clones of the items have to equal them.
     ///
     /// # Errors
     ///
@@ -173,6 +173,7 @@ impl<T: Eq + Hash + Drop> HeavyWindows<T> {
 
         // What the report says of whatever the tenant's windows stand for.
         ensures total { IfOk result (λ report. HasTotal T.eq self.now.max_map_size (at_tenant tenant self.now) report) }
+        ensures encloses { IfOk result (λ report. EnclosesEach T.eq self.now.max_map_size (at_tenant tenant self.now) report) }
         ensures none_missing { IfOk result (λ report. error_type ≡ ErrorType.NoFalseNegatives
             → MissesNone T.eq self.now.max_map_size (at_tenant tenant self.now) threshold report) }
         ensures none_below { IfOk result (λ report. error_type ≡ ErrorType.NoFalsePositives

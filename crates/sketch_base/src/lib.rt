@@ -7,6 +7,7 @@
 //!   still unread, and those that were written.
 //! - [`image`] has the fields of images, which stand at fixed places, and what all images are checked for.
 //! - [`Family`] names a kind of sketch in an image, and [`Error`] says by its [`Fault`] why a call was refused.
+//! - [`laws`] say what the constants are.
 //! - [`Divisor`] takes remainders by a number that is known before, without a division.
 #![tactic(auto)]
 
@@ -16,6 +17,7 @@ mod family;
 mod fault;
 pub mod image;
 mod item_hash;
+pub mod laws;
 mod murmurhash;
 mod seed_hash;
 mod short_copy;

@@ -7,7 +7,6 @@ use Rattle.std.proofs.lemmas.List.{with_items_is}
 use Rattle.std.specs.Ordering.{nat_cmp}
 use Rattle.std.specs.FinSet as set
 use Rattle.sketch_bloom.specs.BitSet.{set_of}
-use Rattle.sketch_bloom.specs.declared.limits.TheConstants.{MAX_NUM_WORDS, MAX_NUM_HASHES}
 use Rattle.sketch_bloom.specs.Fields.{IsFilter}
 use Rattle.sketch_bloom.specs.State.{FilterState, IsFilterState, empty_state}
 use Rattle.sketch_bloom.proofs.Members.{below_capacity, set_of-zeros, zero_everywhere}
@@ -50,7 +49,7 @@ pub zeroed_set : (words : List ℕ) (n : ℕ) → words ≡ replicate n 0 → se
 zeroed_set words n e = set_of-zeros words (zero_everywhere words n e)
 
 -- such a filter is one
-pub zeroed_filter : (words : List ℕ) (n capacity num_hashes : ℕ) → words ≡ replicate n 0 → 1 ≤ n → n ≤ MAX_NUM_WORDS → capacity ≡ 64 * n → 1 ≤ num_hashes → num_hashes ≤ MAX_NUM_HASHES → IsFilter words capacity num_hashes 0
+pub zeroed_filter : (words : List ℕ) (n capacity num_hashes : ℕ) → words ≡ replicate n 0 → 1 ≤ n → n ≤ 2147483647 → capacity ≡ 64 * n → 1 ≤ num_hashes → num_hashes ≤ 32767 → IsFilter words capacity num_hashes 0
 zeroed_filter words n capacity num_hashes e some_words few_words capacity_is some_hashes few_hashes =
     let len : length words ≡ n = ap length e ∙ length-replicate n 0 in
     record {

@@ -2,7 +2,6 @@
 use Rattle.std.specs.Prelude.{ℕ, ◌+◌, ◌/◌, nat_lt, ◌||◌, ◌==◌, Option, Some, None, if◌then◌else◌}
 use Rattle.sketch_base.specs.declared.fault.Fault.{Fault}
 use Rattle.sketch_base.specs.declared.fault.Fault.TheVariants.{BadNumBits, BadNumHashes}
-use Rattle.sketch_bloom.specs.declared.limits.TheConstants.{MAX_NUM_BITS, MAX_NUM_HASHES}
 
 -- the numbers of bits and hashes, and the seed
 pub record Request : Type 0 where
@@ -10,11 +9,12 @@ pub record Request : Type 0 where
   pub num_hashes : ℕ
   pub seed : ℕ
 
--- what is wrong with a request, if anything: it has a bit and a hash at least, and no more than there may be
+-- what is wrong with a request, if anything: it has a bit and a hash at least, at most 137438953152 bits and
+-- at most 32767 hashes
 abbrev pub request_fault : Request → Option Fault
 request_fault r =
-    if (r.num_bits == 0) || nat_lt MAX_NUM_BITS r.num_bits then Some BadNumBits
-    else (if (r.num_hashes == 0) || nat_lt MAX_NUM_HASHES r.num_hashes then Some BadNumHashes else None)
+    if (r.num_bits == 0) || nat_lt 137438953152 r.num_bits then Some BadNumBits
+    else (if (r.num_hashes == 0) || nat_lt 32767 r.num_hashes then Some BadNumHashes else None)
 
 -- how many words hold so many bits
 abbrev pub words_for : ℕ → ℕ

@@ -10,7 +10,6 @@ use Rattle.sketch_bloom.specs.BitSet.{Numbers, set_of}
 use Rattle.sketch_bloom.specs.History.BloomHistory.{Restored}
 use Rattle.sketch_bloom.specs.Stands.{Extends}
 use Rattle.sketch_bloom.specs.State.{FilterState, IsFilterState}
-use Rattle.sketch_bloom.specs.declared.limits.TheConstants.{MAX_NUM_WORDS, MAX_NUM_HASHES}
 
 -- ---- the fields
 
@@ -53,9 +52,9 @@ early_checks image =
     ∷ (byte_at image 1 == 1, BadVersion)
     ∷ ((byte_at image 0 == 3) || (byte_at image 0 == 4), BadPreamble)
     ∷ (nat_le 6 (length image), InsufficientData)
-    ∷ (nat_le 1 (num_hashes_at image) && nat_le (num_hashes_at image) MAX_NUM_HASHES, BadNumHashes)
+    ∷ (nat_le 1 (num_hashes_at image) && nat_le (num_hashes_at image) 32767, BadNumHashes)
     ∷ (nat_le 24 (length image), InsufficientData)
-    ∷ (nat_le 1 (num_words_at image) && nat_le (num_words_at image) MAX_NUM_WORDS, BadNumWords)
+    ∷ (nat_le 1 (num_words_at image) && nat_le (num_words_at image) 2147483647, BadNumWords)
     ∷ (says_empty image || nat_le (32 + 8 * num_words_at image) (length image), InsufficientData)
     ∷ []
 

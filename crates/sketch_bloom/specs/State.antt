@@ -4,7 +4,6 @@ use Rattle.std.specs.Coded.{Coded, code_by, coded×, coded_ℕ}
 use Rattle.std.specs.FinSet as set
 use Rattle.sketch_bloom.specs.BitSet.{Numbers, same_set}
 use Rattle.sketch_bloom.specs.Positions.{positions_of}
-use Rattle.sketch_bloom.specs.declared.limits.TheConstants.{MAX_NUM_WORDS, MAX_NUM_HASHES}
 
 -- how many words and hashes a filter has, its seed, and the set of the positions that were inserted
 pub record FilterState : Type 0 where
@@ -27,9 +26,9 @@ capacity_of s = 64 * s.num_words
 -- what holds of every filter
 pub record IsFilterState (s : FilterState) : Type 0 where
   pub some_words : 1 ≤ s.num_words
-  pub few_words : s.num_words ≤ MAX_NUM_WORDS
+  pub few_words : s.num_words ≤ 2147483647
   pub some_hashes : 1 ≤ s.num_hashes
-  pub few_hashes : s.num_hashes ≤ MAX_NUM_HASHES
+  pub few_hashes : s.num_hashes ≤ 32767
   -- each position of the set is below the capacity
   pub within : (p : ℕ) → set.contains s.set p ≡ true → p < capacity_of s
 

@@ -1,6 +1,6 @@
 -- The image of a sketch: its fields by their places, its checks in their order, what it says, and how it is spelled.
 -- A type of numbers is given by its least and its greatest number.
-use Rattle.std.specs.Prelude.{◌≡◌, ◌≢◌, ℕ, zero, suc, ◌+◌, ◌*◌, nat_le, nat_lt, ◌==◌, Bool, ◌&&◌, ◌||◌, not, Option, None, Some, List, [], ◌∷◌, ◌++◌, length, take, drop, ℤ, pos, int_le, unsigned_abs, bit_and, if◌then◌else◌}
+use Rattle.std.specs.Prelude.{◌≡◌, ◌≢◌, ℕ, zero, suc, ◌+◌, ◌*◌, ◌^◌, nat_le, nat_lt, ◌==◌, Bool, ◌&&◌, ◌||◌, not, Option, None, Some, List, [], ◌∷◌, ◌++◌, length, take, drop, ℤ, pos, int_le, unsigned_abs, bit_and, if◌then◌else◌}
 use Rattle.std.specs.Int.{w16, w32, to_le_bytes}
 use Rattle.std.specs.List.{flat_map}
 use Rattle.sketch_base.specs.Checks.{first_failing, or_else}
@@ -13,7 +13,6 @@ use Rattle.sketch_countmin.specs.Rows.{cell_at, rows_of}
 use Rattle.sketch_countmin.specs.Stands.{Extends}
 use Rattle.sketch_countmin.specs.State.{CountState, IsCountState, empty_state}
 use Rattle.sketch_countmin.specs.Values.{InRange, bytes_of, number_in}
-use Rattle.sketch_countmin.specs.declared.limits.TheConstants.{MIN_NUM_BUCKETS, MAX_TABLE_ENTRIES}
 
 -- ---- the fields
 
@@ -63,8 +62,8 @@ early_checks seed image =
     ∷ (not (seed_hash seed == 0), ZeroSeedHash)
     ∷ (seed_hash_at image == seed_hash seed, SeedHashMismatch)
     ∷ (nat_le 1 (hashes_at image), BadNumHashes)
-    ∷ (nat_le MIN_NUM_BUCKETS (buckets_at image), BadNumBuckets)
-    ∷ (nat_lt (num_cells_at image) MAX_TABLE_ENTRIES, TableTooLarge)
+    ∷ (nat_le 3 (buckets_at image), BadNumBuckets)
+    ∷ (nat_lt (num_cells_at image) (2 ^ 30), TableTooLarge)
     ∷ (says_empty image || nat_le (24 + 8 * num_cells_at image) (length image), InsufficientData)
     ∷ []
 

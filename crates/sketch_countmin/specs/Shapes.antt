@@ -1,7 +1,6 @@
 -- Which shapes and seeds a sketch may have.
-use Rattle.std.specs.Prelude.{ℕ, ◌*◌, ◌==◌, nat_lt, nat_le, Option, Some, None, if◌then◌else◌}
+use Rattle.std.specs.Prelude.{ℕ, ◌*◌, ◌^◌, ◌==◌, nat_lt, nat_le, Option, Some, None, if◌then◌else◌}
 use Rattle.sketch_base.specs.Hashes.{seed_hash}
-use Rattle.sketch_countmin.specs.declared.limits.TheConstants.{MIN_NUM_BUCKETS, MAX_TABLE_ENTRIES}
 use Rattle.sketch_base.specs.declared.fault.Fault.{Fault}
 use Rattle.sketch_base.specs.declared.fault.Fault.TheVariants.{BadNumHashes, BadNumBuckets, TableTooLarge, ZeroSeedHash}
 
@@ -9,6 +8,6 @@ use Rattle.sketch_base.specs.declared.fault.Fault.TheVariants.{BadNumHashes, Bad
 abbrev pub shape_fault : ℕ → ℕ → ℕ → Option Fault
 shape_fault hashes buckets seed =
     if hashes == 0 then Some BadNumHashes else
-    (if nat_lt buckets MIN_NUM_BUCKETS then Some BadNumBuckets else
-    (if nat_le MAX_TABLE_ENTRIES (hashes * buckets) then Some TableTooLarge else
+    (if nat_lt buckets 3 then Some BadNumBuckets else
+    (if nat_le (2 ^ 30) (hashes * buckets) then Some TableTooLarge else
     (if seed_hash seed == 0 then Some ZeroSeedHash else None)))

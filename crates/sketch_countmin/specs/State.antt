@@ -1,9 +1,7 @@
 -- A Count-Min sketch as its numbers, and what each call does to it.
-use Rattle.std.specs.Prelude.{◌≡◌, ◌≢◌, ℕ, ◌+◌, ◌*◌, ◌/◌, ◌<◌, ◌≤◌, ◌==◌, if◌then◌else◌, List, length, map, replicate, All, ℤ, pos, ◌+ℤ◌, ◌≤ℤ◌, unsigned_abs}
+use Rattle.std.specs.Prelude.{◌≡◌, ◌≢◌, ℕ, ◌+◌, ◌*◌, ◌/◌, ◌^◌, ◌<◌, ◌≤◌, ◌==◌, if◌then◌else◌, List, length, map, replicate, All, ℤ, pos, ◌+ℤ◌, ◌≤ℤ◌, unsigned_abs}
 use Rattle.std.specs.Int.{int_min}
 use Rattle.sketch_base.specs.Hashes.{seed_hash}
-use Rattle.sketch_countmin.specs.declared.limits.TheConstants.{MAX_NUM_HASHES, MIN_NUM_BUCKETS, MAX_TABLE_ENTRIES}
-use Rattle.sketch_countmin.specs.declared.count_min_sketch.TheConstants.{E_NUMERATOR, E_DENOMINATOR}
 use Rattle.sketch_countmin.specs.Values.{scaled, halved}
 use Rattle.sketch_countmin.specs.Rows.{cell_at}
 use Rattle.sketch_countmin.specs.Buckets.{bucket_of}
@@ -20,9 +18,9 @@ pub record CountState : Type 0 where
 -- what holds of every sketch over a type with this greatest number
 pub record IsCountState (greatest : ℕ) (s : CountState) : Type 0 where
   pub some_hashes : 0 < s.hashes
-  pub few_hashes : s.hashes ≤ MAX_NUM_HASHES
-  pub some_buckets : MIN_NUM_BUCKETS ≤ s.buckets
-  pub few_cells : s.hashes * s.buckets < MAX_TABLE_ENTRIES
+  pub few_hashes : s.hashes ≤ 255
+  pub some_buckets : 3 ≤ s.buckets
+  pub few_cells : s.hashes * s.buckets < 2 ^ 30
   pub seeded : seed_hash s.seed ≢ 0
   pub height : length s.rows ≡ s.hashes
   pub width : All (λ row. length row ≡ s.buckets) s.rows
@@ -86,7 +84,7 @@ IsLeastCell s bytes z = IsLeast s.hashes (item_cell s bytes) z
 -- how far an upper bound is above the estimate: the total by e over the buckets, for which a fraction of whole numbers
 -- stands, rounded down
 abbrev pub margin : CountState → ℕ
-margin s = s.total * E_NUMERATOR / (E_DENOMINATOR * s.buckets)
+margin s = s.total * 2718281828459045235 / (1000000000000000000 * s.buckets)
 
 -- the estimate and the margin, or the greatest number of the type where that would pass it
 abbrev pub upper_bound_of : ℕ → CountState → ℤ → ℤ

@@ -1,7 +1,6 @@
 -- How a sketch keeps its cells: in one list, row by row.
-use Rattle.std.specs.Prelude.{◌≡◌, ◌≢◌, ℕ, ◌*◌, ◌<◌, ◌≤◌, List, length, slice_index, slice_index_or, ℤ, pos, unsigned_abs}
+use Rattle.std.specs.Prelude.{◌≡◌, ◌≢◌, ℕ, ◌*◌, ◌^◌, ◌<◌, ◌≤◌, List, length, slice_index, slice_index_or, ℤ, pos, unsigned_abs}
 use Rattle.sketch_base.specs.Hashes.{seed_hash}
-use Rattle.sketch_countmin.specs.declared.limits.TheConstants.{MAX_NUM_HASHES, MIN_NUM_BUCKETS, MAX_TABLE_ENTRIES}
 use Rattle.sketch_countmin.specs.Rows.{rows_of}
 use Rattle.sketch_countmin.specs.Buckets.{row_seed}
 use Rattle.sketch_countmin.specs.State.{CountState}
@@ -19,9 +18,9 @@ state_of row_seeds buckets seed total cells = record {
 -- what holds of the parts of every sketch
 pub record IsTable (greatest : ℕ) (row_seeds : List ℕ) (buckets seed : ℕ) (total : ℤ) (cells : List ℤ) : Type 0 where
   pub some_rows : 0 < length row_seeds
-  pub few_rows : length row_seeds ≤ MAX_NUM_HASHES
-  pub some_buckets : MIN_NUM_BUCKETS ≤ buckets
-  pub few_cells : length row_seeds * buckets < MAX_TABLE_ENTRIES
+  pub few_rows : length row_seeds ≤ 255
+  pub some_buckets : 3 ≤ buckets
+  pub few_cells : length row_seeds * buckets < 2 ^ 30
   pub seeded : seed_hash seed ≢ 0
   pub seeds : (r : ℕ) → r < length row_seeds → slice_index row_seeds r ≡ row_seed r seed
   pub size : length cells ≡ length row_seeds * buckets

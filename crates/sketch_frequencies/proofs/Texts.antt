@@ -1,14 +1,15 @@
 -- When a text is written and read.
-use Rattle.std.proofs.Common.{◌≡◌, ℕ, ◌+◌, ◌<◌, ◌≤◌, ◌^◌, true, false, cond, List, ◌++◌, length, take, drop, Result, Ok, Err, refl, subst, arith, ltb}
-use Rattle.std.specs.Prelude.{OnErr}
+use Rattle.std.proofs.Common.{◌≡◌, ℕ, ◌+◌, ◌<◌, ◌≤◌, ◌^◌, true, false, cond, List, ◌++◌, length, take, drop, Result, Ok, Err, refl, subst, arith, ltb, inl, sym}
+use Rattle.std.specs.Prelude.{OnErr, IfErr, IsOk}
 use Rattle.std.specs.Int.{w32, to_le_bytes}
 use Rattle.std.specs.Str.{is_utf8, IsUtf8}
 use Rattle.std.proofs.lemmas.Bool.{le-ltb, lt-ltb, ltb-false}
 use Rattle.std.proofs.lemmas.Grind.{common_steps}
 use Rattle.std.proofs.lemmas.Str.{IsUtf8-from_is_utf8, is_utf8-from_IsUtf8}
+use Rattle.sketch_base.specs.Errors.{ErrorValue, no_memory}
 use Rattle.sketch_base.specs.declared.fault.Fault.TheVariants.{InsufficientData, InvalidUtf8, ItemTooLong}
 use Rattle.sketch_base.specs.Fields.{le_at}
-use Rattle.sketch_frequencies.specs.Items.{text_encoding, text_taken, text_reading}
+use Rattle.sketch_frequencies.specs.Items.{text_encoding, text_taken, text_reading, IsTextRefusal}
 use Rattle.sketch_frequencies.proofs.Cases.{by_test}
 
 not_text : (bytes : List ℕ) → ¬ (IsUtf8 bytes) → is_utf8 bytes ≡ false
@@ -44,3 +45,12 @@ taken_within n bytes text h = by_test (ltb (length bytes) n) (λ b. cond b (Err 
 
 pub drop_4 : (bytes : List ℕ) (n : ℕ) → drop n (drop 4 bytes) ≡ drop (4 + n) bytes
 drop_4 bytes n = grind (arith, common_steps)
+
+-- what has a value is there
+pub is_ok_from : {A E : Type 0} (r : Result A E) (x : A) → r ≡ Ok x → IsOk r
+is_ok_from {A} {E} r x e = subst (λ (s : Result A E). IsOk s) (sym e) refl
+
+-- memory was refused for a text that is there
+pub refused_there : {A : Type 0} (n : ℕ) (bytes : List ℕ) (r : Result A ErrorValue) → IsOk (text_taken n bytes) → IfErr r (λ e. e ≡ no_memory) → IfErr r (IsTextRefusal n bytes)
+refused_there n bytes (Ok x) there e = tt
+refused_there n bytes (Err x) there e = inl (e, there)

@@ -1,9 +1,9 @@
 -- How items are told apart, written and read, and the encodings of numbers and texts.
-use Rattle.std.specs.Prelude.{◌≡◌, ◌⊎◌, ℕ, ℤ, pos, negsuc, ◌+◌, ◌^◌, ◌≤◌, nat_lt, Bool, true, List, ◌++◌, length, take, drop, Result, Ok, Err, if◌then◌else◌}
+use Rattle.std.specs.Prelude.{◌≡◌, ◌⊎◌, ℕ, ℤ, pos, negsuc, ◌+◌, ◌^◌, ◌≤◌, nat_lt, Bool, true, List, ◌++◌, length, take, drop, Result, Ok, Err, IsOk, if◌then◌else◌}
 use Rattle.std.specs.Cmp.{IsEquivalence}
 use Rattle.std.specs.Int.{w32, w64, to_le_bytes, cast_unsigned}
 use Rattle.std.specs.Result.{IsOkAnd}
-use Rattle.std.specs.Str.{is_utf8}
+use Rattle.std.specs.Str.{is_utf8, bytes_eq}
 use Rattle.sketch_base.specs.Errors.{ErrorValue, invalid_argument, invalid_data, no_memory}
 use Rattle.sketch_base.specs.Fields.{le_at, signed_le_at}
 use Rattle.sketch_base.specs.declared.fault.Fault.{Fault}
@@ -101,6 +101,11 @@ text_reading bytes =
     if nat_lt (length bytes) 4 then Err InsufficientData
     else with_length (4 + le_at w32 bytes 0) (text_taken (le_at w32 bytes 0) (drop 4 bytes))
 
--- memory was refused, or the first so many bytes are no text for this fault
+-- memory was refused for a text that is there, or the first so many bytes are no text for this fault
 abbrev pub IsTextRefusal : ℕ → List ℕ → ErrorValue → Type 0
-IsTextRefusal n bytes e = (e ≡ no_memory) ⊎ ((e ≡ invalid_data e.fault) × (text_taken n bytes ≡ Err e.fault))
+IsTextRefusal n bytes e =
+    ((e ≡ no_memory) × IsOk (text_taken n bytes)) ⊎ ((e ≡ invalid_data e.fault) × (text_taken n bytes ≡ Err e.fault))
+
+-- texts are told apart, written and read by their bytes
+abbrev pub text_codec : Codec (List ℕ)
+text_codec = record { same = bytes_eq; encoding = text_encoding; reading = text_reading }

@@ -1,5 +1,5 @@
 -- A walk over a table, as a caller sees it.
-use Rattle.std.specs.Prelude.{◌≡◌, ℕ, ◌≤◌, Bool, List, [], ◌++◌, IsPermutation, Option, option_to_list, option_map}
+use Rattle.std.specs.Prelude.{◌≡◌, ℕ, ◌<◌, Bool, List, [], ◌++◌, IsPermutation, Option, None, Some, option_to_list, option_map}
 use Rattle.std.specs.Borrow.{Bor}
 use Rattle.std.specs.Iterator.{YieldsFirstBy}
 use Rattle.std.specs.List.{IsDistinct}
@@ -26,9 +26,14 @@ pub record StartsWalk {T : Type 0} (eq : T → T → Bool) (table : Table T) (wa
 abbrev pub entry_of : {T : Type 0} → Bor T × ℕ → T × ℕ
 entry_of item = (item.0.now, item.1)
 
--- the first of what was left was given, or nothing was left; the slots looked at only grow in number
+-- one slot at least is looked at for an item, and none where nothing is left
+abbrev pub LooksOn : {I : Type 0} → Option I → ℕ → ℕ → Type 0
+LooksOn None old new = new ≡ old
+LooksOn (Some item) old new = old < new
+
+-- the first of what was left was given, or nothing was left
 abbrev pub WalkGives : {T : Type 0} → Walk T → Option (Bor T × ℕ) → Walk T → Type 0
 WalkGives {T} old item new =
     YieldsFirstBy entry_of (λ (walk : Walk T). walk.rest) old item new
     × (new.given ≡ old.given ++ option_to_list (option_map entry_of item))
-    × (new.size ≡ old.size) × (old.looked ≤ new.looked)
+    × (new.size ≡ old.size) × LooksOn item old.looked new.looked

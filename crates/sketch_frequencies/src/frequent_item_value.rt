@@ -1,8 +1,8 @@
 //! Items that a sketch of frequent items can write into its image, and read from one.
-ghost use Rattle.std.specs.Prelude.{◌≡◌, ◌+◌, ◌≤◌, length, IfOk, IfErr, IsOk, OnOk, OnErr, Err, Ok};
+ghost use Rattle.std.specs.Prelude.{◌≡◌, ◌+◌, ◌^◌, ◌≤◌, length, IfOk, IfErr, IsOk, IsErrOf, OnOk, OnErr, Err, Ok};
 ghost use Rattle.std.specs.String.{string_bytes};
-ghost use Rattle.sketch_base.specs.Errors.{no_memory, invalid_data};
-ghost use Rattle.sketch_frequencies.specs.Items.{Codec, IsLawful, Writes, Reads, IsWritingRefusal, IsReadingRefusal, AddsBytes, TakesBytes, text_taken, IsTextRefusal};
+ghost use Rattle.sketch_base.specs.Errors.{no_memory, invalid_argument, invalid_data};
+ghost use Rattle.sketch_frequencies.specs.Items.{Codec, IsLawful, Writes, Reads, IsWritingRefusal, IsReadingRefusal, AddsBytes, TakesBytes, text_codec, text_encoding, text_reading, text_taken, IsTextRefusal};
 
 use sketch_base::image::check_length;
 use sketch_base::{Error, Fault, SketchBytes, SketchSlice};
@@ -132,15 +132,14 @@ impl FrequentItemValue for i64 {
 /// [`InvalidUtf8`](Fault::InvalidUtf8), and then asks for memory.
 impl FrequentItemValue for String {
     ghost use Rattle.std.proofs.Common.{rules};
-    ghost use Rattle.std.specs.Prelude.{ℕ, List, bytes_eq};
-    ghost use Rattle.sketch_frequencies.specs.Items.{text_encoding, text_reading};
+    ghost use Rattle.std.specs.Prelude.{ℕ, List};
     ghost use Rattle.sketch_frequencies.specs.ItemLaws.{text_lawful};
 
     ghost Content = { List ℕ };
 
     ghost content = { λ text. string_bytes text };
 
-    ghost codec = { record { same = bytes_eq; encoding = text_encoding; reading = text_reading } };
+    ghost codec = { text_codec };
 
     ghost alike = { Prim.search rules };
 
@@ -152,7 +151,18 @@ impl FrequentItemValue for String {
     }
 
     #[inline]
-    fn serialize_value(&self, out: &mut SketchBytes) -> Result<(), Error> {
+    fn serialize_value(&self, out: &mut SketchBytes) -> Result<(), Error>
+        ensures ok { OnOk result (Writes text_codec out.old.bytes (string_bytes self.now) out.new.bytes) }
+        ensures err { IfErr result (IsWritingRefusal text_codec (string_bytes self.now)) }
+        ensures begun { OnErr result (AddsBytes out.old.bytes out.new.bytes) }
+        ensures within { IfOk (text_encoding (string_bytes self.now))
+            (λ bytes. length out.old.bytes + length bytes ≤ out.old.capacity → IsOk result) }
+        ensures capacity { out.old.capacity ≤ out.new.capacity }
+
+        // A text that is too long is refused for that, whatever memory there is.
+        ensures too_long { 2 ^ 32 ≤ length (string_bytes self.now)
+            → IsErrOf result (invalid_argument Fault.ItemTooLong) }
+    {
         let text = self.as_bytes();
         if text.len() > u32::MAX as usize {
             return Err(Error::invalid_argument(Fault::ItemTooLong));
@@ -163,7 +173,14 @@ impl FrequentItemValue for String {
     }
 
     #[inline]
-    fn deserialize_value(alloc: Global, slice: &mut SketchSlice) -> Result<String, Error> {
+    fn deserialize_value(alloc: Global, slice: &mut SketchSlice) -> Result<String, Error>
+        ensures ok { IfOk result (λ text. Reads text_codec slice.old (string_bytes text) slice.new) }
+        ensures err { IfErr result (IsReadingRefusal text_codec slice.old) }
+        ensures within { OnErr result (TakesBytes slice.old slice.new) }
+
+        // Memory is asked for where a whole text is there, whatever length the bytes state.
+        ensures memory { IfErr result (λ e. e ≡ no_memory → IsOk (text_reading slice.old)) }
+    {
         let len = slice.read_u32_le()?;
         let text = text_of(alloc, slice.remaining(), len as usize)?;
         slice.advance(len as u64);

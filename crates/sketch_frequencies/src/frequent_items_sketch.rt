@@ -293,7 +293,10 @@ impl<T: Eq + Hash + Drop> FrequentItemsSketch<T> {
         Ok(())
     }
 
-    /// Forgets everything but the greatest size and the sample size. The memory is kept for what comes next.
+    /// Forgets everything but the greatest size and the sample size.
+    ///
+    /// No memory is taken or given back. The table keeps its array and uses 8 slots of it; when it next doubles, it
+    /// takes an array for the greater size, and gives the kept one back.
     pub fn reset(&mut self)
         ensures empty { self.new ≡ empty_state self.old.max_size self.old.sample_size }
         ensures state { IsState T.eq self.new }

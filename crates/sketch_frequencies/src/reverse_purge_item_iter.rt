@@ -56,7 +56,7 @@ impl<'a, T> ReversePurgeItemIter<'a, T> {
     }
 
     /// How many slots the walk has looked at so far: at least as many as the entries that it gave, and at most as
-    /// many as the table has.
+    /// many as the table has. Each entry that it gives makes the number greater, and a `None` leaves it as it was.
     pub fn looked_at(&self) -> usize
         ensures looked { result ≡ self.now.looked }
         ensures at_least { length self.now.given ≤ result }
