@@ -205,9 +205,11 @@ fn built(alloc: Global, builder: &BloomFilterBuilder) -> Result<BloomFilter, Err
 fn prints_its_fields(rt: HostRuntime) -> Result<(), Fail> {
     let builder = BloomFilterBuilder::with_size(100, 3).seed(5);
     let filter = built(rt.alloc(), &builder)?;
-    let text = format!(in rt.alloc(); "{builder:?} {filter:?}")?;
+    let full = BloomFilter::deserialize(rt.alloc(), &TWO_BITS)?;
+    let text = format!(in rt.alloc(); "{builder:?} {filter:?} {full:?}")?;
     let wanted = "BloomFilterBuilder { num_bits: 100, num_hashes: 3, seed: 5 } \
-        BloomFilter { capacity: 128, num_hashes: 3, seed: 5, bits_used: 0, .. }";
+        BloomFilter { capacity: 128, num_hashes: 3, seed: 5, bits_used: 0, .. } \
+        BloomFilter { capacity: 64, num_hashes: 1, seed: 9001, bits_used: 2, .. }";
     assert!(rt; text.as_str() == wanted);
     laws::union_is_set_union();
     laws::what_is_contained();
@@ -251,7 +253,7 @@ fn bits_of_altered(alloc: Global, place: u8, bytes: &[u8]) -> Result<u64, Fault>
 
 #[test]
 fn reads_altered_images(rt: HostRuntime) {
-    let rows: [(u8, [u8; 8], Result<u64, Fault>); 19] = [
+    let rows: [(u8, [u8; 8], Result<u64, Fault>); 20] = [
         (0, [4, 1, 21, 0, 1, 0, 0, 0], Ok(2)),
         (0, [2, 1, 21, 0, 1, 0, 0, 0], Err(Fault::BadPreamble)),
         (0, [5, 1, 21, 0, 1, 0, 0, 0], Err(Fault::BadPreamble)),
@@ -278,6 +280,7 @@ fn reads_altered_images(rt: HostRuntime) {
         ),
         (24, [255; 8], Ok(2)),
         (24, [3, 0, 0, 0, 0, 0, 0, 0], Err(Fault::BadBitCount)),
+        (24, [10, 0, 0, 0, 0, 0, 0, 0], Err(Fault::BadBitCount)),
         (32, [7, 0, 0, 0, 0, 0, 0, 0], Err(Fault::BadBitCount)),
     ];
     for (place, bytes, wanted) in rows {
@@ -326,25 +329,57 @@ fn writes_images(rt: HostRuntime) -> Result<(), Fail> {
     Ok(())
 }
 
-/// A filter of so many words that are all the same, of which each has two bits set.
-fn of_pairs(alloc: Global, num_words: u8, word: u8) -> Result<BloomFilter, Error> {
+/// The image of a filter of so many words that are all the same, with this count of its bits, or -1 where that is not
+/// stated.
+fn image_of(alloc: Global, num_words: u8, count: i64, word: u8) -> Result<Vec<u8>, Error> {
     let mut image = Vec::with_capacity(alloc, 128)?;
     image.extend_from_slice(&TWO_BITS[..16])?;
     image.extend_from_slice(&[num_words, 0, 0, 0, 0, 0, 0, 0])?;
-    image.extend_from_slice(&[255; 8])?;
+    image.extend_from_slice(&i64::to_le_bytes(count))?;
     for _ in 0..num_words {
         image.extend_from_slice(&[word, 0, 0, 0, 0, 0, 0, 0])?;
     }
-    BloomFilter::deserialize(alloc, &image)
+    Ok(image)
 }
 
+/// A filter of such an image.
+fn of_image(alloc: Global, num_words: u8, count: i64, word: u8) -> Result<BloomFilter, Error> {
+    BloomFilter::deserialize(alloc, &image_of(alloc, num_words, count, word)?)
+}
+
+/// A set operation.
+#[derive(Clone, Copy)]
+enum Joins {
+    Union,
+    Intersection,
+    Difference,
+}
+
+/// The image of what comes of a filter whose words are 3 and one whose words are 6.
+fn joined(alloc: Global, joins: Joins, num_words: u8, count: i64) -> Result<Vec<u8>, Error> {
+    let mut left = of_image(alloc, num_words, count, 3)?;
+    let right = of_image(alloc, num_words, count, 6)?;
+    match joins {
+        Joins::Union => left.union(&right)?,
+        Joins::Intersection => left.intersect(&right)?,
+        Joins::Difference => left.difference(&right)?,
+    }
+    left.serialize()
+}
+
+// Of the words 3 and 6 the union is 7, which has three bits, the intersection 2 and the difference 1.
 #[test]
 fn combines_sets_of_images(rt: HostRuntime) -> Result<(), Fail> {
-    for num_words in [1, 3, 4, 5, 8, 9] {
-        let words = num_words as u64;
-        let wanted = [2 * words, 2 * words, 3 * words, words, words];
-        let left = of_pairs(rt.alloc(), num_words, 3)?;
-        assert!(rt; sizes(&left, &of_pairs(rt.alloc(), num_words, 6)?)? == wanted);
+    for (num_words, count) in [(1, 2), (3, -1), (4, -1), (5, 10), (8, -1), (9, -1)] {
+        for (joins, bits, word) in [
+            (Joins::Union, 3, 7),
+            (Joins::Intersection, 1, 2),
+            (Joins::Difference, 1, 1),
+        ] {
+            let found = joined(rt.alloc(), joins, num_words, count)?;
+            let wanted = image_of(rt.alloc(), num_words, bits * num_words as i64, word)?;
+            assert!(rt; found.as_slice() == wanted.as_slice());
+        }
     }
     Ok(())
 }

@@ -267,17 +267,18 @@ fn gives_the_least_of_crowded_cells(rt: HostRuntime) -> Result<(), Fail> {
 fn of_two(alloc: Global) -> Result<CountMinSketch<i64>, Error> {
     let mut sketch = CountMinSketch::new(alloc, 4, 7)?;
     sketch.update_with_weight("apple", 5)?;
-    sketch.update_with_weight("banana", -2)?;
+    sketch.update_with_weight("banana", -3)?;
     Ok(sketch)
 }
 
+// The text is the one that a derived `Debug` has of these fields, of which no two say the same.
 #[test]
 fn shows_its_cells(rt: HostRuntime) -> Result<(), Fail> {
     let sketch = of_two(rt.alloc())?;
     let text = format!(in rt.alloc(); "{sketch:?}")?;
     let wanted =
-        "CountMinSketch { num_hashes: 4, num_buckets: 7, seed: 9001, total_weight: 7, counts: [\
-        5, 0, 0, -2, 0, 0, 0, -2, 0, 0, 5, 0, 0, 0, 0, 5, 0, 0, -2, 0, 0, 5, 0, 0, 0, -2, 0, 0] }";
+        "CountMinSketch { num_hashes: 4, num_buckets: 7, seed: 9001, total_weight: 8, counts: [\
+        5, 0, 0, -3, 0, 0, 0, -3, 0, 0, 5, 0, 0, 0, 0, 5, 0, 0, -3, 0, 0, 5, 0, 0, 0, -3, 0, 0] }";
     assert!(rt; text.as_str() == wanted);
     let shape = (sketch.num_hashes(), sketch.num_buckets(), sketch.seed());
     assert!(rt; shape == (4, 7, 9001) && sketch.estimated_size() == 28 * 8 + 4 * 8);

@@ -78,9 +78,14 @@ fn said(sketch: &FrequentItemsSketch<i64>, item: i64) -> (u64, u64, u64) {
     )
 }
 
+/// How many items the tail budget may set aside where this sketch's sample size is the least: half of it.
+fn places(sketch: &FrequentItemsSketch<i64>) -> usize {
+    sketch.sample_size() / 2
+}
+
 /// The kept counts of the items from `from` to 7, and the error for each of so many places.
-fn paid(sketch: &FrequentItemsSketch<i64>, from: i64, places: u32) -> u64 {
-    let mut paid = u64::from(places).saturating_mul(sketch.maximum_error());
+fn paid(sketch: &FrequentItemsSketch<i64>, from: i64, places: usize) -> u64 {
+    let mut paid = (places as u64).saturating_mul(sketch.maximum_error());
     for item in from..=7 {
         paid = paid.saturating_add(sketch.lower_bound(&item));
     }
@@ -192,7 +197,7 @@ fn samples_two_counters(rt: HostRuntime) -> Result<(), Fail> {
     Ok(())
 }
 
-// Items 1 to `last`, once each.
+// Items 1 to `last`, once each. One more than three quarters of the greatest size takes 1 from all, which leaves none.
 #[test]
 fn counts_distinct_items(rt: HostRuntime) -> Result<(), Fail> {
     for (size, last, wanted, wanted_sizes) in [
@@ -201,6 +206,11 @@ fn counts_distinct_items(rt: HostRuntime) -> Result<(), Fail> {
         (8, 7, (0, 1, 7), (3, 3, 8, 6, 6)),
         (16, 7, (7, 0, 7), (4, 4, 16, 12, 12)),
         (64, 7, (7, 0, 7), (4, 6, 64, 12, 48)),
+        (4096, 3072, (3072, 0, 3072), (12, 12, 4096, 3072, 3072)),
+        (4096, 3073, (0, 1, 3073), (12, 12, 4096, 3072, 3072)),
+        (65536, 24577, (24577, 0, 24577), (16, 16, 65536, 49152, 49152)),
+        (65536, 49152, (49152, 0, 49152), (16, 16, 65536, 49152, 49152)),
+        (65536, 49153, (0, 1, 49153), (16, 16, 65536, 49152, 49152)),
     ] {
         let sketch = once_each(rt.alloc(), size, last)?;
         assert!(rt; numbers(&sketch) == wanted);
@@ -218,7 +228,7 @@ fn keeps_the_heavy_item(rt: HostRuntime) -> Result<(), Fail> {
     assert!(rt; numbers(&sketch) == (1, 1, 106));
     assert!(rt; said(&sketch, 7) == (99, 100, 100));
     assert!(rt; said(&sketch, 1) == (0, 1, 0));
-    assert!(rt; paid(&sketch, 1, 3) <= 106);
+    assert!(rt; places(&sketch) == 3 && paid(&sketch, 1, 3) <= 106);
     Ok(())
 }
 
@@ -233,17 +243,28 @@ fn of_both(alloc: Global, into_light: bool) -> Result<FrequentItemsSketch<i64>, 
     }
 }
 
-/// What such a sketch says: its numbers, what is said of item 1, whether no more is paid than there was, with item 1 and
-/// without it, and its greatest size.
+/// How many items may be set aside of such a sketch: as many as of the one of the two that allows fewer.
+fn places_of_both(alloc: Global) -> Result<usize, Error> {
+    let light = once_each(alloc, 8, 7)?;
+    let heavy = of_one(alloc, 64, 1, 5)?;
+    Ok(places(&light).min(places(&heavy)))
+}
+
+/// What such a sketch says: its numbers, what is said of item 1, whether no more is paid than there was for so many
+/// places, with item 1 and without it, and its greatest size.
 fn said_of_merged(
     alloc: Global,
     into_light: bool,
+    places: usize,
 ) -> Result<((usize, u64, u64), (u64, u64, u64), (bool, bool), usize), Error> {
     let sketch = of_both(alloc, into_light)?;
     Ok((
         numbers(&sketch),
         said(&sketch, 1),
-        (paid(&sketch, 1, 3) <= 12, paid(&sketch, 2, 2) <= 6),
+        (
+            paid(&sketch, 1, places) <= 12,
+            paid(&sketch, 2, places.saturating_sub(1)) <= 6,
+        ),
         sketch.max_map_size(),
     ))
 }
@@ -251,12 +272,14 @@ fn said_of_merged(
 // The least size is 8, so three items may be set aside. With item 1 aside two places are left, and the others weigh 6.
 #[test]
 fn merges_sketches_of_unequal_sizes(rt: HostRuntime) -> Result<(), Fail> {
+    let places_aside = places_of_both(rt.alloc())?;
+    assert!(rt; places_aside == 3);
     for (into_light, size) in [(true, 8), (false, 64)] {
-        let said = said_of_merged(rt.alloc(), into_light)?;
+        let said = said_of_merged(rt.alloc(), into_light, places_aside)?;
         assert!(rt; said == ((1, 1, 12), (5, 6, 6), (true, true), size));
     }
     let empty = emptied(of_both(rt.alloc(), false)?);
-    assert!(rt; numbers(&empty) == (0, 0, 0));
+    assert!(rt; numbers(&empty) == (0, 0, 0) && places(&empty) == 24);
     assert!(rt; sizes(&empty) == (3, 6, 64, 6, 48));
     Ok(())
 }
@@ -427,10 +450,14 @@ fn add<T: Eq + Hash + Drop>(
     map.adjust_or_put_value(item, amount as u64);
 }
 
-/// The middle count that a purge takes.
-fn purge<T: Eq + Hash + Drop>(rt: &impl Abort, map: &mut ReversePurgeItemHashMap<T>) -> u64 {
-    assert!(rt; map.num_active() > 0);
-    map.purge(1024)
+/// The middle count that a purge of so large a sample takes.
+fn purge<T: Eq + Hash + Drop>(
+    rt: &impl Abort,
+    map: &mut ReversePurgeItemHashMap<T>,
+    sample_size: u8,
+) -> u64 {
+    assert!(rt; map.num_active() > 0 && sample_size > 0);
+    map.purge(sample_size as usize)
 }
 
 /// The same table in so many slots.
@@ -516,10 +543,33 @@ fn seven_items_that_feed_nothing(rt: HostRuntime) -> Result<(), Fail> {
     for count in 1u8..8 {
         add(&rt, &mut map, Mute(count as u64), count);
     }
-    assert!(rt; purge(&rt, &mut map) == 4);
+    assert!(rt; purge(&rt, &mut map, 7) == 4 && map.num_active() == 3);
     for count in 1u8..8 {
         assert!(rt; map.get(&Mute(count as u64)) == count.saturating_sub(4) as u64);
     }
+    Ok(())
+}
+
+/// How many slots were looked at for each of three items, of which the number `i` has the count `i`, in ascending order.
+fn looked_at_for_three(map: &ReversePurgeItemHashMap<Mute>) -> [usize; 3] {
+    let mut looked = [1, 2, 3].map(|item| match map.get_counted(&Mute(item)) {
+        (count, looked) if count == item => looked,
+        _ => 999,
+    });
+    looked.sort_unstable();
+    looked
+}
+
+// They stand in a row from their one home on, in an order that is left open. One that is absent is told by the free slot
+// behind them.
+#[test]
+fn three_items_that_feed_nothing(rt: HostRuntime) -> Result<(), Fail> {
+    let mut map = table(&rt, rt.alloc(), 8)?;
+    for count in 1u8..4 {
+        add(&rt, &mut map, Mute(count as u64), count);
+    }
+    assert!(rt; looked_at_for_three(&map) == [1, 2, 3]);
+    assert!(rt; map.get_counted(&Mute(4)) == (0, 4));
     Ok(())
 }
 
@@ -543,7 +593,8 @@ fn with_counts(
 fn a_cluster_round_the_end(rt: HostRuntime) -> Result<(), Fail> {
     let items = items_of_the_last_slot();
     let mut map = with_counts(&rt, rt.alloc(), &items, [0, 3, 0, 5, 1])?;
-    assert!(rt; purge(&rt, &mut map) == 1);
+    assert!(rt; purge(&rt, &mut map, 5) == 1 && map.num_active() == 2);
+    assert!(rt; items.map(|item| map.get(&item)) == [0, 2, 0, 4, 0, 0]);
     assert!(rt; map.get_counted(&items[5]) == (0, 3));
     for size in [8, 16, 4] {
         resize(&rt, &mut map, size)?;

@@ -98,3 +98,31 @@ fn reports_the_last_two_windows(rt: HostRuntime) -> Result<(), Fail> {
     }
     Ok(())
 }
+
+/// Thirty windows of each of eight tenants, of which so many are kept: in each one item, the window's number, whose weight
+/// is the tenant's number and the window's.
+fn of_eight_tenants(alloc: Global, limit: u8) -> Result<HeavyWindows<i64>, Error> {
+    let mut windows = HeavyWindows::new(alloc, limit as usize, 64)?;
+    for number in 0..30u8 {
+        for tenant in 1..=8u8 {
+            windows.turn(tenant as u64)?;
+            windows.add(tenant as u64, number as i64, tenant as u64 + number as u64)?;
+        }
+    }
+    Ok(windows)
+}
+
+// The numbers of the windows that are kept are 29, 25 to 29, and 6 to 29.
+#[test]
+fn keeps_as_many_windows_as_were_asked_for(rt: HostRuntime) -> Result<(), Fail> {
+    for (limit, sum) in [(1u8, 29u64), (5, 135), (24, 420)] {
+        let windows = of_eight_tenants(rt.alloc(), limit)?;
+        for tenant in 1..=8u8 {
+            let tenant = tenant as u64;
+            let total = limit as u64 * tenant + sum;
+            let wanted = (total, 0, limit as usize, 29, tenant + 29);
+            assert!(rt; reported(&windows, tenant)? == wanted);
+        }
+    }
+    Ok(())
+}
