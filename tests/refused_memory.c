@@ -3,12 +3,12 @@
  *
  * REFUSED_AT is the number of the request that is refused, counted from 1 over malloc, calloc and realloc; 0 refuses
  * none. With REFUSED_MARKED the requests are counted behind one for MARK_BEGIN bytes, up to one for MARK_END, which are
- * not counted themselves. REFUSED_REPORT is a file that gets three numbers at the end: how many requests there were,
- * whether one was refused, and how many blocks were not given back.
+ * not counted themselves. REFUSED_REPORT is a file that gets four numbers at the end: how many requests there were,
+ * whether one was refused, how many blocks were not given back, and how many were given back where requests were counted.
  *
  * FAILS_READ_AT and FAILS_WRITE_AT are the numbers of a read of standard input and of a write to standard output that
- * fail, and ONE_BYTE has each of these move one byte at most. Where one of the three is set, the three numbers are how
- * many reads and writes there were, whether one failed, and 0.
+ * fail, and ONE_BYTE has each of these move one byte at most. Where one of the three is set, the four numbers are how
+ * many reads and writes there were, whether one failed, 0 and 0.
  */
 #define _GNU_SOURCE
 #include <dlfcn.h>
@@ -31,6 +31,7 @@ static long refused_at;
 static long requests;
 static long refusals;
 static long blocks;
+static long given_back;
 static int loaded;
 static int counting;
 
@@ -70,9 +71,9 @@ __attribute__((destructor)) static void end(void) {
     FILE *report = path ? fopen(path, "w") : NULL;
     if (report) {
         if (streams) {
-            fprintf(report, "%ld %ld 0\n", reads + writes, failures);
+            fprintf(report, "%ld %ld 0 0\n", reads + writes, failures);
         } else {
-            fprintf(report, "%ld %ld %ld\n", requests, refusals, blocks);
+            fprintf(report, "%ld %ld %ld %ld\n", requests, refusals, blocks, given_back);
         }
         fclose(report);
     }
@@ -129,6 +130,7 @@ void *realloc(void *block, size_t size) {
 
 void free(void *block) {
     blocks -= loaded && block;
+    given_back += counting && block;
     if (real_free) {
         real_free(block);
     }

@@ -128,7 +128,7 @@ class Tests:
             print(f"failed: {name} {said}")
 
     def run(self, lines, refused_at=None, words=None, **settings):
-        """Its status, what it wrote, and the three numbers of the library, where that was loaded: of the program over the
+        """Its status, what it wrote, and the four numbers of the library, where that was loaded: of the program over the
         lines, or of the trials with these words."""
         env = {"PATH": "/usr/bin:/bin"}
         report = os.path.join(self.work, "report")
@@ -197,7 +197,7 @@ class Tests:
                     n += 1
 
     def play(self, words, refused_at):
-        """The lines of a trial, and the three numbers of its marked calls."""
+        """The lines of a trial, and the four numbers of its marked calls."""
         status, out, said, numbers = self.run(b"", refused_at, words, REFUSED_MARKED=1)
         where = f"trial {' '.join(words[:1])}, request {refused_at}:"
         self.check(f"{where} it ends", (status, said) == (0, b""), (status, said))
@@ -235,6 +235,12 @@ class Tests:
         for name, wanted in trials.QUIET.items():
             lines, numbers = self.play([name], 0)
             self.check(f"trial {name}", (lines, numbers[0]) == (wanted, 0), (lines, numbers))
+
+    def counted_calls(self):
+        """They ask for memory, and give it back, as often as they are to."""
+        for name, wanted in trials.COUNTED.items():
+            lines, numbers = self.play([name], 0)
+            self.check(f"trial {name}, counted", (numbers[0], numbers[3], lines) == wanted, (lines, numbers))
 
     def hard_items_and_ranges(self):
         for name, wanted in trials.ITEMS.items():
@@ -324,6 +330,7 @@ def main():
         windows = tests.list_of_calls("windows")
         tests.each_call()
         tests.quiet_calls()
+        tests.counted_calls()
         tests.hard_items_and_ranges()
         tests.streams_that_fail()
         tests.statuses()

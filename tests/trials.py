@@ -27,6 +27,7 @@ CALLS = {
     "table_new": ["call", "accepted"],
     "table_add_ref": [TABLE, "call", "accepted", "after", "table 7 8 3 3 3 4"],
     "table_resize": [TABLE, "call", "accepted", "after", "table 6 32 3 3 3 0"],
+    "table_double": ["table 6 8 3 0", "call", "accepted", "after", "table 6 16 3 0"],
     "table_clone": [TABLE, "call", TABLE, "after", TABLE],
     "table_entries": [TABLE, "call", "entries 6", "after", TABLE],
     "filter_new": ["call", "accepted"],
@@ -40,10 +41,13 @@ CALLS = {
     "counts_deserialize": ["call", COUNTS] * 4,
     "bytes_new": ["call", "accepted"],
     "bytes_beyond": ["call", "accepted", "bytes 12 16"],
+    # 6, three of 0, and 97 to 102
+    "bytes_write_text": ["call", "accepted", "bytes 10 603"],
+    "bytes_read_text": ["call", "text abcdef"],
 }
 
 # What a call that was refused leaves, where that is no line of the above.
-LEFT = {"bytes 12 16": "bytes 4 7"}
+LEFT = {"bytes 12 16": "bytes 4 7", "bytes 10 603": "bytes 4 6"}
 
 
 def values(bits, signed):
@@ -62,6 +66,9 @@ def values(bits, signed):
 SPAM = 0xFBCEA83C8A378BF1
 FOX = 0xE34BBC7BBC071B6C ^ 0x7A433CA9C49A9347
 OVERFLOW = "refused argument WeightOverflow"
+
+QUESTIONS = ["numbers 3 8 3 6 224", "counts 3 0 5 0"]
+WALK = ["start 3 0", "sum 10 end 0 left 0 true"]
 
 # Calls that take no memory. Hashes, positions and buckets are published, or those of a program in another language,
 # written from the public descriptions.
@@ -102,6 +109,16 @@ QUIET = {
     "quiet_updates_by_reference": ["faults" + 4 * " none", "frequent 1 0 4 6 8 4/4/4"],
     # again all counts are 1
     "quiet_purges": ["frequent 0 1 1537 1536 2048 0/0/1 0/0/1"],
+    # 2048 slots of 28 bytes; 1 and 2 more for one of 1536 items
+    "quiet_full": [
+        "numbers 1536 1536 0 1536 1536 2048 11 11 1024 57344",
+        "tracked 1 1 1",
+        "absent 0 0 0",
+        "false",
+        "faults none none",
+        "frequent 1536 0 1539 1536 2048 4/4/4 0/0/0",
+        "frequent 0 0 0 6 2048 0/0/0 0/0/0",
+    ],
     "quiet_merges": ["frequent 1 0 1 6 8 1/1/1", "frequent 0 0 0 6 8 0/0/0"],
     "quiet_frequent_refusals": [
         "faults" + 5 * " WeightOverflow",
@@ -137,9 +154,12 @@ QUIET = {
     "quiet_images": ["large" + 4 * " TableTooLarge", "seed SeedHashMismatch", "none" + 3 * " InsufficientData"],
     # the middle one of 0, 3, 3, 3 and 7 is 3
     "quiet_table_changes": ["table 5 8 7 3 0", "purged 3", "table 1 8 4 0 0"],
-    # 8 slots of 28 bytes; what is absent is told from three entries of one home by a fourth slot
-    "quiet_table_questions": ["numbers 3 8 3 6 224", "counts 3 0", "5 0 looked 4"],
-    "quiet_table_walk": ["start 3 0", "sum 10 end 0 left 0 true"],
+    # 8 slots of 28 bytes
+    "quiet_table_questions": QUESTIONS,
+    # what is absent is told from three entries of one home by a fourth slot
+    "quiet_table_looks": ["0 looked 4"],
+    "quiet_table_walk": WALK,
+    "quiet_hostile_text": ["refused data InsufficientData"],
     "quiet_new_session": ["refused NoSuchName"],
     # 1, 9 and 3 are 13, of which a half is 6, and of that 3; the margin of -9 is e times 9 / 16
     "quiet_session": 17 * ["done"]
@@ -156,6 +176,36 @@ QUIET = {
     "quiet_full_windows": ["faults none WeightOverflow"],
 }
 
+# Calls whose requests for memory are counted, and the blocks that they give back: how many of both, and what is said.
+# From 8 slots to 2048 a table doubles eight times, and asks for each new one.
+FULL = ["frequent 1536 0 1536 1536 2048 1/1/1 0/0/0"]
+COUNTED = {
+    "table_new": (1, 0, CALLS["table_new"]),
+    "table_double": (1, 1, CALLS["table_double"]),
+    "bytes_read_text": (1, 0, CALLS["bytes_read_text"]),
+    "bytes_write_text": (1, 0, CALLS["bytes_write_text"]),
+    "frequent_update": (1, 1, CALLS["frequent_update"]),
+    "frequent_serialize": (1, 0, CALLS["frequent_serialize"]),
+    "quiet_full": (0, 0, QUIET["quiet_full"]),
+    "asks_fills": (8, 8, FULL),
+    "asks_refills": (8, 8, FULL),
+    # the table alone
+    "asks_hostile_image": (1, 1, ["refused data InsufficientData"]),
+}
+
+# The sizes of a new sketch of 16 slots, an `Option` of whose items takes 16 bytes, and with seven items. An image says
+# nothing of a sample size, so what it gives back has the greatest, 12.
+SMALL = [
+    "sizes 0 12 6 16 4 3 4 224",
+    "empty true",
+    "sizes 7 12 12 16 4 4 4 448",
+    "empty false",
+    "sizes 7 12 12 16 4 4 12 448",
+    "empty false",
+    "refused data TableTooLarge",
+]
+# Of any six of the counts 1, 1, 1, 1, 1, 50 and 100 the middle one is 1.
+HEAVY = ["row 7 99 100 100", "row 6 49 50 50", "equal false true false"]
 SKETCH = [
     "frequent 4 0 16 6 8 1/1/1 5/5/5 0/0/0 1/1/1",
     "frequent 5 0 36 6 8 1/1/1 5/5/5 0/0/0 1/1/1",
@@ -226,6 +276,13 @@ ITEMS = {
     ],
     "thousands": ["bytes 49184", "frequent 3072 0 3072 3072 4096 0/0/0 1/1/1 1/1/1 0/0/0", "rows 3072"],
 }
+for item in ["mute", "unclonable", "unwritable", "letter"]:
+    ITEMS[f"{item}_sizes"] = SMALL
+    ITEMS[f"{item}_rows"] = HEAVY
+    ITEMS[f"{item}_questions"] = QUESTIONS
+    ITEMS[f"{item}_walk"] = WALK
+# 38 equals 6 here
+ITEMS["letter_rows"] = HEAVY[:2] + ["equal false true true"]
 
 # Under a limit of memory: a filter of 16 GiB, a Count-Min sketch of 8 GiB, and an image that states 2^30 slots.
 SIZES = [REFUSED, REFUSED, REFUSED, "frequent 1 0 1 6 1073741824 1/1/1"]

@@ -208,8 +208,18 @@ fn counts_distinct_items(rt: HostRuntime) -> Result<(), Fail> {
         (64, 7, (7, 0, 7), (4, 6, 64, 12, 48)),
         (4096, 3072, (3072, 0, 3072), (12, 12, 4096, 3072, 3072)),
         (4096, 3073, (0, 1, 3073), (12, 12, 4096, 3072, 3072)),
-        (65536, 24577, (24577, 0, 24577), (16, 16, 65536, 49152, 49152)),
-        (65536, 49152, (49152, 0, 49152), (16, 16, 65536, 49152, 49152)),
+        (
+            65536,
+            24577,
+            (24577, 0, 24577),
+            (16, 16, 65536, 49152, 49152),
+        ),
+        (
+            65536,
+            49152,
+            (49152, 0, 49152),
+            (16, 16, 65536, 49152, 49152),
+        ),
         (65536, 49153, (0, 1, 49153), (16, 16, 65536, 49152, 49152)),
     ] {
         let sketch = once_each(rt.alloc(), size, last)?;
@@ -792,9 +802,13 @@ fn writes_empty(alloc: Global, image: &[u8]) -> Result<bool, Error> {
     Ok(empty.serialize()?.as_slice() == image)
 }
 
-/// The numbers of a sketch of 3000 items, once each, that is written and read again.
-fn numbers_of_restored(alloc: Global) -> Result<(usize, u64, u64), Error> {
-    let sketch = once_each(alloc, 4096, 3000)?;
+/// The numbers of a sketch of the items 1 to `last`, once each, that is written and read again.
+fn numbers_of_restored(
+    alloc: Global,
+    max_map_size: usize,
+    last: i64,
+) -> Result<(usize, u64, u64), Error> {
+    let sketch = once_each(alloc, max_map_size, last)?;
     Ok(numbers(&laws::restored(alloc, &sketch)?))
 }
 
@@ -816,7 +830,12 @@ fn writes_images(rt: HostRuntime) -> Result<(), Fail> {
         assert!(rt; refused_above(rt.alloc(), &SEVEN, most_bytes) == wanted);
         assert!(rt; refused_above(rt.alloc(), &EMPTY, most_bytes) == wanted);
     }
-    assert!(rt; numbers_of_restored(rt.alloc())? == (3000, 0, 3000));
+    for (size, last, wanted) in [
+        (4096, 3000, (3000, 0, 3000)),
+        (65536, 49152, (49152, 0, 49152)),
+    ] {
+        assert!(rt; numbers_of_restored(rt.alloc(), size, last)? == wanted);
+    }
     laws::what_images_say::<i64>();
     Ok(())
 }

@@ -6,10 +6,12 @@ use crate::tell::{
 use crate::texts::{sketch_of, text, texts};
 use crate::trial::{Stopped, Trial, say, say_line};
 use datasketches::bloom::{BloomFilter, BloomFilterBuilder};
-use datasketches::codec::SketchBytes;
+use datasketches::codec::{SketchBytes, SketchSlice};
 use datasketches::countmin::CountMinSketch;
 use datasketches::error::Error;
-use datasketches::frequencies::{ErrorType, FrequentItemsSketch, ReversePurgeItemHashMap, Row};
+use datasketches::frequencies::{
+    ErrorType, FrequentItemValue, FrequentItemsSketch, ReversePurgeItemHashMap, Row,
+};
 use std::alloc::{AllocError, Global};
 use std::fmt::Write;
 
@@ -464,5 +466,39 @@ pub fn bytes_beyond(trial: &mut Trial) -> Result<(), Stopped> {
     let beyond = counted!(trial, bytes.write_u64_le(9));
     tell_outcome(trial, beyond);
     tell_bytes(trial, &bytes.into_bytes());
+    Ok(())
+}
+
+/// A text, written where there is room for its length alone.
+pub fn write_text(trial: &mut Trial) -> Result<(), Stopped> {
+    let item = text(trial.alloc, "abcdef")?;
+    let mut bytes = SketchBytes::with_capacity(trial.alloc, 4)?;
+    let written = counted!(trial, item.serialize_value(&mut bytes));
+    tell_outcome(trial, written);
+    tell_bytes(trial, &bytes.into_bytes());
+    Ok(())
+}
+
+pub fn read_text(trial: &mut Trial) -> Result<(), Stopped> {
+    let alloc = trial.alloc;
+    let mut slice = SketchSlice::new(b"\x06\0\0\0abcdefgh");
+    match counted!(trial, String::deserialize_value(alloc, &mut slice)) {
+        Ok(text) => say_line!(trial, "text {text}"),
+        Err(e) => tell_error(trial, e),
+    }
+    Ok(())
+}
+
+/// A table of as many entries as a sketch keeps in 8 slots gets 16.
+pub fn double(trial: &mut Trial) -> Result<(), Stopped> {
+    let mut map = free_table(trial.alloc, 8)?;
+    for item in 1..=6i64 {
+        put(&mut map, item, 3);
+    }
+    tell_table(trial, &map, &[1, 7]);
+    let resized = counted!(trial, grow(&mut map, 16));
+    tell_outcome(trial, resized);
+    after(trial);
+    tell_table(trial, &map, &[1, 7]);
     Ok(())
 }

@@ -20,7 +20,7 @@ use std::hash::{Hash, Hasher};
 const MARKED: u64 = 13;
 
 /// How many numbers are told apart, where not all are.
-const APART: u64 = 32;
+pub const APART: u64 = 32;
 
 /// An item that is made of a number.
 pub trait Numbered: Sized {
@@ -435,7 +435,7 @@ fn tell_table<T: FrequentItemValue + Numbered + Drop>(
     map: &ReversePurgeItemHashMap<T>,
 ) -> Result<(), Stopped> {
     let mut sum = 0u64;
-    for (_, count) in map.iter() {
+    for (_, count) in map {
         sum = sum.wrapping_add(count);
     }
     let entries = map.active_entries()?;

@@ -10,6 +10,7 @@
 //! | `windows LEFT_OUT..` | calls on the windows of tenants, without those of the given places |
 //! | those of `calls` | a call of the library that may answer want of memory, alone |
 //! | `quiet_..` | calls that take no memory |
+//! | `asks_..` | calls whose requests for memory are counted |
 //! | `mute_..`, `unclonable_..`, `unwritable_..`, `letter_..` | items that are hard to hash, to clone, to write or to tell apart |
 //! | `small_weights`, `great_weights`, `great_totals`, `thousands` | weights and totals at the ends of their types |
 //! | `sizes` | shapes of the greatest sizes |
@@ -30,6 +31,7 @@ mod quiet_table;
 mod quiet_values;
 mod ranges;
 mod session;
+mod small_calls;
 mod table;
 mod tell;
 mod texts;
@@ -85,6 +87,7 @@ fn play(trial: &mut Trial, name: &str, places: &[usize]) -> Result<(), Stopped> 
             Some(("unwritable", calls)) => play_items::<Unwritable>(trial, calls),
             Some(("letter", calls)) => play_items::<Letter>(trial, calls),
             Some(("great", values)) => play_great(trial, values),
+            Some(("asks", calls)) => play_asks(trial, calls),
             _ => Err(Stopped),
         },
     }
@@ -112,6 +115,7 @@ fn play_table(trial: &mut Trial, call: &str) -> Result<(), Stopped> {
         "new" => calls::new_table(trial),
         "add_ref" => calls::add_ref(trial),
         "resize" => calls::resize(trial),
+        "double" => calls::double(trial),
         "clone" => calls::clone_table(trial),
         "entries" => calls::entries(trial),
         _ => Err(Stopped),
@@ -142,6 +146,8 @@ fn play_bytes(trial: &mut Trial, call: &str) -> Result<(), Stopped> {
     match call {
         "new" => calls::bytes(trial),
         "beyond" => calls::bytes_beyond(trial),
+        "write_text" => calls::write_text(trial),
+        "read_text" => calls::read_text(trial),
         _ => Err(Stopped),
     }
 }
@@ -152,6 +158,7 @@ fn play_quiet(trial: &mut Trial, calls: &str) -> Result<(), Stopped> {
         "updates_of_tracked" => quiet_frequent::updates_of_tracked(trial),
         "updates_by_reference" => quiet_frequent::updates_by_reference(trial),
         "purges" => quiet_frequent::purges(trial),
+        "full" => quiet_frequent::full_sketch(trial),
         "merges" => quiet_frequent::merges(trial),
         "frequent_refusals" => quiet_frequent::frequent_refusals(trial),
         "frequent_questions" => quiet_frequent::frequent_questions(trial),
@@ -185,8 +192,10 @@ fn play_quiet_parts(trial: &mut Trial, calls: &str) -> Result<(), Stopped> {
         "signed_values" => quiet_values::signed(trial),
         "unsigned_values" => quiet_values::unsigned(trial),
         "table_changes" => quiet_table::changes(trial),
-        "table_questions" => quiet_table::questions(trial),
-        "table_walk" => quiet_table::walk(trial),
+        "table_questions" => quiet_table::questions::<Mute>(trial),
+        "table_looks" => quiet_table::looks(trial),
+        "table_walk" => quiet_table::walk::<Mute>(trial),
+        "hostile_text" => quiet_base::hostile_text(trial),
         "new_session" => quiet_session::new_session(trial),
         "session" => quiet_session::session(trial),
         "session_refusals" => quiet_session::refusals(trial),
@@ -204,6 +213,10 @@ where
     match calls {
         "sketch" => items::sketch::<T>(trial),
         "clones" => items::clones::<T>(trial),
+        "sizes" => small_calls::sizes::<T>(trial),
+        "rows" => small_calls::rows::<T>(trial),
+        "questions" => quiet_table::questions::<T>(trial),
+        "walk" => quiet_table::walk::<T>(trial),
         "marked" => items::marked::<T>(trial),
         "table" => items::table::<T>(trial),
         _ => Err(Stopped),
@@ -215,6 +228,15 @@ fn play_great(trial: &mut Trial, values: &str) -> Result<(), Stopped> {
         "small_weights" => ranges::small_weights(trial),
         "weights" => ranges::great_weights(trial),
         "totals" => ranges::great_totals(trial),
+        _ => Err(Stopped),
+    }
+}
+
+fn play_asks(trial: &mut Trial, calls: &str) -> Result<(), Stopped> {
+    match calls {
+        "fills" => quiet_frequent::fills(trial),
+        "refills" => quiet_frequent::refills(trial),
+        "hostile_image" => quiet_base::hostile_image(trial),
         _ => Err(Stopped),
     }
 }

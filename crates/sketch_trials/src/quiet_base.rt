@@ -1,11 +1,11 @@
 //! Calls of the layer under the sketches that take no memory, and those that write items.
-use crate::tell::{fault_of, kind_of, tell_bytes, tell_values};
+use crate::tell::{fault_of, kind_of, tell_bytes, tell_outcome, tell_values};
 use crate::texts::text;
 use crate::trial::{Stopped, Trial, say_line};
 use datasketches::codec::family::Family;
 use datasketches::codec::{SketchBytes, SketchSlice};
 use datasketches::error::{Error, ErrorKind, Fault};
-use datasketches::frequencies::FrequentItemValue;
+use datasketches::frequencies::{FrequentItemValue, FrequentItemsSketch};
 use datasketches::hash::{MurmurHash3X64128, XxHash64, check_seed_hash, compute_seed_hash};
 use sketch_base::image::{check_length, check_version, i32_at, u16_at, u32_at, u64_at};
 use sketch_base::{Divisor, murmur3_of, murmur3_of_u64, xxh64_of};
@@ -249,5 +249,27 @@ pub fn fields(trial: &mut Trial) -> Result<(), Stopped> {
     tell_values(trial, "fields", &numbers);
     say_line!(trial, "{remainder} by {}", divisor.divisor());
     tell_values(trial, "faults", &faults);
+    Ok(())
+}
+
+/// A text whose length is stated as 4 GiB less 1, with no byte behind it.
+pub fn hostile_text(trial: &mut Trial) -> Result<(), Stopped> {
+    let alloc = trial.alloc;
+    trial.begin();
+    let read = String::deserialize_value(alloc, &mut SketchSlice::new(b"\xFF\xFF\xFF\xFF"));
+    trial.end();
+    tell_outcome(trial, read);
+    Ok(())
+}
+
+/// The same in an image of one weight, for whose table memory is asked.
+pub fn hostile_image(trial: &mut Trial) -> Result<(), Stopped> {
+    let image =
+        b"\x04\x01\x0a\x03\x03\0\0\0\x01\0\0\0\0\0\0\0\x01\0\0\0\0\0\0\0\0\0\0\0\0\0\0\0\x01\0\0\0\0\0\0\0\xFF\xFF\xFF\xFF";
+    let alloc = trial.alloc;
+    trial.begin();
+    let made = FrequentItemsSketch::<String>::deserialize(alloc, image);
+    trial.end();
+    tell_outcome(trial, made);
     Ok(())
 }

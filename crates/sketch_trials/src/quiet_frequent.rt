@@ -58,13 +58,61 @@ pub fn updates_by_reference(trial: &mut Trial) -> Result<(), Stopped> {
     Ok(())
 }
 
-/// A sketch of as many items as it may hold, once each.
-fn full(trial: &Trial) -> Result<FrequentItemsSketch<u64>, Error> {
-    let mut sketch = FrequentItemsSketch::new(trial.alloc, 2048)?;
-    for item in 0..1536u64 {
+/// Adds as many items as a sketch of 2048 slots may hold, once each.
+fn fill(sketch: &mut FrequentItemsSketch<i64>) -> Result<(), Error> {
+    for item in 0..1536i64 {
         sketch.update(item)?;
     }
+    Ok(())
+}
+
+/// Such a sketch, which is full.
+fn full(trial: &Trial) -> Result<FrequentItemsSketch<i64>, Error> {
+    let mut sketch = FrequentItemsSketch::new(trial.alloc, 2048)?;
+    fill(&mut sketch)?;
     Ok(sketch)
+}
+
+/// Fills a sketch with its requests for memory counted.
+fn fill_counted(trial: &mut Trial, mut sketch: FrequentItemsSketch<i64>) -> Result<(), Stopped> {
+    trial.begin();
+    let filled = fill(&mut sketch);
+    trial.end();
+    filled?;
+    tell_frequent(trial, &sketch, &[0, 1536]);
+    Ok(())
+}
+
+/// A new sketch is filled: its table doubles from 8 slots to 2048.
+pub fn fills(trial: &mut Trial) -> Result<(), Stopped> {
+    let sketch = FrequentItemsSketch::new(trial.alloc, 2048)?;
+    fill_counted(trial, sketch)
+}
+
+/// The same behind a reset.
+pub fn refills(trial: &mut Trial) -> Result<(), Stopped> {
+    let mut sketch = full(trial)?;
+    sketch.reset();
+    fill_counted(trial, sketch)
+}
+
+/// All questions to a full sketch, updates by reference of an item that it tracks, and its reset.
+pub fn full_sketch(trial: &mut Trial) -> Result<(), Stopped> {
+    let mut sketch = full(trial)?;
+    tell_questions(trial, &sketch);
+    trial.begin();
+    let faults = [
+        fault_of(sketch.update_ref(&5)),
+        fault_of(sketch.update_with_count_ref(&5, 2)),
+    ];
+    trial.end();
+    tell_values(trial, "faults", &faults);
+    tell_frequent(trial, &sketch, &[5, 1536]);
+    trial.begin();
+    sketch.reset();
+    trial.end();
+    tell_frequent(trial, &sketch, &[5, 1536]);
+    Ok(())
 }
 
 /// A purge of as many counters as one ever samples.
@@ -154,17 +202,22 @@ fn seven(trial: &Trial) -> Result<FrequentItemsSketch<i64>, Error> {
 /// All questions to a sketch of numbers.
 pub fn frequent_questions(trial: &mut Trial) -> Result<(), Stopped> {
     let sketch = seven(trial)?;
+    tell_questions(trial, &sketch);
+    Ok(())
+}
+
+/// All questions to a sketch that tracks 3, and does not track -1.
+fn tell_questions(trial: &mut Trial, sketch: &FrequentItemsSketch<i64>) {
     trial.begin();
-    let numbers = frequent_numbers(&sketch);
-    let tracked = frequent_bounds(&sketch, &3);
-    let absent = frequent_bounds(&sketch, &9);
+    let numbers = frequent_numbers(sketch);
+    let tracked = frequent_bounds(sketch, &3);
+    let absent = frequent_bounds(sketch, &-1);
     let is_empty = sketch.is_empty();
     trial.end();
     tell_values(trial, "numbers", &numbers);
     tell_values(trial, "tracked", &tracked);
     tell_values(trial, "absent", &absent);
     say_line!(trial, "{is_empty}");
-    Ok(())
 }
 
 /// The bounds of texts behind a purge of seven, all of weight 1.

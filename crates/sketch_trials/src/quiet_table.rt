@@ -5,7 +5,7 @@ use crate::tell::{fault_of, tell_table, tell_values};
 use crate::texts::{text, texts};
 use crate::trial::{Stopped, Trial, say_line};
 use datasketches::error::Error;
-use datasketches::frequencies::{ReversePurgeItemHashMap, ReversePurgeItemIter};
+use datasketches::frequencies::{FrequentItemValue, ReversePurgeItemHashMap, ReversePurgeItemIter};
 use std::fmt::Write;
 
 /// Amounts for new items and tracked ones, also by reference.
@@ -33,17 +33,20 @@ pub fn changes(trial: &mut Trial) -> Result<(), Stopped> {
     Ok(())
 }
 
-/// A table of three items that feed a hasher nothing, so that all have one home.
-fn three(trial: &Trial) -> Result<ReversePurgeItemHashMap<Mute>, Error> {
+/// A table of three items.
+fn three<T>(trial: &Trial) -> Result<ReversePurgeItemHashMap<T>, Error>
+where
+    T: FrequentItemValue + Numbered + Drop,
+{
     let mut map = free_table(trial.alloc, 8)?;
-    put(&mut map, Mute::of(1), 2);
-    put(&mut map, Mute::of(2), 3);
-    put(&mut map, Mute::of(3), 5);
+    put(&mut map, T::of(1), 2);
+    put(&mut map, T::of(2), 3);
+    put(&mut map, T::of(3), 5);
     Ok(map)
 }
 
 /// A table's numbers: of its entries, of its slots, and of its memory.
-fn numbers(map: &ReversePurgeItemHashMap<Mute>) -> [usize; 5] {
+fn numbers<T: FrequentItemValue + Drop>(map: &ReversePurgeItemHashMap<T>) -> [usize; 5] {
     [
         map.num_active(),
         map.len(),
@@ -53,23 +56,39 @@ fn numbers(map: &ReversePurgeItemHashMap<Mute>) -> [usize; 5] {
     ]
 }
 
-/// All questions. One for an absent item looks at the three and a free slot.
-pub fn questions(trial: &mut Trial) -> Result<(), Stopped> {
-    let map = three(trial)?;
+/// All questions.
+pub fn questions<T>(trial: &mut Trial) -> Result<(), Stopped>
+where
+    T: FrequentItemValue + Numbered + Drop,
+{
+    let map = three::<T>(trial)?;
     trial.begin();
     let numbers = numbers(&map);
-    let counts = [map.get(&Mute::of(2)), map.get(&Mute::of(4))];
-    let present = map.get_counted(&Mute::of(3)).0;
-    let (absent, looked) = map.get_counted(&Mute::of(4));
+    let counts = [
+        map.get(&T::of(2)),
+        map.get(&T::of(4)),
+        map.get_counted(&T::of(3)).0,
+        map.get_counted(&T::of(4)).0,
+    ];
     trial.end();
     tell_values(trial, "numbers", &numbers);
     tell_values(trial, "counts", &counts);
-    say_line!(trial, "{present} {absent} looked {looked}");
+    Ok(())
+}
+
+/// Of items that feed a hasher nothing all have one home: a question for an absent one looks at the three and a free
+/// slot.
+pub fn looks(trial: &mut Trial) -> Result<(), Stopped> {
+    let map = three::<Mute>(trial)?;
+    trial.begin();
+    let (absent, looked) = map.get_counted(&Mute::of(4));
+    trial.end();
+    say_line!(trial, "{absent} looked {looked}");
     Ok(())
 }
 
 /// The count of the next entry, and 0 behind the last.
-fn next_count(walk: &mut ReversePurgeItemIter<Mute>) -> u64 {
+fn next_count<T>(walk: &mut ReversePurgeItemIter<T>) -> u64 {
     match walk.next() {
         Some((_, count)) => count,
         None => 0,
@@ -77,8 +96,11 @@ fn next_count(walk: &mut ReversePurgeItemIter<Mute>) -> u64 {
 }
 
 /// A walk past its end: how many entries are still to come, and whether it looked at as many slots as it may.
-pub fn walk(trial: &mut Trial) -> Result<(), Stopped> {
-    let map = three(trial)?;
+pub fn walk<T>(trial: &mut Trial) -> Result<(), Stopped>
+where
+    T: FrequentItemValue + Numbered + Drop,
+{
+    let map = three::<T>(trial)?;
     trial.begin();
     let mut walk = map.iter();
     let start = [walk.len(), walk.looked_at()];
