@@ -253,7 +253,7 @@ fn bits_of_altered(alloc: Global, place: u8, bytes: &[u8]) -> Result<u64, Fault>
 
 #[test]
 fn reads_altered_images(rt: HostRuntime) {
-    let rows: [(u8, [u8; 8], Result<u64, Fault>); 20] = [
+    let rows: [(u8, [u8; 8], Result<u64, Fault>); 21] = [
         (0, [4, 1, 21, 0, 1, 0, 0, 0], Ok(2)),
         (0, [2, 1, 21, 0, 1, 0, 0, 0], Err(Fault::BadPreamble)),
         (0, [5, 1, 21, 0, 1, 0, 0, 0], Err(Fault::BadPreamble)),
@@ -272,6 +272,7 @@ fn reads_altered_images(rt: HostRuntime) {
             [255, 255, 255, 255, 0, 0, 0, 0],
             Err(Fault::BadNumWords),
         ),
+        (16, [0, 0, 0, 128, 0, 0, 0, 0], Err(Fault::BadNumWords)),
         (16, [2, 0, 0, 0, 0, 0, 0, 0], Err(Fault::InsufficientData)),
         (
             16,
