@@ -67,6 +67,7 @@ module _ {T : Type 0} (eq : T → T → Bool) where
       let encloses = (is.stands hs z).encloses in
       All-weaker (Shows eq kind threshold merged)
       (λ (row : RowValue T). (row.lower_bound ≤ true_weight eq h row.item) × (true_weight eq h row.item ≤ row.upper_bound))
-      (λ row shown.
-      (subst (λ (n : ℕ). n ≤ true_weight eq h row.item) (sym shown.lower_bound) (encloses.at_least row.item),
-      subst (λ (n : ℕ). true_weight eq h row.item ≤ n) (sym shown.upper_bound) (encloses.at_most row.item))) rows exact.shown
+      (λ row shown. (
+        subst (λ (n : ℕ). n ≤ true_weight eq h row.item) (sym shown.lower_bound) (encloses.at_least row.item),
+        subst (λ (n : ℕ). true_weight eq h row.item ≤ n) (sym shown.upper_bound) (encloses.at_most row.item),
+      )) rows exact.shown

@@ -1,0 +1,13 @@
+//! The items that weigh most.
+use sketch_frequencies::{Error, ErrorType, FrequentItemsSketch};
+use std::alloc::Global;
+
+/// The greatest estimate among the numbers.
+pub fn heaviest(alloc: Global, numbers: &[u64]) -> Result<Option<u64>, Error> {
+    let mut sketch = FrequentItemsSketch::new(alloc, 64)?;
+    for number in numbers {
+        sketch.update(*number)?;
+    }
+    let rows = sketch.frequent_items(ErrorType::NoFalsePositives)?;
+    Ok(rows.first().map(|row| row.estimate()))
+}

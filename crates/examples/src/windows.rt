@@ -1,0 +1,12 @@
+//! Heavy hitters of each customer.
+use heavy_windows::{Error, ErrorType, HeavyWindows, Report};
+use std::alloc::Global;
+
+/// What the load of customer 7 was made of.
+pub fn load_of_a_customer(alloc: Global) -> Result<Report<&'static str>, Error> {
+    let mut load = HeavyWindows::new(alloc, 24, 1024)?;
+    load.add(7, "/search", 5_300)?;
+    load.turn(7)?;
+    load.add(7, "/search", 1_200)?;
+    load.report(7, ErrorType::NoFalsePositives, 1_000)
+}
