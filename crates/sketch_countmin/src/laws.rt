@@ -1,10 +1,11 @@
 //! Laws that follow from the contracts of the calls.
-ghost use Rattle.std.specs.Prelude.{◌≡◌, ℕ, ℤ, List, ◌+◌, ◌-ℤ◌, ◌<◌, ◌≤◌, ◌↔◌, IfOk, IfErr, OnOk, OnErr, IsOk, IsErrOf, IsTrue, IsOkAnd};
+ghost use Rattle.std.specs.Prelude.{◌≡◌, ℕ, ℤ, pos, List, ◌+◌, ◌-ℤ◌, ◌<◌, ◌≤◌, ◌≤ℤ◌, ◌↔◌, IfOk, IfErr, OnOk, OnErr, IsOk, IsErrOf, IsTrue, IsOkAnd};
 ghost use Rattle.sketch_base.specs.Errors.{invalid_argument, no_memory};
-ghost use Rattle.sketch_countmin.specs.History.{CountHistory, IsExact, followed_by, own_value, others_share};
+ghost use Rattle.sketch_countmin.specs.History.{CountHistory, IsExact, IsNonnegative, followed_by, own_value, others_share};
 ghost use Rattle.sketch_countmin.specs.Laws.{SpelledIsImage, ImageIsOfOne, ImageIsOfSome, ImageIsWithinLimits};
+ghost use Rattle.sketch_countmin.specs.Rows.{cell_at};
 ghost use Rattle.sketch_countmin.specs.Stands.{StandsFor};
-ghost use Rattle.sketch_countmin.specs.State.{CountState, SameShape, Joins, IsLeast, IsLeastCell};
+ghost use Rattle.sketch_countmin.specs.State.{CountState, IsCountState, SameShape, Joins, IsLeast, IsLeastCell};
 
 use crate::count_min_sketch::CountMinSketch;
 use crate::count_min_value::CountMinValue;
@@ -37,12 +38,20 @@ pub fn merge_as_one_stream<T: CountMinValue>(
     Ok(*first == *stream)
 }
 
-/// How far the least cell of an item is above the item's own share, where nothing was halved or decayed: by the least,
-/// over the rows, of what the other items of its buckets share. It does nothing.
+/// What the least cell of an item says. It does nothing.
+///
+/// Where no weight was below zero, the cell is at least the item's own share of the history and at most the total, also
+/// after halving and decay. Where nothing was halved or decayed, it is above the own share by the least, over the rows,
+/// of what the other items of its buckets share. And where the total is 0, every cell is 0.
 pub fn what_the_least_cell_says()
+    ensures encloses { (s : CountState) (h : CountHistory) (bytes : List ℕ) (least : ℤ)
+        → 0 < s.buckets → StandsFor s h → IsNonnegative h → IsLeastCell s bytes least
+        → (own_value h bytes ≤ℤ least) × (least ≤ℤ pos s.total) }
     ensures raised { (s : CountState) (h : CountHistory) (bytes : List ℕ) (least : ℤ)
         → 0 < s.buckets → StandsFor s h → IsExact h → IsLeastCell s bytes least
         → IsLeast s.hashes (others_share s.buckets s.seed h bytes) (least -ℤ own_value h bytes) }
+    ensures empty { (greatest : ℕ) (s : CountState) → IsCountState greatest s → s.total ≡ 0
+        → (r b : ℕ) → cell_at s.rows r b ≡ pos 0 }
 {}
 
 /// Writes a value as bytes and reads it back: it is the same number.
