@@ -1,5 +1,5 @@
 -- What a named sketch stands for, and what follows for each kind.
-use Rattle.std.proofs.Common.{◌≡◌, ℕ, Bool, true, List, Option, Some, subst, inl, inr}
+use Rattle.std.proofs.Common.{◌≡◌, ℕ, ◌<◌, Bool, true, List, Option, Some, subst, inl, inr, arith}
 use Rattle.std.specs.Prelude.{◌↔◌}
 use Rattle.std.proofs.lemmas.Cmp.{nat_cmp_total}
 use Rattle.std.specs.FinSet as set
@@ -8,11 +8,12 @@ use Rattle.sketch_bloom.specs.History.{BloomHistory, denoted_set}
 use Rattle.sketch_bloom.specs.State.{FilterState, item_positions, contains_item}
 use Rattle.sketch_countmin.specs.History.{CountHistory}
 use Rattle.sketch_countmin.specs.Stands as count
-use Rattle.sketch_countmin.specs.State.{CountState}
+use Rattle.sketch_countmin.specs.State.{CountState, IsCountState}
 use Rattle.sketch_frequencies.specs.Items.{Codec}
 use Rattle.datasketches.specs.Fits.{Paired}
 use Rattle.datasketches.specs.Histories.{History}
 use Rattle.datasketches.specs.Laws.{IsNamed, IsCounted}
+use Rattle.datasketches.specs.Replies.{greatest_signed, greatest_unsigned}
 use Rattle.datasketches.specs.Stands.{StandsFor}
 use Rattle.datasketches.specs.declared.sketch.Sketch.{Sketch}
 
@@ -26,8 +27,17 @@ module _ {T C : Type 0} (eq : T → T → Bool) (codec : Codec C) (content : T �
 
   -- a Count-Min sketch of either kind
   pub counted_stands : (s : CountState) (h : CountHistory) → IsCounted eq codec content s h → count.StandsFor s h
-  counted_stands s h (inl is) = named_stands _ _ is
-  counted_stands s h (inr is) = named_stands _ _ is
+  counted_stands s h (inl is) = (named_stands _ _ is).stands
+  counted_stands s h (inr is) = (named_stands _ _ is).stands
+
+  -- is one that may be, over its type of numbers
+  pub counted_state : (s : CountState) (h : CountHistory) → IsCounted eq codec content s h → (greatest : ℕ) × IsCountState greatest s
+  counted_state s h (inl is) = (greatest_signed, (named_stands _ _ is).state)
+  counted_state s h (inr is) = (greatest_unsigned, (named_stands _ _ is).state)
+
+  -- so it has buckets
+  pub counted_buckets : (s : CountState) (h : CountHistory) → IsCounted eq codec content s h → 0 < s.buckets
+  counted_buckets s h is = let state = counted_state s h is in omega (arith, state.1.some_buckets)
 
 -- a set is part of another where that one has each of its members
 part_by_members : (s t : Numbers) → (set.is_subset s t ≡ true) ↔ ((p : ℕ) → set.contains s p ≡ true → set.contains t p ≡ true)

@@ -7,11 +7,10 @@ use Rattle.sketch_base.specs.Errors.{no_memory}
 use Rattle.sketch_base.specs.declared.fault.Fault.{Fault}
 use Rattle.sketch_bloom.specs.Image as bloom
 use Rattle.sketch_bloom.specs.Laws as bloom_laws
-use Rattle.sketch_bloom.specs.State.{FilterState}
+use Rattle.sketch_bloom.specs.State.{FilterState, IsFilterState}
 use Rattle.sketch_countmin.specs.Image as count
 use Rattle.sketch_countmin.specs.Laws as count_laws
-use Rattle.sketch_countmin.specs.State.{CountState}
-use Rattle.sketch_countmin.specs.Stands as count_stands
+use Rattle.sketch_countmin.specs.State.{CountState, IsCountState}
 use Rattle.sketch_countmin.specs.History as count_history
 use Rattle.sketch_frequencies.specs.Image as frequent
 use Rattle.sketch_frequencies.specs.Items.{Codec}
@@ -21,16 +20,18 @@ use Rattle.datasketches.specs.Histories.{History}
 use Rattle.datasketches.specs.Histories.History.{OfFrequent, OfCountI64, OfCountU64, OfBloom}
 use Rattle.datasketches.specs.Images.{IsImageOf, IsCountImage, IsWrittenBy, IsReadFrom, IsReadRefusal, GivesBack}
 use Rattle.datasketches.specs.Replies.{least_signed, greatest_signed, least_unsigned, greatest_unsigned}
-use Rattle.datasketches.specs.Stands.{StandsFor}
+use Rattle.datasketches.specs.Stands.{StandsFor, KeepsCounts}
 use Rattle.datasketches.specs.declared.image.Image.{Image}
 use Rattle.datasketches.specs.declared.image.Image.TheVariants as image
 use Rattle.datasketches.specs.declared.sketch.Sketch.{Sketch}
 use Rattle.datasketches.specs.declared.sketch.Sketch.TheVariants.{Frequent, CountI64, CountU64, Bloom}
 
 -- a Count-Min sketch that was read under the saved sketch's seed gives back what was saved
-count_back : (least : ℤ) (greatest seed : ℕ) (bytes : List ℕ) (new : CountState) (h : count_history.CountHistory) → count_laws.SpelledIsImage least greatest → count.Restores least greatest seed bytes new → IsCountImage least greatest seed bytes h → count_stands.StandsFor new (count_history.Restored h)
-count_back least greatest seed bytes new h spelled restores i =
-    restores i.sketch (subst (λ (s : ℕ). count.IsImage least greatest s bytes i.sketch) (sym i.seed_is) (spelled bytes i.sketch i.spelled)) h i.stands
+count_back : (least : ℤ) (greatest seed : ℕ) (bytes : List ℕ) (new : CountState) (h : count_history.CountHistory) → count_laws.SpelledIsImage least greatest → IsCountState greatest new → count.Restores least greatest seed bytes new → IsCountImage least greatest seed bytes h → KeepsCounts greatest new (count_history.Restored h)
+count_back least greatest seed bytes new h spelled state restores i = record {
+  state = state;
+  stands = restores i.sketch (subst (λ (s : ℕ). count.IsImage least greatest s bytes i.sketch) (sym i.seed_is) (spelled bytes i.sketch i.spelled)) h i.stands;
+}
 
 -- a smaller table holds fewer counters
 few_within : (n size most : ℕ) → n ≤ capacity size → size ≤ most → n ≤ capacity most
@@ -43,25 +44,25 @@ or_else_none (Some fault) late e = cc
 
 module _ {T C : Type 0} (eq : T → T → Bool) (codec : Codec C) (content : T → C) where
   -- a filter that was read gives back what was saved
-  pub filter_back : bloom_laws.SpelledIsImage → (bytes : Vec ℕ Global) (filter : FilterState) → bloom.Restores bytes.items filter → GivesBack eq codec content (image.Bloom bytes) (Bloom filter)
-  filter_back spelled bytes filter restores (OfBloom h) i = restores i.filter (spelled bytes.items i.filter i.spelled) h i.stands
-  filter_back spelled bytes filter restores (OfFrequent h) i = absurd i
-  filter_back spelled bytes filter restores (OfCountI64 h) i = absurd i
-  filter_back spelled bytes filter restores (OfCountU64 h) i = absurd i
+  pub filter_back : bloom_laws.SpelledIsImage → (bytes : Vec ℕ Global) (filter : FilterState) → IsFilterState filter → bloom.Restores bytes.items filter → GivesBack eq codec content (image.Bloom bytes) (Bloom filter)
+  filter_back spelled bytes filter state restores (OfBloom h) i = record { state = state; stands = restores i.filter (spelled bytes.items i.filter i.spelled) h i.stands }
+  filter_back spelled bytes filter state restores (OfFrequent h) i = absurd i
+  filter_back spelled bytes filter state restores (OfCountI64 h) i = absurd i
+  filter_back spelled bytes filter state restores (OfCountU64 h) i = absurd i
 
   -- so does a Count-Min sketch
-  pub signed_back : count_laws.SpelledIsImage least_signed greatest_signed → (seed : ℕ) (bytes : Vec ℕ Global) (new : CountState) → count.Restores least_signed greatest_signed seed bytes.items new → GivesBack eq codec content (image.CountI64 seed bytes) (CountI64 new)
-  signed_back spelled seed bytes new restores (OfCountI64 h) i = count_back least_signed greatest_signed seed bytes.items new h spelled restores i
-  signed_back spelled seed bytes new restores (OfFrequent h) i = absurd i
-  signed_back spelled seed bytes new restores (OfCountU64 h) i = absurd i
-  signed_back spelled seed bytes new restores (OfBloom h) i = absurd i
+  pub signed_back : count_laws.SpelledIsImage least_signed greatest_signed → (seed : ℕ) (bytes : Vec ℕ Global) (new : CountState) → IsCountState greatest_signed new → count.Restores least_signed greatest_signed seed bytes.items new → GivesBack eq codec content (image.CountI64 seed bytes) (CountI64 new)
+  signed_back spelled seed bytes new state restores (OfCountI64 h) i = count_back least_signed greatest_signed seed bytes.items new h spelled state restores i
+  signed_back spelled seed bytes new state restores (OfFrequent h) i = absurd i
+  signed_back spelled seed bytes new state restores (OfCountU64 h) i = absurd i
+  signed_back spelled seed bytes new state restores (OfBloom h) i = absurd i
 
   -- so does a Count-Min sketch
-  pub unsigned_back : count_laws.SpelledIsImage least_unsigned greatest_unsigned → (seed : ℕ) (bytes : Vec ℕ Global) (new : CountState) → count.Restores least_unsigned greatest_unsigned seed bytes.items new → GivesBack eq codec content (image.CountU64 seed bytes) (CountU64 new)
-  unsigned_back spelled seed bytes new restores (OfCountU64 h) i = count_back least_unsigned greatest_unsigned seed bytes.items new h spelled restores i
-  unsigned_back spelled seed bytes new restores (OfFrequent h) i = absurd i
-  unsigned_back spelled seed bytes new restores (OfCountI64 h) i = absurd i
-  unsigned_back spelled seed bytes new restores (OfBloom h) i = absurd i
+  pub unsigned_back : count_laws.SpelledIsImage least_unsigned greatest_unsigned → (seed : ℕ) (bytes : Vec ℕ Global) (new : CountState) → IsCountState greatest_unsigned new → count.Restores least_unsigned greatest_unsigned seed bytes.items new → GivesBack eq codec content (image.CountU64 seed bytes) (CountU64 new)
+  unsigned_back spelled seed bytes new state restores (OfCountU64 h) i = count_back least_unsigned greatest_unsigned seed bytes.items new h spelled state restores i
+  unsigned_back spelled seed bytes new state restores (OfFrequent h) i = absurd i
+  unsigned_back spelled seed bytes new state restores (OfCountI64 h) i = absurd i
+  unsigned_back spelled seed bytes new state restores (OfBloom h) i = absurd i
 
   -- so does a sketch of frequent items
   pub frequent_back : frequent_laws.SpelledIsImage codec → (bytes : Vec ℕ Global) (new : FrequentState T) → IsState eq new → frequent.Restores codec content eq bytes.items new → frequent.RestoresBudget codec content eq bytes.items new → GivesBack eq codec content (image.Frequent bytes) (Frequent new)
@@ -69,6 +70,7 @@ module _ {T C : Type 0} (eq : T → T → Bool) (codec : Codec C) (content : T �
       let was = spelled bytes.items _ i.spelled in
       let stands = restores i.sketch was h i.encloses in
       record {
+        state = state;
         few = few_within _ _ _ state.few (subst (λ (n : ℕ). new.size ≤ n) stands.encloses.max_size state.within);
         stands = stands;
         budget = budgets i.sketch was h i.encloses i.budget;
@@ -86,21 +88,21 @@ module _ {T C : Type 0} (eq : T → T → Bool) (codec : Codec C) (content : T �
   saved_stands (Frequent s) (image.CountI64 seed bytes) h written stands = absurd written
   saved_stands (Frequent s) (image.CountU64 seed bytes) h written stands = absurd written
   saved_stands (Frequent s) (image.Bloom bytes) h written stands = absurd written
-  saved_stands (CountI64 s) (image.CountI64 seed bytes) (OfCountI64 h) written stands = record { sketch = s; seed_is = written.0; spelled = written.1; stands = stands }
+  saved_stands (CountI64 s) (image.CountI64 seed bytes) (OfCountI64 h) written stands = record { sketch = s; seed_is = written.0; spelled = written.1; stands = stands.stands }
   saved_stands (CountI64 s) (image.CountI64 seed bytes) (OfFrequent h) written stands = absurd stands
   saved_stands (CountI64 s) (image.CountI64 seed bytes) (OfCountU64 h) written stands = absurd stands
   saved_stands (CountI64 s) (image.CountI64 seed bytes) (OfBloom h) written stands = absurd stands
   saved_stands (CountI64 s) (image.Frequent bytes) h written stands = absurd written
   saved_stands (CountI64 s) (image.CountU64 seed bytes) h written stands = absurd written
   saved_stands (CountI64 s) (image.Bloom bytes) h written stands = absurd written
-  saved_stands (CountU64 s) (image.CountU64 seed bytes) (OfCountU64 h) written stands = record { sketch = s; seed_is = written.0; spelled = written.1; stands = stands }
+  saved_stands (CountU64 s) (image.CountU64 seed bytes) (OfCountU64 h) written stands = record { sketch = s; seed_is = written.0; spelled = written.1; stands = stands.stands }
   saved_stands (CountU64 s) (image.CountU64 seed bytes) (OfFrequent h) written stands = absurd stands
   saved_stands (CountU64 s) (image.CountU64 seed bytes) (OfCountI64 h) written stands = absurd stands
   saved_stands (CountU64 s) (image.CountU64 seed bytes) (OfBloom h) written stands = absurd stands
   saved_stands (CountU64 s) (image.Frequent bytes) h written stands = absurd written
   saved_stands (CountU64 s) (image.CountI64 seed bytes) h written stands = absurd written
   saved_stands (CountU64 s) (image.Bloom bytes) h written stands = absurd written
-  saved_stands (Bloom s) (image.Bloom bytes) (OfBloom h) written stands = record { filter = s; spelled = written; stands = stands }
+  saved_stands (Bloom s) (image.Bloom bytes) (OfBloom h) written stands = record { filter = s; spelled = written; stands = stands.stands }
   saved_stands (Bloom s) (image.Bloom bytes) (OfFrequent h) written stands = absurd stands
   saved_stands (Bloom s) (image.Bloom bytes) (OfCountI64 h) written stands = absurd stands
   saved_stands (Bloom s) (image.Bloom bytes) (OfCountU64 h) written stands = absurd stands

@@ -1,20 +1,21 @@
 -- What a session that fits its histories says of each sketch, kind by kind.
-use Rattle.std.specs.Prelude.{◌≡◌, ◌↔◌, ℕ, ℤ, ◌*◌, ◌+◌, ◌<◌, ◌≤◌, ◌-ℤ◌, ◌⊎◌, Bool, true, List, length, Some}
+use Rattle.std.specs.Prelude.{◌≡◌, ◌↔◌, ℕ, ℤ, pos, ◌*◌, ◌+◌, ◌<◌, ◌≤◌, ◌-ℤ◌, ◌≤ℤ◌, ◌⊎◌, Bool, true, false, List, length, Some}
 use Rattle.std.specs.FinSet as set
 use Rattle.sketch_bloom.specs.History.{BloomHistory, denoted_set}
-use Rattle.sketch_bloom.specs.State.{FilterState, item_positions, contains_item}
-use Rattle.sketch_countmin.specs.History.{CountHistory, IsExact, cell_share, own_value, others_share}
+use Rattle.sketch_bloom.specs.State.{FilterState, IsFilterState, item_positions, contains_item}
+use Rattle.sketch_countmin.specs.History.{CountHistory, IsExact, IsNonnegative, absolute_weight, cell_share, own_value, others_share}
 use Rattle.sketch_countmin.specs.Rows.{cell_at}
-use Rattle.sketch_countmin.specs.State.{CountState, IsLeast, IsLeastCell}
+use Rattle.sketch_countmin.specs.State.{CountState, IsCountState, IsLeast, IsLeastCell}
 use Rattle.sketch_frequencies.specs.History.{FrequentHistory, true_weight, total_weight, own_size, least_size, own_sample, least_sample, HasUsualSamples}
 use Rattle.sketch_frequencies.specs.Items.{Codec}
 use Rattle.sketch_frequencies.specs.Stands.{HasFewItems, KeepsTailBudget}
-use Rattle.sketch_frequencies.specs.State.{FrequentState, capacity}
-use Rattle.sketch_frequencies.specs.Tables.{count_of}
+use Rattle.sketch_frequencies.specs.State.{FrequentState, IsState, capacity}
+use Rattle.sketch_frequencies.specs.Tables.{count_of, sum_of}
 use Rattle.datasketches.specs.Fits.{Fits}
 use Rattle.datasketches.specs.Histories.{History, Assignment, after_one}
 use Rattle.datasketches.specs.Histories.History.{OfFrequent, OfCountI64, OfCountU64, OfBloom}
 use Rattle.datasketches.specs.Names.{at_name}
+use Rattle.datasketches.specs.Replies.{greatest_signed, greatest_unsigned}
 use Rattle.datasketches.specs.State.{SessionState}
 use Rattle.datasketches.specs.Steps.{Step}
 use Rattle.datasketches.specs.declared.command.Command.{Command}
@@ -31,6 +32,15 @@ module _ {T C : Type 0} (eq : T → T → Bool) (codec : Codec C) (content : T �
     pub fits : Fits eq codec content session histories
     pub sketch_is : at_name name session.sketches ≡ Some sketch
     pub history_is : histories.sketches name ≡ Some h
+
+  -- it is a sketch that may be
+  abbrev pub FrequentIsState : Type 0
+  FrequentIsState = (s : FrequentState T) (h : FrequentHistory T) → IsNamed (Frequent s) (OfFrequent h) → IsState eq s
+
+  -- all counts and the error together are at most the total weight
+  abbrev pub KeptWithinTotal : Type 0
+  KeptWithinTotal = (s : FrequentState T) (h : FrequentHistory T) → IsNamed (Frequent s) (OfFrequent h)
+      → sum_of s.counters + s.error ≤ total_weight h
 
   -- at most three quarters of its own greatest size are counters
   abbrev pub HoldsFew : Type 0
@@ -72,6 +82,19 @@ module _ {T C : Type 0} (eq : T → T → Bool) (codec : Codec C) (content : T �
   LargeSketchErrsLittle = (s : FrequentState T) (h : FrequentHistory T) → IsNamed (Frequent s) (OfFrequent h)
       → HasUsualSamples h → 1024 < least_size h → 512 * s.error ≤ total_weight h
 
+  -- a filter is one that may be
+  abbrev pub FilterIsState : Type 0
+  FilterIsState = (s : FilterState) (h : BloomHistory) → IsNamed (Bloom s) (OfBloom h) → IsFilterState s
+
+  -- its set is the one that its history denotes
+  abbrev pub HoldsWhatIsDenoted : Type 0
+  HoldsWhatIsDenoted = (s : FilterState) (h : BloomHistory) → IsNamed (Bloom s) (OfBloom h) → s.set ≡ denoted_set h
+
+  -- where the set is empty, it contains nothing
+  abbrev pub EmptyContainsNothing : Type 0
+  EmptyContainsNothing = (s : FilterState) (h : BloomHistory) → IsNamed (Bloom s) (OfBloom h) → s.set ≡ set.empty
+      → (bytes : List ℕ) → contains_item s bytes ≡ false
+
   -- a filter contains an item exactly where the set that its history denotes has each of the item's positions
   abbrev pub ContainsWhatIsDenoted : Type 0
   ContainsWhatIsDenoted = (s : FilterState) (h : BloomHistory) → IsNamed (Bloom s) (OfBloom h) → (bytes : List ℕ)
@@ -82,6 +105,28 @@ module _ {T C : Type 0} (eq : T → T → Bool) (codec : Codec C) (content : T �
   abbrev pub IsCounted : CountState → CountHistory → Type 0
   IsCounted s h = IsNamed (CountI64 s) (OfCountI64 h) ⊎ IsNamed (CountU64 s) (OfCountU64 h)
 
+  -- it is a sketch that may be, over its type of numbers
+  abbrev pub CountIsState : Type 0
+  CountIsState = (s : CountState) (h : CountHistory)
+      → (IsNamed (CountI64 s) (OfCountI64 h) → IsCountState greatest_signed s)
+      × (IsNamed (CountU64 s) (OfCountU64 h) → IsCountState greatest_unsigned s)
+
+  -- the total is the weight of the history, each weight as its distance from zero
+  abbrev pub TotalIsWeight : Type 0
+  TotalIsWeight = (s : CountState) (h : CountHistory) → IsCounted s h → s.total ≡ absolute_weight h
+
+  -- where that is 0, every cell is 0
+  abbrev pub EmptyCountsNothing : Type 0
+  EmptyCountsNothing = (s : CountState) (h : CountHistory) → IsCounted s h → absolute_weight h ≡ 0
+      → (r b : ℕ) → cell_at s.rows r b ≡ pos 0
+
+  -- where no weight was below zero, also after halving and decay: an item's own value is at most its least cell, and that
+  -- is at most the total weight
+  abbrev pub LeastCellEncloses : Type 0
+  LeastCellEncloses = (s : CountState) (h : CountHistory) → IsCounted s h → IsNonnegative h
+      → (bytes : List ℕ) (least : ℤ) → IsLeastCell s bytes least
+      → (own_value h bytes ≤ℤ least) × (least ≤ℤ pos (absolute_weight h))
+
   -- each cell is its bucket's share
   abbrev pub CellsAreShares : Type 0
   CellsAreShares = (s : CountState) (h : CountHistory) → IsCounted s h
@@ -90,7 +135,7 @@ module _ {T C : Type 0} (eq : T → T → Bool) (codec : Codec C) (content : T �
   -- where nothing was halved or decayed, an item's least cell is above its own share by the least, over the rows, of
   -- what the other items of its buckets share
   abbrev pub LeastCellIsRaisedByOthers : Type 0
-  LeastCellIsRaisedByOthers = (s : CountState) (h : CountHistory) → IsCounted s h → 0 < s.buckets → IsExact h
+  LeastCellIsRaisedByOthers = (s : CountState) (h : CountHistory) → IsCounted s h → IsExact h
       → (bytes : List ℕ) (least : ℤ) → IsLeastCell s bytes least
       → IsLeast s.hashes (others_share s.buckets s.seed h bytes) (least -ℤ own_value h bytes)
 

@@ -1,31 +1,46 @@
 -- What a sketch says of its history, and how a command keeps it.
-use Rattle.std.specs.Prelude.{◌≡◌, ◌≤◌, Bool, true, false, length}
+use Rattle.std.specs.Prelude.{◌≡◌, ◌≤◌, ℕ, Bool, true, false, length}
+use Rattle.sketch_bloom.specs.History.{BloomHistory}
 use Rattle.sketch_bloom.specs.Stands as bloom
+use Rattle.sketch_bloom.specs.State.{FilterState, IsFilterState}
+use Rattle.sketch_countmin.specs.History.{CountHistory}
 use Rattle.sketch_countmin.specs.Stands as count
+use Rattle.sketch_countmin.specs.State.{CountState, IsCountState}
 use Rattle.sketch_frequencies.specs.History.{FrequentHistory, own_size}
 use Rattle.sketch_frequencies.specs.Stands as frequent
-use Rattle.sketch_frequencies.specs.State.{FrequentState, capacity}
+use Rattle.sketch_frequencies.specs.State.{FrequentState, IsState, capacity}
 use Rattle.datasketches.specs.Histories.{History}
 use Rattle.datasketches.specs.Histories.History.{OfFrequent, OfCountI64, OfCountU64, OfBloom}
-use Rattle.datasketches.specs.Replies.{is_refused}
+use Rattle.datasketches.specs.Replies.{is_refused, greatest_signed, greatest_unsigned}
 use Rattle.datasketches.specs.declared.reply.Reply.{Reply}
 use Rattle.datasketches.specs.declared.sketch.Sketch.{Sketch}
 use Rattle.datasketches.specs.declared.sketch.Sketch.TheVariants.{Frequent, CountI64, CountU64, Bloom}
 
+-- a Count-Min sketch over numbers up to the greatest is one that may be, and one of this history
+pub record KeepsCounts (greatest : ℕ) (s : CountState) (h : CountHistory) : Type 0 where
+  pub state : IsCountState greatest s
+  pub stands : count.StandsFor s h
+
+-- a filter is one that may be, and one of this history
+pub record KeepsPositions (s : FilterState) (h : BloomHistory) : Type 0 where
+  pub state : IsFilterState s
+  pub stands : bloom.StandsFor s h
+
 module _ {T : Type 0} (eq : T → T → Bool) where
-  -- a sketch of frequent items holds at most three quarters of its greatest size in counters, encloses every true
-  -- weight within its error, samples as its history says, and keeps the tail budget
+  -- a sketch of frequent items is one that may be, holds at most three quarters of its greatest size in counters,
+  -- encloses every true weight within its error, samples as its history says, and keeps the tail budget
   pub record KeepsPromise (s : FrequentState T) (h : FrequentHistory T) : Type 0 where
+    pub state : IsState eq s
     pub few : length s.counters ≤ capacity (own_size h)
     pub stands : frequent.StandsFor eq s h
     pub budget : frequent.KeepsTailBudget eq s h
 
-  -- the sketch is one of this history
+  -- the sketch is one that may be, and one of this history
   abbrev pub StandsFor : Sketch T → History T → Type 0
   StandsFor (Frequent s) (OfFrequent h) = KeepsPromise s h
-  StandsFor (CountI64 s) (OfCountI64 h) = count.StandsFor s h
-  StandsFor (CountU64 s) (OfCountU64 h) = count.StandsFor s h
-  StandsFor (Bloom s) (OfBloom h) = bloom.StandsFor s h
+  StandsFor (CountI64 s) (OfCountI64 h) = KeepsCounts greatest_signed s h
+  StandsFor (CountU64 s) (OfCountU64 h) = KeepsCounts greatest_unsigned s h
+  StandsFor (Bloom s) (OfBloom h) = KeepsPositions s h
   StandsFor _ _ = ⊥
 
   -- whatever the sketch stood for, it now stands for what the command made of it

@@ -4,19 +4,23 @@
 //! A new session fits the assignment with no name, and [`run`](crate::Session::run) leaves a session that fits what
 //! its commands and replies made of the assignment. So the laws hold of each sketch of a session after any list of
 //! commands.
-ghost use Rattle.datasketches.specs.Laws.{HoldsFew, EnclosesWeights, ExactOfFew, WithinTailBudget, SamplesItsOwn, SampleBoundsError, SmallSketchErrsLittle, LargeSketchErrsLittle, ContainsWhatIsDenoted, CellsAreShares, LeastCellIsRaisedByOthers, StepKeepsFit};
+ghost use Rattle.datasketches.specs.Laws.{FrequentIsState, KeptWithinTotal, HoldsFew, EnclosesWeights, ExactOfFew, WithinTailBudget, SamplesItsOwn, SampleBoundsError, SmallSketchErrsLittle, LargeSketchErrsLittle, FilterIsState, HoldsWhatIsDenoted, EmptyContainsNothing, ContainsWhatIsDenoted, CountIsState, TotalIsWeight, EmptyCountsNothing, LeastCellEncloses, CellsAreShares, LeastCellIsRaisedByOthers, StepKeepsFit};
 
+use sketch_bloom::laws as bloom;
 use sketch_countmin::laws as countmin;
 use sketch_frequencies::{FrequentItemValue, laws as frequencies};
 
-/// A sketch of frequent items holds at most three quarters of its greatest size in counters, encloses every true
-/// weight within its error, has no error where few items came, keeps the tail budget, and its purges sample as many
-/// counters as its history says.
+/// A sketch of frequent items is one that the calls of sketches leave, so that its counts and its error together are at
+/// most the total weight. It holds at most three quarters of its greatest size in counters, encloses every true weight
+/// within its error, has no error where few items came, keeps the tail budget, and its purges sample as many counters as
+/// its history says.
 ///
 /// For a sample size L, the least of all that took part, the error is at most 2 / L of the weight of all items. Where
 /// no sample size was chosen, that is, for a greatest size M, the least of all that took part, at most 8 / 3M of it
 /// where M is up to 1024, and at most 1 / 512 of it above.
 pub fn what_frequent_items_say<T: FrequentItemValue>()
+    ensures state { FrequentIsState T.eq T.codec T.content }
+    ensures within { KeptWithinTotal T.eq T.codec T.content }
     ensures few { HoldsFew T.eq T.codec T.content }
     ensures encloses { EnclosesWeights T.eq T.codec T.content }
     ensures exact { ExactOfFew T.eq T.codec T.content }
@@ -29,19 +33,37 @@ pub fn what_frequent_items_say<T: FrequentItemValue>()
     frequencies::what_the_error_costs::<T>();
 }
 
-/// Each cell of a Count-Min sketch is its bucket's share of the history. Where nothing was halved or decayed, an item's
+/// A Count-Min sketch is one that the calls of sketches leave, its total is the weight of the history, and where that is
+/// 0, every cell is 0. Each cell is its bucket's share of the history. Where nothing was halved or decayed, an item's
 /// estimate is its own value and the least, over the rows, of that of the other items in its buckets.
 pub fn what_counts_say<T: FrequentItemValue>()
+    ensures state { CountIsState T.eq T.codec T.content }
+    ensures total { TotalIsWeight T.eq T.codec T.content }
+    ensures empty { EmptyCountsNothing T.eq T.codec T.content }
     ensures cells { CellsAreShares T.eq T.codec T.content }
     ensures raised { LeastCellIsRaisedByOthers T.eq T.codec T.content }
 {
     countmin::what_the_least_cell_says();
 }
 
-/// A filter says yes exactly where the set that its history denotes has all of the item's positions.
+/// Where no weight was below zero, an item's own value is at most its estimate, and that is at most the total weight of
+/// the history, also after halving and decay.
+pub fn what_counts_of_nonnegative_weights_say<T: FrequentItemValue>()
+    ensures encloses { LeastCellEncloses T.eq T.codec T.content }
+{
+    countmin::what_the_least_cell_says();
+}
+
+/// A filter is one that the calls of filters leave, and its set is the one that its history denotes. It says yes exactly
+/// where that set has all of the item's positions, so of an empty set to nothing.
 pub fn what_filters_say<T: FrequentItemValue>()
+    ensures state { FilterIsState T.eq T.codec T.content }
+    ensures set { HoldsWhatIsDenoted T.eq T.codec T.content }
+    ensures empty { EmptyContainsNothing T.eq T.codec T.content }
     ensures denoted { ContainsWhatIsDenoted T.eq T.codec T.content }
-{}
+{
+    bloom::what_is_contained();
+}
 
 /// What a session fitted it fits after a step, with what the command and its reply made of it. So the promise holds
 /// wherever such steps are proved, as of the lines that a program serves.

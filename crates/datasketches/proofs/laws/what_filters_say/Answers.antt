@@ -3,5 +3,8 @@ use Rattle.datasketches.proofs.laws.what_filters_say.Goals as goal
 
 pub returns : goal.returns
 returns g c = record {
-  denoted = λ s h is bytes. contains_denoted s h bytes (named_stands g.T.PartialEq.eq g.T.FrequentItemValue.codec g.T.FrequentItemValue.content _ _ is).set;
+  state = λ s h is. (named_stands g.T.PartialEq.eq g.T.FrequentItemValue.codec g.T.FrequentItemValue.content _ _ is).state;
+  set = λ s h is. (named_stands g.T.PartialEq.eq g.T.FrequentItemValue.codec g.T.FrequentItemValue.content _ _ is).stands.set;
+  empty = λ s h is none bytes. c.what_is_contained.ensures.empty s bytes (named_stands g.T.PartialEq.eq g.T.FrequentItemValue.codec g.T.FrequentItemValue.content _ _ is).state none;
+  denoted = λ s h is bytes. contains_denoted s h bytes (named_stands g.T.PartialEq.eq g.T.FrequentItemValue.codec g.T.FrequentItemValue.content _ _ is).stands.set;
 }

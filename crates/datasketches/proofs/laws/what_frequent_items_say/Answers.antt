@@ -1,5 +1,15 @@
+use Rattle.std.proofs.Common.{ℕ, ◌+◌, ◌≤◌, subst}
+use Rattle.sketch_frequencies.specs.Tables.{sum_of}
 use Rattle.datasketches.proofs.Promised.{named_stands}
 use Rattle.datasketches.proofs.laws.what_frequent_items_say.Goals as goal
+
+pub returns-clause-state : goal.returns-clause-state
+returns-clause-state g c = λ s h is. (named_stands g.T.PartialEq.eq g.T.FrequentItemValue.codec g.T.FrequentItemValue.content _ _ is).state
+
+pub returns-clause-within : goal.returns-clause-within
+returns-clause-within g c = λ s h is.
+    let keeps = named_stands g.T.PartialEq.eq g.T.FrequentItemValue.codec g.T.FrequentItemValue.content _ _ is in
+    subst (λ (t : ℕ). sum_of s.counters + s.error ≤ t) keeps.stands.encloses.total keeps.state.sum
 
 pub returns-clause-few : goal.returns-clause-few
 returns-clause-few g c = λ s h is. (named_stands g.T.PartialEq.eq g.T.FrequentItemValue.codec g.T.FrequentItemValue.content _ _ is).few

@@ -13,4 +13,4 @@ pub returns-in_ok-deserialize-in-Bloom-clause-stands : goal.returns-in_ok-deseri
 returns-in_ok-deserialize-in-Bloom-clause-stands g c =
     let item = g.T.FrequentItemValue in
     let back = rw c.deref-in-Bloom.ensures.value at c.in_ok-deserialize-in-Bloom.ensures.stands in
-    rw c.in-Bloom.is (filter_back g.T.PartialEq.eq item.codec item.content c.what_images_say-in-Bloom.ensures.spelled c.in-Bloom.bytes _ back)
+    rw c.in-Bloom.is (filter_back g.T.PartialEq.eq item.codec item.content c.what_images_say-in-Bloom.ensures.spelled c.in-Bloom.bytes _ c.in_ok-deserialize-in-Bloom.ensures.state back)
