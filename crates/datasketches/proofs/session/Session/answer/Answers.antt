@@ -1,6 +1,7 @@
 use Rattle.std.proofs.Common.{◌≡◌, ℕ, ℤ, List, subst, to_z, of_z, to_z-of_z, arith, w64}
+use Rattle.datasketches.specs.Answering.{Tells}
 use Rattle.datasketches.specs.Replies.{told}
-use Rattle.datasketches.specs.Steps.{OnSketches, ChangesNamed}
+use Rattle.datasketches.specs.Steps.{OnSketches, ChangesNamed, Answers}
 use Rattle.datasketches.specs.declared.sketch.Change.TheVariants.{AddSigned}
 use Rattle.datasketches.proofs.session.Session.answer.Goals as goal
 
@@ -12,3 +13,9 @@ returns-in-AddSigned g c =
     c.as_str-in-AddSigned.ensures.value
     (subst (λ (weight : ℤ). OnSketches (ChangesNamed g.T.PartialEq.eq g.T.Hash.hash_input (AddSigned c.in-AddSigned.item weight) c.as_str-in-AddSigned.result.now) c.args.self.now (told c.change-done-in-AddSigned.result) c.change-done-in-AddSigned.new.self)
     back c.change-done-in-AddSigned.ensures))
+
+pub returns-in-Ask : goal.returns-in-Ask
+returns-in-Ask g c =
+    rw c.in-Ask.is
+    (subst (λ (name : List ℕ). Answers (Tells g.T.PartialEq.eq g.T.Hash.hash_input c.in-Ask.item) name c.args.self.now (told c.ask-told.result) c.args.self.now)
+    c.as_str-in-Ask.ensures.value c.ask-told.ensures)
