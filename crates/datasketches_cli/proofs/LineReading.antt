@@ -170,12 +170,12 @@ ends bytes rest (x ∷ xs) false e r h k =
     (λ none. let n : x ∷ xs ≡ [] = sym e ∙ none in cc, sym all.0 ∙ ap (take_through 10) (sym e), ap Some (r ∙ sym all.1 ∙ ap (drop_through 10) (sym e)))
 
 -- no more input is left
-pub over : (was left left' : Option (List ℕ)) (s s' s'' held holds : List ℕ) (ended more empty : Bool) → Begins was (prepend_known s left) held → TakesFront ended s s' held holds → ended ≡ false → Fills more left s'' left' → more ≡ false → empty ≡ eqb (length holds) 0 → TakesLine (not empty) was (prepend_known s'' left') holds
-over None left left' s s' s'' held holds ended more true b t e f m k = tt
-over None left left' s s' s'' held holds ended more false b t e f m k = tt
-over (Some bytes) None left' s s' s'' held holds ended more empty (rest, is, split, clean) t e f m k = cc
-over (Some bytes) (Some xs) None s s' s'' held holds ended more empty (rest, is, split, clean) t e f m k = absurd f.0
-over (Some bytes) (Some xs) (Some ys) s s' s'' held holds ended more empty (rest, is, split, clean) t e (gave, end) m k =
+pub over : (was left left' : Option (List ℕ)) (s s' s'' held holds : List ℕ) (ended more empty : Bool) (before now : ℕ) → Begins was (prepend_known s left) held → TakesFront ended s s' held holds → ended ≡ false → Fills more left s'' left' before now → more ≡ false → empty ≡ eqb (length holds) 0 → TakesLine (not empty) was (prepend_known s'' left') holds
+over None left left' s s' s'' held holds ended more true before now b t e f m k = tt
+over None left left' s s' s'' held holds ended more false before now b t e f m k = tt
+over (Some bytes) None left' s s' s'' held holds ended more empty before now (rest, is, split, clean) t e f m k = cc
+over (Some bytes) (Some xs) None s s' s'' held holds ended more empty before now (rest, is, split, clean) t e f m k = absurd f.0
+over (Some bytes) (Some xs) (Some ys) s s' s'' held holds ended more empty before now (rest, is, split, clean) t e (gave, end, some) m k =
     let (pure, none, grown) = rw e at t in
     let (nothing, gone) = end m in
     let same : s ++ xs ≡ rest = cc in
@@ -185,11 +185,11 @@ over (Some bytes) (Some xs) (Some ys) s s' s'' held holds ended more empty (rest
     ends bytes (s'' ++ ys) holds empty whole rest' (subst HasNoFeed (sym grown) (no_feed_append held s clean pure)) k
 
 -- more was read
-pub goes_on : (was left left' : Option (List ℕ)) (s s' s'' held holds : List ℕ) (ended more : Bool) → Begins was (prepend_known s left) held → TakesFront ended s s' held holds → ended ≡ false → Fills more left s'' left' → Begins was (prepend_known s'' left') holds
-goes_on None left left' s s' s'' held holds ended more b t e f = tt
-goes_on (Some bytes) None left' s s' s'' held holds ended more (rest, is, split, clean) t e f = cc
-goes_on (Some bytes) (Some xs) None s s' s'' held holds ended more (rest, is, split, clean) t e f = absurd f.0
-goes_on (Some bytes) (Some xs) (Some ys) s s' s'' held holds ended more (rest, is, split, clean) t e (gave, end) =
+pub goes_on : (was left left' : Option (List ℕ)) (s s' s'' held holds : List ℕ) (ended more : Bool) (before now : ℕ) → Begins was (prepend_known s left) held → TakesFront ended s s' held holds → ended ≡ false → Fills more left s'' left' before now → Begins was (prepend_known s'' left') holds
+goes_on None left left' s s' s'' held holds ended more before now b t e f = tt
+goes_on (Some bytes) None left' s s' s'' held holds ended more before now (rest, is, split, clean) t e f = cc
+goes_on (Some bytes) (Some xs) None s s' s'' held holds ended more before now (rest, is, split, clean) t e f = absurd f.0
+goes_on (Some bytes) (Some xs) (Some ys) s s' s'' held holds ended more before now (rest, is, split, clean) t e (gave, end, some) =
     let (pure, none, grown) = rw e at t in
     let same : s ++ xs ≡ rest = cc in (
       s'' ++ ys,

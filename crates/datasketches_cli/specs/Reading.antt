@@ -1,7 +1,8 @@
 -- How lines are taken from what was read, and more is read.
-use Rattle.std.specs.Prelude.{◌≡◌, ◌≢◌, ℕ, Bool, true, false, List, [], ◌∷◌, ◌++◌, Option, Some, IfSome}
+use Rattle.std.specs.Prelude.{◌≡◌, ◌≢◌, ◌⊎◌, ℕ, Bool, true, false, List, [], ◌∷◌, ◌++◌, Option, Some, IfSome}
 use Rattle.std.specs.Io.BufRead.{take_through, drop_through}
 use Rattle.std.specs.Io.KnownBytes.{Consumes, IsAtEnd}
+use Rattle.datasketches_cli.specs.Counts.{HasGrown}
 
 -- no byte is a line feed
 abbrev pub HasNoFeed : List ℕ → Type 0
@@ -14,9 +15,11 @@ TakesFront true was is held holds =
     (front : List ℕ) × HasNoFeed front × (was ≡ front ++ 10 ∷ is) × (holds ≡ held ++ (front ++ 10 ∷ []))
 TakesFront false was is held holds = HasNoFeed was × (is ≡ []) × (holds ≡ held ++ was)
 
--- a reader gave these bytes, and none only where none is left
-abbrev pub Fills : Bool → Option (List ℕ) → List ℕ → Option (List ℕ) → Type 0
-Fills more was bytes is = Consumes was is bytes × (more ≡ false → (bytes ≡ []) × IsAtEnd is)
+-- a reader gave these bytes: some where there may be more, unless its count of failures grew, and none at the end
+abbrev pub Fills : Bool → Option (List ℕ) → List ℕ → Option (List ℕ) → ℕ → ℕ → Type 0
+Fills more was bytes is before now =
+    Consumes was is bytes × (more ≡ false → (bytes ≡ []) × IsAtEnd is)
+    × (more ≡ true → (bytes ≢ []) ⊎ HasGrown before now)
 
 -- whether a line was found, with its end
 abbrev pub TakesLine : Bool → Option (List ℕ) → Option (List ℕ) → List ℕ → Type 0

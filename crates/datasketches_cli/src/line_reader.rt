@@ -116,11 +116,12 @@ impl LineReader {
         Ok(false)
     }
 
-    /// Reads more, where all that was read is handed on. Answers whether there may be more input.
+    /// Reads more, where all that was read is handed on. Answers whether there may be more input: something was read
+    /// then, or the read failed and is to be tried again.
     fn fill<R: Read>(&mut self, reader: &mut Counted<R>) -> Result<bool>
         requires { self.old ≡ [] }
         ensures bytes { IfOk result (λ more. Fills more (R.remaining reader.old.inner) self.new
-            (R.remaining reader.new.inner)) }
+            (R.remaining reader.new.inner) reader.old.failures reader.new.failures) }
         ensures reads { reader.new.reads ≡ one_more reader.old.reads }
     {
         self.start = 0;

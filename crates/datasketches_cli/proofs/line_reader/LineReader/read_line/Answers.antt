@@ -11,8 +11,8 @@ returns-then-branch-clause-line g c = taken _ _ _ _ _ _ _ c.tries.invariant c.in
 pub returns-then-not-branch-clause-line : goal.returns-then-not-branch-clause-line
 returns-then-not-branch-clause-line g c =
     let len : c.take_line.new.line.len ≡ length c.take_line.new.line.items = omega (arith, c.take_line.new.line.ok) in
-    over _ _ _ _ _ _ _ _ _ _ _ c.tries.invariant c.in_ok-take_line.ensures c.if-branch.false c.in_ok-fill.ensures.bytes c.if-not-branch.true (c.is_empty.ensures ∙ ap (λ (n : ℕ). eqb n 0) len)
+    over _ _ _ _ _ _ _ _ _ _ _ _ _ c.tries.invariant c.in_ok-take_line.ensures c.if-branch.false c.in_ok-fill.ensures.bytes c.if-not-branch.true (c.is_empty.ensures ∙ ap (λ (n : ℕ). eqb n 0) len)
 
 pub tries-preserved : goal.tries-preserved
 tries-preserved g c =
-    goes_on _ _ _ _ _ _ _ _ _ _ c.tries.invariant c.in_ok-take_line.ensures c.if-branch.false c.in_ok-fill.ensures.bytes
+    goes_on _ _ _ _ _ _ _ _ _ _ _ _ c.tries.invariant c.in_ok-take_line.ensures c.if-branch.false c.in_ok-fill.ensures.bytes
