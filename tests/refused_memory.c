@@ -7,8 +7,9 @@
  * whether one was refused, how many blocks were not given back, and how many were given back where requests were counted.
  *
  * FAILS_READ_AT and FAILS_WRITE_AT are the numbers of a read of standard input and of a write to standard output that
- * fail, and ONE_BYTE has each of these move one byte at most. Where one of the three is set, the four numbers are how
- * many reads and writes there were, whether one failed, 0 and 0.
+ * fail, with INTERRUPTED as a signal makes a call fail that is to be made again. ONE_BYTE has each of these move one byte
+ * at most. Where one of FAILS_READ_AT, FAILS_WRITE_AT and ONE_BYTE is set, the four numbers are how many reads and
+ * writes there were, whether one failed, 0 and 0.
  */
 #define _GNU_SOURCE
 #include <dlfcn.h>
@@ -37,6 +38,7 @@ static int counting;
 
 static long fails_read_at;
 static long fails_write_at;
+static int interrupted;
 static int one_byte;
 static int streams;
 static long reads;
@@ -58,6 +60,7 @@ __attribute__((constructor)) static void begin(void) {
     refused_at = number_of("REFUSED_AT");
     fails_read_at = number_of("FAILS_READ_AT");
     fails_write_at = number_of("FAILS_WRITE_AT");
+    interrupted = number_of("INTERRUPTED") > 0;
     one_byte = number_of("ONE_BYTE") > 0;
     streams = one_byte || fails_read_at || fails_write_at;
     loaded = 1;
@@ -143,7 +146,7 @@ static int fails(long *calls, long at) {
         return 0;
     }
     failures += 1;
-    errno = EIO;
+    errno = interrupted ? EINTR : EIO;
     return 1;
 }
 

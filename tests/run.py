@@ -10,6 +10,7 @@ import shutil
 import subprocess
 import sys
 import tempfile
+import threading
 
 import trials
 
@@ -177,12 +178,13 @@ class Tests:
 
     def streams_that_fail(self):
         """Each read and each write fails in a run of its own, until a run meets no failure: with streams that move as much
-        as is asked for, and with streams that move a byte."""
+        as is asked for, and with streams that move a byte. What was written is then known to the byte."""
         for name, lines, setting in [
             ("streams", WORKED, {}),
             ("a byte at a time", WORKED[: WORKED.index(b"bloom")], {"ONE_BYTE": 1}),
         ]:
             whole = self.run(lines)[1]
+            replies = whole.splitlines(keepends=True)
             for which in ["FAILS_READ_AT", "FAILS_WRITE_AT"]:
                 n = 1
                 while True:
@@ -193,8 +195,54 @@ class Tests:
                         break
                     wanted = (2, b"input or output failed\n")
                     self.check(f"{where} it says so", (status, said) == wanted, (status, said))
-                    self.check(f"{where} what it wrote is a beginning", whole.startswith(out))
+                    if not setting:
+                        self.check(f"{where} what it wrote is a beginning", whole.startswith(out))
+                    elif which == "FAILS_READ_AT":
+                        # each line has one reply, and gets it before more is read
+                        answered = b"".join(replies[: lines[: n - 1].count(b"\n")])
+                        self.check(f"{where} it answered the lines that it had", out == answered, out)
+                    else:
+                        self.check(f"{where} it wrote what came before", out == whole[: n - 1], out)
                     n += 1
+
+    def interrupted_streams(self):
+        """Each read and each write is interrupted once in a run of its own: it is tried again, and nothing is said."""
+        lines = WORKED[: WORKED.index(b"bloom")]
+        whole = self.run(lines)[1]
+        for which in ["FAILS_READ_AT", "FAILS_WRITE_AT"]:
+            n = 1
+            while True:
+                status, out, said, numbers = self.run(lines, **{which: n, "INTERRUPTED": 1, "ONE_BYTE": 1})
+                self.check(f"interrupted, {which} {n}", (status, out, said) == (0, whole, b""), (status, out, said))
+                if numbers[1] == 0:
+                    break
+                n += 1
+
+    def answers_at_once(self):
+        """Over a pipe that stays open each line is answered before the next is sent, also where it comes in two pieces, and
+        a bad line ends the program there."""
+        lines = WORKED[: WORKED.index(b"bloom")].splitlines(keepends=True)
+        replies = self.run(b"".join(lines))[1].splitlines(keepends=True)
+        for end, wanted, status in [(b"status s", b"", 0), (b"what\n", b"bad line %d\n" % (len(lines) + 1), 1)]:
+            with subprocess.Popen(
+                [self.program], stdin=subprocess.PIPE, stdout=subprocess.PIPE, stderr=subprocess.PIPE, bufsize=0
+            ) as process:
+                watch = threading.Timer(30, process.kill)
+                watch.start()
+                answered = []
+                for line in lines:
+                    process.stdin.write(line[:4])
+                    process.stdin.write(line[4:])
+                    answered.append(process.stdout.readline())
+                process.stdin.write(end)
+                if status == 0:
+                    wanted = replies[lines.index(b"status s\n", 10)]
+                    process.stdin.close()
+                ended = process.wait()
+                watch.cancel()
+                said = (process.stdout.read(), process.stderr.read())
+            name = f"answers at once, and status {status} at the end"
+            self.check(name, (answered, ended, said) == (replies, status, (wanted, b"")), (answered, ended, said))
 
     def play(self, words, refused_at):
         """The lines of a trial, and the four numbers of its marked calls."""
@@ -271,17 +319,21 @@ class Tests:
             n += 1
 
     def statuses(self):
+        ok = b"ok\n"
+        status_line = b"frequent active 0 error 0 total 0 size 8 max 8 capacity 6\n"
         cases = [
-            ("the end of the input", b"frequent s 8\nstatus s\n", 0, b"", 2),
-            ("a last line without its end", b"frequent s 8\nstatus s", 0, b"", 2),
-            ("no input", b"", 0, b"", 0),
-            ("a bad line", b"frequent s 8\nwhat\nstatus s\n", 1, b"", 2),
-            ("a line that is not UTF-8", b"frequent s 8\n\xff\n", 1, b"", 2),
+            ("the end of the input", b"frequent s 8\nstatus s\n", 0, ok + status_line),
+            ("a last line without its end", b"frequent s 8\nstatus s", 0, ok + status_line),
+            ("no input", b"", 0, b""),
+            ("lines without a word", b"\n\r\n  \n", 0, b""),
+            ("a command that is refused", b"frequent s 8\nfrequent s 8\n", 0, ok + b"refused NameTaken\n"),
+            ("a bad line", b"frequent s 8\nwhat\nstatus s\n", 1, ok + b"bad line 2\n"),
+            ("a bad line behind others without a word", b"\n\nfrequent s 8\n \nwhat", 1, ok + b"bad line 5\n"),
+            ("a line that is not UTF-8", b"frequent s 8\n\xff\n", 1, ok + b"bad line 2\n"),
         ]
-        for name, lines, wanted, text, count in cases:
+        for name, lines, wanted, text in cases:
             status, out, said, _ = self.run(lines)
-            holds = status == wanted and said == text and len(out.splitlines()) == count
-            self.check(f"status after {name}", holds, (status, out, said))
+            self.check(f"status after {name}", (status, out, said) == (wanted, text, b""), (status, out, said))
 
     def failing_streams(self):
         lines = WORKED * 3
@@ -300,7 +352,12 @@ class Tests:
         directory = os.open(HERE, os.O_RDONLY)
         ran = subprocess.run([self.program], stdin=directory, capture_output=True, timeout=60)
         os.close(directory)
-        self.check("an input that cannot be read", (ran.returncode, ran.stderr) == (2, b"input or output failed\n"), ran)
+        wanted = (2, b"", b"input or output failed\n")
+        self.check("an input that cannot be read", (ran.returncode, ran.stdout, ran.stderr) == wanted, ran)
+        for where in ["&-", "/dev/full"]:
+            silent = f'"$0" <. 2>{where}'
+            ran = subprocess.run(["/bin/sh", "-c", silent, self.program], cwd=HERE, stdout=subprocess.PIPE, timeout=60)
+            self.check(f"a failure that cannot be told, to {where}", (ran.returncode, ran.stdout) == (2, b""), ran)
 
     def sizes(self):
         """Shapes of the greatest sizes, where the process may have little memory: an answer, and no death."""
@@ -333,6 +390,8 @@ def main():
         tests.counted_calls()
         tests.hard_items_and_ranges()
         tests.streams_that_fail()
+        tests.interrupted_streams()
+        tests.answers_at_once()
         tests.statuses()
         tests.failing_streams()
         tests.sizes()

@@ -2,6 +2,7 @@
 use crate::counted::Counted;
 use crate::serve::{CliFault, Ended, serve};
 use std::alloc::{AllocError, Global};
+use std::cell::Cell;
 use std::fmt::Write as _;
 use std::io::{Cursor, Error, ErrorKind, Read, Result as IoResult, Write};
 use std::test::Fail;
@@ -305,17 +306,23 @@ fn add_line(text: &mut Vec<u8>, line: &str) -> Result<(), AllocError> {
     Ok(())
 }
 
-/// The same of a run over the lines of some rows, where it wrote their replies.
-fn played(alloc: Global, rows: &[Row]) -> Result<Option<Ended>, AllocError> {
-    let mut input = Vec::new(alloc);
-    let mut output = Vec::new(alloc);
+/// The lines of some rows, and their replies.
+fn texts_of(alloc: Global, rows: &[Row]) -> Result<(Vec<u8>, Vec<u8>), AllocError> {
+    let mut lines = Vec::new(alloc);
+    let mut replies = Vec::new(alloc);
     for (line, reply) in rows {
-        add_line(&mut input, line)?;
+        add_line(&mut lines, line)?;
         if !reply.is_empty() {
-            add_line(&mut output, reply)?;
+            add_line(&mut replies, reply)?;
         }
     }
-    Ok(outcome(alloc, &input, &output))
+    Ok((lines, replies))
+}
+
+/// The same of a run over the lines of some rows, where it wrote their replies.
+fn played(alloc: Global, rows: &[Row]) -> Result<Option<Ended>, AllocError> {
+    let (lines, replies) = texts_of(alloc, rows)?;
+    Ok(outcome(alloc, &lines, &replies))
 }
 
 #[test]
@@ -472,21 +479,34 @@ fn a_line_may_be_long(rt: HostRuntime) -> Result<(), Fail> {
     Ok(())
 }
 
-/// Gives these bytes, so many a call at most, and fails at the call behind so many.
-#[derive(Drop)]
-struct FailingReader<'a> {
-    left: &'a [u8],
+/// How many bytes a stream moves in a call at most, and which call fails, counted from 1, and how.
+#[derive(Clone, Copy)]
+struct Plan {
     step: usize,
+    fails_at: usize,
+    kind: ErrorKind,
+}
+
+/// Whether the next call is the one that fails.
+fn fails(plan: Plan, calls: &mut usize) -> bool {
+    *calls = calls.saturating_add(1);
+    *calls == plan.fails_at
+}
+
+/// Gives these bytes.
+#[derive(Drop)]
+struct PlannedReader<'a> {
+    left: &'a [u8],
+    plan: Plan,
     calls: usize,
 }
 
-impl Read for FailingReader<'_> {
+impl Read for PlannedReader<'_> {
     fn read(&mut self, buf: &mut [u8]) -> IoResult<usize> {
-        if self.calls == 0 {
-            return Err(Error::from(ErrorKind::ConnectionReset));
+        if fails(self.plan, &mut self.calls) {
+            return Err(Error::from(self.plan.kind));
         }
-        self.calls -= 1;
-        let count = self.step.min(buf.len()).min(self.left.len());
+        let count = self.plan.step.min(buf.len()).min(self.left.len());
         let (given, left) = self.left.split_at(count);
         buf[..count].copy_from_slice(given);
         self.left = left;
@@ -494,105 +514,295 @@ impl Read for FailingReader<'_> {
     }
 }
 
-/// Takes so many bytes a call at most, and fails at the call behind so many.
+/// Keeps what it takes.
 #[derive(Drop)]
-struct FailingWriter {
+struct PlannedWriter {
     taken: Vec<u8>,
-    step: usize,
+    plan: Plan,
     calls: usize,
 }
 
-impl Write for FailingWriter {
+impl Write for PlannedWriter {
     fn write(&mut self, buf: &[u8]) -> IoResult<usize> {
-        if self.calls == 0 {
-            return Err(Error::from(ErrorKind::BrokenPipe));
+        if fails(self.plan, &mut self.calls) {
+            return Err(Error::from(self.plan.kind));
         }
-        self.calls -= 1;
-        let count = self.step.min(buf.len());
+        let count = self.plan.step.min(buf.len());
         self.taken.extend_from_slice(&buf[..count])?;
         Ok(count)
     }
 
     fn flush(&mut self) -> IoResult<()> {
-        if self.calls == 0 {
-            return Err(Error::from(ErrorKind::BrokenPipe));
+        if fails(self.plan, &mut self.calls) {
+            return Err(Error::from(self.plan.kind));
         }
-        self.calls -= 1;
         Ok(())
     }
 }
 
-const THREE_LINES: &[u8] = b"frequent s 8\nadd s 1 a\nask s a\n";
-
-const THREE_REPLIES: &[u8] = b"ok\nok\nestimate 1 lower 1 upper 1\n";
-
-/// How a run ends whose reader fails behind so many calls, and whether what was written is a beginning of the replies.
-fn with_failing_reader(
-    alloc: Global,
-    step: usize,
-    calls: usize,
-) -> (Result<Ended, CliFault>, u64, bool) {
-    let mut reader = Counted::new(FailingReader {
-        left: THREE_LINES,
-        step,
-        calls,
-    });
-    let mut writer = Counted::new(Vec::new(alloc));
-    let ended = serve(alloc, &mut reader, &mut writer);
-    let written = writer.into_inner();
-    (
-        ended,
-        reader.failures(),
-        THREE_REPLIES.starts_with(&written),
-    )
+/// What became of a run over streams that are planned.
+#[derive(Clone, Copy, PartialEq, Eq)]
+struct Run {
+    ended: Result<Ended, CliFault>,
+    /// How many calls of the reader and of the writer are counted as failed.
+    failures: (u64, u64),
+    /// How many bytes were written, where they are a beginning of the output.
+    written: Option<usize>,
+    /// How often the reader was read.
+    reads: usize,
 }
 
-/// The same of a writer.
-fn with_failing_writer(
-    alloc: Global,
-    step: usize,
-    calls: usize,
-) -> (Result<Ended, CliFault>, u64, bool) {
-    let mut reader = Counted::new(Cursor::new(THREE_LINES));
-    let mut writer = Counted::new(FailingWriter {
+fn planned(alloc: Global, input: &[u8], output: &[u8], reads: Plan, writes: Plan) -> Run {
+    let mut reader = Counted::new(PlannedReader {
+        left: input,
+        plan: reads,
+        calls: 0,
+    });
+    let mut writer = Counted::new(PlannedWriter {
         taken: Vec::new(alloc),
-        step,
-        calls,
+        plan: writes,
+        calls: 0,
     });
     let ended = serve(alloc, &mut reader, &mut writer);
-    let failures = writer.failures();
-    let written = writer.into_inner().taken;
-    (ended, failures, THREE_REPLIES.starts_with(&written))
+    let failures = (reader.failures(), writer.failures());
+    let taken = writer.into_inner().taken;
+    Run {
+        ended,
+        failures,
+        written: output.starts_with(&taken).then_some(taken.len()),
+        reads: reader.into_inner().calls,
+    }
 }
 
-/// The first number of calls behind which a run is whole, where each shorter one answers `Io`, counts one failure, and
-/// writes a beginning of the replies.
-fn calls_of_a_whole_run(alloc: Global, is_reader: bool, step: usize) -> Option<usize> {
-    for calls in 0..100 {
-        let outcome = if is_reader {
-            with_failing_reader(alloc, step, calls)
-        } else {
-            with_failing_writer(alloc, step, calls)
-        };
-        match outcome {
-            (Err(CliFault::Io), 1, true) => {}
-            (Ok(Ended::All), 0, true) => return Some(calls),
-            _ => return None,
+/// Which stream fails in turn, and how.
+#[derive(Clone, Copy)]
+enum Failing {
+    Reader(ErrorKind),
+    Writer(ErrorKind),
+}
+
+/// A run whose call of this number fails.
+fn failing_at(
+    alloc: Global,
+    texts: (&[u8], &[u8]),
+    steps: (usize, usize),
+    which: Failing,
+    number: usize,
+) -> Run {
+    let mut reads = Plan {
+        step: steps.0,
+        fails_at: 0,
+        kind: ErrorKind::Other,
+    };
+    let mut writes = Plan {
+        step: steps.1,
+        ..reads
+    };
+    match which {
+        Failing::Reader(kind) => {
+            reads.kind = kind;
+            reads.fails_at = number;
+        }
+        Failing::Writer(kind) => {
+            writes.kind = kind;
+            writes.fails_at = number;
         }
     }
-    None
+    planned(alloc, texts.0, texts.1, reads, writes)
 }
 
-// The input has 31 bytes, and its end takes a call more. The replies have 33, and are passed on in one more call.
+/// Of how many calls of a stream each fails in a run of its own that ends in this way: the failure is counted, and what was
+/// written is a beginning of the output. A run in which none fails ends in the other way, and writes all.
+fn calls_that_fail(
+    alloc: Global,
+    rows: &[Row],
+    steps: (usize, usize),
+    which: Failing,
+    ends: (Result<Ended, CliFault>, Ended),
+) -> Result<Option<usize>, AllocError> {
+    let (input, output) = texts_of(alloc, rows)?;
+    let counted = match which {
+        Failing::Reader(_) => (1, 0),
+        Failing::Writer(_) => (0, 1),
+    };
+    for calls in 0..1000 {
+        let run = failing_at(alloc, (&input, &output), steps, which, calls + 1);
+        if run.failures == (0, 0) {
+            let is_whole = run.ended == Ok(ends.1) && run.written == Some(output.len());
+            return Ok(is_whole.then_some(calls));
+        }
+        if run.failures != counted || run.ended != ends.0 || run.written.is_none() {
+            return Ok(None);
+        }
+    }
+    Ok(None)
+}
+
+const THREE_LINES: [Row; 3] = [
+    ("frequent s 8", "ok"),
+    ("add s 1 a", "ok"),
+    ("ask s a", "estimate 1 lower 1 upper 1"),
+];
+
+// The three lines have 31 bytes, and the end of input takes a read more; the replies have 33, and are passed on in one more
+// call, or where each line is read by itself in one more for each. The questions have 133 bytes through the bad line, behind
+// which nothing is read, and their 13 replies have 146. A read that is interrupted is tried again.
 #[test]
-fn streams_that_fail_in_turn(rt: HostRuntime) {
-    for (is_reader, step, wanted) in [
-        (true, 100, 2),
-        (true, 1, 32),
-        (false, 100, 2),
-        (false, 1, 34),
-    ] {
-        assert!(rt; calls_of_a_whole_run(rt.alloc(), is_reader, step) == Some(wanted));
+fn streams_that_fail_in_turn(rt: HostRuntime) -> Result<(), Fail> {
+    let io = Err(CliFault::Io);
+    let three = (io, Ended::All);
+    let questions = (io, Ended::BadLine(13));
+    let reader = Failing::Reader(ErrorKind::ConnectionReset);
+    let interrupted = Failing::Reader(ErrorKind::Interrupted);
+    let writer = Failing::Writer(ErrorKind::BrokenPipe);
+    let rows: [(
+        &[Row],
+        (usize, usize),
+        Failing,
+        (Result<Ended, CliFault>, Ended),
+        usize,
+    ); 10] = [
+        (&THREE_LINES, (100, 100), reader, three, 2),
+        (&THREE_LINES, (1, 100), reader, three, 32),
+        (
+            &THREE_LINES,
+            (1, 100),
+            interrupted,
+            (Ok(Ended::All), Ended::All),
+            32,
+        ),
+        (&THREE_LINES, (100, 100), writer, three, 2),
+        (&THREE_LINES, (100, 1), writer, three, 34),
+        (&THREE_LINES, (1, 1), writer, three, 36),
+        (&QUESTIONS, (1, 100), reader, questions, 133),
+        (&QUESTIONS, (1000, 1), writer, questions, 147),
+        (&QUESTIONS, (1, 1), writer, questions, 159),
+        (&QUESTIONS, (1, 1000), writer, questions, 26),
+    ];
+    for (lines, steps, which, ends, wanted) in rows {
+        assert!(rt; calls_that_fail(rt.alloc(), lines, steps, which, ends)? == Some(wanted));
+    }
+    Ok(())
+}
+
+/// How often a run reads that writes the whole output, where a read gives so many bytes.
+fn reads_of(alloc: Global, input: &[u8], output: &[u8], step: usize) -> Option<usize> {
+    let none = Failing::Reader(ErrorKind::Other);
+    let run = failing_at(alloc, (input, output), (step, 1000), none, 0);
+    if run.ended == Ok(Ended::All) && run.written == Some(output.len()) {
+        Some(run.reads)
+    } else {
+        None
+    }
+}
+
+/// The same of a line of 12 bytes and a name of so many.
+fn reads_of_a_name(alloc: Global, length: u32, step: usize) -> Result<Option<usize>, AllocError> {
+    let mut input = b"frequent ".to_vec(alloc)?;
+    for _ in 0..length {
+        input.push(b'x')?;
+    }
+    input.extend_from_slice(b" 8\n")?;
+    Ok(reads_of(alloc, &input, b"ok\n", step))
+}
+
+/// The same of so many additions of 10 bytes each, between lines of 13 bytes and of 8, of which the last gets this reply.
+fn reads_of_additions(
+    alloc: Global,
+    count: u32,
+    reply: &[u8],
+    step: usize,
+) -> Result<Option<usize>, AllocError> {
+    let mut input = b"frequent s 8\n".to_vec(alloc)?;
+    let mut output = b"ok\n".to_vec(alloc)?;
+    for _ in 0..count {
+        input.extend_from_slice(b"add s 1 a\n")?;
+        output.extend_from_slice(b"ok\n")?;
+    }
+    input.extend_from_slice(b"ask s a\n")?;
+    output.extend_from_slice(reply)?;
+    Ok(reads_of(alloc, &input, &output, step))
+}
+
+#[test]
+fn many_lines_and_many_reads(rt: HostRuntime) -> Result<(), Fail> {
+    let reply = b"estimate 9998 lower 9998 upper 9998\n";
+    assert!(rt; reads_of_a_name(rt.alloc(), 988, 1)? == Some(1001));
+    assert!(rt; reads_of_additions(rt.alloc(), 9998, reply, 1000)? == Some(102));
+    Ok(())
+}
+
+/// Gives these bytes, and counts the reads before which not all replies were passed on to the lines that it gave whole. Each
+/// is of three bytes.
+#[derive(Drop)]
+struct WatchingReader<'a> {
+    left: &'a [u8],
+    step: usize,
+    lines: usize,
+    late: usize,
+    passed_on: &'a Cell<usize>,
+}
+
+impl Read for WatchingReader<'_> {
+    fn read(&mut self, buf: &mut [u8]) -> IoResult<usize> {
+        if self.passed_on.get() != self.lines.saturating_mul(3) {
+            self.late = self.late.saturating_add(1);
+        }
+        let count = self.step.min(buf.len()).min(self.left.len());
+        let (given, left) = self.left.split_at(count);
+        buf[..count].copy_from_slice(given);
+        for byte in given {
+            if *byte == b'\n' {
+                self.lines = self.lines.saturating_add(1);
+            }
+        }
+        self.left = left;
+        Ok(count)
+    }
+}
+
+/// Counts the bytes that it takes, and tells how many it has passed on.
+#[derive(Drop)]
+struct WatchedWriter<'a> {
+    taken: usize,
+    passed_on: &'a Cell<usize>,
+}
+
+impl Write for WatchedWriter<'_> {
+    fn write(&mut self, buf: &[u8]) -> IoResult<usize> {
+        self.taken = self.taken.saturating_add(buf.len());
+        Ok(buf.len())
+    }
+
+    fn flush(&mut self) -> IoResult<()> {
+        self.passed_on.set(self.taken);
+        Ok(())
+    }
+}
+
+/// Before how many reads of a run not all replies were passed on, and how many bytes of them were at its end.
+fn late_replies(alloc: Global, input: &[u8], step: usize) -> Option<(usize, usize)> {
+    let passed_on = Cell::new(0);
+    let mut reader = Counted::new(WatchingReader {
+        left: input,
+        step,
+        lines: 0,
+        late: 0,
+        passed_on: &passed_on,
+    });
+    let mut writer = Counted::new(WatchedWriter {
+        taken: 0,
+        passed_on: &passed_on,
+    });
+    serve(alloc, &mut reader, &mut writer).ok()?;
+    Some((reader.into_inner().late, passed_on.get()))
+}
+
+#[test]
+fn replies_are_passed_on_before_more_is_read(rt: HostRuntime) {
+    let input = b"frequent s 8\nadd s 1 a\nadd s 1 b\nadd s 1 c\nadd s 1 d\nadd s 1 e\n";
+    for step in [1, 2, 7, 10, 13, 23, 40, 100] {
+        assert!(rt; late_replies(rt.alloc(), input, step) == Some((0, 18)));
     }
 }
 
