@@ -1,19 +1,17 @@
 //! The examples of README, a function each, proved and run by the gate.
+//!
+//! They stand in tests, so that each is proved once.
 #![tactic(auto)]
 
+#[cfg(test)]
 mod counts;
+#[cfg(test)]
 mod filters;
-mod heaviest;
+#[cfg(test)]
+mod frequent_items;
+#[cfg(test)]
 mod images;
-mod sessions;
-mod windows;
-
-pub use counts::bytes_of_apple;
-pub use filters::seen_by_both;
-pub use heaviest::heaviest;
-pub use images::sent;
-pub use sessions::page_seven;
-pub use windows::load_of_a_customer;
-
 #[cfg(test)]
 mod tests;
+#[cfg(test)]
+mod windows;

@@ -1,19 +1,23 @@
 //! What the examples answer.
-use crate::{bytes_of_apple, heaviest, load_of_a_customer, page_seven, seen_by_both, sent};
+use crate::counts::bytes_of_apple;
+use crate::filters::seen_by_both;
+use crate::frequent_items::heaviest;
+use crate::images::sent;
+use crate::windows::load_of_a_customer;
 use datasketches::bloom::BloomFilterBuilder;
-use datasketches::{Reply, error::Error};
+use datasketches::error::Error;
 use std::alloc::Global;
 use std::test::Fail;
 
 #[test]
-fn numbers_are_as_the_readme_says(rt: HostRuntime) -> Result<(), Fail> {
+fn answers_are_as_the_readme_says(rt: HostRuntime) -> Result<(), Fail> {
     assert!(rt; heaviest(rt.alloc(), &[3, 1, 3, 3, 2, 3])? == Some(4));
     assert!(rt; bytes_of_apple(rt.alloc())? == 45);
     assert!(rt; seen_by_both(rt.alloc())?);
     Ok(())
 }
 
-/// The weight and the error of the one row.
+/// The estimate and the lower bound of the first row.
 fn row_of_a_customer(alloc: Global) -> Result<Option<(u64, u64)>, Error> {
     let report = load_of_a_customer(alloc)?;
     let row = report.rows.first();
@@ -28,17 +32,8 @@ fn comes_back(alloc: Global) -> Result<bool, Error> {
 }
 
 #[test]
-fn reports_images_and_sessions_are_as_the_readme_says(rt: HostRuntime) -> Result<(), Fail> {
+fn reports_and_images_are_as_the_readme_says(rt: HostRuntime) -> Result<(), Fail> {
     assert!(rt; row_of_a_customer(rt.alloc())? == Some((6500, 6500)));
     assert!(rt; comes_back(rt.alloc())?);
-    let is_three = matches!(
-        page_seven(rt.alloc())?,
-        Reply::Bounds {
-            estimate: 3,
-            lower: 3,
-            upper: 3
-        }
-    );
-    assert!(rt; is_three);
     Ok(())
 }
