@@ -160,6 +160,16 @@ taken (Some bytes) (Some xs) s s' held holds ended (rest, is, split, clean) t e 
       ap Some (sym read.1 ∙ ap (drop_through 10) whole),
     )
 
+-- such a line has a byte
+pub taken_some : (s s' held holds : List ℕ) (ended : Bool) → TakesFront ended s s' held holds → ended ≡ true → holds ≢ []
+taken_some s s' held holds ended t e none =
+    let (front, pure, cut, grown) = rw e at t in
+    some_not_none (held ++ front) 10 [] (append_assoc held front (10 ∷ []) ∙ sym grown ∙ none)
+
+pub has_bytes : (xs : List ℕ) → xs ≢ [] → not (eqb (length xs) 0) ≡ true
+has_bytes [] some = absurd (some refl)
+has_bytes (x ∷ xs) some = ap not (ne_eqb (length (x ∷ xs)) 0 (λ z. omega arith))
+
 -- the last line has no line feed, or there is none
 ends : (bytes rest holds : List ℕ) (empty : Bool) → bytes ≡ holds → rest ≡ [] → HasNoFeed holds → empty ≡ eqb (length holds) 0 → TakesLine (not empty) (Some bytes) (Some rest) holds
 ends bytes rest [] true e r h k = e

@@ -1,9 +1,10 @@
 -- The loop from lines to replies: what was written so far, and what is still to come.
 use Rattle.std.proofs.Common.{◌≡◌, ◌≢◌, ℕ, ◌+◌, true, false, List, [], ◌∷◌, ◌++◌, Option, None, Some, inl, inr, append_assoc, append-nil, refl, sym, ◌∙◌, ap, subst}
-use Rattle.std.specs.Option.{IfSome}
+use Rattle.std.specs.Option.{IfSome, IsSome}
 use Rattle.std.specs.Io.BufRead.{take_through, drop_through, strip_last}
-use Rattle.std.specs.Io.KnownBytes.{Appends}
+use Rattle.std.specs.Io.KnownBytes.{Appends, IsAtEnd, prepend_known}
 use Rattle.std.specs.String.{string_bytes}
+use Rattle.std.proofs.lemmas.Bool.{false≢true}
 use Rattle.datasketches_cli.specs.declared.request.Answer.{Answer}
 use Rattle.datasketches_cli.specs.declared.request.Request.{Request}
 use Rattle.datasketches_cli.specs.declared.serving.Serving.{Serving}
@@ -120,9 +121,27 @@ turns_bad was is now held mid holds holds' old new left before found became m w 
     let (line, t, (bad, (s, l))) = rw (f, b) at next in
     named was is now held holds holds' (string_bytes left) line old.serving before (wrote was is held mid holds (string_bytes old.replies) (string_bytes left) old.serving before m w) t bad (rw (sym l) wrote')
 
--- the last turn, which finds no line
-pub turns_last : (was is now held mid holds holds' : Option (List ℕ)) (old new : Answering) (left : Text) (before : ℕ) (found : Option Line) →
-    Midway was is held mid (string_bytes old.replies) old.serving before → WritesFront mid holds (string_bytes old.replies) (string_bytes left) → AnswersNext is now (with_replies old left) new found → found ≡ None → Appends holds holds' (string_bytes new.replies) → Serves was held holds' All
-turns_last was is now held mid holds holds' old new left before found m w next f wrote' =
-    let (none, (s, l)) = rw f at next in
-    all_read was is now held holds holds' (string_bytes left) [] old.serving before (wrote was is held mid holds (string_bytes old.replies) (string_bytes left) old.serving before m w) none (rw (sym l) wrote')
+-- a turn with a line that is not bad, where there is one
+pub turns_on : (was is now held mid holds : Option (List ℕ)) (old new : Answering) (left : Text) (before : ℕ) (found : Option Line) →
+    Midway was is held mid (string_bytes old.replies) old.serving before → WritesFront mid holds (string_bytes old.replies) (string_bytes left) → AnswersNext is now (with_replies old left) new found → found ≢ Some Bad → IsSome found →
+    Midway was now held holds (string_bytes new.replies) new.serving (before + 1)
+turns_on was is now held mid holds old new left before None m w next good some = absurd (false≢true some)
+turns_on was is now held mid holds old new left before (Some became) m w next good some =
+    turns was is now held mid holds old new left before (Some became) became m w next refl (λ bad. good (ap Some bad))
+
+-- no line is left
+nothing_left : (unread : List ℕ) (left : Option (List ℕ)) → unread ≡ [] → IsAtEnd left → TakesLine false (prepend_known unread left) None []
+nothing_left unread None e end = tt
+nothing_left unread (Some xs) e end = ap (λ (l : List ℕ). l ++ xs) e ∙ end
+
+-- the last turn, with a line that is not bad or with none
+pub turns_last : (was is left' held mid holds holds' : Option (List ℕ)) (unread : List ℕ) (old new : Answering) (left : Text) (before : ℕ) (found : Option Line) →
+    Midway was is held mid (string_bytes old.replies) old.serving before → WritesFront mid holds (string_bytes old.replies) (string_bytes left) → AnswersNext is (prepend_known unread left') (with_replies old left) new found → found ≢ Some Bad → unread ≡ [] → IsAtEnd left' → Appends holds holds' (string_bytes new.replies) →
+    Serves was held holds' All
+turns_last was is left' held mid holds holds' unread old new left before None m w next good e end wrote' =
+    let (none, (s, l)) = next in
+    all_read was is None held holds holds' (string_bytes left) [] old.serving before (wrote was is held mid holds (string_bytes old.replies) (string_bytes left) old.serving before m w) none (rw (sym l) wrote')
+turns_last was is left' held mid holds holds' unread old new left before (Some became) m w next good e end wrote' =
+    all_read was (prepend_known unread left') None held holds holds' (string_bytes new.replies) [] new.serving (before + 1)
+    (turns was is (prepend_known unread left') held mid holds old new left before (Some became) became m w next refl (λ bad. good (ap Some bad)))
+    (nothing_left unread left' e end) wrote'

@@ -1,5 +1,5 @@
 //! The lines of a reader that is handed over at each call.
-ghost use Rattle.std.specs.Prelude.{◌≡◌, ◌≤◌, ◌+◌, ◌==◌, ◌↔◌, [], false, length, IsTrue, IfOk, Contains};
+ghost use Rattle.std.specs.Prelude.{◌≡◌, ◌≢◌, ◌≤◌, ◌+◌, ◌==◌, ◌↔◌, [], false, true, not, length, IsTrue, IfOk, OnOk, Contains};
 ghost use Rattle.std.specs.Io.BufRead.{take_through, drop_through};
 ghost use Rattle.std.specs.Io.KnownBytes.{IsAtEnd, prepend_known};
 ghost use Rattle.std.specs.List.{position_or_len, slice_range};
@@ -76,7 +76,8 @@ impl LineReader {
         self.feed = first_feed(&self.buffer, self.start, self.end);
     }
 
-    /// Puts the next line, with its end, in the place of what `line` holds, or answers that no input is left.
+    /// Puts the next line, with its end, in the place of what `line` holds: no byte where no input is left. Answers whether
+    /// there may be more input.
     ///
     /// It reads only where the line was not read already, and tries again after a read that a signal interrupted.
     pub fn read_line<R: Read>(
@@ -84,10 +85,12 @@ impl LineReader {
         reader: &mut Counted<R>,
         line: &mut Vec<u8>,
     ) -> Result<bool>
-        ensures line { IfOk result (λ found. TakesLine found
+        ensures line { OnOk result (TakesLine (not (length line.new.items == 0))
             (prepend_known self.old (R.remaining reader.old.inner))
             (prepend_known self.new (R.remaining reader.new.inner)) line.new.items) }
-        ensures end { IfOk result (λ found. found ≡ false → IsAtEnd (R.remaining reader.new.inner)) }
+        ensures some { IfOk result (λ more. more ≡ true → line.new.items ≢ []) }
+        ensures end { IfOk result (λ more. more ≡ false → (self.new ≡ [])
+            × IsAtEnd (R.remaining reader.new.inner)) }
     {
         line.clear();
         // the label names the loop in its proof
@@ -96,7 +99,7 @@ impl LineReader {
                 return Ok(true);
             }
             if !self.fill(reader)? {
-                return Ok(!line.is_empty());
+                return Ok(false);
             }
         }
         Err(Error::from(ErrorKind::Other))

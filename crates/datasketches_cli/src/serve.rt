@@ -1,5 +1,5 @@
 //! The loop from lines to replies.
-ghost use Rattle.std.specs.Prelude.{◌≡◌, ◌<◌, ◌⊎◌, ◌↔◌, [], ◌++◌, None, IsTrue, IfOk, IfErr, OnOk, Contains};
+ghost use Rattle.std.specs.Prelude.{◌≡◌, ◌<◌, ◌⊎◌, ◌↔◌, [], ◌++◌, true, false, Some, IsSome, IsTrue, IfOk, IfErr, OnOk, Contains};
 ghost use Rattle.std.specs.Prelude.{string_bytes, string_len};
 ghost use Rattle.std.specs.Io.BufRead.{strip_last};
 ghost use Rattle.std.specs.Io.KnownBytes.{Appends, IsAtEnd, prepend_known};
@@ -119,43 +119,56 @@ fn serve_lines<R: Read, W: Write>(
     for before in 0..u128::MAX {
         let number = before + 1;
         write_due(&lines, writer, &mut answering.replies)?;
-        let became = answer_next(&mut answering, &mut lines, reader, &mut line)?;
-        let Some(became) = became else {
-            write_out(writer, &mut answering.replies)?;
-            return Ok(Ended::All);
-        };
-        if let Line::Bad = became {
+        let (became, more) = answer_next(&mut answering, &mut lines, reader, &mut line)?;
+        if is_bad(became) {
             write_bad(writer, &mut answering.replies, number)?;
             return Ok(Ended::BadLine(number));
+        }
+        if !more {
+            write_out(writer, &mut answering.replies)?;
+            return Ok(Ended::All);
         }
     }
     Err(Stopped)
 }
 
-/// Does what the next line asks for, and gathers its answer. `None` where no input is left.
+/// Does what the next line asks for, and gathers its answer: what became of it, or `None` where no input is left, and
+/// whether there may be more input.
 ///
-/// A line that was read whole is looked at where it lies. Else it comes into the place of what `line` holds.
+/// A line that was read whole is looked at where it lies. Else it comes into the place of what `line` holds, and more is
+/// read, which is only asked for where no reply is gathered.
 fn answer_next<R: Read>(
     answering: &mut Answering,
     lines: &mut LineReader,
     reader: &mut Counted<R>,
     line: &mut Vec<u8>,
-) -> Result<Option<Line>, Stopped>
-    ensures answered { IfOk result (AnswersNext (prepend_known lines.old (R.remaining reader.old.inner))
-        (prepend_known lines.new (R.remaining reader.new.inner)) answering.old answering.new) }
-    ensures end { IfOk result (λ said. said ≡ None → IsAtEnd (R.remaining reader.new.inner)) }
+) -> Result<(Option<Line>, bool), Stopped>
+    requires { ¬ Contains lines.old 10 → string_bytes answering.old.replies ≡ [] }
+    ensures answered { IfOk result (λ found. AnswersNext (prepend_known lines.old (R.remaining reader.old.inner))
+        (prepend_known lines.new (R.remaining reader.new.inner)) answering.old answering.new found.0) }
+    ensures some { IfOk result (λ found. found.1 ≡ true → IsSome found.0) }
+    ensures end { IfOk result (λ found. found.1 ≡ false → (lines.new ≡ [])
+        × IsAtEnd (R.remaining reader.new.inner)) }
+    ensures alone { Contains lines.old 10 → reader.new ≡ reader.old }
 {
     if lines.has_line() {
         let became = answering.answer_line(without_end(lines.line()))?;
         lines.skip_line();
-        return Ok(Some(became));
+        return Ok((Some(became), true));
     }
-    if lines.read_line(reader, line)? {
-        let became = answering.answer_line(without_end(line))?;
-        Ok(Some(became))
-    } else {
-        Ok(None)
+    let more = lines.read_line(reader, line)?;
+    if line.is_empty() {
+        return Ok((None, false));
     }
+    let became = answering.answer_line(without_end(line))?;
+    Ok((Some(became), more))
+}
+
+/// Whether a line asks for nothing.
+fn is_bad(became: Option<Line>) -> bool
+    ensures { IsTrue result ↔ (became ≡ Some Line.Bad) }
+{
+    matches!(became, Some(Line::Bad))
 }
 
 /// Writes the gathered replies, and names a bad line.

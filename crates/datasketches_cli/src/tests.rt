@@ -732,6 +732,22 @@ fn many_lines_and_many_reads(rt: HostRuntime) -> Result<(), Fail> {
     Ok(())
 }
 
+// The input is read no more behind the read that finds its end, also where its last line has no end.
+#[test]
+fn the_end_of_input_is_met_once(rt: HostRuntime) {
+    let rows: [(&[u8], &[u8], usize, usize); 6] = [
+        (b"", b"", 1, 1),
+        (b"\n \n", b"", 1, 4),
+        (b"frequent s 8\n", b"ok\n", 100, 2),
+        (b"frequent s 8", b"ok\n", 100, 2),
+        (b"frequent s 8\r", b"ok\n", 1, 14),
+        (b"frequent s 8\n  ", b"ok\n", 100, 2),
+    ];
+    for (input, output, step, reads) in rows {
+        assert!(rt; reads_of(rt.alloc(), input, output, step) == Some(reads));
+    }
+}
+
 /// Gives these bytes, and counts the reads before which not all replies were passed on to the lines that it gave whole. Each
 /// is of three bytes.
 #[derive(Drop)]

@@ -1,4 +1,4 @@
-use Rattle.std.proofs.Common.{[], true, refl}
+use Rattle.std.proofs.Common.{◌≡◌, ℕ, eqb, length, [], true, false, refl, sym, ◌∙◌, ap, arith}
 use Rattle.std.specs.Io.BufRead.{take_through}
 use Rattle.datasketches_cli.proofs.LineReading.{takes_some, taken, begins}
 use Rattle.datasketches_cli.proofs.serve.answer_next.Goals as goal
@@ -10,9 +10,11 @@ returns-then-has_line-clause-answered g c = (
   rw (c.without_end.ensures, c.line.ensures) at c.in_ok-became.ensures,
 )
 
-pub returns-in_ok-became-2-clause-answered : goal.returns-in_ok-became-2-clause-answered
-returns-in_ok-became-2-clause-answered g c = (
-  _,
-  rw c.if-branch.true at c.in_ok-read_line.ensures.line,
-  rw (c.without_end-then-branch.ensures, c.deref.ensures.value) at c.in_ok-became-2.ensures,
-)
+pub returns-clause-answered : goal.returns-clause-answered
+returns-clause-answered g c =
+    let len : c.read_line.new.line.len ≡ length c.read_line.new.line.items = omega (arith, c.read_line.new.line.ok) in
+    let some : eqb (length c.read_line.new.line.items) 0 ≡ false = sym (c.is_empty.ensures ∙ ap (λ (n : ℕ). eqb n 0) len) ∙ c.if-is_empty.false in (
+      c.read_line.new.line.items,
+      rw some at c.in_ok-more.ensures.line,
+      rw (c.without_end-2.ensures, c.deref.ensures.value) at c.in_ok-became-2.ensures,
+    )
