@@ -540,17 +540,9 @@ impl Write for PlannedWriter {
     }
 }
 
-/// What became of a run over streams that are planned.
-#[derive(Clone, Copy, PartialEq, Eq)]
-struct Run {
-    ended: Result<Ended, CliFault>,
-    /// How many calls of the reader and of the writer are counted as failed.
-    failures: (u64, u64),
-    /// How many bytes were written, where they are a beginning of the output.
-    written: Option<usize>,
-    /// How often the reader was read.
-    reads: usize,
-}
+/// What became of a run over streams that are planned: how it ended, how many calls of its reader and of its writer are
+/// counted as failed, how many bytes were written, where they are a beginning of the output, and how often it read.
+type Run = (Result<Ended, CliFault>, (u64, u64), Option<usize>, usize);
 
 fn planned(alloc: Global, input: &[u8], output: &[u8], reads: Plan, writes: Plan) -> Run {
     let mut reader = Counted::new(PlannedReader {
@@ -566,22 +558,22 @@ fn planned(alloc: Global, input: &[u8], output: &[u8], reads: Plan, writes: Plan
     let ended = serve(alloc, &mut reader, &mut writer);
     let failures = (reader.failures(), writer.failures());
     let taken = writer.into_inner().taken;
-    Run {
-        ended,
-        failures,
-        written: output.starts_with(&taken).then_some(taken.len()),
-        reads: reader.into_inner().calls,
-    }
+    let written = output.starts_with(&taken).then_some(taken.len());
+    (ended, failures, written, reader.into_inner().calls)
 }
 
-/// Which stream fails in turn, and how.
+/// Which call fails, and how.
 #[derive(Clone, Copy)]
 enum Failing {
-    Reader(ErrorKind),
-    Writer(ErrorKind),
+    /// A read.
+    Read,
+    /// A read, in a way after which it is to be tried again.
+    ReadOnce,
+    /// A write or a flush.
+    Write,
 }
 
-/// A run whose call of this number fails.
+/// A run whose call of this number fails, over streams of these steps.
 fn failing_at(
     alloc: Global,
     texts: (&[u8], &[u8]),
@@ -592,50 +584,70 @@ fn failing_at(
     let mut reads = Plan {
         step: steps.0,
         fails_at: 0,
-        kind: ErrorKind::Other,
+        kind: ErrorKind::ConnectionReset,
     };
     let mut writes = Plan {
         step: steps.1,
-        ..reads
+        fails_at: 0,
+        kind: ErrorKind::BrokenPipe,
     };
     match which {
-        Failing::Reader(kind) => {
-            reads.kind = kind;
+        Failing::Read => reads.fails_at = number,
+        Failing::ReadOnce => {
+            reads.kind = ErrorKind::Interrupted;
             reads.fails_at = number;
         }
-        Failing::Writer(kind) => {
-            writes.kind = kind;
-            writes.fails_at = number;
-        }
+        Failing::Write => writes.fails_at = number,
     }
     planned(alloc, texts.0, texts.1, reads, writes)
 }
 
-/// Of how many calls of a stream each fails in a run of its own that ends in this way: the failure is counted, and what was
-/// written is a beginning of the output. A run in which none fails ends in the other way, and writes all.
+/// Whether no call failed, and all was written.
+fn is_whole(run: Run, ended: Ended, length: usize) -> bool {
+    let (end, failures, written, _) = run;
+    end == Ok(ended) && failures == (0, 0) && written == Some(length)
+}
+
+/// Whether the failure of a call is counted, and ends the run, unless the call is to be tried again.
+fn has_failed(run: Run, which: Failing, ended: Ended, length: usize) -> bool {
+    let (end, failures, written, _) = run;
+    match which {
+        Failing::Read => { end == Err(CliFault::Io) && failures == (1, 0) && written.is_some() }
+        Failing::ReadOnce => { end == Ok(ended) && failures == (1, 0) && written == Some(length) }
+        Failing::Write => { end == Err(CliFault::Io) && failures == (0, 1) && written.is_some() }
+    }
+}
+
+/// Of how many calls each fails in a run of its own, up to a run in which none fails.
 fn calls_that_fail(
+    alloc: Global,
+    texts: (&[u8], &[u8]),
+    steps: (usize, usize),
+    which: Failing,
+    ended: Ended,
+) -> Option<usize> {
+    for calls in 0..1000 {
+        let run = failing_at(alloc, texts, steps, which, calls + 1);
+        if is_whole(run, ended, texts.1.len()) {
+            return Some(calls);
+        }
+        if !has_failed(run, which, ended, texts.1.len()) {
+            return None;
+        }
+    }
+    None
+}
+
+/// The same over the lines of some rows.
+fn calls_of(
     alloc: Global,
     rows: &[Row],
     steps: (usize, usize),
     which: Failing,
-    ends: (Result<Ended, CliFault>, Ended),
+    ended: Ended,
 ) -> Result<Option<usize>, AllocError> {
-    let (input, output) = texts_of(alloc, rows)?;
-    let counted = match which {
-        Failing::Reader(_) => (1, 0),
-        Failing::Writer(_) => (0, 1),
-    };
-    for calls in 0..1000 {
-        let run = failing_at(alloc, (&input, &output), steps, which, calls + 1);
-        if run.failures == (0, 0) {
-            let is_whole = run.ended == Ok(ends.1) && run.written == Some(output.len());
-            return Ok(is_whole.then_some(calls));
-        }
-        if run.failures != counted || run.ended != ends.0 || run.written.is_none() {
-            return Ok(None);
-        }
-    }
-    Ok(None)
+    let (lines, replies) = texts_of(alloc, rows)?;
+    Ok(calls_that_fail(alloc, (&lines, &replies), steps, which, ended))
 }
 
 const THREE_LINES: [Row; 3] = [
@@ -646,89 +658,67 @@ const THREE_LINES: [Row; 3] = [
 
 // The three lines have 31 bytes, and the end of input takes a read more; the replies have 33, and are passed on in one more
 // call, or where each line is read by itself in one more for each. The questions have 133 bytes through the bad line, behind
-// which nothing is read, and their 13 replies have 146. A read that is interrupted is tried again.
+// which nothing is read, and their 13 replies have 146.
 #[test]
 fn streams_that_fail_in_turn(rt: HostRuntime) -> Result<(), Fail> {
-    let io = Err(CliFault::Io);
-    let three = (io, Ended::All);
-    let questions = (io, Ended::BadLine(13));
-    let reader = Failing::Reader(ErrorKind::ConnectionReset);
-    let interrupted = Failing::Reader(ErrorKind::Interrupted);
-    let writer = Failing::Writer(ErrorKind::BrokenPipe);
-    let rows: [(
-        &[Row],
-        (usize, usize),
-        Failing,
-        (Result<Ended, CliFault>, Ended),
-        usize,
-    ); 10] = [
-        (&THREE_LINES, (100, 100), reader, three, 2),
-        (&THREE_LINES, (1, 100), reader, three, 32),
-        (
-            &THREE_LINES,
-            (1, 100),
-            interrupted,
-            (Ok(Ended::All), Ended::All),
-            32,
-        ),
-        (&THREE_LINES, (100, 100), writer, three, 2),
-        (&THREE_LINES, (100, 1), writer, three, 34),
-        (&THREE_LINES, (1, 1), writer, three, 36),
-        (&QUESTIONS, (1, 100), reader, questions, 133),
-        (&QUESTIONS, (1000, 1), writer, questions, 147),
-        (&QUESTIONS, (1, 1), writer, questions, 159),
-        (&QUESTIONS, (1, 1000), writer, questions, 26),
+    let questions = Ended::BadLine(13);
+    let rows: [(&[Row], (usize, usize), Failing, Ended, usize); 10] = [
+        (&THREE_LINES, (100, 100), Failing::Read, Ended::All, 2),
+        (&THREE_LINES, (1, 100), Failing::Read, Ended::All, 32),
+        (&THREE_LINES, (1, 100), Failing::ReadOnce, Ended::All, 32),
+        (&THREE_LINES, (100, 100), Failing::Write, Ended::All, 2),
+        (&THREE_LINES, (100, 1), Failing::Write, Ended::All, 34),
+        (&THREE_LINES, (1, 1), Failing::Write, Ended::All, 36),
+        (&QUESTIONS, (1, 100), Failing::Read, questions, 133),
+        (&QUESTIONS, (1000, 1), Failing::Write, questions, 147),
+        (&QUESTIONS, (1, 1), Failing::Write, questions, 159),
+        (&QUESTIONS, (1, 1000), Failing::Write, questions, 26),
     ];
-    for (lines, steps, which, ends, wanted) in rows {
-        assert!(rt; calls_that_fail(rt.alloc(), lines, steps, which, ends)? == Some(wanted));
+    for (lines, steps, which, ended, wanted) in rows {
+        assert!(rt; calls_of(rt.alloc(), lines, steps, which, ended)? == Some(wanted));
     }
     Ok(())
 }
 
 /// How often a run reads that writes the whole output, where a read gives so many bytes.
 fn reads_of(alloc: Global, input: &[u8], output: &[u8], step: usize) -> Option<usize> {
-    let none = Failing::Reader(ErrorKind::Other);
-    let run = failing_at(alloc, (input, output), (step, 1000), none, 0);
-    if run.ended == Ok(Ended::All) && run.written == Some(output.len()) {
-        Some(run.reads)
-    } else {
-        None
-    }
+    let run = failing_at(alloc, (input, output), (step, 1000), Failing::Read, 0);
+    is_whole(run, Ended::All, output.len()).then_some(run.3)
 }
 
-/// The same of a line of 12 bytes and a name of so many.
-fn reads_of_a_name(alloc: Global, length: u32, step: usize) -> Result<Option<usize>, AllocError> {
-    let mut input = b"frequent ".to_vec(alloc)?;
-    for _ in 0..length {
-        input.push(b'x')?;
+/// So many of the piece in the middle, between the two others.
+fn repeated(alloc: Global, pieces: [&[u8]; 3], times: u32) -> Result<Vec<u8>, AllocError> {
+    let mut text = pieces[0].to_vec(alloc)?;
+    for _ in 0..times {
+        text.extend_from_slice(pieces[1])?;
     }
-    input.extend_from_slice(b" 8\n")?;
-    Ok(reads_of(alloc, &input, b"ok\n", step))
+    text.extend_from_slice(pieces[2])?;
+    Ok(text)
 }
 
-/// The same of so many additions of 10 bytes each, between lines of 13 bytes and of 8, of which the last gets this reply.
-fn reads_of_additions(
+/// How often a run reads whose input and output are repeated.
+fn reads_of_repeated(
     alloc: Global,
-    count: u32,
-    reply: &[u8],
+    input: [&[u8]; 3],
+    output: [&[u8]; 3],
+    times: u32,
     step: usize,
 ) -> Result<Option<usize>, AllocError> {
-    let mut input = b"frequent s 8\n".to_vec(alloc)?;
-    let mut output = b"ok\n".to_vec(alloc)?;
-    for _ in 0..count {
-        input.extend_from_slice(b"add s 1 a\n")?;
-        output.extend_from_slice(b"ok\n")?;
-    }
-    input.extend_from_slice(b"ask s a\n")?;
-    output.extend_from_slice(reply)?;
+    let input = repeated(alloc, input, times)?;
+    let output = repeated(alloc, output, times)?;
     Ok(reads_of(alloc, &input, &output, step))
 }
 
+// A line of a thousand bytes, each of which is read by itself, and ten thousand lines of 100001 bytes.
 #[test]
-fn many_lines_and_many_reads(rt: HostRuntime) -> Result<(), Fail> {
-    let reply = b"estimate 9998 lower 9998 upper 9998\n";
-    assert!(rt; reads_of_a_name(rt.alloc(), 988, 1)? == Some(1001));
-    assert!(rt; reads_of_additions(rt.alloc(), 9998, reply, 1000)? == Some(102));
+fn many_reads_and_many_lines(rt: HostRuntime) -> Result<(), Fail> {
+    let alloc = rt.alloc();
+    let name: [&[u8]; 3] = [b"frequent ", b"x", b" 8\n"];
+    let replies: [&[u8]; 3] = [b"ok\n", b"", b""];
+    assert!(rt; reads_of_repeated(alloc, name, replies, 988, 1)? == Some(1001));
+    let lines: [&[u8]; 3] = [b"frequent s 8\n", b"add s 1 a\n", b"ask s a\n"];
+    let replies: [&[u8]; 3] = [b"ok\n", b"ok\n", b"estimate 9998 lower 9998 upper 9998\n"];
+    assert!(rt; reads_of_repeated(alloc, lines, replies, 9998, 1000)? == Some(102));
     Ok(())
 }
 
@@ -796,8 +786,12 @@ impl Write for WatchedWriter<'_> {
     }
 }
 
-/// Before how many reads of a run not all replies were passed on, and how many bytes of them were at its end.
-fn late_replies(alloc: Global, input: &[u8], step: usize) -> Option<(usize, usize)> {
+/// How a run ended, before how many of its reads not all replies were passed on, and how many bytes of them were at its end.
+fn late_replies(
+    alloc: Global,
+    input: &[u8],
+    step: usize,
+) -> (Result<Ended, CliFault>, usize, usize) {
     let passed_on = Cell::new(0);
     let mut reader = Counted::new(WatchingReader {
         left: input,
@@ -810,15 +804,15 @@ fn late_replies(alloc: Global, input: &[u8], step: usize) -> Option<(usize, usiz
         taken: 0,
         passed_on: &passed_on,
     });
-    serve(alloc, &mut reader, &mut writer).ok()?;
-    Some((reader.into_inner().late, passed_on.get()))
+    let ended = serve(alloc, &mut reader, &mut writer);
+    (ended, reader.into_inner().late, passed_on.get())
 }
 
 #[test]
 fn replies_are_passed_on_before_more_is_read(rt: HostRuntime) {
     let input = b"frequent s 8\nadd s 1 a\nadd s 1 b\nadd s 1 c\nadd s 1 d\nadd s 1 e\n";
     for step in [1, 2, 7, 10, 13, 23, 40, 100] {
-        assert!(rt; late_replies(rt.alloc(), input, step) == Some((0, 18)));
+        assert!(rt; late_replies(rt.alloc(), input, step) == (Ok(Ended::All), 0, 18));
     }
 }
 
