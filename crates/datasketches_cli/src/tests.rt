@@ -638,44 +638,56 @@ fn calls_that_fail(
     None
 }
 
-/// The same over the lines of some rows.
-fn calls_of(
-    alloc: Global,
-    rows: &[Row],
-    steps: (usize, usize),
-    which: Failing,
-    ended: Ended,
-) -> Result<Option<usize>, AllocError> {
-    let (lines, replies) = texts_of(alloc, rows)?;
-    Ok(calls_that_fail(alloc, (&lines, &replies), steps, which, ended))
-}
-
 const THREE_LINES: [Row; 3] = [
     ("frequent s 8", "ok"),
     ("add s 1 a", "ok"),
     ("ask s a", "estimate 1 lower 1 upper 1"),
 ];
 
-// The three lines have 31 bytes, and the end of input takes a read more; the replies have 33, and are passed on in one more
-// call, or where each line is read by itself in one more for each. The questions have 133 bytes through the bad line, behind
-// which nothing is read, and their 13 replies have 146.
+/// What is asked for.
+#[derive(Clone, Copy)]
+enum Asked {
+    ThreeLines,
+    Questions,
+}
+
+/// The same over some lines.
+fn calls_of(
+    alloc: Global,
+    asked: Asked,
+    steps: (usize, usize),
+    which: Failing,
+) -> Result<Option<usize>, AllocError> {
+    let (rows, ended): (&[Row], Ended) = match asked {
+        Asked::ThreeLines => (&THREE_LINES, Ended::All),
+        Asked::Questions => (&QUESTIONS, Ended::BadLine(13)),
+    };
+    let (lines, replies) = texts_of(alloc, rows)?;
+    Ok(calls_that_fail(alloc, (&lines, &replies), steps, which, ended))
+}
+
+/// How many bytes the streams move a call, which calls fail, and how many there are.
+///
+/// The three lines have 31 bytes, and the end of input takes a read more; the replies have 33, and are passed on in one more
+/// call, or where each line is read by itself in one more for each. The questions have 133 bytes through the bad line,
+/// behind which nothing is read, and their 13 replies have 146.
+const CALLS: [(Asked, (usize, usize), Failing, usize); 10] = [
+    (Asked::ThreeLines, (100, 100), Failing::Read, 2),
+    (Asked::ThreeLines, (1, 100), Failing::Read, 32),
+    (Asked::ThreeLines, (1, 100), Failing::ReadOnce, 32),
+    (Asked::ThreeLines, (100, 100), Failing::Write, 2),
+    (Asked::ThreeLines, (100, 1), Failing::Write, 34),
+    (Asked::ThreeLines, (1, 1), Failing::Write, 36),
+    (Asked::Questions, (1, 100), Failing::Read, 133),
+    (Asked::Questions, (1000, 1), Failing::Write, 147),
+    (Asked::Questions, (1, 1), Failing::Write, 159),
+    (Asked::Questions, (1, 1000), Failing::Write, 26),
+];
+
 #[test]
 fn streams_that_fail_in_turn(rt: HostRuntime) -> Result<(), Fail> {
-    let questions = Ended::BadLine(13);
-    let rows: [(&[Row], (usize, usize), Failing, Ended, usize); 10] = [
-        (&THREE_LINES, (100, 100), Failing::Read, Ended::All, 2),
-        (&THREE_LINES, (1, 100), Failing::Read, Ended::All, 32),
-        (&THREE_LINES, (1, 100), Failing::ReadOnce, Ended::All, 32),
-        (&THREE_LINES, (100, 100), Failing::Write, Ended::All, 2),
-        (&THREE_LINES, (100, 1), Failing::Write, Ended::All, 34),
-        (&THREE_LINES, (1, 1), Failing::Write, Ended::All, 36),
-        (&QUESTIONS, (1, 100), Failing::Read, questions, 133),
-        (&QUESTIONS, (1000, 1), Failing::Write, questions, 147),
-        (&QUESTIONS, (1, 1), Failing::Write, questions, 159),
-        (&QUESTIONS, (1, 1000), Failing::Write, questions, 26),
-    ];
-    for (lines, steps, which, ended, wanted) in rows {
-        assert!(rt; calls_of(rt.alloc(), lines, steps, which, ended)? == Some(wanted));
+    for (asked, steps, which, wanted) in CALLS {
+        assert!(rt; calls_of(rt.alloc(), asked, steps, which)? == Some(wanted));
     }
     Ok(())
 }
@@ -709,16 +721,32 @@ fn reads_of_repeated(
     Ok(reads_of(alloc, &input, &output, step))
 }
 
-// A line of a thousand bytes, each of which is read by itself, and ten thousand lines of 100001 bytes.
+/// Three pieces each of an input and its output, how often the second is repeated, how many bytes a read gives, and how many
+/// reads there are: a line of 1000 bytes, each of which is read by itself, and 10000 lines of 100001 bytes.
+type Repeated = ([&'static [u8]; 3], [&'static [u8]; 3], u32, usize, usize);
+
+const REPEATED: [Repeated; 2] = [
+    (
+        [b"frequent ", b"x", b" 8\n"],
+        [b"ok\n", b"", b""],
+        988,
+        1,
+        1001,
+    ),
+    (
+        [b"frequent s 8\n", b"add s 1 a\n", b"ask s a\n"],
+        [b"ok\n", b"ok\n", b"estimate 9998 lower 9998 upper 9998\n"],
+        9998,
+        1000,
+        102,
+    ),
+];
+
 #[test]
 fn many_reads_and_many_lines(rt: HostRuntime) -> Result<(), Fail> {
-    let alloc = rt.alloc();
-    let name: [&[u8]; 3] = [b"frequent ", b"x", b" 8\n"];
-    let replies: [&[u8]; 3] = [b"ok\n", b"", b""];
-    assert!(rt; reads_of_repeated(alloc, name, replies, 988, 1)? == Some(1001));
-    let lines: [&[u8]; 3] = [b"frequent s 8\n", b"add s 1 a\n", b"ask s a\n"];
-    let replies: [&[u8]; 3] = [b"ok\n", b"ok\n", b"estimate 9998 lower 9998 upper 9998\n"];
-    assert!(rt; reads_of_repeated(alloc, lines, replies, 9998, 1000)? == Some(102));
+    for (input, output, times, step, reads) in REPEATED {
+        assert!(rt; reads_of_repeated(rt.alloc(), input, output, times, step)? == Some(reads));
+    }
     Ok(())
 }
 
