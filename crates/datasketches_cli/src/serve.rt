@@ -61,8 +61,8 @@ impl From<AllocError> for Stopped {
 ///
 /// A line ends at a line feed or at the end of input, and one carriage return before that is dropped. A line without a
 /// word gets no answer. After a line that asks for nothing, `bad line` and its number are written, and nothing more is
-/// done. Replies are written before more input is waited for. Where it answers without an error, the writer's count of
-/// failures is as it was, and after `All` the reader has no byte left.
+/// done. Replies are written before more input is waited for, and no more is read behind the read that finds the end. Where
+/// it answers without an error, the writer's count of failures is as it was, and after `All` the reader has no byte left.
 ///
 /// # Errors
 ///
