@@ -1,7 +1,8 @@
 //! Each call that may answer want of memory, alone.
 use crate::table::{free_table, grow, put, put_ref};
 use crate::tell::{
-    tell_bytes, tell_counts, tell_error, tell_filter, tell_frequent, tell_outcome, tell_table,
+    tell_bytes, tell_counts, tell_error, tell_filter, tell_frequent, tell_outcome, tell_rows,
+    tell_table,
 };
 use crate::texts::{sketch_of, text, texts};
 use crate::trial::{Stopped, Trial, say, say_line};
@@ -37,6 +38,22 @@ fn asked(alloc: Global) -> Result<Vec<String>, AllocError> {
 
 const SIX: [&str; 6] = ["a", "b", "c", "d", "e", "f"];
 
+/// What a sketch says of itself and of the texts that are asked for.
+fn tell_asked(trial: &mut Trial, sketch: &FrequentItemsSketch<String>) {
+    match asked(trial.alloc) {
+        Ok(asked) => tell_frequent(trial, sketch, &asked),
+        Err(_) => trial.stop(),
+    }
+}
+
+/// The same of a table.
+fn tell_asked_table(trial: &mut Trial, map: &ReversePurgeItemHashMap<String>) {
+    match asked(trial.alloc) {
+        Ok(asked) => tell_table(trial, map, &asked),
+        Err(_) => trial.stop(),
+    }
+}
+
 pub fn new_frequent(trial: &mut Trial) -> Result<(), Stopped> {
     let alloc = trial.alloc;
     let made = counted!(trial, FrequentItemsSketch::<String>::new(alloc, 64));
@@ -49,25 +66,11 @@ pub fn new_frequent(trial: &mut Trial) -> Result<(), Stopped> {
     Ok(())
 }
 
-/// A sketch of six texts, whose table must double for a seventh, and the texts that are asked for.
-#[derive(Drop)]
-struct Six {
-    asked: Vec<String>,
-    sketch: FrequentItemsSketch<String>,
-    seventh: String,
-}
-
-/// Makes it, and says what it holds.
-fn prepare(trial: &mut Trial) -> Result<Six, Stopped> {
-    let asked = asked(trial.alloc)?;
-    let seventh = text(trial.alloc, "g")?;
+/// Makes a sketch of six texts, whose table must double for a seventh, and says what it holds.
+fn prepare(trial: &mut Trial) -> Result<FrequentItemsSketch<String>, Stopped> {
     let sketch = sketch_of(trial.alloc, 64, &SIX)?;
-    tell_frequent(trial, &sketch, &asked);
-    Ok(Six {
-        asked,
-        sketch,
-        seventh,
-    })
+    tell_asked(trial, &sketch);
+    Ok(sketch)
 }
 
 /// Whether a change was accepted, and what a sketch holds after it.
@@ -75,21 +78,16 @@ fn tell_changed(
     trial: &mut Trial,
     changed: Result<(), Error>,
     sketch: &FrequentItemsSketch<String>,
-    asked: &[String],
 ) {
     tell_outcome(trial, changed);
     after(trial);
-    tell_frequent(trial, sketch, asked);
+    tell_asked(trial, sketch);
 }
 
 /// What a made sketch holds, or why there is none.
-fn tell_made(
-    trial: &mut Trial,
-    made: Result<FrequentItemsSketch<String>, Error>,
-    asked: &[String],
-) {
+fn tell_made(trial: &mut Trial, made: Result<FrequentItemsSketch<String>, Error>) {
     match made {
-        Ok(sketch) => tell_frequent(trial, &sketch, asked),
+        Ok(sketch) => tell_asked(trial, &sketch),
         Err(e) => tell_error(trial, e),
     }
 }
@@ -102,61 +100,55 @@ fn tell_image(trial: &mut Trial, image: Result<Vec<u8>, Error>) {
     }
 }
 
+/// A way to update a sketch. By reference the item is cloned.
+#[derive(Clone, Copy)]
+pub enum Way {
+    Value,
+    Weight,
+    Reference,
+    WeightByReference,
+}
+
+/// Updates a sketch in this way.
+fn update_in(
+    way: Way,
+    sketch: &mut FrequentItemsSketch<String>,
+    item: String,
+) -> Result<(), Error> {
+    match way {
+        Way::Value => sketch.update(item),
+        Way::Weight => sketch.update_with_count(item, 5),
+        Way::Reference => sketch.update_ref(&item),
+        Way::WeightByReference => sketch.update_with_count_ref(&item, 5),
+    }
+}
+
 /// The table must double for the seventh item.
-pub fn update(trial: &mut Trial) -> Result<(), Stopped> {
-    let Six {
-        asked,
-        mut sketch,
-        seventh,
-    } = prepare(trial)?;
-    let updated = counted!(trial, sketch.update(seventh));
-    tell_changed(trial, updated, &sketch, &asked);
-    Ok(())
-}
-
-pub fn update_with_count(trial: &mut Trial) -> Result<(), Stopped> {
-    let Six {
-        asked,
-        mut sketch,
-        seventh,
-    } = prepare(trial)?;
-    let updated = counted!(trial, sketch.update_with_count(seventh, 5));
-    tell_changed(trial, updated, &sketch, &asked);
-    Ok(())
-}
-
-/// The item is cloned, and the table doubles.
-pub fn update_ref(trial: &mut Trial) -> Result<(), Stopped> {
-    let mut six = prepare(trial)?;
-    let updated = counted!(trial, six.sketch.update_ref(&six.seventh));
-    tell_changed(trial, updated, &six.sketch, &six.asked);
-    Ok(())
-}
-
-pub fn update_with_count_ref(trial: &mut Trial) -> Result<(), Stopped> {
-    let mut six = prepare(trial)?;
-    let updated = counted!(trial, six.sketch.update_with_count_ref(&six.seventh, 5));
-    tell_changed(trial, updated, &six.sketch, &six.asked);
+pub fn update(trial: &mut Trial, way: Way) -> Result<(), Stopped> {
+    let seventh = text(trial.alloc, "g")?;
+    let mut sketch = prepare(trial)?;
+    let updated = counted!(trial, update_in(way, &mut sketch, seventh));
+    tell_changed(trial, updated, &sketch);
     Ok(())
 }
 
 /// Items are cloned, and the table doubles.
 pub fn merge_frequent(trial: &mut Trial) -> Result<(), Stopped> {
-    let mut six = prepare(trial)?;
+    let mut sketch = prepare(trial)?;
     let other = sketch_of(trial.alloc, 64, &["a", "g", "h"])?;
-    tell_frequent(trial, &other, &six.asked);
-    let merged = counted!(trial, six.sketch.merge(&other));
-    tell_changed(trial, merged, &six.sketch, &six.asked);
-    tell_frequent(trial, &other, &six.asked);
+    tell_asked(trial, &other);
+    let merged = counted!(trial, sketch.merge(&other));
+    tell_changed(trial, merged, &sketch);
+    tell_asked(trial, &other);
     Ok(())
 }
 
 pub fn clone_frequent(trial: &mut Trial) -> Result<(), Stopped> {
-    let six = prepare(trial)?;
-    let clone = counted!(trial, six.sketch.try_clone());
-    tell_made(trial, clone, &six.asked);
+    let sketch = prepare(trial)?;
+    let clone = counted!(trial, sketch.try_clone());
+    tell_made(trial, clone);
     after(trial);
-    tell_frequent(trial, &six.sketch, &six.asked);
+    tell_asked(trial, &sketch);
     Ok(())
 }
 
@@ -169,18 +161,17 @@ fn weighted(alloc: Global) -> Result<FrequentItemsSketch<String>, Stopped> {
 }
 
 pub fn rows(trial: &mut Trial) -> Result<(), Stopped> {
-    let asked = asked(trial.alloc)?;
     let sketch = weighted(trial.alloc)?;
-    tell_frequent(trial, &sketch, &asked);
+    tell_asked(trial, &sketch);
     let rows = counted!(
         trial,
         sketch.frequent_items_with_threshold(ErrorType::NoFalsePositives, 1)
     );
-    tell_rows(trial, rows);
+    tell_made_rows(trial, rows);
     let rows = counted!(trial, sketch.frequent_items(ErrorType::NoFalseNegatives));
     tell_length(trial, "rows", rows);
     after(trial);
-    tell_frequent(trial, &sketch, &asked);
+    tell_asked(trial, &sketch);
     Ok(())
 }
 
@@ -192,54 +183,64 @@ fn tell_length<V: Drop>(trial: &mut Trial, word: &str, list: Result<Vec<V>, Erro
     }
 }
 
-fn tell_rows(trial: &mut Trial, rows: Result<Vec<Row<String>>, Error>) {
+fn tell_made_rows(trial: &mut Trial, rows: Result<Vec<Row<String>>, Error>) {
     match rows {
         Ok(rows) => {
             say!(trial, "rows");
-            for row in &rows {
-                say!(trial, " {}={}", row.item(), row.estimate());
-            }
-            say_line!(trial);
+            tell_rows(trial, &rows);
         }
         Err(e) => tell_error(trial, e),
     }
 }
 
-pub fn clone_row(trial: &mut Trial) -> Result<(), Stopped> {
-    let alloc = trial.alloc;
+/// The rows of a sketch of one text.
+fn one_row(alloc: Global) -> Result<Vec<Row<String>>, Stopped> {
     let sketch = sketch_of(alloc, 64, &["a"])?;
-    for row in &sketch.frequent_items(ErrorType::NoFalseNegatives)? {
-        match counted!(trial, row.try_clone()) {
-            Ok(clone) => say_line!(trial, "row {}={}", clone.item(), clone.estimate()),
-            Err(e) => tell_error(trial, e),
-        }
+    Ok(sketch.frequent_items(ErrorType::NoFalseNegatives)?)
+}
+
+/// A row's clone.
+fn tell_clone_of_row(trial: &mut Trial, row: &Row<String>) {
+    match counted!(trial, row.try_clone()) {
+        Ok(clone) => say_line!(trial, "row {}={}", clone.item(), clone.estimate()),
+        Err(e) => tell_error(trial, e),
+    }
+}
+
+pub fn clone_row(trial: &mut Trial) -> Result<(), Stopped> {
+    for row in &one_row(trial.alloc)? {
+        tell_clone_of_row(trial, row);
     }
     Ok(())
 }
 
 pub fn serialize_frequent(trial: &mut Trial) -> Result<(), Stopped> {
-    let six = prepare(trial)?;
-    let image = counted!(trial, six.sketch.serialize());
+    let sketch = prepare(trial)?;
+    let image = counted!(trial, sketch.serialize());
     tell_image(trial, image);
     after(trial);
-    tell_frequent(trial, &six.sketch, &six.asked);
+    tell_asked(trial, &sketch);
     Ok(())
+}
+
+/// The image of a sketch of six texts.
+fn image_of_six(alloc: Global) -> Result<Vec<u8>, Stopped> {
+    Ok(sketch_of(alloc, 64, &SIX)?.serialize()?)
 }
 
 pub fn deserialize_frequent(trial: &mut Trial) -> Result<(), Stopped> {
     let alloc = trial.alloc;
-    let asked = asked(alloc)?;
-    let image = sketch_of(alloc, 64, &SIX)?.serialize()?;
+    let image = image_of_six(alloc)?;
     let made = counted!(
         trial,
         FrequentItemsSketch::<String>::deserialize(alloc, &image)
     );
-    tell_made(trial, made, &asked);
+    tell_made(trial, made);
     let made = counted!(
         trial,
         FrequentItemsSketch::<String>::deserialize_with_limit(alloc, &image, 1024)
     );
-    tell_made(trial, made, &asked);
+    tell_made(trial, made);
     Ok(())
 }
 
@@ -259,58 +260,62 @@ pub fn new_table(trial: &mut Trial) -> Result<(), Stopped> {
     Ok(())
 }
 
+/// Makes a table of six texts, and says what it holds.
+fn prepare_table(trial: &mut Trial) -> Result<ReversePurgeItemHashMap<String>, Stopped> {
+    let map = table(trial.alloc, &SIX)?;
+    tell_asked_table(trial, &map);
+    Ok(map)
+}
+
 /// Whether a change was accepted, and what a table holds after it.
 fn tell_changed_table(
     trial: &mut Trial,
     changed: Result<(), Error>,
     map: &ReversePurgeItemHashMap<String>,
-    asked: &[String],
 ) {
     tell_outcome(trial, changed);
     after(trial);
-    tell_table(trial, map, asked);
+    tell_asked_table(trial, map);
 }
 
 pub fn add_ref(trial: &mut Trial) -> Result<(), Stopped> {
-    let asked = asked(trial.alloc)?;
     let item = text(trial.alloc, "g")?;
-    let mut map = table(trial.alloc, &SIX)?;
-    tell_table(trial, &map, &asked);
+    let mut map = prepare_table(trial)?;
     let added = counted!(trial, put_ref(&mut map, &item, 4));
-    tell_changed_table(trial, added, &map, &asked);
+    tell_changed_table(trial, added, &map);
     Ok(())
 }
 
 pub fn resize(trial: &mut Trial) -> Result<(), Stopped> {
-    let asked = asked(trial.alloc)?;
-    let mut map = table(trial.alloc, &SIX)?;
-    tell_table(trial, &map, &asked);
+    let mut map = prepare_table(trial)?;
     let resized = counted!(trial, grow(&mut map, 32));
-    tell_changed_table(trial, resized, &map, &asked);
+    tell_changed_table(trial, resized, &map);
     Ok(())
 }
 
-pub fn clone_table(trial: &mut Trial) -> Result<(), Stopped> {
-    let asked = asked(trial.alloc)?;
-    let map = table(trial.alloc, &SIX)?;
-    tell_table(trial, &map, &asked);
-    match counted!(trial, map.try_clone()) {
-        Ok(clone) => tell_table(trial, &clone, &asked),
+/// What a made table holds, or why there is none.
+fn tell_made_table(trial: &mut Trial, made: Result<ReversePurgeItemHashMap<String>, Error>) {
+    match made {
+        Ok(map) => tell_asked_table(trial, &map),
         Err(e) => tell_error(trial, e),
     }
+}
+
+pub fn clone_table(trial: &mut Trial) -> Result<(), Stopped> {
+    let map = prepare_table(trial)?;
+    let clone = counted!(trial, map.try_clone());
+    tell_made_table(trial, clone);
     after(trial);
-    tell_table(trial, &map, &asked);
+    tell_asked_table(trial, &map);
     Ok(())
 }
 
 pub fn entries(trial: &mut Trial) -> Result<(), Stopped> {
-    let asked = asked(trial.alloc)?;
-    let map = table(trial.alloc, &SIX)?;
-    tell_table(trial, &map, &asked);
+    let map = prepare_table(trial)?;
     let entries = counted!(trial, map.active_entries());
     tell_length(trial, "entries", entries);
     after(trial);
-    tell_table(trial, &map, &asked);
+    tell_asked_table(trial, &map);
     Ok(())
 }
 

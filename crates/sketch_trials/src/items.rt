@@ -5,7 +5,7 @@ ghost use Rattle.std.specs.Cmp.Rules.{comparing, hashing};
 ghost use Rattle.std.specs.Hash as fed;
 
 use crate::table::{free_table, grow, purge, put, put_ref};
-use crate::tell::{tell_error, tell_frequent, tell_outcome};
+use crate::tell::{say_bounds, say_sketch, say_values, tell_error, tell_outcome};
 use crate::trial::{Stopped, Trial, say, say_line};
 use datasketches::codec::{SketchBytes, SketchSlice};
 use datasketches::error::{Error, Fault};
@@ -255,13 +255,16 @@ impl FrequentItemValue for Letter {
     }
 }
 
-/// The items that are asked for: 33 equals 1 where not all numbers are told apart.
-fn asked<T: Numbered + Drop>(alloc: Global) -> Result<Vec<T>, Stopped> {
-    let mut asked = Vec::new(alloc);
-    for number in [1, 2, MARKED, 1 + APART] {
-        asked.push(T::of(number))?;
+/// The numbers that are asked for: 33 equals 1 where not all numbers are told apart.
+const ASKED: [u64; 4] = [1, 2, MARKED, 1 + APART];
+
+/// What a sketch says of itself and of the items that are asked for.
+fn tell_asked<T: Numbered + Eq + Hash + Drop>(trial: &mut Trial, sketch: &FrequentItemsSketch<T>) {
+    say_sketch(trial, sketch);
+    for number in ASKED {
+        say_bounds(trial, sketch, &T::of(number));
     }
-    Ok(asked)
+    say_line!(trial);
 }
 
 /// Updates by value and by reference.
@@ -271,11 +274,20 @@ where
     requires clones { (x y : T) → T.is_clone x y → IsTrue (T.eq x y) }
 {
     let mut sketch = FrequentItemsSketch::new(alloc, 8)?;
+    update_all(&mut sketch)?;
+    Ok(sketch)
+}
+
+/// These updates of a sketch.
+fn update_all<T>(sketch: &mut FrequentItemsSketch<T>) -> Result<(), Error>
+where
+    T: FrequentItemValue + Numbered + Clone + Drop,
+    requires clones { (x y : T) → T.is_clone x y → IsTrue (T.eq x y) }
+{
     sketch.update(T::of(1))?;
     sketch.update_with_count(T::of(2), 5)?;
     sketch.update_ref(&T::of(1 + APART))?;
-    sketch.update_with_count_ref(&T::of(3), 9)?;
-    Ok(sketch)
+    sketch.update_with_count_ref(&T::of(3), 9)
 }
 
 /// A sketch of one item.
@@ -288,6 +300,30 @@ where
     Ok(sketch)
 }
 
+/// Merges a sketch of one item.
+fn merge_one<T>(
+    alloc: Global,
+    sketch: &mut FrequentItemsSketch<T>,
+    number: u64,
+    count: u64,
+) -> Result<(), Error>
+where
+    T: FrequentItemValue + Numbered + Clone + Drop,
+    requires clones { (x y : T) → T.is_clone x y → IsTrue (T.eq x y) }
+{
+    let other = of_one(alloc, number, count)?;
+    sketch.merge(&other)
+}
+
+/// The image of a clone.
+fn image_of_clone<T>(sketch: &FrequentItemsSketch<T>) -> Result<Vec<u8>, Error>
+where
+    T: FrequentItemValue + Clone + Drop,
+    requires clones { (x y : T) → T.is_clone x y → IsTrue (T.eq x y) }
+{
+    sketch.try_clone()?.serialize()
+}
+
 /// A clone of the sketch, as its image gives it back.
 fn restored<T>(
     alloc: Global,
@@ -297,7 +333,7 @@ where
     T: FrequentItemValue + Clone + Drop,
     requires clones { (x y : T) → T.is_clone x y → IsTrue (T.eq x y) }
 {
-    let image = sketch.try_clone()?.serialize()?;
+    let image = image_of_clone(sketch)?;
     FrequentItemsSketch::deserialize(alloc, &image)
 }
 
@@ -328,22 +364,30 @@ where
     Ok(())
 }
 
+/// What the sketch's image gives back says, and its rows.
+fn tell_restored<T>(trial: &mut Trial, sketch: &FrequentItemsSketch<T>) -> Result<(), Stopped>
+where
+    T: FrequentItemValue + Numbered + Clone + Drop,
+    requires clones { (x y : T) → T.is_clone x y → IsTrue (T.eq x y) }
+{
+    let copy = restored(trial.alloc, sketch)?;
+    tell_asked(trial, &copy);
+    tell_rows(trial, &copy)
+}
+
 /// Updates by value and by reference, a merge, a clone, rows and an image, of items that are not marked.
 pub fn sketch<T>(trial: &mut Trial) -> Result<(), Stopped>
 where
     T: FrequentItemValue + Numbered + Clone + Drop,
     requires clones { (x y : T) → T.is_clone x y → IsTrue (T.eq x y) }
 {
-    let asked = asked::<T>(trial.alloc)?;
     let mut sketch = updated::<T>(trial.alloc)?;
-    tell_frequent(trial, &sketch, &asked);
-    sketch.merge(&of_one::<T>(trial.alloc, 2 + APART, 20)?)?;
-    tell_frequent(trial, &sketch, &asked);
-    let copy = restored(trial.alloc, &sketch)?;
-    tell_frequent(trial, &copy, &asked);
-    tell_rows(trial, &copy)?;
+    tell_asked(trial, &sketch);
+    merge_one(trial.alloc, &mut sketch, 2 + APART, 20)?;
+    tell_asked(trial, &sketch);
+    tell_restored(trial, &sketch)?;
     purged(&mut sketch)?;
-    tell_frequent(trial, &sketch, &asked);
+    tell_asked(trial, &sketch);
     Ok(())
 }
 
@@ -353,14 +397,13 @@ where
     T: FrequentItemValue + Numbered + Clone + Drop,
     requires clones { (x y : T) → T.is_clone x y → IsTrue (T.eq x y) }
 {
-    let asked = asked::<T>(trial.alloc)?;
     let mut sketch = of_one::<T>(trial.alloc, 2, 1)?;
     let updated = sketch.update_with_count_ref(&T::of(MARKED), 4);
     tell_outcome(trial, updated);
-    tell_frequent(trial, &sketch, &asked);
-    let merged = sketch.merge(&of_one::<T>(trial.alloc, MARKED, 2)?);
+    tell_asked(trial, &sketch);
+    let merged = merge_one(trial.alloc, &mut sketch, MARKED, 2);
     tell_outcome(trial, merged);
-    tell_frequent(trial, &sketch, &asked);
+    tell_asked(trial, &sketch);
     Ok(())
 }
 
@@ -370,14 +413,13 @@ where
     T: FrequentItemValue + Numbered + Clone + Drop,
     requires clones { (x y : T) → T.is_clone x y → IsTrue (T.eq x y) }
 {
-    let asked = asked::<T>(trial.alloc)?;
     let mut sketch = of_one::<T>(trial.alloc, MARKED, 1)?;
     let updated = sketch.update_ref(&T::of(MARKED));
     tell_outcome(trial, updated);
     tell_outcome(trial, sketch.try_clone());
     tell_outcome(trial, sketch.frequent_items(ErrorType::NoFalseNegatives));
     tell_outcome(trial, sketch.serialize());
-    tell_frequent(trial, &sketch, &asked);
+    tell_asked(trial, &sketch);
     Ok(())
 }
 
@@ -404,10 +446,20 @@ where
     for number in [1, 2, 1 + APART, 4, MARKED] {
         put(&mut map, T::of(number), 2);
     }
-    for number in [2, 5, MARKED] {
-        put_ref(&mut map, &T::of(number), 1)?;
-    }
+    add_by_reference(&mut map)?;
     Ok(map)
+}
+
+/// Adds to two items that are there, and a new one.
+fn add_by_reference<T>(map: &mut ReversePurgeItemHashMap<T>) -> Result<(), Error>
+where
+    T: FrequentItemValue + Numbered + Clone + Drop,
+    requires clones { (x y : T) → T.is_clone x y → IsTrue (T.eq x y) }
+{
+    for number in [2, 5, MARKED] {
+        put_ref(map, &T::of(number), 1)?;
+    }
+    Ok(())
 }
 
 /// A purge of a clone.
@@ -429,26 +481,38 @@ where
     }
 }
 
+/// The sum of all counts, by a walk.
+fn sum_of_counts<T: FrequentItemValue + Drop>(map: &ReversePurgeItemHashMap<T>) -> u64 {
+    let mut sum = 0u64;
+    for (_, count) in map {
+        sum = sum.wrapping_add(count);
+    }
+    sum
+}
+
+/// How long the list of entries is.
+fn entries_of<T: FrequentItemValue + Drop>(
+    map: &ReversePurgeItemHashMap<T>,
+) -> Result<usize, Error> {
+    let entries = map.active_entries()?;
+    Ok(entries.len())
+}
+
 /// How many entries there are, the sum of a walk, how long the list of entries is, and some counts.
 fn tell_table<T: FrequentItemValue + Numbered + Drop>(
     trial: &mut Trial,
     map: &ReversePurgeItemHashMap<T>,
 ) -> Result<(), Stopped> {
-    let mut sum = 0u64;
-    for (_, count) in map {
-        sum = sum.wrapping_add(count);
-    }
-    let entries = map.active_entries()?;
-    say!(
-        trial,
-        "table {} {} {} {}",
-        map.num_active(),
-        map.len(),
-        sum,
-        entries.len()
-    );
-    for item in &asked::<T>(trial.alloc)? {
-        let (count, _) = map.get_counted(item);
+    let entries = entries_of(map)?;
+    let numbers = [
+        map.num_active() as u64,
+        map.len() as u64,
+        sum_of_counts(map),
+        entries as u64,
+    ];
+    say_values(trial, "table", &numbers);
+    for number in ASKED {
+        let (count, _) = map.get_counted(&T::of(number));
         say!(trial, " {count}");
     }
     say_line!(trial);

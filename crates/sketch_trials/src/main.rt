@@ -38,6 +38,7 @@ mod texts;
 mod trial;
 mod windows;
 
+use calls::Way;
 use datasketches::frequencies::FrequentItemValue;
 use items::{Letter, Mute, Numbered, Unclonable, Unwritable};
 use std::process::ExitCode;
@@ -96,10 +97,10 @@ fn play(trial: &mut Trial, name: &str, places: &[usize]) -> Result<(), Stopped> 
 fn play_frequent(trial: &mut Trial, call: &str) -> Result<(), Stopped> {
     match call {
         "new" => calls::new_frequent(trial),
-        "update" => calls::update(trial),
-        "update_with_count" => calls::update_with_count(trial),
-        "update_ref" => calls::update_ref(trial),
-        "update_with_count_ref" => calls::update_with_count_ref(trial),
+        "update" => calls::update(trial, Way::Value),
+        "update_with_count" => calls::update(trial, Way::Weight),
+        "update_ref" => calls::update(trial, Way::Reference),
+        "update_with_count_ref" => calls::update(trial, Way::WeightByReference),
         "merge" => calls::merge_frequent(trial),
         "clone" => calls::clone_frequent(trial),
         "rows" => calls::rows(trial),

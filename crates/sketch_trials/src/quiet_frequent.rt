@@ -4,57 +4,119 @@ use crate::texts::{sketch_of, text, texts};
 use crate::trial::{Stopped, Trial, say_line};
 use datasketches::error::Error;
 use datasketches::frequencies::{ErrorType, FrequentItemsSketch, Row};
+use std::alloc::AllocError;
 use std::fmt::Write;
 use std::hash::Hash;
 
+/// A text that is kept on the heap.
+const LONG: &str = "a long text, not kept in place";
+
+/// Why an update by value is refused, if it is.
+fn fault_of_update(
+    trial: &mut Trial,
+    sketch: &mut FrequentItemsSketch<String>,
+    item: &str,
+) -> Result<&'static str, AllocError> {
+    let item = text(trial.alloc, item)?;
+    trial.begin();
+    let updated = sketch.update(item);
+    trial.end();
+    Ok(fault_of(updated))
+}
+
+/// The same of one with a weight.
+fn fault_of_weight(
+    trial: &mut Trial,
+    sketch: &mut FrequentItemsSketch<String>,
+    item: &str,
+    weight: u64,
+) -> Result<&'static str, AllocError> {
+    let item = text(trial.alloc, item)?;
+    trial.begin();
+    let updated = sketch.update_with_count(item, weight);
+    trial.end();
+    Ok(fault_of(updated))
+}
+
+/// The same of one by reference.
+fn fault_of_ref(
+    trial: &mut Trial,
+    sketch: &mut FrequentItemsSketch<String>,
+    item: &str,
+) -> Result<&'static str, AllocError> {
+    let item = text(trial.alloc, item)?;
+    trial.begin();
+    let updated = sketch.update_ref(&item);
+    trial.end();
+    Ok(fault_of(updated))
+}
+
+/// The same of one by reference with a weight.
+fn fault_of_weight_ref(
+    trial: &mut Trial,
+    sketch: &mut FrequentItemsSketch<String>,
+    item: &str,
+    weight: u64,
+) -> Result<&'static str, AllocError> {
+    let item = text(trial.alloc, item)?;
+    trial.begin();
+    let updated = sketch.update_with_count_ref(&item, weight);
+    trial.end();
+    Ok(fault_of(updated))
+}
+
+/// A sketch's numbers, and the estimates and bounds of two texts.
+fn tell_texts(
+    trial: &mut Trial,
+    sketch: &FrequentItemsSketch<String>,
+    asked: &[&str],
+) -> Result<(), AllocError> {
+    let asked = texts(trial.alloc, asked)?;
+    tell_frequent(trial, sketch, &asked);
+    Ok(())
+}
+
 /// Updates by value: the seventh item is one counter too many, and all are purged.
 pub fn updates(trial: &mut Trial) -> Result<(), Stopped> {
-    let items = texts(trial.alloc, &["a", "b", "c", "d", "e", "f", "g"])?;
-    let asked = texts(trial.alloc, &["a", "g"])?;
     let mut sketch = FrequentItemsSketch::new(trial.alloc, 8)?;
     let mut fine = 0u64;
-    trial.begin();
-    for item in items {
-        if sketch.update(item).is_ok() {
+    for item in ["a", "b", "c", "d", "e", "f", "g"] {
+        if fault_of_update(trial, &mut sketch, item)? == "none" {
             fine = fine.wrapping_add(1);
         }
     }
-    trial.end();
     say_line!(trial, "accepted {fine}");
-    tell_frequent(trial, &sketch, &asked);
-    Ok(())
+    Ok(tell_texts(trial, &sketch, &["a", "g"])?)
 }
 
 /// An update by value of an item that is tracked, where the table must double for one that is not.
 pub fn updates_of_tracked(trial: &mut Trial) -> Result<(), Stopped> {
-    let asked = texts(trial.alloc, &["a", "g"])?;
-    let item = text(trial.alloc, "a")?;
     let mut sketch = sketch_of(trial.alloc, 64, &["a", "b", "c", "d", "e", "f"])?;
-    trial.begin();
-    let updated = sketch.update(item);
-    trial.end();
-    updated?;
-    tell_frequent(trial, &sketch, &asked);
-    Ok(())
+    if fault_of_update(trial, &mut sketch, "a")? != "none" {
+        return Err(Stopped);
+    }
+    Ok(tell_texts(trial, &sketch, &["a", "g"])?)
 }
 
 /// Updates by reference of items that are tracked, and updates of weight 0.
 pub fn updates_by_reference(trial: &mut Trial) -> Result<(), Stopped> {
-    let asked = texts(trial.alloc, &["a"])?;
-    let item = text(trial.alloc, "a")?;
-    let new = text(trial.alloc, "h")?;
-    let mut sketch = FrequentItemsSketch::new(trial.alloc, 8)?;
-    sketch.update_ref(&item)?;
-    trial.begin();
+    let mut sketch = sketch_of(trial.alloc, 8, &["a"])?;
+    tell_updates(trial, &mut sketch)?;
+    Ok(tell_texts(trial, &sketch, &["a"])?)
+}
+
+/// These updates, of a sketch that tracks `a`.
+fn tell_updates(
+    trial: &mut Trial,
+    sketch: &mut FrequentItemsSketch<String>,
+) -> Result<(), AllocError> {
     let faults = [
-        fault_of(sketch.update_ref(&item)),
-        fault_of(sketch.update_with_count_ref(&item, 2)),
-        fault_of(sketch.update_with_count_ref(&new, 0)),
-        fault_of(sketch.update_with_count(new, 0)),
+        fault_of_ref(trial, sketch, "a")?,
+        fault_of_weight_ref(trial, sketch, "a", 2)?,
+        fault_of_weight_ref(trial, sketch, "h", 0)?,
+        fault_of_weight(trial, sketch, "h", 0)?,
     ];
-    trial.end();
     tell_values(trial, "faults", &faults);
-    tell_frequent(trial, &sketch, &asked);
     Ok(())
 }
 
@@ -126,42 +188,59 @@ pub fn purges(trial: &mut Trial) -> Result<(), Stopped> {
     Ok(())
 }
 
-/// A merge of a sketch into which nothing was fed, and a reset.
-pub fn merges(trial: &mut Trial) -> Result<(), Stopped> {
-    let asked = texts(trial.alloc, &["a"])?;
-    let mut sketch = sketch_of(trial.alloc, 8, &["a"])?;
+/// A merge of a sketch into which nothing was fed, with its requests for memory counted.
+fn merge_empty(trial: &mut Trial, sketch: &mut FrequentItemsSketch<String>) -> Result<(), Error> {
     let empty = FrequentItemsSketch::new(trial.alloc, 64)?;
     trial.begin();
     let merged = sketch.merge(&empty);
     trial.end();
-    merged?;
-    tell_frequent(trial, &sketch, &asked);
+    merged
+}
+
+/// A merge of a sketch into which nothing was fed, and a reset.
+pub fn merges(trial: &mut Trial) -> Result<(), Stopped> {
+    let mut sketch = sketch_of(trial.alloc, 8, &["a"])?;
+    merge_empty(trial, &mut sketch)?;
+    tell_texts(trial, &sketch, &["a"])?;
     trial.begin();
     sketch.reset();
     trial.end();
-    tell_frequent(trial, &sketch, &asked);
-    Ok(())
+    Ok(tell_texts(trial, &sketch, &["a"])?)
+}
+
+/// Why a merge of a sketch of one item is refused, if it is.
+fn fault_of_merge(
+    trial: &mut Trial,
+    sketch: &mut FrequentItemsSketch<String>,
+) -> Result<&'static str, Stopped> {
+    let other = sketch_of(trial.alloc, 8, &["b"])?;
+    trial.begin();
+    let merged = sketch.merge(&other);
+    trial.end();
+    Ok(fault_of(merged))
 }
 
 /// Updates and a merge that would pass the greatest total.
 pub fn frequent_refusals(trial: &mut Trial) -> Result<(), Stopped> {
-    let asked = texts(trial.alloc, &["a", "b"])?;
-    let tracked = text(trial.alloc, "a")?;
-    let new = text(trial.alloc, "b")?;
-    let other = sketch_of(trial.alloc, 8, &["b"])?;
     let mut sketch = FrequentItemsSketch::new(trial.alloc, 8)?;
-    sketch.update_with_count_ref(&tracked, u64::MAX)?;
-    trial.begin();
+    sketch.update_with_count(text(trial.alloc, "a")?, u64::MAX)?;
+    tell_refusals(trial, &mut sketch)?;
+    Ok(tell_texts(trial, &sketch, &["a", "b"])?)
+}
+
+/// These calls, of a sketch of the greatest total that tracks `a`.
+fn tell_refusals(
+    trial: &mut Trial,
+    sketch: &mut FrequentItemsSketch<String>,
+) -> Result<(), Stopped> {
     let faults = [
-        fault_of(sketch.merge(&other)),
-        fault_of(sketch.update_ref(&new)),
-        fault_of(sketch.update_with_count_ref(&tracked, 1)),
-        fault_of(sketch.update(new)),
-        fault_of(sketch.update_with_count(tracked, 1)),
+        fault_of_merge(trial, sketch)?,
+        fault_of_ref(trial, sketch, "b")?,
+        fault_of_weight_ref(trial, sketch, "a", 1)?,
+        fault_of_update(trial, sketch, "b")?,
+        fault_of_weight(trial, sketch, "a", 1)?,
     ];
-    trial.end();
     tell_values(trial, "faults", &faults);
-    tell_frequent(trial, &sketch, &asked);
     Ok(())
 }
 
@@ -220,19 +299,27 @@ fn tell_questions(trial: &mut Trial, sketch: &FrequentItemsSketch<i64>) {
     say_line!(trial, "{is_empty}");
 }
 
+/// A text's bounds, with the requests for memory counted.
+fn tell_bounds(
+    trial: &mut Trial,
+    sketch: &FrequentItemsSketch<String>,
+    word: &str,
+    item: &str,
+) -> Result<(), AllocError> {
+    let item = text(trial.alloc, item)?;
+    trial.begin();
+    let bounds = frequent_bounds(sketch, &item);
+    trial.end();
+    tell_values(trial, word, &bounds);
+    Ok(())
+}
+
 /// The bounds of texts behind a purge of seven, all of weight 1.
 pub fn bounds(trial: &mut Trial) -> Result<(), Stopped> {
     let mut sketch = sketch_of(trial.alloc, 8, &["a", "b", "c", "d", "e", "f", "g"])?;
-    let tracked = text(trial.alloc, "a long text, not kept in place")?;
-    let absent = text(trial.alloc, "b")?;
-    sketch.update_with_count_ref(&tracked, 5)?;
-    trial.begin();
-    let kept = frequent_bounds(&sketch, &tracked);
-    let lost = frequent_bounds(&sketch, &absent);
-    trial.end();
-    tell_values(trial, "tracked", &kept);
-    tell_values(trial, "absent", &lost);
-    Ok(())
+    sketch.update_with_count(text(trial.alloc, LONG)?, 5)?;
+    tell_bounds(trial, &sketch, "tracked", LONG)?;
+    Ok(tell_bounds(trial, &sketch, "absent", "b")?)
 }
 
 /// A row's numbers, and how long its item is.
@@ -245,21 +332,31 @@ fn row_numbers(row: &Row<String>) -> [u64; 4] {
     ]
 }
 
-/// The questions to the rows of a report.
-pub fn rows(trial: &mut Trial) -> Result<(), Stopped> {
+/// The rows of two items.
+fn two_rows(trial: &Trial) -> Result<Vec<Row<String>>, Stopped> {
     let sketch = sketch_of(trial.alloc, 8, &["ab", "c", "c"])?;
-    let rows = sketch.frequent_items(ErrorType::NoFalseNegatives)?;
-    let [first, second] = rows.as_slice() else {
-        return Err(Stopped);
-    };
-    let copy = second.try_clone()?;
+    Ok(sketch.frequent_items(ErrorType::NoFalseNegatives)?)
+}
+
+/// The questions to two rows and a copy of the second.
+fn tell_two_rows(trial: &mut Trial, first: &Row<String>, second: &Row<String>, copy: &Row<String>) {
     trial.begin();
     let numbers = row_numbers(first);
     let others = row_numbers(second);
-    let equal = [first == second, *second == copy];
+    let equal = [*first == *second, *second == *copy];
     trial.end();
     tell_values(trial, "row", &numbers);
     tell_values(trial, "row", &others);
     tell_values(trial, "equal", &equal);
+}
+
+/// The questions to the rows of a report.
+pub fn rows(trial: &mut Trial) -> Result<(), Stopped> {
+    let rows = two_rows(trial)?;
+    let [first, second] = rows.as_slice() else {
+        return Err(Stopped);
+    };
+    let copy = second.try_clone()?;
+    tell_two_rows(trial, first, second, &copy);
     Ok(())
 }

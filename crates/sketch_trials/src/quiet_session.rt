@@ -1,9 +1,9 @@
 //! Commands of a session and calls on windows that take no memory.
 use crate::commands::{Said, commands};
 use crate::tell::{fault_of, tell_replies, tell_values};
-use crate::texts::{text, texts};
+use crate::texts::text;
 use crate::trial::{Stopped, Trial};
-use crate::windows::tell_report;
+use crate::windows::{add_counted, ask};
 use datasketches::frequencies::ErrorType;
 use datasketches::{Command, Reply, Session, Spare};
 use heavy_windows::HeavyWindows;
@@ -123,13 +123,37 @@ const REFUSED: [Said; 18] = [
 
 /// A session of the sketches.
 fn made(alloc: Global) -> Result<Session<String>, Stopped> {
+    let commands = commands(alloc, &MADE)?;
     let mut session = Session::new(alloc);
-    for command in commands(alloc, &MADE)? {
-        if let Reply::Refused(_) = session.apply(command) {
-            return Err(Stopped);
-        }
+    if !accepts_all(&mut session, commands) {
+        return Err(Stopped);
     }
     Ok(session)
+}
+
+/// Does the commands. Answers whether none is refused.
+fn accepts_all(session: &mut Session<String>, commands: Vec<Command<String>>) -> bool {
+    let mut accepted = true;
+    for command in commands {
+        if let Reply::Refused(_) = session.apply(command) {
+            accepted = false;
+        }
+    }
+    accepted
+}
+
+/// Does a command in one way or in the other.
+fn apply(
+    session: &mut Session<String>,
+    command: Command<String>,
+    spares: bool,
+    spare: &mut Spare<String>,
+) -> Reply<String> {
+    if spares {
+        session.apply_sparing(command, spare)
+    } else {
+        session.apply(command)
+    }
 }
 
 /// Does the commands, each in one way and in the other in turn, and keeps the replies. Answers whether there was room.
@@ -142,11 +166,7 @@ fn apply_all(
     let mut spares = false;
     let mut spare = Spare::new();
     for command in commands {
-        let reply = if spares {
-            session.apply_sparing(command, &mut spare)
-        } else {
-            session.apply(command)
-        };
+        let reply = apply(session, command, spares, &mut spare);
         spares = !spares;
         room = replies.push(reply).is_ok() && room;
     }
@@ -154,7 +174,7 @@ fn apply_all(
 }
 
 /// Does the commands with their requests for memory counted, and says the replies.
-fn play(
+fn play_commands(
     trial: &mut Trial,
     session: &mut Session<String>,
     commands: Vec<Command<String>>,
@@ -170,24 +190,28 @@ fn play(
     Ok(())
 }
 
+/// The same of commands that are said.
+fn play(trial: &mut Trial, session: &mut Session<String>, said: &[Said]) -> Result<(), Stopped> {
+    let commands = commands(trial.alloc, said)?;
+    play_commands(trial, session, commands)
+}
+
 /// Commands that are accepted, and that no want of memory refuses.
 pub fn session(trial: &mut Trial) -> Result<(), Stopped> {
     let mut session = made(trial.alloc)?;
-    let changes = commands(trial.alloc, &CHANGES)?;
-    play(trial, &mut session, changes)?;
-    let questions = commands(trial.alloc, &QUESTIONS)?;
-    play(trial, &mut session, questions)
+    for said in [&CHANGES[..], &QUESTIONS] {
+        play(trial, &mut session, said)?;
+    }
+    Ok(())
 }
 
 /// Commands that are refused.
 pub fn refusals(trial: &mut Trial) -> Result<(), Stopped> {
     let mut session = made(trial.alloc)?;
-    let unnamed = commands(trial.alloc, &UNNAMED)?;
-    play(trial, &mut session, unnamed)?;
-    let unknown = commands(trial.alloc, &UNKNOWN)?;
-    play(trial, &mut session, unknown)?;
-    let refused = commands(trial.alloc, &REFUSED)?;
-    play(trial, &mut session, refused)
+    for said in [&UNNAMED[..], &UNKNOWN, &REFUSED] {
+        play(trial, &mut session, said)?;
+    }
+    Ok(())
 }
 
 /// A session of no name, and what it says of one.
@@ -195,8 +219,7 @@ pub fn new_session(trial: &mut Trial) -> Result<(), Stopped> {
     trial.begin();
     let mut session = Session::new(trial.alloc);
     trial.end();
-    let asked = commands(trial.alloc, &[Said::GetStatus("f")])?;
-    play(trial, &mut session, asked)
+    play(trial, &mut session, &[Said::GetStatus("f")])
 }
 
 /// Windows of no tenant, and refused ones.
@@ -210,44 +233,91 @@ fn new_windows(trial: &mut Trial) -> Result<HeavyWindows<String>, Stopped> {
     Ok(made?)
 }
 
+/// Why an item is not added, if it is not.
+fn fault_of_add(
+    trial: &mut Trial,
+    windows: &mut HeavyWindows<String>,
+    tenant: u64,
+    item: &str,
+    weight: u64,
+) -> Result<&'static str, Stopped> {
+    let added = add_counted(trial, windows, tenant, item, weight)?;
+    Ok(fault_of(added))
+}
+
+/// Why a tenant's turn is refused, if it is.
+fn fault_of_turn(
+    trial: &mut Trial,
+    windows: &mut HeavyWindows<String>,
+    tenant: u64,
+) -> &'static str {
+    trial.begin();
+    let turned = windows.turn(tenant);
+    trial.end();
+    fault_of(turned)
+}
+
+/// Why a tenant's report is refused, if it is.
+fn fault_of_report(trial: &mut Trial, windows: &HeavyWindows<String>, tenant: u64) -> &'static str {
+    trial.begin();
+    let report = windows.report(tenant, ErrorType::NoFalseNegatives, 0);
+    trial.end();
+    fault_of(report)
+}
+
+/// Adds that do nothing or a little, and a turn that does nothing.
+fn tell_calls(trial: &mut Trial, windows: &mut HeavyWindows<String>) -> Result<(), Stopped> {
+    let faults = [
+        fault_of_add(trial, windows, 1, "a", 3)?,
+        fault_of_add(trial, windows, 1, "b", 2)?,
+        fault_of_add(trial, windows, 2, "c", 0)?,
+        fault_of_add(trial, windows, 1, "a", u64::MAX)?,
+        fault_of_turn(trial, windows, 2),
+    ];
+    tell_values(trial, "faults", &faults);
+    Ok(())
+}
+
 /// Adds to the newest window of a known tenant, and calls that do nothing.
 pub fn windows(trial: &mut Trial) -> Result<(), Stopped> {
     let mut windows = new_windows(trial)?;
-    windows.add(1, text(trial.alloc, "a")?, 5)?;
-    let tracked = text(trial.alloc, "a")?;
-    let new = text(trial.alloc, "b")?;
-    let ignored = text(trial.alloc, "c")?;
-    let refused = text(trial.alloc, "a")?;
-    trial.begin();
-    let faults = [
-        fault_of(windows.add(1, tracked, 3)),
-        fault_of(windows.add(1, new, 2)),
-        fault_of(windows.add(2, ignored, 0)),
-        fault_of(windows.add(1, refused, u64::MAX)),
-        fault_of(windows.turn(2)),
-    ];
-    trial.end();
-    tell_values(trial, "faults", &faults);
-    tell_report(trial, &windows.report(1, ErrorType::NoFalseNegatives, 0)?);
+    add(trial, &mut windows, "a", 5)?;
+    tell_calls(trial, &mut windows)?;
+    ask(trial, &windows, 1)
+}
+
+/// Adds an item to the first tenant's newest window.
+fn add(
+    trial: &Trial,
+    windows: &mut HeavyWindows<String>,
+    item: &str,
+    weight: u64,
+) -> Result<(), Stopped> {
+    let item = text(trial.alloc, item)?;
+    Ok(windows.add(1, item, weight)?)
+}
+
+/// Six items of great weight.
+fn add_six(trial: &Trial, windows: &mut HeavyWindows<String>) -> Result<(), Stopped> {
+    for item in ["a", "b", "c", "d", "e", "f"] {
+        add(trial, windows, item, 1 << 60)?;
+    }
     Ok(())
+}
+
+/// A turn, and the greatest weight in the new window.
+fn turn_and_add(trial: &Trial, windows: &mut HeavyWindows<String>) -> Result<(), Stopped> {
+    windows.turn(1)?;
+    add(trial, windows, "a", u64::MAX)
 }
 
 /// A purge of the newest window, and a report of more weight than there is room for.
 pub fn full_windows(trial: &mut Trial) -> Result<(), Stopped> {
     let mut windows = HeavyWindows::new(trial.alloc, 2, 8)?;
-    let items = texts(trial.alloc, &["a", "b", "c", "d", "e", "f"])?;
-    let seventh = text(trial.alloc, "g")?;
-    for item in items {
-        windows.add(1, item, 1 << 60)?;
-    }
-    trial.begin();
-    let purged = windows.add(1, seventh, 1 << 60);
-    trial.end();
-    windows.turn(1)?;
-    windows.add(1, text(trial.alloc, "a")?, u64::MAX)?;
-    trial.begin();
-    let report = windows.report(1, ErrorType::NoFalseNegatives, 0);
-    trial.end();
-    tell_values(trial, "faults", &[fault_of(purged), fault_of(report)]);
+    add_six(trial, &mut windows)?;
+    let purged = fault_of_add(trial, &mut windows, 1, "g", 1 << 60)?;
+    turn_and_add(trial, &mut windows)?;
+    let report = fault_of_report(trial, &windows, 1);
+    tell_values(trial, "faults", &[purged, report]);
     Ok(())
 }

@@ -8,29 +8,66 @@ use datasketches::error::Error;
 use datasketches::frequencies::{FrequentItemValue, ReversePurgeItemHashMap, ReversePurgeItemIter};
 use std::fmt::Write;
 
-/// Amounts for new items and tracked ones, also by reference.
-pub fn changes(trial: &mut Trial) -> Result<(), Stopped> {
-    let asked = texts(trial.alloc, &["a", "b", "e"])?;
-    let items = texts(trial.alloc, &["a", "b", "c", "d"])?;
-    let tracked = text(trial.alloc, "a")?;
-    let new = text(trial.alloc, "e")?;
-    let mut map = free_table(trial.alloc, 8)?;
+/// Adds an amount to a text with the requests for memory counted.
+fn put_counted(
+    trial: &mut Trial,
+    map: &mut ReversePurgeItemHashMap<String>,
+    item: &str,
+    amount: u8,
+) -> Result<(), Stopped> {
+    let item = text(trial.alloc, item)?;
     trial.begin();
-    for item in items {
-        put(&mut map, item, 3);
-    }
-    let added = put_ref(&mut map, &tracked, 3);
-    put(&mut map, tracked, 1);
-    put(&mut map, new, 0);
+    put(map, item, amount);
     trial.end();
-    added?;
-    tell_table(trial, &map, &asked);
+    Ok(())
+}
+
+/// The same by reference.
+fn put_ref_counted(
+    trial: &mut Trial,
+    map: &mut ReversePurgeItemHashMap<String>,
+    item: &str,
+    amount: u8,
+) -> Result<(), Stopped> {
+    let item = text(trial.alloc, item)?;
     trial.begin();
-    let middle = purge(&mut map);
+    let added = put_ref(map, &item, amount);
+    trial.end();
+    Ok(added?)
+}
+
+/// Amounts for new items and tracked ones, also by reference.
+fn put_all(trial: &mut Trial, map: &mut ReversePurgeItemHashMap<String>) -> Result<(), Stopped> {
+    for item in ["a", "b", "c", "d"] {
+        put_counted(trial, map, item, 3)?;
+    }
+    put_ref_counted(trial, map, "a", 3)?;
+    put_counted(trial, map, "a", 1)?;
+    put_counted(trial, map, "e", 0)
+}
+
+/// A table's numbers, and the counts of three texts.
+fn tell_asked(trial: &mut Trial, map: &ReversePurgeItemHashMap<String>) -> Result<(), Stopped> {
+    let asked = texts(trial.alloc, &["a", "b", "e"])?;
+    tell_table(trial, map, &asked);
+    Ok(())
+}
+
+/// A purge with its requests for memory counted.
+fn purge_counted(trial: &mut Trial, map: &mut ReversePurgeItemHashMap<String>) {
+    trial.begin();
+    let middle = purge(map);
     trial.end();
     say_line!(trial, "purged {middle}");
-    tell_table(trial, &map, &asked);
-    Ok(())
+}
+
+/// Amounts for new items and tracked ones, and a purge.
+pub fn changes(trial: &mut Trial) -> Result<(), Stopped> {
+    let mut map = free_table(trial.alloc, 8)?;
+    put_all(trial, &mut map)?;
+    tell_asked(trial, &map)?;
+    purge_counted(trial, &mut map);
+    tell_asked(trial, &map)
 }
 
 /// A table of three items.
@@ -95,6 +132,33 @@ fn next_count<T>(walk: &mut ReversePurgeItemIter<T>) -> u64 {
     }
 }
 
+/// What a walk says of itself.
+#[derive(Clone, Copy)]
+struct Walked {
+    start: [usize; 2],
+    sum: u64,
+    end: u64,
+    left: usize,
+    looked: usize,
+}
+
+/// A walk past its end.
+fn walk_to_end<T: FrequentItemValue + Drop>(map: &ReversePurgeItemHashMap<T>) -> Walked {
+    let mut walk = map.iter();
+    let start = [walk.len(), walk.looked_at()];
+    let sum = next_count(&mut walk)
+        .wrapping_add(next_count(&mut walk))
+        .wrapping_add(next_count(&mut walk));
+    let end = next_count(&mut walk);
+    Walked {
+        start,
+        sum,
+        end,
+        left: walk.size_hint().0,
+        looked: walk.looked_at(),
+    }
+}
+
 /// A walk past its end: how many entries are still to come, and whether it looked at as many slots as it may.
 pub fn walk<T>(trial: &mut Trial) -> Result<(), Stopped>
 where
@@ -102,14 +166,13 @@ where
 {
     let map = three::<T>(trial)?;
     trial.begin();
-    let mut walk = map.iter();
-    let start = [walk.len(), walk.looked_at()];
-    let sum = next_count(&mut walk)
-        .wrapping_add(next_count(&mut walk))
-        .wrapping_add(next_count(&mut walk));
-    let end = next_count(&mut walk);
-    let left = walk.size_hint().0;
-    let looked = walk.looked_at();
+    let Walked {
+        start,
+        sum,
+        end,
+        left,
+        looked,
+    } = walk_to_end(&map);
     trial.end();
     tell_values(trial, "start", &start);
     say_line!(

@@ -38,21 +38,31 @@ fn merged_weights(trial: &mut Trial, weight: u8) -> Result<(), Stopped> {
     Ok(())
 }
 
-/// Weights of eight bytes.
-pub fn great_weights(trial: &mut Trial) -> Result<(), Stopped> {
-    let alloc = trial.alloc;
-    let mut signed = CountMinSketch::<i64>::new(alloc, 1, 3)?;
-    let result = signed.update_with_weight(1u64, i64::MIN);
-    tell_outcome(trial, result);
-    let mut sketch = CountMinSketch::<u64>::new(alloc, 1, 3)?;
-    let result = sketch.update_with_weight(1u64, u64::MAX);
-    tell_outcome(trial, result);
+/// The least weight of eight bytes.
+fn least_weight(trial: &mut Trial) -> Result<(), Error> {
+    let mut sketch = CountMinSketch::<i64>::new(trial.alloc, 1, 3)?;
+    let updated = sketch.update_with_weight(1u64, i64::MIN);
+    tell_outcome(trial, updated);
+    Ok(())
+}
+
+/// The greatest weight of eight bytes, decayed by as little as may be and halved.
+fn greatest_weight(trial: &mut Trial) -> Result<(), Error> {
+    let mut sketch = CountMinSketch::<u64>::new(trial.alloc, 1, 3)?;
+    let updated = sketch.update_with_weight(1u64, u64::MAX);
+    tell_outcome(trial, updated);
     say_line!(trial, "{}", sketch.upper_bound(1u64));
     sketch.decay(u64::MAX - 1, u64::MAX);
     say_line!(trial, "{}", sketch.estimate(1u64));
     sketch.halve();
     say_line!(trial, "{}", sketch.estimate(1u64));
     Ok(())
+}
+
+/// Weights of eight bytes.
+pub fn great_weights(trial: &mut Trial) -> Result<(), Stopped> {
+    least_weight(trial)?;
+    Ok(greatest_weight(trial)?)
 }
 
 /// A sketch of so many items of this weight, from this item on.
@@ -69,10 +79,16 @@ fn frequent(
     Ok(sketch)
 }
 
-/// Totals of frequent items up to the greatest.
-pub fn great_totals(trial: &mut Trial) -> Result<(), Stopped> {
+/// A purge of seven items of great weight.
+fn great_purge(trial: &mut Trial) -> Result<(), Error> {
     let sketch = frequent(trial, 0, 7, 1 << 61)?;
     tell_frequent(trial, &sketch, &[0]);
+    Ok(())
+}
+
+/// Totals of frequent items up to the greatest.
+pub fn great_totals(trial: &mut Trial) -> Result<(), Stopped> {
+    great_purge(trial)?;
     let mut left = frequent(trial, 1, 1, u64::MAX)?;
     let right = frequent(trial, 2, 1, 1)?;
     let merged = left.merge(&right);
@@ -101,16 +117,30 @@ fn merged(
     merged.try_clone()
 }
 
-/// Thousands of items by reference, saved, restored, merged and cloned.
-pub fn thousands(trial: &mut Trial) -> Result<(), Stopped> {
-    let image = thousands_of_items(trial)?.serialize()?;
+/// What the image of a sketch of thousands of items gives back.
+fn restored(trial: &mut Trial) -> Result<FrequentItemsSketch<i64>, Error> {
+    let image = image_of_thousands(trial)?;
     say_line!(trial, "bytes {}", image.len());
-    let restored = FrequentItemsSketch::deserialize(trial.alloc, &image)?;
-    let clone = merged(trial, &restored)?;
-    tell_frequent(trial, &clone, &[0, 1, 3072, 3073]);
-    let rows = clone.frequent_items(ErrorType::NoFalseNegatives)?;
+    FrequentItemsSketch::deserialize(trial.alloc, &image)
+}
+
+fn image_of_thousands(trial: &Trial) -> Result<Vec<u8>, Error> {
+    thousands_of_items(trial)?.serialize()
+}
+
+/// How many rows there are.
+fn tell_length_of_rows(trial: &mut Trial, sketch: &FrequentItemsSketch<i64>) -> Result<(), Error> {
+    let rows = sketch.frequent_items(ErrorType::NoFalseNegatives)?;
     say_line!(trial, "rows {}", rows.len());
     Ok(())
+}
+
+/// Thousands of items by reference, saved, restored, merged and cloned.
+pub fn thousands(trial: &mut Trial) -> Result<(), Stopped> {
+    let restored = restored(trial)?;
+    let clone = merged(trial, &restored)?;
+    tell_frequent(trial, &clone, &[0, 1, 3072, 3073]);
+    Ok(tell_length_of_rows(trial, &clone)?)
 }
 
 /// There may be no memory for these.

@@ -9,18 +9,51 @@ use std::fmt::Write;
 /// A text that is kept on the heap.
 const LONG: &str = "a longer item, not kept in place";
 
-/// Sketches of all four kinds.
-const MADE: [Said; 6] = [
+/// Commands of all kinds.
+const ALL: [Said; 68] = [
+    // sketches of all four kinds
     Said::Frequent("f", 8),
     Said::Frequent("g", 64),
     Said::CountU64("c", 16),
     Said::CountI64("i", 16),
     Said::Bloom("b", 2),
     Said::Bloom("d", 2),
-];
-
-/// Images, and sketches that come back from them.
-const SAVED: [Said; 15] = [
+    // the one purge leaves no choice, since all counts are 3; all weights in `g` differ
+    Said::Add("f", 3, "p"),
+    Said::Add("g", 1, "p"),
+    Said::Insert("b", "p"),
+    Said::Add("f", 3, "q"),
+    Said::Add("g", 2, "q"),
+    Said::Insert("b", "q"),
+    Said::Add("f", 3, "r"),
+    Said::Add("g", 4, "r"),
+    Said::Insert("b", "r"),
+    Said::Add("f", 3, "s"),
+    Said::Add("g", 8, "s"),
+    Said::Insert("b", "s"),
+    Said::Add("f", 3, "t"),
+    Said::Add("g", 16, "t"),
+    Said::Insert("b", "t"),
+    Said::Add("f", 3, "u"),
+    Said::Add("g", 32, "u"),
+    Said::Insert("b", "u"),
+    Said::Add("f", 3, "v"),
+    Said::Add("g", 64, "v"),
+    Said::Insert("b", "v"),
+    Said::Add("g", 200, "q"),
+    Said::Add("f", 200, "q"),
+    Said::Add("c", 200, "q"),
+    Said::Insert("d", "q"),
+    Said::Add("g", 400, "r"),
+    Said::Add("f", 400, "r"),
+    Said::Add("c", 400, "r"),
+    Said::Insert("d", "r"),
+    Said::Add("g", 800, LONG),
+    Said::Add("f", 800, LONG),
+    Said::Add("c", 800, LONG),
+    Said::Insert("d", LONG),
+    Said::AddSigned("i", -7, "q"),
+    // images, and sketches that come back from them
     Said::Save("f", "f"),
     Said::ShowImage("f"),
     Said::Save("g", "g"),
@@ -36,10 +69,7 @@ const SAVED: [Said; 15] = [
     Said::Restore("c", "c2"),
     Said::Restore("i", "i2"),
     Said::Restore("b", "b2"),
-];
-
-/// The joins, and what is done to weights and sets.
-const JOINED: [Said; 13] = [
+    // the joins, and what is done to weights and sets
     Said::Merge("f", "f2"),
     Said::Merge("g", "g2"),
     Said::Merge("c", "c2"),
@@ -55,55 +85,41 @@ const JOINED: [Said; 13] = [
     Said::ListRows("f"),
 ];
 
-/// The one purge leaves no choice, since all counts are 3. All weights in `g` differ.
-fn feed(all: &mut Vec<Said>) -> Result<(), AllocError> {
-    for (weight, item) in [
-        (1, "p"),
-        (2, "q"),
-        (4, "r"),
-        (8, "s"),
-        (16, "t"),
-        (32, "u"),
-        (64, "v"),
-    ] {
-        all.push(Said::Add("f", 3, item))?;
-        all.push(Said::Add("g", weight, item))?;
-        all.push(Said::Insert("b", item))?;
-    }
-    for (weight, item) in [(200, "q"), (400, "r"), (800, LONG)] {
-        all.push(Said::Add("g", weight, item))?;
-        all.push(Said::Add("f", weight, item))?;
-        all.push(Said::Add("c", weight, item))?;
-        all.push(Said::Insert("d", item))?;
-    }
-    all.push(Said::AddSigned("i", -7, "q"))?;
-    Ok(())
+/// What is asked of one sketch in the end.
+fn questions_of(name: &'static str) -> [Said; 5] {
+    [
+        Said::GetStatus(name),
+        Said::Ask(name, "p"),
+        Said::Ask(name, "q"),
+        Said::Ask(name, "r"),
+        Said::Ask(name, LONG),
+    ]
 }
 
-/// What is asked of every sketch in the end.
+/// What is asked of the images, and a report.
+const IMAGES_AND_ROWS: [Said; 6] = [
+    Said::ShowImage("f"),
+    Said::ShowImage("g"),
+    Said::ShowImage("c"),
+    Said::ShowImage("i"),
+    Said::ShowImage("b"),
+    Said::ListRows("g"),
+];
+
+/// What is asked in the end.
 fn questions(alloc: Global) -> Result<Vec<Command<String>>, AllocError> {
     let mut asked = Vec::new(alloc);
     for name in ["f", "g", "c", "i", "b", "d", "f2", "g2", "c2", "i2", "b2"] {
-        asked.push(Said::GetStatus(name))?;
-        for item in ["p", "q", "r", LONG] {
-            asked.push(Said::Ask(name, item))?;
-        }
+        asked.extend_from_slice(&questions_of(name))?;
     }
-    for name in ["f", "g", "c", "i", "b"] {
-        asked.push(Said::ShowImage(name))?;
-    }
-    asked.push(Said::ListRows("g"))?;
+    asked.extend_from_slice(&IMAGES_AND_ROWS)?;
     commands(alloc, &asked)
 }
 
 /// All commands but those of the given places.
 fn all_but(alloc: Global, left_out: &[usize]) -> Result<Vec<Command<String>>, AllocError> {
-    let mut all = Vec::from_slice(alloc, &MADE)?;
-    feed(&mut all)?;
-    all.extend_from_slice(&SAVED)?;
-    all.extend_from_slice(&JOINED)?;
     let mut kept = Vec::new(alloc);
-    for (place, said) in all.iter().enumerate() {
+    for (place, said) in ALL.iter().enumerate() {
         if !left_out.contains(&place) {
             kept.push(*said)?;
         }
@@ -111,11 +127,8 @@ fn all_but(alloc: Global, left_out: &[usize]) -> Result<Vec<Command<String>>, Al
     commands(alloc, &kept)
 }
 
-/// Runs the commands but for those of the given places, and then asks.
-pub fn session(trial: &mut Trial, left_out: &[usize]) -> Result<(), Stopped> {
-    let alloc = trial.alloc;
-    let commands = all_but(alloc, left_out)?;
-    let mut session = Session::new(alloc);
+/// Runs the commands with their requests for memory counted.
+fn run(trial: &mut Trial, session: &mut Session<String>, commands: Vec<Command<String>>) {
     trial.begin();
     let replies = session.run(commands);
     trial.end();
@@ -126,7 +139,21 @@ pub fn session(trial: &mut Trial, left_out: &[usize]) -> Result<(), Stopped> {
             tell_error(trial, e);
         }
     }
-    say_line!(trial, "then");
-    tell_replies(trial, &session.run(questions(alloc)?)?);
+}
+
+/// Asks the session all questions.
+fn ask(trial: &mut Trial, session: &mut Session<String>) -> Result<(), Stopped> {
+    let questions = questions(trial.alloc)?;
+    let replies = session.run(questions)?;
+    tell_replies(trial, &replies);
     Ok(())
+}
+
+/// Runs the commands but for those of the given places, and then asks.
+pub fn session(trial: &mut Trial, left_out: &[usize]) -> Result<(), Stopped> {
+    let commands = all_but(trial.alloc, left_out)?;
+    let mut session = Session::new(trial.alloc);
+    run(trial, &mut session, commands);
+    say_line!(trial, "then");
+    ask(trial, &mut session)
 }

@@ -34,6 +34,27 @@ fn tell_restored<T: FrequentItemValue + Drop>(trial: &mut Trial, image: &[u8], m
     }
 }
 
+/// Adds seven items, for which the table doubles.
+fn add_seven<T: FrequentItemValue + Numbered + Drop>(
+    sketch: &mut FrequentItemsSketch<T>,
+) -> Result<(), Error> {
+    for number in 1..=7 {
+        sketch.update(T::of(number))?;
+    }
+    Ok(())
+}
+
+/// The sizes of what the sketch's image gives back.
+fn tell_images<T: FrequentItemValue + Drop>(
+    trial: &mut Trial,
+    sketch: &FrequentItemsSketch<T>,
+) -> Result<(), Error> {
+    let image = sketch.serialize()?;
+    tell_restored::<T>(trial, &image, 448);
+    tell_restored::<T>(trial, &image, 447);
+    Ok(())
+}
+
 /// The sizes of a new sketch, and with seven items, for which its table doubles; and of what its image gives back.
 pub fn sizes<T>(trial: &mut Trial) -> Result<(), Stopped>
 where
@@ -41,13 +62,9 @@ where
 {
     let mut sketch = FrequentItemsSketch::<T>::with_sample_size(trial.alloc, 16, 4)?;
     tell_sizes(trial, &sketch);
-    for number in 1..=7 {
-        sketch.update(T::of(number))?;
-    }
+    add_seven(&mut sketch)?;
     tell_sizes(trial, &sketch);
-    let image = sketch.serialize()?;
-    tell_restored::<T>(trial, &image, 448);
-    tell_restored::<T>(trial, &image, 447);
+    tell_images(trial, &sketch)?;
     Ok(())
 }
 
@@ -75,6 +92,28 @@ fn tell_row<T: Numbered>(trial: &mut Trial, row: &Row<T>) {
     tell_values(trial, "row", &numbers);
 }
 
+/// Two rows, a clone of the second, and whether it equals them and a third.
+fn tell_clone<T>(
+    trial: &mut Trial,
+    first: &Row<T>,
+    second: &Row<T>,
+    other: &Row<T>,
+) -> Result<(), Error>
+where
+    T: FrequentItemValue + Numbered + Clone + Drop,
+    requires clones { (x y : T) → T.is_clone x y → IsTrue (T.eq x y) }
+{
+    let copy = second.try_clone()?;
+    tell_row(trial, first);
+    tell_row(trial, &copy);
+    tell_values(
+        trial,
+        "equal",
+        &[copy == *first, copy == *second, copy == *other],
+    );
+    Ok(())
+}
+
 /// The rows of two items, a clone of the second, and whether it equals the rows and that of an item that may equal its own.
 pub fn rows<T>(trial: &mut Trial) -> Result<(), Stopped>
 where
@@ -86,13 +125,5 @@ where
     let ([first, second], [_, other]) = (rows.as_slice(), others.as_slice()) else {
         return Err(Stopped);
     };
-    let copy = second.try_clone()?;
-    tell_row(trial, first);
-    tell_row(trial, &copy);
-    tell_values(
-        trial,
-        "equal",
-        &[copy == *first, copy == *second, copy == *other],
-    );
-    Ok(())
+    Ok(tell_clone(trial, first, second, other)?)
 }

@@ -3,7 +3,7 @@ use crate::trial::{Trial, say, say_line};
 use datasketches::bloom::BloomFilter;
 use datasketches::countmin::CountMinSketch;
 use datasketches::error::{Error, ErrorKind};
-use datasketches::frequencies::{FrequentItemsSketch, ReversePurgeItemHashMap};
+use datasketches::frequencies::{FrequentItemsSketch, ReversePurgeItemHashMap, Row};
 use datasketches::{Refusal, Reply, Status};
 use std::fmt;
 use std::fmt::Write;
@@ -41,11 +41,40 @@ pub fn fault_of<V: Drop>(answer: Result<V, Error>) -> &'static str {
 
 /// Values on a line of their own, behind a word.
 pub fn tell_values<V: fmt::Display>(trial: &mut Trial, word: &str, values: &[V]) {
+    say_values(trial, word, values);
+    say_line!(trial);
+}
+
+/// The same on a line that goes on.
+pub fn say_values<V: fmt::Display>(trial: &mut Trial, word: &str, values: &[V]) {
     say!(trial, "{word}");
     for value in values {
         say!(trial, " {value}");
     }
-    say_line!(trial);
+}
+
+/// A sketch's numbers.
+pub fn say_sketch<T: Eq + Hash + Drop>(trial: &mut Trial, sketch: &FrequentItemsSketch<T>) {
+    let numbers = [
+        sketch.num_active_items() as u64,
+        sketch.maximum_error(),
+        sketch.total_weight(),
+        sketch.current_map_capacity() as u64,
+        sketch.max_map_size() as u64,
+    ];
+    say_values(trial, "frequent", &numbers);
+}
+
+/// An item's estimate and bounds.
+pub fn say_bounds<T: Eq + Hash + Drop>(
+    trial: &mut Trial,
+    sketch: &FrequentItemsSketch<T>,
+    item: &T,
+) {
+    let estimate = sketch.estimate(item);
+    let lower = sketch.lower_bound(item);
+    let upper = sketch.upper_bound(item);
+    say!(trial, " {estimate}/{lower}/{upper}");
 }
 
 /// A sketch's numbers, and for each of the items its estimate and bounds.
@@ -54,23 +83,9 @@ pub fn tell_frequent<T: Eq + Hash + Drop>(
     sketch: &FrequentItemsSketch<T>,
     items: &[T],
 ) {
-    say!(
-        trial,
-        "frequent {} {} {} {} {}",
-        sketch.num_active_items(),
-        sketch.maximum_error(),
-        sketch.total_weight(),
-        sketch.current_map_capacity(),
-        sketch.max_map_size()
-    );
+    say_sketch(trial, sketch);
     for item in items {
-        say!(
-            trial,
-            " {}/{}/{}",
-            sketch.estimate(item),
-            sketch.lower_bound(item),
-            sketch.upper_bound(item)
-        );
+        say_bounds(trial, sketch, item);
     }
     say_line!(trial);
 }
@@ -81,7 +96,7 @@ pub fn tell_table<T: Eq + Hash + Drop>(
     map: &ReversePurgeItemHashMap<T>,
     items: &[T],
 ) {
-    say!(trial, "table {} {}", map.num_active(), map.len());
+    say_values(trial, "table", &[map.num_active(), map.len()]);
     for item in items {
         say!(trial, " {}", map.get(item));
     }
@@ -90,14 +105,13 @@ pub fn tell_table<T: Eq + Hash + Drop>(
 
 /// A filter's numbers, and the items that it contains, of those from 0 to 7.
 pub fn tell_filter(trial: &mut Trial, filter: &BloomFilter) {
-    say!(
-        trial,
-        "filter {} {} {} {}",
+    let numbers = [
         filter.bits_used(),
-        filter.capacity(),
-        filter.num_hashes(),
-        filter.seed()
-    );
+        filter.capacity() as u64,
+        u64::from(filter.num_hashes()),
+        filter.seed(),
+    ];
+    say_values(trial, "filter", &numbers);
     for item in 0..8u64 {
         if filter.contains(&item) {
             say!(trial, " {item}");
@@ -108,14 +122,13 @@ pub fn tell_filter(trial: &mut Trial, filter: &BloomFilter) {
 
 /// A Count-Min sketch's numbers, and the estimates of the items from 0 to 3.
 pub fn tell_counts(trial: &mut Trial, sketch: &CountMinSketch<u64>) {
-    say!(
-        trial,
-        "counts {} {} {} {}",
+    let numbers = [
         sketch.total_weight(),
-        sketch.num_hashes(),
-        sketch.num_buckets(),
-        sketch.seed()
-    );
+        u64::from(sketch.num_hashes()),
+        u64::from(sketch.num_buckets()),
+        sketch.seed(),
+    ];
+    say_values(trial, "counts", &numbers);
     for item in 0..4u64 {
         say!(trial, " {}", sketch.estimate(item));
     }
@@ -146,19 +159,24 @@ fn tell_reply(trial: &mut Trial, reply: &Reply<String>) {
             estimate,
             lower,
             upper,
-        } => say_line!(trial, "bounds {estimate} {lower} {upper}"),
+        } => tell_values(trial, "bounds", &[*estimate, *lower, *upper]),
         Reply::Contains(found) => say_line!(trial, "contains {found}"),
         Reply::Status(status) => tell_status(trial, status),
         Reply::Rows(rows) => {
             say!(trial, "rows");
-            for row in rows {
-                say!(trial, " {}={}", row.item(), row.estimate());
-            }
-            say_line!(trial);
+            tell_rows(trial, rows);
         }
         Reply::Image(bytes) => tell_bytes(trial, bytes),
         Reply::Refused(refusal) => tell_refusal(trial, refusal),
     }
+}
+
+/// Rows up to the end of a line: each item and its estimate.
+pub fn tell_rows(trial: &mut Trial, rows: &[Row<String>]) {
+    for row in rows {
+        say!(trial, " {}={}", row.item(), row.estimate());
+    }
+    say_line!(trial);
 }
 
 fn tell_status(trial: &mut Trial, status: &Status) {
@@ -170,10 +188,17 @@ fn tell_status(trial: &mut Trial, status: &Status) {
             size,
             max,
             capacity,
-        } => say_line!(
-            trial,
-            "frequent {active} {error} {total} {size} {max} {capacity}"
-        ),
+        } => {
+            let numbers = [
+                *active as u64,
+                *error,
+                *total,
+                *size as u64,
+                *max as u64,
+                *capacity as u64,
+            ];
+            tell_values(trial, "frequent", &numbers);
+        }
         Status::CountI64 {
             total,
             hashes,
@@ -185,13 +210,21 @@ fn tell_status(trial: &mut Trial, status: &Status) {
             hashes,
             buckets,
             seed,
-        } => say_line!(trial, "countu {total} {hashes} {buckets} {seed}"),
+        } => tell_values(
+            trial,
+            "countu",
+            &[*total, u64::from(*hashes), u64::from(*buckets), *seed],
+        ),
         Status::Bloom {
             bits,
             capacity,
             hashes,
             seed,
-        } => say_line!(trial, "bloom {bits} {capacity} {hashes} {seed}"),
+        } => tell_values(
+            trial,
+            "bloom",
+            &[*bits, *capacity as u64, u64::from(*hashes), *seed],
+        ),
     }
 }
 

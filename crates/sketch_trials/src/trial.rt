@@ -75,6 +75,11 @@ impl Trial {
         }
     }
 
+    /// Something that the trial is not about went wrong.
+    pub fn stop(&mut self) {
+        self.stopped = true;
+    }
+
     fn mark(&mut self, size: usize) -> Result<(), Stopped> {
         self.marks.push(Vec::with_capacity(self.alloc, size)?)?;
         Ok(())

@@ -1,8 +1,11 @@
 //! Calls on the windows of tenants.
-use crate::tell::{tell_error, tell_outcome};
-use crate::trial::{Stopped, Trial, say, say_line};
+use crate::tell::{say_values, tell_error, tell_outcome, tell_rows};
+use crate::texts::text;
+use crate::trial::{Stopped, Trial, say_line};
+use datasketches::error::Error;
 use datasketches::frequencies::ErrorType;
 use heavy_windows::{HeavyWindows, Report};
+use std::alloc::AllocError;
 use std::fmt::Write;
 
 /// A call on a tenant.
@@ -38,27 +41,55 @@ const CALLS: [Call; 18] = [
 /// Makes the calls but for those of the given places, and then asks for the report of each tenant.
 pub fn windows(trial: &mut Trial, left_out: &[usize]) -> Result<(), Stopped> {
     let mut windows = HeavyWindows::new(trial.alloc, 2, 64)?;
-    for (place, call) in CALLS.iter().enumerate() {
-        if !left_out.contains(&place) {
-            make(trial, &mut windows, *call)?;
-        }
-    }
+    make_all(trial, &mut windows, left_out)?;
     say_line!(trial, "then");
     for tenant in 1..=3 {
-        let report = windows.report(tenant, ErrorType::NoFalseNegatives, 0)?;
-        tell_report(trial, &report);
+        ask(trial, &windows, tenant)?;
     }
     Ok(())
+}
+
+/// Makes the calls but for those of the given places.
+fn make_all(
+    trial: &mut Trial,
+    windows: &mut HeavyWindows<String>,
+    left_out: &[usize],
+) -> Result<(), Stopped> {
+    for (place, call) in CALLS.iter().enumerate() {
+        if !left_out.contains(&place) {
+            make(trial, windows, *call)?;
+        }
+    }
+    Ok(())
+}
+
+/// Asks for a tenant's report.
+pub fn ask(trial: &mut Trial, windows: &HeavyWindows<String>, tenant: u64) -> Result<(), Stopped> {
+    let report = windows.report(tenant, ErrorType::NoFalseNegatives, 0)?;
+    tell_report(trial, &report);
+    Ok(())
+}
+
+/// Adds an item with the requests for memory counted.
+pub fn add_counted(
+    trial: &mut Trial,
+    windows: &mut HeavyWindows<String>,
+    tenant: u64,
+    item: &str,
+    weight: u64,
+) -> Result<Result<(), Error>, AllocError> {
+    let item = text(trial.alloc, item)?;
+    trial.begin();
+    let added = windows.add(tenant, item, weight);
+    trial.end();
+    Ok(added)
 }
 
 /// Makes a call with its requests for memory counted.
 fn make(trial: &mut Trial, windows: &mut HeavyWindows<String>, call: Call) -> Result<(), Stopped> {
     match call {
         Call::Add(tenant, weight, item) => {
-            let item = String::from_str(trial.alloc, item)?;
-            trial.begin();
-            let added = windows.add(tenant, item, weight);
-            trial.end();
+            let added = add_counted(trial, windows, tenant, item, weight)?;
             tell_outcome(trial, added);
         }
         Call::Turn(tenant) => {
@@ -67,29 +98,28 @@ fn make(trial: &mut Trial, windows: &mut HeavyWindows<String>, call: Call) -> Re
             trial.end();
             tell_outcome(trial, turned);
         }
-        Call::Report(tenant) => {
-            trial.begin();
-            let report = windows.report(tenant, ErrorType::NoFalseNegatives, 0);
-            trial.end();
-            match report {
-                Ok(report) => tell_report(trial, &report),
-                Err(e) => tell_error(trial, e),
-            }
-        }
+        Call::Report(tenant) => report_counted(trial, windows, tenant),
     }
     Ok(())
 }
 
-/// What a report says.
-pub fn tell_report(trial: &mut Trial, report: &Report<String>) {
-    say!(
-        trial,
-        "report {} {}",
-        report.total_weight,
-        report.maximum_error
-    );
-    for row in &report.rows {
-        say!(trial, " {}={}", row.item(), row.estimate());
+/// Asks for a report with the requests for memory counted.
+fn report_counted(trial: &mut Trial, windows: &HeavyWindows<String>, tenant: u64) {
+    trial.begin();
+    let report = windows.report(tenant, ErrorType::NoFalseNegatives, 0);
+    trial.end();
+    match report {
+        Ok(report) => tell_report(trial, &report),
+        Err(e) => tell_error(trial, e),
     }
-    say_line!(trial);
+}
+
+/// What a report says.
+fn tell_report(trial: &mut Trial, report: &Report<String>) {
+    say_values(
+        trial,
+        "report",
+        &[report.total_weight, report.maximum_error],
+    );
+    tell_rows(trial, &report.rows);
 }
