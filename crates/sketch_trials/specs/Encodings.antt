@@ -1,5 +1,5 @@
 -- How the items of the trials are told apart and written.
-use Rattle.std.proofs.Common.{◌≡◌, ℕ, Bool, true, false, cond, List, ◌++◌, length, Result, Ok, Err, subst}
+use Rattle.std.proofs.Common.{◌≡◌, ℕ, Bool, true, false, cond, List, Result, Ok, Err, subst}
 use Rattle.std.specs.Prelude.{◌==◌, ◌%◌, if◌then◌else◌, nat_eq}
 use Rattle.std.proofs.lemmas.Bool.{eqb-true}
 use Rattle.std.specs.Cmp.{IsEquivalence, nat_eq_equiv}

@@ -1,4 +1,4 @@
-use Rattle.std.proofs.Common.{inl, inr, sym, ap, ◌∙◌, Ok, refl, rules}
+use Rattle.std.proofs.Common.{inr, sym, ap, ◌∙◌, Ok, refl, rules}
 use Rattle.sketch_frequencies.proofs.Texts.{taken_bad, taken_ok, is_ok_from, refused_there}
 use Rattle.sketch_frequencies.proofs.frequent_item_value.text_of.Goals as goal
 

@@ -1,4 +1,3 @@
-use Rattle.sketch_frequencies.specs.RowValue.{RowValue}
 use Rattle.heavy_windows.specs.State.{at_tenant}
 use Rattle.heavy_windows.proofs.Reports.{paid_by_tail, rows_enclose}
 use Rattle.heavy_windows.proofs.heavy_windows.HeavyWindows.report.Goals as goal
