@@ -46,23 +46,17 @@ module _ {T C : Type 0} (eq : T → T → Bool) (codec : Codec C) (content : T �
   -- a filter that was read gives back what was saved
   pub filter_back : bloom_laws.SpelledIsImage → (bytes : Vec ℕ Global) (filter : FilterState) → IsFilterState filter → bloom.Restores bytes.items filter → GivesBack eq codec content (image.Bloom bytes) (Bloom filter)
   filter_back spelled bytes filter state restores (OfBloom h) i = record { state = state; stands = restores i.filter (spelled bytes.items i.filter i.spelled) h i.stands }
-  filter_back spelled bytes filter state restores (OfFrequent h) i = absurd i
-  filter_back spelled bytes filter state restores (OfCountI64 h) i = absurd i
-  filter_back spelled bytes filter state restores (OfCountU64 h) i = absurd i
+  filter_back spelled bytes filter state restores _ i = absurd i
 
   -- so does a Count-Min sketch
   pub signed_back : count_laws.SpelledIsImage least_signed greatest_signed → (seed : ℕ) (bytes : Vec ℕ Global) (new : CountState) → IsCountState greatest_signed new → count.Restores least_signed greatest_signed seed bytes.items new → GivesBack eq codec content (image.CountI64 seed bytes) (CountI64 new)
   signed_back spelled seed bytes new state restores (OfCountI64 h) i = count_back least_signed greatest_signed seed bytes.items new h spelled state restores i
-  signed_back spelled seed bytes new state restores (OfFrequent h) i = absurd i
-  signed_back spelled seed bytes new state restores (OfCountU64 h) i = absurd i
-  signed_back spelled seed bytes new state restores (OfBloom h) i = absurd i
+  signed_back spelled seed bytes new state restores _ i = absurd i
 
   -- so does a Count-Min sketch
   pub unsigned_back : count_laws.SpelledIsImage least_unsigned greatest_unsigned → (seed : ℕ) (bytes : Vec ℕ Global) (new : CountState) → IsCountState greatest_unsigned new → count.Restores least_unsigned greatest_unsigned seed bytes.items new → GivesBack eq codec content (image.CountU64 seed bytes) (CountU64 new)
   unsigned_back spelled seed bytes new state restores (OfCountU64 h) i = count_back least_unsigned greatest_unsigned seed bytes.items new h spelled state restores i
-  unsigned_back spelled seed bytes new state restores (OfFrequent h) i = absurd i
-  unsigned_back spelled seed bytes new state restores (OfCountI64 h) i = absurd i
-  unsigned_back spelled seed bytes new state restores (OfBloom h) i = absurd i
+  unsigned_back spelled seed bytes new state restores _ i = absurd i
 
   -- so does a sketch of frequent items
   pub frequent_back : frequent_laws.SpelledIsImage codec → (bytes : Vec ℕ Global) (new : FrequentState T) → IsState eq new → frequent.Restores codec content eq bytes.items new → frequent.RestoresBudget codec content eq bytes.items new → GivesBack eq codec content (image.Frequent bytes) (Frequent new)
@@ -75,57 +69,25 @@ module _ {T C : Type 0} (eq : T → T → Bool) (codec : Codec C) (content : T �
         stands = stands;
         budget = budgets i.sketch was h i.encloses i.budget;
       }
-  frequent_back spelled bytes new state restores budgets (OfCountI64 h) i = absurd i
-  frequent_back spelled bytes new state restores budgets (OfCountU64 h) i = absurd i
-  frequent_back spelled bytes new state restores budgets (OfBloom h) i = absurd i
+  frequent_back spelled bytes new state restores budgets _ i = absurd i
 
   -- what was written for a sketch stands for what the sketch stands for
   pub saved_stands : (sketch : Sketch T) (image : Image) (h : History T) → IsWrittenBy codec content sketch image → StandsFor eq sketch h → IsImageOf eq codec content image h
   saved_stands (Frequent s) (image.Frequent bytes) (OfFrequent h) written stands = record { sketch = s; spelled = written; encloses = stands.stands.encloses; budget = stands.budget }
-  saved_stands (Frequent s) (image.Frequent bytes) (OfCountI64 h) written stands = absurd stands
-  saved_stands (Frequent s) (image.Frequent bytes) (OfCountU64 h) written stands = absurd stands
-  saved_stands (Frequent s) (image.Frequent bytes) (OfBloom h) written stands = absurd stands
-  saved_stands (Frequent s) (image.CountI64 seed bytes) h written stands = absurd written
-  saved_stands (Frequent s) (image.CountU64 seed bytes) h written stands = absurd written
-  saved_stands (Frequent s) (image.Bloom bytes) h written stands = absurd written
+  saved_stands (Frequent s) (image.Frequent bytes) _ written stands = absurd stands
   saved_stands (CountI64 s) (image.CountI64 seed bytes) (OfCountI64 h) written stands = record { sketch = s; seed_is = written.0; spelled = written.1; stands = stands.stands }
-  saved_stands (CountI64 s) (image.CountI64 seed bytes) (OfFrequent h) written stands = absurd stands
-  saved_stands (CountI64 s) (image.CountI64 seed bytes) (OfCountU64 h) written stands = absurd stands
-  saved_stands (CountI64 s) (image.CountI64 seed bytes) (OfBloom h) written stands = absurd stands
-  saved_stands (CountI64 s) (image.Frequent bytes) h written stands = absurd written
-  saved_stands (CountI64 s) (image.CountU64 seed bytes) h written stands = absurd written
-  saved_stands (CountI64 s) (image.Bloom bytes) h written stands = absurd written
+  saved_stands (CountI64 s) (image.CountI64 seed bytes) _ written stands = absurd stands
   saved_stands (CountU64 s) (image.CountU64 seed bytes) (OfCountU64 h) written stands = record { sketch = s; seed_is = written.0; spelled = written.1; stands = stands.stands }
-  saved_stands (CountU64 s) (image.CountU64 seed bytes) (OfFrequent h) written stands = absurd stands
-  saved_stands (CountU64 s) (image.CountU64 seed bytes) (OfCountI64 h) written stands = absurd stands
-  saved_stands (CountU64 s) (image.CountU64 seed bytes) (OfBloom h) written stands = absurd stands
-  saved_stands (CountU64 s) (image.Frequent bytes) h written stands = absurd written
-  saved_stands (CountU64 s) (image.CountI64 seed bytes) h written stands = absurd written
-  saved_stands (CountU64 s) (image.Bloom bytes) h written stands = absurd written
+  saved_stands (CountU64 s) (image.CountU64 seed bytes) _ written stands = absurd stands
   saved_stands (Bloom s) (image.Bloom bytes) (OfBloom h) written stands = record { filter = s; spelled = written; stands = stands.stands }
-  saved_stands (Bloom s) (image.Bloom bytes) (OfFrequent h) written stands = absurd stands
-  saved_stands (Bloom s) (image.Bloom bytes) (OfCountI64 h) written stands = absurd stands
-  saved_stands (Bloom s) (image.Bloom bytes) (OfCountU64 h) written stands = absurd stands
-  saved_stands (Bloom s) (image.Frequent bytes) h written stands = absurd written
-  saved_stands (Bloom s) (image.CountI64 seed bytes) h written stands = absurd written
-  saved_stands (Bloom s) (image.CountU64 seed bytes) h written stands = absurd written
+  saved_stands (Bloom s) (image.Bloom bytes) _ written stands = absurd stands
+  saved_stands _ _ _ written stands = absurd written
 
 module _ {T C : Type 0} (codec : Codec C) (content : T → C) where
   -- where an image was read, memory may be refused
   pub read_first : (saved : Image) (sketch : Sketch T) → IsReadFrom codec content saved sketch → IsReadRefusal codec saved no_memory
   read_first (image.Frequent bytes) (Frequent s) read = inl (refl, or_else_none (frequent.early_fault bytes.items) _ read.0.no_fault)
-  read_first (image.Frequent bytes) (CountI64 s) read = absurd read
-  read_first (image.Frequent bytes) (CountU64 s) read = absurd read
-  read_first (image.Frequent bytes) (Bloom s) read = absurd read
   read_first (image.CountI64 seed bytes) (CountI64 s) read = inl (refl, or_else_none (count.early_fault seed bytes.items) _ read.no_fault)
-  read_first (image.CountI64 seed bytes) (Frequent s) read = absurd read
-  read_first (image.CountI64 seed bytes) (CountU64 s) read = absurd read
-  read_first (image.CountI64 seed bytes) (Bloom s) read = absurd read
   read_first (image.CountU64 seed bytes) (CountU64 s) read = inl (refl, or_else_none (count.early_fault seed bytes.items) _ read.no_fault)
-  read_first (image.CountU64 seed bytes) (Frequent s) read = absurd read
-  read_first (image.CountU64 seed bytes) (CountI64 s) read = absurd read
-  read_first (image.CountU64 seed bytes) (Bloom s) read = absurd read
   read_first (image.Bloom bytes) (Bloom s) read = inl (refl, or_else_none (bloom.early_fault bytes.items) _ read.no_fault)
-  read_first (image.Bloom bytes) (Frequent s) read = absurd read
-  read_first (image.Bloom bytes) (CountI64 s) read = absurd read
-  read_first (image.Bloom bytes) (CountU64 s) read = absurd read
+  read_first _ _ read = absurd read
