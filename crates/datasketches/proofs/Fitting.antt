@@ -14,8 +14,8 @@ use Rattle.datasketches.specs.Shapes.{fault_of}
 use Rattle.datasketches.specs.Stands.{StandsFor, Does, DoesWith}
 use Rattle.datasketches.specs.Steps.{OnSketch, Creates, MakesEmpty, JoinsNamed, JoinsApart}
 use Rattle.datasketches.specs.declared.reply.Reply.{Reply}
-use Rattle.datasketches.specs.declared.sketch.Join.{Join}
-use Rattle.datasketches.specs.declared.sketch.Shape.{Shape}
+use Rattle.datasketches.specs.declared.join.Join.{Join}
+use Rattle.datasketches.specs.declared.shape.Shape.{Shape}
 use Rattle.datasketches.specs.declared.sketch.Sketch.{Sketch}
 
 -- ---- values under names, related to histories under the same names

@@ -7,24 +7,23 @@ use Rattle.std.proofs.lemmas.Bool.{false≢true}
 use Rattle.std.proofs.lemmas.List.{length-append}
 use Rattle.sketch_frequencies.specs.Items.{Codec}
 use Rattle.sketch_base.specs.Errors.{ErrorValue}
+use Rattle.datasketches.specs.Actions.{action_of}
 use Rattle.datasketches.specs.Changing.{Changes}
 use Rattle.datasketches.specs.Fits.{Paired, Fits}
-use Rattle.datasketches.specs.Histories.{History, Assignment, put_at, changed, restored, after_one, after}
+use Rattle.datasketches.specs.Histories.{History, Assignment, put_at, changed, restored, after_action, after_one, after}
 use Rattle.datasketches.specs.Images.{IsImageOf, IsWrittenBy, IsReadFrom, IsWriteRefusal, IsReadRefusal, GivesBack}
 use Rattle.datasketches.specs.Names.{at_name, Puts, AreSame}
 use Rattle.datasketches.specs.Replies.{is_refused, refused}
 use Rattle.datasketches.specs.Running.{Midst}
 use Rattle.datasketches.specs.Stands.{StandsFor}
 use Rattle.datasketches.specs.State.{SessionState, IsUnchanged}
-use Rattle.datasketches.specs.Steps.{Refuses, Saves, Restores, Step, Run}
+use Rattle.datasketches.specs.Steps.{Refuses, Saves, Restores, Performs, Step, Run}
+use Rattle.datasketches.specs.declared.action.Action.{Action}
+use Rattle.datasketches.specs.declared.action.Action.TheVariants as action
 use Rattle.datasketches.specs.declared.command.Command.{Command}
-use Rattle.datasketches.specs.declared.command.Command.TheVariants as command
 use Rattle.datasketches.specs.declared.image.Image.{Image}
 use Rattle.datasketches.specs.declared.reply.Reply.{Reply}
 use Rattle.datasketches.specs.declared.reply.Reply.TheVariants.{Done}
-use Rattle.datasketches.specs.declared.sketch.Change.TheVariants as change
-use Rattle.datasketches.specs.declared.sketch.Join.TheVariants as join
-use Rattle.datasketches.specs.declared.sketch.Shape.TheVariants as shape
 use Rattle.datasketches.specs.declared.sketch.Sketch.{Sketch}
 use Rattle.datasketches.proofs.Fitting.{AllPaired, SketchesFit, put_pair, same_pairs, change_fits, change_same, join_fits, join_same, create_fits, create_same}
 use Rattle.datasketches.proofs.Saved.{saved_stands}
@@ -141,86 +140,42 @@ module _ {T C : Type 0} (eq : T → T → Bool) (codec : Codec C) (content : T �
   restored_same image name (Some saved) None reply old new e f r restores =
       let done = rw (e, f) at restores in read_same saved name reply old new r done.images done.outcome
 
--- ---- one command, and a run
+-- ---- one action, one command, and a run
 
 module _ {T C : Type 0} (eq : T → T → Bool) (input : T → List (List ℕ)) (codec : Codec C) (content : T → C) where
-  -- what a session fitted, it fits after a command, with what the command made of it
-  pub step_fits : (command : Command T) (reply : Reply T) (old new : SessionState T) (a : Assignment T) → Fits eq codec content old a → Step eq input codec content old command reply new → Fits eq codec content new (after_one input a command reply)
-  step_fits (command.CreateFrequent name max) reply old new a fits step =
-      after_sketches eq codec content reply _ old new a fits step.1 (create_fits eq (shape.Frequent max) (string_bytes name) reply old.sketches new.sketches a.sketches fits.sketches step.0)
-  step_fits (command.CreateFrequentSampled name max sample) reply old new a fits step =
-      after_sketches eq codec content reply _ old new a fits step.1 (create_fits eq (shape.FrequentSampled max sample) (string_bytes name) reply old.sketches new.sketches a.sketches fits.sketches step.0)
-  step_fits (command.CreateCountI64 name hashes buckets seed) reply old new a fits step =
-      after_sketches eq codec content reply _ old new a fits step.1 (create_fits eq (shape.CountI64 hashes buckets seed) (string_bytes name) reply old.sketches new.sketches a.sketches fits.sketches step.0)
-  step_fits (command.CreateCountU64 name hashes buckets seed) reply old new a fits step =
-      after_sketches eq codec content reply _ old new a fits step.1 (create_fits eq (shape.CountU64 hashes buckets seed) (string_bytes name) reply old.sketches new.sketches a.sketches fits.sketches step.0)
-  step_fits (command.CreateBloom name bits hashes seed) reply old new a fits step =
-      after_sketches eq codec content reply _ old new a fits step.1 (create_fits eq (shape.Bloom bits hashes seed) (string_bytes name) reply old.sketches new.sketches a.sketches fits.sketches step.0)
-  step_fits (command.Add name item weight) reply old new a fits step =
-      after_sketches eq codec content reply _ old new a fits step.1 (change_fits eq (Changes eq input (change.Add item weight)) (changed input (change.Add item weight)) (string_bytes name) reply old.sketches new.sketches a.sketches fits.sketches step.0)
-  step_fits (command.AddSigned name item weight) reply old new a fits step =
-      after_sketches eq codec content reply _ old new a fits step.1 (change_fits eq (Changes eq input (change.AddSigned item weight)) (changed input (change.AddSigned item weight)) (string_bytes name) reply old.sketches new.sketches a.sketches fits.sketches step.0)
-  step_fits (command.Insert name item) reply old new a fits step =
-      after_sketches eq codec content reply _ old new a fits step.1 (change_fits eq (Changes eq input (change.Insert item)) (changed input (change.Insert item)) (string_bytes name) reply old.sketches new.sketches a.sketches fits.sketches step.0)
-  step_fits (command.Reset name) reply old new a fits step =
-      after_sketches eq codec content reply _ old new a fits step.1 (change_fits eq (Changes eq input (change.Reset)) (changed input (change.Reset)) (string_bytes name) reply old.sketches new.sketches a.sketches fits.sketches step.0)
-  step_fits (command.Halve name) reply old new a fits step =
-      after_sketches eq codec content reply _ old new a fits step.1 (change_fits eq (Changes eq input (change.Halve)) (changed input (change.Halve)) (string_bytes name) reply old.sketches new.sketches a.sketches fits.sketches step.0)
-  step_fits (command.Decay name n d) reply old new a fits step =
-      after_sketches eq codec content reply _ old new a fits step.1 (change_fits eq (Changes eq input (change.Decay n d)) (changed input (change.Decay n d)) (string_bytes name) reply old.sketches new.sketches a.sketches fits.sketches step.0)
-  step_fits (command.Merge into other) reply old new a fits step =
-      after_sketches eq codec content reply _ old new a fits step.1 (join_fits eq join.Merge (string_bytes into) (string_bytes other) reply old.sketches new.sketches a.sketches fits.sketches step.0)
-  step_fits (command.Union into other) reply old new a fits step =
-      after_sketches eq codec content reply _ old new a fits step.1 (join_fits eq join.Union (string_bytes into) (string_bytes other) reply old.sketches new.sketches a.sketches fits.sketches step.0)
-  step_fits (command.Intersect into other) reply old new a fits step =
-      after_sketches eq codec content reply _ old new a fits step.1 (join_fits eq join.Intersect (string_bytes into) (string_bytes other) reply old.sketches new.sketches a.sketches fits.sketches step.0)
-  step_fits (command.Difference into other) reply old new a fits step =
-      after_sketches eq codec content reply _ old new a fits step.1 (join_fits eq join.Difference (string_bytes into) (string_bytes other) reply old.sketches new.sketches a.sketches fits.sketches step.0)
-  step_fits (command.Save name image) reply old new a fits step = save_fits eq codec content (string_bytes name) (string_bytes image) reply old new a fits step
-  step_fits (command.Restore image name) reply old new a fits step = restore_fits eq codec content (string_bytes image) (string_bytes name) reply old new a fits step
-  step_fits (command.ShowImage image) reply old new a fits step = told_fits eq codec content (is_refused reply) old new a fits step.0
-  step_fits (command.Ask name item) reply old new a fits step = told_fits eq codec content (is_refused reply) old new a fits step.0
-  step_fits (command.GetStatus name) reply old new a fits step = told_fits eq codec content (is_refused reply) old new a fits step.0
-  step_fits (command.ListRows name error_type threshold) reply old new a fits step = told_fits eq codec content (is_refused reply) old new a fits step.0
+  -- what a session fitted, it fits after an action, with what the action made of it
+  pub action_fits : (action : Action T) (reply : Reply T) (old new : SessionState T) (a : Assignment T) → Fits eq codec content old a → Performs eq input codec content old action reply new → Fits eq codec content new (after_action input a action reply)
+  action_fits (action.Create name shape) reply old new a fits step =
+      after_sketches eq codec content reply _ old new a fits step.1 (create_fits eq shape (string_bytes name) reply old.sketches new.sketches a.sketches fits.sketches step.0)
+  action_fits (action.Change name change) reply old new a fits step =
+      after_sketches eq codec content reply _ old new a fits step.1 (change_fits eq (Changes eq input change) (changed input change) (string_bytes name) reply old.sketches new.sketches a.sketches fits.sketches step.0)
+  action_fits (action.Join into other join) reply old new a fits step =
+      after_sketches eq codec content reply _ old new a fits step.1 (join_fits eq join (string_bytes into) (string_bytes other) reply old.sketches new.sketches a.sketches fits.sketches step.0)
+  action_fits (action.Save name image) reply old new a fits step = save_fits eq codec content (string_bytes name) (string_bytes image) reply old new a fits step
+  action_fits (action.Restore image name) reply old new a fits step = restore_fits eq codec content (string_bytes image) (string_bytes name) reply old new a fits step
+  action_fits (action.ShowImage image) reply old new a fits step = told_fits eq codec content (is_refused reply) old new a fits step.0
+  action_fits (action.Ask name item) reply old new a fits step = told_fits eq codec content (is_refused reply) old new a fits step.0
+  action_fits (action.GetStatus name) reply old new a fits step = told_fits eq codec content (is_refused reply) old new a fits step.0
+  action_fits (action.ListRows name error_type threshold) reply old new a fits step = told_fits eq codec content (is_refused reply) old new a fits step.0
 
-  -- a command that was refused changed nothing
-  pub step_same : (command : Command T) (reply : Reply T) (old new : SessionState T) → is_refused reply ≡ true → Step eq input codec content old command reply new → IsUnchanged old new
-  step_same (command.CreateFrequent name max) reply old new r step =
-      record { sketches = create_same eq (shape.Frequent max) (string_bytes name) reply old.sketches new.sketches r step.0; images = step.1 }
-  step_same (command.CreateFrequentSampled name max sample) reply old new r step =
-      record { sketches = create_same eq (shape.FrequentSampled max sample) (string_bytes name) reply old.sketches new.sketches r step.0; images = step.1 }
-  step_same (command.CreateCountI64 name hashes buckets seed) reply old new r step =
-      record { sketches = create_same eq (shape.CountI64 hashes buckets seed) (string_bytes name) reply old.sketches new.sketches r step.0; images = step.1 }
-  step_same (command.CreateCountU64 name hashes buckets seed) reply old new r step =
-      record { sketches = create_same eq (shape.CountU64 hashes buckets seed) (string_bytes name) reply old.sketches new.sketches r step.0; images = step.1 }
-  step_same (command.CreateBloom name bits hashes seed) reply old new r step =
-      record { sketches = create_same eq (shape.Bloom bits hashes seed) (string_bytes name) reply old.sketches new.sketches r step.0; images = step.1 }
-  step_same (command.Add name item weight) reply old new r step =
-      record { sketches = change_same eq (Changes eq input (change.Add item weight)) (changed input (change.Add item weight)) (string_bytes name) reply old.sketches new.sketches r step.0; images = step.1 }
-  step_same (command.AddSigned name item weight) reply old new r step =
-      record { sketches = change_same eq (Changes eq input (change.AddSigned item weight)) (changed input (change.AddSigned item weight)) (string_bytes name) reply old.sketches new.sketches r step.0; images = step.1 }
-  step_same (command.Insert name item) reply old new r step =
-      record { sketches = change_same eq (Changes eq input (change.Insert item)) (changed input (change.Insert item)) (string_bytes name) reply old.sketches new.sketches r step.0; images = step.1 }
-  step_same (command.Reset name) reply old new r step =
-      record { sketches = change_same eq (Changes eq input (change.Reset)) (changed input (change.Reset)) (string_bytes name) reply old.sketches new.sketches r step.0; images = step.1 }
-  step_same (command.Halve name) reply old new r step =
-      record { sketches = change_same eq (Changes eq input (change.Halve)) (changed input (change.Halve)) (string_bytes name) reply old.sketches new.sketches r step.0; images = step.1 }
-  step_same (command.Decay name n d) reply old new r step =
-      record { sketches = change_same eq (Changes eq input (change.Decay n d)) (changed input (change.Decay n d)) (string_bytes name) reply old.sketches new.sketches r step.0; images = step.1 }
-  step_same (command.Merge into other) reply old new r step =
-      record { sketches = join_same eq join.Merge (string_bytes into) (string_bytes other) reply old.sketches new.sketches r step.0; images = step.1 }
-  step_same (command.Union into other) reply old new r step =
-      record { sketches = join_same eq join.Union (string_bytes into) (string_bytes other) reply old.sketches new.sketches r step.0; images = step.1 }
-  step_same (command.Intersect into other) reply old new r step =
-      record { sketches = join_same eq join.Intersect (string_bytes into) (string_bytes other) reply old.sketches new.sketches r step.0; images = step.1 }
-  step_same (command.Difference into other) reply old new r step =
-      record { sketches = join_same eq join.Difference (string_bytes into) (string_bytes other) reply old.sketches new.sketches r step.0; images = step.1 }
-  step_same (command.Save name image) reply old new r step = saved_same eq codec content (string_bytes name) (string_bytes image) _ _ reply old new refl refl r step
-  step_same (command.Restore image name) reply old new r step = restored_same eq codec content (string_bytes image) (string_bytes name) _ _ reply old new refl refl r step
-  step_same (command.ShowImage image) reply old new r step = step.0
-  step_same (command.Ask name item) reply old new r step = step.0
-  step_same (command.GetStatus name) reply old new r step = step.0
-  step_same (command.ListRows name error_type threshold) reply old new r step = step.0
+  -- an action that was refused changed nothing
+  pub action_same : (action : Action T) (reply : Reply T) (old new : SessionState T) → is_refused reply ≡ true → Performs eq input codec content old action reply new → IsUnchanged old new
+  action_same (action.Create name shape) reply old new r step =
+      record { sketches = create_same eq shape (string_bytes name) reply old.sketches new.sketches r step.0; images = step.1 }
+  action_same (action.Change name change) reply old new r step =
+      record { sketches = change_same eq (Changes eq input change) (changed input change) (string_bytes name) reply old.sketches new.sketches r step.0; images = step.1 }
+  action_same (action.Join into other join) reply old new r step =
+      record { sketches = join_same eq join (string_bytes into) (string_bytes other) reply old.sketches new.sketches r step.0; images = step.1 }
+  action_same (action.Save name image) reply old new r step = saved_same eq codec content (string_bytes name) (string_bytes image) _ _ reply old new refl refl r step
+  action_same (action.Restore image name) reply old new r step = restored_same eq codec content (string_bytes image) (string_bytes name) _ _ reply old new refl refl r step
+  action_same (action.ShowImage image) reply old new r step = step.0
+  action_same (action.Ask name item) reply old new r step = step.0
+  action_same (action.GetStatus name) reply old new r step = step.0
+  action_same (action.ListRows name error_type threshold) reply old new r step = step.0
+
+  -- the same of a command
+  pub step_fits : (command : Command T) (reply : Reply T) (old new : SessionState T) (a : Assignment T) → Fits eq codec content old a → Step eq input codec content old command reply new → Fits eq codec content new (after_one input a command reply)
+  step_fits command reply old new a fits step = action_fits (action_of command) reply old new a fits step
 
   -- a run of commands
   pub run_fits : (commands : List (Command T)) (replies : List (Reply T)) (old new : SessionState T) (a : Assignment T) → Fits eq codec content old a → Run eq input codec content old commands replies new → Fits eq codec content new (after input a commands replies)

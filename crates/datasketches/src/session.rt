@@ -3,17 +3,21 @@ ghost use Rattle.std.specs.Prelude.{◌≡◌, [], true, None, Some, IfOk, IfErr
 ghost use Rattle.sketch_base.specs.Errors.{no_memory};
 ghost use Rattle.datasketches.specs.Answering.{Tells, Lists, status_of};
 ghost use Rattle.datasketches.specs.Fits.{Fits};
-ghost use Rattle.datasketches.specs.Histories.{Assignment, nothing_named, after_one, after};
+ghost use Rattle.datasketches.specs.Histories.{Assignment, nothing_named, after_action, after_one, after};
 ghost use Rattle.datasketches.specs.Names.{at_name};
 ghost use Rattle.datasketches.specs.Replies.{told, is_refused};
 ghost use Rattle.datasketches.specs.State.{SessionState, IsUnchanged};
-ghost use Rattle.datasketches.specs.Steps.{OnSketches, Creates, ChangesNamed, JoinsNamed, Answers, Saves, Restores, ShowsImage, Step, Run};
+ghost use Rattle.datasketches.specs.Steps.{OnSketches, Creates, ChangesNamed, JoinsNamed, Answers, Saves, Restores, ShowsImage, Performs, Step, Run};
 
+use crate::action::Action;
+use crate::change::Change;
 use crate::command::{Command, Spare};
 use crate::image::Image;
+use crate::join::Join;
 use crate::reply::{Refusal, Reply};
+use crate::shape::Shape;
 use crate::shelf::Shelf;
-use crate::sketch::{Change, Join, Shape, Sketch};
+use crate::sketch::Sketch;
 use sketch_base::Error;
 use sketch_frequencies::{ErrorType, FrequentItemValue};
 use std::alloc::Global;
@@ -83,7 +87,31 @@ impl<T: FrequentItemValue + Clone + Drop> Session<T> {
             → Fits T.eq T.codec T.content self.new (after_one T.hash_input a command result) }
         ensures refused { is_refused result ≡ true → IsUnchanged self.old self.new }
     {
-        match self.answer(command, spare) {
+        self.perform_sparing(Action::from(command), spare)
+    }
+
+    /// Does one action. [`Session::apply`] does the action of its command.
+    pub fn perform(&mut self, action: Action<T>) -> Reply<T>
+        requires clones { (x y : T) → T.is_clone x y → IsTrue (T.eq x y) }
+        ensures step { Performs T.eq T.hash_input T.codec T.content self.old action result self.new }
+        ensures fits { (a : Assignment T) → Fits T.eq T.codec T.content self.old a
+            → Fits T.eq T.codec T.content self.new (after_action T.hash_input a action result) }
+        ensures refused { is_refused result ≡ true → IsUnchanged self.old self.new }
+    {
+        let mut spare = Spare::new();
+        self.perform_sparing(action, &mut spare)
+    }
+
+    /// Does one action as [`Session::perform`] does, and may leave in `spare` a name and an item that it does not keep.
+    #[inline(always)]
+    pub fn perform_sparing(&mut self, action: Action<T>, spare: &mut Spare<T>) -> Reply<T>
+        requires clones { (x y : T) → T.is_clone x y → IsTrue (T.eq x y) }
+        ensures step { Performs T.eq T.hash_input T.codec T.content self.old action result self.new }
+        ensures fits { (a : Assignment T) → Fits T.eq T.codec T.content self.old a
+            → Fits T.eq T.codec T.content self.new (after_action T.hash_input a action result) }
+        ensures refused { is_refused result ≡ true → IsUnchanged self.old self.new }
+    {
+        match self.answer(action, spare) {
             Ok(reply) => reply,
             Err(refusal) => Reply::Refused(refusal),
         }
@@ -110,122 +138,31 @@ impl<T: FrequentItemValue + Clone + Drop> Session<T> {
         Ok(replies)
     }
 
-    // where the command is known, nothing is left of the others
+    // where the action is known, nothing is left of the others
     #[inline(always)]
-    fn answer(&mut self, command: Command<T>, spare: &mut Spare<T>) -> Result<Reply<T>, Refusal>
+    fn answer(&mut self, action: Action<T>, spare: &mut Spare<T>) -> Result<Reply<T>, Refusal>
         requires clones { (x y : T) → T.is_clone x y → IsTrue (T.eq x y) }
-        ensures { Step T.eq T.hash_input T.codec T.content self.old command (told result) self.new }
+        ensures { Performs T.eq T.hash_input T.codec T.content self.old action (told result) self.new }
     {
-        match command {
-            Command::CreateFrequent { name, max_map_size } => {
-                self.create(name, Shape::Frequent { max_map_size })
-            }
-            Command::CreateFrequentSampled {
-                name,
-                max_map_size,
-                sample_size,
-            } => self.create(
-                name,
-                Shape::FrequentSampled {
-                    max_map_size,
-                    sample_size,
-                },
-            ),
-            Command::CreateCountI64 {
-                name,
-                num_hashes,
-                num_buckets,
-                seed,
-            } => self.create(
-                name,
-                Shape::CountI64 {
-                    num_hashes,
-                    num_buckets,
-                    seed,
-                },
-            ),
-            Command::CreateCountU64 {
-                name,
-                num_hashes,
-                num_buckets,
-                seed,
-            } => self.create(
-                name,
-                Shape::CountU64 {
-                    num_hashes,
-                    num_buckets,
-                    seed,
-                },
-            ),
-            Command::CreateBloom {
-                name,
-                num_bits,
-                num_hashes,
-                seed,
-            } => self.create(
-                name,
-                Shape::Bloom {
-                    num_bits,
-                    num_hashes,
-                    seed,
-                },
-            ),
-            Command::Add { name, item, weight } => {
-                let done = self.change(
-                    name.as_str(),
-                    Change::Add { item, weight },
-                    &mut spare.item,
-                );
+        match action {
+            Action::Create { name, shape } => self.create(name, shape),
+            Action::Change { name, change } => {
+                let done = self.change(name.as_str(), change, &mut spare.item);
                 spare.name = Some(name);
                 done
             }
-            Command::AddSigned { name, item, weight } => {
-                let done = self.change(
-                    name.as_str(),
-                    Change::AddSigned { item, weight },
-                    &mut spare.item,
-                );
-                spare.name = Some(name);
-                done
-            }
-            Command::Insert { name, item } => {
-                let done = self.change(name.as_str(), Change::Insert { item }, &mut spare.item);
-                spare.name = Some(name);
-                done
-            }
-            Command::Merge { into, other } => self.join(into.as_str(), other.as_str(), Join::Merge),
-            Command::Union { into, other } => self.join(into.as_str(), other.as_str(), Join::Union),
-            Command::Intersect { into, other } => {
-                self.join(into.as_str(), other.as_str(), Join::Intersect)
-            }
-            Command::Difference { into, other } => {
-                self.join(into.as_str(), other.as_str(), Join::Difference)
-            }
-            Command::Reset { name } => self.change(name.as_str(), Change::Reset, &mut spare.item),
-            Command::Halve { name } => self.change(name.as_str(), Change::Halve, &mut spare.item),
-            Command::Decay {
-                name,
-                numerator,
-                denominator,
-            } => self.change(
-                name.as_str(),
-                Change::Decay {
-                    numerator,
-                    denominator,
-                },
-                &mut spare.item,
-            ),
-            Command::Save { name, image } => self.save(name.as_str(), image),
-            Command::Restore { image, name } => self.restore(image.as_str(), name),
-            Command::ShowImage { image } => self.show_image(image.as_str()),
-            Command::Ask { name, item } => {
+            Action::Join { into, other, join } => self.join(into.as_str(), other.as_str(), join),
+            Action::Save { name, image } => self.save(name.as_str(), image),
+            Action::Restore { image, name } => self.restore(image.as_str(), name),
+            Action::ShowImage { image } => self.show_image(image.as_str()),
+            Action::Ask { name, item } => {
                 let told = self.ask(name.as_str(), &item);
                 spare.name = Some(name);
                 spare.item = Some(item);
                 told
             }
-            Command::GetStatus { name } => self.status(name.as_str()),
-            Command::ListRows {
+            Action::GetStatus { name } => self.status(name.as_str()),
+            Action::ListRows {
                 name,
                 error_type,
                 threshold,

@@ -6,8 +6,10 @@ ghost use Rattle.datasketches.specs.Replies.{done_or};
 ghost use Rattle.datasketches.specs.Places.{JoinsAt};
 ghost use Rattle.datasketches.specs.Steps.{ChangesNamed, JoinsNamed};
 
+use crate::change::Change;
+use crate::join::Join;
 use crate::reply::Refusal;
-use crate::sketch::{Change, Join, Sketch};
+use crate::sketch::Sketch;
 use sketch_base::Error;
 use std::alloc::Global;
 use std::collections::HashMap;

@@ -10,76 +10,17 @@ ghost use Rattle.datasketches.specs.Replies.{done_or, told};
 ghost use Rattle.datasketches.specs.Shapes.{empty_sketch, fault_of};
 ghost use Rattle.datasketches.specs.Stands.{StandsFor, Carries, CarriesBoth};
 
+use crate::change::Change;
 use crate::image::Image;
+use crate::join::Join;
 use crate::reply::{Refusal, Reply, Status};
+use crate::shape::Shape;
 use sketch_base::Error;
 use sketch_bloom::{BloomFilter, BloomFilterBuilder, laws as bloom};
 use sketch_countmin::{CountMinSketch, laws as countmin};
 use sketch_frequencies::{ErrorType, FrequentItemValue, FrequentItemsSketch, laws as frequencies};
 use std::alloc::Global;
 use std::hash::Hash;
-
-/// What a sketch is made by: its kind and its numbers.
-#[derive(Clone, Copy)]
-pub enum Shape {
-    /// A frequent-items sketch of at most so many slots.
-    Frequent {
-        max_map_size: usize,
-    },
-    /// A frequent-items sketch of at most so many slots whose purges sample so many counters.
-    FrequentSampled {
-        max_map_size: usize,
-        sample_size: usize,
-    },
-    /// A Count-Min sketch of weights below zero and above.
-    CountI64 {
-        num_hashes: u8,
-        num_buckets: u32,
-        seed: u64,
-    },
-    /// A Count-Min sketch of weights of zero and above.
-    CountU64 {
-        num_hashes: u8,
-        num_buckets: u32,
-        seed: u64,
-    },
-    /// A Bloom filter of at least so many bits.
-    Bloom {
-        num_bits: u64,
-        num_hashes: u16,
-        seed: u64,
-    },
-}
-
-/// What is done to a sketch.
-#[derive(Drop)]
-pub enum Change<T> {
-    /// An item is added with a weight.
-    Add { item: T, weight: u64 },
-    /// An item is added with a weight that may be below zero.
-    AddSigned { item: T, weight: i64 },
-    /// An item is inserted.
-    Insert { item: T },
-    /// All is taken out.
-    Reset,
-    /// All weights are halved.
-    Halve,
-    /// All weights are scaled by a fraction.
-    Decay { numerator: u64, denominator: u64 },
-}
-
-/// What is done to a sketch with another one.
-#[derive(Clone, Copy)]
-pub enum Join {
-    /// The other's weights are added.
-    Merge,
-    /// The other's positions are added.
-    Union,
-    /// Only what is also in the other stays.
-    Intersect,
-    /// What is in the other goes.
-    Difference,
-}
 
 /// A sketch of some kind.
 #[derive(Drop)]
