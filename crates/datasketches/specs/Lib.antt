@@ -1,5 +1,6 @@
 pub mod Names
 pub mod Replies
+pub mod Refusals
 pub mod Actions
 pub mod Histories
 pub mod Shapes

@@ -6,7 +6,7 @@ use crate::shape::Shape;
 use sketch_frequencies::ErrorType;
 
 /// What a session does. Each [`Command`] is one of these, by `From`.
-#[derive(Drop)]
+#[derive(Debug, PartialEq, Eq, Drop)]
 pub enum Action<T> {
     /// Makes a sketch of the shape.
     Create {

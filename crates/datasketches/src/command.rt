@@ -4,7 +4,7 @@ ghost use Rattle.std.specs.Prelude.{◌≡◌, None};
 use sketch_frequencies::ErrorType;
 
 /// A command on named sketches and images. Sketches and images have names of their own.
-#[derive(Drop)]
+#[derive(Debug, PartialEq, Eq, Drop)]
 pub enum Command<T> {
     /// Makes a sketch of frequent items of at most so many slots.
     CreateFrequent {
