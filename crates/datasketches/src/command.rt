@@ -4,6 +4,17 @@ ghost use Rattle.std.specs.Prelude.{◌≡◌, None};
 use sketch_frequencies::ErrorType;
 
 /// A command on named sketches and images. Sketches and images have names of their own.
+///
+/// # Examples
+///
+/// ```
+/// let mut session = Session::new(alloc);
+/// let name = String::from_str(alloc, "visits")?;
+/// match session.apply(Command::Insert { name, item: 7u64 }) {
+///     Reply::Refused(refusal) => assert!(refusal == Refusal::NoSuchName),
+///     _ => unreachable!(),
+/// }
+/// ```
 #[derive(Debug, PartialEq, Eq, Drop)]
 pub enum Command<T> {
     /// Makes a sketch of frequent items of at most so many slots.

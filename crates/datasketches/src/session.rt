@@ -21,6 +21,7 @@ use crate::sketch::Sketch;
 use sketch_base::Error;
 use sketch_frequencies::{ErrorType, FrequentItemValue};
 use std::alloc::Global;
+use std::fmt;
 use std::hash::Hash;
 use std::marker::Model;
 
@@ -28,6 +29,19 @@ use std::marker::Model;
 ///
 /// What a sketch promises of its own stream, a session promises of any list of commands: whatever histories its names
 /// had, after a run each sketch stands for the history that the accepted commands made.
+///
+/// # Examples
+///
+/// ```
+/// let mut session = Session::new(alloc);
+/// let name = String::from_str(alloc, "visits")?;
+/// session.apply(Command::CreateFrequent { name, max_map_size: 64 });
+/// let name = String::from_str(alloc, "visits")?;
+/// session.apply(Command::Add { name, item: 7u64, weight: 5 });
+/// let name = String::from_str(alloc, "visits")?;
+/// let reply = session.apply(Command::Ask { name, item: 7 });
+/// assert!(reply == Reply::Bounds { estimate: 5, lower: 5, upper: 5 });
+/// ```
 #[derive(Drop)]
 pub struct Session<T: Eq + Hash + Drop> {
     alloc: Global,
@@ -46,6 +60,16 @@ impl<T: Eq + Hash + Drop> Model for Session<T> {
     ghost coded = { Prim.hlevel (codes, state_code) };
 
     ghost view = { λ s. record { sketches = s.sketches; images = s.images } };
+}
+
+/// Shows the names.
+impl<T: Eq + Hash + Drop> fmt::Debug for Session<T> {
+    fn fmt<W: fmt::Write>(&self, f: &mut fmt::Formatter<W>) -> fmt::Result {
+        f.debug_struct("Session")
+            .field("sketches", &self.sketches)
+            .field("images", &self.images)
+            .finish_non_exhaustive()
+    }
 }
 
 impl<T: FrequentItemValue + Clone + Drop> Session<T> {

@@ -13,6 +13,7 @@ use crate::sketch::Sketch;
 use sketch_base::Error;
 use std::alloc::Global;
 use std::collections::HashMap;
+use std::fmt;
 use std::hash::Hash;
 use std::marker::Model;
 
@@ -35,6 +36,13 @@ impl<V> Model for Shelf<V> {
     ghost view = { λ s. listed s.places.entries s.values.items };
 
     ghost invariant = { λ s. ArePlaces s.places.entries (length s.values.items) };
+}
+
+/// Shows the names.
+impl<V> fmt::Debug for Shelf<V> {
+    fn fmt<W: fmt::Write>(&self, f: &mut fmt::Formatter<W>) -> fmt::Result {
+        f.debug_set().entries(self.places.keys()).finish()
+    }
 }
 
 impl<V: Drop> Shelf<V> {
