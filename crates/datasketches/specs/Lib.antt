@@ -12,7 +12,7 @@ pub mod Images
 pub mod State
 pub mod Places
 pub mod Steps
-pub mod Fits
+pub mod SessionStandsFor
 pub mod Laws
 pub mod Running
 -- what a crate above names of those below

@@ -133,19 +133,19 @@ pub enum Command<T> {
 
 /// What commands did not keep: a name and an item, whose memory further commands may take.
 #[derive(Drop)]
-pub struct Spare<T> {
+pub struct Recycled<T> {
     /// A name.
     pub name: Option<String>,
     /// An item.
     pub item: Option<T>,
 }
 
-impl<T> Spare<T> {
+impl<T> Recycled<T> {
     /// Nothing yet.
     pub fn new() -> Self
         ensures { result ≡ record { name = None; item = None } }
     {
-        Spare {
+        Recycled {
             name: None,
             item: None,
         }
