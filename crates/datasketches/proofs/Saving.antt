@@ -18,7 +18,7 @@ use Rattle.datasketches.specs.declared.reply.Refusal.{Refusal}
 use Rattle.datasketches.specs.declared.reply.Refusal.TheVariants.{Call}
 use Rattle.datasketches.specs.declared.reply.Reply.{Reply}
 use Rattle.datasketches.specs.declared.reply.Reply.TheVariants.{Done, Refused}
-use Rattle.datasketches.specs.declared.sketch.Shape.{Shape}
+use Rattle.datasketches.specs.declared.shape.Shape.{Shape}
 use Rattle.datasketches.specs.declared.sketch.Sketch.{Sketch}
 
 -- a refusal that was passed on

@@ -7,55 +7,54 @@ use Rattle.std.proofs.lemmas.Bool.{false≢true}
 use Rattle.std.proofs.lemmas.List.{length-append}
 use Rattle.sketch_frequencies.specs.Items.{Codec}
 use Rattle.sketch_base.specs.Errors.{ErrorValue}
+use Rattle.datasketches.specs.Actions.{action_of}
 use Rattle.datasketches.specs.Changing.{Changes}
-use Rattle.datasketches.specs.Fits.{Paired, Fits}
-use Rattle.datasketches.specs.Histories.{History, Assignment, put_at, changed, restored, after_one, after}
+use Rattle.datasketches.specs.SessionStandsFor.{Paired, SessionStandsFor}
+use Rattle.datasketches.specs.Histories.{History, Assignment, put_at, changed, restored, after_action, after_one, after}
 use Rattle.datasketches.specs.Images.{IsImageOf, IsWrittenBy, IsReadFrom, IsWriteRefusal, IsReadRefusal, GivesBack}
 use Rattle.datasketches.specs.Names.{at_name, Puts, AreSame}
 use Rattle.datasketches.specs.Replies.{is_refused, refused}
 use Rattle.datasketches.specs.Running.{Midst}
 use Rattle.datasketches.specs.Stands.{StandsFor}
 use Rattle.datasketches.specs.State.{SessionState, IsUnchanged}
-use Rattle.datasketches.specs.Steps.{Refuses, Saves, Restores, Step, Run}
+use Rattle.datasketches.specs.Steps.{Refuses, Saves, Restores, Performs, Step, Run}
+use Rattle.datasketches.specs.declared.action.Action.{Action}
+use Rattle.datasketches.specs.declared.action.Action.TheVariants as action
 use Rattle.datasketches.specs.declared.command.Command.{Command}
-use Rattle.datasketches.specs.declared.command.Command.TheVariants as command
 use Rattle.datasketches.specs.declared.image.Image.{Image}
 use Rattle.datasketches.specs.declared.reply.Reply.{Reply}
 use Rattle.datasketches.specs.declared.reply.Reply.TheVariants.{Done}
-use Rattle.datasketches.specs.declared.sketch.Change.TheVariants as change
-use Rattle.datasketches.specs.declared.sketch.Join.TheVariants as join
-use Rattle.datasketches.specs.declared.sketch.Shape.TheVariants as shape
 use Rattle.datasketches.specs.declared.sketch.Sketch.{Sketch}
 use Rattle.datasketches.proofs.Fitting.{AllPaired, SketchesFit, put_pair, same_pairs, change_fits, change_same, join_fits, join_same, create_fits, create_same}
 use Rattle.datasketches.proofs.Saved.{saved_stands}
 
 module _ {T C : Type 0} (eq : T → T → Bool) (codec : Codec C) (content : T → C) where
   -- nothing changed
-  pub unchanged_fits : (old new : SessionState T) (a : Assignment T) → Fits eq codec content old a → IsUnchanged old new → Fits eq codec content new a
+  pub unchanged_fits : (old new : SessionState T) (a : Assignment T) → SessionStandsFor eq codec content old a → IsUnchanged old new → SessionStandsFor eq codec content new a
   unchanged_fits old new a fits same = record {
     sketches = same_pairs (StandsFor eq) old.sketches new.sketches a.sketches fits.sketches same.sketches;
     images = same_pairs (IsImageOf eq codec content) old.images new.images a.images fits.images same.images;
   }
 
   -- sketches changed, or the command was refused
-  sketches_fit : (r : Bool) (grown : List ℕ → Option (History T)) (new : SessionState T) (a : Assignment T) → SketchesFit eq new.sketches (cond r a.sketches grown) → AllPaired (IsImageOf eq codec content) new.images a.images → Fits eq codec content new (cond r a (record a { sketches = grown }))
+  sketches_fit : (r : Bool) (grown : List ℕ → Option (History T)) (new : SessionState T) (a : Assignment T) → SketchesFit eq new.sketches (cond r a.sketches grown) → AllPaired (IsImageOf eq codec content) new.images a.images → SessionStandsFor eq codec content new (cond r a (record a { sketches = grown }))
   sketches_fit true grown new a sketches images = record { sketches = sketches; images = images }
   sketches_fit false grown new a sketches images = record { sketches = sketches; images = images }
 
-  after_sketches : (reply : Reply T) (grown : List ℕ → Option (History T)) (old new : SessionState T) (a : Assignment T) → Fits eq codec content old a → AreSame old.images new.images → SketchesFit eq new.sketches (cond (is_refused reply) a.sketches grown) → Fits eq codec content new (cond (is_refused reply) a (record a { sketches = grown }))
+  after_sketches : (reply : Reply T) (grown : List ℕ → Option (History T)) (old new : SessionState T) (a : Assignment T) → SessionStandsFor eq codec content old a → AreSame old.images new.images → SketchesFit eq new.sketches (cond (is_refused reply) a.sketches grown) → SessionStandsFor eq codec content new (cond (is_refused reply) a (record a { sketches = grown }))
   after_sketches reply grown old new a fits same sketches =
       sketches_fit (is_refused reply) grown new a sketches (same_pairs (IsImageOf eq codec content) old.images new.images a.images fits.images same)
 
   -- a question
-  told_fits : (r : Bool) (old new : SessionState T) (a : Assignment T) → Fits eq codec content old a → IsUnchanged old new → Fits eq codec content new (cond r a a)
+  told_fits : (r : Bool) (old new : SessionState T) (a : Assignment T) → SessionStandsFor eq codec content old a → IsUnchanged old new → SessionStandsFor eq codec content new (cond r a a)
   told_fits true old new a fits same = unchanged_fits old new a fits same
   told_fits false old new a fits same = unchanged_fits old new a fits same
 
   -- an image was written, or the call refused
   wrote_fits : (sketch : Sketch T) (image : List ℕ) (history : Option (History T)) (reply : Reply T) (old new : SessionState T) (a : Assignment T) →
-      Paired (StandsFor eq) (Some sketch) history → Fits eq codec content old a → AreSame old.sketches new.sketches →
+      Paired (StandsFor eq) (Some sketch) history → SessionStandsFor eq codec content old a → AreSame old.sketches new.sketches →
       ((saved : Image) × (reply ≡ Done) × IsWrittenBy codec content sketch saved × Puts image saved old.images new.images) ⊎ ((e : ErrorValue) × IsWriteRefusal codec content sketch e × Refuses (refused e) old.images reply new.images) →
-      Fits eq codec content new (cond (is_refused reply) a (record a { images = put_at image history a.images }))
+      SessionStandsFor eq codec content new (cond (is_refused reply) a (record a { images = put_at image history a.images }))
   wrote_fits sketch image (Some h) reply old new a pair fits same (inl done) = rw done.1 (record {
     sketches = same_pairs (StandsFor eq) old.sketches new.sketches a.sketches fits.sketches same;
     images = put_pair (IsImageOf eq codec content) image done.0 h old.images new.images a.images fits.images (saved_stands eq codec content sketch done.0 h done.2 pair) done.3;
@@ -67,8 +66,8 @@ module _ {T C : Type 0} (eq : T → T → Bool) (codec : Codec C) (content : T �
   })
 
   save_case : (name image : List ℕ) (found : Option (Sketch T)) (taken : Option Image) (reply : Reply T) (old new : SessionState T) (a : Assignment T) →
-      at_name name old.sketches ≡ found → at_name image old.images ≡ taken → Fits eq codec content old a → Saves codec content name image old reply new →
-      Fits eq codec content new (cond (is_refused reply) a (record a { images = put_at image (a.sketches name) a.images }))
+      at_name name old.sketches ≡ found → at_name image old.images ≡ taken → SessionStandsFor eq codec content old a → Saves codec content name image old reply new →
+      SessionStandsFor eq codec content new (cond (is_refused reply) a (record a { images = put_at image (a.sketches name) a.images }))
   save_case name image None taken reply old new a e f fits saves =
       let done = rw e at saves in rw done.1 (unchanged_fits old new a fits done.0)
   save_case name image (Some sketch) (Some other) reply old new a e f fits saves =
@@ -78,8 +77,8 @@ module _ {T C : Type 0} (eq : T → T → Bool) (codec : Codec C) (content : T �
       let pair : Paired (StandsFor eq) (Some sketch) (a.sketches name) = rw e at (fits.sketches name) in
       wrote_fits sketch image (a.sketches name) reply old new a pair fits done.sketches done.outcome
 
-  pub save_fits : (name image : List ℕ) (reply : Reply T) (old new : SessionState T) (a : Assignment T) → Fits eq codec content old a → Saves codec content name image old reply new →
-      Fits eq codec content new (cond (is_refused reply) a (record a { images = put_at image (a.sketches name) a.images }))
+  pub save_fits : (name image : List ℕ) (reply : Reply T) (old new : SessionState T) (a : Assignment T) → SessionStandsFor eq codec content old a → Saves codec content name image old reply new →
+      SessionStandsFor eq codec content new (cond (is_refused reply) a (record a { images = put_at image (a.sketches name) a.images }))
   save_fits name image reply old new a fits saves = save_case name image (at_name name old.sketches) (at_name image old.images) reply old new a refl refl fits saves
 
   -- a save that was refused
@@ -98,9 +97,9 @@ module _ {T C : Type 0} (eq : T → T → Bool) (codec : Codec C) (content : T �
 
   -- a sketch was read, or the call refused
   read_fits : (saved : Image) (name : List ℕ) (history : Option (History T)) (reply : Reply T) (old new : SessionState T) (a : Assignment T) →
-      Paired (IsImageOf eq codec content) (Some saved) history → Fits eq codec content old a → AreSame old.images new.images →
+      Paired (IsImageOf eq codec content) (Some saved) history → SessionStandsFor eq codec content old a → AreSame old.images new.images →
       ((sketch : Sketch T) × (reply ≡ Done) × IsReadFrom codec content saved sketch × GivesBack eq codec content saved sketch × Puts name sketch old.sketches new.sketches) ⊎ ((e : ErrorValue) × IsReadRefusal codec saved e × Refuses (refused e) old.sketches reply new.sketches) →
-      Fits eq codec content new (cond (is_refused reply) a (record a { sketches = put_at name (option_map restored history) a.sketches }))
+      SessionStandsFor eq codec content new (cond (is_refused reply) a (record a { sketches = put_at name (option_map restored history) a.sketches }))
   read_fits saved name (Some h) reply old new a pair fits same (inl done) = rw done.1 (record {
     sketches = put_pair (StandsFor eq) name done.0 (restored h) old.sketches new.sketches a.sketches fits.sketches (done.3 h pair) done.4;
     images = same_pairs (IsImageOf eq codec content) old.images new.images a.images fits.images same;
@@ -112,8 +111,8 @@ module _ {T C : Type 0} (eq : T → T → Bool) (codec : Codec C) (content : T �
   })
 
   restore_case : (image name : List ℕ) (found : Option Image) (taken : Option (Sketch T)) (reply : Reply T) (old new : SessionState T) (a : Assignment T) →
-      at_name image old.images ≡ found → at_name name old.sketches ≡ taken → Fits eq codec content old a → Restores eq codec content image name old reply new →
-      Fits eq codec content new (cond (is_refused reply) a (record a { sketches = put_at name (option_map restored (a.images image)) a.sketches }))
+      at_name image old.images ≡ found → at_name name old.sketches ≡ taken → SessionStandsFor eq codec content old a → Restores eq codec content image name old reply new →
+      SessionStandsFor eq codec content new (cond (is_refused reply) a (record a { sketches = put_at name (option_map restored (a.images image)) a.sketches }))
   restore_case image name None taken reply old new a e f fits restores =
       let done = rw e at restores in rw done.1 (unchanged_fits old new a fits done.0)
   restore_case image name (Some saved) (Some other) reply old new a e f fits restores =
@@ -123,8 +122,8 @@ module _ {T C : Type 0} (eq : T → T → Bool) (codec : Codec C) (content : T �
       let pair : Paired (IsImageOf eq codec content) (Some saved) (a.images image) = rw e at (fits.images image) in
       read_fits saved name (a.images image) reply old new a pair fits done.images done.outcome
 
-  pub restore_fits : (image name : List ℕ) (reply : Reply T) (old new : SessionState T) (a : Assignment T) → Fits eq codec content old a → Restores eq codec content image name old reply new →
-      Fits eq codec content new (cond (is_refused reply) a (record a { sketches = put_at name (option_map restored (a.images image)) a.sketches }))
+  pub restore_fits : (image name : List ℕ) (reply : Reply T) (old new : SessionState T) (a : Assignment T) → SessionStandsFor eq codec content old a → Restores eq codec content image name old reply new →
+      SessionStandsFor eq codec content new (cond (is_refused reply) a (record a { sketches = put_at name (option_map restored (a.images image)) a.sketches }))
   restore_fits image name reply old new a fits restores = restore_case image name (at_name image old.images) (at_name name old.sketches) reply old new a refl refl fits restores
 
   -- a restore that was refused
@@ -141,90 +140,46 @@ module _ {T C : Type 0} (eq : T → T → Bool) (codec : Codec C) (content : T �
   restored_same image name (Some saved) None reply old new e f r restores =
       let done = rw (e, f) at restores in read_same saved name reply old new r done.images done.outcome
 
--- ---- one command, and a run
+-- ---- one action, one command, and a run
 
 module _ {T C : Type 0} (eq : T → T → Bool) (input : T → List (List ℕ)) (codec : Codec C) (content : T → C) where
-  -- what a session fitted, it fits after a command, with what the command made of it
-  pub step_fits : (command : Command T) (reply : Reply T) (old new : SessionState T) (a : Assignment T) → Fits eq codec content old a → Step eq input codec content old command reply new → Fits eq codec content new (after_one input a command reply)
-  step_fits (command.CreateFrequent name max) reply old new a fits step =
-      after_sketches eq codec content reply _ old new a fits step.1 (create_fits eq (shape.Frequent max) (string_bytes name) reply old.sketches new.sketches a.sketches fits.sketches step.0)
-  step_fits (command.CreateFrequentSampled name max sample) reply old new a fits step =
-      after_sketches eq codec content reply _ old new a fits step.1 (create_fits eq (shape.FrequentSampled max sample) (string_bytes name) reply old.sketches new.sketches a.sketches fits.sketches step.0)
-  step_fits (command.CreateCountI64 name hashes buckets seed) reply old new a fits step =
-      after_sketches eq codec content reply _ old new a fits step.1 (create_fits eq (shape.CountI64 hashes buckets seed) (string_bytes name) reply old.sketches new.sketches a.sketches fits.sketches step.0)
-  step_fits (command.CreateCountU64 name hashes buckets seed) reply old new a fits step =
-      after_sketches eq codec content reply _ old new a fits step.1 (create_fits eq (shape.CountU64 hashes buckets seed) (string_bytes name) reply old.sketches new.sketches a.sketches fits.sketches step.0)
-  step_fits (command.CreateBloom name bits hashes seed) reply old new a fits step =
-      after_sketches eq codec content reply _ old new a fits step.1 (create_fits eq (shape.Bloom bits hashes seed) (string_bytes name) reply old.sketches new.sketches a.sketches fits.sketches step.0)
-  step_fits (command.Add name item weight) reply old new a fits step =
-      after_sketches eq codec content reply _ old new a fits step.1 (change_fits eq (Changes eq input (change.Add item weight)) (changed input (change.Add item weight)) (string_bytes name) reply old.sketches new.sketches a.sketches fits.sketches step.0)
-  step_fits (command.AddSigned name item weight) reply old new a fits step =
-      after_sketches eq codec content reply _ old new a fits step.1 (change_fits eq (Changes eq input (change.AddSigned item weight)) (changed input (change.AddSigned item weight)) (string_bytes name) reply old.sketches new.sketches a.sketches fits.sketches step.0)
-  step_fits (command.Insert name item) reply old new a fits step =
-      after_sketches eq codec content reply _ old new a fits step.1 (change_fits eq (Changes eq input (change.Insert item)) (changed input (change.Insert item)) (string_bytes name) reply old.sketches new.sketches a.sketches fits.sketches step.0)
-  step_fits (command.Reset name) reply old new a fits step =
-      after_sketches eq codec content reply _ old new a fits step.1 (change_fits eq (Changes eq input (change.Reset)) (changed input (change.Reset)) (string_bytes name) reply old.sketches new.sketches a.sketches fits.sketches step.0)
-  step_fits (command.Halve name) reply old new a fits step =
-      after_sketches eq codec content reply _ old new a fits step.1 (change_fits eq (Changes eq input (change.Halve)) (changed input (change.Halve)) (string_bytes name) reply old.sketches new.sketches a.sketches fits.sketches step.0)
-  step_fits (command.Decay name n d) reply old new a fits step =
-      after_sketches eq codec content reply _ old new a fits step.1 (change_fits eq (Changes eq input (change.Decay n d)) (changed input (change.Decay n d)) (string_bytes name) reply old.sketches new.sketches a.sketches fits.sketches step.0)
-  step_fits (command.Merge into other) reply old new a fits step =
-      after_sketches eq codec content reply _ old new a fits step.1 (join_fits eq join.Merge (string_bytes into) (string_bytes other) reply old.sketches new.sketches a.sketches fits.sketches step.0)
-  step_fits (command.Union into other) reply old new a fits step =
-      after_sketches eq codec content reply _ old new a fits step.1 (join_fits eq join.Union (string_bytes into) (string_bytes other) reply old.sketches new.sketches a.sketches fits.sketches step.0)
-  step_fits (command.Intersect into other) reply old new a fits step =
-      after_sketches eq codec content reply _ old new a fits step.1 (join_fits eq join.Intersect (string_bytes into) (string_bytes other) reply old.sketches new.sketches a.sketches fits.sketches step.0)
-  step_fits (command.Difference into other) reply old new a fits step =
-      after_sketches eq codec content reply _ old new a fits step.1 (join_fits eq join.Difference (string_bytes into) (string_bytes other) reply old.sketches new.sketches a.sketches fits.sketches step.0)
-  step_fits (command.Save name image) reply old new a fits step = save_fits eq codec content (string_bytes name) (string_bytes image) reply old new a fits step
-  step_fits (command.Restore image name) reply old new a fits step = restore_fits eq codec content (string_bytes image) (string_bytes name) reply old new a fits step
-  step_fits (command.ShowImage image) reply old new a fits step = told_fits eq codec content (is_refused reply) old new a fits step.0
-  step_fits (command.Ask name item) reply old new a fits step = told_fits eq codec content (is_refused reply) old new a fits step.0
-  step_fits (command.GetStatus name) reply old new a fits step = told_fits eq codec content (is_refused reply) old new a fits step.0
-  step_fits (command.ListRows name error_type threshold) reply old new a fits step = told_fits eq codec content (is_refused reply) old new a fits step.0
+  -- what a session fitted, it fits after an action, with what the action made of it
+  pub action_fits : (action : Action T) (reply : Reply T) (old new : SessionState T) (a : Assignment T) → SessionStandsFor eq codec content old a → Performs eq input codec content old action reply new → SessionStandsFor eq codec content new (after_action input a action reply)
+  action_fits (action.Create name shape) reply old new a fits step =
+      after_sketches eq codec content reply _ old new a fits step.1 (create_fits eq shape (string_bytes name) reply old.sketches new.sketches a.sketches fits.sketches step.0)
+  action_fits (action.Change name change) reply old new a fits step =
+      after_sketches eq codec content reply _ old new a fits step.1 (change_fits eq (Changes eq input change) (changed input change) (string_bytes name) reply old.sketches new.sketches a.sketches fits.sketches step.0)
+  action_fits (action.Join into other join) reply old new a fits step =
+      after_sketches eq codec content reply _ old new a fits step.1 (join_fits eq join (string_bytes into) (string_bytes other) reply old.sketches new.sketches a.sketches fits.sketches step.0)
+  action_fits (action.Save name image) reply old new a fits step = save_fits eq codec content (string_bytes name) (string_bytes image) reply old new a fits step
+  action_fits (action.Restore image name) reply old new a fits step = restore_fits eq codec content (string_bytes image) (string_bytes name) reply old new a fits step
+  action_fits (action.ShowImage image) reply old new a fits step = told_fits eq codec content (is_refused reply) old new a fits step.0
+  action_fits (action.Ask name item) reply old new a fits step = told_fits eq codec content (is_refused reply) old new a fits step.0
+  action_fits (action.GetStatus name) reply old new a fits step = told_fits eq codec content (is_refused reply) old new a fits step.0
+  action_fits (action.ListRows name error_type threshold) reply old new a fits step = told_fits eq codec content (is_refused reply) old new a fits step.0
 
-  -- a command that was refused changed nothing
-  pub step_same : (command : Command T) (reply : Reply T) (old new : SessionState T) → is_refused reply ≡ true → Step eq input codec content old command reply new → IsUnchanged old new
-  step_same (command.CreateFrequent name max) reply old new r step =
-      record { sketches = create_same eq (shape.Frequent max) (string_bytes name) reply old.sketches new.sketches r step.0; images = step.1 }
-  step_same (command.CreateFrequentSampled name max sample) reply old new r step =
-      record { sketches = create_same eq (shape.FrequentSampled max sample) (string_bytes name) reply old.sketches new.sketches r step.0; images = step.1 }
-  step_same (command.CreateCountI64 name hashes buckets seed) reply old new r step =
-      record { sketches = create_same eq (shape.CountI64 hashes buckets seed) (string_bytes name) reply old.sketches new.sketches r step.0; images = step.1 }
-  step_same (command.CreateCountU64 name hashes buckets seed) reply old new r step =
-      record { sketches = create_same eq (shape.CountU64 hashes buckets seed) (string_bytes name) reply old.sketches new.sketches r step.0; images = step.1 }
-  step_same (command.CreateBloom name bits hashes seed) reply old new r step =
-      record { sketches = create_same eq (shape.Bloom bits hashes seed) (string_bytes name) reply old.sketches new.sketches r step.0; images = step.1 }
-  step_same (command.Add name item weight) reply old new r step =
-      record { sketches = change_same eq (Changes eq input (change.Add item weight)) (changed input (change.Add item weight)) (string_bytes name) reply old.sketches new.sketches r step.0; images = step.1 }
-  step_same (command.AddSigned name item weight) reply old new r step =
-      record { sketches = change_same eq (Changes eq input (change.AddSigned item weight)) (changed input (change.AddSigned item weight)) (string_bytes name) reply old.sketches new.sketches r step.0; images = step.1 }
-  step_same (command.Insert name item) reply old new r step =
-      record { sketches = change_same eq (Changes eq input (change.Insert item)) (changed input (change.Insert item)) (string_bytes name) reply old.sketches new.sketches r step.0; images = step.1 }
-  step_same (command.Reset name) reply old new r step =
-      record { sketches = change_same eq (Changes eq input (change.Reset)) (changed input (change.Reset)) (string_bytes name) reply old.sketches new.sketches r step.0; images = step.1 }
-  step_same (command.Halve name) reply old new r step =
-      record { sketches = change_same eq (Changes eq input (change.Halve)) (changed input (change.Halve)) (string_bytes name) reply old.sketches new.sketches r step.0; images = step.1 }
-  step_same (command.Decay name n d) reply old new r step =
-      record { sketches = change_same eq (Changes eq input (change.Decay n d)) (changed input (change.Decay n d)) (string_bytes name) reply old.sketches new.sketches r step.0; images = step.1 }
-  step_same (command.Merge into other) reply old new r step =
-      record { sketches = join_same eq join.Merge (string_bytes into) (string_bytes other) reply old.sketches new.sketches r step.0; images = step.1 }
-  step_same (command.Union into other) reply old new r step =
-      record { sketches = join_same eq join.Union (string_bytes into) (string_bytes other) reply old.sketches new.sketches r step.0; images = step.1 }
-  step_same (command.Intersect into other) reply old new r step =
-      record { sketches = join_same eq join.Intersect (string_bytes into) (string_bytes other) reply old.sketches new.sketches r step.0; images = step.1 }
-  step_same (command.Difference into other) reply old new r step =
-      record { sketches = join_same eq join.Difference (string_bytes into) (string_bytes other) reply old.sketches new.sketches r step.0; images = step.1 }
-  step_same (command.Save name image) reply old new r step = saved_same eq codec content (string_bytes name) (string_bytes image) _ _ reply old new refl refl r step
-  step_same (command.Restore image name) reply old new r step = restored_same eq codec content (string_bytes image) (string_bytes name) _ _ reply old new refl refl r step
-  step_same (command.ShowImage image) reply old new r step = step.0
-  step_same (command.Ask name item) reply old new r step = step.0
-  step_same (command.GetStatus name) reply old new r step = step.0
-  step_same (command.ListRows name error_type threshold) reply old new r step = step.0
+  -- an action that was refused changed nothing
+  pub action_same : (action : Action T) (reply : Reply T) (old new : SessionState T) → is_refused reply ≡ true → Performs eq input codec content old action reply new → IsUnchanged old new
+  action_same (action.Create name shape) reply old new r step =
+      record { sketches = create_same eq shape (string_bytes name) reply old.sketches new.sketches r step.0; images = step.1 }
+  action_same (action.Change name change) reply old new r step =
+      record { sketches = change_same eq (Changes eq input change) (changed input change) (string_bytes name) reply old.sketches new.sketches r step.0; images = step.1 }
+  action_same (action.Join into other join) reply old new r step =
+      record { sketches = join_same eq join (string_bytes into) (string_bytes other) reply old.sketches new.sketches r step.0; images = step.1 }
+  action_same (action.Save name image) reply old new r step = saved_same eq codec content (string_bytes name) (string_bytes image) _ _ reply old new refl refl r step
+  action_same (action.Restore image name) reply old new r step = restored_same eq codec content (string_bytes image) (string_bytes name) _ _ reply old new refl refl r step
+  action_same (action.ShowImage image) reply old new r step = step.0
+  action_same (action.Ask name item) reply old new r step = step.0
+  action_same (action.GetStatus name) reply old new r step = step.0
+  action_same (action.ListRows name error_type threshold) reply old new r step = step.0
+
+  -- the same of a command
+  pub step_fits : (command : Command T) (reply : Reply T) (old new : SessionState T) (a : Assignment T) → SessionStandsFor eq codec content old a → Step eq input codec content old command reply new → SessionStandsFor eq codec content new (after_one input a command reply)
+  step_fits command reply old new a fits step = action_fits (action_of command) reply old new a fits step
 
   -- a run of commands
-  pub run_fits : (commands : List (Command T)) (replies : List (Reply T)) (old new : SessionState T) (a : Assignment T) → Fits eq codec content old a → Run eq input codec content old commands replies new → Fits eq codec content new (after input a commands replies)
-  run_fits [] [] old new a fits run = subst (λ (s : SessionState T). Fits eq codec content s a) (sym run) fits
+  pub run_fits : (commands : List (Command T)) (replies : List (Reply T)) (old new : SessionState T) (a : Assignment T) → SessionStandsFor eq codec content old a → Run eq input codec content old commands replies new → SessionStandsFor eq codec content new (after input a commands replies)
+  run_fits [] [] old new a fits run = subst (λ (s : SessionState T). SessionStandsFor eq codec content s a) (sym run) fits
   run_fits [] (reply ∷ replies) old new a fits run = absurd run
   run_fits (command ∷ commands) [] old new a fits run = absurd run
   run_fits (command ∷ commands) (reply ∷ replies) old new a fits run =

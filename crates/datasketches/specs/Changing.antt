@@ -10,8 +10,8 @@ use Rattle.sketch_bloom.specs.State.{inserted, cleared}
 use Rattle.datasketches.specs.declared.reply.Reply.{Reply}
 use Rattle.datasketches.specs.declared.reply.Reply.TheVariants.{Done, Refused}
 use Rattle.datasketches.specs.declared.reply.Refusal.TheVariants.{BadFraction}
-use Rattle.datasketches.specs.declared.sketch.Change.{Change}
-use Rattle.datasketches.specs.declared.sketch.Change.TheVariants.{Add, AddSigned, Insert, Reset, Halve, Decay}
+use Rattle.datasketches.specs.declared.change.Change.{Change}
+use Rattle.datasketches.specs.declared.change.Change.TheVariants.{Add, AddSigned, Insert, Reset, Halve, Decay}
 use Rattle.datasketches.specs.declared.sketch.Sketch.{Sketch}
 use Rattle.datasketches.specs.declared.sketch.Sketch.TheVariants.{Frequent, CountI64, CountU64, Bloom}
 use Rattle.datasketches.specs.Replies.{refused, IsWrongKind, Becomes, greatest_signed, greatest_unsigned}

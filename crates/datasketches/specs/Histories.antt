@@ -10,17 +10,19 @@ use Rattle.sketch_countmin.specs.History.{CountHistory}
 use Rattle.sketch_frequencies.specs.History as frequent
 use Rattle.sketch_frequencies.specs.History.{FrequentHistory}
 use Rattle.sketch_frequencies.specs.State.{greatest_sample_size}
+use Rattle.datasketches.specs.Actions.{action_of}
 use Rattle.datasketches.specs.Names.{Name}
 use Rattle.datasketches.specs.Replies.{is_refused}
+use Rattle.datasketches.specs.declared.action.Action.{Action}
+use Rattle.datasketches.specs.declared.action.Action.TheVariants as action
 use Rattle.datasketches.specs.declared.command.Command.{Command}
-use Rattle.datasketches.specs.declared.command.Command.TheVariants as command
 use Rattle.datasketches.specs.declared.reply.Reply.{Reply}
-use Rattle.datasketches.specs.declared.sketch.Change.{Change}
-use Rattle.datasketches.specs.declared.sketch.Change.TheVariants as change
-use Rattle.datasketches.specs.declared.sketch.Join.{Join}
-use Rattle.datasketches.specs.declared.sketch.Join.TheVariants as join
-use Rattle.datasketches.specs.declared.sketch.Shape.{Shape}
-use Rattle.datasketches.specs.declared.sketch.Shape.TheVariants as shape
+use Rattle.datasketches.specs.declared.change.Change.{Change}
+use Rattle.datasketches.specs.declared.change.Change.TheVariants as change
+use Rattle.datasketches.specs.declared.join.Join.{Join}
+use Rattle.datasketches.specs.declared.join.Join.TheVariants as join
+use Rattle.datasketches.specs.declared.shape.Shape.{Shape}
+use Rattle.datasketches.specs.declared.shape.Shape.TheVariants as shape
 
 -- the history of a sketch of some kind
 pub data History (T : Type 0) : Type 0 where
@@ -107,36 +109,27 @@ module _ {T : Type 0} (input : T → List (List ℕ)) where
             (of_both (joined join) (a.sketches (string_bytes into)) (a.sketches (string_bytes other))) a.sketches;
       }
 
-  -- what an accepted command makes of an assignment
-  abbrev pub accepted : Assignment T → Command T → Assignment T
-  accepted a (command.CreateFrequent name max_map_size) = made a name (shape.Frequent max_map_size)
-  accepted a (command.CreateFrequentSampled name max_map_size sample_size) =
-      made a name (shape.FrequentSampled max_map_size sample_size)
-  accepted a (command.CreateCountI64 name hashes buckets seed) = made a name (shape.CountI64 hashes buckets seed)
-  accepted a (command.CreateCountU64 name hashes buckets seed) = made a name (shape.CountU64 hashes buckets seed)
-  accepted a (command.CreateBloom name bits hashes seed) = made a name (shape.Bloom bits hashes seed)
-  accepted a (command.Add name item weight) = grown a name (change.Add item weight)
-  accepted a (command.AddSigned name item weight) = grown a name (change.AddSigned item weight)
-  accepted a (command.Insert name item) = grown a name (change.Insert item)
-  accepted a (command.Merge into other) = both_joined a into other join.Merge
-  accepted a (command.Union into other) = both_joined a into other join.Union
-  accepted a (command.Intersect into other) = both_joined a into other join.Intersect
-  accepted a (command.Difference into other) = both_joined a into other join.Difference
-  accepted a (command.Reset name) = grown a name change.Reset
-  accepted a (command.Halve name) = grown a name change.Halve
-  accepted a (command.Decay name numerator denominator) = grown a name (change.Decay numerator denominator)
-  accepted a (command.Save name image) =
+  -- what an accepted action makes of an assignment
+  abbrev pub accepted : Assignment T → Action T → Assignment T
+  accepted a (action.Create name shape) = made a name shape
+  accepted a (action.Change name change) = grown a name change
+  accepted a (action.Join into other join) = both_joined a into other join
+  accepted a (action.Save name image) =
       record a { images = put_at (string_bytes image) (a.sketches (string_bytes name)) a.images }
-  accepted a (command.Restore image name) =
+  accepted a (action.Restore image name) =
       record a { sketches = put_at (string_bytes name) (option_map restored (a.images (string_bytes image))) a.sketches }
-  accepted a (command.ShowImage image) = a
-  accepted a (command.Ask name item) = a
-  accepted a (command.GetStatus name) = a
-  accepted a (command.ListRows name error_type threshold) = a
+  accepted a (action.ShowImage image) = a
+  accepted a (action.Ask name item) = a
+  accepted a (action.GetStatus name) = a
+  accepted a (action.ListRows name error_type threshold) = a
 
-  -- and what a command does whose reply is this: nothing where it was refused
+  -- and what an action does whose reply is this: nothing where it was refused
+  abbrev pub after_action : Assignment T → Action T → Reply T → Assignment T
+  after_action a action reply = if is_refused reply then a else accepted a action
+
+  -- a command makes of it what its action makes of it
   abbrev pub after_one : Assignment T → Command T → Reply T → Assignment T
-  after_one a command reply = if is_refused reply then a else accepted a command
+  after_one a command reply = after_action a (action_of command) reply
 
   -- what the commands with these replies make of it, in their order
   abbrev pub after : Assignment T → List (Command T) → List (Reply T) → Assignment T

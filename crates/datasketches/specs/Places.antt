@@ -5,7 +5,7 @@ use Rattle.datasketches.specs.Histories.{joined}
 use Rattle.datasketches.specs.Joining.{Joins}
 use Rattle.datasketches.specs.Stands.{DoesWith}
 use Rattle.datasketches.specs.declared.reply.Reply.{Reply}
-use Rattle.datasketches.specs.declared.sketch.Join.{Join}
+use Rattle.datasketches.specs.declared.join.Join.{Join}
 use Rattle.datasketches.specs.declared.sketch.Sketch.{Sketch}
 
 -- the sketch at one place was joined with that at another

@@ -7,8 +7,8 @@ use Rattle.sketch_countmin.specs.Shapes.{shape_fault}
 use Rattle.sketch_countmin.specs.State as count
 use Rattle.sketch_bloom.specs.Building.{request_fault, words_for}
 use Rattle.sketch_bloom.specs.State as bloom
-use Rattle.datasketches.specs.declared.sketch.Shape.{Shape}
-use Rattle.datasketches.specs.declared.sketch.Shape.TheVariants as shape
+use Rattle.datasketches.specs.declared.shape.Shape.{Shape}
+use Rattle.datasketches.specs.declared.shape.Shape.TheVariants as shape
 use Rattle.datasketches.specs.declared.sketch.Sketch.{Sketch}
 use Rattle.datasketches.specs.declared.sketch.Sketch.TheVariants.{Frequent, CountI64, CountU64, Bloom}
 

@@ -1,10 +1,11 @@
--- What a command does, and what is replied.
+-- What an action and a command do, and what is replied.
 use Rattle.std.specs.Prelude.{◌≡◌, ◌≢◌, ℕ, ◌⊎◌, Bool, List, [], ◌∷◌, MatchOption}
 use Rattle.std.specs.Global.{Global}
 use Rattle.std.specs.String.{string_bytes}
 use Rattle.std.specs.declared.vec.Vec.{Vec}
 use Rattle.sketch_frequencies.specs.Items.{Codec}
 use Rattle.sketch_base.specs.Errors.{ErrorValue, invalid_argument, no_memory}
+use Rattle.datasketches.specs.Actions.{action_of}
 use Rattle.datasketches.specs.Answering.{Tells, Lists, status_of}
 use Rattle.datasketches.specs.Changing.{Changes}
 use Rattle.datasketches.specs.Histories.{begun, changed, joined}
@@ -15,18 +16,16 @@ use Rattle.datasketches.specs.Replies.{refused}
 use Rattle.datasketches.specs.Shapes.{empty_sketch, fault_of}
 use Rattle.datasketches.specs.Stands.{StandsFor, Does, DoesWith}
 use Rattle.datasketches.specs.State.{SessionState, IsUnchanged}
+use Rattle.datasketches.specs.declared.action.Action.{Action}
+use Rattle.datasketches.specs.declared.action.Action.TheVariants as action
+use Rattle.datasketches.specs.declared.change.Change.{Change}
 use Rattle.datasketches.specs.declared.command.Command.{Command}
-use Rattle.datasketches.specs.declared.command.Command.TheVariants as command
 use Rattle.datasketches.specs.declared.image.Image.{Image}
 use Rattle.datasketches.specs.declared.reply.Refusal.TheVariants.{NoSuchName, NameTaken, SameName}
 use Rattle.datasketches.specs.declared.reply.Reply.{Reply}
 use Rattle.datasketches.specs.declared.reply.Reply.TheVariants.{Done, Status, Image as Shown, Refused}
-use Rattle.datasketches.specs.declared.sketch.Change.{Change}
-use Rattle.datasketches.specs.declared.sketch.Change.TheVariants as change
-use Rattle.datasketches.specs.declared.sketch.Join.{Join}
-use Rattle.datasketches.specs.declared.sketch.Join.TheVariants as join
-use Rattle.datasketches.specs.declared.sketch.Shape.{Shape}
-use Rattle.datasketches.specs.declared.sketch.Shape.TheVariants as shape
+use Rattle.datasketches.specs.declared.join.Join.{Join}
+use Rattle.datasketches.specs.declared.shape.Shape.{Shape}
 use Rattle.datasketches.specs.declared.sketch.Sketch.{Sketch}
 
 -- ---- on named sketches
@@ -147,44 +146,27 @@ module _ {T : Type 0} (eq : T → T → Bool) (input : T → List (List ℕ)) wh
   ChangesNamed change name = OnSketch (Does eq (Changes eq input change) (changed input change)) name
 
 module _ {T C : Type 0} (eq : T → T → Bool) (input : T → List (List ℕ)) (codec : Codec C) (content : T → C) where
-  -- one command
-  abbrev pub Step : SessionState T → Command T → Reply T → SessionState T → Type 0
-  Step old (command.CreateFrequent name max_map_size) reply new =
-      OnSketches (Creates eq (shape.Frequent max_map_size) (string_bytes name)) old reply new
-  Step old (command.CreateFrequentSampled name max_map_size sample_size) reply new =
-      OnSketches (Creates eq (shape.FrequentSampled max_map_size sample_size) (string_bytes name)) old reply new
-  Step old (command.CreateCountI64 name hashes buckets seed) reply new =
-      OnSketches (Creates eq (shape.CountI64 hashes buckets seed) (string_bytes name)) old reply new
-  Step old (command.CreateCountU64 name hashes buckets seed) reply new =
-      OnSketches (Creates eq (shape.CountU64 hashes buckets seed) (string_bytes name)) old reply new
-  Step old (command.CreateBloom name bits hashes seed) reply new =
-      OnSketches (Creates eq (shape.Bloom bits hashes seed) (string_bytes name)) old reply new
-  Step old (command.Add name item weight) reply new =
-      OnSketches (ChangesNamed eq input (change.Add item weight) (string_bytes name)) old reply new
-  Step old (command.AddSigned name item weight) reply new =
-      OnSketches (ChangesNamed eq input (change.AddSigned item weight) (string_bytes name)) old reply new
-  Step old (command.Insert name item) reply new =
-      OnSketches (ChangesNamed eq input (change.Insert item) (string_bytes name)) old reply new
-  Step old (command.Merge into other) reply new =
-      OnSketches (JoinsNamed eq join.Merge (string_bytes into) (string_bytes other)) old reply new
-  Step old (command.Union into other) reply new =
-      OnSketches (JoinsNamed eq join.Union (string_bytes into) (string_bytes other)) old reply new
-  Step old (command.Intersect into other) reply new =
-      OnSketches (JoinsNamed eq join.Intersect (string_bytes into) (string_bytes other)) old reply new
-  Step old (command.Difference into other) reply new =
-      OnSketches (JoinsNamed eq join.Difference (string_bytes into) (string_bytes other)) old reply new
-  Step old (command.Reset name) reply new = OnSketches (ChangesNamed eq input change.Reset (string_bytes name)) old reply new
-  Step old (command.Halve name) reply new = OnSketches (ChangesNamed eq input change.Halve (string_bytes name)) old reply new
-  Step old (command.Decay name numerator denominator) reply new =
-      OnSketches (ChangesNamed eq input (change.Decay numerator denominator) (string_bytes name)) old reply new
-  Step old (command.Save name image) reply new = Saves codec content (string_bytes name) (string_bytes image) old reply new
-  Step old (command.Restore image name) reply new = Restores eq codec content (string_bytes image) (string_bytes name) old reply new
-  Step old (command.ShowImage image) reply new = ShowsImage (string_bytes image) old reply new
-  Step old (command.Ask name item) reply new = Answers (Tells eq input item) (string_bytes name) old reply new
-  Step old (command.GetStatus name) reply new =
+  -- one action
+  abbrev pub Performs : SessionState T → Action T → Reply T → SessionState T → Type 0
+  Performs old (action.Create name shape) reply new = OnSketches (Creates eq shape (string_bytes name)) old reply new
+  Performs old (action.Change name change) reply new =
+      OnSketches (ChangesNamed eq input change (string_bytes name)) old reply new
+  Performs old (action.Join into other join) reply new =
+      OnSketches (JoinsNamed eq join (string_bytes into) (string_bytes other)) old reply new
+  Performs old (action.Save name image) reply new =
+      Saves codec content (string_bytes name) (string_bytes image) old reply new
+  Performs old (action.Restore image name) reply new =
+      Restores eq codec content (string_bytes image) (string_bytes name) old reply new
+  Performs old (action.ShowImage image) reply new = ShowsImage (string_bytes image) old reply new
+  Performs old (action.Ask name item) reply new = Answers (Tells eq input item) (string_bytes name) old reply new
+  Performs old (action.GetStatus name) reply new =
       Answers (λ sketch r. r ≡ Status (status_of sketch)) (string_bytes name) old reply new
-  Step old (command.ListRows name error_type threshold) reply new =
+  Performs old (action.ListRows name error_type threshold) reply new =
       Answers (Lists eq error_type threshold) (string_bytes name) old reply new
+
+  -- one command does what its action does
+  abbrev pub Step : SessionState T → Command T → Reply T → SessionState T → Type 0
+  Step old command reply new = Performs old (action_of command) reply new
 
   -- the commands in turn, each with its reply
   abbrev pub Run : SessionState T → List (Command T) → List (Reply T) → SessionState T → Type 0

@@ -6,17 +6,26 @@
 //! - [`error`], [`codec`] and [`hash`] have what the sketches share: refusals, cursors over bytes, and hash functions.
 #![tactic(auto)]
 
+mod action;
+mod change;
 mod command;
 mod image;
+mod join;
 pub mod laws;
+mod name_map;
+mod named_sketches;
 mod reply;
 mod session;
-mod shelf;
+mod shape;
 mod sketch;
 
-pub use command::{Command, Spare};
+pub use action::Action;
+pub use change::Change;
+pub use command::{Command, Recycled};
+pub use join::Join;
 pub use reply::{Refusal, Reply, Status};
 pub use session::Session;
+pub use shape::Shape;
 
 /// Bloom filters with exact set algebra.
 pub mod bloom {

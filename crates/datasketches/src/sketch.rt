@@ -10,76 +10,17 @@ ghost use Rattle.datasketches.specs.Replies.{done_or, told};
 ghost use Rattle.datasketches.specs.Shapes.{empty_sketch, fault_of};
 ghost use Rattle.datasketches.specs.Stands.{StandsFor, Carries, CarriesBoth};
 
+use crate::change::Change;
 use crate::image::Image;
+use crate::join::Join;
 use crate::reply::{Refusal, Reply, Status};
+use crate::shape::Shape;
 use sketch_base::Error;
 use sketch_bloom::{BloomFilter, BloomFilterBuilder, laws as bloom};
 use sketch_countmin::{CountMinSketch, laws as countmin};
 use sketch_frequencies::{ErrorType, FrequentItemValue, FrequentItemsSketch, laws as frequencies};
 use std::alloc::Global;
 use std::hash::Hash;
-
-/// What a sketch is made by: its kind and its numbers.
-#[derive(Clone, Copy)]
-pub enum Shape {
-    /// A frequent-items sketch of at most so many slots.
-    Frequent {
-        max_map_size: usize,
-    },
-    /// A frequent-items sketch of at most so many slots whose purges sample so many counters.
-    FrequentSampled {
-        max_map_size: usize,
-        sample_size: usize,
-    },
-    /// A Count-Min sketch of weights below zero and above.
-    CountI64 {
-        num_hashes: u8,
-        num_buckets: u32,
-        seed: u64,
-    },
-    /// A Count-Min sketch of weights of zero and above.
-    CountU64 {
-        num_hashes: u8,
-        num_buckets: u32,
-        seed: u64,
-    },
-    /// A Bloom filter of at least so many bits.
-    Bloom {
-        num_bits: u64,
-        num_hashes: u16,
-        seed: u64,
-    },
-}
-
-/// What is done to a sketch.
-#[derive(Drop)]
-pub enum Change<T> {
-    /// An item is added with a weight.
-    Add { item: T, weight: u64 },
-    /// An item is added with a weight that may be below zero.
-    AddSigned { item: T, weight: i64 },
-    /// An item is inserted.
-    Insert { item: T },
-    /// All is taken out.
-    Reset,
-    /// All weights are halved.
-    Halve,
-    /// All weights are scaled by a fraction.
-    Decay { numerator: u64, denominator: u64 },
-}
-
-/// What is done to a sketch with another one.
-#[derive(Clone, Copy)]
-pub enum Join {
-    /// The other's weights are added.
-    Merge,
-    /// The other's positions are added.
-    Union,
-    /// Only what is also in the other stays.
-    Intersect,
-    /// What is in the other goes.
-    Difference,
-}
 
 /// A sketch of some kind.
 #[derive(Drop)]
@@ -143,17 +84,17 @@ impl<T: Eq + Hash + Drop> Sketch<T> {
         }
     }
 
-    /// Does the change, where the sketch is of a kind that knows it. An item that it does not keep may come into `spare`.
+    /// Does the change, where the sketch is of a kind that knows it. An item that it does not keep may come into `recycled`.
     #[inline(always)]
-    pub fn change(&mut self, change: Change<T>, spare: &mut Option<T>) -> Result<(), Refusal>
+    pub fn change(&mut self, change: Change<T>, recycled: &mut Option<T>) -> Result<(), Refusal>
         ensures own { Changes T.eq T.hash_input change self.old (done_or result) self.new }
         ensures carries { OnOk result (Carries T.eq (changed T.hash_input change) self.old self.new) }
         ensures refused { OnErr result (self.new ≡ self.old) }
     {
         match change {
-            Change::Add { item, weight } => self.add(item, weight, spare),
-            Change::AddSigned { item, weight } => self.add_signed(item, weight, spare),
-            Change::Insert { item } => self.insert(item, spare),
+            Change::Add { item, weight } => self.add(item, weight, recycled),
+            Change::AddSigned { item, weight } => self.add_signed(item, weight, recycled),
+            Change::Insert { item } => self.insert(item, recycled),
             Change::Reset => self.reset(),
             Change::Halve => self.halve(),
             Change::Decay {
@@ -163,7 +104,7 @@ impl<T: Eq + Hash + Drop> Sketch<T> {
         }
     }
 
-    fn add(&mut self, item: T, weight: u64, spare: &mut Option<T>) -> Result<(), Refusal>
+    fn add(&mut self, item: T, weight: u64, recycled: &mut Option<T>) -> Result<(), Refusal>
         ensures own { Adds T.eq T.hash_input item weight self.old (done_or result) self.new }
         ensures carries { OnOk result (Carries T.eq (changed T.hash_input (Change.Add item weight)) self.old self.new) }
         ensures refused { OnErr result (self.new ≡ self.old) }
@@ -172,14 +113,14 @@ impl<T: Eq + Hash + Drop> Sketch<T> {
             Sketch::Frequent(sketch) => Ok(sketch.update_with_count(item, weight)?),
             Sketch::CountU64(sketch) => {
                 sketch.update_with_weight(&item, weight)?;
-                *spare = Some(item);
+                *recycled = Some(item);
                 Ok(())
             }
             _ => Err(Refusal::WrongKind),
         }
     }
 
-    fn add_signed(&mut self, item: T, weight: i64, spare: &mut Option<T>) -> Result<(), Refusal>
+    fn add_signed(&mut self, item: T, weight: i64, recycled: &mut Option<T>) -> Result<(), Refusal>
         ensures own { AddsSigned T.hash_input item weight self.old (done_or result) self.new }
         ensures carries { OnOk result (Carries T.eq (changed T.hash_input (Change.AddSigned item weight)) self.old self.new) }
         ensures refused { OnErr result (self.new ≡ self.old) }
@@ -187,14 +128,14 @@ impl<T: Eq + Hash + Drop> Sketch<T> {
         match self {
             Sketch::CountI64(sketch) => {
                 sketch.update_with_weight(&item, weight)?;
-                *spare = Some(item);
+                *recycled = Some(item);
                 Ok(())
             }
             _ => Err(Refusal::WrongKind),
         }
     }
 
-    fn insert(&mut self, item: T, spare: &mut Option<T>) -> Result<(), Refusal>
+    fn insert(&mut self, item: T, recycled: &mut Option<T>) -> Result<(), Refusal>
         ensures own { Inserts T.hash_input item self.old (done_or result) self.new }
         ensures carries { OnOk result (Carries T.eq (changed T.hash_input (Change.Insert item)) self.old self.new) }
         ensures refused { OnErr result (self.new ≡ self.old) }
@@ -202,7 +143,7 @@ impl<T: Eq + Hash + Drop> Sketch<T> {
         match self {
             Sketch::Bloom(filter) => {
                 filter.insert(&item);
-                *spare = Some(item);
+                *recycled = Some(item);
                 Ok(())
             }
             _ => Err(Refusal::WrongKind),

@@ -1,0 +1,200 @@
+//! What a session does, a command sorted by it.
+use crate::change::Change;
+use crate::command::Command;
+use crate::join::Join;
+use crate::shape::Shape;
+use sketch_frequencies::ErrorType;
+
+/// What a session does. Each [`Command`] is one of these, by `From`.
+///
+/// # Examples
+///
+/// ```
+/// let name = String::from_str(alloc, "visits")?;
+/// let Action::Change { name, change } = Action::from(Command::Insert { name, item: 7u64 }) else {
+///     unreachable!();
+/// };
+/// assert!(name.as_str() == "visits" && change == Change::Insert { item: 7 });
+/// ```
+#[derive(Debug, PartialEq, Eq, Drop)]
+pub enum Action<T> {
+    /// Makes a sketch of the shape.
+    Create {
+        name: String,
+        shape: Shape,
+    },
+    /// Changes a sketch.
+    Change {
+        name: String,
+        change: Change<T>,
+    },
+    /// Joins a sketch to another one.
+    Join {
+        into: String,
+        other: String,
+        join: Join,
+    },
+    /// Keeps the image of a sketch under a name of its own.
+    Save {
+        name: String,
+        image: String,
+    },
+    /// Makes a sketch from an image.
+    Restore {
+        image: String,
+        name: String,
+    },
+    /// Asks for the bytes of an image.
+    ShowImage {
+        image: String,
+    },
+    /// Asks for an item's estimate and bounds, or whether a filter contains it.
+    Ask {
+        name: String,
+        item: T,
+    },
+    /// Asks for a sketch's numbers.
+    GetStatus {
+        name: String,
+    },
+    /// Asks for the frequent items above a threshold.
+    ListRows {
+        name: String,
+        error_type: ErrorType,
+        threshold: u64,
+    },
+}
+
+/// What a command does.
+impl<T> From<Command<T>> for Action<T> {
+    ghost use Rattle.std.specs.Prelude.{◌≡◌};
+    ghost use Rattle.datasketches.specs.Actions.{action_of};
+
+    ghost from_gives = { λ command action. action ≡ action_of command };
+
+    // where the command is known, nothing is left of the others
+    #[inline(always)]
+    fn from(command: Command<T>) -> Self {
+        match command {
+            Command::CreateFrequent { name, max_map_size } => Action::Create {
+                name,
+                shape: Shape::Frequent { max_map_size },
+            },
+            Command::CreateFrequentSampled {
+                name,
+                max_map_size,
+                sample_size,
+            } => Action::Create {
+                name,
+                shape: Shape::FrequentSampled {
+                    max_map_size,
+                    sample_size,
+                },
+            },
+            Command::CreateCountI64 {
+                name,
+                num_hashes,
+                num_buckets,
+                seed,
+            } => Action::Create {
+                name,
+                shape: Shape::CountI64 {
+                    num_hashes,
+                    num_buckets,
+                    seed,
+                },
+            },
+            Command::CreateCountU64 {
+                name,
+                num_hashes,
+                num_buckets,
+                seed,
+            } => Action::Create {
+                name,
+                shape: Shape::CountU64 {
+                    num_hashes,
+                    num_buckets,
+                    seed,
+                },
+            },
+            Command::CreateBloom {
+                name,
+                num_bits,
+                num_hashes,
+                seed,
+            } => Action::Create {
+                name,
+                shape: Shape::Bloom {
+                    num_bits,
+                    num_hashes,
+                    seed,
+                },
+            },
+            Command::Add { name, item, weight } => Action::Change {
+                name,
+                change: Change::Add { item, weight },
+            },
+            Command::AddSigned { name, item, weight } => Action::Change {
+                name,
+                change: Change::AddSigned { item, weight },
+            },
+            Command::Insert { name, item } => Action::Change {
+                name,
+                change: Change::Insert { item },
+            },
+            Command::Merge { into, other } => Action::Join {
+                into,
+                other,
+                join: Join::Merge,
+            },
+            Command::Union { into, other } => Action::Join {
+                into,
+                other,
+                join: Join::Union,
+            },
+            Command::Intersect { into, other } => Action::Join {
+                into,
+                other,
+                join: Join::Intersect,
+            },
+            Command::Difference { into, other } => Action::Join {
+                into,
+                other,
+                join: Join::Difference,
+            },
+            Command::Reset { name } => Action::Change {
+                name,
+                change: Change::Reset,
+            },
+            Command::Halve { name } => Action::Change {
+                name,
+                change: Change::Halve,
+            },
+            Command::Decay {
+                name,
+                numerator,
+                denominator,
+            } => Action::Change {
+                name,
+                change: Change::Decay {
+                    numerator,
+                    denominator,
+                },
+            },
+            Command::Save { name, image } => Action::Save { name, image },
+            Command::Restore { image, name } => Action::Restore { image, name },
+            Command::ShowImage { image } => Action::ShowImage { image },
+            Command::Ask { name, item } => Action::Ask { name, item },
+            Command::GetStatus { name } => Action::GetStatus { name },
+            Command::ListRows {
+                name,
+                error_type,
+                threshold,
+            } => Action::ListRows {
+                name,
+                error_type,
+                threshold,
+            },
+        }
+    }
+}
