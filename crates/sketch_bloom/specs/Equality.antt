@@ -46,8 +46,8 @@ parts_decide a b =
 pub same_filter-Decides : (a b : FilterState) → Decides (same_filter a b) (a ≡ b)
 same_filter-Decides a b =
     let parts = parts_decide a b in
-    let decides : Decides (same_filter a a) _ = parts_decide a a in
-    (λ e. let p = parts.0 e in same_states a b p.0 p.1.0 p.1.1.0 p.1.1.1, λ e. subst (λ (t : FilterState). same_filter a t ≡ true) e (decides.1 (refl, (refl, (refl, refl)))))
+    let itself = parts_decide a a in
+    (λ e. let p = parts.0 e in same_states a b p.0 p.1.0 p.1.1.0 p.1.1.1, λ e. subst (λ (t : FilterState). same_filter a t ≡ true) e (itself.1 (refl, (refl, (refl, refl)))))
 
 -- so equality is an equivalence
 pub same_filter_equivalence : IsEquivalence same_filter
