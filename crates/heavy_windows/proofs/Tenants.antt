@@ -59,6 +59,11 @@ module _ {T : Type 0} where
       (record { limit = limit; max_map_size = max_map_size; tenants = new })
   put_in tenant limit max_map_size old new windows e = record { limit = refl; max_map_size = refl; each = e }
 
+  -- no other tenant's windows changed, of windows that are seen as these
+  pub put_others_of : (tenant : ℕ) (windows : List (FrequentState T)) (old seen new : WindowsState T)
+      → old ≡ seen → PutsWindows tenant windows old new → OnlyChanges tenant seen new
+  put_others_of tenant windows old seen new e p = subst (λ (s : WindowsState T). OnlyChanges tenant s new) e (put_others tenant windows old new p)
+
   -- the map was left as it was
   pub put_none : (limit max_map_size : ℕ) (old new : List (ℕ × List (FrequentState T))) (now : WindowsState T)
       → record { limit = limit; max_map_size = max_map_size; tenants = old } ≡ now → new ≡ old

@@ -35,7 +35,7 @@ const MOST_WINDOWS: usize = 1024;
 /// A tenant is a number, and is unknown until a weight above 0 is added. Each window of a tenant is a sketch of what
 /// was added while it was the newest. A call on one tenant leaves the windows of all others as they are, and costs no
 /// more where there are many of them.
-#[derive(Drop)]
+#[derive(Debug, Drop)]
 pub struct HeavyWindows<T: Eq + Hash + Drop> {
     alloc: Global,
     limit: usize,

@@ -19,7 +19,7 @@ use std::marker::Model;
 use std::mem::replace;
 
 /// The windows of one tenant, of which there is at least one.
-#[derive(Drop)]
+#[derive(Debug, Drop)]
 pub struct Windows<T: Eq + Hash + Drop> {
     older: VecDeque<FrequentItemsSketch<T>>,
     newest: FrequentItemsSketch<T>,

@@ -1,5 +1,5 @@
 -- Equality of filters: the test holds where shapes, seeds and sets are equal, so it is an equivalence.
-use Rattle.std.proofs.Common.{◌≡◌, true, sym, ap, ◌∙◌}
+use Rattle.std.proofs.Common.{◌≡◌, true, refl, sym, ap, subst, ◌∙◌}
 use Rattle.std.proofs.lemmas.Bool.{and_from, and_parts}
 use Rattle.std.proofs.lemmas.Bool.Decides.{Decides-eqb, Decides-and, same_from_decides}
 use Rattle.std.proofs.lemmas.Cmp.{nat_cmp_total}
@@ -45,16 +45,9 @@ parts_decide a b =
 -- the test is true exactly where the filters are equal
 pub same_filter-Decides : (a b : FilterState) → Decides (same_filter a b) (a ≡ b)
 same_filter-Decides a b =
-    let parts = parts_decide a b in (
-      (λ e. let p = parts.0 e in same_states a b p.0 p.1.0 p.1.1.0 p.1.1.1),
-      (λ e. parts.1 (
-        ap (λ (s : FilterState). s.num_words) e,
-        (
-          ap (λ (s : FilterState). s.num_hashes) e,
-          (ap (λ (s : FilterState). s.seed) e, ap (λ (s : FilterState). s.set) e),
-        ),
-      )),
-    )
+    let parts = parts_decide a b in
+    let itself = parts_decide a a in
+    (λ e. let p = parts.0 e in same_states a b p.0 p.1.0 p.1.1.0 p.1.1.1, λ e. subst (λ (t : FilterState). same_filter a t ≡ true) e (itself.1 (refl, (refl, (refl, refl)))))
 
 -- so equality is an equivalence
 pub same_filter_equivalence : IsEquivalence same_filter

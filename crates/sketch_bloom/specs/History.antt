@@ -15,35 +15,25 @@ pub data BloomHistory : Type 0 where
   Reset : BloomHistory → BloomHistory
   Restored : BloomHistory → BloomHistory
 
--- the number of words, which a combination has from its first filter
+-- what the shape and the seed of the first filter make, which a combination has from the one that it changes
+abbrev pub of_first : (ℕ → ℕ → ℕ → ℕ) → BloomHistory → ℕ
+of_first f (New num_words num_hashes seed) = f num_words num_hashes seed
+of_first f (Insert h bytes) = of_first f h
+of_first f (Union g h) = of_first f g
+of_first f (Intersection g h) = of_first f g
+of_first f (Difference g h) = of_first f g
+of_first f (Reset h) = of_first f h
+of_first f (Restored h) = of_first f h
+
+-- the number of words, that of hashes, and the seed
 abbrev pub words_of : BloomHistory → ℕ
-words_of (New num_words num_hashes seed) = num_words
-words_of (Insert h bytes) = words_of h
-words_of (Union g h) = words_of g
-words_of (Intersection g h) = words_of g
-words_of (Difference g h) = words_of g
-words_of (Reset h) = words_of h
-words_of (Restored h) = words_of h
+words_of h = of_first (λ num_words num_hashes seed. num_words) h
 
--- the number of hashes, likewise
 abbrev pub hashes_of : BloomHistory → ℕ
-hashes_of (New num_words num_hashes seed) = num_hashes
-hashes_of (Insert h bytes) = hashes_of h
-hashes_of (Union g h) = hashes_of g
-hashes_of (Intersection g h) = hashes_of g
-hashes_of (Difference g h) = hashes_of g
-hashes_of (Reset h) = hashes_of h
-hashes_of (Restored h) = hashes_of h
+hashes_of h = of_first (λ num_words num_hashes seed. num_hashes) h
 
--- the seed, likewise
 abbrev pub seed_of : BloomHistory → ℕ
-seed_of (New num_words num_hashes seed) = seed
-seed_of (Insert h bytes) = seed_of h
-seed_of (Union g h) = seed_of g
-seed_of (Intersection g h) = seed_of g
-seed_of (Difference g h) = seed_of g
-seed_of (Reset h) = seed_of h
-seed_of (Restored h) = seed_of h
+seed_of h = of_first (λ num_words num_hashes seed. seed) h
 
 -- the set of positions
 abbrev pub denoted_set : BloomHistory → Numbers

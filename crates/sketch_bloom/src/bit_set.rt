@@ -142,11 +142,7 @@ fn ones_of_eight(words: &[u64], at: usize) -> u64
     ensures count { result ≡ sum_by count_ones (take 8 (drop at words.now)) }
     ensures few { result ≤ 512 }
 {
-    let first = words[at].count_ones() + words[at + 1].count_ones();
-    let second = words[at + 2].count_ones() + words[at + 3].count_ones();
-    let third = words[at + 4].count_ones() + words[at + 5].count_ones();
-    let fourth = words[at + 6].count_ones() + words[at + 7].count_ones();
-    (first + second + (third + fourth)) as u64
+    ones_of_four(words, at) + ones_of_four(words, at + 4)
 }
 
 /// How many bits are set in the four words from a place on.

@@ -1,6 +1,6 @@
 -- What one function of each cell leaves.
 use Rattle.std.proofs.Common.{◌≡◌, ℕ, ◌+◌, ◌<◌, ◌++◌, List, [], ◌∷◌, length, get_or, set, take, drop, map, ℤ, pos, refl, sym, ap, ◌∙◌, arith, zero, suc}
-use Rattle.std.proofs.lemmas.List.{map-set}
+use Rattle.std.proofs.lemmas.List.{map-set, length-map, take_at}
 use Rattle.sketch_countmin.proofs.RowSteps.{read_cell}
 
 -- the first i elements are mapped: what is read next
@@ -16,10 +16,18 @@ set_rest f (x ∷ xs) zero lt = refl
 set_rest f (x ∷ xs) (suc i) lt = ap (λ (l : List ℤ). f x ∷ l) (set_rest f xs i (omega arith))
 
 -- one cell more, at values of a type
-pub map_more_here : {T : Type 0} (number : T → ℤ) (f : ℤ → ℤ) (counts : List T) (old : List ℤ) (i : ℕ) (x v : T) → i < length counts → i < length old → x ≡ get_or counts i x → number v ≡ f (number x)
-    → map number counts ≡ map f (take i old) ++ drop i old → map number (set counts i v) ≡ map f (take (i + 1) old) ++ drop (i + 1) old
-map_more_here number f counts old i x v lc lt e value inv =
-    let read : number x ≡ get_or old i (pos 0) = sym (read_cell number counts i x lc e) ∙ (ap (λ (l : List ℤ). get_or l i (pos 0)) inv ∙ read_rest f old i lt) in
-    let step : set (map number counts) i (number v) ≡ map f (take (suc i) old) ++ drop (suc i) old = ap (λ (l : List ℤ). set l i (number v)) inv ∙ (ap (λ (z : ℤ). set (map f (take i old) ++ drop i old) i z) (value ∙ ap f read) ∙ set_rest f old i lt) in
+pub map_more_here : {T : Type 0} (number : T → ℤ) (f : ℤ → ℤ) (counts initial : List T) (i : ℕ) (x v : T) → i < length counts → length counts ≡ length initial → x ≡ get_or counts i x → number v ≡ f (number (get_or counts i x))
+    → map number counts ≡ map f (take i (map number initial)) ++ drop i (map number initial) → map number (set counts i v) ≡ map f (take (i + 1) (map number initial)) ++ drop (i + 1) (map number initial)
+map_more_here number f counts initial i x v below long e value inv =
+    let old : List ℤ = map number initial in
+    let lt : i < length old = omega (arith, length-map initial number, below, long) in
+    let read : number x ≡ get_or old i (pos 0) = sym (read_cell number counts i x below e) ∙ (ap (λ (l : List ℤ). get_or l i (pos 0)) inv ∙ read_rest f old i lt) in
+    let step : set (map number counts) i (number v) ≡ map f (take (suc i) old) ++ drop (suc i) old = ap (λ (l : List ℤ). set l i (number v)) inv ∙ (ap (λ (z : ℤ). set (map f (take i old) ++ drop i old) i z) (value ∙ ap (λ y. f (number y)) (sym e) ∙ ap f read) ∙ set_rest f old i lt) in
     let next : suc i ≡ i + 1 = omega arith in
     map-set number counts i v ∙ (step ∙ ap (λ (j : ℕ). map f (take j old) ++ drop j old) next)
+
+-- what a loop did to the cells that it was lent, it did to the sketch's own
+pub mapped_own : {T : Type 0} (number : T → ℤ) (f : ℤ → ℤ) (items before after : List T) (len : ℕ) → length after ≡ len → before ≡ items → map number after ≡ map f (map number before)
+    → map number (take len (after ++ drop (length after) items)) ≡ map f (map number items)
+mapped_own number f items before after len long same done =
+    ap (map number) (take_at after (drop (length after) items) len long) ∙ (done ∙ ap (λ (xs : List _). map f (map number xs)) same)

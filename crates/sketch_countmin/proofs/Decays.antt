@@ -10,7 +10,7 @@ use Rattle.sketch_countmin.specs.Rows.{cell_at, rows_of}
 use Rattle.sketch_countmin.specs.State.{CountState, halved_state, decayed_state}
 use Rattle.sketch_countmin.specs.Table.{IsTable, state_of}
 use Rattle.sketch_countmin.proofs.Numbers.{scaled_below}
-use Rattle.sketch_countmin.proofs.Tables.{rows_of-map}
+use Rattle.sketch_countmin.proofs.Tables.{rows_of-map, remade}
 
 -- a function that keeps 0 is read at each place, also past the end
 pub read_map : (f : ℤ → ℤ) → f (pos 0) ≡ pos 0 → (xs : List ℤ) (k : ℕ) → get_or (map f xs) k (pos 0) ≡ f (get_or xs k (pos 0))
@@ -52,18 +52,8 @@ halved_bound (negsuc a) t p h = absurd (omega (arith, ints))
 pub shrunk : (greatest : ℕ) (row_seeds : List ℕ) (d seed : ℕ) (t t' : ℤ) (old : List ℤ) (f : ℤ → ℤ) → f (pos 0) ≡ pos 0
     → IsTable greatest row_seeds d seed t old → t' ≡ pos (unsigned_abs t') → unsigned_abs t' ≤ unsigned_abs t
     → ((k : ℕ) → unsigned_abs (f (get_or old k (pos 0))) ≤ unsigned_abs t') → IsTable greatest row_seeds d seed t' (map f old)
-shrunk greatest row_seeds d seed t t' old f none i total_is less bound = record {
-  some_rows = i.some_rows;
-  few_rows = i.few_rows;
-  some_buckets = i.some_buckets;
-  few_cells = i.few_cells;
-  seeded = i.seeded;
-  seeds = i.seeds;
-  size = length-map old f ∙ i.size;
-  total_is = total_is;
-  fits = omega (arith, less, i.fits);
-  bounded = λ k. rw (read_map f none old k) (bound k);
-}
+shrunk greatest row_seeds d seed t t' old f none i total_is less bound =
+    remade greatest row_seeds d seed t t' old (map f old) i (length-map old f) total_is (omega (arith, less, i.fits)) (λ k. rw (read_map f none old k) (bound k))
 
 -- by a fraction
 pub decayed_is : (greatest : ℕ) (row_seeds : List ℕ) (d seed : ℕ) (t t' : ℤ) (old : List ℤ) (n m : ℕ) → 0 < n → n ≤ m

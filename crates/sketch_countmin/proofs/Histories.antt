@@ -10,7 +10,7 @@ use Rattle.std.proofs.lemmas.Slice.Eq.{bytes_eq-Decides}
 use Rattle.sketch_countmin.specs.Values.{scaled, halved}
 use Rattle.sketch_countmin.specs.Buckets.{bucket_of}
 use Rattle.sketch_countmin.specs.State.{CountState, IsLeast, IsLeastCell, item_cell}
-use Rattle.sketch_countmin.specs.History.{CountHistory, value_over, own_value, others_share, cell_share, absolute_weight, hashes_of, buckets_of, seed_of, IsNonnegative, IsExact, followed_by}
+use Rattle.sketch_countmin.specs.History.{CountHistory, value_over, own_value, others_share, cell_share, absolute_weight, IsNonnegative, IsExact, followed_by, of_first}
 use Rattle.sketch_countmin.specs.History.CountHistory.{New, Update, Merge, Halve, Decay, Restored}
 use Rattle.sketch_countmin.specs.Stands.{StandsFor}
 use Rattle.sketch_countmin.proofs.Decays.{div_le}
@@ -169,36 +169,20 @@ weight_followed g (Restored h) i = weight_followed g h i
 weight_followed g (Halve h) i = absurd i
 weight_followed g (Decay h n d) i = absurd i
 
-hashes_followed : (g h : CountHistory) → hashes_of (followed_by g h) ≡ hashes_of g
-hashes_followed g (New m d s) = refl
-hashes_followed g (Update h bytes w) = hashes_followed g h
-hashes_followed g (Merge h k) = hashes_followed (followed_by g h) k ∙ hashes_followed g h
-hashes_followed g (Halve h) = hashes_followed g h
-hashes_followed g (Decay h n d) = hashes_followed g h
-hashes_followed g (Restored h) = hashes_followed g h
-
-buckets_followed : (g h : CountHistory) → buckets_of (followed_by g h) ≡ buckets_of g
-buckets_followed g (New m d s) = refl
-buckets_followed g (Update h bytes w) = buckets_followed g h
-buckets_followed g (Merge h k) = buckets_followed (followed_by g h) k ∙ buckets_followed g h
-buckets_followed g (Halve h) = buckets_followed g h
-buckets_followed g (Decay h n d) = buckets_followed g h
-buckets_followed g (Restored h) = buckets_followed g h
-
-seed_followed : (g h : CountHistory) → seed_of (followed_by g h) ≡ seed_of g
-seed_followed g (New m d s) = refl
-seed_followed g (Update h bytes w) = seed_followed g h
-seed_followed g (Merge h k) = seed_followed (followed_by g h) k ∙ seed_followed g h
-seed_followed g (Halve h) = seed_followed g h
-seed_followed g (Decay h n d) = seed_followed g h
-seed_followed g (Restored h) = seed_followed g h
+first_followed : (f : ℕ → ℕ → ℕ → ℕ) (g h : CountHistory) → of_first f (followed_by g h) ≡ of_first f g
+first_followed f g (New m d s) = refl
+first_followed f g (Update h bytes w) = first_followed f g h
+first_followed f g (Merge h k) = first_followed f (followed_by g h) k ∙ first_followed f g h
+first_followed f g (Halve h) = first_followed f g h
+first_followed f g (Decay h n d) = first_followed f g h
+first_followed f g (Restored h) = first_followed f g h
 
 -- what stands for a merge stands for one history followed by the other
 pub stands_followed : (s : CountState) (g h : CountHistory) → StandsFor s (Merge g h) → IsExact h → StandsFor s (followed_by g h)
 stands_followed s g h stands i = record {
-  hashes = stands.hashes ∙ sym (hashes_followed g h);
-  buckets = stands.buckets ∙ sym (buckets_followed g h);
-  seed = stands.seed ∙ sym (seed_followed g h);
+  hashes = stands.hashes ∙ sym (first_followed (λ hashes buckets seed. hashes) g h);
+  buckets = stands.buckets ∙ sym (first_followed (λ hashes buckets seed. buckets) g h);
+  seed = stands.seed ∙ sym (first_followed (λ hashes buckets seed. seed) g h);
   total = stands.total ∙ sym (weight_followed g h i);
   cells = λ r lr b lb. stands.cells r lr b lb ∙ sym (value_followed g h (λ bytes. bucket_of s.buckets s.seed r bytes == b) i);
 }

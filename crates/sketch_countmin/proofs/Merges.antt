@@ -3,7 +3,7 @@ use Rattle.std.proofs.Common.{◌≡◌, ℕ, ◌+◌, ◌*◌, ◌≤◌, List,
 use Rattle.sketch_countmin.specs.Rows.{cell_at, rows_of}
 use Rattle.sketch_countmin.specs.State.{CountState, SameShape, Joins}
 use Rattle.sketch_countmin.specs.Table.{IsTable, state_of}
-use Rattle.sketch_countmin.proofs.Tables.{read_rows}
+use Rattle.sketch_countmin.proofs.Tables.{read_rows, remade}
 use Rattle.sketch_countmin.proofs.Updates.{abs_sum}
 
 -- each cell is the sum of two
@@ -23,21 +23,10 @@ all_added_own number items before after whole others other be we oe h =
 pub merged : (greatest : ℕ) (row_seeds : List ℕ) (d seed : ℕ) (t t' u : ℤ) (old other new : List ℤ)
     → IsTable greatest row_seeds d seed t old → ((k : ℕ) → unsigned_abs (get_or other k (pos 0)) ≤ unsigned_abs u) → AllAdded old other new → length new ≡ length old
     → t' ≡ pos (unsigned_abs t + unsigned_abs u) → unsigned_abs t' ≤ greatest → IsTable greatest row_seeds d seed t' new
-merged greatest row_seeds d seed t t' u old other new i bound h long sum fits = record {
-  some_rows = i.some_rows;
-  few_rows = i.few_rows;
-  some_buckets = i.some_buckets;
-  few_cells = i.few_cells;
-  seeded = i.seeded;
-  seeds = i.seeds;
-  size = long ∙ i.size;
-  total_is = sum ∙ ap pos (sym total);
-  fits = fits;
-  bounded = λ k. rw (h.cells k) (omega (arith, abs_sum (get_or old k (pos 0)) (get_or other k (pos 0)), i.bounded k, bound k, total));
-}
-  where
-    total : unsigned_abs t' ≡ unsigned_abs t + unsigned_abs u
-    total = ap unsigned_abs sum
+merged greatest row_seeds d seed t t' u old other new i bound h long sum fits =
+    let total : unsigned_abs t' ≡ unsigned_abs t + unsigned_abs u = ap unsigned_abs sum in
+    remade greatest row_seeds d seed t t' old new i long (sum ∙ ap pos (sym total)) fits
+    (λ k. rw (h.cells k) (omega (arith, abs_sum (get_or old k (pos 0)) (get_or other k (pos 0)), i.bounded k, bound k, total)))
 
 -- there is room in each cell for another's, where there is room in the total
 pub room_for_other : (greatest : ℕ) (row_seeds : List ℕ) (d seed : ℕ) (t t' u : ℤ) (cells lent others other : List ℤ) → IsTable greatest row_seeds d seed t cells → lent ≡ cells

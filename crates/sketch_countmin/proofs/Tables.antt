@@ -95,6 +95,22 @@ state_shown greatest row_seeds d seed total cells s e i =
 pub zeros_read : (n k : ℕ) → get_or (replicate n (pos 0)) k (pos 0) ≡ pos 0
 zeros_read n k = ⊎_elim (λ (lt : k < n). get_or-replicate n k (pos 0) (pos 0) lt) (λ (le : n ≤ k). get_or_past (replicate n (pos 0)) k (pos 0) (omega (arith, length-replicate n (pos 0), le))) (cases_lt k n)
 
+-- the parts are those of a sketch again, where the total and the cells changed
+pub remade : (greatest : ℕ) (row_seeds : List ℕ) (d seed : ℕ) (t t' : ℤ) (old new : List ℤ) → IsTable greatest row_seeds d seed t old → length new ≡ length old
+    → t' ≡ pos (unsigned_abs t') → unsigned_abs t' ≤ greatest → ((k : ℕ) → unsigned_abs (get_or new k (pos 0)) ≤ unsigned_abs t') → IsTable greatest row_seeds d seed t' new
+remade greatest row_seeds d seed t t' old new i long total_is fits bounded = record {
+  some_rows = i.some_rows;
+  few_rows = i.few_rows;
+  some_buckets = i.some_buckets;
+  few_cells = i.few_cells;
+  seeded = i.seeded;
+  seeds = i.seeds;
+  size = long ∙ i.size;
+  total_is = total_is;
+  fits = fits;
+  bounded = bounded;
+}
+
 -- the parts of an empty sketch
 pub empty_is : (greatest : ℕ) (row_seeds : List ℕ) (d seed : ℕ) (z : ℤ) (cells : List ℤ) → 0 < length row_seeds → length row_seeds ≤ 255 → 3 ≤ d → length row_seeds * d < 2 ^ 30 → seed_hash seed ≢ 0
     → ((r : ℕ) → r < length row_seeds → slice_index row_seeds r ≡ row_seed r seed) → z ≡ pos 0 → cells ≡ replicate (length row_seeds * d) (pos 0) → IsTable greatest row_seeds d seed z cells

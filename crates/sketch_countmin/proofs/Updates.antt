@@ -9,7 +9,7 @@ use Rattle.sketch_countmin.specs.Rows.{cell_at, rows_of}
 use Rattle.sketch_countmin.specs.Buckets.{row_seed, bucket_by, bucket_of}
 use Rattle.sketch_countmin.specs.State.{Counts}
 use Rattle.sketch_countmin.specs.Table.{IsTable, state_of}
-use Rattle.sketch_countmin.proofs.Tables.{by_place, read_rows}
+use Rattle.sketch_countmin.proofs.Tables.{by_place, read_rows, remade}
 
 -- a sum is no further from zero than both together
 pub abs_sum : (x y : ℤ) → unsigned_abs (x +ℤ y) ≤ unsigned_abs x + unsigned_abs y
@@ -44,18 +44,9 @@ room_here greatest row_seeds d seed t t' cells lent w i e sum fits k =
 pub updated : (greatest : ℕ) (row_seeds : List ℕ) (d seed : ℕ) (t t' : ℤ) (old new : List ℤ) (bucket : ℕ → ℕ) (w : ℤ)
     → IsTable greatest row_seeds d seed t old → RowsAdded d w bucket (length row_seeds) old new → length new ≡ length old
     → t' ≡ pos (unsigned_abs t + unsigned_abs w) → unsigned_abs t' ≤ greatest → IsTable greatest row_seeds d seed t' new
-updated greatest row_seeds d seed t t' old new bucket w i h long sum fits = record {
-  some_rows = i.some_rows;
-  few_rows = i.few_rows;
-  some_buckets = i.some_buckets;
-  few_cells = i.few_cells;
-  seeded = i.seeded;
-  seeds = i.seeds;
-  size = long ∙ i.size;
-  total_is = sum ∙ ap pos (sym total);
-  fits = fits;
-  bounded = λ k. ⊎_elim (λ (lt : k < length row_seeds * d). within k lt) (λ (le : length row_seeds * d ≤ k). past k le) (cases_lt k (length row_seeds * d));
-}
+updated greatest row_seeds d seed t t' old new bucket w i h long sum fits =
+    remade greatest row_seeds d seed t t' old new i long (sum ∙ ap pos (sym total)) fits
+    (λ k. ⊎_elim (λ (lt : k < length row_seeds * d). within k lt) (λ (le : length row_seeds * d ≤ k). past k le) (cases_lt k (length row_seeds * d)))
   where
     total : unsigned_abs t' ≡ unsigned_abs t + unsigned_abs w
     total = ap unsigned_abs sum

@@ -1,8 +1,9 @@
 -- How cells are written, one after another and in blocks.
-use Rattle.std.proofs.Common.{◌≡◌, ℕ, ◌+◌, ◌-◌, ◌<◌, ◌≤◌, List, [], ◌∷◌, ◌++◌, length, get_or, map, take, drop, ℤ, sym, ap, ◌∙◌, append_assoc, arith}
+use Rattle.std.proofs.Common.{◌≡◌, ℕ, ◌+◌, ◌-◌, ◌<◌, ◌≤◌, List, [], ◌∷◌, ◌++◌, length, get_or, map, take, drop, ℤ, All, sym, subst, ap, ◌∙◌, append_assoc, arith}
 use Rattle.std.specs.List.{flat_map}
 use Rattle.std.proofs.Math.Seq.{take-add}
 use Rattle.std.proofs.lemmas.List.{take_more, map-append}
+use Rattle.std.proofs.lemmas.List.Elements.{All-push}
 use Rattle.std.proofs.lemmas.List.Concat.{flat_map-append}
 use Rattle.sketch_countmin.specs.Values.{bytes_of}
 
@@ -41,3 +42,11 @@ bytes_block done part more old now new bytes more_is now_is bytes_are new_is =
     ∙ (append_assoc old (flat_map bytes_of done) bytes
     ∙ ap (λ (bs : List ℕ). old ++ bs) (ap (λ (bs : List ℕ). flat_map bytes_of done ++ bs) bytes_are
     ∙ (sym (flat_map-append bytes_of done part) ∙ ap (flat_map bytes_of) (sym more_is)))))
+
+-- one value more is written, and it is one of the type
+pub written_more : {T : Type 0} (number : T → ℤ) (range : ℤ → Type 0) (counts : List T) (i : ℕ) (x : T) (old now new bytes : List ℕ) → i < length counts → x ≡ get_or counts i x → bytes ≡ bytes_of (number x) → new ≡ now ++ bytes → range (number x)
+    → now ≡ old ++ flat_map bytes_of (map number (take i counts)) → All range (map number (take i counts)) → (new ≡ old ++ flat_map bytes_of (map number (take (i + 1) counts))) × All range (map number (take (i + 1) counts))
+written_more number range counts i x old now new bytes lt is bytes_are new_is fits written in_range =
+    let done : List ℤ = map number (take i counts) in
+    let more : map number (take (i + 1) counts) ≡ done ++ number x ∷ [] = numbers_more number counts i x lt is in
+    (bytes_more done (map number (take (i + 1) counts)) (number x) old now new bytes more written bytes_are new_is, subst (λ (zs : List ℤ). All range zs) (sym more) (All-push range done (number x) in_range fits))

@@ -1,6 +1,6 @@
 -- Equality of two sketches: by shape, seed, total and cells.
 use lib.Pointwise.{pointwise}
-use Rattle.std.proofs.Common.{◌≡◌, ◌&&◌, Bool, ap}
+use Rattle.std.proofs.Common.{◌≡◌, ◌&&◌, Bool, true, refl, subst}
 use Rattle.std.specs.Prelude.{◌==◌}
 use Rattle.std.specs.Bool.{Decides}
 use Rattle.std.specs.Cmp.{IsEquivalence, IsPartialEquivalence, decided, partial_equiv_from_equiv, signed_Decides}
@@ -37,19 +37,9 @@ parts_decide s t =
 -- the test is true exactly where the sketches are the same
 pub same_state-Decides : (s t : CountState) → Decides (same_state s t) (s ≡ t)
 same_state-Decides s t =
-    let parts = parts_decide s t in (
-      λ e. let p = parts.0 e in same_parts s t p.0 p.1.0 p.1.1.0 p.1.1.1.0 p.1.1.1.1,
-      λ e. parts.1 (
-        ap (λ (x : CountState). x.hashes) e,
-        (
-          ap (λ (x : CountState). x.buckets) e,
-          (
-            ap (λ (x : CountState). x.seed) e,
-            (ap (λ (x : CountState). x.total) e, ap (λ (x : CountState). x.rows) e),
-          ),
-        ),
-      ),
-    )
+    let parts = parts_decide s t in
+    let itself = parts_decide s s in
+    (λ e. let p = parts.0 e in same_parts s t p.0 p.1.0 p.1.1.0 p.1.1.1.0 p.1.1.1.1, λ e. subst (λ (u : CountState). same_state s u ≡ true) e (itself.1 (refl, (refl, (refl, (refl, refl))))))
 
 -- so equality is an equivalence
 pub same_state_equivalence : IsEquivalence same_state

@@ -45,30 +45,24 @@ absolute_weight (Halve h) = absolute_weight h / 2
 absolute_weight (Decay h n d) = absolute_weight h * n / d
 absolute_weight (Restored h) = absolute_weight h
 
--- the shape and the seed, which a merge has from its receiver
+-- what the shape and the seed of the first sketch make, which a merge has from its receiver
+abbrev pub of_first : (ℕ → ℕ → ℕ → ℕ) → CountHistory → ℕ
+of_first f (New hashes buckets seed) = f hashes buckets seed
+of_first f (Update h bytes weight) = of_first f h
+of_first f (Merge g h) = of_first f g
+of_first f (Halve h) = of_first f h
+of_first f (Decay h n d) = of_first f h
+of_first f (Restored h) = of_first f h
+
+-- the number of hashes, that of buckets, and the seed
 abbrev pub hashes_of : CountHistory → ℕ
-hashes_of (New hashes buckets seed) = hashes
-hashes_of (Update h bytes weight) = hashes_of h
-hashes_of (Merge g h) = hashes_of g
-hashes_of (Halve h) = hashes_of h
-hashes_of (Decay h n d) = hashes_of h
-hashes_of (Restored h) = hashes_of h
+hashes_of h = of_first (λ hashes buckets seed. hashes) h
 
 abbrev pub buckets_of : CountHistory → ℕ
-buckets_of (New hashes buckets seed) = buckets
-buckets_of (Update h bytes weight) = buckets_of h
-buckets_of (Merge g h) = buckets_of g
-buckets_of (Halve h) = buckets_of h
-buckets_of (Decay h n d) = buckets_of h
-buckets_of (Restored h) = buckets_of h
+buckets_of h = of_first (λ hashes buckets seed. buckets) h
 
 abbrev pub seed_of : CountHistory → ℕ
-seed_of (New hashes buckets seed) = seed
-seed_of (Update h bytes weight) = seed_of h
-seed_of (Merge g h) = seed_of g
-seed_of (Halve h) = seed_of h
-seed_of (Decay h n d) = seed_of h
-seed_of (Restored h) = seed_of h
+seed_of h = of_first (λ hashes buckets seed. seed) h
 
 -- no weight is below zero
 abbrev pub IsNonnegative : CountHistory → Type 0

@@ -1,6 +1,6 @@
 -- The laws of the value types, for all widths at once.
-use Rattle.std.proofs.Common.{◌≡◌, ℕ, ◌<◌, ◌≤◌, ◌^◌, refl, ap, ◌∙◌, arith}
-use Rattle.std.specs.Prelude.{ℤ, pos, negsuc, ◌≤ℤ◌, ◌<ℤ◌, unsigned_abs}
+use Rattle.std.proofs.Common.{◌≡◌, ℕ, ◌+◌, ◌<◌, ◌≤◌, ◌^◌, refl, ap, ◌∙◌, arith}
+use Rattle.std.specs.Prelude.{ℤ, pos, negsuc, ◌≤ℤ◌, ◌<ℤ◌, ◌+ℤ◌, unsigned_abs}
 use Rattle.std.specs.Int.{w64, cast_signed, cast_unsigned}
 use Rattle.std.specs.declared.cmp.Ordering.TheVariants.{Less, Equal, Greater}
 use Rattle.std.specs.declared.cmp.Ordering.{Ordering}
@@ -64,3 +64,43 @@ signed_bytes g small z h =
 pub unsigned_bytes : (g : ℕ) → g < 2 ^ 64 → (z : ℤ) → InRange (pos 0) g z → number_in (pos 0) (bytes_of z) ≡ z
 unsigned_bytes g small (pos n) h = ap pos (from_le_bytes-to_le_bytes_8 n (omega (arith, ints)))
 unsigned_bytes g small (negsuc n) h = absurd (omega (arith, ints))
+
+-- what holds of every type of numbers that a sketch counts in
+pub record ValueLaws {S : Type 0} (number : S → ℤ) (zero one max min : S) (size : ℕ) (least : ℤ) (greatest : ℕ) (cmp : S → S → Ordering) : Type 0 where
+  pub zero_is : number zero ≡ pos 0
+  pub one_is : number one ≡ pos 1
+  pub max_is : number max ≡ pos greatest
+  pub min_is : number min ≡ least
+  pub size_fits : size ≤ 8
+  pub ordered : (x y : S) → MatchOrdering (cmp x y) (number x <ℤ number y) (number x ≡ number y) (number y <ℤ number x)
+  pub zero_fits : least ≤ℤ pos 0
+  pub sum_fits : (x y : S) → unsigned_abs (number x +ℤ number y) ≤ greatest → InRange least greatest (number x +ℤ number y)
+  pub bytes_fit : (z : ℤ) → InRange least greatest z → number_in least (bytes_of z) ≡ z
+
+-- the laws of a signed type, by its size and its greatest number
+pub signed_laws : (size greatest : ℕ) → size ≤ 8 → greatest < 2 ^ 63 → ValueLaws {S = ℤ} (λ x. x) (pos 0) (pos 1) (pos greatest) (negsuc greatest) size (negsuc greatest) greatest int_cmp
+signed_laws size greatest fits small = record {
+  zero_is = refl;
+  one_is = refl;
+  max_is = refl;
+  min_is = refl;
+  size_fits = fits;
+  ordered = signed_order;
+  zero_fits = zero_in_signed greatest;
+  sum_fits = λ x y. signed_fits greatest (x +ℤ y);
+  bytes_fit = signed_bytes greatest small;
+}
+
+-- the laws of an unsigned type, by its size and its greatest number
+pub unsigned_laws : (size greatest : ℕ) → size ≤ 8 → greatest < 2 ^ 64 → ValueLaws {S = ℕ} pos 0 1 greatest 0 size (pos 0) greatest nat_cmp
+unsigned_laws size greatest fits small = record {
+  zero_is = refl;
+  one_is = refl;
+  max_is = refl;
+  min_is = refl;
+  size_fits = fits;
+  ordered = unsigned_order;
+  zero_fits = not_negative 0;
+  sum_fits = λ x y. unsigned_fits greatest (x + y);
+  bytes_fit = unsigned_bytes greatest small;
+}

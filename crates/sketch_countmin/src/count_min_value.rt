@@ -2,6 +2,7 @@
 ghost use Rattle.std.specs.Prelude.{◌≡◌, ℕ, ◌+◌, ◌^◌, ◌<◌, ◌≤◌, ℤ, pos, negsuc, ◌≤ℤ◌, ◌<ℤ◌, ◌+ℤ◌, unsigned_abs, MatchResult};
 ghost use Rattle.std.specs.Ordering.{MatchOrdering};
 ghost use Rattle.sketch_base.specs.Errors.{invalid_data};
+ghost use Rattle.sketch_countmin.specs.ValueLaws.{ValueLaws};
 ghost use Rattle.sketch_countmin.specs.Values.{InRange, Checks, scaled, bytes_of, number_in};
 
 use sketch_base::{Error, Fault};
@@ -118,26 +119,29 @@ pub trait CountMinValue: Copy + Ord {
         }
     }
 
-    ghost zero_is: { number ZERO ≡ pos 0 };
+    // What holds of the members, in one piece: an `impl` proves it, and the laws below are its parts.
+    ghost laws: { ValueLaws number ZERO ONE MAX MIN SIZE least greatest Self.cmp };
 
-    ghost one_is: { number ONE ≡ pos 1 };
+    ghost zero_is: { number ZERO ≡ pos 0 } = { laws.zero_is };
 
-    ghost max_is: { number MAX ≡ pos greatest };
+    ghost one_is: { number ONE ≡ pos 1 } = { laws.one_is };
 
-    ghost min_is: { number MIN ≡ least };
+    ghost max_is: { number MAX ≡ pos greatest } = { laws.max_is };
 
-    ghost size_fits: { SIZE ≤ 8 };
+    ghost min_is: { number MIN ≡ least } = { laws.min_is };
+
+    ghost size_fits: { SIZE ≤ 8 } = { laws.size_fits };
 
     // Values are ordered as their numbers.
     ghost ordered: { (x y : Self)
-        → MatchOrdering (Self.cmp x y) (number x <ℤ number y) (number x ≡ number y) (number y <ℤ number x) };
+        → MatchOrdering (Self.cmp x y) (number x <ℤ number y) (number x ≡ number y) (number y <ℤ number x) } = { laws.ordered };
 
     // A type has zero, and each sum that is no further from zero than its greatest number.
-    ghost zero_fits: { least ≤ℤ pos 0 };
+    ghost zero_fits: { least ≤ℤ pos 0 } = { laws.zero_fits };
 
     ghost sum_fits: { (x y : Self)
-        → unsigned_abs (number x +ℤ number y) ≤ greatest → InRange least greatest (number x +ℤ number y) };
+        → unsigned_abs (number x +ℤ number y) ≤ greatest → InRange least greatest (number x +ℤ number y) } = { laws.sum_fits };
 
     // Each number of the type comes back from its bytes.
-    ghost bytes_fit: { (z : ℤ) → InRange least greatest z → number_in least (bytes_of z) ≡ z };
+    ghost bytes_fit: { (z : ℤ) → InRange least greatest z → number_in least (bytes_of z) ≡ z } = { laws.bytes_fit };
 }

@@ -1,10 +1,11 @@
 //! The eight types of numbers that a sketch can count in.
 //!
-//! Each is spelled out, though they differ in a name and a number or two: the check of the repository refuses an `impl`
-//! that a macro of its own writes.
-ghost use Rattle.std.specs.Prelude.{◌+◌, pos, negsuc, ◌+ℤ◌, refl};
+//! Each names its constants and its conversions, though they differ in a name and a number: the check of the repository
+//! refuses an `impl` that a macro of its own writes. What holds of a type is proved once for signed types and once for
+//! unsigned ones.
+ghost use Rattle.std.specs.Prelude.{pos, negsuc};
 ghost use Rattle.std.proofs.Common.{lit<, lit≤};
-ghost use Rattle.sketch_countmin.specs.ValueLaws.{signed_fits, unsigned_fits, zero_in_signed, not_negative, signed_order, unsigned_order, signed_bytes, unsigned_bytes};
+ghost use Rattle.sketch_countmin.specs.ValueLaws.{not_negative, signed_laws, unsigned_laws};
 
 use crate::count_min_value::CountMinValue;
 use crate::unsigned_count_min_value::UnsignedCountMinValue;
@@ -51,23 +52,7 @@ impl CountMinValue for i8 {
         whole as i8
     }
 
-    ghost zero_is = { refl };
-
-    ghost one_is = { refl };
-
-    ghost max_is = { refl };
-
-    ghost min_is = { refl };
-
-    ghost size_fits = { lit≤ tt };
-
-    ghost ordered = { signed_order };
-
-    ghost zero_fits = { zero_in_signed 127 };
-
-    ghost sum_fits = { λ x y. signed_fits 127 (x +ℤ y) };
-
-    ghost bytes_fit = { signed_bytes 127 (lit< tt) };
+    ghost laws = { signed_laws 1 127 (lit≤ tt) (lit< tt) };
 }
 
 impl CountMinValue for i16 {
@@ -112,23 +97,7 @@ impl CountMinValue for i16 {
         whole as i16
     }
 
-    ghost zero_is = { refl };
-
-    ghost one_is = { refl };
-
-    ghost max_is = { refl };
-
-    ghost min_is = { refl };
-
-    ghost size_fits = { lit≤ tt };
-
-    ghost ordered = { signed_order };
-
-    ghost zero_fits = { zero_in_signed 32767 };
-
-    ghost sum_fits = { λ x y. signed_fits 32767 (x +ℤ y) };
-
-    ghost bytes_fit = { signed_bytes 32767 (lit< tt) };
+    ghost laws = { signed_laws 2 32767 (lit≤ tt) (lit< tt) };
 }
 
 impl CountMinValue for i32 {
@@ -173,23 +142,7 @@ impl CountMinValue for i32 {
         whole as i32
     }
 
-    ghost zero_is = { refl };
-
-    ghost one_is = { refl };
-
-    ghost max_is = { refl };
-
-    ghost min_is = { refl };
-
-    ghost size_fits = { lit≤ tt };
-
-    ghost ordered = { signed_order };
-
-    ghost zero_fits = { zero_in_signed 2147483647 };
-
-    ghost sum_fits = { λ x y. signed_fits 2147483647 (x +ℤ y) };
-
-    ghost bytes_fit = { signed_bytes 2147483647 (lit< tt) };
+    ghost laws = { signed_laws 4 2147483647 (lit≤ tt) (lit< tt) };
 }
 
 impl CountMinValue for i64 {
@@ -234,23 +187,7 @@ impl CountMinValue for i64 {
         whole as i64
     }
 
-    ghost zero_is = { refl };
-
-    ghost one_is = { refl };
-
-    ghost max_is = { refl };
-
-    ghost min_is = { refl };
-
-    ghost size_fits = { lit≤ tt };
-
-    ghost ordered = { signed_order };
-
-    ghost zero_fits = { zero_in_signed 9223372036854775807 };
-
-    ghost sum_fits = { λ x y. signed_fits 9223372036854775807 (x +ℤ y) };
-
-    ghost bytes_fit = { signed_bytes 9223372036854775807 (lit< tt) };
+    ghost laws = { signed_laws 8 9223372036854775807 (lit≤ tt) (lit< tt) };
 }
 
 impl CountMinValue for u8 {
@@ -295,23 +232,7 @@ impl CountMinValue for u8 {
         whole as u8
     }
 
-    ghost zero_is = { refl };
-
-    ghost one_is = { refl };
-
-    ghost max_is = { refl };
-
-    ghost min_is = { refl };
-
-    ghost size_fits = { lit≤ tt };
-
-    ghost ordered = { unsigned_order };
-
-    ghost zero_fits = { not_negative 0 };
-
-    ghost sum_fits = { λ x y. unsigned_fits 255 (x + y) };
-
-    ghost bytes_fit = { unsigned_bytes 255 (lit< tt) };
+    ghost laws = { unsigned_laws 1 255 (lit≤ tt) (lit< tt) };
 }
 
 impl UnsignedCountMinValue for u8 {
@@ -360,23 +281,7 @@ impl CountMinValue for u16 {
         whole as u16
     }
 
-    ghost zero_is = { refl };
-
-    ghost one_is = { refl };
-
-    ghost max_is = { refl };
-
-    ghost min_is = { refl };
-
-    ghost size_fits = { lit≤ tt };
-
-    ghost ordered = { unsigned_order };
-
-    ghost zero_fits = { not_negative 0 };
-
-    ghost sum_fits = { λ x y. unsigned_fits 65535 (x + y) };
-
-    ghost bytes_fit = { unsigned_bytes 65535 (lit< tt) };
+    ghost laws = { unsigned_laws 2 65535 (lit≤ tt) (lit< tt) };
 }
 
 impl UnsignedCountMinValue for u16 {
@@ -425,23 +330,7 @@ impl CountMinValue for u32 {
         whole as u32
     }
 
-    ghost zero_is = { refl };
-
-    ghost one_is = { refl };
-
-    ghost max_is = { refl };
-
-    ghost min_is = { refl };
-
-    ghost size_fits = { lit≤ tt };
-
-    ghost ordered = { unsigned_order };
-
-    ghost zero_fits = { not_negative 0 };
-
-    ghost sum_fits = { λ x y. unsigned_fits 4294967295 (x + y) };
-
-    ghost bytes_fit = { unsigned_bytes 4294967295 (lit< tt) };
+    ghost laws = { unsigned_laws 4 4294967295 (lit≤ tt) (lit< tt) };
 }
 
 impl UnsignedCountMinValue for u32 {
@@ -490,23 +379,7 @@ impl CountMinValue for u64 {
         whole as u64
     }
 
-    ghost zero_is = { refl };
-
-    ghost one_is = { refl };
-
-    ghost max_is = { refl };
-
-    ghost min_is = { refl };
-
-    ghost size_fits = { lit≤ tt };
-
-    ghost ordered = { unsigned_order };
-
-    ghost zero_fits = { not_negative 0 };
-
-    ghost sum_fits = { λ x y. unsigned_fits 18446744073709551615 (x + y) };
-
-    ghost bytes_fit = { unsigned_bytes 18446744073709551615 (lit< tt) };
+    ghost laws = { unsigned_laws 8 18446744073709551615 (lit≤ tt) (lit< tt) };
 }
 
 impl UnsignedCountMinValue for u64 {

@@ -7,6 +7,7 @@ use Rattle.sketch_bloom.specs.Image.{IsImage, first_fault}
 use Rattle.sketch_bloom.specs.State.{FilterState}
 use Rattle.sketch_bloom.proofs.RoundTrips.{spelled_is_image}
 use Rattle.sketch_bloom.proofs.laws.restored.Goals as goal
+use Rattle.sketch_bloom.proofs.laws.restored.Goals.{After-deserialize}
 
 -- the bytes are an image of one filter alone
 same_filter : {E : Type 0} (image : List ℕ) (s : FilterState) (r : Result FilterState E) → IsImage image s → IfOk r (λ filter. IsImage image filter) → IfOk r (λ copy. copy ≡ s)
@@ -19,14 +20,12 @@ only_memory before whole (Ok x) none h = h
 only_memory before whole (Err e) none (inl h) = h.0
 only_memory before whole (Err e) none (inr h) = cc (sym none ∙ h.1)
 
+-- the bytes are an image of the filter
+own_image : (c : After-deserialize) → IsImage c.deref.result.now c.args.filter.now
+own_image c = subst (λ bytes. IsImage bytes c.args.filter.now) (sym c.deref.ensures.value) (spelled_is_image c.in_ok-image.image.items c.args.filter.now c.in_ok-image.ensures.image)
+
 pub returns-clause-same : goal.returns-clause-same
-returns-clause-same c =
-    let image = c.deref.result.now in
-    let was : IsImage image c.args.filter.now = subst (λ bytes. IsImage bytes c.args.filter.now) (sym c.deref.ensures.value) (spelled_is_image c.in_ok-image.image.items c.args.filter.now c.in_ok-image.ensures.image) in
-    same_filter image c.args.filter.now c.deserialize.result was c.deserialize.ensures.image
+returns-clause-same c = same_filter c.deref.result.now c.args.filter.now c.deserialize.result (own_image (goal.at.returns-clause-same c).After-deserialize) c.deserialize.ensures.image
 
 pub returns-clause-err : goal.returns-clause-err
-returns-clause-err c =
-    let image = c.deref.result.now in
-    let was : IsImage image c.args.filter.now = subst (λ bytes. IsImage bytes c.args.filter.now) (sym c.deref.ensures.value) (spelled_is_image c.in_ok-image.image.items c.args.filter.now c.in_ok-image.ensures.image) in
-    only_memory _ (first_fault image) c.deserialize.result was.no_fault c.deserialize.ensures.err
+returns-clause-err c = only_memory _ (first_fault c.deref.result.now) c.deserialize.result (own_image (goal.at.returns-clause-err c).After-deserialize).no_fault c.deserialize.ensures.err

@@ -1,13 +1,9 @@
-use Rattle.std.proofs.Common.{arith, sym, ap, ◌∙◌, ◌<◌, map, length, ℕ}
-use Rattle.std.proofs.lemmas.List.{length-map}
+use Rattle.std.proofs.Common.{arith}
 use Rattle.sketch_countmin.specs.Values.{scaled}
 use Rattle.sketch_countmin.proofs.CellMaps.{map_more_here}
 use Rattle.sketch_countmin.proofs.cells.scale_all.Goals as goal
 
 pub loop-value-preserved : goal.loop-value-preserved
 loop-value-preserved g c =
-    let num = g.T.CountMinValue.number in
-    let i : ℕ = c.loop-value.value-index in
-    let lc : i < length c.loop-value.counts = omega (arith, c.loop-value-test.true, c.loop-value.auto.counts) in
-    let lt : i < length (map num c.args.counts.now) = omega (arith, length-map c.args.counts.now num, c.loop-value-test.true, c.loop-value.auto.counts) in
-    map_more_here num (scaled c.args.numerator c.args.denominator) c.loop-value.counts (map num c.args.counts.now) i c.value-item.result c.scale_nonnegative.result lc lt c.value-item.is (c.scale_nonnegative.ensures ∙ ap (λ x. scaled c.args.numerator c.args.denominator (num x)) (sym c.value-item.is)) c.loop-value.invariant
+    map_more_here g.T.CountMinValue.number (scaled c.args.numerator c.args.denominator) c.loop-value.counts c.args.counts.now c.loop-value.value-index c.value-item.result c.scale_nonnegative.result
+    (omega (arith, c.loop-value-test.true, c.loop-value.auto.counts)) c.loop-value.auto.counts c.value-item.is c.scale_nonnegative.ensures c.loop-value.invariant

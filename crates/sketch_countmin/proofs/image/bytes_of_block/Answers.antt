@@ -1,31 +1,27 @@
-use Rattle.std.proofs.Common.{◌≡◌, ℕ, ◌+◌, ◌-◌, ◌*◌, ◌<◌, ◌≤◌, ◌++◌, List, [], ◌∷◌, length, map, take, ℤ, All, refl, sym, ap, ◌∙◌, subst, arith}
+use Rattle.std.proofs.Common.{◌≡◌, ℕ, ◌+◌, ◌-◌, ◌*◌, ◌≤◌, List, [], length, map, take, refl, sym, ap, ◌∙◌, arith}
 use Rattle.std.specs.List.{flat_map}
 use Rattle.std.proofs.lemmas.List.{take_all}
 use Rattle.std.proofs.lemmas.List.Edits.{length-paste}
-use Rattle.std.proofs.lemmas.List.Elements.{All-push}
 use Rattle.std.proofs.lemmas.Slice.{put_mid-paste, take-put_mid}
 use Rattle.sketch_countmin.specs.Values.{InRange, bytes_of}
-use Rattle.sketch_countmin.proofs.Writing.{numbers_more, bytes_more, bytes_long}
+use Rattle.sketch_countmin.proofs.Writing.{bytes_long, written_more}
 use Rattle.sketch_countmin.proofs.image.bytes_of_block.Goals as goal
 
 pub fills-preserved : goal.fills-preserved
 fills-preserved g c =
     let number = g.T.CountMinValue.number in
-    let range : ℤ → Type 0 = InRange g.T.CountMinValue.least g.T.CountMinValue.greatest in
     let i : ℕ = c.fills.i in
-    let cells = c.args.cells.now in
     let x = c.index-cells-i.result in
-    let done : List ℤ = map number (take i cells) in
-    let below : i < length cells = omega (arith, c.fills-test.true, c.requires) in
-    let more : map number (take (i + 1) cells) ≡ done ++ number x ∷ [] = numbers_more number cells i x below c.index-cells-i.is in
     let bytes : List ℕ = c.copy_from_slice.new.self in
     let bytes_are : bytes ≡ bytes_of (number x) = c.copy_from_slice.ensures.after ∙ c.to_bytes.ensures.value in
     let long : length bytes ≡ 8 = bytes_long (number x) bytes bytes_are in
     let room : 8 * i ≤ length c.fills.bytes = omega (arith, c.fills-test.true, c.fills-test.array_long) in
+    let more = written_more number (InRange g.T.CountMinValue.least g.T.CountMinValue.greatest) c.args.cells.now i x [] (take (8 * i) c.fills.bytes) _ bytes (omega (arith, c.fills-test.true, c.requires)) c.index-cells-i.is
+    bytes_are (take-put_mid (8 * i) _ c.fills.bytes bytes (8 * (i + 1)) (omega arith) room) c.to_bytes.ensures.in_range c.fills.invariant.written c.fills.invariant.in_range in
     record {
       long = ap length (put_mid-paste (8 * i) (8 * i + 8 - 8 * i) c.fills.bytes bytes bytes 8 refl (omega arith) (sym long)) ∙ (length-paste c.fills.bytes (8 * i) bytes 8 (omega (arith, c.fills-test.true, c.fills.invariant.long)) (omega arith) ∙ c.fills.invariant.long);
-      written = bytes_more done (map number (take (i + 1) cells)) (number x) [] (take (8 * i) c.fills.bytes) _ bytes more c.fills.invariant.written bytes_are (take-put_mid (8 * i) _ c.fills.bytes bytes (8 * (i + 1)) (omega arith) room);
-      in_range = subst (λ (zs : List ℤ). All range zs) (sym more) (All-push range done (number x) c.fills.invariant.in_range c.to_bytes.ensures.in_range);
+      written = more.0;
+      in_range = more.1;
     }
 
 pub returns-clause-bytes : goal.returns-clause-bytes

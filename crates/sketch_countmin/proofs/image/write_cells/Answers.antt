@@ -1,7 +1,7 @@
-use Rattle.std.proofs.Common.{◌≡◌, ℕ, ◌+◌, ◌-◌, ◌*◌, ◌/◌, ◌++◌, List, [], ◌∷◌, length, map, take, drop, ℤ, All, refl, sym, subst, arith}
-use Rattle.std.proofs.lemmas.List.Elements.{All-append, All-push}
+use Rattle.std.proofs.Common.{◌≡◌, ℕ, ◌+◌, ◌-◌, ◌*◌, ◌/◌, ◌++◌, List, length, map, take, drop, ℤ, All, refl, sym, subst, arith}
+use Rattle.std.proofs.lemmas.List.Elements.{All-append}
 use Rattle.sketch_countmin.specs.Values.{InRange}
-use Rattle.sketch_countmin.proofs.Writing.{numbers_more, bytes_more, numbers_block, bytes_block}
+use Rattle.sketch_countmin.proofs.Writing.{numbers_block, bytes_block, written_more}
 use Rattle.sketch_countmin.proofs.image.write_cells.Goals as goal
 
 pub whole-preserved : goal.whole-preserved
@@ -22,21 +22,11 @@ whole-preserved g c =
 
 pub rest-init : goal.rest-init
 rest-init g c =
-    let number = g.T.CountMinValue.number in
-    let range : ℤ → Type 0 = InRange g.T.CountMinValue.least g.T.CountMinValue.greatest in
     let end : c.whole.b ≡ length c.args.counts.now / 8 = omega (arith, c.whole-test.false, c.whole.auto.b-end) in
     rw (sym end) (record { written = c.whole.invariant.written; in_range = c.whole.invariant.in_range })
 
 pub rest-preserved : goal.rest-preserved
 rest-preserved g c =
-    let number = g.T.CountMinValue.number in
-    let range : ℤ → Type 0 = InRange g.T.CountMinValue.least g.T.CountMinValue.greatest in
-    let i : ℕ = c.rest.i in
-    let counts = c.args.counts.now in
-    let x = c.index-counts-i.result in
-    let done : List ℤ = map number (take i counts) in
-    let more : map number (take (i + 1) counts) ≡ done ++ number x ∷ [] = numbers_more number counts i x c.rest-test.true c.index-counts-i.is in
-    record {
-      written = bytes_more done (map number (take (i + 1) counts)) (number x) c.args.out.now.bytes c.rest.out.bytes c.write-in-rest.new.self.bytes c.to_bytes.result more c.rest.invariant.written c.to_bytes.ensures.value c.in_ok-write-2.ensures.ok;
-      in_range = subst (λ (zs : List ℤ). All range zs) (sym more) (All-push range done (number x) c.rest.invariant.in_range c.to_bytes.ensures.in_range);
-    }
+    let more = written_more g.T.CountMinValue.number (InRange g.T.CountMinValue.least g.T.CountMinValue.greatest) c.args.counts.now c.rest.i c.index-counts-i.result c.args.out.now.bytes c.rest.out.bytes c.write-in-rest.new.self.bytes c.to_bytes.result
+    c.rest-test.true c.index-counts-i.is c.to_bytes.ensures.value c.in_ok-write-2.ensures.ok c.to_bytes.ensures.in_range c.rest.invariant.written c.rest.invariant.in_range in
+    record { written = more.0; in_range = more.1 }

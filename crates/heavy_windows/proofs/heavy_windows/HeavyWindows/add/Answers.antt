@@ -6,12 +6,12 @@ use Rattle.sketch_frequencies.specs.Steps.{Steps}
 use Rattle.heavy_windows.specs.Fresh.{fresh_state}
 use Rattle.heavy_windows.specs.Histories.{added_history}
 use Rattle.heavy_windows.specs.Stands.{ExtendsEach}
-use Rattle.heavy_windows.specs.State.{WindowsState, OnlyChanges, at_tenant}
+use Rattle.heavy_windows.specs.State.{WindowsState, at_tenant}
 use Rattle.heavy_windows.specs.Steps.{AddsToNewest}
 use Rattle.heavy_windows.proofs.Kept.{kept_added_either, kept_first}
 use Rattle.heavy_windows.proofs.Standing.{fresh_window, first_at}
 use Rattle.heavy_windows.proofs.Steps.{adds_first}
-use Rattle.heavy_windows.proofs.Tenants.{PutsWindows, kept_of, put_in, put_at, put_kept, put_others, put_back, put_none, same_changes}
+use Rattle.heavy_windows.proofs.Tenants.{PutsWindows, kept_of, put_in, put_at, put_kept, put_others_of, put_back, put_none, same_changes}
 use Rattle.heavy_windows.proofs.heavy_windows.HeavyWindows.add.Given as given
 use Rattle.heavy_windows.proofs.heavy_windows.HeavyWindows.add.Goals as goal
 
@@ -38,10 +38,7 @@ pub returns-in-Some-clause-state : goal.returns-in-Some-clause-state
 returns-in-Some-clause-state g c = invariant_of-self g c
 
 pub returns-in-Some-clause-others : goal.returns-in-Some-clause-others
-returns-in-Some-clause-others g c =
-    let old : WindowsState g.row.T.Denot = record { limit = c.self.inside.limit; max_map_size = c.self.inside.max_map_size; tenants = c.self.inside.tenants.entries } in
-    let new : WindowsState g.row.T.Denot = record { limit = c.self.inside.limit; max_map_size = c.self.inside.max_map_size; tenants = (c.get_mut.follows.lender c.add.new.self).entries } in
-    subst (λ (s : WindowsState g.row.T.Denot). OnlyChanges c.args.tenant s new) c.self.view_is (put_others c.args.tenant c.add.new.self old new (put g c))
+returns-in-Some-clause-others g c = put_others_of c.args.tenant c.add.new.self _ c.args.self.now _ c.self.view_is (put g c)
 
 pub returns-in-Some-clause-err : goal.returns-in-Some-clause-err
 returns-in-Some-clause-err g c =
@@ -77,10 +74,7 @@ pub returns-clause-state : goal.returns-clause-state
 returns-clause-state g c = invariant_of-self-2 g c
 
 pub returns-clause-others : goal.returns-clause-others
-returns-clause-others g c =
-    let old : WindowsState g.row.T.Denot = record { limit = c.self.inside.limit; max_map_size = c.self.inside.max_map_size; tenants = c.self.inside.tenants.entries } in
-    let new : WindowsState g.row.T.Denot = record { limit = c.self.inside.limit; max_map_size = c.self.inside.max_map_size; tenants = c.insert.new.self.entries } in
-    subst (λ (s : WindowsState g.row.T.Denot). OnlyChanges c.args.tenant s new) c.self.view_is (put_others c.args.tenant (c.update_with_count.new.self ∷ []) old new (put_first g c))
+returns-clause-others g c = put_others_of c.args.tenant (c.update_with_count.new.self ∷ []) _ c.args.self.now _ c.self.view_is (put_first g c)
 
 pub returns-clause-adds : goal.returns-clause-adds
 returns-clause-adds g c = λ some.

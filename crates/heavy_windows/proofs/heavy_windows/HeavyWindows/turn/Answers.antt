@@ -5,10 +5,10 @@ use Rattle.std.specs.Map.{lookup}
 use Rattle.std.specs.Result.{OnOk}
 use Rattle.heavy_windows.specs.Histories.{turned_history}
 use Rattle.heavy_windows.specs.Stands.{ExtendsEach}
-use Rattle.heavy_windows.specs.State.{WindowsState, IsWindows, OnlyChanges, at_tenant}
+use Rattle.heavy_windows.specs.State.{WindowsState, IsWindows, at_tenant}
 use Rattle.heavy_windows.proofs.Kept.{kept_either}
 use Rattle.heavy_windows.proofs.Standing.{fresh_window, opened_at}
-use Rattle.heavy_windows.proofs.Tenants.{PutsWindows, kept_of, put_in, put_at, put_kept, put_others, put_back, same_changes}
+use Rattle.heavy_windows.proofs.Tenants.{PutsWindows, kept_of, put_in, put_at, put_kept, put_others_of, put_back, same_changes}
 use Rattle.heavy_windows.proofs.heavy_windows.HeavyWindows.turn.Given as given
 use Rattle.heavy_windows.proofs.heavy_windows.HeavyWindows.turn.Goals as goal
 
@@ -56,10 +56,7 @@ pub returns-clause-state : goal.returns-clause-state
 returns-clause-state g c = invariant_of-self-2 g c
 
 pub returns-clause-others : goal.returns-clause-others
-returns-clause-others g c =
-    let old : WindowsState g.row.T.Denot = record { limit = c.self.inside.limit; max_map_size = c.self.inside.max_map_size; tenants = c.self.inside.tenants.entries } in
-    let new : WindowsState g.row.T.Denot = record { limit = c.self.inside.limit; max_map_size = c.self.inside.max_map_size; tenants = (c.get_mut.follows.lender c.turn.new.self).entries } in
-    subst (λ (s : WindowsState g.row.T.Denot). OnlyChanges c.args.tenant s new) c.self.view_is (put_others c.args.tenant c.turn.new.self old new (put g c))
+returns-clause-others g c = put_others_of c.args.tenant c.turn.new.self _ c.args.self.now _ c.self.view_is (put g c)
 
 pub returns-clause-err : goal.returns-clause-err
 returns-clause-err g c =

@@ -1,4 +1,4 @@
-use Rattle.std.proofs.Common.{arith, refl, ap, subst, ◌∙◌, ◌≡◌, ◌+◌, ◌≤◌, ◌++◌, map, length, take, drop, ℤ, pos, unsigned_abs}
+use Rattle.std.proofs.Common.{arith, refl, ap, subst, ◌∙◌, ◌≡◌, ◌+◌, ◌≤◌, ◌++◌, List, map, length, take, drop, pos, unsigned_abs}
 use Rattle.std.proofs.lemmas.Int.{ints}
 use Rattle.std.proofs.lemmas.List.{take_at}
 use Rattle.sketch_countmin.specs.State.{CountState, Joins}
@@ -7,7 +7,25 @@ use Rattle.sketch_countmin.proofs.Tables.{is_state, state_shown}
 use Rattle.sketch_countmin.proofs.Updates.{length_own}
 use Rattle.sketch_countmin.proofs.Merges.{AllAdded, all_added_own, merged, joins_here, shape_own}
 use Rattle.sketch_countmin.proofs.Standing.{stands_joined}
+use Rattle.sketch_countmin.proofs.count_min_sketch.CountMinSketch.merge.Given as given
 use Rattle.sketch_countmin.proofs.count_min_sketch.CountMinSketch.merge.Goals as goal
+use Rattle.sketch_countmin.proofs.count_min_sketch.CountMinSketch.merge.Goals.{After-add_all}
+
+-- the cells that the loop leaves
+abbrev new_counts : (g : given.Over) → After-add_all g → List g.row.T.Denot
+new_counts g c = take c.self.inside.counts.len (c.add_all.new.counts ++ drop (length c.add_all.new.counts) c.self.inside.counts.items)
+
+same_counts : (g : given.Over) (c : After-add_all g) → new_counts g c ≡ c.add_all.new.counts
+same_counts g c = take_at c.add_all.new.counts (drop (length c.add_all.new.counts) c.self.inside.counts.items) c.self.inside.counts.len (c.add_all.auto.counts ∙ c.deref_mut.ensures.len)
+
+-- are the sums of both
+added : (g : given.Over) (c : After-add_all g) → let number = g.T.CountMinValue.number in AllAdded (map number c.self.inside.counts.items) (map number c.other.inside.counts.items) (map number (new_counts g c))
+added g c =
+    all_added_own g.T.CountMinValue.number c.self.inside.counts.items c.deref_mut.result.now c.add_all.new.counts (new_counts g c) c.other.inside.counts.items c.deref.result.now c.deref_mut.ensures.value (same_counts g c) c.deref.ensures.value c.add_all.ensures
+
+-- and so is the total
+sum : (g : given.Over) (c : After-add_all g) → let number = g.T.CountMinValue.number in number c.in-Some.total ≡ pos (unsigned_abs (number c.self.inside.total) + unsigned_abs (number c.other.inside.total))
+sum g c = omega (arith, ints, c.in-Some.ensures.0, c.self.invariant.total_is, c.other.invariant.total_is)
 
 pub returns-then-not-has_shape_of-clause-state : goal.returns-then-not-has_shape_of-clause-state
 returns-then-not-has_shape_of-clause-state g c = state_shown _ _ _ _ _ _ _ c.self.view_is c.self.invariant
@@ -18,33 +36,20 @@ returns-in_default-clause-state g c = state_shown _ _ _ _ _ _ _ c.self.view_is c
 pub invariant_of-self : goal.invariant_of-self
 invariant_of-self g c =
     let number = g.T.CountMinValue.number in
-    let i = c.self.inside in
-    let o = c.other.inside in
-    let after = c.add_all.new.counts in
-    let whole = take i.counts.len (after ++ drop (length after) i.counts.items) in
-    let t : ℤ = number c.in-Some.total in
-    let same : whole ≡ after = take_at after (drop (length after) i.counts.items) i.counts.len (c.add_all.auto.counts ∙ c.deref_mut.ensures.len) in
-    let added : AllAdded (map number i.counts.items) (map number o.counts.items) (map number whole) = all_added_own number i.counts.items c.deref_mut.result.now after whole o.counts.items c.deref.result.now c.deref_mut.ensures.value same c.deref.ensures.value c.add_all.ensures in
-    let sum : t ≡ pos (unsigned_abs (number i.total) + unsigned_abs (number o.total)) = omega (arith, ints, c.in-Some.ensures.0, c.self.invariant.total_is, c.other.invariant.total_is) in
-    let fits : unsigned_abs t ≤ g.T.CountMinValue.greatest = omega (arith, ints, sum, c.in-Some.ensures.0, c.in-Some.ensures.1.1) in
-    merged _ _ _ _ (number i.total) t (number o.total) (map number i.counts.items) (map number o.counts.items) (map number whole) c.self.invariant c.other.invariant.bounded added
-    (length_own number i.counts.items c.deref_mut.result.now after whole c.deref_mut.ensures.value same c.add_all.auto.counts) sum fits
+    let now = (goal.at.invariant_of-self g c).After-add_all in
+    let fits : unsigned_abs (number c.in-Some.total) ≤ g.T.CountMinValue.greatest = omega (arith, ints, sum g now, c.in-Some.ensures.0, c.in-Some.ensures.1.1) in
+    merged _ _ _ _ (number c.self.inside.total) (number c.in-Some.total) (number c.other.inside.total) (map number c.self.inside.counts.items) (map number c.other.inside.counts.items) _ c.self.invariant c.other.invariant.bounded (added g now)
+    (length_own number c.self.inside.counts.items c.deref_mut.result.now c.add_all.new.counts _ c.deref_mut.ensures.value (same_counts g now) c.add_all.auto.counts) (sum g now) fits
 
 pub returns-clause-joined : goal.returns-clause-joined
 returns-clause-joined g c =
     let number = g.T.CountMinValue.number in
     let i = c.self.inside in
-    let o = c.other.inside in
-    let after = c.add_all.new.counts in
-    let whole = take i.counts.len (after ++ drop (length after) i.counts.items) in
-    let t : ℤ = number c.in-Some.total in
-    let same : whole ≡ after = take_at after (drop (length after) i.counts.items) i.counts.len (c.add_all.auto.counts ∙ c.deref_mut.ensures.len) in
-    let added : AllAdded (map number i.counts.items) (map number o.counts.items) (map number whole) = all_added_own number i.counts.items c.deref_mut.result.now after whole o.counts.items c.deref.result.now c.deref_mut.ensures.value same c.deref.ensures.value c.add_all.ensures in
-    let sum : t ≡ pos (unsigned_abs (number i.total) + unsigned_abs (number o.total)) = omega (arith, ints, c.in-Some.ensures.0, c.self.invariant.total_is, c.other.invariant.total_is) in
-    let new : CountState = state_of i.row_seeds.items i.buckets i.seed t (map number whole) in
+    let now = (goal.at.returns-clause-joined g c).After-add_all in
+    let new : CountState = state_of i.row_seeds.items i.buckets i.seed (number c.in-Some.total) (map number (new_counts g now)) in
     subst (λ (s : CountState). Joins s c.args.other.now new) c.self.view_is
     (subst (λ (s : CountState). Joins (state_of i.row_seeds.items i.buckets i.seed (number i.total) (map number i.counts.items)) s new) c.other.view_is
-    (joins_here _ _ _ _ _ _ (number i.total) t (number o.total) (map number i.counts.items) (map number o.counts.items) (map number whole) (shape_own _ _ _ _ c.self.view_is c.other.view_is (c.if-not-has_shape_of.ensures.0 refl)) added (ap unsigned_abs sum)))
+    (joins_here _ _ _ _ _ _ (number i.total) (number c.in-Some.total) (number c.other.inside.total) (map number i.counts.items) (map number c.other.inside.counts.items) _ (shape_own _ _ _ _ c.self.view_is c.other.view_is (c.if-not-has_shape_of.ensures.0 refl)) (added g now) (ap unsigned_abs (sum g now))))
 
 pub returns-clause-state : goal.returns-clause-state
 returns-clause-state g c = is_state _ _ _ _ _ _ (invariant_of-self g c)

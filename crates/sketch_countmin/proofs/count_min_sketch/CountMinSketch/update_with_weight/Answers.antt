@@ -9,11 +9,35 @@ use Rattle.sketch_countmin.specs.Table.{state_of}
 use Rattle.sketch_countmin.proofs.Tables.{is_state}
 use Rattle.sketch_countmin.proofs.Updates.{rows_added_own, length_own, room_here, updated, counts_here}
 use Rattle.sketch_countmin.proofs.Standing.{stands_counted}
+use Rattle.sketch_countmin.proofs.count_min_sketch.CountMinSketch.update_with_weight.Given as given
 use Rattle.sketch_countmin.proofs.count_min_sketch.CountMinSketch.update_with_weight.Goals as goal
+use Rattle.sketch_countmin.proofs.count_min_sketch.CountMinSketch.update_with_weight.Goals.{After-add_to_rows}
 
 -- the new total, by the old one of the parts
 total_sum : (s u : CountState) (w t : ℤ) → s ≡ u → t ≡ pos (u.total + unsigned_abs w) → t ≡ pos (s.total + unsigned_abs w)
 total_sum s u w t e h = h ∙ ap (λ (v : CountState). pos (v.total + unsigned_abs w)) (sym e)
+
+-- the cells that the loop leaves
+abbrev new_counts : (g : given.Over) → After-add_to_rows g → List g.row.T.Denot
+new_counts g c = take c.self.inside.counts.len (c.add_to_rows.new.counts ++ drop (length c.add_to_rows.new.counts) c.self.inside.counts.items)
+
+same_counts : (g : given.Over) (c : After-add_to_rows g) → new_counts g c ≡ c.add_to_rows.new.counts
+same_counts g c = take_at c.add_to_rows.new.counts (drop (length c.add_to_rows.new.counts) c.self.inside.counts.items) c.self.inside.counts.len (c.add_to_rows.auto.counts ∙ c.deref_mut.ensures.len)
+
+-- have the weight added in each row
+added : (g : given.Over) (c : After-add_to_rows g) → let i = c.self.inside in let number = g.T.CountMinValue.number in
+    RowsAdded i.buckets (number c.args.weight) (λ r. bucket_by i.buckets (slice_index i.row_seeds.items r) (fed_bytes g.I.Hash.hash_input c.args.item)) (length i.row_seeds.items) (map number i.counts.items) (map number (new_counts g c))
+added g c =
+    let i = c.self.inside in
+    rows_added_own g.T.CountMinValue.number i.buckets (g.T.CountMinValue.number c.args.weight) (fed_bytes g.I.Hash.hash_input c.args.item) i.row_seeds.items c.deref.result.now i.counts.items c.deref_mut.result.now c.add_to_rows.new.counts (new_counts g c)
+    c.deref.ensures.value c.deref_mut.ensures.value (same_counts g c) c.add_to_rows.ensures
+
+-- and so has the total
+sum : (g : given.Over) (c : After-add_to_rows g) → let number = g.T.CountMinValue.number in number c.in_ok-total.total ≡ pos (unsigned_abs (number c.self.inside.total) + unsigned_abs (number c.args.weight))
+sum g c = total_sum _ _ (g.T.CountMinValue.number c.args.weight) _ c.self.view_is c.in_ok-total.ensures.sum
+
+fits : (g : given.Over) (c : After-add_to_rows g) → unsigned_abs (g.T.CountMinValue.number c.in_ok-total.total) ≤ g.T.CountMinValue.greatest
+fits g c = omega (arith, ints, c.in_ok-total.ensures.sum, c.in_ok-total.ensures.fits)
 
 pub add_to_rows-requires-clause-room : goal.add_to_rows-requires-clause-room
 add_to_rows-requires-clause-room g c =
@@ -29,34 +53,18 @@ pub invariant_of-self : goal.invariant_of-self
 invariant_of-self g c =
     let number = g.T.CountMinValue.number in
     let i = c.self.inside in
-    let w : ℤ = number c.args.weight in
-    let bytes : List ℕ = fed_bytes g.I.Hash.hash_input c.args.item in
-    let after = c.add_to_rows.new.counts in
-    let whole = take i.counts.len (after ++ drop (length after) i.counts.items) in
-    let t : ℤ = number c.in_ok-total.total in
-    let same : whole ≡ after = take_at after (drop (length after) i.counts.items) i.counts.len (c.add_to_rows.auto.counts ∙ c.deref_mut.ensures.len) in
-    let added : RowsAdded i.buckets w (λ r. bucket_by i.buckets (slice_index i.row_seeds.items r) bytes) (length i.row_seeds.items) (map number i.counts.items) (map number whole) =
-    rows_added_own number i.buckets w bytes i.row_seeds.items c.deref.result.now i.counts.items c.deref_mut.result.now after whole c.deref.ensures.value c.deref_mut.ensures.value same c.add_to_rows.ensures in
-    let sum : t ≡ pos (unsigned_abs (number i.total) + unsigned_abs w) = total_sum _ _ w t c.self.view_is c.in_ok-total.ensures.sum in
-    let fits : unsigned_abs t ≤ g.T.CountMinValue.greatest = omega (arith, ints, c.in_ok-total.ensures.sum, c.in_ok-total.ensures.fits) in
-    updated _ _ _ _ (number i.total) t (map number i.counts.items) (map number whole) _ w c.self.invariant added
-    (length_own number i.counts.items c.deref_mut.result.now after whole c.deref_mut.ensures.value same c.add_to_rows.auto.counts) sum fits
+    let now = (goal.at.invariant_of-self g c).After-add_to_rows in
+    updated _ _ _ _ (number i.total) (number c.in_ok-total.total) (map number i.counts.items) _ _ (number c.args.weight) c.self.invariant (added g now)
+    (length_own number i.counts.items c.deref_mut.result.now c.add_to_rows.new.counts _ c.deref_mut.ensures.value (same_counts g now) c.add_to_rows.auto.counts) (sum g now) (fits g now)
 
 pub returns-clause-counted : goal.returns-clause-counted
 returns-clause-counted g c =
     let number = g.T.CountMinValue.number in
     let i = c.self.inside in
-    let w : ℤ = number c.args.weight in
     let bytes : List ℕ = fed_bytes g.I.Hash.hash_input c.args.item in
-    let after = c.add_to_rows.new.counts in
-    let whole = take i.counts.len (after ++ drop (length after) i.counts.items) in
-    let t : ℤ = number c.in_ok-total.total in
-    let same : whole ≡ after = take_at after (drop (length after) i.counts.items) i.counts.len (c.add_to_rows.auto.counts ∙ c.deref_mut.ensures.len) in
-    let added : RowsAdded i.buckets w (λ r. bucket_by i.buckets (slice_index i.row_seeds.items r) bytes) (length i.row_seeds.items) (map number i.counts.items) (map number whole) =
-    rows_added_own number i.buckets w bytes i.row_seeds.items c.deref.result.now i.counts.items c.deref_mut.result.now after whole c.deref.ensures.value c.deref_mut.ensures.value same c.add_to_rows.ensures in
-    let sum : t ≡ pos (unsigned_abs (number i.total) + unsigned_abs w) = total_sum _ _ w t c.self.view_is c.in_ok-total.ensures.sum in
-    subst (λ (s : CountState). Counts s bytes w (state_of i.row_seeds.items i.buckets i.seed t (map number whole))) c.self.view_is
-    (counts_here _ _ _ _ (number i.total) t (map number i.counts.items) (map number whole) bytes w c.self.invariant added (ap unsigned_abs sum))
+    let now = (goal.at.returns-clause-counted g c).After-add_to_rows in
+    subst (λ (s : CountState). Counts s bytes (number c.args.weight) (state_of i.row_seeds.items i.buckets i.seed (number c.in_ok-total.total) (map number (new_counts g now)))) c.self.view_is
+    (counts_here _ _ _ _ (number i.total) (number c.in_ok-total.total) (map number i.counts.items) _ bytes (number c.args.weight) c.self.invariant (added g now) (ap unsigned_abs (sum g now)))
 
 pub returns-clause-state : goal.returns-clause-state
 returns-clause-state g c = is_state _ _ _ _ _ _ (invariant_of-self g c)

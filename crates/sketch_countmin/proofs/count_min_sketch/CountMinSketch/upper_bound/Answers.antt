@@ -1,13 +1,15 @@
-use Rattle.std.proofs.Common.{arith, ap, subst, ◌∙◌, sym, ◌≡◌, ℕ, ◌*◌, ◌/◌, ◌<◌, ◌≤◌, ◌^◌, ℤ, pos, ◌+ℤ◌, unsigned_abs, List, to_z, of_z}
+use Rattle.std.proofs.Common.{arith, ap, subst, ◌∙◌, sym, ◌≡◌, ℕ, ◌*◌, ◌/◌, ◌<◌, ◌≤◌, ◌^◌, ℤ, pos, ◌+ℤ◌, unsigned_abs, to_z, of_z}
 use Rattle.std.specs.Prelude.{◌≤ℤ◌}
 use Rattle.std.specs.Int.{w128}
 use Rattle.std.proofs.Math.Nat.{div-le_self}
 use Rattle.std.proofs.lemmas.Int.{ints}
 use Rattle.sketch_base.specs.Hashes.{fed_bytes}
 use Rattle.sketch_countmin.specs.Values.{InRange}
-use Rattle.sketch_countmin.specs.State.{margin}
+use Rattle.sketch_countmin.specs.State.{IsLeastCell, margin}
 use Rattle.sketch_countmin.proofs.Estimates.{least_unique, min_below, min_above}
+use Rattle.sketch_countmin.proofs.count_min_sketch.CountMinSketch.upper_bound.Given as given
 use Rattle.sketch_countmin.proofs.count_min_sketch.CountMinSketch.upper_bound.Goals as goal
+use Rattle.sketch_countmin.proofs.count_min_sketch.CountMinSketch.upper_bound.Goals.{After-from_number}
 
 -- what the code computes, without the casts
 sum_is : (x y : ℤ) (t d : ℕ) → x ≡ pos t → unsigned_abs x < 2 ^ 64 → unsigned_abs y < 2 ^ 64
@@ -20,28 +22,30 @@ sum_is x y t d total small narrow =
     let plain : to_z w128 (of_z w128 (to_z w128 (of_z w128 y) +ℤ to_z w128 q)) ≡ y +ℤ pos q = omega (arith, ints, below, fits, narrow) in
     ap (λ (n : ℕ). to_z w128 (of_z w128 (to_z w128 (of_z w128 y) +ℤ to_z w128 (n * 2718281828459045235 / d)))) whole ∙ plain
 
+-- the least cell is the one that the code found
+found : (g : given.Over) (c : After-from_number g) (estimate : ℤ) → IsLeastCell c.args.self.now (fed_bytes g.I.Hash.hash_input c.args.item) estimate → c.to_number-2.result ≡ estimate
+found g c estimate least =
+    c.to_number-2.ensures.value ∙ least_unique c.args.self.now (fed_bytes g.I.Hash.hash_input c.args.item) (g.T.CountMinValue.number c.estimate.result) estimate c.estimate.ensures.least least
+
+-- and the sum is that of the estimate and the margin
+sum : (g : given.Over) (c : After-from_number g) (estimate : ℤ) → IsLeastCell c.args.self.now (fed_bytes g.I.Hash.hash_input c.args.item) estimate
+    → to_z w128 (of_z w128 (to_z w128 (of_z w128 c.to_number-2.result) +ℤ to_z w128 (unsigned_abs (to_z w128 (of_z w128 c.to_number.result)) * 2718281828459045235 / (1000000000000000000 * c.divisor.result)))) ≡ estimate +ℤ pos (margin c.args.self.now)
+sum g c estimate least =
+    let total : ℕ = unsigned_abs (g.T.CountMinValue.number c.self.inside.total) in
+    let fraction : total * 2718281828459045235 / (1000000000000000000 * c.divisor.result) ≡ margin c.args.self.now =
+    ap (λ (d : ℕ). total * 2718281828459045235 / (1000000000000000000 * d)) c.divisor.ensures.value ∙ ap margin c.self.view_is in
+    sum_is c.to_number.result c.to_number-2.result total (1000000000000000000 * c.divisor.result) (c.to_number.ensures.value ∙ c.self.invariant.total_is) c.to_number.ensures.narrow c.to_number-2.ensures.narrow
+    ∙ (ap (λ (n : ℕ). c.to_number-2.result +ℤ pos n) fraction ∙ ap (λ (z : ℤ). z +ℤ pos (margin c.args.self.now)) (found g c estimate least))
+
 pub returns-in-Some : goal.returns-in-Some
 returns-in-Some g c = λ estimate least.
-    let number = g.T.CountMinValue.number in
-    let bytes : List ℕ = fed_bytes g.I.Hash.hash_input c.args.item in
-    let found : number c.estimate.result ≡ estimate = least_unique c.args.self.now bytes (number c.estimate.result) estimate c.estimate.ensures.least least in
-    let code = sum_is c.to_number.result c.to_number-2.result (unsigned_abs (number c.self.inside.total)) (1000000000000000000 * c.divisor.result) (c.to_number.ensures.value ∙ c.self.invariant.total_is) c.to_number.ensures.narrow c.to_number-2.ensures.narrow in
-    let fraction : unsigned_abs (number c.self.inside.total) * 2718281828459045235 / (1000000000000000000 * c.divisor.result) ≡ margin c.args.self.now =
-    ap (λ (d : ℕ). unsigned_abs (number c.self.inside.total) * 2718281828459045235 / (1000000000000000000 * d)) c.divisor.ensures.value ∙ ap margin c.self.view_is in
-    let sum : number c.in-Some.value ≡ estimate +ℤ pos (margin c.args.self.now) =
-    c.in-Some.ensures.0 ∙ (code ∙ (ap (λ (n : ℕ). c.to_number-2.result +ℤ pos n) fraction ∙ ap (λ (z : ℤ). z +ℤ pos (margin c.args.self.now)) (c.to_number-2.ensures.value ∙ found))) in
-    min_below (number c.in-Some.value) (estimate +ℤ pos (margin c.args.self.now)) (pos g.T.CountMinValue.greatest) sum (subst (λ (z : ℤ). z ≤ℤ pos g.T.CountMinValue.greatest) (sym c.in-Some.ensures.0) c.in-Some.ensures.1.1)
+    let now = (goal.at.returns-in-Some g c).After-from_number in
+    min_below (g.T.CountMinValue.number c.in-Some.value) (estimate +ℤ pos (margin c.args.self.now)) (pos g.T.CountMinValue.greatest) (c.in-Some.ensures.0 ∙ sum g now estimate least)
+    (subst (λ (z : ℤ). z ≤ℤ pos g.T.CountMinValue.greatest) (sym c.in-Some.ensures.0) c.in-Some.ensures.1.1)
 
 pub returns-in-None : goal.returns-in-None
 returns-in-None g c = λ estimate least.
-    let number = g.T.CountMinValue.number in
-    let bytes : List ℕ = fed_bytes g.I.Hash.hash_input c.args.item in
-    let found : number c.estimate.result ≡ estimate = least_unique c.args.self.now bytes (number c.estimate.result) estimate c.estimate.ensures.least least in
-    let code = sum_is c.to_number.result c.to_number-2.result (unsigned_abs (number c.self.inside.total)) (1000000000000000000 * c.divisor.result) (c.to_number.ensures.value ∙ c.self.invariant.total_is) c.to_number.ensures.narrow c.to_number-2.ensures.narrow in
-    let fraction : unsigned_abs (number c.self.inside.total) * 2718281828459045235 / (1000000000000000000 * c.divisor.result) ≡ margin c.args.self.now =
-    ap (λ (d : ℕ). unsigned_abs (number c.self.inside.total) * 2718281828459045235 / (1000000000000000000 * d)) c.divisor.ensures.value ∙ ap margin c.self.view_is in
-    let sum = code ∙ (ap (λ (n : ℕ). c.to_number-2.result +ℤ pos n) fraction ∙ ap (λ (z : ℤ). z +ℤ pos (margin c.args.self.now)) (c.to_number-2.ensures.value ∙ found)) in
-    let same : c.to_number-2.result ≡ estimate = c.to_number-2.ensures.value ∙ found in
-    let low : g.T.CountMinValue.least ≤ℤ (estimate +ℤ pos (margin c.args.self.now)) = omega (arith, ints, same, c.to_number-2.ensures.in_range.0, c.to_number-2.ensures.value) in
-    ap number c.MAX.ensures ∙ (g.met.T.CountMinValue.max_is
-    ∙ min_above g.T.CountMinValue.least (estimate +ℤ pos (margin c.args.self.now)) g.T.CountMinValue.greatest low (λ fits. c.in-None.ensures (subst (λ (z : ℤ). InRange g.T.CountMinValue.least g.T.CountMinValue.greatest z) (sym sum) fits)))
+    let now = (goal.at.returns-in-None g c).After-from_number in
+    let low : g.T.CountMinValue.least ≤ℤ (estimate +ℤ pos (margin c.args.self.now)) = omega (arith, ints, found g now estimate least, c.to_number-2.ensures.in_range.0, c.to_number-2.ensures.value) in
+    ap g.T.CountMinValue.number c.MAX.ensures ∙ (g.met.T.CountMinValue.max_is
+    ∙ min_above g.T.CountMinValue.least (estimate +ℤ pos (margin c.args.self.now)) g.T.CountMinValue.greatest low (λ fits. c.in-None.ensures (subst (λ (z : ℤ). InRange g.T.CountMinValue.least g.T.CountMinValue.greatest z) (sym (sum g now estimate least)) fits)))
