@@ -1,4 +1,5 @@
 pub mod Names
+pub mod Lending
 pub mod Replies
 pub mod Refusals
 pub mod Actions

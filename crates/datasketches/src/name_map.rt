@@ -1,6 +1,9 @@
 //! Values under names.
 ghost use Rattle.std.specs.Prelude.{◌≡◌, [], None, Some, string_bytes, MatchOption, OnOk, OnErr, IfErr};
 ghost use Rattle.sketch_base.specs.Errors.{no_memory};
+ghost use Rattle.std.specs.Borrow.{sem};
+ghost use Rattle.std.specs.Option.{option_copied_mut};
+ghost use Rattle.datasketches.specs.Lending.{LendsValue};
 ghost use Rattle.datasketches.specs.Names.{at_name, place_of, Puts, AreSame};
 
 use sketch_base::Error;
@@ -57,6 +60,18 @@ impl<V: Drop> NameMap<V> {
         match place_of(&self.places, name) {
             None => None,
             Some(place) => Some(&self.values[place]),
+        }
+    }
+
+    /// The value of the name for writing, if there is one.
+    #[inline(always)]
+    pub fn get_mut(&mut self, name: &str) -> Option<&mut V>
+        ensures* writes_back { sem 𝓛 (LendsValue V.row self.entry name.now result) }
+        ensures value { option_copied_mut result ≡ at_name name.now self.old }
+    {
+        match place_of(&self.places, name) {
+            None => None,
+            Some(place) => Some(&mut self.values[place]),
         }
     }
 

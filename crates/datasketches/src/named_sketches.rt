@@ -22,10 +22,10 @@ impl<T: Eq + Hash + Drop> NameMap<Sketch<T>> {
     ) -> Result<(), Refusal>
         ensures { ChangesNamed T.eq T.hash_input change name.now self.old (done_or result) self.new }
     {
-        match place_of(&self.places, name) {
-            None => Err(Refusal::NoSuchName),
-            Some(place) => self.values[place].change(change, recycled),
-        }
+        let Some(sketch) = self.get_mut(name) else {
+            return Err(Refusal::NoSuchName);
+        };
+        sketch.change(change, recycled)
     }
 }
 

@@ -13,7 +13,7 @@ use crate::reply::write_answer;
 use crate::request::Request;
 use crate::serve::Stopped;
 use crate::serving::Serving;
-use datasketches::{Command, Spare};
+use datasketches::{Command, Recycled};
 use std::alloc::Global;
 
 /// What became of a line.
@@ -34,7 +34,7 @@ pub struct Answering {
     /// What does as the lines ask.
     serving: Serving,
     /// The memory of names and items that an earlier line left.
-    spare: Spare<String>,
+    spare: Recycled<String>,
     /// The answers that were gathered, and are not written yet.
     pub replies: String,
 }
@@ -48,7 +48,7 @@ impl Answering {
         Answering {
             alloc,
             serving: Serving::new(alloc),
-            spare: Spare::new(),
+            spare: Recycled::new(),
             replies: String::new(alloc),
         }
     }

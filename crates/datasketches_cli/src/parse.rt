@@ -7,7 +7,7 @@ ghost use Rattle.datasketches_cli.specs.Said.{AreCountsOf, IsCommandOf, IsWindow
 use crate::request::Request;
 use crate::search::first_place;
 use datasketches::frequencies::ErrorType;
-use datasketches::{Command, Spare};
+use datasketches::{Command, Recycled};
 use std::alloc::{AllocError, Global};
 
 /// The first word of a command.
@@ -174,7 +174,7 @@ pub fn command_of(
     verb: Verb,
     name: &str,
     words: &[&str],
-    spare: &mut Spare<String>,
+    spare: &mut Recycled<String>,
 ) -> Made
     ensures { IfOk result (IsCommandOf verb name.now (texts_of words.now)) }
 {
@@ -307,7 +307,7 @@ pub fn change(
     edit: Edit,
     name: &str,
     words: &[&str],
-    spare: &mut Spare<String>,
+    spare: &mut Recycled<String>,
 ) -> Made
     ensures { IfOk result (IsCommandOf (Verb.Change edit) name.now (texts_of words.now)) }
 {
@@ -322,7 +322,7 @@ pub fn change(
 }
 
 #[inline(always)]
-pub fn add(alloc: Global, name: &str, words: &[&str], spare: &mut Spare<String>) -> Made
+pub fn add(alloc: Global, name: &str, words: &[&str], spare: &mut Recycled<String>) -> Made
     ensures { IfOk result (IsCommandOf (Verb.Change Edit.Add) name.now (texts_of words.now)) }
 {
     let [weight, item] = words else {
@@ -336,7 +336,7 @@ pub fn add(alloc: Global, name: &str, words: &[&str], spare: &mut Spare<String>)
     Ok(Some(Command::Add { name, item, weight }))
 }
 
-fn add_signed(alloc: Global, name: &str, words: &[&str], spare: &mut Spare<String>) -> Made
+fn add_signed(alloc: Global, name: &str, words: &[&str], spare: &mut Recycled<String>) -> Made
     ensures { IfOk result (IsCommandOf (Verb.Change Edit.AddSigned) name.now (texts_of words.now)) }
 {
     let [weight, item] = words else {
@@ -351,7 +351,7 @@ fn add_signed(alloc: Global, name: &str, words: &[&str], spare: &mut Spare<Strin
 }
 
 #[inline(always)]
-pub fn insert(alloc: Global, name: &str, words: &[&str], spare: &mut Spare<String>) -> Made
+pub fn insert(alloc: Global, name: &str, words: &[&str], spare: &mut Recycled<String>) -> Made
     ensures { IfOk result (IsCommandOf (Verb.Change Edit.Insert) name.now (texts_of words.now)) }
 {
     let [item] = words else {
@@ -448,7 +448,7 @@ fn image(alloc: Global, name: &str, words: &[&str]) -> Made
 }
 
 #[inline(always)]
-pub fn ask(alloc: Global, name: &str, words: &[&str], spare: &mut Spare<String>) -> Made
+pub fn ask(alloc: Global, name: &str, words: &[&str], spare: &mut Recycled<String>) -> Made
     ensures { IfOk result (IsCommandOf Verb.Ask name.now (texts_of words.now)) }
 {
     let [item] = words else {
