@@ -17,7 +17,7 @@ use Rattle.datasketches_cli.specs.Grammar.{words_of, verb_word, Make, MakeRest, 
 use Rattle.datasketches_cli.specs.Asking.{Ask, Says}
 use Rattle.datasketches_cli.specs.declared.request.Request.{Request}
 use Rattle.datasketches_cli.specs.declared.request.Request.TheVariants as request
-use Rattle.datasketches_cli.specs.Said.{IsCommandOf, texts_of}
+use Rattle.datasketches_cli.specs.Parsing.{IsCommandOf, texts_of}
 
 -- words that are no numbers of a Count-Min sketch make no command for one
 pub no_signed : (words : List (List ℕ)) → ((hashes buckets seed : ℕ) → ¬ AreCounts words hashes buckets seed) → (made : Command Text) → ¬ MakeRest (verb.Create kind.CountI64) words made

@@ -1,13 +1,15 @@
 //! Words to requests.
-ghost use Rattle.std.specs.Prelude.{◌≡◌, ◌≤◌, ◌^◌, [], ◌∷◌, IfOk, string_bytes, codes, length, take};
-ghost use Rattle.datasketches_cli.specs.Grammar.{words_of, number_below, signed_number};
-ghost use Rattle.datasketches_cli.specs.Said.{IsVerbOf, IsReportOf, texts_of};
-ghost use Rattle.datasketches_cli.specs.Said.{AreCountsOf, IsCommandOf, IsWindowsRequestOf, with_word};
+ghost use Rattle.std.specs.Prelude.{◌≡◌, ◌∷◌, IfOk, string_bytes, codes};
+ghost use Rattle.datasketches_cli.specs.Parsing.{IsVerbOf, IsReportOf, texts_of};
+ghost use Rattle.datasketches_cli.specs.Parsing.{AreCountsOf, IsCommandOf, IsWindowsRequestOf};
+
+mod number;
+pub mod words;
 
 use crate::request::Request;
-use crate::search::first_place;
 use datasketches::frequencies::ErrorType;
 use datasketches::{Command, Spare};
+use number::{number_of, number_of_u8, number_of_u16, number_of_u32, signed_number};
 use std::alloc::{AllocError, Global};
 
 /// The first word of a command.
@@ -54,17 +56,14 @@ pub enum JoinKind {
     Difference,
 }
 
-/// How many words of a line are looked at: one more than the longest command has.
-pub const MOST_WORDS: usize = 6;
-
 /// The request that some words make, if they make one.
-pub type Asked = Result<Option<Request>, AllocError>;
+pub type ParsedRequest = Result<Option<Request>, AllocError>;
 
 /// The command that some words make, if they make one.
-pub type Made = Result<Option<Command<String>>, AllocError>;
+pub type ParsedCommand = Result<Option<Command<String>>, AllocError>;
 
 /// The request on windows that the words make.
-pub fn windows_request_of(alloc: Global, words: &[&str]) -> Asked
+pub fn windows_request_of(alloc: Global, words: &[&str]) -> ParsedRequest
     ensures { IfOk result (IsWindowsRequestOf (texts_of words.now)) }
 {
     let [verb, rest @ ..] = words else {
@@ -93,7 +92,7 @@ fn windows(words: &[&str]) -> Option<Request>
 }
 
 /// The same of `hadd`.
-fn hadd(alloc: Global, words: &[&str]) -> Asked
+fn hadd(alloc: Global, words: &[&str]) -> ParsedRequest
     ensures { IfOk result (IsWindowsRequestOf (codes "hadd" ∷ texts_of words.now)) }
 {
     let [tenant, weight, item] = words else {
@@ -136,38 +135,6 @@ fn hreport(words: &[&str]) -> Option<Request>
     })
 }
 
-/// Puts the first words of a text, which stand between spaces, into an array. Answers how many there are.
-pub fn first_words<'a>(text: &'a str, words: &mut [&'a str; MOST_WORDS]) -> usize
-    ensures few { result ≤ length words.new }
-    ensures words { texts_of (take result words.new) ≡ take MOST_WORDS (words_of text.now) }
-{
-    let mut count = 0;
-    let mut rest = text;
-    while count < MOST_WORDS {
-        let (word, after) = next_word(rest);
-        if word.is_empty() {
-            return count;
-        }
-        words[count] = word;
-        count += 1;
-        rest = after;
-    }
-    count
-}
-
-/// The first word of a text, which is empty where there is none, and the text after it.
-fn next_word(text: &str) -> (&str, &str)
-    ensures { words_of text.now ≡ with_word result.0.now (words_of result.1.now) }
-{
-    let bytes = text.as_bytes();
-    let mut start = 0;
-    while start < bytes.len() && bytes[start] == b' ' {
-        start += 1;
-    }
-    let (_, text) = text.split_at(start);
-    text.split_at(first_place(b' ', text.as_bytes()))
-}
-
 /// The command of a verb and a name.
 pub fn command_of(
     alloc: Global,
@@ -175,7 +142,7 @@ pub fn command_of(
     name: &str,
     words: &[&str],
     spare: &mut Spare<String>,
-) -> Made
+) -> ParsedCommand
     ensures { IfOk result (IsCommandOf verb name.now (texts_of words.now)) }
 {
     match verb {
@@ -222,7 +189,7 @@ pub fn verb_of(word: &str) -> Option<Verb>
     }
 }
 
-fn create(alloc: Global, kind: Kind, name: &str, words: &[&str]) -> Made
+fn create(alloc: Global, kind: Kind, name: &str, words: &[&str]) -> ParsedCommand
     ensures { IfOk result (IsCommandOf (Verb.Create kind) name.now (texts_of words.now)) }
 {
     match kind {
@@ -308,7 +275,7 @@ pub fn change(
     name: &str,
     words: &[&str],
     spare: &mut Spare<String>,
-) -> Made
+) -> ParsedCommand
     ensures { IfOk result (IsCommandOf (Verb.Change edit) name.now (texts_of words.now)) }
 {
     match edit {
@@ -322,7 +289,7 @@ pub fn change(
 }
 
 #[inline(always)]
-pub fn add(alloc: Global, name: &str, words: &[&str], spare: &mut Spare<String>) -> Made
+pub fn add(alloc: Global, name: &str, words: &[&str], spare: &mut Spare<String>) -> ParsedCommand
     ensures { IfOk result (IsCommandOf (Verb.Change Edit.Add) name.now (texts_of words.now)) }
 {
     let [weight, item] = words else {
@@ -336,7 +303,7 @@ pub fn add(alloc: Global, name: &str, words: &[&str], spare: &mut Spare<String>)
     Ok(Some(Command::Add { name, item, weight }))
 }
 
-fn add_signed(alloc: Global, name: &str, words: &[&str], spare: &mut Spare<String>) -> Made
+fn add_signed(alloc: Global, name: &str, words: &[&str], spare: &mut Spare<String>) -> ParsedCommand
     ensures { IfOk result (IsCommandOf (Verb.Change Edit.AddSigned) name.now (texts_of words.now)) }
 {
     let [weight, item] = words else {
@@ -351,7 +318,7 @@ fn add_signed(alloc: Global, name: &str, words: &[&str], spare: &mut Spare<Strin
 }
 
 #[inline(always)]
-pub fn insert(alloc: Global, name: &str, words: &[&str], spare: &mut Spare<String>) -> Made
+pub fn insert(alloc: Global, name: &str, words: &[&str], spare: &mut Spare<String>) -> ParsedCommand
     ensures { IfOk result (IsCommandOf (Verb.Change Edit.Insert) name.now (texts_of words.now)) }
 {
     let [item] = words else {
@@ -362,7 +329,7 @@ pub fn insert(alloc: Global, name: &str, words: &[&str], spare: &mut Spare<Strin
     Ok(Some(Command::Insert { name, item }))
 }
 
-fn reset(alloc: Global, name: &str, words: &[&str]) -> Made
+fn reset(alloc: Global, name: &str, words: &[&str]) -> ParsedCommand
     ensures { IfOk result (IsCommandOf (Verb.Change Edit.Reset) name.now (texts_of words.now)) }
 {
     if !words.is_empty() {
@@ -372,7 +339,7 @@ fn reset(alloc: Global, name: &str, words: &[&str]) -> Made
     Ok(Some(Command::Reset { name }))
 }
 
-fn halve(alloc: Global, name: &str, words: &[&str]) -> Made
+fn halve(alloc: Global, name: &str, words: &[&str]) -> ParsedCommand
     ensures { IfOk result (IsCommandOf (Verb.Change Edit.Halve) name.now (texts_of words.now)) }
 {
     if !words.is_empty() {
@@ -382,7 +349,7 @@ fn halve(alloc: Global, name: &str, words: &[&str]) -> Made
     Ok(Some(Command::Halve { name }))
 }
 
-fn decay(alloc: Global, name: &str, words: &[&str]) -> Made
+fn decay(alloc: Global, name: &str, words: &[&str]) -> ParsedCommand
     ensures { IfOk result (IsCommandOf (Verb.Change Edit.Decay) name.now (texts_of words.now)) }
 {
     let [numerator, denominator] = words else {
@@ -399,7 +366,7 @@ fn decay(alloc: Global, name: &str, words: &[&str]) -> Made
     }))
 }
 
-fn join(alloc: Global, by: JoinKind, name: &str, words: &[&str]) -> Made
+fn join(alloc: Global, by: JoinKind, name: &str, words: &[&str]) -> ParsedCommand
     ensures { IfOk result (IsCommandOf (Verb.Join by) name.now (texts_of words.now)) }
 {
     let [other] = words else {
@@ -415,7 +382,7 @@ fn join(alloc: Global, by: JoinKind, name: &str, words: &[&str]) -> Made
     }))
 }
 
-fn save(alloc: Global, name: &str, words: &[&str]) -> Made
+fn save(alloc: Global, name: &str, words: &[&str]) -> ParsedCommand
     ensures { IfOk result (IsCommandOf Verb.Save name.now (texts_of words.now)) }
 {
     let [image] = words else {
@@ -426,7 +393,7 @@ fn save(alloc: Global, name: &str, words: &[&str]) -> Made
     Ok(Some(Command::Save { name, image }))
 }
 
-fn restore(alloc: Global, image: &str, words: &[&str]) -> Made
+fn restore(alloc: Global, image: &str, words: &[&str]) -> ParsedCommand
     ensures { IfOk result (IsCommandOf Verb.Restore image.now (texts_of words.now)) }
 {
     let [name] = words else {
@@ -437,7 +404,7 @@ fn restore(alloc: Global, image: &str, words: &[&str]) -> Made
     Ok(Some(Command::Restore { image, name }))
 }
 
-fn image(alloc: Global, name: &str, words: &[&str]) -> Made
+fn image(alloc: Global, name: &str, words: &[&str]) -> ParsedCommand
     ensures { IfOk result (IsCommandOf Verb.Image name.now (texts_of words.now)) }
 {
     if !words.is_empty() {
@@ -448,7 +415,7 @@ fn image(alloc: Global, name: &str, words: &[&str]) -> Made
 }
 
 #[inline(always)]
-pub fn ask(alloc: Global, name: &str, words: &[&str], spare: &mut Spare<String>) -> Made
+pub fn ask(alloc: Global, name: &str, words: &[&str], spare: &mut Spare<String>) -> ParsedCommand
     ensures { IfOk result (IsCommandOf Verb.Ask name.now (texts_of words.now)) }
 {
     let [item] = words else {
@@ -459,7 +426,7 @@ pub fn ask(alloc: Global, name: &str, words: &[&str], spare: &mut Spare<String>)
     Ok(Some(Command::Ask { name, item }))
 }
 
-fn status(alloc: Global, name: &str, words: &[&str]) -> Made
+fn status(alloc: Global, name: &str, words: &[&str]) -> ParsedCommand
     ensures { IfOk result (IsCommandOf Verb.Status name.now (texts_of words.now)) }
 {
     if !words.is_empty() {
@@ -469,7 +436,7 @@ fn status(alloc: Global, name: &str, words: &[&str]) -> Made
     Ok(Some(Command::GetStatus { name }))
 }
 
-fn rows(alloc: Global, name: &str, words: &[&str]) -> Made
+fn rows(alloc: Global, name: &str, words: &[&str]) -> ParsedCommand
     ensures { IfOk result (IsCommandOf Verb.Rows name.now (texts_of words.now)) }
 {
     let [report, threshold] = words else {
@@ -520,61 +487,4 @@ fn error_type_of(word: &str) -> Option<ErrorType>
         "fp" => Some(ErrorType::NoFalsePositives),
         _ => None,
     }
-}
-
-/// The number that the digits of a word make, where it is one of 64 bits.
-fn number_of(word: &str) -> Option<u64>
-    ensures { result ≡ number_below (2 ^ 64) word.now }
-{
-    // most weights are of one digit
-    if let [byte] = word.as_bytes() {
-        return digit_of(*byte);
-    }
-    // std's `parse` takes a sign in front of the digits
-    if word.as_bytes().first() == Some(&b'+') {
-        return None;
-    }
-    word.parse::<u64>().ok()
-}
-
-/// The number that a digit is.
-fn digit_of(byte: u8) -> Option<u64>
-    ensures { result ≡ number_below (2 ^ 64) (byte ∷ []) }
-{
-    if byte.is_ascii_digit() {
-        Some(u64::from(byte - b'0'))
-    } else {
-        None
-    }
-}
-
-/// The same of 32 bits.
-fn number_of_u32(word: &str) -> Option<u32>
-    ensures { result ≡ number_below (2 ^ 32) word.now }
-{
-    u32::try_from(number_of(word)?).ok()
-}
-
-/// The same of 16 bits.
-fn number_of_u16(word: &str) -> Option<u16>
-    ensures { result ≡ number_below (2 ^ 16) word.now }
-{
-    u16::try_from(number_of(word)?).ok()
-}
-
-/// The same of 8 bits.
-fn number_of_u8(word: &str) -> Option<u8>
-    ensures { result ≡ number_below (2 ^ 8) word.now }
-{
-    u8::try_from(number_of(word)?).ok()
-}
-
-/// The number of 64 bits that the digits of a word make, after a minus sign or none.
-fn signed_number(word: &str) -> Option<i64>
-    ensures { result ≡ signed_number word.now }
-{
-    if word.as_bytes().first() == Some(&b'+') {
-        return None;
-    }
-    word.parse::<i64>().ok()
 }

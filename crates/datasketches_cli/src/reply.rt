@@ -6,7 +6,7 @@ ghost use Rattle.datasketches_cli.specs.Printing.{report_text, reply_text, statu
 ghost use Rattle.datasketches_cli.specs.Transcript.{answer_line};
 
 use crate::request::Answer;
-use crate::serve::Stopped;
+use crate::stopped::Stopped;
 use datasketches::frequencies::Row;
 use datasketches::{Refusal, Reply, Status};
 use heavy_windows::Report;

@@ -10,17 +10,17 @@ use std::alloc::Global;
 
 /// What the lines of one input are served by: a session, and at most one set of windows.
 #[derive(Drop)]
-pub struct Serving {
+pub struct State {
     pub session: Session<String>,
     pub windows: Option<HeavyWindows<String>>,
 }
 
-impl Serving {
+impl State {
     /// No sketch, no image and no windows. It takes no memory.
     pub fn new(alloc: Global) -> Self
         ensures { result ≡ nothing_served }
     {
-        Serving {
+        State {
             session: Session::new(alloc),
             windows: None,
         }

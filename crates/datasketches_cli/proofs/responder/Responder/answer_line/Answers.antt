@@ -1,5 +1,5 @@
 use Rattle.datasketches_cli.proofs.Verbs.{says_this}
-use Rattle.datasketches_cli.proofs.answering.Answering.answer_line.Goals as goal
+use Rattle.datasketches_cli.proofs.responder.Responder.answer_line.Goals as goal
 
 pub returns-then-branch : goal.returns-then-branch
 returns-then-branch c =

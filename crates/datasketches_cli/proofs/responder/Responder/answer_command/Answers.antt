@@ -2,7 +2,7 @@ use Rattle.std.proofs.Common.{refl, ◌∙◌, ap, arith}
 use Rattle.datasketches_cli.specs.declared.parse.Verb.TheVariants as verb
 use Rattle.datasketches_cli.proofs.Answered.{no_command, answers_to}
 use Rattle.datasketches_cli.proofs.Verbs.{none_of_one}
-use Rattle.datasketches_cli.proofs.answering.Answering.answer_command.Goals as goal
+use Rattle.datasketches_cli.proofs.responder.Responder.answer_command.Goals as goal
 
 pub returns-in_default : goal.returns-in_default
 returns-in_default c = (no_command _ (none_of_one c.args.words.now c.in_default.len_below), (refl, refl))

@@ -1,6 +1,6 @@
 use Rattle.std.proofs.Common.{◌-◌, length}
 use Rattle.datasketches_cli.proofs.Words.{HasSkipped}
-use Rattle.datasketches_cli.proofs.parse.next_word.Given as goal
+use Rattle.datasketches_cli.proofs.parse.words.next_word.Given as goal
 
 abbrev pub invariant-loop-start : goal.invariant-loop-start
 invariant-loop-start l = HasSkipped l.text l.start

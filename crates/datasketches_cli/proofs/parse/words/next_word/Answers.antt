@@ -1,8 +1,8 @@
 use Rattle.std.proofs.Common.{◌≢◌, ◌<◌, ◌∙◌, length, get_or, drop, refl, sym, ap, arith}
 use Rattle.std.proofs.lemmas.Str.{IsCharBoundary-start}
 use Rattle.datasketches_cli.proofs.Words.{skips, first_boundary, first_word, plain_after}
-use Rattle.datasketches_cli.proofs.parse.next_word.Goals as goal
-use Rattle.datasketches_cli.proofs.parse.next_word.Goals.{then-loop-start-test+else-bytes-start-eq32, else-loop-start-test}
+use Rattle.datasketches_cli.proofs.parse.words.next_word.Goals as goal
+use Rattle.datasketches_cli.proofs.parse.words.next_word.Goals.{then-loop-start-test+else-bytes-start-eq32, else-loop-start-test}
 
 pub loop-start-init : goal.loop-start-init
 loop-start-init c = (omega arith, IsCharBoundary-start c.args.text.now c.utf8.text, refl)

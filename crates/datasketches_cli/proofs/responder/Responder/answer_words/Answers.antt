@@ -1,6 +1,6 @@
 use Rattle.std.proofs.Common.{inl}
 use Rattle.datasketches_cli.proofs.Answered.{no_request}
-use Rattle.datasketches_cli.proofs.answering.Answering.answer_words.Goals as goal
+use Rattle.datasketches_cli.proofs.responder.Responder.answer_words.Goals as goal
 
 pub returns-then-branch : goal.returns-then-branch
 returns-then-branch c =

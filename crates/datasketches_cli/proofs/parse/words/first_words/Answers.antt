@@ -1,6 +1,6 @@
 use Rattle.std.proofs.Common.{rules, sym, ◌∙◌}
 use Rattle.datasketches_cli.proofs.Words.{takes_one}
-use Rattle.datasketches_cli.proofs.parse.first_words.Goals as goal
+use Rattle.datasketches_cli.proofs.parse.words.first_words.Goals as goal
 
 pub loop-count-preserved : goal.loop-count-preserved
 loop-count-preserved c = (

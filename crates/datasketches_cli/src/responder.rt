@@ -1,24 +1,22 @@
 //! Lines to answers.
 ghost use Rattle.std.specs.Prelude.{◌≡◌, [], IfOk, OnOk, string_bytes};
 ghost use Rattle.datasketches_cli.specs.Asking.{Ask, AskCommand};
-ghost use Rattle.datasketches_cli.specs.Said.{texts_of};
+ghost use Rattle.datasketches_cli.specs.Parsing.{texts_of};
 ghost use Rattle.datasketches_cli.specs.Serving.{Answers, HasAnswered, IsAnswered, IsRequest};
 ghost use Rattle.datasketches_cli.specs.Steps.{nothing_served};
 
-use crate::parse::{
-    Edit, MOST_WORDS, Verb, add, ask, change, command_of, first_words, insert, verb_of,
-    windows_request_of,
-};
+use crate::parse::words::{MOST_WORDS, first_words};
+use crate::parse::{Edit, Verb, add, ask, change, command_of, insert, verb_of, windows_request_of};
 use crate::reply::write_answer;
 use crate::request::Request;
-use crate::serve::Stopped;
-use crate::serving::Serving;
+use crate::state::State;
+use crate::stopped::Stopped;
 use datasketches::{Command, Spare};
 use std::alloc::Global;
 
 /// What became of a line.
 #[derive(Clone, Copy)]
-pub enum Line {
+pub enum LineOutcome {
     /// It has no word.
     Blank,
     /// What it asks for was done or refused, and answered.
@@ -29,47 +27,47 @@ pub enum Line {
 
 /// What the lines of one input are answered by.
 #[derive(Drop)]
-pub struct Answering {
+pub struct Responder {
     alloc: Global,
     /// What does as the lines ask.
-    serving: Serving,
+    state: State,
     /// The memory of names and items that an earlier line left.
     spare: Spare<String>,
     /// The answers that were gathered, and are not written yet.
     pub replies: String,
 }
 
-impl Answering {
+impl Responder {
     /// Before the first line. It takes no memory.
     pub fn new(alloc: Global) -> Self
-        ensures serves { result.serving ≡ nothing_served }
+        ensures serves { result.state ≡ nothing_served }
         ensures gathers { string_bytes result.replies ≡ [] }
     {
-        Answering {
+        Responder {
             alloc,
-            serving: Serving::new(alloc),
+            state: State::new(alloc),
             spare: Spare::new(),
             replies: String::new(alloc),
         }
     }
 
     /// Does what a line asks for, which stands without its end, and gathers its answer.
-    pub fn answer_line(&mut self, line: &[u8]) -> Result<Line, Stopped>
+    pub fn answer_line(&mut self, line: &[u8]) -> Result<LineOutcome, Stopped>
         ensures { IfOk result (IsAnswered line.now self.old self.new) }
     {
         let Ok(text) = str::from_utf8(line) else {
-            return Ok(Line::Bad);
+            return Ok(LineOutcome::Bad);
         };
         let mut words = [""; MOST_WORDS];
         let count = first_words(text, &mut words);
         let words = &words[..count];
         if words.is_empty() {
-            return Ok(Line::Blank);
+            return Ok(LineOutcome::Blank);
         }
         if self.answer_words(words)? {
-            Ok(Line::Answered)
+            Ok(LineOutcome::Answered)
         } else {
-            Ok(Line::Bad)
+            Ok(LineOutcome::Bad)
         }
     }
 
@@ -146,7 +144,7 @@ impl Answering {
     fn answer(&mut self, request: Request) -> Result<(), Stopped>
         ensures { OnOk result (HasAnswered request self.old self.new) }
     {
-        let answer = self.serving.apply(self.alloc, request, &mut self.spare);
+        let answer = self.state.apply(self.alloc, request, &mut self.spare);
         write_answer(self.alloc, &mut self.replies, &answer)
     }
 }
