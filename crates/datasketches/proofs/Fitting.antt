@@ -5,7 +5,7 @@ use Rattle.std.specs.Str.{bytes_eq}
 use Rattle.std.proofs.lemmas.Bool.{true≢false, false≢true}
 use Rattle.std.proofs.lemmas.Slice.Eq.{bytes_eq-Decides}
 use Rattle.sketch_base.specs.declared.fault.Fault.{Fault}
-use Rattle.datasketches.specs.Fits.{Paired}
+use Rattle.datasketches.specs.SessionStandsFor.{Paired}
 use Rattle.datasketches.specs.Histories.{History, put_at, begun, joined, of_both}
 use Rattle.datasketches.specs.Joining.{Joins}
 use Rattle.datasketches.specs.Names.{at_name, Puts, AreSame}

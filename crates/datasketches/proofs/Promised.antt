@@ -10,7 +10,7 @@ use Rattle.sketch_countmin.specs.History.{CountHistory}
 use Rattle.sketch_countmin.specs.Stands as count
 use Rattle.sketch_countmin.specs.State.{CountState, IsCountState}
 use Rattle.sketch_frequencies.specs.Items.{Codec}
-use Rattle.datasketches.specs.Fits.{Paired}
+use Rattle.datasketches.specs.SessionStandsFor.{Paired}
 use Rattle.datasketches.specs.Histories.{History}
 use Rattle.datasketches.specs.Laws.{IsNamed, IsCounted}
 use Rattle.datasketches.specs.Replies.{greatest_signed, greatest_unsigned}

@@ -9,7 +9,7 @@ use Rattle.sketch_frequencies.specs.Items.{Codec}
 use Rattle.sketch_base.specs.Errors.{ErrorValue}
 use Rattle.datasketches.specs.Actions.{action_of}
 use Rattle.datasketches.specs.Changing.{Changes}
-use Rattle.datasketches.specs.Fits.{Paired, Fits}
+use Rattle.datasketches.specs.SessionStandsFor.{Paired, SessionStandsFor}
 use Rattle.datasketches.specs.Histories.{History, Assignment, put_at, changed, restored, after_action, after_one, after}
 use Rattle.datasketches.specs.Images.{IsImageOf, IsWrittenBy, IsReadFrom, IsWriteRefusal, IsReadRefusal, GivesBack}
 use Rattle.datasketches.specs.Names.{at_name, Puts, AreSame}
@@ -30,31 +30,31 @@ use Rattle.datasketches.proofs.Saved.{saved_stands}
 
 module _ {T C : Type 0} (eq : T → T → Bool) (codec : Codec C) (content : T → C) where
   -- nothing changed
-  pub unchanged_fits : (old new : SessionState T) (a : Assignment T) → Fits eq codec content old a → IsUnchanged old new → Fits eq codec content new a
+  pub unchanged_fits : (old new : SessionState T) (a : Assignment T) → SessionStandsFor eq codec content old a → IsUnchanged old new → SessionStandsFor eq codec content new a
   unchanged_fits old new a fits same = record {
     sketches = same_pairs (StandsFor eq) old.sketches new.sketches a.sketches fits.sketches same.sketches;
     images = same_pairs (IsImageOf eq codec content) old.images new.images a.images fits.images same.images;
   }
 
   -- sketches changed, or the command was refused
-  sketches_fit : (r : Bool) (grown : List ℕ → Option (History T)) (new : SessionState T) (a : Assignment T) → SketchesFit eq new.sketches (cond r a.sketches grown) → AllPaired (IsImageOf eq codec content) new.images a.images → Fits eq codec content new (cond r a (record a { sketches = grown }))
+  sketches_fit : (r : Bool) (grown : List ℕ → Option (History T)) (new : SessionState T) (a : Assignment T) → SketchesFit eq new.sketches (cond r a.sketches grown) → AllPaired (IsImageOf eq codec content) new.images a.images → SessionStandsFor eq codec content new (cond r a (record a { sketches = grown }))
   sketches_fit true grown new a sketches images = record { sketches = sketches; images = images }
   sketches_fit false grown new a sketches images = record { sketches = sketches; images = images }
 
-  after_sketches : (reply : Reply T) (grown : List ℕ → Option (History T)) (old new : SessionState T) (a : Assignment T) → Fits eq codec content old a → AreSame old.images new.images → SketchesFit eq new.sketches (cond (is_refused reply) a.sketches grown) → Fits eq codec content new (cond (is_refused reply) a (record a { sketches = grown }))
+  after_sketches : (reply : Reply T) (grown : List ℕ → Option (History T)) (old new : SessionState T) (a : Assignment T) → SessionStandsFor eq codec content old a → AreSame old.images new.images → SketchesFit eq new.sketches (cond (is_refused reply) a.sketches grown) → SessionStandsFor eq codec content new (cond (is_refused reply) a (record a { sketches = grown }))
   after_sketches reply grown old new a fits same sketches =
       sketches_fit (is_refused reply) grown new a sketches (same_pairs (IsImageOf eq codec content) old.images new.images a.images fits.images same)
 
   -- a question
-  told_fits : (r : Bool) (old new : SessionState T) (a : Assignment T) → Fits eq codec content old a → IsUnchanged old new → Fits eq codec content new (cond r a a)
+  told_fits : (r : Bool) (old new : SessionState T) (a : Assignment T) → SessionStandsFor eq codec content old a → IsUnchanged old new → SessionStandsFor eq codec content new (cond r a a)
   told_fits true old new a fits same = unchanged_fits old new a fits same
   told_fits false old new a fits same = unchanged_fits old new a fits same
 
   -- an image was written, or the call refused
   wrote_fits : (sketch : Sketch T) (image : List ℕ) (history : Option (History T)) (reply : Reply T) (old new : SessionState T) (a : Assignment T) →
-      Paired (StandsFor eq) (Some sketch) history → Fits eq codec content old a → AreSame old.sketches new.sketches →
+      Paired (StandsFor eq) (Some sketch) history → SessionStandsFor eq codec content old a → AreSame old.sketches new.sketches →
       ((saved : Image) × (reply ≡ Done) × IsWrittenBy codec content sketch saved × Puts image saved old.images new.images) ⊎ ((e : ErrorValue) × IsWriteRefusal codec content sketch e × Refuses (refused e) old.images reply new.images) →
-      Fits eq codec content new (cond (is_refused reply) a (record a { images = put_at image history a.images }))
+      SessionStandsFor eq codec content new (cond (is_refused reply) a (record a { images = put_at image history a.images }))
   wrote_fits sketch image (Some h) reply old new a pair fits same (inl done) = rw done.1 (record {
     sketches = same_pairs (StandsFor eq) old.sketches new.sketches a.sketches fits.sketches same;
     images = put_pair (IsImageOf eq codec content) image done.0 h old.images new.images a.images fits.images (saved_stands eq codec content sketch done.0 h done.2 pair) done.3;
@@ -66,8 +66,8 @@ module _ {T C : Type 0} (eq : T → T → Bool) (codec : Codec C) (content : T �
   })
 
   save_case : (name image : List ℕ) (found : Option (Sketch T)) (taken : Option Image) (reply : Reply T) (old new : SessionState T) (a : Assignment T) →
-      at_name name old.sketches ≡ found → at_name image old.images ≡ taken → Fits eq codec content old a → Saves codec content name image old reply new →
-      Fits eq codec content new (cond (is_refused reply) a (record a { images = put_at image (a.sketches name) a.images }))
+      at_name name old.sketches ≡ found → at_name image old.images ≡ taken → SessionStandsFor eq codec content old a → Saves codec content name image old reply new →
+      SessionStandsFor eq codec content new (cond (is_refused reply) a (record a { images = put_at image (a.sketches name) a.images }))
   save_case name image None taken reply old new a e f fits saves =
       let done = rw e at saves in rw done.1 (unchanged_fits old new a fits done.0)
   save_case name image (Some sketch) (Some other) reply old new a e f fits saves =
@@ -77,8 +77,8 @@ module _ {T C : Type 0} (eq : T → T → Bool) (codec : Codec C) (content : T �
       let pair : Paired (StandsFor eq) (Some sketch) (a.sketches name) = rw e at (fits.sketches name) in
       wrote_fits sketch image (a.sketches name) reply old new a pair fits done.sketches done.outcome
 
-  pub save_fits : (name image : List ℕ) (reply : Reply T) (old new : SessionState T) (a : Assignment T) → Fits eq codec content old a → Saves codec content name image old reply new →
-      Fits eq codec content new (cond (is_refused reply) a (record a { images = put_at image (a.sketches name) a.images }))
+  pub save_fits : (name image : List ℕ) (reply : Reply T) (old new : SessionState T) (a : Assignment T) → SessionStandsFor eq codec content old a → Saves codec content name image old reply new →
+      SessionStandsFor eq codec content new (cond (is_refused reply) a (record a { images = put_at image (a.sketches name) a.images }))
   save_fits name image reply old new a fits saves = save_case name image (at_name name old.sketches) (at_name image old.images) reply old new a refl refl fits saves
 
   -- a save that was refused
@@ -97,9 +97,9 @@ module _ {T C : Type 0} (eq : T → T → Bool) (codec : Codec C) (content : T �
 
   -- a sketch was read, or the call refused
   read_fits : (saved : Image) (name : List ℕ) (history : Option (History T)) (reply : Reply T) (old new : SessionState T) (a : Assignment T) →
-      Paired (IsImageOf eq codec content) (Some saved) history → Fits eq codec content old a → AreSame old.images new.images →
+      Paired (IsImageOf eq codec content) (Some saved) history → SessionStandsFor eq codec content old a → AreSame old.images new.images →
       ((sketch : Sketch T) × (reply ≡ Done) × IsReadFrom codec content saved sketch × GivesBack eq codec content saved sketch × Puts name sketch old.sketches new.sketches) ⊎ ((e : ErrorValue) × IsReadRefusal codec saved e × Refuses (refused e) old.sketches reply new.sketches) →
-      Fits eq codec content new (cond (is_refused reply) a (record a { sketches = put_at name (option_map restored history) a.sketches }))
+      SessionStandsFor eq codec content new (cond (is_refused reply) a (record a { sketches = put_at name (option_map restored history) a.sketches }))
   read_fits saved name (Some h) reply old new a pair fits same (inl done) = rw done.1 (record {
     sketches = put_pair (StandsFor eq) name done.0 (restored h) old.sketches new.sketches a.sketches fits.sketches (done.3 h pair) done.4;
     images = same_pairs (IsImageOf eq codec content) old.images new.images a.images fits.images same;
@@ -111,8 +111,8 @@ module _ {T C : Type 0} (eq : T → T → Bool) (codec : Codec C) (content : T �
   })
 
   restore_case : (image name : List ℕ) (found : Option Image) (taken : Option (Sketch T)) (reply : Reply T) (old new : SessionState T) (a : Assignment T) →
-      at_name image old.images ≡ found → at_name name old.sketches ≡ taken → Fits eq codec content old a → Restores eq codec content image name old reply new →
-      Fits eq codec content new (cond (is_refused reply) a (record a { sketches = put_at name (option_map restored (a.images image)) a.sketches }))
+      at_name image old.images ≡ found → at_name name old.sketches ≡ taken → SessionStandsFor eq codec content old a → Restores eq codec content image name old reply new →
+      SessionStandsFor eq codec content new (cond (is_refused reply) a (record a { sketches = put_at name (option_map restored (a.images image)) a.sketches }))
   restore_case image name None taken reply old new a e f fits restores =
       let done = rw e at restores in rw done.1 (unchanged_fits old new a fits done.0)
   restore_case image name (Some saved) (Some other) reply old new a e f fits restores =
@@ -122,8 +122,8 @@ module _ {T C : Type 0} (eq : T → T → Bool) (codec : Codec C) (content : T �
       let pair : Paired (IsImageOf eq codec content) (Some saved) (a.images image) = rw e at (fits.images image) in
       read_fits saved name (a.images image) reply old new a pair fits done.images done.outcome
 
-  pub restore_fits : (image name : List ℕ) (reply : Reply T) (old new : SessionState T) (a : Assignment T) → Fits eq codec content old a → Restores eq codec content image name old reply new →
-      Fits eq codec content new (cond (is_refused reply) a (record a { sketches = put_at name (option_map restored (a.images image)) a.sketches }))
+  pub restore_fits : (image name : List ℕ) (reply : Reply T) (old new : SessionState T) (a : Assignment T) → SessionStandsFor eq codec content old a → Restores eq codec content image name old reply new →
+      SessionStandsFor eq codec content new (cond (is_refused reply) a (record a { sketches = put_at name (option_map restored (a.images image)) a.sketches }))
   restore_fits image name reply old new a fits restores = restore_case image name (at_name image old.images) (at_name name old.sketches) reply old new a refl refl fits restores
 
   -- a restore that was refused
@@ -144,7 +144,7 @@ module _ {T C : Type 0} (eq : T → T → Bool) (codec : Codec C) (content : T �
 
 module _ {T C : Type 0} (eq : T → T → Bool) (input : T → List (List ℕ)) (codec : Codec C) (content : T → C) where
   -- what a session fitted, it fits after an action, with what the action made of it
-  pub action_fits : (action : Action T) (reply : Reply T) (old new : SessionState T) (a : Assignment T) → Fits eq codec content old a → Performs eq input codec content old action reply new → Fits eq codec content new (after_action input a action reply)
+  pub action_fits : (action : Action T) (reply : Reply T) (old new : SessionState T) (a : Assignment T) → SessionStandsFor eq codec content old a → Performs eq input codec content old action reply new → SessionStandsFor eq codec content new (after_action input a action reply)
   action_fits (action.Create name shape) reply old new a fits step =
       after_sketches eq codec content reply _ old new a fits step.1 (create_fits eq shape (string_bytes name) reply old.sketches new.sketches a.sketches fits.sketches step.0)
   action_fits (action.Change name change) reply old new a fits step =
@@ -174,12 +174,12 @@ module _ {T C : Type 0} (eq : T → T → Bool) (input : T → List (List ℕ)) 
   action_same (action.ListRows name error_type threshold) reply old new r step = step.0
 
   -- the same of a command
-  pub step_fits : (command : Command T) (reply : Reply T) (old new : SessionState T) (a : Assignment T) → Fits eq codec content old a → Step eq input codec content old command reply new → Fits eq codec content new (after_one input a command reply)
+  pub step_fits : (command : Command T) (reply : Reply T) (old new : SessionState T) (a : Assignment T) → SessionStandsFor eq codec content old a → Step eq input codec content old command reply new → SessionStandsFor eq codec content new (after_one input a command reply)
   step_fits command reply old new a fits step = action_fits (action_of command) reply old new a fits step
 
   -- a run of commands
-  pub run_fits : (commands : List (Command T)) (replies : List (Reply T)) (old new : SessionState T) (a : Assignment T) → Fits eq codec content old a → Run eq input codec content old commands replies new → Fits eq codec content new (after input a commands replies)
-  run_fits [] [] old new a fits run = subst (λ (s : SessionState T). Fits eq codec content s a) (sym run) fits
+  pub run_fits : (commands : List (Command T)) (replies : List (Reply T)) (old new : SessionState T) (a : Assignment T) → SessionStandsFor eq codec content old a → Run eq input codec content old commands replies new → SessionStandsFor eq codec content new (after input a commands replies)
+  run_fits [] [] old new a fits run = subst (λ (s : SessionState T). SessionStandsFor eq codec content s a) (sym run) fits
   run_fits [] (reply ∷ replies) old new a fits run = absurd run
   run_fits (command ∷ commands) [] old new a fits run = absurd run
   run_fits (command ∷ commands) (reply ∷ replies) old new a fits run =

@@ -1,4 +1,4 @@
--- What a session that fits its histories says of each sketch, kind by kind.
+-- What a session that stands for its histories says of each sketch, kind by kind.
 use Rattle.std.specs.Prelude.{◌≡◌, ◌↔◌, ℕ, ℤ, pos, ◌*◌, ◌+◌, ◌<◌, ◌≤◌, ◌-ℤ◌, ◌≤ℤ◌, ◌⊎◌, Bool, true, false, List, length, Some}
 use Rattle.std.specs.FinSet as set
 use Rattle.sketch_bloom.specs.History.{BloomHistory, denoted_set}
@@ -11,7 +11,7 @@ use Rattle.sketch_frequencies.specs.Items.{Codec}
 use Rattle.sketch_frequencies.specs.Stands.{HasFewItems, KeepsTailBudget}
 use Rattle.sketch_frequencies.specs.State.{FrequentState, IsState, capacity}
 use Rattle.sketch_frequencies.specs.Tables.{count_of, sum_of}
-use Rattle.datasketches.specs.Fits.{Fits}
+use Rattle.datasketches.specs.SessionStandsFor.{SessionStandsFor}
 use Rattle.datasketches.specs.Histories.{History, Assignment, after_one}
 use Rattle.datasketches.specs.Histories.History.{OfFrequent, OfCountI64, OfCountU64, OfBloom}
 use Rattle.datasketches.specs.Names.{at_name}
@@ -24,12 +24,12 @@ use Rattle.datasketches.specs.declared.sketch.Sketch.{Sketch}
 use Rattle.datasketches.specs.declared.sketch.Sketch.TheVariants.{Frequent, CountI64, CountU64, Bloom}
 
 module _ {T C : Type 0} (eq : T → T → Bool) (codec : Codec C) (content : T → C) where
-  -- some session that fits some assignment has a name with this sketch and this history
+  -- some session that stands for some assignment has a name with this sketch and this history
   pub record IsNamed (sketch : Sketch T) (h : History T) : Type 0 where
     pub session : SessionState T
     pub histories : Assignment T
     pub name : List ℕ
-    pub fits : Fits eq codec content session histories
+    pub fits : SessionStandsFor eq codec content session histories
     pub sketch_is : at_name name session.sketches ≡ Some sketch
     pub history_is : histories.sketches name ≡ Some h
 
@@ -140,9 +140,9 @@ module _ {T C : Type 0} (eq : T → T → Bool) (codec : Codec C) (content : T �
       → IsLeast s.hashes (others_share s.buckets s.seed h bytes) (least -ℤ own_value h bytes)
 
 module _ {T C : Type 0} (eq : T → T → Bool) (input : T → List (List ℕ)) (codec : Codec C) (content : T → C) where
-  -- whatever steps are made of, as of the lines of a program: what a session fitted, it fits after a step as the command
-  -- and its reply made of it
+  -- whatever steps are made of, as of the lines of a program: what a session stood for, it stands for after a step as
+  -- the command and its reply made of it
   abbrev pub StepKeepsFit : Type 0
   StepKeepsFit = (old new : SessionState T) (command : Command T) (reply : Reply T) (a : Assignment T)
-      → Fits eq codec content old a → Step eq input codec content old command reply new
-      → Fits eq codec content new (after_one input a command reply)
+      → SessionStandsFor eq codec content old a → Step eq input codec content old command reply new
+      → SessionStandsFor eq codec content new (after_one input a command reply)

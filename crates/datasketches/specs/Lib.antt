@@ -1,5 +1,6 @@
 pub mod Names
 pub mod Replies
+pub mod Refusals
 pub mod Actions
 pub mod Histories
 pub mod Shapes
@@ -11,7 +12,7 @@ pub mod Images
 pub mod State
 pub mod Places
 pub mod Steps
-pub mod Fits
+pub mod SessionStandsFor
 pub mod Laws
 pub mod Running
 -- what a crate above names of those below

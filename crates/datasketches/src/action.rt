@@ -6,7 +6,17 @@ use crate::shape::Shape;
 use sketch_frequencies::ErrorType;
 
 /// What a session does. Each [`Command`] is one of these, by `From`.
-#[derive(Drop)]
+///
+/// # Examples
+///
+/// ```
+/// let name = String::from_str(alloc, "visits")?;
+/// let Action::Change { name, change } = Action::from(Command::Insert { name, item: 7u64 }) else {
+///     unreachable!();
+/// };
+/// assert!(name.as_str() == "visits" && change == Change::Insert { item: 7 });
+/// ```
+#[derive(Debug, PartialEq, Eq, Drop)]
 pub enum Action<T> {
     /// Makes a sketch of the shape.
     Create {

@@ -4,7 +4,18 @@ ghost use Rattle.std.specs.Prelude.{◌≡◌, None};
 use sketch_frequencies::ErrorType;
 
 /// A command on named sketches and images. Sketches and images have names of their own.
-#[derive(Drop)]
+///
+/// # Examples
+///
+/// ```
+/// let mut session = Session::new(alloc);
+/// let name = String::from_str(alloc, "visits")?;
+/// match session.apply(Command::Insert { name, item: 7u64 }) {
+///     Reply::Refused(refusal) => assert!(refusal == Refusal::NoSuchName),
+///     _ => unreachable!(),
+/// }
+/// ```
+#[derive(Debug, PartialEq, Eq, Drop)]
 pub enum Command<T> {
     /// Makes a sketch of frequent items of at most so many slots.
     CreateFrequent {
@@ -122,19 +133,19 @@ pub enum Command<T> {
 
 /// What commands did not keep: a name and an item, whose memory further commands may take.
 #[derive(Drop)]
-pub struct Spare<T> {
+pub struct Recycled<T> {
     /// A name.
     pub name: Option<String>,
     /// An item.
     pub item: Option<T>,
 }
 
-impl<T> Spare<T> {
+impl<T> Recycled<T> {
     /// Nothing yet.
     pub fn new() -> Self
         ensures { result ≡ record { name = None; item = None } }
     {
-        Spare {
+        Recycled {
             name: None,
             item: None,
         }

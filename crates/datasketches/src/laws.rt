@@ -1,9 +1,9 @@
 //! What the promise of a session says of each of its sketches. No function here does anything: what it ensures is the
 //! law.
 //!
-//! A new session fits the assignment with no name, and [`run`](crate::Session::run) leaves a session that fits what
-//! its commands and replies made of the assignment. So the laws hold of each sketch of a session after any list of
-//! commands.
+//! A new session stands for the assignment with no name, and [`run`](crate::Session::run) leaves a session that stands
+//! for what its commands and replies made of the assignment. So the laws hold of each sketch of a session after any
+//! list of commands.
 ghost use Rattle.datasketches.specs.Laws.{FrequentIsState, KeptWithinTotal, HoldsFew, EnclosesWeights, ExactOfFew, WithinTailBudget, SamplesItsOwn, SampleBoundsError, SmallSketchErrsLittle, LargeSketchErrsLittle, FilterIsState, HoldsWhatIsDenoted, EmptyContainsNothing, ContainsWhatIsDenoted, CountIsState, TotalIsWeight, EmptyCountsNothing, LeastCellEncloses, CellsAreShares, LeastCellIsRaisedByOthers, StepKeepsFit};
 
 use sketch_bloom::laws as bloom;
@@ -65,7 +65,7 @@ pub fn what_filters_say<T: FrequentItemValue>()
     bloom::what_is_contained();
 }
 
-/// What a session fitted it fits after a step, with what the command and its reply made of it. So the promise holds
+/// What a session stood for it stands for after a step, with what the command and its reply made of it. So the promise holds
 /// wherever such steps are proved, as of the lines that a program serves.
 pub fn what_a_step_keeps<T: FrequentItemValue>()
     ensures { StepKeepsFit T.eq T.hash_input T.codec T.content }

@@ -12,15 +12,16 @@ mod command;
 mod image;
 mod join;
 pub mod laws;
+mod name_map;
+mod named_sketches;
 mod reply;
 mod session;
 mod shape;
-mod shelf;
 mod sketch;
 
 pub use action::Action;
 pub use change::Change;
-pub use command::{Command, Spare};
+pub use command::{Command, Recycled};
 pub use join::Join;
 pub use reply::{Refusal, Reply, Status};
 pub use session::Session;

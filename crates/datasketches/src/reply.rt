@@ -1,9 +1,13 @@
 //! What a session answers.
+ghost use Rattle.std.specs.Prelude.{◌≡◌};
+ghost use Rattle.datasketches.specs.Refusals.{refusal_text, refusal_name};
+
 use sketch_base::Error;
 use sketch_frequencies::Row;
+use std::fmt;
 
 /// The answer to a command.
-#[derive(Drop)]
+#[derive(Debug, PartialEq, Eq, Drop)]
 pub enum Reply<T> {
     /// It was done.
     Done,
@@ -77,6 +81,50 @@ pub enum Refusal {
     /// The sketch's own call refused.
     Call(Error),
 }
+
+impl Refusal {
+    /// The text that names the refusal to a person.
+    pub fn text(self) -> &'static str
+        ensures { result.now ≡ refusal_text self }
+    {
+        match self {
+            Refusal::NoSuchName => "no such name",
+            Refusal::NameTaken => "name is taken",
+            Refusal::WrongKind => "wrong kind of sketch",
+            Refusal::SameName => "both names are the same",
+            Refusal::BadFraction => "fraction not above 0 and at most 1",
+            Refusal::Call(error) => error.fault().text(),
+        }
+    }
+
+    /// The refusal's own name, such as `NoSuchName`. That of a call is its fault's, such as `MapSizeTooSmall`.
+    pub fn name(self) -> &'static str
+        ensures { result.now ≡ refusal_name self }
+    {
+        match self {
+            Refusal::NoSuchName => "NoSuchName",
+            Refusal::NameTaken => "NameTaken",
+            Refusal::WrongKind => "WrongKind",
+            Refusal::SameName => "SameName",
+            Refusal::BadFraction => "BadFraction",
+            Refusal::Call(error) => error.fault().name(),
+        }
+    }
+}
+
+/// Prints the text of the refusal.
+impl fmt::Display for Refusal {
+    ghost use Rattle.std.specs.Prelude.{Some};
+    ghost use Rattle.datasketches.specs.Refusals.{refusal_text};
+
+    ghost output = { λ refusal. Some (refusal_text refusal) };
+
+    fn fmt<W: fmt::Write>(&self, f: &mut fmt::Formatter<W>) -> fmt::Result {
+        f.write_str(self.text())
+    }
+}
+
+impl std::error::Error for Refusal {}
 
 /// A call's refusal is the command's.
 impl From<Error> for Refusal {

@@ -2,7 +2,7 @@
 ghost use Rattle.std.specs.Prelude.{◌≡◌, [], true, None, Some, IfOk, IfErr, OnErr, IsTrue, string_bytes};
 ghost use Rattle.sketch_base.specs.Errors.{no_memory};
 ghost use Rattle.datasketches.specs.Answering.{Tells, Lists, status_of};
-ghost use Rattle.datasketches.specs.Fits.{Fits};
+ghost use Rattle.datasketches.specs.SessionStandsFor.{SessionStandsFor};
 ghost use Rattle.datasketches.specs.Histories.{Assignment, nothing_named, after_action, after_one, after};
 ghost use Rattle.datasketches.specs.Names.{at_name};
 ghost use Rattle.datasketches.specs.Replies.{told, is_refused};
@@ -11,16 +11,17 @@ ghost use Rattle.datasketches.specs.Steps.{OnSketches, Creates, ChangesNamed, Jo
 
 use crate::action::Action;
 use crate::change::Change;
-use crate::command::{Command, Spare};
+use crate::command::{Command, Recycled};
 use crate::image::Image;
 use crate::join::Join;
+use crate::name_map::NameMap;
 use crate::reply::{Refusal, Reply};
 use crate::shape::Shape;
-use crate::shelf::Shelf;
 use crate::sketch::Sketch;
 use sketch_base::Error;
 use sketch_frequencies::{ErrorType, FrequentItemValue};
 use std::alloc::Global;
+use std::fmt;
 use std::hash::Hash;
 use std::marker::Model;
 
@@ -28,11 +29,24 @@ use std::marker::Model;
 ///
 /// What a sketch promises of its own stream, a session promises of any list of commands: whatever histories its names
 /// had, after a run each sketch stands for the history that the accepted commands made.
+///
+/// # Examples
+///
+/// ```
+/// let mut session = Session::new(alloc);
+/// let name = String::from_str(alloc, "visits")?;
+/// session.apply(Command::CreateFrequent { name, max_map_size: 64 });
+/// let name = String::from_str(alloc, "visits")?;
+/// session.apply(Command::Add { name, item: 7u64, weight: 5 });
+/// let name = String::from_str(alloc, "visits")?;
+/// let reply = session.apply(Command::Ask { name, item: 7 });
+/// assert!(reply == Reply::Bounds { estimate: 5, lower: 5, upper: 5 });
+/// ```
 #[derive(Drop)]
 pub struct Session<T: Eq + Hash + Drop> {
     alloc: Global,
-    sketches: Shelf<Sketch<T>>,
-    images: Shelf<Image>,
+    sketches: NameMap<Sketch<T>>,
+    images: NameMap<Image>,
 }
 
 impl<T: Eq + Hash + Drop> Model for Session<T> {
@@ -48,16 +62,26 @@ impl<T: Eq + Hash + Drop> Model for Session<T> {
     ghost view = { λ s. record { sketches = s.sketches; images = s.images } };
 }
 
+/// Shows the names.
+impl<T: Eq + Hash + Drop> fmt::Debug for Session<T> {
+    fn fmt<W: fmt::Write>(&self, f: &mut fmt::Formatter<W>) -> fmt::Result {
+        f.debug_struct("Session")
+            .field("sketches", &self.sketches)
+            .field("images", &self.images)
+            .finish_non_exhaustive()
+    }
+}
+
 impl<T: FrequentItemValue + Clone + Drop> Session<T> {
     /// A session of no name. It takes no memory.
     pub fn new(alloc: Global) -> Self
         ensures empty { result ≡ record { sketches = []; images = [] } }
-        ensures fits { Fits T.eq T.codec T.content result nothing_named }
+        ensures fits { SessionStandsFor T.eq T.codec T.content result nothing_named }
     {
         Session {
             alloc,
-            sketches: Shelf::new(alloc),
-            images: Shelf::new(alloc),
+            sketches: NameMap::new(alloc),
+            images: NameMap::new(alloc),
         }
     }
 
@@ -68,50 +92,50 @@ impl<T: FrequentItemValue + Clone + Drop> Session<T> {
     pub fn apply(&mut self, command: Command<T>) -> Reply<T>
         requires clones { (x y : T) → T.is_clone x y → IsTrue (T.eq x y) }
         ensures step { Step T.eq T.hash_input T.codec T.content self.old command result self.new }
-        ensures fits { (a : Assignment T) → Fits T.eq T.codec T.content self.old a
-            → Fits T.eq T.codec T.content self.new (after_one T.hash_input a command result) }
+        ensures fits { (a : Assignment T) → SessionStandsFor T.eq T.codec T.content self.old a
+            → SessionStandsFor T.eq T.codec T.content self.new (after_one T.hash_input a command result) }
         ensures refused { is_refused result ≡ true → IsUnchanged self.old self.new }
     {
-        let mut spare = Spare::new();
-        self.apply_sparing(command, &mut spare)
+        let mut recycled = Recycled::new();
+        self.apply_recycling(command, &mut recycled)
     }
 
-    /// Does one command as [`Session::apply`] does, and may leave in `spare` a name and an item that it does not keep.
+    /// Does one command as [`Session::apply`] does, and leaves in `recycled` the names and items that it does not keep.
     ///
-    /// So a caller of many commands can use the memory of one for the next. What `spare` holds is left open.
+    /// So a caller of many commands can use the memory of one for the next. What `recycled` holds is left open.
     #[inline(always)]
-    pub fn apply_sparing(&mut self, command: Command<T>, spare: &mut Spare<T>) -> Reply<T>
+    pub fn apply_recycling(&mut self, command: Command<T>, recycled: &mut Recycled<T>) -> Reply<T>
         requires clones { (x y : T) → T.is_clone x y → IsTrue (T.eq x y) }
         ensures step { Step T.eq T.hash_input T.codec T.content self.old command result self.new }
-        ensures fits { (a : Assignment T) → Fits T.eq T.codec T.content self.old a
-            → Fits T.eq T.codec T.content self.new (after_one T.hash_input a command result) }
+        ensures fits { (a : Assignment T) → SessionStandsFor T.eq T.codec T.content self.old a
+            → SessionStandsFor T.eq T.codec T.content self.new (after_one T.hash_input a command result) }
         ensures refused { is_refused result ≡ true → IsUnchanged self.old self.new }
     {
-        self.perform_sparing(Action::from(command), spare)
+        self.perform_recycling(Action::from(command), recycled)
     }
 
     /// Does one action. [`Session::apply`] does the action of its command.
     pub fn perform(&mut self, action: Action<T>) -> Reply<T>
         requires clones { (x y : T) → T.is_clone x y → IsTrue (T.eq x y) }
         ensures step { Performs T.eq T.hash_input T.codec T.content self.old action result self.new }
-        ensures fits { (a : Assignment T) → Fits T.eq T.codec T.content self.old a
-            → Fits T.eq T.codec T.content self.new (after_action T.hash_input a action result) }
+        ensures fits { (a : Assignment T) → SessionStandsFor T.eq T.codec T.content self.old a
+            → SessionStandsFor T.eq T.codec T.content self.new (after_action T.hash_input a action result) }
         ensures refused { is_refused result ≡ true → IsUnchanged self.old self.new }
     {
-        let mut spare = Spare::new();
-        self.perform_sparing(action, &mut spare)
+        let mut recycled = Recycled::new();
+        self.perform_recycling(action, &mut recycled)
     }
 
-    /// Does one action as [`Session::perform`] does, and may leave in `spare` a name and an item that it does not keep.
+    /// Does one action as [`Session::perform`] does, and leaves in `recycled` the names and items that it does not keep.
     #[inline(always)]
-    pub fn perform_sparing(&mut self, action: Action<T>, spare: &mut Spare<T>) -> Reply<T>
+    pub fn perform_recycling(&mut self, action: Action<T>, recycled: &mut Recycled<T>) -> Reply<T>
         requires clones { (x y : T) → T.is_clone x y → IsTrue (T.eq x y) }
         ensures step { Performs T.eq T.hash_input T.codec T.content self.old action result self.new }
-        ensures fits { (a : Assignment T) → Fits T.eq T.codec T.content self.old a
-            → Fits T.eq T.codec T.content self.new (after_action T.hash_input a action result) }
+        ensures fits { (a : Assignment T) → SessionStandsFor T.eq T.codec T.content self.old a
+            → SessionStandsFor T.eq T.codec T.content self.new (after_action T.hash_input a action result) }
         ensures refused { is_refused result ≡ true → IsUnchanged self.old self.new }
     {
-        match self.answer(action, spare) {
+        match self.answer(action, recycled) {
             Ok(reply) => reply,
             Err(refusal) => Reply::Refused(refusal),
         }
@@ -125,8 +149,8 @@ impl<T: FrequentItemValue + Clone + Drop> Session<T> {
     pub fn run(&mut self, commands: Vec<Command<T>>) -> Result<Vec<Reply<T>>, Error>
         requires clones { (x y : T) → T.is_clone x y → IsTrue (T.eq x y) }
         ensures run { IfOk result (λ replies. Run T.eq T.hash_input T.codec T.content self.old commands.items replies.items self.new) }
-        ensures fits { IfOk result (λ replies. (a : Assignment T) → Fits T.eq T.codec T.content self.old a
-            → Fits T.eq T.codec T.content self.new (after T.hash_input a commands.items replies.items)) }
+        ensures fits { IfOk result (λ replies. (a : Assignment T) → SessionStandsFor T.eq T.codec T.content self.old a
+            → SessionStandsFor T.eq T.codec T.content self.new (after T.hash_input a commands.items replies.items)) }
         ensures err { OnErr result (self.new ≡ self.old) }
         ensures memory { IfErr result (λ e. e ≡ no_memory) }
     {
@@ -140,15 +164,15 @@ impl<T: FrequentItemValue + Clone + Drop> Session<T> {
 
     // where the action is known, nothing is left of the others
     #[inline(always)]
-    fn answer(&mut self, action: Action<T>, spare: &mut Spare<T>) -> Result<Reply<T>, Refusal>
+    fn answer(&mut self, action: Action<T>, recycled: &mut Recycled<T>) -> Result<Reply<T>, Refusal>
         requires clones { (x y : T) → T.is_clone x y → IsTrue (T.eq x y) }
         ensures { Performs T.eq T.hash_input T.codec T.content self.old action (told result) self.new }
     {
         match action {
             Action::Create { name, shape } => self.create(name, shape),
             Action::Change { name, change } => {
-                let done = self.change(name.as_str(), change, &mut spare.item);
-                spare.name = Some(name);
+                let done = self.change(name.as_str(), change, &mut recycled.item);
+                recycled.name = Some(name);
                 done
             }
             Action::Join { into, other, join } => self.join(into.as_str(), other.as_str(), join),
@@ -157,8 +181,8 @@ impl<T: FrequentItemValue + Clone + Drop> Session<T> {
             Action::ShowImage { image } => self.show_image(image.as_str()),
             Action::Ask { name, item } => {
                 let told = self.ask(name.as_str(), &item);
-                spare.name = Some(name);
-                spare.item = Some(item);
+                recycled.name = Some(name);
+                recycled.item = Some(item);
                 told
             }
             Action::GetStatus { name } => self.status(name.as_str()),
@@ -186,11 +210,11 @@ impl<T: FrequentItemValue + Clone + Drop> Session<T> {
         &mut self,
         name: &str,
         change: Change<T>,
-        spare: &mut Option<T>,
+        recycled: &mut Option<T>,
     ) -> Result<Reply<T>, Refusal>
         ensures { OnSketches (ChangesNamed T.eq T.hash_input change name.now) self.old (told result) self.new }
     {
-        self.sketches.change(name, change, spare)?;
+        self.sketches.change(name, change, recycled)?;
         Ok(Reply::Done)
     }
 

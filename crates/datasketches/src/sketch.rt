@@ -84,17 +84,17 @@ impl<T: Eq + Hash + Drop> Sketch<T> {
         }
     }
 
-    /// Does the change, where the sketch is of a kind that knows it. An item that it does not keep may come into `spare`.
+    /// Does the change, where the sketch is of a kind that knows it. An item that it does not keep may come into `recycled`.
     #[inline(always)]
-    pub fn change(&mut self, change: Change<T>, spare: &mut Option<T>) -> Result<(), Refusal>
+    pub fn change(&mut self, change: Change<T>, recycled: &mut Option<T>) -> Result<(), Refusal>
         ensures own { Changes T.eq T.hash_input change self.old (done_or result) self.new }
         ensures carries { OnOk result (Carries T.eq (changed T.hash_input change) self.old self.new) }
         ensures refused { OnErr result (self.new ≡ self.old) }
     {
         match change {
-            Change::Add { item, weight } => self.add(item, weight, spare),
-            Change::AddSigned { item, weight } => self.add_signed(item, weight, spare),
-            Change::Insert { item } => self.insert(item, spare),
+            Change::Add { item, weight } => self.add(item, weight, recycled),
+            Change::AddSigned { item, weight } => self.add_signed(item, weight, recycled),
+            Change::Insert { item } => self.insert(item, recycled),
             Change::Reset => self.reset(),
             Change::Halve => self.halve(),
             Change::Decay {
@@ -104,7 +104,7 @@ impl<T: Eq + Hash + Drop> Sketch<T> {
         }
     }
 
-    fn add(&mut self, item: T, weight: u64, spare: &mut Option<T>) -> Result<(), Refusal>
+    fn add(&mut self, item: T, weight: u64, recycled: &mut Option<T>) -> Result<(), Refusal>
         ensures own { Adds T.eq T.hash_input item weight self.old (done_or result) self.new }
         ensures carries { OnOk result (Carries T.eq (changed T.hash_input (Change.Add item weight)) self.old self.new) }
         ensures refused { OnErr result (self.new ≡ self.old) }
@@ -113,14 +113,14 @@ impl<T: Eq + Hash + Drop> Sketch<T> {
             Sketch::Frequent(sketch) => Ok(sketch.update_with_count(item, weight)?),
             Sketch::CountU64(sketch) => {
                 sketch.update_with_weight(&item, weight)?;
-                *spare = Some(item);
+                *recycled = Some(item);
                 Ok(())
             }
             _ => Err(Refusal::WrongKind),
         }
     }
 
-    fn add_signed(&mut self, item: T, weight: i64, spare: &mut Option<T>) -> Result<(), Refusal>
+    fn add_signed(&mut self, item: T, weight: i64, recycled: &mut Option<T>) -> Result<(), Refusal>
         ensures own { AddsSigned T.hash_input item weight self.old (done_or result) self.new }
         ensures carries { OnOk result (Carries T.eq (changed T.hash_input (Change.AddSigned item weight)) self.old self.new) }
         ensures refused { OnErr result (self.new ≡ self.old) }
@@ -128,14 +128,14 @@ impl<T: Eq + Hash + Drop> Sketch<T> {
         match self {
             Sketch::CountI64(sketch) => {
                 sketch.update_with_weight(&item, weight)?;
-                *spare = Some(item);
+                *recycled = Some(item);
                 Ok(())
             }
             _ => Err(Refusal::WrongKind),
         }
     }
 
-    fn insert(&mut self, item: T, spare: &mut Option<T>) -> Result<(), Refusal>
+    fn insert(&mut self, item: T, recycled: &mut Option<T>) -> Result<(), Refusal>
         ensures own { Inserts T.hash_input item self.old (done_or result) self.new }
         ensures carries { OnOk result (Carries T.eq (changed T.hash_input (Change.Insert item)) self.old self.new) }
         ensures refused { OnErr result (self.new ≡ self.old) }
@@ -143,7 +143,7 @@ impl<T: Eq + Hash + Drop> Sketch<T> {
         match self {
             Sketch::Bloom(filter) => {
                 filter.insert(&item);
-                *spare = Some(item);
+                *recycled = Some(item);
                 Ok(())
             }
             _ => Err(Refusal::WrongKind),

@@ -1,4 +1,4 @@
--- A session that fits an assignment of histories to its names.
+-- A session that stands for an assignment of histories to its names.
 use Rattle.std.specs.Prelude.{ℕ, Bool, List, Option, Some, None}
 use Rattle.sketch_frequencies.specs.Items.{Codec}
 use Rattle.datasketches.specs.Histories.{Assignment}
@@ -15,7 +15,7 @@ Paired R _ _ = ⊥
 
 -- the session has the assignment's names and kinds, each sketch stands for its history, and each image is one of a
 -- sketch that stands for the history
-pub record Fits {T C : Type 0} (eq : T → T → Bool) (codec : Codec C) (content : T → C) (s : SessionState T)
+pub record SessionStandsFor {T C : Type 0} (eq : T → T → Bool) (codec : Codec C) (content : T → C) (s : SessionState T)
     (a : Assignment T) : Type 0 where
   pub sketches : (name : List ℕ) → Paired (StandsFor eq) (at_name name s.sketches) (a.sketches name)
   pub images : (name : List ℕ) → Paired (IsImageOf eq codec content) (at_name name s.images) (a.images name)

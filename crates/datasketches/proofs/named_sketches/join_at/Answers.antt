@@ -2,7 +2,7 @@ use Rattle.std.proofs.Common.{arith}
 use Rattle.datasketches.specs.Histories.{joined}
 use Rattle.datasketches.specs.Joining.{Joins}
 use Rattle.datasketches.proofs.Steps.{does_with, front_joined, back_joined}
-use Rattle.datasketches.proofs.shelf.join_at.Goals as goal
+use Rattle.datasketches.proofs.named_sketches.join_at.Goals as goal
 
 pub returns-then-into-other : goal.returns-then-into-other
 returns-then-into-other g c =

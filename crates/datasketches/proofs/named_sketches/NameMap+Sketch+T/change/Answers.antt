@@ -4,7 +4,7 @@ use Rattle.datasketches.specs.Histories.{changed}
 use Rattle.datasketches.specs.Stands.{Does}
 use Rattle.datasketches.proofs.Names.{value_found, value_missing, written}
 use Rattle.datasketches.proofs.Steps.{on_none, on_some, does}
-use Rattle.datasketches.proofs.shelf.Shelf+Sketch+T.change.Goals as goal
+use Rattle.datasketches.proofs.named_sketches.NameMap+Sketch+T.change.Goals as goal
 
 pub returns-in-None : goal.returns-in-None
 returns-in-None g c =

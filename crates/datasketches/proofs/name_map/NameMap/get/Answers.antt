@@ -1,6 +1,6 @@
 use Rattle.std.proofs.Common.{Some, sym, ◌∙◌, ap}
 use Rattle.datasketches.proofs.Names.{value_found, value_missing}
-use Rattle.datasketches.proofs.shelf.Shelf.get.Goals as goal
+use Rattle.datasketches.proofs.name_map.NameMap.get.Goals as goal
 
 pub returns-in-None : goal.returns-in-None
 returns-in-None g c = value_missing _ _ _ c.args.name.now c.self.invariant c.self.view_is c.in-None.ensures

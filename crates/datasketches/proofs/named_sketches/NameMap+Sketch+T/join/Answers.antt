@@ -6,7 +6,7 @@ use Rattle.datasketches.specs.declared.sketch.Sketch.{Sketch}
 use Rattle.datasketches.specs.Names.{listed, Puts}
 use Rattle.datasketches.proofs.Names.{value_missing, is_named, one_place, placed_at, written}
 use Rattle.datasketches.proofs.Steps.{joins_into_none, joins_from_none, joins_itself, joins_two}
-use Rattle.datasketches.proofs.shelf.Shelf+Sketch+T.join.Goals as goal
+use Rattle.datasketches.proofs.named_sketches.NameMap+Sketch+T.join.Goals as goal
 
 pub returns-in_default : goal.returns-in_default
 returns-in_default g c =

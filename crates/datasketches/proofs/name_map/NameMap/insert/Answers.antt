@@ -3,7 +3,7 @@ use Rattle.std.specs.String.{string_bytes}
 use Rattle.std.proofs.lemmas.List.{length-append}
 use Rattle.datasketches.specs.Names.{ArePlaces}
 use Rattle.datasketches.proofs.Names.{placed, still_places, added}
-use Rattle.datasketches.proofs.shelf.Shelf.insert.Goals as goal
+use Rattle.datasketches.proofs.name_map.NameMap.insert.Goals as goal
 
 pub invariant_of-self-in-Ok : goal.invariant_of-self-in-Ok
 invariant_of-self-in-Ok g c =
