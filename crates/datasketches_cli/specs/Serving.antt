@@ -3,7 +3,9 @@ use Rattle.std.specs.Prelude.{◌≡◌, ℕ, Bool, true, false, List, [], ◌++
 use Rattle.std.specs.Io.BufRead.{strip_last}
 use Rattle.std.specs.Io.KnownBytes.{Appends}
 use Rattle.std.specs.String.{string_bytes}
-use Rattle.datasketches.specs.declared.command.Command.{Command}
+use Rattle.datasketches.specs.declared.action.Action.{Action}
+use Rattle.datasketches.specs.declared.action.Action.TheVariants as action
+use Rattle.datasketches.specs.declared.change.Change.{Change}
 use Rattle.datasketches_cli.specs.Asking.{Says, IsBad}
 use Rattle.datasketches_cli.specs.Grammar.{IsBlank}
 use Rattle.datasketches_cli.specs.Texts.{Text}
@@ -36,10 +38,17 @@ abbrev pub Answers : (Request → Type 0) → Bool → Responder → Responder �
 Answers IsAsked true old new = (request : Request) × IsAsked request × HasAnswered request old new
 Answers IsAsked false old new = ((request : Request) → ¬ IsAsked request) × IsIdle old new
 
--- the request is the command, if there is one
-abbrev pub IsRequest : Option (Command Text) → Request → Type 0
+-- the request is the action, if there is one
+abbrev pub IsRequest : Option (Action Text) → Request → Type 0
 IsRequest None asked = ⊥
-IsRequest (Some command) asked = asked ≡ request.Command command
+IsRequest (Some action) asked = asked ≡ request.Action action
+
+-- the change of the sketch of this name was done and answered, if there is one
+abbrev pub AnswersChange : List ℕ → Option (Change Text) → Bool → Responder → Responder → Type 0
+AnswersChange name None found old new = (found ≡ false) × IsIdle old new
+AnswersChange name (Some change) found old new =
+    (found ≡ true) × (named : Text) × (string_bytes named ≡ name)
+    × HasAnswered (request.Action (action.Change named change)) old new
 
 -- what became of the line
 abbrev pub IsAnswered : List ℕ → Responder → Responder → LineOutcome → Type 0

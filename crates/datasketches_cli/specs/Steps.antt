@@ -2,7 +2,7 @@
 use Rattle.std.specs.Prelude.{◌≡◌, ℕ, [], Option, Some, None, Result, Ok, Err, ⊤}
 use Rattle.std.specs.String.{string_bytes, string_eq}
 use Rattle.datasketches.specs.ErrorType.{ErrorType}
-use Rattle.datasketches.specs.Steps.{Step}
+use Rattle.datasketches.specs.Steps.{Performs}
 use Rattle.datasketches.specs.declared.reply.Refusal.{Refusal}
 use Rattle.datasketches.specs.declared.reply.Refusal.TheVariants.{NoSuchName, NameTaken, Call}
 use Rattle.datasketches.specs.declared.reply.Reply.{Reply}
@@ -72,10 +72,10 @@ OfWindows Does old given new =
     (outcome : Result ⊤ Refusal) × Does old.windows outcome new.windows × (given ≡ done_or_refused outcome)
     × (new.session ≡ old.session)
 
--- what a request does: a command is a step of the session; the others are calls on the windows
+-- what a request does: an action is a step of the session; the others are calls on the windows
 abbrev pub ServingStep : State → Request → Answer → State → Type 0
-ServingStep old (request.Command command) given new =
-    (reply : Reply Text) × Step string_eq text_input text_codec string_bytes old.session command reply new.session
+ServingStep old (request.Action action) given new =
+    (reply : Reply Text) × Performs string_eq text_input text_codec string_bytes old.session action reply new.session
     × (given ≡ answer.Reply reply) × (new.windows ≡ old.windows)
 ServingStep old (request.Windows windows max_map_size) given new = OfWindows (Opens windows max_map_size) old given new
 ServingStep old (request.Add tenant weight item) given new = OfWindows (AddsTo tenant weight item) old given new

@@ -1,17 +1,19 @@
 //! Lines to answers.
 ghost use Rattle.std.specs.Prelude.{◌≡◌, [], IfOk, OnOk, string_bytes};
-ghost use Rattle.datasketches_cli.specs.Asking.{Ask, AskCommand};
+ghost use Rattle.datasketches_cli.specs.Asking.{Ask, AskAction};
 ghost use Rattle.datasketches_cli.specs.Parsing.{texts_of};
-ghost use Rattle.datasketches_cli.specs.Serving.{Answers, HasAnswered, IsAnswered, IsRequest};
+ghost use Rattle.datasketches_cli.specs.Serving.{Answers, AnswersChange, HasAnswered, IsAnswered, IsRequest};
 ghost use Rattle.datasketches_cli.specs.Steps.{nothing_served};
 
-use crate::parse::words::{MOST_WORDS, first_words};
-use crate::parse::{Edit, Verb, add, ask, change, command_of, insert, verb_of, windows_request_of};
+use crate::parse::change::{add, insert};
+use crate::parse::windows::windows_request_of;
+use crate::parse::words::{MOST_WORDS, copied, first_words};
+use crate::parse::{action_of, ask};
 use crate::reply::write_answer;
 use crate::request::Request;
 use crate::state::State;
 use crate::stopped::Stopped;
-use datasketches::{Command, Spare};
+use datasketches::{Action, Change, Recycled};
 use std::alloc::Global;
 
 /// What became of a line.
@@ -32,7 +34,7 @@ pub struct Responder {
     /// What does as the lines ask.
     state: State,
     /// The memory of names and items that an earlier line left.
-    spare: Spare<String>,
+    recycled: Recycled<String>,
     /// The answers that were gathered, and are not written yet.
     pub replies: String,
 }
@@ -46,7 +48,7 @@ impl Responder {
         Responder {
             alloc,
             state: State::new(alloc),
-            spare: Spare::new(),
+            recycled: Recycled::new(),
             replies: String::new(alloc),
         }
     }
@@ -75,7 +77,7 @@ impl Responder {
     fn answer_words(&mut self, words: &[&str]) -> Result<bool, Stopped>
         ensures { IfOk result (λ found. Answers (Ask (texts_of words.now)) found self.old self.new) }
     {
-        if self.answer_command(words)? {
+        if self.answer_on_sketches(words)? {
             return Ok(true);
         }
         match windows_request_of(self.alloc, words)? {
@@ -87,52 +89,58 @@ impl Responder {
         }
     }
 
-    /// The same of commands.
+    /// The same of actions.
     ///
     /// What most lines ask for is made and done in a place of its own, so that it is not copied on its way.
-    fn answer_command(&mut self, words: &[&str]) -> Result<bool, Stopped>
-        ensures { IfOk result (λ found. Answers (AskCommand (texts_of words.now)) found self.old self.new) }
+    fn answer_on_sketches(&mut self, words: &[&str]) -> Result<bool, Stopped>
+        ensures { IfOk result (λ found. Answers (AskAction (texts_of words.now)) found self.old self.new) }
     {
         let [verb, name, rest @ ..] = words else {
             return Ok(false);
         };
-        let Some(verb) = verb_of(verb) else {
-            return Ok(false);
-        };
-        match verb {
-            Verb::Change(edit) => match edit {
-                Edit::Add => {
-                    let made = add(self.alloc, name, rest, &mut self.spare)?;
-                    self.answer_made(made)
-                }
-                Edit::Insert => {
-                    let made = insert(self.alloc, name, rest, &mut self.spare)?;
-                    self.answer_made(made)
-                }
-                _ => {
-                    let made = change(self.alloc, edit, name, rest, &mut self.spare)?;
-                    self.answer_made(made)
-                }
-            },
-            Verb::Ask => {
-                let made = ask(self.alloc, name, rest, &mut self.spare)?;
-                self.answer_made(made)
+        match *verb {
+            "add" => {
+                let change = add(self.alloc, rest, &mut self.recycled.item)?;
+                self.answer_change(name, change)
+            }
+            "insert" => {
+                let change = insert(self.alloc, rest, &mut self.recycled.item)?;
+                self.answer_change(name, change)
+            }
+            "ask" => {
+                let action = ask(self.alloc, name, rest, &mut self.recycled)?;
+                self.answer_action(action)
             }
             _ => {
-                let made = command_of(self.alloc, verb, name, rest, &mut self.spare)?;
-                self.answer_made(made)
+                let action = action_of(self.alloc, verb, name, rest, &mut self.recycled)?;
+                self.answer_action(action)
             }
         }
     }
 
-    /// Does a command, if there is one, and gathers its answer. Answers whether there is one.
+    /// Makes a change of the named sketch, if there is one, and gathers its answer. Answers whether there is one.
     #[inline(always)]
-    fn answer_made(&mut self, made: Option<Command<String>>) -> Result<bool, Stopped>
-        ensures { IfOk result (λ found. Answers (IsRequest made) found self.old self.new) }
+    fn answer_change(&mut self, name: &str, change: Option<Change<String>>) -> Result<bool, Stopped>
+        ensures { IfOk result (λ found. AnswersChange name.now change found self.old self.new) }
     {
-        match made {
-            Some(command) => {
-                self.answer(Request::Command(command))?;
+        match change {
+            Some(change) => {
+                let name = copied(self.alloc, name, &mut self.recycled.name)?;
+                self.answer(Request::Action(Action::Change { name, change }))?;
+                Ok(true)
+            }
+            None => Ok(false),
+        }
+    }
+
+    /// Does an action, if there is one, and gathers its answer. Answers whether there is one.
+    #[inline(always)]
+    fn answer_action(&mut self, action: Option<Action<String>>) -> Result<bool, Stopped>
+        ensures { IfOk result (λ found. Answers (IsRequest action) found self.old self.new) }
+    {
+        match action {
+            Some(action) => {
+                self.answer(Request::Action(action))?;
                 Ok(true)
             }
             None => Ok(false),
@@ -144,7 +152,7 @@ impl Responder {
     fn answer(&mut self, request: Request) -> Result<(), Stopped>
         ensures { OnOk result (HasAnswered request self.old self.new) }
     {
-        let answer = self.state.apply(self.alloc, request, &mut self.spare);
+        let answer = self.state.apply(self.alloc, request, &mut self.recycled);
         write_answer(self.alloc, &mut self.replies, &answer)
     }
 }

@@ -4,7 +4,7 @@ ghost use Rattle.datasketches_cli.specs.Steps.{nothing_served, done_or_refused, 
 
 use crate::request::{Answer, Request};
 use datasketches::frequencies::ErrorType;
-use datasketches::{Refusal, Reply, Session, Spare};
+use datasketches::{Recycled, Refusal, Reply, Session};
 use heavy_windows::{HeavyWindows, Report};
 use std::alloc::Global;
 
@@ -28,12 +28,17 @@ impl State {
 
     /// Does what a line asks for. A refused request changes nothing.
     #[inline(always)]
-    pub fn apply(&mut self, alloc: Global, request: Request, spare: &mut Spare<String>) -> Answer
+    pub fn apply(
+        &mut self,
+        alloc: Global,
+        request: Request,
+        recycled: &mut Recycled<String>,
+    ) -> Answer
         ensures { ServingStep self.old request result self.new }
     {
         match request {
-            Request::Command(command) => {
-                Answer::Reply(self.session.apply_sparing(command, spare))
+            Request::Action(action) => {
+                Answer::Reply(self.session.perform_recycling(action, recycled))
             }
             Request::Windows {
                 windows,

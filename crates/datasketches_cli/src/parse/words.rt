@@ -1,9 +1,11 @@
-//! A line to words.
-ghost use Rattle.std.specs.Prelude.{◌≡◌, ◌≤◌, length, take};
+//! A line to words, and what a word is.
+ghost use Rattle.std.specs.Prelude.{◌≡◌, ◌≤◌, IfOk, length, string_bytes, take};
 ghost use Rattle.datasketches_cli.specs.Grammar.{words_of};
-ghost use Rattle.datasketches_cli.specs.Parsing.{texts_of, with_word};
+ghost use Rattle.datasketches_cli.specs.Parsing.{IsReportOf, texts_of, with_word};
 
 use crate::search::first_place;
+use datasketches::frequencies::ErrorType;
+use std::alloc::{AllocError, Global};
 
 /// How many words of a line are looked at: one more than the longest command has.
 pub const MOST_WORDS: usize = 6;
@@ -38,4 +40,30 @@ fn next_word(text: &str) -> (&str, &str)
     }
     let (_, text) = text.split_at(start);
     text.split_at(first_place(b' ', text.as_bytes()))
+}
+
+/// A copy of a text, in recycled memory, if there is some.
+#[inline(always)]
+pub fn copied(
+    alloc: Global,
+    text: &str,
+    recycled: &mut Option<String>,
+) -> Result<String, AllocError>
+    ensures { IfOk result (λ copy. string_bytes copy ≡ text.now) }
+{
+    let mut copy = recycled.take().unwrap_or(String::new(alloc));
+    copy.clear();
+    copy.push_str(text)?;
+    Ok(copy)
+}
+
+/// The kind of report that a word names.
+pub fn error_type_of(word: &str) -> Option<ErrorType>
+    ensures { IsReportOf word.now result }
+{
+    match word {
+        "fn" => Some(ErrorType::NoFalseNegatives),
+        "fp" => Some(ErrorType::NoFalsePositives),
+        _ => None,
+    }
 }

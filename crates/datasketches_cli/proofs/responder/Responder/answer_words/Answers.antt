@@ -4,10 +4,10 @@ use Rattle.datasketches_cli.proofs.responder.Responder.answer_words.Goals as goa
 
 pub returns-then-branch : goal.returns-then-branch
 returns-then-branch c =
-    let (asked, made, done) = rw c.if-branch.true at c.in_ok-answer_command.ensures in
+    let (asked, made, done) = rw c.if-branch.true at c.in_ok-answer_on_sketches.ensures in
     (asked, inl made, done)
 
 pub returns-in-None : goal.returns-in-None
 returns-in-None c =
-    let (no_command, idle) = rw c.if-branch.false at c.in_ok-answer_command.ensures in
-    (no_request _ no_command (rw c.in-None.is at c.in_ok-request.ensures), idle)
+    let (no_action, idle) = rw c.if-branch.false at c.in_ok-answer_on_sketches.ensures in
+    (no_request _ no_action (rw c.in-None.is at c.in_ok-request.ensures), idle)

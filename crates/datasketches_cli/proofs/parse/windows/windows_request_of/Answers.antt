@@ -1,6 +1,6 @@
 use Rattle.std.proofs.Common.{arith}
 use Rattle.datasketches_cli.proofs.Asking.{after_verb}
-use Rattle.datasketches_cli.proofs.parse.windows_request_of.Goals as goal
+use Rattle.datasketches_cli.proofs.parse.windows.windows_request_of.Goals as goal
 
 pub returns-in-windows : goal.returns-in-windows
 returns-in-windows c = after_verb c.args.words.now _ _ _ _ c.in-len1-up.len_at_least (omega arith) c.in-windows.is c.windows.ensures
