@@ -3,7 +3,7 @@ use Rattle.std.proofs.Common.{◌≡◌, ℕ, ◌-◌, ◌≤◌, List, [], ◌�
 use Rattle.std.specs.Borrow.{Bor}
 use Rattle.std.proofs.lemmas.List.{take_all}
 use Rattle.datasketches_cli.specs.declared.request.Request.{Request}
-use Rattle.datasketches_cli.specs.Said.{texts_of, IsWindowsRequestOf}
+use Rattle.datasketches_cli.specs.Parsing.{texts_of, IsWindowsRequestOf}
 
 -- a verb, and the words that follow it
 split_verb : (words : List (Bor (List ℕ))) (other : Bor (List ℕ)) (verb : List ℕ) (n : ℕ) → 1 ≤ length words → n ≡ length words - 1 → (get_or words 0 other).now ≡ verb → texts_of words ≡ verb ∷ texts_of (take n (drop 1 words))

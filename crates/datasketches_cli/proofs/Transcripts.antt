@@ -7,12 +7,12 @@ use Rattle.std.specs.String.{string_bytes}
 use Rattle.std.proofs.lemmas.Bool.{false≢true}
 use Rattle.datasketches_cli.specs.declared.request.Answer.{Answer}
 use Rattle.datasketches_cli.specs.declared.request.Request.{Request}
-use Rattle.datasketches_cli.specs.declared.serving.Serving.{Serving}
+use Rattle.datasketches_cli.specs.declared.state.State.{State}
 use Rattle.datasketches_cli.specs.declared.serve.Ended.{Ended}
 use Rattle.datasketches_cli.specs.declared.serve.Ended.TheVariants.{All, BadLine}
-use Rattle.datasketches_cli.specs.declared.answering.Answering.{Answering}
-use Rattle.datasketches_cli.specs.declared.answering.Line.{Line}
-use Rattle.datasketches_cli.specs.declared.answering.Line.TheVariants.{Blank, Answered, Bad}
+use Rattle.datasketches_cli.specs.declared.responder.Responder.{Responder}
+use Rattle.datasketches_cli.specs.declared.responder.LineOutcome.{LineOutcome}
+use Rattle.datasketches_cli.specs.declared.responder.LineOutcome.TheVariants.{Blank, Answered, Bad}
 use Rattle.datasketches_cli.specs.Reading.{TakesLine}
 use Rattle.datasketches_cli.specs.Serving.{AnswersNext, WritesFront}
 use Rattle.datasketches_cli.specs.Transcript.{Transcript, Serves, lines_of, answer_line, bad_line}
@@ -23,12 +23,12 @@ use Rattle.datasketches_cli.specs.Texts.{Text}
 use Rattle.datasketches_cli.proofs.Lines.{lines_first}
 
 -- whatever comes of the rest of the input by what serves it, with what was written and gathered before it, comes of the whole input
-abbrev pub Leads : List ℕ → List ℕ → List ℕ → Serving → ℕ → Type 0
-Leads input rest front serving before = (ended : Ended) (more : List ℕ) → Transcript (before + 1) serving (lines_of rest) ended more → Transcript 1 nothing_served (lines_of input) ended (front ++ more)
+abbrev pub Leads : List ℕ → List ℕ → List ℕ → State → ℕ → Type 0
+Leads input rest front state before = (ended : Ended) (more : List ℕ) → Transcript (before + 1) state (lines_of rest) ended more → Transcript 1 nothing_served (lines_of input) ended (front ++ more)
 
 -- where the input's bytes are known: some were read and some text was written, more is gathered, and the rest is still to come
-abbrev pub Midway : Option (List ℕ) → Option (List ℕ) → Option (List ℕ) → Option (List ℕ) → List ℕ → Serving → ℕ → Type 0
-Midway was is held holds gathered serving before = IfSome was (λ input. (rest : List ℕ) × (is ≡ Some rest) × (text : List ℕ) × Appends held holds text × Leads input rest (text ++ gathered) serving before)
+abbrev pub Midway : Option (List ℕ) → Option (List ℕ) → Option (List ℕ) → Option (List ℕ) → List ℕ → State → ℕ → Type 0
+Midway was is held holds gathered state before = IfSome was (λ input. (rest : List ℕ) × (is ≡ Some rest) × (text : List ℕ) × Appends held holds text × Leads input rest (text ++ gathered) state before)
 
 -- the text of a line as it was read
 abbrev pub text_of : List ℕ → List ℕ
@@ -41,14 +41,14 @@ appends_both (Some a) (Some b) None x y p q = absurd q
 appends_both (Some a) (Some b) (Some c) x y p q = q ∙ ap (λ (l : List ℕ). l ++ y) p ∙ append_assoc a x y
 
 -- some of what was gathered is written
-pub wrote : (was is held holds now : Option (List ℕ)) (gathered left : List ℕ) (serving : Serving) (before : ℕ) → Midway was is held holds gathered serving before → WritesFront holds now gathered left → Midway was is held now left serving before
-wrote None is held holds now gathered left serving before m w = tt
-wrote (Some input) is held holds now gathered left serving before (rest, e, text, told, leads) (front, more, split) = (
+pub wrote : (was is held holds now : Option (List ℕ)) (gathered left : List ℕ) (state : State) (before : ℕ) → Midway was is held holds gathered state before → WritesFront holds now gathered left → Midway was is held now left state before
+wrote None is held holds now gathered left state before m w = tt
+wrote (Some input) is held holds now gathered left state before (rest, e, text, told, leads) (front, more, split) = (
   rest,
   e,
   text ++ front,
   appends_both held holds now text front told more,
-  subst (λ (l : List ℕ). Leads input rest l serving before) (ap (λ (l : List ℕ). text ++ l) split ∙ sym (append_assoc text front left)) leads,
+  subst (λ (l : List ℕ). Leads input rest l state before) (ap (λ (l : List ℕ). text ++ l) split ∙ sym (append_assoc text front left)) leads,
 )
 
 -- the line that was read is the first of the rest
@@ -56,16 +56,16 @@ first_of : (rest line : List ℕ) → rest ≢ [] → line ≡ take_through 10 r
 first_of rest line some e = rw e (lines_first rest some)
 
 -- a blank line was read
-pub passed : (was is now held holds : Option (List ℕ)) (gathered line : List ℕ) (serving : Serving) (before : ℕ) → Midway was is held holds gathered serving before → TakesLine true is now line → IsBlank (text_of line) → Midway was now held holds gathered serving (before + 1)
-passed None is now held holds gathered line serving before m t blank = tt
-passed (Some input) is now held holds gathered line serving before (rest, e, text, told, leads) t blank =
+pub passed : (was is now held holds : Option (List ℕ)) (gathered line : List ℕ) (state : State) (before : ℕ) → Midway was is held holds gathered state before → TakesLine true is now line → IsBlank (text_of line) → Midway was now held holds gathered state (before + 1)
+passed None is now held holds gathered line state before m t blank = tt
+passed (Some input) is now held holds gathered line state before (rest, e, text, told, leads) t blank =
     let t' = rw e at t in
     (drop_through 10 rest, t'.2, text, told, λ ended more goes. leads ended more (rw (first_of rest line t'.0 t'.1) (inl (blank, goes))))
 
 -- a request was read, done and answered
-pub answered : (was is now held holds : Option (List ℕ)) (gathered gathered' line : List ℕ) (serving after : Serving) (before : ℕ) (request : Request) (answer : Answer) → Midway was is held holds gathered serving before → TakesLine true is now line → Says (text_of line) request → ServingStep serving request answer after → gathered' ≡ gathered ++ answer_line answer → Midway was now held holds gathered' after (before + 1)
-answered None is now held holds gathered gathered' line serving after before request answer m t says step more = tt
-answered (Some input) is now held holds gathered gathered' line serving after before request answer (rest, e, text, told, leads) t says step grown =
+pub answered : (was is now held holds : Option (List ℕ)) (gathered gathered' line : List ℕ) (state after : State) (before : ℕ) (request : Request) (answer : Answer) → Midway was is held holds gathered state before → TakesLine true is now line → Says (text_of line) request → ServingStep state request answer after → gathered' ≡ gathered ++ answer_line answer → Midway was now held holds gathered' after (before + 1)
+answered None is now held holds gathered gathered' line state after before request answer m t says step more = tt
+answered (Some input) is now held holds gathered gathered' line state after before request answer (rest, e, text, told, leads) t says step grown =
     let t' = rw e at t in
     let joined = λ (more : List ℕ). ap (λ (l : List ℕ). (text ++ l) ++ more) grown ∙ ap (λ (l : List ℕ). l ++ more) (sym (append_assoc text gathered (answer_line answer))) ∙ append_assoc (text ++ gathered) (answer_line answer) more in (
       drop_through 10 rest,
@@ -77,9 +77,9 @@ answered (Some input) is now held holds gathered gathered' line serving after be
     )
 
 -- a bad line was read, and named
-pub named : (was is now held holds holds' : Option (List ℕ)) (gathered line : List ℕ) (serving : Serving) (before : ℕ) → Midway was is held holds gathered serving before → TakesLine true is now line → IsBad (text_of line) → Appends holds holds' (gathered ++ bad_line (before + 1)) → Serves was held holds' (BadLine (before + 1))
-named None is now held holds holds' gathered line serving before m t bad wrote = tt
-named (Some input) is now held holds holds' gathered line serving before (rest, e, text, told, leads) t bad wrote =
+pub named : (was is now held holds holds' : Option (List ℕ)) (gathered line : List ℕ) (state : State) (before : ℕ) → Midway was is held holds gathered state before → TakesLine true is now line → IsBad (text_of line) → Appends holds holds' (gathered ++ bad_line (before + 1)) → Serves was held holds' (BadLine (before + 1))
+named None is now held holds holds' gathered line state before m t bad wrote = tt
+named (Some input) is now held holds holds' gathered line state before (rest, e, text, told, leads) t bad wrote =
     let t' = rw e at t in (
       text ++ (gathered ++ bad_line (before + 1)),
       appends_both held holds holds' text (gathered ++ bad_line (before + 1)) told wrote,
@@ -88,9 +88,9 @@ named (Some input) is now held holds holds' gathered line serving before (rest, 
     )
 
 -- no line is left
-pub all_read : (was is now held holds holds' : Option (List ℕ)) (gathered line : List ℕ) (serving : Serving) (before : ℕ) → Midway was is held holds gathered serving before → TakesLine false is now line → Appends holds holds' gathered → Serves was held holds' All
-all_read None is now held holds holds' gathered line serving before m t wrote = tt
-all_read (Some input) is now held holds holds' gathered line serving before (rest, e, text, told, leads) t wrote =
+pub all_read : (was is now held holds holds' : Option (List ℕ)) (gathered line : List ℕ) (state : State) (before : ℕ) → Midway was is held holds gathered state before → TakesLine false is now line → Appends holds holds' gathered → Serves was held holds' All
+all_read None is now held holds holds' gathered line state before m t wrote = tt
+all_read (Some input) is now held holds holds' gathered line state before (rest, e, text, told, leads) t wrote =
     let none : rest ≡ [] = rw e at t in (
       text ++ gathered,
       appends_both held holds holds' text gathered told wrote,
@@ -98,33 +98,33 @@ all_read (Some input) is now held holds holds' gathered line serving before (res
     )
 
 -- the same but for what is gathered
-abbrev pub with_replies : Answering → Text → Answering
-with_replies old replies = record { alloc = old.alloc; serving = old.serving; spare = old.spare; replies = replies }
+abbrev pub with_replies : Responder → Text → Responder
+with_replies old replies = record { alloc = old.alloc; state = old.state; recycled = old.recycled; replies = replies }
 
 -- a turn with a line that is not bad
-pub turns : (was is now held mid holds : Option (List ℕ)) (old new : Answering) (left : Text) (before : ℕ) (found : Option Line) (became : Line) →
-    Midway was is held mid (string_bytes old.replies) old.serving before → WritesFront mid holds (string_bytes old.replies) (string_bytes left) → AnswersNext is now (with_replies old left) new found → found ≡ Some became → became ≢ Bad →
-    Midway was now held holds (string_bytes new.replies) new.serving (before + 1)
+pub turns : (was is now held mid holds : Option (List ℕ)) (old new : Responder) (left : Text) (before : ℕ) (found : Option LineOutcome) (became : LineOutcome) →
+    Midway was is held mid (string_bytes old.replies) old.state before → WritesFront mid holds (string_bytes old.replies) (string_bytes left) → AnswersNext is now (with_replies old left) new found → found ≡ Some became → became ≢ Bad →
+    Midway was now held holds (string_bytes new.replies) new.state (before + 1)
 turns was is now held mid holds old new left before found Blank m w next f good =
     let (line, t, (blank, (s, l))) = rw f at next in
-    rw (s, l) (passed was is now held holds (string_bytes left) line old.serving before (wrote was is held mid holds (string_bytes old.replies) (string_bytes left) old.serving before m w) t blank)
+    rw (s, l) (passed was is now held holds (string_bytes left) line old.state before (wrote was is held mid holds (string_bytes old.replies) (string_bytes left) old.state before m w) t blank)
 turns was is now held mid holds old new left before found Answered m w next f good =
     let (line, t, (request, says, (answer, step, grown))) = rw f at next in
-    answered was is now held holds (string_bytes left) (string_bytes new.replies) line old.serving new.serving before request answer (wrote was is held mid holds (string_bytes old.replies) (string_bytes left) old.serving before m w) t says step grown
+    answered was is now held holds (string_bytes left) (string_bytes new.replies) line old.state new.state before request answer (wrote was is held mid holds (string_bytes old.replies) (string_bytes left) old.state before m w) t says step grown
 turns was is now held mid holds old new left before found Bad m w next f good = absurd (good refl)
 
 -- a turn with a bad line
-pub turns_bad : (was is now held mid holds holds' : Option (List ℕ)) (old new : Answering) (left : Text) (before : ℕ) (found : Option Line) (became : Line) →
-    Midway was is held mid (string_bytes old.replies) old.serving before → WritesFront mid holds (string_bytes old.replies) (string_bytes left) → AnswersNext is now (with_replies old left) new found → found ≡ Some became → became ≡ Bad → Appends holds holds' (string_bytes new.replies ++ bad_line (before + 1)) →
+pub turns_bad : (was is now held mid holds holds' : Option (List ℕ)) (old new : Responder) (left : Text) (before : ℕ) (found : Option LineOutcome) (became : LineOutcome) →
+    Midway was is held mid (string_bytes old.replies) old.state before → WritesFront mid holds (string_bytes old.replies) (string_bytes left) → AnswersNext is now (with_replies old left) new found → found ≡ Some became → became ≡ Bad → Appends holds holds' (string_bytes new.replies ++ bad_line (before + 1)) →
     Serves was held holds' (BadLine (before + 1))
 turns_bad was is now held mid holds holds' old new left before found became m w next f b wrote' =
     let (line, t, (bad, (s, l))) = rw (f, b) at next in
-    named was is now held holds holds' (string_bytes left) line old.serving before (wrote was is held mid holds (string_bytes old.replies) (string_bytes left) old.serving before m w) t bad (rw (sym l) wrote')
+    named was is now held holds holds' (string_bytes left) line old.state before (wrote was is held mid holds (string_bytes old.replies) (string_bytes left) old.state before m w) t bad (rw (sym l) wrote')
 
 -- a turn with a line that is not bad, where there is one
-pub turns_on : (was is now held mid holds : Option (List ℕ)) (old new : Answering) (left : Text) (before : ℕ) (found : Option Line) →
-    Midway was is held mid (string_bytes old.replies) old.serving before → WritesFront mid holds (string_bytes old.replies) (string_bytes left) → AnswersNext is now (with_replies old left) new found → found ≢ Some Bad → IsSome found →
-    Midway was now held holds (string_bytes new.replies) new.serving (before + 1)
+pub turns_on : (was is now held mid holds : Option (List ℕ)) (old new : Responder) (left : Text) (before : ℕ) (found : Option LineOutcome) →
+    Midway was is held mid (string_bytes old.replies) old.state before → WritesFront mid holds (string_bytes old.replies) (string_bytes left) → AnswersNext is now (with_replies old left) new found → found ≢ Some Bad → IsSome found →
+    Midway was now held holds (string_bytes new.replies) new.state (before + 1)
 turns_on was is now held mid holds old new left before None m w next good some = absurd (false≢true some)
 turns_on was is now held mid holds old new left before (Some became) m w next good some =
     turns was is now held mid holds old new left before (Some became) became m w next refl (λ bad. good (ap Some bad))
@@ -135,13 +135,13 @@ nothing_left unread None e end = tt
 nothing_left unread (Some xs) e end = ap (λ (l : List ℕ). l ++ xs) e ∙ end
 
 -- the last turn, with a line that is not bad or with none
-pub turns_last : (was is left' held mid holds holds' : Option (List ℕ)) (unread : List ℕ) (old new : Answering) (left : Text) (before : ℕ) (found : Option Line) →
-    Midway was is held mid (string_bytes old.replies) old.serving before → WritesFront mid holds (string_bytes old.replies) (string_bytes left) → AnswersNext is (prepend_known unread left') (with_replies old left) new found → found ≢ Some Bad → unread ≡ [] → IsAtEnd left' → Appends holds holds' (string_bytes new.replies) →
+pub turns_last : (was is left' held mid holds holds' : Option (List ℕ)) (unread : List ℕ) (old new : Responder) (left : Text) (before : ℕ) (found : Option LineOutcome) →
+    Midway was is held mid (string_bytes old.replies) old.state before → WritesFront mid holds (string_bytes old.replies) (string_bytes left) → AnswersNext is (prepend_known unread left') (with_replies old left) new found → found ≢ Some Bad → unread ≡ [] → IsAtEnd left' → Appends holds holds' (string_bytes new.replies) →
     Serves was held holds' All
 turns_last was is left' held mid holds holds' unread old new left before None m w next good e end wrote' =
     let (none, (s, l)) = next in
-    all_read was is None held holds holds' (string_bytes left) [] old.serving before (wrote was is held mid holds (string_bytes old.replies) (string_bytes left) old.serving before m w) none (rw (sym l) wrote')
+    all_read was is None held holds holds' (string_bytes left) [] old.state before (wrote was is held mid holds (string_bytes old.replies) (string_bytes left) old.state before m w) none (rw (sym l) wrote')
 turns_last was is left' held mid holds holds' unread old new left before (Some became) m w next good e end wrote' =
-    all_read was (prepend_known unread left') None held holds holds' (string_bytes new.replies) [] new.serving (before + 1)
+    all_read was (prepend_known unread left') None held holds holds' (string_bytes new.replies) [] new.state (before + 1)
     (turns was is (prepend_known unread left') held mid holds old new left before (Some became) became m w next refl (λ bad. good (ap Some bad)))
     (nothing_left unread left' e end) wrote'

@@ -1,64 +1,72 @@
--- The words of a line that are looked at, and the commands that they make.
-use Rattle.std.proofs.Common.{◌≡◌, ℕ, ◌-◌, ◌<◌, ◌≤◌, List, [], ◌∷◌, length, get_or, take, drop, filter, Option, None, Some, inl, inr, refl, sym, ◌∙◌, ap, subst, arith}
+-- The words of a line that are looked at, and the actions that they make.
+use Rattle.std.proofs.Common.{◌≡◌, ℕ, ◌-◌, ◌<◌, ◌≤◌, List, [], ◌∷◌, length, get_or, take, drop, filter, inl, inr, refl, sym, ◌∙◌, ap, subst, arith}
+use Rattle.std.specs.Prelude.{codes}
 use Rattle.std.specs.Str.{bytes_eq}
 use Rattle.std.specs.Borrow.{Bor}
-use Rattle.std.specs.Prelude.{MatchOption}
 use Rattle.std.specs.Str.{IsUtf8}
+use Rattle.std.specs.String.{string_bytes}
+use Rattle.std.proofs.lemmas.Bool.{false≢true}
 use Rattle.std.proofs.lemmas.List.{take_all, length-take}
-use Rattle.datasketches.specs.declared.command.Command.{Command}
-use Rattle.datasketches.specs.declared.command.Command.TheVariants as command
+use Rattle.datasketches.specs.declared.action.Action.{Action}
+use Rattle.datasketches.specs.declared.action.Action.TheVariants as action
+use Rattle.datasketches.specs.declared.change.Change.{Change}
+use Rattle.datasketches.specs.declared.change.Change.TheVariants as change
+use Rattle.datasketches.specs.declared.join.Join.{Join}
+use Rattle.datasketches.specs.declared.join.Join.TheVariants as join
+use Rattle.datasketches.specs.declared.shape.Shape.{Shape}
+use Rattle.datasketches.specs.declared.shape.Shape.TheVariants as shape
 use Rattle.datasketches_cli.specs.Texts.{Text}
-use Rattle.datasketches_cli.specs.declared.parse.Edit.TheVariants as edit
-use Rattle.datasketches_cli.specs.declared.parse.JoinKind.TheVariants as join
-use Rattle.datasketches_cli.specs.declared.parse.Kind.TheVariants as kind
-use Rattle.datasketches_cli.specs.declared.parse.Verb.{Verb}
-use Rattle.datasketches_cli.specs.declared.parse.Verb.TheVariants as verb
-use Rattle.datasketches_cli.specs.Grammar.{words_of, verb_word, Make, MakeRest, AreCounts}
+use Rattle.datasketches_cli.specs.Grammar.{words_of, join_word, Make, MakeShape, MakeChange, AreCounts}
 use Rattle.datasketches_cli.specs.Asking.{Ask, Says}
 use Rattle.datasketches_cli.specs.declared.request.Request.{Request}
 use Rattle.datasketches_cli.specs.declared.request.Request.TheVariants as request
-use Rattle.datasketches_cli.specs.Said.{IsCommandOf, texts_of}
-
--- words that are no numbers of a Count-Min sketch make no command for one
-pub no_signed : (words : List (List ℕ)) → ((hashes buckets seed : ℕ) → ¬ AreCounts words hashes buckets seed) → (made : Command Text) → ¬ MakeRest (verb.Create kind.CountI64) words made
-no_signed words none (command.CreateCountI64 name hashes buckets seed) made = none hashes buckets seed made
-no_signed words none _ made = absurd made
-
-pub no_unsigned : (words : List (List ℕ)) → ((hashes buckets seed : ℕ) → ¬ AreCounts words hashes buckets seed) → (made : Command Text) → ¬ MakeRest (verb.Create kind.CountU64) words made
-no_unsigned words none (command.CreateCountU64 name hashes buckets seed) made = none hashes buckets seed made
-no_unsigned words none _ made = absurd made
+use Rattle.datasketches_cli.specs.Parsing.{texts_of}
 
 -- at most three words follow the verb and the name
 short_counts : (words : List (List ℕ)) (hashes buckets seed : ℕ) → AreCounts words hashes buckets seed → length words ≤ 3
 short_counts words hashes buckets seed (h, b, s, e, x, y, z) = omega (arith, ap length e)
 
-short_rest : (v : Verb) (words : List (List ℕ)) (made : Command Text) → MakeRest v words made → length words ≤ 3
-short_rest (verb.Create kind.Frequent) words (command.CreateFrequent name max) (m, e, n) = omega (arith, ap length e)
-short_rest (verb.Create kind.FrequentSampled) words (command.CreateFrequentSampled name max sample) (m, n, e, x, y) = omega (arith, ap length e)
-short_rest (verb.Create kind.CountI64) words (command.CreateCountI64 name hashes buckets seed) counts = short_counts words hashes buckets seed counts
-short_rest (verb.Create kind.CountU64) words (command.CreateCountU64 name hashes buckets seed) counts = short_counts words hashes buckets seed counts
-short_rest (verb.Create kind.Bloom) words (command.CreateBloom name bits hashes seed) (b, h, s, e, x, y, z) = omega (arith, ap length e)
-short_rest (verb.Change edit.Add) words (command.Add name item weight) (n, e, x) = omega (arith, ap length e)
-short_rest (verb.Change edit.AddSigned) words (command.AddSigned name item weight) (n, e, x) = omega (arith, ap length e)
-short_rest (verb.Change edit.Insert) words (command.Insert name item) e = omega (arith, ap length e)
-short_rest (verb.Change edit.Reset) words (command.Reset name) e = omega (arith, ap length e)
-short_rest (verb.Change edit.Halve) words (command.Halve name) e = omega (arith, ap length e)
-short_rest (verb.Change edit.Decay) words (command.Decay name numerator denominator) (n, d, e, x, y) = omega (arith, ap length e)
-short_rest (verb.Join join.Merge) words (command.Merge into other) e = omega (arith, ap length e)
-short_rest (verb.Join join.Union) words (command.Union into other) e = omega (arith, ap length e)
-short_rest (verb.Join join.Intersect) words (command.Intersect into other) e = omega (arith, ap length e)
-short_rest (verb.Join join.Difference) words (command.Difference into other) e = omega (arith, ap length e)
-short_rest verb.Save words (command.Save name image) e = omega (arith, ap length e)
-short_rest verb.Restore words (command.Restore image name) e = omega (arith, ap length e)
-short_rest verb.Image words (command.ShowImage image) e = omega (arith, ap length e)
-short_rest verb.Ask words (command.Ask name item) e = omega (arith, ap length e)
-short_rest verb.Status words (command.GetStatus name) e = omega (arith, ap length e)
-short_rest verb.Rows words (command.ListRows name error_type threshold) (n, e, x) = omega (arith, ap length e)
-short_rest _ _ _ made = absurd made
+short_shape : (v : List ℕ) (words : List (List ℕ)) (s : Shape) → MakeShape v words s → length words ≤ 3
+short_shape v words (shape.Frequent max) (m, w, e, n) = omega (arith, ap length e)
+short_shape v words (shape.FrequentSampled max sample) (m, n, w, e, x, y) = omega (arith, ap length e)
+short_shape v words (shape.CountI64 hashes buckets seed) (w, counts) = short_counts words hashes buckets seed counts
+short_shape v words (shape.CountU64 hashes buckets seed) (w, counts) = short_counts words hashes buckets seed counts
+short_shape v words (shape.Bloom bits hashes seed) (b, h, s, w, e, x, y, z) = omega (arith, ap length e)
+
+short_change : (v : List ℕ) (words : List (List ℕ)) (c : Change Text) → MakeChange v words c → length words ≤ 3
+short_change v words (change.Add item weight) (n, w, e, x) = omega (arith, ap length e)
+short_change v words (change.AddSigned item weight) (n, w, e, x) = omega (arith, ap length e)
+short_change v words (change.Insert item) (w, e) = omega (arith, ap length e)
+short_change v words change.Reset (w, e) = omega (arith, ap length e)
+short_change v words change.Halve (w, e) = omega (arith, ap length e)
+short_change v words (change.Decay numerator denominator) (n, d, w, e, x, y) = omega (arith, ap length e)
+
+short_made : (words : List (List ℕ)) (a : Action Text) → Make words a → length words ≤ 5
+short_made words (action.Create name s) (v, rest, e, m) = omega (arith, ap length e, short_shape v rest s m)
+short_made words (action.Change name c) (v, rest, e, m) = omega (arith, ap length e, short_change v rest c m)
+short_made words (action.Join into other j) e = omega (arith, ap length e)
+short_made words (action.Save name image) e = omega (arith, ap length e)
+short_made words (action.Restore image name) e = omega (arith, ap length e)
+short_made words (action.ShowImage image) e = omega (arith, ap length e)
+short_made words (action.Ask name item) e = omega (arith, ap length e)
+short_made words (action.GetStatus name) e = omega (arith, ap length e)
+short_made words (action.ListRows name error_type threshold) (n, e, x) = omega (arith, ap length e)
+
+-- and at least two in all make an action
+long_made : (words : List (List ℕ)) (a : Action Text) → Make words a → 2 ≤ length words
+long_made words (action.Create name s) (v, rest, e, m) = omega (arith, ap length e)
+long_made words (action.Change name c) (v, rest, e, m) = omega (arith, ap length e)
+long_made words (action.Join into other j) e = omega (arith, ap length e)
+long_made words (action.Save name image) e = omega (arith, ap length e)
+long_made words (action.Restore image name) e = omega (arith, ap length e)
+long_made words (action.ShowImage image) e = omega (arith, ap length e)
+long_made words (action.Ask name item) e = omega (arith, ap length e)
+long_made words (action.GetStatus name) e = omega (arith, ap length e)
+long_made words (action.ListRows name error_type threshold) (n, e, x) = omega (arith, ap length e)
 
 -- at most five words make a request
 short_asked : (words : List (List ℕ)) (asked : Request) → Ask words asked → length words ≤ 5
-short_asked words (request.Command command) (inl (v, rest, e, m)) = omega (arith, ap length e, short_rest v rest command m)
+short_asked words (request.Action a) (inl made) = short_made words a made
 short_asked words (request.Windows windows max) (inr (n, m, e, x, y)) = omega (arith, ap length e)
 short_asked words (request.Add tenant weight item) (inr (t, w, e, x, y)) = omega (arith, ap length e)
 short_asked words (request.Turn tenant) (inr (t, e, x)) = omega (arith, ap length e)
@@ -77,54 +85,98 @@ says_this line text words asked same utf8 told asks =
     let asks_first : Ask (take 6 (words_of line)) asked = subst (λ (l : List (List ℕ)). Ask l asked) here asks in
     (utf8, subst (λ (l : List (List ℕ)). Ask l asked) (first_are_all (words_of line) asked asks_first) asks_first)
 
--- all verbs
-abbrev verbs : List Verb
+-- words that are no numbers of a Count-Min sketch make no shape of one
+pub no_signed : (words : List (List ℕ)) → ((hashes buckets seed : ℕ) → ¬ AreCounts words hashes buckets seed) → (made : Shape) → ¬ MakeShape (codes "counti") words made
+no_signed words none (shape.Frequent max) (m, w, e, n) = cc
+no_signed words none (shape.FrequentSampled max sample) (m, n, w, e, x, y) = cc
+no_signed words none (shape.CountI64 hashes buckets seed) (w, counts) = none hashes buckets seed counts
+no_signed words none (shape.CountU64 hashes buckets seed) (w, counts) = false≢true (ap (λ (l : List ℕ). bytes_eq l (codes "countu")) w)
+no_signed words none (shape.Bloom bits hashes seed) (b, h, s, w, e, x, y, z) = cc
+
+pub no_unsigned : (words : List (List ℕ)) → ((hashes buckets seed : ℕ) → ¬ AreCounts words hashes buckets seed) → (made : Shape) → ¬ MakeShape (codes "countu") words made
+no_unsigned words none (shape.Frequent max) (m, w, e, n) = cc
+no_unsigned words none (shape.FrequentSampled max sample) (m, n, w, e, x, y) = cc
+no_unsigned words none (shape.CountI64 hashes buckets seed) (w, counts) = false≢true (ap (λ (l : List ℕ). bytes_eq l (codes "counti")) w)
+no_unsigned words none (shape.CountU64 hashes buckets seed) (w, counts) = none hashes buckets seed counts
+no_unsigned words none (shape.Bloom bits hashes seed) (b, h, s, w, e, x, y, z) = cc
+
+-- all verbs, each with the number of what it asks for
+abbrev verbs : List (List ℕ × ℕ)
 verbs =
-    verb.Create kind.Frequent ∷ verb.Create kind.FrequentSampled ∷ verb.Create kind.CountI64 ∷ verb.Create kind.CountU64
-    ∷ verb.Create kind.Bloom ∷ verb.Change edit.Add ∷ verb.Change edit.AddSigned ∷ verb.Change edit.Insert
-    ∷ verb.Change edit.Reset ∷ verb.Change edit.Halve ∷ verb.Change edit.Decay ∷ verb.Join join.Merge
-    ∷ verb.Join join.Union ∷ verb.Join join.Intersect ∷ verb.Join join.Difference ∷ verb.Save ∷ verb.Restore
-    ∷ verb.Image ∷ verb.Ask ∷ verb.Status ∷ verb.Rows ∷ []
+    (codes "frequent", 0) ∷ (codes "sampled", 0) ∷ (codes "counti", 0) ∷ (codes "countu", 0) ∷ (codes "bloom", 0)
+    ∷ (codes "add", 1) ∷ (codes "adds", 1) ∷ (codes "insert", 1) ∷ (codes "reset", 1) ∷ (codes "halve", 1) ∷ (codes "decay", 1)
+    ∷ (codes "merge", 2) ∷ (codes "union", 2) ∷ (codes "intersect", 2) ∷ (codes "difference", 2)
+    ∷ (codes "save", 3) ∷ (codes "restore", 4) ∷ (codes "image", 5) ∷ (codes "ask", 6) ∷ (codes "status", 7)
+    ∷ (codes "rows", 8) ∷ []
 
--- the verb of a word, and any where it has none
-abbrev verb_named : List ℕ → Verb
-verb_named word = get_or (filter (λ v. bytes_eq word (verb_word v)) verbs) 0 verb.Rows
+abbrev pub number_of_verb : List ℕ → ℕ
+number_of_verb word = (get_or (filter (λ v. bytes_eq word v.0) verbs) 0 ([], 9)).1
 
-is_named : (v : Verb) → verb_named (verb_word v) ≡ v
-is_named (verb.Create kind.Frequent) = refl
-is_named (verb.Change edit.Add) = refl
-is_named (verb.Join join.Merge) = refl
-is_named _ = refl
+abbrev number_of_action : Action Text → ℕ
+number_of_action (action.Create name s) = 0
+number_of_action (action.Change name c) = 1
+number_of_action (action.Join into other j) = 2
+number_of_action (action.Save name image) = 3
+number_of_action (action.Restore image name) = 4
+number_of_action (action.ShowImage image) = 5
+number_of_action (action.Ask name item) = 6
+number_of_action (action.GetStatus name) = 7
+number_of_action (action.ListRows name error_type threshold) = 8
 
--- two verbs of one word are the same
-same_verb : (v w : Verb) (xs ys : List (List ℕ)) → verb_word v ∷ xs ≡ verb_word w ∷ ys → v ≡ w
-same_verb v w xs ys e = sym (is_named v) ∙ ap (λ (l : List (List ℕ)). verb_named (get_or l 0 [])) e ∙ is_named w
+number_of_shape : (v : List ℕ) (words : List (List ℕ)) (s : Shape) → MakeShape v words s → number_of_verb v ≡ 0
+number_of_shape v words (shape.Frequent max) (m, w, e, n) = ap number_of_verb w
+number_of_shape v words (shape.FrequentSampled max sample) (m, n, w, e, x, y) = ap number_of_verb w
+number_of_shape v words (shape.CountI64 hashes buckets seed) (w, counts) = ap number_of_verb w
+number_of_shape v words (shape.CountU64 hashes buckets seed) (w, counts) = ap number_of_verb w
+number_of_shape v words (shape.Bloom bits hashes seed) (b, h, s, w, e, x, y, z) = ap number_of_verb w
 
--- the words make this command, or none where there is none
-abbrev pub IsMade : List (List ℕ) → Option (Command Text) → Type 0
-IsMade words made = MatchOption made ((command : Command Text) → ¬ Make words command) (Make words)
+number_of_change : (v : List ℕ) (words : List (List ℕ)) (c : Change Text) → MakeChange v words c → number_of_verb v ≡ 1
+number_of_change v words (change.Add item weight) (n, w, e, x) = ap number_of_verb w
+number_of_change v words (change.AddSigned item weight) (n, w, e, x) = ap number_of_verb w
+number_of_change v words (change.Insert item) (w, e) = ap number_of_verb w
+number_of_change v words change.Reset (w, e) = ap number_of_verb w
+number_of_change v words change.Halve (w, e) = ap number_of_verb w
+number_of_change v words (change.Decay numerator denominator) (n, d, w, e, x, y) = ap number_of_verb w
 
--- what is made of a verb, a name and the words after them is made of all of them
-pub is_made : (words rest : List (List ℕ)) (v : Verb) (name : List ℕ) (made : Option (Command Text)) → words ≡ verb_word v ∷ name ∷ rest → IsCommandOf v name rest made → IsMade words made
-is_made words rest v name None e none =
-    λ command makes.
-    let (w, others, f, makes_rest) = makes in
-    let both = sym e ∙ f in
-    let verb_is : w ≡ v = sym (same_verb v w (name ∷ rest) _ both) in
-    let rest_is : others ≡ rest = sym (ap (drop 2) both) in
-    none command (rw (verb_is, rest_is) at makes_rest)
-is_made words rest v name (Some command) e (name_is, makes) = (v, rest, rw name_is e, makes)
+number_of_join : (j : Join) → number_of_verb (join_word j) ≡ 2
+number_of_join join.Merge = refl
+number_of_join join.Union = refl
+number_of_join join.Intersect = refl
+number_of_join join.Difference = refl
+
+-- a verb asks for what its words make
+number_made : (v name : List ℕ) (rest : List (List ℕ)) (a : Action Text) → Make (v ∷ name ∷ rest) a → number_of_verb v ≡ number_of_action a
+number_made v name rest (action.Create n s) (w, r, e, m) = ap (λ (l : List (List ℕ)). number_of_verb (get_or l 0 [])) e ∙ number_of_shape w r s m
+number_made v name rest (action.Change n c) (w, r, e, m) = ap (λ (l : List (List ℕ)). number_of_verb (get_or l 0 [])) e ∙ number_of_change w r c m
+number_made v name rest (action.Join into other j) e = ap (λ (l : List (List ℕ)). number_of_verb (get_or l 0 [])) e ∙ number_of_join j
+number_made v name rest (action.Save n image) e = ap (λ (l : List (List ℕ)). number_of_verb (get_or l 0 [])) e
+number_made v name rest (action.Restore image n) e = ap (λ (l : List (List ℕ)). number_of_verb (get_or l 0 [])) e
+number_made v name rest (action.ShowImage image) e = ap (λ (l : List (List ℕ)). number_of_verb (get_or l 0 [])) e
+number_made v name rest (action.Ask n item) e = ap (λ (l : List (List ℕ)). number_of_verb (get_or l 0 [])) e
+number_made v name rest (action.GetStatus n) e = ap (λ (l : List (List ℕ)). number_of_verb (get_or l 0 [])) e
+number_made v name rest (action.ListRows n error_type threshold) (w, e, x) = ap (λ (l : List (List ℕ)). number_of_verb (get_or l 0 [])) e
+
+same_verb : (v w name name' : List ℕ) (xs ys : List (List ℕ)) → v ∷ name ∷ xs ≡ w ∷ name' ∷ ys → w ≡ v
+same_verb v w name name' xs ys e = sym (ap (λ (l : List (List ℕ)). get_or l 0 []) e)
+
+-- words that make no change make no action, where their verb asks for one
+pub no_change : (v name : List ℕ) (rest : List (List ℕ)) → number_of_verb v ≡ 1 → ((c : Change Text) → ¬ MakeChange v rest c) → (a : Action Text) → ¬ Make (v ∷ name ∷ rest) a
+no_change v name rest is none (action.Change n c) (w, r, e, m) =
+    let verb_is : w ≡ v = same_verb v w name (string_bytes n) rest r e in
+    let rest_is : r ≡ rest = sym (ap (drop 2) e) in
+    none c (rw (verb_is, rest_is) at m)
+no_change v name rest is none a made = omega (arith, is, number_made v name rest a made)
 
 -- a verb, a name and the words that follow them
-pub split_command : (words : List (Bor (List ℕ))) (first second : Bor (List ℕ)) (v : Verb) (n : ℕ) → 2 ≤ length words → n ≡ length words - 2 → (get_or words 0 first).now ≡ verb_word v → texts_of words ≡ verb_word v ∷ (get_or words 1 second).now ∷ texts_of (take n (drop 2 words))
-split_command [] first second v n some count e = absurd (omega arith)
-split_command (x ∷ []) first second v n some count e = absurd (omega arith)
-split_command (x ∷ y ∷ xs) first second v n some count e =
+pub split_action : (words : List (Bor (List ℕ))) (first second : Bor (List ℕ)) (v : List ℕ) (n : ℕ) → 2 ≤ length words → n ≡ length words - 2 → (get_or words 0 first).now ≡ v → texts_of words ≡ v ∷ (get_or words 1 second).now ∷ texts_of (take n (drop 2 words))
+split_action [] first second v n some count e = absurd (omega arith)
+split_action (x ∷ []) first second v n some count e = absurd (omega arith)
+split_action (x ∷ y ∷ xs) first second v n some count e =
     let whole : take n xs ≡ xs = take_all n xs (omega (arith, count)) in
-    ap (λ (w : List ℕ). w ∷ y.now ∷ texts_of xs) e ∙ ap (λ (l : List (Bor (List ℕ))). verb_word v ∷ y.now ∷ texts_of l) (sym whole)
+    ap (λ (w : List ℕ). w ∷ y.now ∷ texts_of xs) e ∙ ap (λ (l : List (Bor (List ℕ))). v ∷ y.now ∷ texts_of l) (sym whole)
 
--- one word makes no command
-pub none_of_one : (words : List (Bor (List ℕ))) → length words < 2 → (command : Command Text) → ¬ Make (texts_of words) command
-none_of_one [] few command (v, rest, e, makes) = cc
-none_of_one (x ∷ []) few command (v, rest, e, makes) = cc
-none_of_one (x ∷ y ∷ xs) few command made = omega arith
+-- one word makes no action
+pub none_of_one : (words : List (Bor (List ℕ))) → length words < 2 → (a : Action Text) → ¬ Make (texts_of words) a
+none_of_one [] few a made = omega (arith, long_made [] a made)
+none_of_one (x ∷ []) few a made = omega (arith, long_made (x.now ∷ []) a made)
+none_of_one (x ∷ y ∷ xs) few a made = omega arith

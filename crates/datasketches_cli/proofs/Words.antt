@@ -10,7 +10,7 @@ use Rattle.std.proofs.lemmas.List.Sums.{passes_at_first}
 use Rattle.std.proofs.lemmas.List.Splits.{slice_split_first}
 use Rattle.std.proofs.lemmas.Str.{IsCharBoundary-end, IsCharBoundary-before_ascii, IsCharBoundary-after_ascii}
 use Rattle.datasketches_cli.specs.Grammar.{words_of}
-use Rattle.datasketches_cli.specs.Said.{texts_of, with_word}
+use Rattle.datasketches_cli.specs.Parsing.{texts_of, with_word}
 
 abbrev is_space : ℕ → Bool
 is_space byte = eqb byte 32

@@ -6,10 +6,10 @@ use Rattle.datasketches_cli.specs.declared.request.Request.{Request}
 use Rattle.datasketches_cli.specs.declared.request.Request.TheVariants as request
 use Rattle.datasketches_cli.specs.Grammar.{words_of, number_below, report_word, Make, IsBlank}
 
--- the words make the request, which is a command
-abbrev pub AskCommand : List (List ℕ) → Request → Type 0
-AskCommand words (request.Command command) = Make words command
-AskCommand _ _ = ⊥
+-- the words make the request, which is an action of the session
+abbrev pub AskAction : List (List ℕ) → Request → Type 0
+AskAction words (request.Action action) = Make words action
+AskAction _ _ = ⊥
 
 -- the words make the request, which is one on windows
 abbrev pub AskOnWindows : List (List ℕ) → Request → Type 0
@@ -28,7 +28,7 @@ AskOnWindows _ _ = ⊥
 
 -- the words make the request
 abbrev pub Ask : List (List ℕ) → Request → Type 0
-Ask words request = AskCommand words request ⊎ AskOnWindows words request
+Ask words request = AskAction words request ⊎ AskOnWindows words request
 
 -- the line is text, and its words make the request
 abbrev pub Says : List ℕ → Request → Type 0

@@ -1,9 +1,9 @@
 pub mod Asking
 pub mod Counts
 pub mod Grammar
+pub mod Parsing
 pub mod Printing
 pub mod Reading
-pub mod Said
 pub mod Serving
 pub mod Steps
 pub mod Texts

@@ -4,27 +4,16 @@ use Rattle.std.specs.Fmt.{decimal, signed_decimal}
 use Rattle.std.specs.List.{flat_map}
 use Rattle.std.specs.String.{string_bytes}
 use Rattle.hex.specs.Hex.{encode_lower}
-use Rattle.datasketches.specs.Faults.{fault_name}
+use Rattle.datasketches.specs.Refusals.{refusal_name}
 use Rattle.datasketches.specs.RowValue.{RowValue}
 use Rattle.datasketches.specs.declared.reply.Reply.{Reply}
 use Rattle.datasketches.specs.declared.reply.Reply.TheVariants as reply
-use Rattle.datasketches.specs.declared.reply.Refusal.{Refusal}
-use Rattle.datasketches.specs.declared.reply.Refusal.TheVariants as refusal
 use Rattle.datasketches.specs.declared.reply.Status.{Status}
 use Rattle.datasketches.specs.declared.reply.Status.TheVariants as status
 use Rattle.heavy_windows.specs.declared.report.Report.{Report}
 use Rattle.datasketches_cli.specs.declared.request.Answer.{Answer}
 use Rattle.datasketches_cli.specs.declared.request.Answer.TheVariants as answer
 use Rattle.datasketches_cli.specs.Texts.{Text}
-
--- a refusal's name
-abbrev pub refusal_name : Refusal → List ℕ
-refusal_name refusal.NoSuchName = codes "NoSuchName"
-refusal_name refusal.NameTaken = codes "NameTaken"
-refusal_name refusal.WrongKind = codes "WrongKind"
-refusal_name refusal.SameName = codes "SameName"
-refusal_name refusal.BadFraction = codes "BadFraction"
-refusal_name (refusal.Call error) = fault_name error.fault
 
 -- a sketch's kind and its numbers
 abbrev pub status_text : Status → List ℕ

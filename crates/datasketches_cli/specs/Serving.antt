@@ -3,13 +3,15 @@ use Rattle.std.specs.Prelude.{◌≡◌, ℕ, Bool, true, false, List, [], ◌++
 use Rattle.std.specs.Io.BufRead.{strip_last}
 use Rattle.std.specs.Io.KnownBytes.{Appends}
 use Rattle.std.specs.String.{string_bytes}
-use Rattle.datasketches.specs.declared.command.Command.{Command}
+use Rattle.datasketches.specs.declared.action.Action.{Action}
+use Rattle.datasketches.specs.declared.action.Action.TheVariants as action
+use Rattle.datasketches.specs.declared.change.Change.{Change}
 use Rattle.datasketches_cli.specs.Asking.{Says, IsBad}
 use Rattle.datasketches_cli.specs.Grammar.{IsBlank}
 use Rattle.datasketches_cli.specs.Texts.{Text}
-use Rattle.datasketches_cli.specs.declared.answering.Answering.{Answering}
-use Rattle.datasketches_cli.specs.declared.answering.Line.{Line}
-use Rattle.datasketches_cli.specs.declared.answering.Line.TheVariants as line
+use Rattle.datasketches_cli.specs.declared.responder.Responder.{Responder}
+use Rattle.datasketches_cli.specs.declared.responder.LineOutcome.{LineOutcome}
+use Rattle.datasketches_cli.specs.declared.responder.LineOutcome.TheVariants as line
 use Rattle.datasketches_cli.specs.declared.request.Answer.{Answer}
 use Rattle.datasketches_cli.specs.declared.request.Request.{Request}
 use Rattle.datasketches_cli.specs.declared.request.Request.TheVariants as request
@@ -22,33 +24,40 @@ abbrev pub WritesFront : Option (List ℕ) → Option (List ℕ) → List ℕ �
 WritesFront held holds gathered left = (front : List ℕ) × Appends held holds front × (gathered ≡ front ++ left)
 
 -- the request was done, and its answer stands behind what was gathered
-abbrev pub HasAnswered : Request → Answering → Answering → Type 0
+abbrev pub HasAnswered : Request → Responder → Responder → Type 0
 HasAnswered request old new =
-    (answer : Answer) × ServingStep old.serving request answer new.serving
+    (answer : Answer) × ServingStep old.state request answer new.state
     × (string_bytes new.replies ≡ string_bytes old.replies ++ answer_line answer)
 
 -- nothing was done, and nothing gathered
-abbrev pub IsIdle : Answering → Answering → Type 0
-IsIdle old new = (new.serving ≡ old.serving) × (string_bytes new.replies ≡ string_bytes old.replies)
+abbrev pub IsIdle : Responder → Responder → Type 0
+IsIdle old new = (new.state ≡ old.state) × (string_bytes new.replies ≡ string_bytes old.replies)
 
 -- a request that is asked for was answered, or there is none
-abbrev pub Answers : (Request → Type 0) → Bool → Answering → Answering → Type 0
+abbrev pub Answers : (Request → Type 0) → Bool → Responder → Responder → Type 0
 Answers IsAsked true old new = (request : Request) × IsAsked request × HasAnswered request old new
 Answers IsAsked false old new = ((request : Request) → ¬ IsAsked request) × IsIdle old new
 
--- the request is the command, if there is one
-abbrev pub IsRequest : Option (Command Text) → Request → Type 0
+-- the request is the action, if there is one
+abbrev pub IsRequest : Option (Action Text) → Request → Type 0
 IsRequest None asked = ⊥
-IsRequest (Some command) asked = asked ≡ request.Command command
+IsRequest (Some action) asked = asked ≡ request.Action action
+
+-- the change of the sketch of this name was done and answered, if there is one
+abbrev pub AnswersChange : List ℕ → Option (Change Text) → Bool → Responder → Responder → Type 0
+AnswersChange name None found old new = (found ≡ false) × IsIdle old new
+AnswersChange name (Some change) found old new =
+    (found ≡ true) × (named : Text) × (string_bytes named ≡ name)
+    × HasAnswered (request.Action (action.Change named change)) old new
 
 -- what became of the line
-abbrev pub IsAnswered : List ℕ → Answering → Answering → Line → Type 0
+abbrev pub IsAnswered : List ℕ → Responder → Responder → LineOutcome → Type 0
 IsAnswered text old new line.Blank = IsBlank text × IsIdle old new
 IsAnswered text old new line.Answered = Answers (Says text) true old new
 IsAnswered text old new line.Bad = IsBad text × IsIdle old new
 
 -- what became of the next line, or none where no input is left
-abbrev pub AnswersNext : Option (List ℕ) → Option (List ℕ) → Answering → Answering → Option Line → Type 0
+abbrev pub AnswersNext : Option (List ℕ) → Option (List ℕ) → Responder → Responder → Option LineOutcome → Type 0
 AnswersNext was is old new None = IfSome was (λ bytes. bytes ≡ []) × IsIdle old new
 AnswersNext was is old new (Some became) =
     (line : List ℕ) × TakesLine true was is line

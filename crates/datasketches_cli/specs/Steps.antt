@@ -2,7 +2,7 @@
 use Rattle.std.specs.Prelude.{◌≡◌, ℕ, [], Option, Some, None, Result, Ok, Err, ⊤}
 use Rattle.std.specs.String.{string_bytes, string_eq}
 use Rattle.datasketches.specs.ErrorType.{ErrorType}
-use Rattle.datasketches.specs.Steps.{Step}
+use Rattle.datasketches.specs.Steps.{Performs}
 use Rattle.datasketches.specs.declared.reply.Refusal.{Refusal}
 use Rattle.datasketches.specs.declared.reply.Refusal.TheVariants.{NoSuchName, NameTaken, Call}
 use Rattle.datasketches.specs.declared.reply.Reply.{Reply}
@@ -15,7 +15,7 @@ use Rattle.datasketches_cli.specs.declared.request.Answer.{Answer}
 use Rattle.datasketches_cli.specs.declared.request.Answer.TheVariants as answer
 use Rattle.datasketches_cli.specs.declared.request.Request.{Request}
 use Rattle.datasketches_cli.specs.declared.request.Request.TheVariants as request
-use Rattle.datasketches_cli.specs.declared.serving.Serving.{Serving}
+use Rattle.datasketches_cli.specs.declared.state.State.{State}
 use Rattle.datasketches_cli.specs.Texts.{Text, text_codec, text_input}
 
 -- windows of tenants, if there are any
@@ -23,7 +23,7 @@ abbrev pub Windows : Type 0
 Windows = Option (WindowsState Text)
 
 -- no sketch, no image and no windows
-abbrev pub nothing_served : Serving
+abbrev pub nothing_served : State
 nothing_served = record { session = record { sketches = []; images = [] }; windows = None }
 
 -- a call's refusal is the request's
@@ -67,15 +67,15 @@ report_or_refused (Ok report) = answer.Report report
 report_or_refused (Err refusal) = answer.Reply (Refused refusal)
 
 -- a request to windows had this outcome, and left the session alone
-abbrev pub OfWindows : (Windows → Result ⊤ Refusal → Windows → Type 0) → Serving → Answer → Serving → Type 0
+abbrev pub OfWindows : (Windows → Result ⊤ Refusal → Windows → Type 0) → State → Answer → State → Type 0
 OfWindows Does old given new =
     (outcome : Result ⊤ Refusal) × Does old.windows outcome new.windows × (given ≡ done_or_refused outcome)
     × (new.session ≡ old.session)
 
--- what a request does: a command is a step of the session; the others are calls on the windows
-abbrev pub ServingStep : Serving → Request → Answer → Serving → Type 0
-ServingStep old (request.Command command) given new =
-    (reply : Reply Text) × Step string_eq text_input text_codec string_bytes old.session command reply new.session
+-- what a request does: an action is a step of the session; the others are calls on the windows
+abbrev pub ServingStep : State → Request → Answer → State → Type 0
+ServingStep old (request.Action action) given new =
+    (reply : Reply Text) × Performs string_eq text_input text_codec string_bytes old.session action reply new.session
     × (given ≡ answer.Reply reply) × (new.windows ≡ old.windows)
 ServingStep old (request.Windows windows max_map_size) given new = OfWindows (Opens windows max_map_size) old given new
 ServingStep old (request.Add tenant weight item) given new = OfWindows (AddsTo tenant weight item) old given new

@@ -9,7 +9,7 @@ use Rattle.datasketches_cli.specs.declared.serve.Ended.TheVariants.{All, BadLine
 use Rattle.datasketches_cli.specs.Printing.{answer_text}
 use Rattle.datasketches_cli.specs.declared.request.Answer.{Answer}
 use Rattle.datasketches_cli.specs.declared.request.Request.{Request}
-use Rattle.datasketches_cli.specs.declared.serving.Serving.{Serving}
+use Rattle.datasketches_cli.specs.declared.state.State.{State}
 use Rattle.datasketches_cli.specs.Asking.{Says, IsBad}
 use Rattle.datasketches_cli.specs.Grammar.{IsBlank}
 use Rattle.datasketches_cli.specs.Steps.{nothing_served, ServingStep}
@@ -34,12 +34,12 @@ bad_line number = codes "bad line " ++ decimal number ++ codes "\n"
 
 -- the text is what is written for the lines, the first of which has this number, by what serves them: nothing for a
 -- blank line; for a request its answer, and then what is written after it; for a bad line its number, and nothing more
-abbrev pub Transcript : ℕ → Serving → List (List ℕ) → Ended → List ℕ → Type 0
-Transcript number serving [] ended text = (ended ≡ All) × (text ≡ [])
-Transcript number serving (line ∷ lines) ended text =
-    (IsBlank line × Transcript (number + 1) serving lines ended text)
-    ⊎ ((request : Request) × (answer : Answer) × (after : Serving) × (rest : List ℕ)
-    × Says line request × ServingStep serving request answer after × (text ≡ answer_line answer ++ rest)
+abbrev pub Transcript : ℕ → State → List (List ℕ) → Ended → List ℕ → Type 0
+Transcript number state [] ended text = (ended ≡ All) × (text ≡ [])
+Transcript number state (line ∷ lines) ended text =
+    (IsBlank line × Transcript (number + 1) state lines ended text)
+    ⊎ ((request : Request) × (answer : Answer) × (after : State) × (rest : List ℕ)
+    × Says line request × ServingStep state request answer after × (text ≡ answer_line answer ++ rest)
     × Transcript (number + 1) after lines ended rest)
     ⊎ (IsBad line × (ended ≡ BadLine number) × (text ≡ bad_line number))
 

@@ -1,476 +1,144 @@
-//! Words to requests.
-ghost use Rattle.std.specs.Prelude.{◌≡◌, ◌≤◌, ◌^◌, [], ◌∷◌, IfOk, string_bytes, codes, length, take};
-ghost use Rattle.datasketches_cli.specs.Grammar.{words_of, number_below, signed_number};
-ghost use Rattle.datasketches_cli.specs.Said.{IsVerbOf, IsReportOf, texts_of};
-ghost use Rattle.datasketches_cli.specs.Said.{AreCountsOf, IsCommandOf, IsWindowsRequestOf, with_word};
+//! Words to actions.
+ghost use Rattle.std.specs.Prelude.{◌∷◌, IfOk, codes};
+ghost use Rattle.datasketches_cli.specs.Grammar.{join_word};
+ghost use Rattle.datasketches_cli.specs.Parsing.{IsActionOf, IsJoinOf, texts_of};
 
-use crate::request::Request;
-use crate::search::first_place;
-use datasketches::frequencies::ErrorType;
-use datasketches::{Command, Recycled};
+pub mod change;
+mod number;
+mod shape;
+pub mod windows;
+pub mod words;
+
+use change::change_of;
+use datasketches::{Action, Join, Recycled};
+use number::number_of;
+use shape::shape_of;
 use std::alloc::{AllocError, Global};
+use words::{copied, error_type_of};
 
-/// The first word of a command.
-#[derive(Clone, Copy)]
-pub enum Verb {
-    Create(Kind),
-    Change(Edit),
-    Join(JoinKind),
-    Save,
-    Restore,
-    Image,
-    Ask,
-    Status,
-    Rows,
-}
+/// The action that some words make, if they make one.
+type ParsedAction = Result<Option<Action<String>>, AllocError>;
 
-/// A kind of sketch.
-#[derive(Clone, Copy)]
-pub enum Kind {
-    Frequent,
-    FrequentSampled,
-    CountI64,
-    CountU64,
-    Bloom,
-}
-
-/// A kind of change.
-#[derive(Clone, Copy)]
-pub enum Edit {
-    Add,
-    AddSigned,
-    Insert,
-    Reset,
-    Halve,
-    Decay,
-}
-
-/// A way to join sketches.
-#[derive(Clone, Copy)]
-pub enum JoinKind {
-    Merge,
-    Union,
-    Intersect,
-    Difference,
-}
-
-/// How many words of a line are looked at: one more than the longest command has.
-pub const MOST_WORDS: usize = 6;
-
-/// The request that some words make, if they make one.
-pub type Asked = Result<Option<Request>, AllocError>;
-
-/// The command that some words make, if they make one.
-pub type Made = Result<Option<Command<String>>, AllocError>;
-
-/// The request on windows that the words make.
-pub fn windows_request_of(alloc: Global, words: &[&str]) -> Asked
-    ensures { IfOk result (IsWindowsRequestOf (texts_of words.now)) }
-{
-    let [verb, rest @ ..] = words else {
-        return Ok(None);
-    };
-    match *verb {
-        "windows" => Ok(windows(rest)),
-        "hadd" => Ok(hadd(alloc, rest)?),
-        "hturn" => Ok(hturn(rest)),
-        "hreport" => Ok(hreport(rest)),
-        _ => Ok(None),
-    }
-}
-
-/// The request that the words after `windows` make.
-fn windows(words: &[&str]) -> Option<Request>
-    ensures { IsWindowsRequestOf (codes "windows" ∷ texts_of words.now) result }
-{
-    let [windows, max_map_size] = words else {
-        return None;
-    };
-    Some(Request::Windows {
-        windows: number_of(windows)?,
-        max_map_size: number_of(max_map_size)?,
-    })
-}
-
-/// The same of `hadd`.
-fn hadd(alloc: Global, words: &[&str]) -> Asked
-    ensures { IfOk result (IsWindowsRequestOf (codes "hadd" ∷ texts_of words.now)) }
-{
-    let [tenant, weight, item] = words else {
-        return Ok(None);
-    };
-    let (Some(tenant), Some(weight)) = (number_of(tenant), number_of(weight)) else {
-        return Ok(None);
-    };
-    let item = String::from_str(alloc, item)?;
-    Ok(Some(Request::Add {
-        tenant,
-        weight,
-        item,
-    }))
-}
-
-/// The same of `hturn`.
-fn hturn(words: &[&str]) -> Option<Request>
-    ensures { IsWindowsRequestOf (codes "hturn" ∷ texts_of words.now) result }
-{
-    let [tenant] = words else {
-        return None;
-    };
-    Some(Request::Turn {
-        tenant: number_of(tenant)?,
-    })
-}
-
-/// The same of `hreport`.
-fn hreport(words: &[&str]) -> Option<Request>
-    ensures { IsWindowsRequestOf (codes "hreport" ∷ texts_of words.now) result }
-{
-    let [tenant, report, threshold] = words else {
-        return None;
-    };
-    Some(Request::Report {
-        tenant: number_of(tenant)?,
-        error_type: error_type_of(report)?,
-        threshold: number_of(threshold)?,
-    })
-}
-
-/// Puts the first words of a text, which stand between spaces, into an array. Answers how many there are.
-pub fn first_words<'a>(text: &'a str, words: &mut [&'a str; MOST_WORDS]) -> usize
-    ensures few { result ≤ length words.new }
-    ensures words { texts_of (take result words.new) ≡ take MOST_WORDS (words_of text.now) }
-{
-    let mut count = 0;
-    let mut rest = text;
-    while count < MOST_WORDS {
-        let (word, after) = next_word(rest);
-        if word.is_empty() {
-            return count;
-        }
-        words[count] = word;
-        count += 1;
-        rest = after;
-    }
-    count
-}
-
-/// The first word of a text, which is empty where there is none, and the text after it.
-fn next_word(text: &str) -> (&str, &str)
-    ensures { words_of text.now ≡ with_word result.0.now (words_of result.1.now) }
-{
-    let bytes = text.as_bytes();
-    let mut start = 0;
-    while start < bytes.len() && bytes[start] == b' ' {
-        start += 1;
-    }
-    let (_, text) = text.split_at(start);
-    text.split_at(first_place(b' ', text.as_bytes()))
-}
-
-/// The command of a verb and a name.
-pub fn command_of(
+/// The action that a verb, a name and the words behind it make.
+pub fn action_of(
     alloc: Global,
-    verb: Verb,
+    verb: &str,
     name: &str,
     words: &[&str],
-    spare: &mut Recycled<String>,
-) -> Made
-    ensures { IfOk result (IsCommandOf verb name.now (texts_of words.now)) }
+    recycled: &mut Recycled<String>,
+) -> ParsedAction
+    ensures { IfOk result (IsActionOf (verb.now ∷ name.now ∷ texts_of words.now)) }
 {
     match verb {
-        Verb::Create(kind) => create(alloc, kind, name, words),
-        Verb::Change(edit) => change(alloc, edit, name, words, spare),
-        Verb::Join(by) => join(alloc, by, name, words),
-        Verb::Save => save(alloc, name, words),
-        Verb::Restore => restore(alloc, name, words),
-        Verb::Image => image(alloc, name, words),
-        Verb::Ask => ask(alloc, name, words, spare),
-        Verb::Status => status(alloc, name, words),
-        Verb::Rows => rows(alloc, name, words),
+        "save" => save(alloc, name, words),
+        "restore" => restore(alloc, name, words),
+        "image" => show_image(alloc, name, words),
+        "ask" => ask(alloc, name, words, recycled),
+        "status" => status(alloc, name, words),
+        "rows" => rows(alloc, name, words),
+        _ => {
+            if let Some(change) = change_of(alloc, verb, words, &mut recycled.item)? {
+                let name = copied(alloc, name, &mut recycled.name)?;
+                return Ok(Some(Action::Change { name, change }));
+            }
+            if let Some(join) = join_of(verb) {
+                return join_named(alloc, join, name, words);
+            }
+            if let Some(shape) = shape_of(verb, words) {
+                let name = String::from_str(alloc, name)?;
+                return Ok(Some(Action::Create { name, shape }));
+            }
+            Ok(None)
+        }
     }
 }
 
-/// The verb that a word is.
-pub fn verb_of(word: &str) -> Option<Verb>
-    ensures { IsVerbOf word.now result }
+/// The way to join sketches that a verb is.
+fn join_of(verb: &str) -> Option<Join>
+    ensures { IsJoinOf verb.now result }
 {
-    match word {
-        // most lines begin with one of these
-        "add" => Some(Verb::Change(Edit::Add)),
-        "insert" => Some(Verb::Change(Edit::Insert)),
-        "ask" => Some(Verb::Ask),
-        "adds" => Some(Verb::Change(Edit::AddSigned)),
-        "frequent" => Some(Verb::Create(Kind::Frequent)),
-        "sampled" => Some(Verb::Create(Kind::FrequentSampled)),
-        "counti" => Some(Verb::Create(Kind::CountI64)),
-        "countu" => Some(Verb::Create(Kind::CountU64)),
-        "bloom" => Some(Verb::Create(Kind::Bloom)),
-        "reset" => Some(Verb::Change(Edit::Reset)),
-        "halve" => Some(Verb::Change(Edit::Halve)),
-        "decay" => Some(Verb::Change(Edit::Decay)),
-        "merge" => Some(Verb::Join(JoinKind::Merge)),
-        "union" => Some(Verb::Join(JoinKind::Union)),
-        "intersect" => Some(Verb::Join(JoinKind::Intersect)),
-        "difference" => Some(Verb::Join(JoinKind::Difference)),
-        "save" => Some(Verb::Save),
-        "restore" => Some(Verb::Restore),
-        "image" => Some(Verb::Image),
-        "status" => Some(Verb::Status),
-        "rows" => Some(Verb::Rows),
+    match verb {
+        "merge" => Some(Join::Merge),
+        "union" => Some(Join::Union),
+        "intersect" => Some(Join::Intersect),
+        "difference" => Some(Join::Difference),
         _ => None,
     }
 }
 
-fn create(alloc: Global, kind: Kind, name: &str, words: &[&str]) -> Made
-    ensures { IfOk result (IsCommandOf (Verb.Create kind) name.now (texts_of words.now)) }
-{
-    match kind {
-        Kind::Frequent => {
-            let [max_map_size] = words else {
-                return Ok(None);
-            };
-            let Some(max_map_size) = number_of(max_map_size) else {
-                return Ok(None);
-            };
-            let name = String::from_str(alloc, name)?;
-            Ok(Some(Command::CreateFrequent {
-                name,
-                max_map_size: max_map_size as usize,
-            }))
-        }
-        Kind::FrequentSampled => {
-            let [max_map_size, sample_size] = words else {
-                return Ok(None);
-            };
-            let (Some(max_map_size), Some(sample_size)) = (
-                number_of(max_map_size),
-                number_of(sample_size),
-            ) else {
-                return Ok(None);
-            };
-            let name = String::from_str(alloc, name)?;
-            Ok(Some(Command::CreateFrequentSampled {
-                name,
-                max_map_size: max_map_size as usize,
-                sample_size: sample_size as usize,
-            }))
-        }
-        Kind::CountI64 => {
-            let Some((num_hashes, num_buckets, seed)) = counts_of(words) else {
-                return Ok(None);
-            };
-            let name = String::from_str(alloc, name)?;
-            Ok(Some(Command::CreateCountI64 {
-                name,
-                num_hashes,
-                num_buckets,
-                seed,
-            }))
-        }
-        Kind::CountU64 => {
-            let Some((num_hashes, num_buckets, seed)) = counts_of(words) else {
-                return Ok(None);
-            };
-            let name = String::from_str(alloc, name)?;
-            Ok(Some(Command::CreateCountU64 {
-                name,
-                num_hashes,
-                num_buckets,
-                seed,
-            }))
-        }
-        Kind::Bloom => {
-            let [num_bits, num_hashes, seed] = words else {
-                return Ok(None);
-            };
-            let (Some(num_bits), Some(num_hashes), Some(seed)) = (
-                number_of(num_bits),
-                number_of_u16(num_hashes),
-                number_of(seed),
-            ) else {
-                return Ok(None);
-            };
-            let name = String::from_str(alloc, name)?;
-            Ok(Some(Command::CreateBloom {
-                name,
-                num_bits,
-                num_hashes,
-                seed,
-            }))
-        }
-    }
-}
-
-pub fn change(
-    alloc: Global,
-    edit: Edit,
-    name: &str,
-    words: &[&str],
-    spare: &mut Recycled<String>,
-) -> Made
-    ensures { IfOk result (IsCommandOf (Verb.Change edit) name.now (texts_of words.now)) }
-{
-    match edit {
-        Edit::Add => add(alloc, name, words, spare),
-        Edit::AddSigned => add_signed(alloc, name, words, spare),
-        Edit::Insert => insert(alloc, name, words, spare),
-        Edit::Reset => reset(alloc, name, words),
-        Edit::Halve => halve(alloc, name, words),
-        Edit::Decay => decay(alloc, name, words),
-    }
-}
-
-#[inline(always)]
-pub fn add(alloc: Global, name: &str, words: &[&str], spare: &mut Recycled<String>) -> Made
-    ensures { IfOk result (IsCommandOf (Verb.Change Edit.Add) name.now (texts_of words.now)) }
-{
-    let [weight, item] = words else {
-        return Ok(None);
-    };
-    let Some(weight) = number_of(weight) else {
-        return Ok(None);
-    };
-    let name = copied(alloc, name, &mut spare.name)?;
-    let item = copied(alloc, item, &mut spare.item)?;
-    Ok(Some(Command::Add { name, item, weight }))
-}
-
-fn add_signed(alloc: Global, name: &str, words: &[&str], spare: &mut Recycled<String>) -> Made
-    ensures { IfOk result (IsCommandOf (Verb.Change Edit.AddSigned) name.now (texts_of words.now)) }
-{
-    let [weight, item] = words else {
-        return Ok(None);
-    };
-    let Some(weight) = signed_number(weight) else {
-        return Ok(None);
-    };
-    let name = copied(alloc, name, &mut spare.name)?;
-    let item = copied(alloc, item, &mut spare.item)?;
-    Ok(Some(Command::AddSigned { name, item, weight }))
-}
-
-#[inline(always)]
-pub fn insert(alloc: Global, name: &str, words: &[&str], spare: &mut Recycled<String>) -> Made
-    ensures { IfOk result (IsCommandOf (Verb.Change Edit.Insert) name.now (texts_of words.now)) }
-{
-    let [item] = words else {
-        return Ok(None);
-    };
-    let name = copied(alloc, name, &mut spare.name)?;
-    let item = copied(alloc, item, &mut spare.item)?;
-    Ok(Some(Command::Insert { name, item }))
-}
-
-fn reset(alloc: Global, name: &str, words: &[&str]) -> Made
-    ensures { IfOk result (IsCommandOf (Verb.Change Edit.Reset) name.now (texts_of words.now)) }
-{
-    if !words.is_empty() {
-        return Ok(None);
-    }
-    let name = String::from_str(alloc, name)?;
-    Ok(Some(Command::Reset { name }))
-}
-
-fn halve(alloc: Global, name: &str, words: &[&str]) -> Made
-    ensures { IfOk result (IsCommandOf (Verb.Change Edit.Halve) name.now (texts_of words.now)) }
-{
-    if !words.is_empty() {
-        return Ok(None);
-    }
-    let name = String::from_str(alloc, name)?;
-    Ok(Some(Command::Halve { name }))
-}
-
-fn decay(alloc: Global, name: &str, words: &[&str]) -> Made
-    ensures { IfOk result (IsCommandOf (Verb.Change Edit.Decay) name.now (texts_of words.now)) }
-{
-    let [numerator, denominator] = words else {
-        return Ok(None);
-    };
-    let (Some(numerator), Some(denominator)) = (number_of(numerator), number_of(denominator)) else {
-        return Ok(None);
-    };
-    let name = String::from_str(alloc, name)?;
-    Ok(Some(Command::Decay {
-        name,
-        numerator,
-        denominator,
-    }))
-}
-
-fn join(alloc: Global, by: JoinKind, name: &str, words: &[&str]) -> Made
-    ensures { IfOk result (IsCommandOf (Verb.Join by) name.now (texts_of words.now)) }
+fn join_named(alloc: Global, join: Join, into: &str, words: &[&str]) -> ParsedAction
+    ensures { IfOk result (IsActionOf (join_word join ∷ into.now ∷ texts_of words.now)) }
 {
     let [other] = words else {
         return Ok(None);
     };
-    let into = String::from_str(alloc, name)?;
+    let into = String::from_str(alloc, into)?;
     let other = String::from_str(alloc, other)?;
-    Ok(Some(match by {
-        JoinKind::Merge => Command::Merge { into, other },
-        JoinKind::Union => Command::Union { into, other },
-        JoinKind::Intersect => Command::Intersect { into, other },
-        JoinKind::Difference => Command::Difference { into, other },
-    }))
+    Ok(Some(Action::Join { into, other, join }))
 }
 
-fn save(alloc: Global, name: &str, words: &[&str]) -> Made
-    ensures { IfOk result (IsCommandOf Verb.Save name.now (texts_of words.now)) }
+fn save(alloc: Global, name: &str, words: &[&str]) -> ParsedAction
+    ensures { IfOk result (IsActionOf (codes "save" ∷ name.now ∷ texts_of words.now)) }
 {
     let [image] = words else {
         return Ok(None);
     };
     let name = String::from_str(alloc, name)?;
     let image = String::from_str(alloc, image)?;
-    Ok(Some(Command::Save { name, image }))
+    Ok(Some(Action::Save { name, image }))
 }
 
-fn restore(alloc: Global, image: &str, words: &[&str]) -> Made
-    ensures { IfOk result (IsCommandOf Verb.Restore image.now (texts_of words.now)) }
+fn restore(alloc: Global, image: &str, words: &[&str]) -> ParsedAction
+    ensures { IfOk result (IsActionOf (codes "restore" ∷ image.now ∷ texts_of words.now)) }
 {
     let [name] = words else {
         return Ok(None);
     };
     let image = String::from_str(alloc, image)?;
     let name = String::from_str(alloc, name)?;
-    Ok(Some(Command::Restore { image, name }))
+    Ok(Some(Action::Restore { image, name }))
 }
 
-fn image(alloc: Global, name: &str, words: &[&str]) -> Made
-    ensures { IfOk result (IsCommandOf Verb.Image name.now (texts_of words.now)) }
+fn show_image(alloc: Global, image: &str, words: &[&str]) -> ParsedAction
+    ensures { IfOk result (IsActionOf (codes "image" ∷ image.now ∷ texts_of words.now)) }
 {
     if !words.is_empty() {
         return Ok(None);
     }
-    let image = String::from_str(alloc, name)?;
-    Ok(Some(Command::ShowImage { image }))
+    let image = String::from_str(alloc, image)?;
+    Ok(Some(Action::ShowImage { image }))
 }
 
+/// The action of `ask`.
 #[inline(always)]
-pub fn ask(alloc: Global, name: &str, words: &[&str], spare: &mut Recycled<String>) -> Made
-    ensures { IfOk result (IsCommandOf Verb.Ask name.now (texts_of words.now)) }
+pub fn ask(
+    alloc: Global,
+    name: &str,
+    words: &[&str],
+    recycled: &mut Recycled<String>,
+) -> ParsedAction
+    ensures { IfOk result (IsActionOf (codes "ask" ∷ name.now ∷ texts_of words.now)) }
 {
     let [item] = words else {
         return Ok(None);
     };
-    let name = copied(alloc, name, &mut spare.name)?;
-    let item = copied(alloc, item, &mut spare.item)?;
-    Ok(Some(Command::Ask { name, item }))
+    let name = copied(alloc, name, &mut recycled.name)?;
+    let item = copied(alloc, item, &mut recycled.item)?;
+    Ok(Some(Action::Ask { name, item }))
 }
 
-fn status(alloc: Global, name: &str, words: &[&str]) -> Made
-    ensures { IfOk result (IsCommandOf Verb.Status name.now (texts_of words.now)) }
+fn status(alloc: Global, name: &str, words: &[&str]) -> ParsedAction
+    ensures { IfOk result (IsActionOf (codes "status" ∷ name.now ∷ texts_of words.now)) }
 {
     if !words.is_empty() {
         return Ok(None);
     }
     let name = String::from_str(alloc, name)?;
-    Ok(Some(Command::GetStatus { name }))
+    Ok(Some(Action::GetStatus { name }))
 }
 
-fn rows(alloc: Global, name: &str, words: &[&str]) -> Made
-    ensures { IfOk result (IsCommandOf Verb.Rows name.now (texts_of words.now)) }
+fn rows(alloc: Global, name: &str, words: &[&str]) -> ParsedAction
+    ensures { IfOk result (IsActionOf (codes "rows" ∷ name.now ∷ texts_of words.now)) }
 {
     let [report, threshold] = words else {
         return Ok(None);
@@ -479,102 +147,9 @@ fn rows(alloc: Global, name: &str, words: &[&str]) -> Made
         return Ok(None);
     };
     let name = String::from_str(alloc, name)?;
-    Ok(Some(Command::ListRows {
+    Ok(Some(Action::ListRows {
         name,
         error_type,
         threshold,
     }))
-}
-
-/// A copy of a text, in the memory of the spare one, if there is one.
-#[inline(always)]
-fn copied(alloc: Global, text: &str, spare: &mut Option<String>) -> Result<String, AllocError>
-    ensures { IfOk result (λ copy. string_bytes copy ≡ text.now) }
-{
-    let mut copy = spare.take().unwrap_or(String::new(alloc));
-    copy.clear();
-    copy.push_str(text)?;
-    Ok(copy)
-}
-
-/// The numbers of a Count-Min sketch: its hashes, its buckets and its seed.
-fn counts_of(words: &[&str]) -> Option<(u8, u32, u64)>
-    ensures { AreCountsOf (texts_of words.now) result }
-{
-    let [num_hashes, num_buckets, seed] = words else {
-        return None;
-    };
-    Some((
-        number_of_u8(num_hashes)?,
-        number_of_u32(num_buckets)?,
-        number_of(seed)?,
-    ))
-}
-
-/// The kind of report that a word names.
-fn error_type_of(word: &str) -> Option<ErrorType>
-    ensures { IsReportOf word.now result }
-{
-    match word {
-        "fn" => Some(ErrorType::NoFalseNegatives),
-        "fp" => Some(ErrorType::NoFalsePositives),
-        _ => None,
-    }
-}
-
-/// The number that the digits of a word make, where it is one of 64 bits.
-fn number_of(word: &str) -> Option<u64>
-    ensures { result ≡ number_below (2 ^ 64) word.now }
-{
-    // most weights are of one digit
-    if let [byte] = word.as_bytes() {
-        return digit_of(*byte);
-    }
-    // std's `parse` takes a sign in front of the digits
-    if word.as_bytes().first() == Some(&b'+') {
-        return None;
-    }
-    word.parse::<u64>().ok()
-}
-
-/// The number that a digit is.
-fn digit_of(byte: u8) -> Option<u64>
-    ensures { result ≡ number_below (2 ^ 64) (byte ∷ []) }
-{
-    if byte.is_ascii_digit() {
-        Some(u64::from(byte - b'0'))
-    } else {
-        None
-    }
-}
-
-/// The same of 32 bits.
-fn number_of_u32(word: &str) -> Option<u32>
-    ensures { result ≡ number_below (2 ^ 32) word.now }
-{
-    u32::try_from(number_of(word)?).ok()
-}
-
-/// The same of 16 bits.
-fn number_of_u16(word: &str) -> Option<u16>
-    ensures { result ≡ number_below (2 ^ 16) word.now }
-{
-    u16::try_from(number_of(word)?).ok()
-}
-
-/// The same of 8 bits.
-fn number_of_u8(word: &str) -> Option<u8>
-    ensures { result ≡ number_below (2 ^ 8) word.now }
-{
-    u8::try_from(number_of(word)?).ok()
-}
-
-/// The number of 64 bits that the digits of a word make, after a minus sign or none.
-fn signed_number(word: &str) -> Option<i64>
-    ensures { result ≡ signed_number word.now }
-{
-    if word.as_bytes().first() == Some(&b'+') {
-        return None;
-    }
-    word.parse::<i64>().ok()
 }

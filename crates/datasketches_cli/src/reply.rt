@@ -2,13 +2,13 @@
 ghost use Rattle.std.specs.Prelude.{◌≡◌, ◌++◌, OnOk, string_bytes, codes};
 ghost use Rattle.hex.specs.Hex.{encode_lower};
 ghost use Rattle.std.specs.List.{flat_map};
-ghost use Rattle.datasketches_cli.specs.Printing.{report_text, reply_text, status_text, refusal_name, row_text};
+ghost use Rattle.datasketches_cli.specs.Printing.{report_text, reply_text, status_text, row_text};
 ghost use Rattle.datasketches_cli.specs.Transcript.{answer_line};
 
 use crate::request::Answer;
-use crate::serve::Stopped;
+use crate::stopped::Stopped;
 use datasketches::frequencies::Row;
-use datasketches::{Refusal, Reply, Status};
+use datasketches::{Reply, Status};
 use heavy_windows::Report;
 use std::alloc::Global;
 use std::fmt::Write;
@@ -70,7 +70,7 @@ fn write_reply(alloc: Global, out: &mut String, reply: &Reply<String>) -> Result
             write_image(alloc, out, bytes)?;
             out.push_str("\n")?;
         }
-        Reply::Refused(refusal) => writeln!(out, "refused {}", refusal_name(refusal))?,
+        Reply::Refused(refusal) => writeln!(out, "refused {}", refusal.name())?,
     }
     Ok(())
 }
@@ -203,18 +203,4 @@ fn write_rows(out: &mut String, rows: &[Row<String>]) -> Result<(), Stopped>
         )?;
     }
     Ok(())
-}
-
-/// A refusal's name.
-fn refusal_name(refusal: &Refusal) -> &'static str
-    ensures { result.now ≡ refusal_name refusal.now }
-{
-    match refusal {
-        Refusal::NoSuchName => "NoSuchName",
-        Refusal::NameTaken => "NameTaken",
-        Refusal::WrongKind => "WrongKind",
-        Refusal::SameName => "SameName",
-        Refusal::BadFraction => "BadFraction",
-        Refusal::Call(error) => error.fault().name(),
-    }
 }

@@ -1,13 +1,13 @@
 //! What a line asks for, and what answers it.
 use datasketches::frequencies::ErrorType;
-use datasketches::{Command, Reply};
+use datasketches::{Action, Reply};
 use heavy_windows::Report;
 
 /// What a line asks for.
 #[derive(Drop)]
 pub enum Request {
-    /// A command on named sketches and images.
-    Command(Command<String>),
+    /// An action on named sketches and images.
+    Action(Action<String>),
     /// Windows of tenants, at most so many for each, and at most so many slots in each.
     Windows {
         windows: u64,

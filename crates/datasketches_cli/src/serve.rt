@@ -7,12 +7,13 @@ ghost use Rattle.datasketches_cli.specs.Counts.{HasGrown};
 ghost use Rattle.datasketches_cli.specs.Serving.{AnswersNext, WritesFront};
 ghost use Rattle.datasketches_cli.specs.Transcript.{Serves, bad_line};
 
-use crate::answering::{Answering, Line};
 use crate::counted::Counted;
 use crate::line_reader::LineReader;
-use std::alloc::{AllocError, Global};
-use std::fmt;
-use std::io::{self, Read, Write};
+use crate::responder::{LineOutcome, Responder};
+use crate::stopped::Stopped;
+use std::alloc::Global;
+use std::fmt::Write as _;
+use std::io::{Read, Write};
 
 /// How a run ended.
 #[derive(Clone, Copy, Debug, PartialEq, Eq)]
@@ -34,28 +35,6 @@ pub enum CliFault {
 
 /// How many bytes of replies are gathered before they are written.
 const WRITE_SIZE: usize = 1 << 16;
-
-/// Something failed.
-#[derive(Drop)]
-pub struct Stopped;
-
-impl From<io::Error> for Stopped {
-    fn from(_e: io::Error) -> Self {
-        Stopped
-    }
-}
-
-impl From<fmt::Error> for Stopped {
-    fn from(_e: fmt::Error) -> Self {
-        Stopped
-    }
-}
-
-impl From<AllocError> for Stopped {
-    fn from(_e: AllocError) -> Self {
-        Stopped
-    }
-}
 
 /// Does what the reader's lines ask for, in a session and with windows of its own, and writes a line for each.
 ///
@@ -113,19 +92,19 @@ fn serve_lines<R: Read, W: Write>(
     ensures all_read { IfOk result (λ ended. ended ≡ Ended.All → IsAtEnd (R.remaining reader.new.inner)) }
     ensures all_written { OnOk result (writer.new.failures ≡ writer.old.failures) }
 {
-    let mut answering = Answering::new(alloc);
+    let mut responder = Responder::new(alloc);
     let mut lines = LineReader::new(alloc)?;
     let mut line = Vec::new(alloc);
     for before in 0..u128::MAX {
         let number = before + 1;
-        write_due(&lines, writer, &mut answering.replies)?;
-        let (became, more) = answer_next(&mut answering, &mut lines, reader, &mut line)?;
+        write_due(&lines, writer, &mut responder.replies)?;
+        let (became, more) = answer_next(&mut responder, &mut lines, reader, &mut line)?;
         if is_bad(became) {
-            write_bad(writer, &mut answering.replies, number)?;
+            write_bad(writer, &mut responder.replies, number)?;
             return Ok(Ended::BadLine(number));
         }
         if !more {
-            write_out(writer, &mut answering.replies)?;
+            write_out(writer, &mut responder.replies)?;
             return Ok(Ended::All);
         }
     }
@@ -138,21 +117,21 @@ fn serve_lines<R: Read, W: Write>(
 /// A line that was read whole is looked at where it lies. Else it comes into the place of what `line` holds, and more is
 /// read, which is only asked for where no reply is gathered.
 fn answer_next<R: Read>(
-    answering: &mut Answering,
+    responder: &mut Responder,
     lines: &mut LineReader,
     reader: &mut Counted<R>,
     line: &mut Vec<u8>,
-) -> Result<(Option<Line>, bool), Stopped>
-    requires { ¬ Contains lines.old 10 → string_bytes answering.old.replies ≡ [] }
+) -> Result<(Option<LineOutcome>, bool), Stopped>
+    requires { ¬ Contains lines.old 10 → string_bytes responder.old.replies ≡ [] }
     ensures answered { IfOk result (λ found. AnswersNext (prepend_known lines.old (R.remaining reader.old.inner))
-        (prepend_known lines.new (R.remaining reader.new.inner)) answering.old answering.new found.0) }
+        (prepend_known lines.new (R.remaining reader.new.inner)) responder.old responder.new found.0) }
     ensures some { IfOk result (λ found. found.1 ≡ true → IsSome found.0) }
     ensures end { IfOk result (λ found. found.1 ≡ false → (lines.new ≡ [])
         × IsAtEnd (R.remaining reader.new.inner)) }
     ensures alone { Contains lines.old 10 → reader.new ≡ reader.old }
 {
     if lines.has_line() {
-        let became = answering.answer_line(without_end(lines.line()))?;
+        let became = responder.answer_line(without_end(lines.line()))?;
         lines.skip_line();
         return Ok((Some(became), true));
     }
@@ -160,15 +139,15 @@ fn answer_next<R: Read>(
     if line.is_empty() {
         return Ok((None, false));
     }
-    let became = answering.answer_line(without_end(line))?;
+    let became = responder.answer_line(without_end(line))?;
     Ok((Some(became), more))
 }
 
 /// Whether a line asks for nothing.
-fn is_bad(became: Option<Line>) -> bool
-    ensures { IsTrue result ↔ (became ≡ Some Line.Bad) }
+fn is_bad(became: Option<LineOutcome>) -> bool
+    ensures { IsTrue result ↔ (became ≡ Some LineOutcome.Bad) }
 {
-    matches!(became, Some(Line::Bad))
+    matches!(became, Some(LineOutcome::Bad))
 }
 
 /// Writes the gathered replies, and names a bad line.

@@ -5,15 +5,15 @@ use Rattle.datasketches_cli.proofs.serve.serve_lines.Goals as goal
 
 pub returns-then-is_bad-clause-served : goal.returns-then-is_bad-clause-served
 returns-then-is_bad-clause-served g c =
-    turns_bad _ _ _ _ _ _ _ c.loop-before.answering c.answer_next.new.answering c.write_due.new.replies _ _ _ c.loop-before.invariant.0 c.in_ok-write_due.ensures.written c.in_ok-became.ensures.answered (c.is_bad.ensures.0 c.if-is_bad.true) refl c.in_ok-write_bad.ensures.written
+    turns_bad _ _ _ _ _ _ _ c.loop-before.responder c.answer_next.new.responder c.write_due.new.replies _ _ _ c.loop-before.invariant.0 c.in_ok-write_due.ensures.written c.in_ok-became.ensures.answered (c.is_bad.ensures.0 c.if-is_bad.true) refl c.in_ok-write_bad.ensures.written
 
 pub returns-then-not-more-clause-served : goal.returns-then-not-more-clause-served
 returns-then-not-more-clause-served g c =
     let end = c.in_ok-became.ensures.end c.if-not-more.true in
-    turns_last _ _ _ _ _ _ _ _ c.loop-before.answering c.answer_next.new.answering c.write_due.new.replies _ _ c.loop-before.invariant.0 c.in_ok-write_due.ensures.written c.in_ok-became.ensures.answered (λ e. false≢true (sym c.if-is_bad.false ∙ c.is_bad.ensures.1 e)) end.0 end.1 c.in_ok-write_out.ensures.written
+    turns_last _ _ _ _ _ _ _ _ c.loop-before.responder c.answer_next.new.responder c.write_due.new.replies _ _ c.loop-before.invariant.0 c.in_ok-write_due.ensures.written c.in_ok-became.ensures.answered (λ e. false≢true (sym c.if-is_bad.false ∙ c.is_bad.ensures.1 e)) end.0 end.1 c.in_ok-write_out.ensures.written
 
 pub loop-before-preserved : goal.loop-before-preserved
 loop-before-preserved g c = (
-  turns_on _ _ _ _ _ _ c.loop-before.answering c.answer_next.new.answering c.write_due.new.replies _ _ c.loop-before.invariant.0 c.in_ok-write_due.ensures.written c.in_ok-became.ensures.answered (λ e. false≢true (sym c.if-is_bad.false ∙ c.is_bad.ensures.1 e)) (c.in_ok-became.ensures.some c.if-not-more.false),
+  turns_on _ _ _ _ _ _ c.loop-before.responder c.answer_next.new.responder c.write_due.new.replies _ _ c.loop-before.invariant.0 c.in_ok-write_due.ensures.written c.in_ok-became.ensures.answered (λ e. false≢true (sym c.if-is_bad.false ∙ c.is_bad.ensures.1 e)) (c.in_ok-became.ensures.some c.if-not-more.false),
   c.in_ok-write_due.ensures.kept ∙ c.loop-before.invariant.1,
 )

@@ -6,7 +6,7 @@ use Rattle.datasketches_cli.proofs.serve.serve_lines.Given as goal
 
 abbrev pub invariant-loop-before : goal.invariant-loop-before
 invariant-loop-before g l =
-    Midway (g.R.Read.remaining l.fn.reader.inner) (prepend_known l.lines (g.R.Read.remaining l.reader.inner)) (g.W.Write.contents l.fn.writer.inner) (g.W.Write.contents l.writer.inner) (string_bytes l.answering.replies) l.answering.serving l.before
+    Midway (g.R.Read.remaining l.fn.reader.inner) (prepend_known l.lines (g.R.Read.remaining l.reader.inner)) (g.W.Write.contents l.fn.writer.inner) (g.W.Write.contents l.writer.inner) (string_bytes l.responder.replies) l.responder.state l.before
     × (l.writer.failures ≡ l.fn.writer.failures)
 
 abbrev pub decreases-loop-before : goal.decreases-loop-before

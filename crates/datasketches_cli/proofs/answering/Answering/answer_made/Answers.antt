@@ -1,6 +1,0 @@
-use Rattle.std.proofs.Common.{refl}
-use Rattle.datasketches_cli.specs.declared.request.Request.TheVariants.{Command}
-use Rattle.datasketches_cli.proofs.answering.Answering.answer_made.Goals as goal
-
-pub returns-in_ok-answer-in-Some : goal.returns-in_ok-answer-in-Some
-returns-in_ok-answer-in-Some c = (Command c.in-Some.command, rw c.in-Some.is refl, c.in_ok-answer-in-Some.ensures)

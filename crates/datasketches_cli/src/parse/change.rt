@@ -1,0 +1,103 @@
+//! Words to changes of sketches.
+ghost use Rattle.std.specs.Prelude.{IfOk, codes};
+ghost use Rattle.datasketches_cli.specs.Parsing.{IsChangeOf, texts_of};
+
+use super::number::{number_of, signed_number};
+use super::words::copied;
+use datasketches::Change;
+use std::alloc::{AllocError, Global};
+
+/// The change that some words make, if they make one.
+type ParsedChange = Result<Option<Change<String>>, AllocError>;
+
+/// The change that a verb and the words behind the name make. The item takes recycled memory, if there is some.
+pub fn change_of(
+    alloc: Global,
+    verb: &str,
+    words: &[&str],
+    recycled: &mut Option<String>,
+) -> ParsedChange
+    ensures { IfOk result (IsChangeOf verb.now (texts_of words.now)) }
+{
+    match verb {
+        "add" => add(alloc, words, recycled),
+        "adds" => adds(alloc, words, recycled),
+        "insert" => insert(alloc, words, recycled),
+        "reset" => Ok(reset(words)),
+        "halve" => Ok(halve(words)),
+        "decay" => Ok(decay(words)),
+        _ => Ok(None),
+    }
+}
+
+/// The same of `add`.
+#[inline(always)]
+pub fn add(alloc: Global, words: &[&str], recycled: &mut Option<String>) -> ParsedChange
+    ensures { IfOk result (IsChangeOf (codes "add") (texts_of words.now)) }
+{
+    let [weight, item] = words else {
+        return Ok(None);
+    };
+    let Some(weight) = number_of(weight) else {
+        return Ok(None);
+    };
+    let item = copied(alloc, item, recycled)?;
+    Ok(Some(Change::Add { item, weight }))
+}
+
+fn adds(alloc: Global, words: &[&str], recycled: &mut Option<String>) -> ParsedChange
+    ensures { IfOk result (IsChangeOf (codes "adds") (texts_of words.now)) }
+{
+    let [weight, item] = words else {
+        return Ok(None);
+    };
+    let Some(weight) = signed_number(weight) else {
+        return Ok(None);
+    };
+    let item = copied(alloc, item, recycled)?;
+    Ok(Some(Change::AddSigned { item, weight }))
+}
+
+/// The same of `insert`.
+#[inline(always)]
+pub fn insert(alloc: Global, words: &[&str], recycled: &mut Option<String>) -> ParsedChange
+    ensures { IfOk result (IsChangeOf (codes "insert") (texts_of words.now)) }
+{
+    let [item] = words else {
+        return Ok(None);
+    };
+    let item = copied(alloc, item, recycled)?;
+    Ok(Some(Change::Insert { item }))
+}
+
+fn reset(words: &[&str]) -> Option<Change<String>>
+    ensures { IsChangeOf (codes "reset") (texts_of words.now) result }
+{
+    if words.is_empty() {
+        Some(Change::Reset)
+    } else {
+        None
+    }
+}
+
+fn halve(words: &[&str]) -> Option<Change<String>>
+    ensures { IsChangeOf (codes "halve") (texts_of words.now) result }
+{
+    if words.is_empty() {
+        Some(Change::Halve)
+    } else {
+        None
+    }
+}
+
+fn decay(words: &[&str]) -> Option<Change<String>>
+    ensures { IsChangeOf (codes "decay") (texts_of words.now) result }
+{
+    let [numerator, denominator] = words else {
+        return None;
+    };
+    Some(Change::Decay {
+        numerator: number_of(numerator)?,
+        denominator: number_of(denominator)?,
+    })
+}

@@ -1,0 +1,84 @@
+//! Words to requests on windows.
+ghost use Rattle.std.specs.Prelude.{◌∷◌, IfOk, codes};
+ghost use Rattle.datasketches_cli.specs.Parsing.{IsWindowsRequestOf, texts_of};
+
+use super::number::number_of;
+use super::words::error_type_of;
+use crate::request::Request;
+use std::alloc::{AllocError, Global};
+
+/// The request that some words make, if they make one.
+type ParsedRequest = Result<Option<Request>, AllocError>;
+
+/// The request on windows that the words make.
+pub fn windows_request_of(alloc: Global, words: &[&str]) -> ParsedRequest
+    ensures { IfOk result (IsWindowsRequestOf (texts_of words.now)) }
+{
+    let [verb, rest @ ..] = words else {
+        return Ok(None);
+    };
+    match *verb {
+        "windows" => Ok(windows(rest)),
+        "hadd" => Ok(hadd(alloc, rest)?),
+        "hturn" => Ok(hturn(rest)),
+        "hreport" => Ok(hreport(rest)),
+        _ => Ok(None),
+    }
+}
+
+/// The request that the words after `windows` make.
+fn windows(words: &[&str]) -> Option<Request>
+    ensures { IsWindowsRequestOf (codes "windows" ∷ texts_of words.now) result }
+{
+    let [windows, max_map_size] = words else {
+        return None;
+    };
+    Some(Request::Windows {
+        windows: number_of(windows)?,
+        max_map_size: number_of(max_map_size)?,
+    })
+}
+
+/// The same of `hadd`.
+fn hadd(alloc: Global, words: &[&str]) -> ParsedRequest
+    ensures { IfOk result (IsWindowsRequestOf (codes "hadd" ∷ texts_of words.now)) }
+{
+    let [tenant, weight, item] = words else {
+        return Ok(None);
+    };
+    let (Some(tenant), Some(weight)) = (number_of(tenant), number_of(weight)) else {
+        return Ok(None);
+    };
+    let item = String::from_str(alloc, item)?;
+    Ok(Some(Request::Add {
+        tenant,
+        weight,
+        item,
+    }))
+}
+
+/// The same of `hturn`.
+fn hturn(words: &[&str]) -> Option<Request>
+    ensures { IsWindowsRequestOf (codes "hturn" ∷ texts_of words.now) result }
+{
+    let [tenant] = words else {
+        return None;
+    };
+    Some(Request::Turn {
+        tenant: number_of(tenant)?,
+    })
+}
+
+/// The same of `hreport`.
+fn hreport(words: &[&str]) -> Option<Request>
+    ensures { IsWindowsRequestOf (codes "hreport" ∷ texts_of words.now) result }
+{
+    let [tenant, report, threshold] = words else {
+        return None;
+    };
+    Some(Request::Report {
+        tenant: number_of(tenant)?,
+        error_type: error_type_of(report)?,
+        threshold: number_of(threshold)?,
+    })
+}
