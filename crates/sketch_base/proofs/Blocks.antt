@@ -1,6 +1,7 @@
 -- Bytes that come piece by piece and are taken in block by block, for blocks of 16 bytes and of 32 at once.
-use Rattle.std.proofs.Common.{◌≡◌, ℕ, zero, suc, ◌+◌, ◌-◌, ◌*◌, ◌/◌, ◌%◌, ◌^◌, ◌<◌, ◌≤◌, List, [], ◌∷◌, ◌++◌, length, take, drop, refl, sym, ap, ◌∙◌, arith, length-append, length-drop, zero-add}
+use Rattle.std.proofs.Common.{◌≡◌, ℕ, zero, suc, ◌+◌, ◌-◌, ◌*◌, ◌/◌, ◌%◌, ◌^◌, ◌<◌, ◌≤◌, List, [], ◌∷◌, ◌++◌, length, take, drop, refl, sym, ap, ◌∙◌, arith, length-append, length-drop, zero-add, fold}
 use Rattle.std.proofs.lemmas.List.{take-append-le, drop-append-le, append_assoc, append-nil, drop-drop, take_at, drop_at, drop_all, length-take-le, take-append-drop}
+use Rattle.std.specs.List.{concat}
 use Rattle.std.proofs.lemmas.Slice.{take-put_mid}
 use borrow.Rule.Slice.PartMut.{put_mid, post_of}
 
@@ -182,3 +183,9 @@ module _ {A : Type 0} (w : Width) (step : A → List ℕ → A) (each : ℕ → 
       let left : drop (size w * n) (bs ++ ys) ≡ drop (size w * n) bs ++ ys = drop-append-le (size w * n) bs ys (blocks_fit w (length bs)) in
       let past : size w * n + size w * m ≡ size w * (length (bs ++ ys) / size w) = omega arith ∙ ap (λ (k : ℕ). size w * k) (blocks_more bs ys) in
       ap (drop (size w * m)) (sym left) ∙ (drop-drop (size w * m) (size w * n) (bs ++ ys) ∙ ap (λ (k : ℕ). drop k (bs ++ ys)) past)
+
+-- what holds after each piece holds after all of them
+pub all_pieces : {S : Type 0} (write : S → List ℕ → S) (Fed : List ℕ → S → Type 0) → ((before piece : List ℕ) (s : S) → Fed before s → Fed (before ++ piece) (write s piece))
+    → (before : List ℕ) (s : S) (pieces : List (List ℕ)) → Fed before s → Fed (before ++ concat pieces) (fold write s pieces)
+all_pieces write Fed one before s [] h = rw append-nil h
+all_pieces write Fed one before s (piece ∷ pieces) h = rw (← append_assoc) (all_pieces write Fed one (before ++ piece) (write s piece) pieces (one before piece s h))

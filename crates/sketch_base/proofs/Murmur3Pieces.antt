@@ -1,12 +1,12 @@
 -- Bytes that come piece by piece leave the state of the whole list.
-use Rattle.std.proofs.Common.{◌≡◌, ℕ, ◌+◌, ◌-◌, ◌*◌, ◌/◌, ◌%◌, ◌^◌, ◌<◌, ◌≤◌, List, [], ◌∷◌, ◌++◌, length, take, drop, refl, sym, ap, ◌∙◌, arith, replicate, length-append, zero-add, fold}
+use Rattle.std.proofs.Common.{◌≡◌, ℕ, ◌+◌, ◌-◌, ◌*◌, ◌/◌, ◌%◌, ◌^◌, ◌<◌, ◌≤◌, List, [], ◌∷◌, ◌++◌, length, take, drop, refl, sym, ap, subst, ◌∙◌, arith, replicate, length-append, zero-add, fold}
 use Rattle.std.proofs.lemmas.List.{append_assoc, append-nil, drop-drop, drop_at, drop-replicate, take-append-drop}
 use Rattle.std.proofs.lemmas.Slice.{drop-put_mid}
 use borrow.Rule.Slice.PartMut.{put_mid, post_of}
 use Rattle.std.specs.List.{concat}
 use Rattle.sketch_base.specs.Murmur3.{block, body, finalization, murmur3_x64_128}
 use Rattle.sketch_base.specs.Murmur3State.{Murmur3State, HasFed, initial, write, finish128}
-use Rattle.sketch_base.proofs.Blocks.{IsBlocks, none_whole, each_filled, tail_filled, each_more, tail_more, length_begun, left_after, left_behind, front_is, front_short, filled, room_filled}
+use Rattle.sketch_base.proofs.Blocks.{IsBlocks, all_pieces, none_whole, each_filled, tail_filled, each_more, tail_more, length_begun, left_after, left_behind, front_is, front_short, filled, room_filled}
 use Rattle.sketch_base.proofs.Blocks.Width.{Sixteen}
 
 -- a state by its parts
@@ -53,11 +53,9 @@ pub HasFed-write : (seed : ℕ) (before piece : List ℕ) (s : Murmur3State) →
 HasFed-write seed before piece s h =
     record { state_is = ap (λ (t : Murmur3State). write t piece) h.state_is ∙ write_more (initial seed) before piece }
 
--- many pieces more
-pub HasFed-fold : (seed : ℕ) (before : List ℕ) (s : Murmur3State) (pieces : List (List ℕ)) → HasFed seed before s → HasFed seed (before ++ concat pieces) (fold write s pieces)
-HasFed-fold seed before s [] h = rw append-nil h
-HasFed-fold seed before s (piece ∷ pieces) h =
-    rw (← append_assoc) (HasFed-fold seed (before ++ piece) (write s piece) pieces (HasFed-write seed before piece s h))
+-- all pieces of an item
+pub HasFed-all : (seed : ℕ) (s t : Murmur3State) (pieces : List (List ℕ)) → HasFed seed [] s → t ≡ fold write s pieces → HasFed seed (concat pieces) t
+HasFed-all seed s t pieces h e = subst (HasFed seed (concat pieces)) (sym e) (all_pieces write (HasFed seed) (HasFed-write seed) [] s pieces h)
 
 -- the hash is that of all bytes fed
 pub finish128-HasFed : (seed : ℕ) (fed : List ℕ) (s : Murmur3State) → HasFed seed fed s → finish128 s ≡ murmur3_x64_128 fed seed

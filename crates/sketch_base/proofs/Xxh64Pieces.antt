@@ -1,12 +1,12 @@
 -- Bytes that come piece by piece leave the state of the whole list.
-use Rattle.std.proofs.Common.{◌≡◌, ℕ, Bool, true, false, ◌||◌, nat_lt, ◌+◌, ◌-◌, ◌*◌, ◌/◌, ◌%◌, ◌^◌, ◌<◌, ◌≤◌, List, [], ◌∷◌, ◌++◌, length, take, drop, refl, sym, ap, ◌∙◌, arith, length-append, zero-add, fold}
+use Rattle.std.proofs.Common.{◌≡◌, ℕ, Bool, true, false, ◌||◌, nat_lt, ◌+◌, ◌-◌, ◌*◌, ◌/◌, ◌%◌, ◌^◌, ◌<◌, ◌≤◌, List, [], ◌∷◌, ◌++◌, length, take, drop, refl, sym, ap, subst, ◌∙◌, arith, length-append, zero-add, fold}
 use Rattle.std.proofs.lemmas.List.{append_assoc, append-nil, take-append-drop}
 use borrow.Rule.Slice.PartMut.{put_mid, post_of}
 use Rattle.std.specs.List.{concat}
 use Rattle.std.proofs.lemmas.Bool.Decides.{nat_tests}
 use Rattle.sketch_base.specs.Xxh64.{Accumulators, stripe, stripes, xxh64}
 use Rattle.sketch_base.specs.Xxh64State.{Xxh64State, HasFed, initial, write, finish}
-use Rattle.sketch_base.proofs.Blocks.{IsBlocks, none_whole, one_whole, each_filled, tail_filled, blocks_more, each_more, tail_more, length_begun, room_filled, left_after, left_behind, front_is, front_short, filled}
+use Rattle.sketch_base.proofs.Blocks.{IsBlocks, all_pieces, none_whole, one_whole, each_filled, tail_filled, blocks_more, each_more, tail_more, length_begun, room_filled, left_after, left_behind, front_is, front_short, filled}
 use Rattle.sketch_base.proofs.Blocks.Width.{ThirtyTwo}
 
 -- nothing more
@@ -72,11 +72,9 @@ pub HasFed-write : (seed : ℕ) (before piece : List ℕ) (s : Xxh64State) → H
 HasFed-write seed before piece s h =
     record { state_is = ap (λ (t : Xxh64State). write t piece) h.state_is ∙ write_more (initial seed) before piece }
 
--- many pieces more
-pub HasFed-fold : (seed : ℕ) (before : List ℕ) (s : Xxh64State) (pieces : List (List ℕ)) → HasFed seed before s → HasFed seed (before ++ concat pieces) (fold write s pieces)
-HasFed-fold seed before s [] h = rw append-nil h
-HasFed-fold seed before s (piece ∷ pieces) h =
-    rw (← append_assoc) (HasFed-fold seed (before ++ piece) (write s piece) pieces (HasFed-write seed before piece s h))
+-- all pieces of an item
+pub HasFed-all : (seed : ℕ) (s t : Xxh64State) (pieces : List (List ℕ)) → HasFed seed [] s → t ≡ fold write s pieces → HasFed seed (concat pieces) t
+HasFed-all seed s t pieces h e = subst (HasFed seed (concat pieces)) (sym e) (all_pieces write (HasFed seed) (HasFed-write seed) [] s pieces h)
 
 -- the hash is that of all bytes fed
 pub finish-HasFed : (seed : ℕ) (fed : List ℕ) (s : Xxh64State) → HasFed seed fed s → finish s ≡ xxh64 fed seed
