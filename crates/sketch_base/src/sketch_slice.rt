@@ -71,6 +71,20 @@ impl<'a> SketchSlice<'a> {
         Ok(())
     }
 
+    /// Reads `N` bytes.
+    #[inline]
+    fn read_array<const N: usize>(&mut self) -> Result<[u8; N], Error>
+        ensures enough { OnOk result (N ≤ length self.old) }
+        ensures value { IfOk result (λ bytes. bytes ≡ take N self.old) }
+        ensures cursor { OnOk result (self.new ≡ drop N self.old) }
+        ensures short { IfErr result (λ e. (e ≡ invalid_data Fault.InsufficientData) × (length self.old < N)) }
+        ensures err { OnErr result (self.new ≡ self.old) }
+    {
+        let mut bytes = [0; N];
+        self.read_exact(&mut bytes)?;
+        Ok(bytes)
+    }
+
     /// Reads a byte.
     #[inline]
     pub fn read_u8(&mut self) -> Result<u8, Error>
@@ -95,9 +109,7 @@ impl<'a> SketchSlice<'a> {
         ensures short { IfErr result (λ e. (e ≡ invalid_data Fault.InsufficientData) × (length self.old < 2)) }
         ensures err { OnErr result (self.new ≡ self.old) }
     {
-        let mut bytes = [0; 2];
-        self.read_exact(&mut bytes)?;
-        Ok(u16::from_le_bytes(bytes))
+        Ok(u16::from_le_bytes(self.read_array()?))
     }
 
     /// Reads an unsigned number of four bytes, the lowest first.
@@ -110,9 +122,7 @@ impl<'a> SketchSlice<'a> {
         ensures short { IfErr result (λ e. (e ≡ invalid_data Fault.InsufficientData) × (length self.old < 4)) }
         ensures err { OnErr result (self.new ≡ self.old) }
     {
-        let mut bytes = [0; 4];
-        self.read_exact(&mut bytes)?;
-        Ok(u32::from_le_bytes(bytes))
+        Ok(u32::from_le_bytes(self.read_array()?))
     }
 
     /// Reads a signed number of four bytes, the lowest first.
@@ -125,9 +135,7 @@ impl<'a> SketchSlice<'a> {
         ensures short { IfErr result (λ e. (e ≡ invalid_data Fault.InsufficientData) × (length self.old < 4)) }
         ensures err { OnErr result (self.new ≡ self.old) }
     {
-        let mut bytes = [0; 4];
-        self.read_exact(&mut bytes)?;
-        Ok(i32::from_le_bytes(bytes))
+        Ok(i32::from_le_bytes(self.read_array()?))
     }
 
     /// Reads an unsigned number of eight bytes, the lowest first.
@@ -140,9 +148,7 @@ impl<'a> SketchSlice<'a> {
         ensures short { IfErr result (λ e. (e ≡ invalid_data Fault.InsufficientData) × (length self.old < 8)) }
         ensures err { OnErr result (self.new ≡ self.old) }
     {
-        let mut bytes = [0; 8];
-        self.read_exact(&mut bytes)?;
-        Ok(u64::from_le_bytes(bytes))
+        Ok(u64::from_le_bytes(self.read_array()?))
     }
 
     /// Reads a signed number of eight bytes, the lowest first.
@@ -155,8 +161,6 @@ impl<'a> SketchSlice<'a> {
         ensures short { IfErr result (λ e. (e ≡ invalid_data Fault.InsufficientData) × (length self.old < 8)) }
         ensures err { OnErr result (self.new ≡ self.old) }
     {
-        let mut bytes = [0; 8];
-        self.read_exact(&mut bytes)?;
-        Ok(i64::from_le_bytes(bytes))
+        Ok(i64::from_le_bytes(self.read_array()?))
     }
 }

@@ -1,5 +1,5 @@
-use Rattle.std.proofs.Common.{◌≡◌, ℕ, List, ◌+◌, ◌-◌, ◌*◌, ◌/◌, ◌%◌, ◌≤◌, length, take, drop, refl, ap, sym, ◌∙◌, arith, rules}
-use Rattle.std.proofs.lemmas.List.{take_rest, length-take-le}
+use Rattle.std.proofs.Common.{ℕ, List, ◌-◌, ◌*◌, ◌/◌, ◌%◌, ◌≤◌, length, take, drop, refl, ap, sym, ◌∙◌, arith}
+use Rattle.std.proofs.lemmas.List.{take_rest}
 use Rattle.sketch_base.specs.Xxh64State as pieces
 use Rattle.sketch_base.specs.Xxh64State.{Xxh64State}
 use Rattle.sketch_base.specs.Xxh64.{Accumulators, stripes}
