@@ -94,13 +94,48 @@ filled w b xs k t lb ek =
     let past : post_of (t % size w) k b ≡ [] = drop_all k (drop (t % size w) b) (omega (arith, length-drop (t % size w) b)) in
     rw (past, append-nil) refl
 
+-- ---- a piece behind bytes that wait for their block
+
+-- too few bytes for a block
+pub none_whole : (w : Width) (xs ys : List ℕ) → length xs + length ys < size w → length (xs ++ ys) / size w ≡ 0
+none_whole w xs ys lt = few_blocks w (length (xs ++ ys)) (omega (arith, length-append xs ys))
+
+-- bytes that fill the block, and more
+pub one_whole : (w : Width) (tail xs rest : List ℕ) → length tail + length xs ≡ size w → length (tail ++ (xs ++ rest)) / size w ≡ suc (length rest / size w)
+one_whole w tail xs rest full =
+    ap (λ (n : ℕ). n / size w) (length-append tail (xs ++ rest) ∙ omega (arith, length-append xs rest)) ∙ one_block_more w (length rest)
+
+pub tail_filled : (w : Width) (tail xs rest : List ℕ) → length tail + length xs ≡ size w → drop (size w * (length (tail ++ (xs ++ rest)) / size w)) (tail ++ (xs ++ rest)) ≡ drop (size w * (length rest / size w)) rest
+tail_filled w tail xs rest full =
+    let q : ℕ = length rest / size w in
+    let long : length (tail ++ xs) ≡ size w = length-append tail xs ∙ full in
+    let past : size w * (length (tail ++ (xs ++ rest)) / size w) ≡ size w + size w * q = ap (λ (n : ℕ). size w * n) (one_whole w tail xs rest full) ∙ omega arith in
+    ap (λ (n : ℕ). drop n (tail ++ (xs ++ rest))) past
+    ∙ (sym (drop-drop (size w * q) (size w) (tail ++ (xs ++ rest)))
+    ∙ ap (drop (size w * q)) (ap (drop (size w)) (sym (append_assoc tail xs rest)) ∙ drop_at (tail ++ xs) rest (size w) long))
+
+-- one piece and then another, as both at once
+pub blocks_more : (w : Width) (bs ys : List ℕ) → let n = length bs / size w in n + length (drop (size w * n) bs ++ ys) / size w ≡ length (bs ++ ys) / size w
+blocks_more w bs ys =
+    let n : ℕ = length bs / size w in
+    let left : length (drop (size w * n) bs ++ ys) ≡ length bs - size w * n + length ys = length-append (drop (size w * n) bs) ys ∙ ap (λ (k : ℕ). k + length ys) (length-drop (size w * n) bs) in
+    ap (λ (k : ℕ). n + k / size w) left ∙ (blocks_together w (length bs) (length ys) ∙ ap (λ (k : ℕ). k / size w) (sym (length-append bs ys)))
+
+pub tail_more : (w : Width) (bs ys : List ℕ) → let t = drop (size w * (length bs / size w)) bs in drop (size w * (length (t ++ ys) / size w)) (t ++ ys) ≡ drop (size w * (length (bs ++ ys) / size w)) (bs ++ ys)
+tail_more w bs ys =
+    let n : ℕ = length bs / size w in
+    let m : ℕ = length (drop (size w * n) bs ++ ys) / size w in
+    let left : drop (size w * n) (bs ++ ys) ≡ drop (size w * n) bs ++ ys = drop-append-le (size w * n) bs ys (blocks_fit w (length bs)) in
+    let past : size w * n + size w * m ≡ size w * (length (bs ++ ys) / size w) = omega arith ∙ ap (λ (k : ℕ). size w * k) (blocks_more w bs ys) in
+    ap (drop (size w * m)) (sym left) ∙ (drop-drop (size w * m) (size w * n) (bs ++ ys) ∙ ap (λ (k : ℕ). drop k (bs ++ ys)) past)
+
 -- ---- a function that takes in so many blocks, one after another
 
 pub record IsBlocks {A : Type 0} (w : Width) (step : A → List ℕ → A) (each : ℕ → A → List ℕ → A) : Type 0 where
   pub none : (a : A) (bs : List ℕ) → each 0 a bs ≡ a
   pub more : (n : ℕ) (a : A) (bs : List ℕ) → each (suc n) a bs ≡ each n (step a (take (size w) bs)) (drop (size w) bs)
 
-module _ {A : Type 0} (w : Width) (step : A → List ℕ → A) (each : ℕ → A → List ℕ → A) (is : IsBlocks w step each) where
+module _ {A : Type 0} {w : Width} {step : A → List ℕ → A} {each : ℕ → A → List ℕ → A} (is : IsBlocks w step each) where
   -- the first n blocks alone are read
   each-append : (n : ℕ) (a : A) (xs ys : List ℕ) → size w * n ≤ length xs → each n a (xs ++ ys) ≡ each n a xs
   each-append zero a xs ys le = is.none a (xs ++ ys) ∙ sym (is.none a xs)
@@ -136,53 +171,20 @@ module _ {A : Type 0} (w : Width) (step : A → List ℕ → A) (each : ℕ → 
       let over : c - i ≡ 0 = omega arith in
       rw over (is.none a bs)
 
-  -- ---- a piece behind bytes that wait for their block
-
-  -- too few bytes for a block
-  pub none_whole : (xs ys : List ℕ) → length xs + length ys < size w → length (xs ++ ys) / size w ≡ 0
-  none_whole xs ys lt = few_blocks w (length (xs ++ ys)) (omega (arith, length-append xs ys))
-
-  -- bytes that fill the block, and more
-  pub one_whole : (tail xs rest : List ℕ) → length tail + length xs ≡ size w → length (tail ++ (xs ++ rest)) / size w ≡ suc (length rest / size w)
-  one_whole tail xs rest full =
-      ap (λ (n : ℕ). n / size w) (length-append tail (xs ++ rest) ∙ omega (arith, length-append xs rest)) ∙ one_block_more w (length rest)
-
+  -- bytes that fill the block that was begun, and more
   pub each_filled : (a : A) (tail xs rest : List ℕ) → length tail + length xs ≡ size w → each (length (tail ++ (xs ++ rest)) / size w) a (tail ++ (xs ++ rest)) ≡ each (length rest / size w) (step a (tail ++ xs)) rest
   each_filled a tail xs rest full =
       let long : length (tail ++ xs) ≡ size w = length-append tail xs ∙ full in
-      rw (one_whole tail xs rest full, ← append_assoc tail xs rest, is.more (length rest / size w) a ((tail ++ xs) ++ rest), take_at (tail ++ xs) rest (size w) long, drop_at (tail ++ xs) rest (size w) long) refl
+      rw (one_whole w tail xs rest full, ← append_assoc tail xs rest, is.more (length rest / size w) a ((tail ++ xs) ++ rest), take_at (tail ++ xs) rest (size w) long, drop_at (tail ++ xs) rest (size w) long) refl
 
-  pub tail_filled : (tail xs rest : List ℕ) → length tail + length xs ≡ size w → drop (size w * (length (tail ++ (xs ++ rest)) / size w)) (tail ++ (xs ++ rest)) ≡ drop (size w * (length rest / size w)) rest
-  tail_filled tail xs rest full =
-      let q : ℕ = length rest / size w in
-      let long : length (tail ++ xs) ≡ size w = length-append tail xs ∙ full in
-      let past : size w * (length (tail ++ (xs ++ rest)) / size w) ≡ size w + size w * q = ap (λ (n : ℕ). size w * n) (one_whole tail xs rest full) ∙ omega arith in
-      ap (λ (n : ℕ). drop n (tail ++ (xs ++ rest))) past
-      ∙ (sym (drop-drop (size w * q) (size w) (tail ++ (xs ++ rest)))
-      ∙ ap (drop (size w * q)) (ap (drop (size w)) (sym (append_assoc tail xs rest)) ∙ drop_at (tail ++ xs) rest (size w) long))
-
-  -- one piece and then another, as both at once
-  pub blocks_more : (bs ys : List ℕ) → let n = length bs / size w in n + length (drop (size w * n) bs ++ ys) / size w ≡ length (bs ++ ys) / size w
-  blocks_more bs ys =
-      let n : ℕ = length bs / size w in
-      let left : length (drop (size w * n) bs ++ ys) ≡ length bs - size w * n + length ys = length-append (drop (size w * n) bs) ys ∙ ap (λ (k : ℕ). k + length ys) (length-drop (size w * n) bs) in
-      ap (λ (k : ℕ). n + k / size w) left ∙ (blocks_together w (length bs) (length ys) ∙ ap (λ (k : ℕ). k / size w) (sym (length-append bs ys)))
-
+  -- one piece and then another leave the same as both at once
   pub each_more : (a : A) (bs ys : List ℕ) → let n = length bs / size w in let t = drop (size w * n) bs in each (length (t ++ ys) / size w) (each n a bs) (t ++ ys) ≡ each (length (bs ++ ys) / size w) a (bs ++ ys)
   each_more a bs ys =
       let n : ℕ = length bs / size w in
       let m : ℕ = length (drop (size w * n) bs ++ ys) / size w in
       let fits : size w * n ≤ length bs = blocks_fit w (length bs) in
       let left : drop (size w * n) (bs ++ ys) ≡ drop (size w * n) bs ++ ys = drop-append-le (size w * n) bs ys fits in
-      rw (← blocks_more bs ys, each-add n m a (bs ++ ys), each-append n a bs ys fits, left) refl
-
-  pub tail_more : (bs ys : List ℕ) → let t = drop (size w * (length bs / size w)) bs in drop (size w * (length (t ++ ys) / size w)) (t ++ ys) ≡ drop (size w * (length (bs ++ ys) / size w)) (bs ++ ys)
-  tail_more bs ys =
-      let n : ℕ = length bs / size w in
-      let m : ℕ = length (drop (size w * n) bs ++ ys) / size w in
-      let left : drop (size w * n) (bs ++ ys) ≡ drop (size w * n) bs ++ ys = drop-append-le (size w * n) bs ys (blocks_fit w (length bs)) in
-      let past : size w * n + size w * m ≡ size w * (length (bs ++ ys) / size w) = omega arith ∙ ap (λ (k : ℕ). size w * k) (blocks_more bs ys) in
-      ap (drop (size w * m)) (sym left) ∙ (drop-drop (size w * m) (size w * n) (bs ++ ys) ∙ ap (λ (k : ℕ). drop k (bs ++ ys)) past)
+      rw (← blocks_more w bs ys, each-add n m a (bs ++ ys), each-append n a bs ys fits, left) refl
 
 -- what holds after each piece holds after all of them
 pub all_pieces : {S : Type 0} (write : S → List ℕ → S) (Fed : List ℕ → S → Type 0) → ((before piece : List ℕ) (s : S) → Fed before s → Fed (before ++ piece) (write s piece))

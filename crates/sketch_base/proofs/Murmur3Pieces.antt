@@ -22,23 +22,23 @@ body_is = record { none = λ h bs. refl; more = λ n h bs. refl }
 pub write_short : (s : Murmur3State) (bs : List ℕ) → length s.tail + length bs < 16 → write s bs ≡ fed s.halves (s.tail ++ bs) ((s.total + length bs) % 2 ^ 64)
 unfolding write
 write_short s bs lt =
-    let n : length (s.tail ++ bs) / 16 ≡ 0 = none_whole Sixteen block body body_is s.tail bs lt in
+    let n : length (s.tail ++ bs) / 16 ≡ 0 = none_whole Sixteen s.tail bs lt in
     rw (n, body_is.none s.halves (s.tail ++ bs)) refl
 
 -- bytes that fill the block, and more
 pub write_long : (s : Murmur3State) (xs rest : List ℕ) → length s.tail + length xs ≡ 16 → write s (xs ++ rest) ≡ fed (body (length rest / 16) (block s.halves (s.tail ++ xs)) rest) (drop (16 * (length rest / 16)) rest) ((s.total + length (xs ++ rest)) % 2 ^ 64)
 unfolding write
 write_long s xs rest full =
-    let halves = each_filled Sixteen block body body_is s.halves s.tail xs rest full in
-    let tail = tail_filled Sixteen block body body_is s.tail xs rest full in
+    let halves = each_filled body_is s.halves s.tail xs rest full in
+    let tail = tail_filled Sixteen s.tail xs rest full in
     λ i. fed (halves i) (tail i) ((s.total + length (xs ++ rest)) % 2 ^ 64)
 
 -- one piece and then another leave the same as both at once
 pub write_more : (s : Murmur3State) (xs ys : List ℕ) → write (write s xs) ys ≡ write s (xs ++ ys)
 unfolding write
 write_more s xs ys =
-    let halves = each_more Sixteen block body body_is s.halves (s.tail ++ xs) ys in
-    let tail = tail_more Sixteen block body body_is (s.tail ++ xs) ys in
+    let halves = each_more body_is s.halves (s.tail ++ xs) ys in
+    let tail = tail_more Sixteen (s.tail ++ xs) ys in
     let total : ((s.total + length xs) % 2 ^ 64 + length ys) % 2 ^ 64 ≡ (s.total + length (xs ++ ys)) % 2 ^ 64 = omega (arith, length-append xs ys) in
     (λ i. fed (halves i) (tail i) (total i))
     ∙ ap (λ (bs : List ℕ). fed (body (length bs / 16) s.halves bs) (drop (16 * (length bs / 16)) bs) ((s.total + length (xs ++ ys)) % 2 ^ 64)) (append_assoc s.tail xs ys)

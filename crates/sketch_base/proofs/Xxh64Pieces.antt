@@ -37,16 +37,16 @@ stripes_is = record { none = λ h bs. refl; more = λ n h bs. refl }
 pub write_short : (s : Xxh64State) (bs : List ℕ) → length s.tail + length bs < 32 → write s bs ≡ fed s.seed s.is_long s.accumulators (s.tail ++ bs) ((s.total + length bs) % 2 ^ 64)
 unfolding write
 write_short s bs lt =
-    let n : length (s.tail ++ bs) / 32 ≡ 0 = none_whole ThirtyTwo stripe stripes stripes_is s.tail bs lt in
+    let n : length (s.tail ++ bs) / 32 ≡ 0 = none_whole ThirtyTwo s.tail bs lt in
     rw (n, stripes_is.none s.accumulators (s.tail ++ bs), or_false s.is_long) refl
 
 -- bytes that fill the stripe, and more
 pub write_long : (s : Xxh64State) (xs rest : List ℕ) → length s.tail + length xs ≡ 32 → write s (xs ++ rest) ≡ fed s.seed true (stripes (length rest / 32) (stripe s.accumulators (s.tail ++ xs)) rest) (drop (32 * (length rest / 32)) rest) ((s.total + length (xs ++ rest)) % 2 ^ 64)
 unfolding write
 write_long s xs rest full =
-    let n : length (s.tail ++ (xs ++ rest)) / 32 ≡ length rest / 32 + 1 = one_whole ThirtyTwo stripe stripes stripes_is s.tail xs rest full ∙ omega arith in
-    let accumulators = each_filled ThirtyTwo stripe stripes stripes_is s.accumulators s.tail xs rest full in
-    let tail = tail_filled ThirtyTwo stripe stripes stripes_is s.tail xs rest full in
+    let n : length (s.tail ++ (xs ++ rest)) / 32 ≡ length rest / 32 + 1 = one_whole ThirtyTwo s.tail xs rest full ∙ omega arith in
+    let accumulators = each_filled stripes_is s.accumulators s.tail xs rest full in
+    let tail = tail_filled ThirtyTwo s.tail xs rest full in
     let long : (s.is_long || nat_lt 0 (length (s.tail ++ (xs ++ rest)) / 32)) ≡ true = or_long s.is_long (length (s.tail ++ (xs ++ rest)) / 32) (omega (arith, n)) in
     λ i. fed s.seed (long i) (accumulators i) (tail i) ((s.total + length (xs ++ rest)) % 2 ^ 64)
 
@@ -54,9 +54,9 @@ write_long s xs rest full =
 pub write_more : (s : Xxh64State) (xs ys : List ℕ) → write (write s xs) ys ≡ write s (xs ++ ys)
 unfolding write
 write_more s xs ys =
-    let count = blocks_more ThirtyTwo stripe stripes stripes_is (s.tail ++ xs) ys in
-    let accumulators = each_more ThirtyTwo stripe stripes stripes_is s.accumulators (s.tail ++ xs) ys in
-    let tail = tail_more ThirtyTwo stripe stripes stripes_is (s.tail ++ xs) ys in
+    let count = blocks_more ThirtyTwo (s.tail ++ xs) ys in
+    let accumulators = each_more stripes_is s.accumulators (s.tail ++ xs) ys in
+    let tail = tail_more ThirtyTwo (s.tail ++ xs) ys in
     let total : ((s.total + length xs) % 2 ^ 64 + length ys) % 2 ^ 64 ≡ (s.total + length (xs ++ ys)) % 2 ^ 64 = omega (arith, length-append xs ys) in
     let long = or_more s.is_long _ _ _ (sym count) in
     (λ i. fed s.seed (long i) (accumulators i) (tail i) (total i))
