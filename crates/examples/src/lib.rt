@@ -1,8 +1,10 @@
-//! The examples of README, a function each, proved and run by the gate.
+//! The examples of README and of the libraries' docs, a function each, proved and run by the gate.
 //!
 //! They stand in tests, so that each is proved once.
 #![tactic(auto)]
 
+#[cfg(test)]
+mod bytes;
 #[cfg(test)]
 mod counts;
 #[cfg(test)]

@@ -1,11 +1,15 @@
 //! What the examples answer.
-use crate::counts::bytes_of_apple;
-use crate::filters::seen_by_both;
+use crate::bytes::{
+    bucket, halves_of, hash_of_both, is_cut_short, there_and_back, version_and_seed,
+};
+use crate::counts::{age, apples_of_both_days, bytes_of_apple, sent_counts};
+use crate::filters::{filter_of_visitors, is_first_visit, seen_by_both};
 use crate::frequent_items::heaviest;
 use crate::images::sent;
 use crate::windows::load_of_a_customer;
 use datasketches::bloom::BloomFilterBuilder;
 use datasketches::error::Error;
+use sketch_countmin::CountMinSketch;
 use std::alloc::Global;
 use std::test::Fail;
 
@@ -35,5 +39,40 @@ fn comes_back(alloc: Global) -> Result<bool, Error> {
 fn reports_and_images_are_as_the_readme_says(rt: HostRuntime) -> Result<(), Fail> {
     assert!(rt; row_of_a_customer(rt.alloc())? == Some((6500, 6500)));
     assert!(rt; comes_back(rt.alloc())?);
+    Ok(())
+}
+
+#[test]
+fn bytes_are_as_the_docs_say(rt: HostRuntime) -> Result<(), Fail> {
+    assert!(rt; there_and_back(rt.alloc(), 77)? == 77);
+    assert!(rt; version_and_seed(&[1, 2, 0, 0, 0, 0, 0, 0, 0])? == (1, 2));
+    assert!(rt; version_and_seed(&[1]).is_err_and(|e| is_cut_short(&e)));
+    assert!(rt; hash_of_both(b"app", b"le") == hash_of_both(b"", b"apple"));
+    assert!(rt; halves_of(&7u64) == halves_of(&7u64));
+    assert!(rt; bucket(300) == 44);
+    Ok(())
+}
+
+/// Whether a visitor is new, and then no more.
+fn visits(alloc: Global) -> Result<(bool, bool), Error> {
+    let mut seen = filter_of_visitors(alloc)?;
+    let first = is_first_visit(&mut seen, 7);
+    Ok((first, is_first_visit(&mut seen, 7)))
+}
+
+/// Whether an aged sketch comes back.
+fn counts_come_back(alloc: Global) -> Result<(u64, bool), Error> {
+    let mut counts = CountMinSketch::new(alloc, 4, 128)?;
+    counts.update_with_weight("apple", 10)?;
+    age(&mut counts);
+    let copy = sent_counts(alloc, &counts)?;
+    Ok((copy.estimate("apple"), copy == counts))
+}
+
+#[test]
+fn sketches_are_as_the_docs_say(rt: HostRuntime) -> Result<(), Fail> {
+    assert!(rt; visits(rt.alloc())? == (true, false));
+    assert!(rt; counts_come_back(rt.alloc())? == (9, true));
+    assert!(rt; apples_of_both_days(rt.alloc())? == (10, 10));
     Ok(())
 }

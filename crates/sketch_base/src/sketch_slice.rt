@@ -13,6 +13,19 @@ use std::marker::Model;
 /// No call takes memory. A read of more bytes than are left answers
 /// [`InsufficientData`](Fault::InsufficientData) of the kind [`InvalidData`](crate::ErrorKind::InvalidData),
 /// and leaves the cursor where it was.
+///
+/// # Examples
+///
+/// ```
+/// use sketch_base::{Error, SketchSlice};
+///
+/// fn version_and_seed(image: &[u8]) -> Result<(u8, u64), Error> {
+///     let mut unread = SketchSlice::new(image);
+///     let version = unread.read_u8()?;
+///     let seed = unread.read_u64_le()?;
+///     Ok((version, seed))
+/// }
+/// ```
 #[derive(Clone, Debug, Drop)]
 pub struct SketchSlice<'a> {
     unread: &'a [u8],
