@@ -10,11 +10,14 @@ use sketch_frequencies::ErrorType;
 /// # Examples
 ///
 /// ```
-/// let name = String::from_str(alloc, "visits")?;
-/// let Action::Change { name, change } = Action::from(Command::Insert { name, item: 7u64 }) else {
-///     unreachable!();
-/// };
-/// assert!(name.as_str() == "visits" && change == Change::Insert { item: 7 });
+/// use datasketches::{Action, Command, Shape};
+///
+/// fn made_shape(command: Command<u64>) -> Option<Shape> {
+///     match Action::from(command) {
+///         Action::Create { shape, .. } => Some(shape),
+///         _ => None,
+///     }
+/// }
 /// ```
 #[derive(Debug, PartialEq, Eq, Drop)]
 pub enum Action<T> {

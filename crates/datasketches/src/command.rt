@@ -8,11 +8,17 @@ use sketch_frequencies::ErrorType;
 /// # Examples
 ///
 /// ```
-/// let mut session = Session::new(alloc);
-/// let name = String::from_str(alloc, "visits")?;
-/// match session.apply(Command::Insert { name, item: 7u64 }) {
-///     Reply::Refused(refusal) => assert!(refusal == Refusal::NoSuchName),
-///     _ => unreachable!(),
+/// use datasketches::error::Error;
+/// use datasketches::{Command, Refusal, Reply, Session};
+/// use std::alloc::Global;
+///
+/// fn refusal_of_an_unknown_name(alloc: Global) -> Result<Option<Refusal>, Error> {
+///     let mut session = Session::new(alloc);
+///     let name = String::from_str(alloc, "visits")?;
+///     match session.apply(Command::Insert { name, item: 7_u64 }) {
+///         Reply::Refused(refusal) => Ok(Some(refusal)),
+///         _ => Ok(None),
+///     }
 /// }
 /// ```
 #[derive(Debug, PartialEq, Eq, Drop)]

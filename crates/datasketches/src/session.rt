@@ -33,14 +33,26 @@ use std::marker::Model;
 /// # Examples
 ///
 /// ```
-/// let mut session = Session::new(alloc);
-/// let name = String::from_str(alloc, "visits")?;
-/// session.apply(Command::CreateFrequent { name, max_map_size: 64 });
-/// let name = String::from_str(alloc, "visits")?;
-/// session.apply(Command::Add { name, item: 7u64, weight: 5 });
-/// let name = String::from_str(alloc, "visits")?;
-/// let reply = session.apply(Command::Ask { name, item: 7 });
-/// assert!(reply == Reply::Bounds { estimate: 5, lower: 5, upper: 5 });
+/// use datasketches::error::Error;
+/// use datasketches::{Command, Reply, Session};
+/// use std::alloc::Global;
+///
+/// fn visits_by_seven(alloc: Global) -> Result<Reply<u64>, Error> {
+///     let mut session = Session::new(alloc);
+///     let name = String::from_str(alloc, "visits")?;
+///     session.apply(Command::CreateFrequent {
+///         name,
+///         max_map_size: 64,
+///     });
+///     let name = String::from_str(alloc, "visits")?;
+///     session.apply(Command::Add {
+///         name,
+///         item: 7,
+///         weight: 5,
+///     });
+///     let name = String::from_str(alloc, "visits")?;
+///     Ok(session.apply(Command::Ask { name, item: 7 }))
+/// }
 /// ```
 #[derive(Drop)]
 pub struct Session<T: Eq + Hash + Drop> {

@@ -10,3 +10,35 @@ pub fn bytes_of_apple(alloc: Global) -> Result<u64, Error> {
     traffic.halve();
     Ok(traffic.estimate("apple"))
 }
+
+/// The bounds of what came on either of two days.
+pub fn apples_of_both_days(alloc: Global) -> Result<(u64, u64), Error> {
+    let mut monday: CountMinSketch<u64> = CountMinSketch::new(alloc, 4, 128)?;
+    let mut tuesday: CountMinSketch<u64> = CountMinSketch::new(alloc, 4, 128)?;
+    monday.update("apple")?;
+    tuesday.update_with_weight("apple", 9)?;
+    monday.merge(&tuesday)?;
+    Ok((monday.lower_bound("apple"), monday.upper_bound("apple")))
+}
+
+/// Nine tenths of each weight.
+pub fn age(traffic: &mut CountMinSketch<u64>) {
+    traffic.decay(9, 10);
+}
+
+/// A sketch as it comes back from its bytes, which may ask for a MiB.
+pub fn sent_counts(
+    alloc: Global,
+    counts: &CountMinSketch<u64>,
+) -> Result<CountMinSketch<u64>, Error> {
+    let image = counts.serialize()?;
+    CountMinSketch::deserialize_with_seed_and_limit(alloc, &image, counts.seed(), 1 << 20)
+}
+
+/// What is left of the apples.
+pub fn apples_in_store(alloc: Global) -> Result<i64, Error> {
+    let mut store: CountMinSketch<i64> = CountMinSketch::new(alloc, 4, 128)?;
+    store.update_with_weight("apple", 90)?;
+    store.update_with_weight("apple", -20)?;
+    Ok(store.estimate("apple"))
+}

@@ -1,6 +1,6 @@
 //! Which items were seen.
 use sketch_base::Error;
-use sketch_bloom::BloomFilterBuilder;
+use sketch_bloom::{BloomFilter, BloomFilterBuilder};
 use std::alloc::Global;
 
 /// Whether an apple was seen today and yesterday.
@@ -11,4 +11,32 @@ pub fn seen_by_both(alloc: Global) -> Result<bool, Error> {
     yesterday.insert("apple");
     today.intersect(&yesterday)?;
     Ok(today.contains(&"apple"))
+}
+
+/// A filter of a seed of its own.
+pub fn filter_of_visitors(alloc: Global) -> Result<BloomFilter, Error> {
+    BloomFilterBuilder::with_size(959, 7).seed(42).build(alloc)
+}
+
+/// Whether someone comes for the first time.
+pub fn is_first_visit(seen: &mut BloomFilter, visitor: u64) -> bool {
+    !seen.contains_and_insert(&visitor)
+}
+
+/// Whether two names are refused once one of them was taken back.
+pub fn still_refused(alloc: Global) -> Result<(bool, bool), Error> {
+    let mut refused = BloomFilterBuilder::with_size(1 << 16, 7)
+        .seed(1)
+        .build(alloc)?;
+    let mut taken_back = BloomFilterBuilder::with_size(1 << 16, 7)
+        .seed(1)
+        .build(alloc)?;
+    refused.insert("spam.example");
+    refused.insert("shop.example");
+    taken_back.insert("shop.example");
+    refused.difference(&taken_back)?;
+    Ok((
+        refused.contains(&"spam.example"),
+        refused.contains(&"shop.example"),
+    ))
 }

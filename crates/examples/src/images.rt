@@ -1,6 +1,6 @@
 //! Sketches as bytes.
-use datasketches::bloom::BloomFilter;
-use datasketches::error::Error;
+use sketch_base::Error;
+use sketch_bloom::BloomFilter;
 use std::alloc::Global;
 
 /// A filter as it comes back from its bytes, which may ask for a MiB.

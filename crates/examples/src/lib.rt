@@ -1,10 +1,10 @@
-//! The examples of the READMEs, a function each, proved and run by the gate.
+//! The examples of the READMEs and of the libraries' docs, a function each, proved and run by the gate.
 //!
 //! They stand in tests, so that each is proved once.
 #![tactic(auto)]
 
 #[cfg(test)]
-mod balances;
+mod bytes;
 #[cfg(test)]
 mod counts;
 #[cfg(test)]
@@ -12,17 +12,9 @@ mod filters;
 #[cfg(test)]
 mod frequent_items;
 #[cfg(test)]
-mod header;
-#[cfg(test)]
 mod images;
 #[cfg(test)]
 mod session;
-#[cfg(test)]
-mod shops;
-#[cfg(test)]
-mod takedown;
-#[cfg(test)]
-mod tenants;
 #[cfg(test)]
 mod tests;
 #[cfg(test)]

@@ -1,6 +1,6 @@
 //! Commands on named sketches.
 use datasketches::error::Error;
-use datasketches::{Command, Reply, Session};
+use datasketches::{Action, Command, Refusal, Reply, Session, Shape};
 use std::alloc::Global;
 
 /// Whether a filter of a session has seen the number 7.
@@ -24,4 +24,40 @@ pub fn has_seen_seven(alloc: Global) -> Result<bool, Error> {
         item: 7,
     });
     Ok(matches!(told, Reply::Contains(true)))
+}
+
+/// What a session says of the visits by 7.
+pub fn visits_by_seven(alloc: Global) -> Result<Reply<u64>, Error> {
+    let mut session = Session::new(alloc);
+    let name = String::from_str(alloc, "visits")?;
+    session.apply(Command::CreateFrequent {
+        name,
+        max_map_size: 64,
+    });
+    let name = String::from_str(alloc, "visits")?;
+    session.apply(Command::Add {
+        name,
+        item: 7,
+        weight: 5,
+    });
+    let name = String::from_str(alloc, "visits")?;
+    Ok(session.apply(Command::Ask { name, item: 7 }))
+}
+
+/// Why nothing is inserted where no sketch has the name.
+pub fn refusal_of_an_unknown_name(alloc: Global) -> Result<Option<Refusal>, Error> {
+    let mut session = Session::new(alloc);
+    let name = String::from_str(alloc, "visits")?;
+    match session.apply(Command::Insert { name, item: 7_u64 }) {
+        Reply::Refused(refusal) => Ok(Some(refusal)),
+        _ => Ok(None),
+    }
+}
+
+/// The shape of the sketch that a command makes.
+pub fn made_shape(command: Command<u64>) -> Option<Shape> {
+    match Action::from(command) {
+        Action::Create { shape, .. } => Some(shape),
+        _ => None,
+    }
 }

@@ -1,17 +1,17 @@
 //! What the examples answer.
-use crate::balances::apples_in_store;
-use crate::counts::bytes_of_apple;
-use crate::filters::seen_by_both;
-use crate::frequent_items::heaviest;
-use crate::header::version_and_count;
+use crate::bytes::{
+    bucket, halves_of, hash_of_both, is_cut_short, there_and_back, version_and_seed,
+};
+use crate::counts::{age, apples_in_store, apples_of_both_days, bytes_of_apple, sent_counts};
+use crate::filters::{filter_of_visitors, is_first_visit, seen_by_both, still_refused};
+use crate::frequent_items::{apples_of_both_shops, heaviest};
 use crate::images::sent;
-use crate::session::has_seen_seven;
-use crate::shops::apples_of_both_shops;
-use crate::takedown::still_refused;
-use crate::tenants::weight_of_the_first;
-use crate::windows::load_of_a_customer;
+use crate::session::{has_seen_seven, made_shape, refusal_of_an_unknown_name, visits_by_seven};
+use crate::windows::{load_of_a_customer, weight_of_the_first};
 use datasketches::bloom::BloomFilterBuilder;
 use datasketches::error::Error;
+use datasketches::{Command, Refusal, Reply, Shape};
+use sketch_countmin::CountMinSketch;
 use std::alloc::Global;
 use std::test::Fail;
 
@@ -45,12 +45,70 @@ fn reports_and_images_are_as_the_readme_says(rt: HostRuntime) -> Result<(), Fail
 }
 
 #[test]
+fn bytes_are_as_the_docs_say(rt: HostRuntime) -> Result<(), Fail> {
+    assert!(rt; there_and_back(rt.alloc(), 77)? == 77);
+    assert!(rt; version_and_seed(&[1, 2, 0, 0, 0, 0, 0, 0, 0])? == (1, 2));
+    assert!(rt; version_and_seed(&[1]).is_err_and(|e| is_cut_short(&e)));
+    assert!(rt; hash_of_both(b"app", b"le") == hash_of_both(b"", b"apple"));
+    assert!(rt; halves_of(&7u64) == halves_of(&7u64));
+    assert!(rt; bucket(300) == 44);
+    Ok(())
+}
+
+/// Whether a visitor is new, and then no more.
+fn visits(alloc: Global) -> Result<(bool, bool), Error> {
+    let mut seen = filter_of_visitors(alloc)?;
+    let first = is_first_visit(&mut seen, 7);
+    Ok((first, is_first_visit(&mut seen, 7)))
+}
+
+/// Whether an aged sketch comes back.
+fn counts_come_back(alloc: Global) -> Result<(u64, bool), Error> {
+    let mut counts = CountMinSketch::new(alloc, 4, 128)?;
+    counts.update_with_weight("apple", 10)?;
+    age(&mut counts);
+    let copy = sent_counts(alloc, &counts)?;
+    Ok((copy.estimate("apple"), copy == counts))
+}
+
+#[test]
+fn sketches_are_as_the_docs_say(rt: HostRuntime) -> Result<(), Fail> {
+    assert!(rt; visits(rt.alloc())? == (true, false));
+    assert!(rt; counts_come_back(rt.alloc())? == (9, true));
+    assert!(rt; apples_of_both_days(rt.alloc())? == (10, 10));
+    Ok(())
+}
+
+#[test]
 fn calls_answer_as_the_readme_of_each_crate_says(rt: HostRuntime) -> Result<(), Fail> {
-    assert!(rt; version_and_count(rt.alloc())? == (2, 1_000));
     assert!(rt; apples_of_both_shops(rt.alloc())? == (42, 42));
     assert!(rt; still_refused(rt.alloc())? == (true, false));
     assert!(rt; apples_in_store(rt.alloc())? == 70);
     assert!(rt; weight_of_the_first(rt.alloc())? == 5);
     assert!(rt; has_seen_seven(rt.alloc())?);
+    Ok(())
+}
+
+/// The shape of a command that makes a sketch.
+fn shape_of_visits(alloc: Global) -> Result<Option<Shape>, Error> {
+    let name = String::from_str(alloc, "visits")?;
+    Ok(made_shape(Command::CreateFrequent {
+        name,
+        max_map_size: 64,
+    }))
+}
+
+#[test]
+fn sessions_are_as_the_docs_say(rt: HostRuntime) -> Result<(), Fail> {
+    let told = visits_by_seven(rt.alloc())?;
+    assert!(rt;
+        told == Reply::Bounds {
+            estimate: 5,
+            lower: 5,
+            upper: 5
+        }
+    );
+    assert!(rt; refusal_of_an_unknown_name(rt.alloc())? == Some(Refusal::NoSuchName));
+    assert!(rt; shape_of_visits(rt.alloc())? == Some(Shape::Frequent { max_map_size: 64 }));
     Ok(())
 }

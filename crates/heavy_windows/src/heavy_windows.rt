@@ -35,6 +35,21 @@ const MOST_WINDOWS: usize = 1024;
 /// A tenant is a number, and is unknown until a weight above 0 is added. Each window of a tenant is a sketch of what
 /// was added while it was the newest. A call on one tenant leaves the windows of all others as they are, and costs no
 /// more where there are many of them.
+///
+/// # Examples
+///
+/// ```
+/// use heavy_windows::{Error, ErrorType, HeavyWindows, Report};
+/// use std::alloc::Global;
+///
+/// fn load_of_a_customer(alloc: Global) -> Result<Report<&'static str>, Error> {
+///     let mut load = HeavyWindows::new(alloc, 24, 1024)?;
+///     load.add(7, "/search", 5_300)?;
+///     load.turn(7)?;
+///     load.add(7, "/search", 1_200)?;
+///     load.report(7, ErrorType::NoFalsePositives, 1_000)
+/// }
+/// ```
 #[derive(Debug, Drop)]
 pub struct HeavyWindows<T: Eq + Hash + Drop> {
     alloc: Global,

@@ -1,3 +1,4 @@
+pub mod Blocks
 pub mod DirectRemainder
 pub mod Murmur3Pieces
 pub mod Rotation

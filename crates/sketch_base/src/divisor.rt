@@ -10,6 +10,17 @@ use std::marker::Model;
 /// The multiplier is 2^64 - 1 over the divisor, rounded down. The upper half of its product with a number is then the
 /// quotient or one less, so that the number without so many divisors is below twice the divisor, and one subtraction
 /// gives the remainder where it is due. It holds for each divisor and each number of 64 bits.
+///
+/// # Examples
+///
+/// ```
+/// use sketch_base::Divisor;
+///
+/// fn bucket(hash: u64) -> u64 {
+///     let buckets = Divisor::new(128);
+///     buckets.rem(hash)
+/// }
+/// ```
 #[derive(Clone, Copy, Debug)]
 pub struct Divisor {
     divisor: u64,

@@ -19,6 +19,16 @@ pub enum ErrorKind {
 }
 
 /// A refusal: its kind and its fault.
+///
+/// # Examples
+///
+/// ```
+/// use sketch_base::{Error, ErrorKind, Fault};
+///
+/// fn is_cut_short(error: &Error) -> bool {
+///     error.kind() == ErrorKind::InvalidData && error.fault() == Fault::InsufficientData
+/// }
+/// ```
 #[derive(Clone, Copy, Debug, PartialEq, Eq)]
 pub struct Error {
     kind: ErrorKind,

@@ -1,7 +1,7 @@
 //! The fields of images, which stand at fixed places, and what all images are checked for.
 //!
 //! Numbers have their lowest byte first. None of these calls takes memory.
-ghost use Rattle.std.specs.Prelude.{◌≡◌, ◌≢◌, ◌+◌, ◌<◌, ◌≤◌, length, OnOk, IfErr};
+ghost use Rattle.std.specs.Prelude.{◌≡◌, ◌≢◌, ◌+◌, ◌<◌, ◌≤◌, length, take, drop, OnOk, IfErr};
 ghost use Rattle.std.specs.Int.{w16, w32, w64};
 ghost use Rattle.sketch_base.specs.Errors.{invalid_data};
 ghost use Rattle.sketch_base.specs.Fields.{le_at, signed_le_at};
@@ -43,6 +43,17 @@ pub fn check_version(version: u8) -> Result<(), Error>
     Ok(())
 }
 
+/// The `N` bytes at a place.
+#[inline(always)]
+fn array_at<const N: usize>(image: &[u8], place: usize) -> [u8; N]
+    requires { place + N ≤ length image.now }
+    ensures { result ≡ take N (drop place image.now) }
+{
+    let mut bytes = [0; N];
+    bytes.copy_from_slice(&image[place..place + N]);
+    bytes
+}
+
 /// The unsigned number of two bytes at a place.
 #[tactic(auto, unfolding(crate::specs::Fields::le_at))]
 #[inline]
@@ -50,9 +61,7 @@ pub fn u16_at(image: &[u8], place: usize) -> u16
     requires { place + 2 ≤ length image.now }
     ensures { result ≡ le_at w16 image.now place }
 {
-    let mut bytes = [0; 2];
-    bytes.copy_from_slice(&image[place..place + 2]);
-    u16::from_le_bytes(bytes)
+    u16::from_le_bytes(array_at(image, place))
 }
 
 /// The unsigned number of four bytes at a place.
@@ -62,9 +71,7 @@ pub fn u32_at(image: &[u8], place: usize) -> u32
     requires { place + 4 ≤ length image.now }
     ensures { result ≡ le_at w32 image.now place }
 {
-    let mut bytes = [0; 4];
-    bytes.copy_from_slice(&image[place..place + 4]);
-    u32::from_le_bytes(bytes)
+    u32::from_le_bytes(array_at(image, place))
 }
 
 /// The signed number of four bytes at a place.
@@ -83,7 +90,5 @@ pub fn u64_at(image: &[u8], place: usize) -> u64
     requires { place + 8 ≤ length image.now }
     ensures { result ≡ le_at w64 image.now place }
 {
-    let mut bytes = [0; 8];
-    bytes.copy_from_slice(&image[place..place + 8]);
-    u64::from_le_bytes(bytes)
+    u64::from_le_bytes(array_at(image, place))
 }

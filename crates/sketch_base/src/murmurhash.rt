@@ -93,6 +93,19 @@ fn finalization(h: (u64, u64), rest: &[u8], len: u64) -> (u64, u64)
 ///
 /// It has a fixed size and takes no memory. However the bytes are cut into pieces, the hash is that of all of them.
 /// The hash function is Austin Appleby's, of the file `MurmurHash3.cpp`, with both halves started at the seed.
+///
+/// # Examples
+///
+/// ```
+/// use sketch_base::MurmurHash3X64128;
+/// use std::hash::Hash;
+///
+/// fn halves_of<T: Hash>(item: &T) -> (u64, u64) {
+///     let mut hasher = MurmurHash3X64128::default();
+///     item.hash(&mut hasher);
+///     hasher.finish128()
+/// }
+/// ```
 #[derive(Clone, Debug, Drop)]
 pub struct MurmurHash3X64128 {
     halves: (u64, u64),

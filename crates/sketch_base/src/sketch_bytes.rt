@@ -13,6 +13,20 @@ use std::marker::Model;
 /// A write past it takes memory, and where that is refused it answers
 /// [`NoMemory`](crate::Fault::NoMemory) of the kind [`OutOfMemory`](crate::ErrorKind::OutOfMemory),
 /// and leaves the bytes as they were.
+///
+/// # Examples
+///
+/// ```
+/// use sketch_base::{Error, SketchBytes, SketchSlice};
+/// use std::alloc::Global;
+///
+/// fn there_and_back(alloc: Global, n: u32) -> Result<u32, Error> {
+///     let mut out = SketchBytes::with_capacity(alloc, 4)?;
+///     out.write_u32_le(n)?;
+///     let image = out.into_bytes();
+///     SketchSlice::new(&image).read_u32_le()
+/// }
+/// ```
 #[derive(Debug, Drop)]
 pub struct SketchBytes {
     bytes: Vec<u8>,

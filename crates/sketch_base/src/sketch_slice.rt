@@ -13,6 +13,19 @@ use std::marker::Model;
 /// No call takes memory. A read of more bytes than are left answers
 /// [`InsufficientData`](Fault::InsufficientData) of the kind [`InvalidData`](crate::ErrorKind::InvalidData),
 /// and leaves the cursor where it was.
+///
+/// # Examples
+///
+/// ```
+/// use sketch_base::{Error, SketchSlice};
+///
+/// fn version_and_seed(image: &[u8]) -> Result<(u8, u64), Error> {
+///     let mut unread = SketchSlice::new(image);
+///     let version = unread.read_u8()?;
+///     let seed = unread.read_u64_le()?;
+///     Ok((version, seed))
+/// }
+/// ```
 #[derive(Clone, Debug, Drop)]
 pub struct SketchSlice<'a> {
     unread: &'a [u8],
@@ -71,6 +84,20 @@ impl<'a> SketchSlice<'a> {
         Ok(())
     }
 
+    /// Reads `N` bytes.
+    #[inline]
+    fn read_array<const N: usize>(&mut self) -> Result<[u8; N], Error>
+        ensures enough { OnOk result (N ≤ length self.old) }
+        ensures value { IfOk result (λ bytes. bytes ≡ take N self.old) }
+        ensures cursor { OnOk result (self.new ≡ drop N self.old) }
+        ensures short { IfErr result (λ e. (e ≡ invalid_data Fault.InsufficientData) × (length self.old < N)) }
+        ensures err { OnErr result (self.new ≡ self.old) }
+    {
+        let mut bytes = [0; N];
+        self.read_exact(&mut bytes)?;
+        Ok(bytes)
+    }
+
     /// Reads a byte.
     #[inline]
     pub fn read_u8(&mut self) -> Result<u8, Error>
@@ -95,9 +122,7 @@ impl<'a> SketchSlice<'a> {
         ensures short { IfErr result (λ e. (e ≡ invalid_data Fault.InsufficientData) × (length self.old < 2)) }
         ensures err { OnErr result (self.new ≡ self.old) }
     {
-        let mut bytes = [0; 2];
-        self.read_exact(&mut bytes)?;
-        Ok(u16::from_le_bytes(bytes))
+        Ok(u16::from_le_bytes(self.read_array()?))
     }
 
     /// Reads an unsigned number of four bytes, the lowest first.
@@ -110,9 +135,7 @@ impl<'a> SketchSlice<'a> {
         ensures short { IfErr result (λ e. (e ≡ invalid_data Fault.InsufficientData) × (length self.old < 4)) }
         ensures err { OnErr result (self.new ≡ self.old) }
     {
-        let mut bytes = [0; 4];
-        self.read_exact(&mut bytes)?;
-        Ok(u32::from_le_bytes(bytes))
+        Ok(u32::from_le_bytes(self.read_array()?))
     }
 
     /// Reads a signed number of four bytes, the lowest first.
@@ -125,9 +148,7 @@ impl<'a> SketchSlice<'a> {
         ensures short { IfErr result (λ e. (e ≡ invalid_data Fault.InsufficientData) × (length self.old < 4)) }
         ensures err { OnErr result (self.new ≡ self.old) }
     {
-        let mut bytes = [0; 4];
-        self.read_exact(&mut bytes)?;
-        Ok(i32::from_le_bytes(bytes))
+        Ok(i32::from_le_bytes(self.read_array()?))
     }
 
     /// Reads an unsigned number of eight bytes, the lowest first.
@@ -140,9 +161,7 @@ impl<'a> SketchSlice<'a> {
         ensures short { IfErr result (λ e. (e ≡ invalid_data Fault.InsufficientData) × (length self.old < 8)) }
         ensures err { OnErr result (self.new ≡ self.old) }
     {
-        let mut bytes = [0; 8];
-        self.read_exact(&mut bytes)?;
-        Ok(u64::from_le_bytes(bytes))
+        Ok(u64::from_le_bytes(self.read_array()?))
     }
 
     /// Reads a signed number of eight bytes, the lowest first.
@@ -155,8 +174,6 @@ impl<'a> SketchSlice<'a> {
         ensures short { IfErr result (λ e. (e ≡ invalid_data Fault.InsufficientData) × (length self.old < 8)) }
         ensures err { OnErr result (self.new ≡ self.old) }
     {
-        let mut bytes = [0; 8];
-        self.read_exact(&mut bytes)?;
-        Ok(i64::from_le_bytes(bytes))
+        Ok(i64::from_le_bytes(self.read_array()?))
     }
 }

@@ -186,6 +186,20 @@ fn finalization(h: u64, rest: &[u8]) -> u64
 ///
 /// It has a fixed size and takes no memory. However the bytes are cut into pieces, the hash is that of all of them.
 /// The hash function is Yann Collet's, of the description 'xxHash fast digest algorithm'.
+///
+/// # Examples
+///
+/// ```
+/// use sketch_base::XxHash64;
+/// use std::hash::Hasher;
+///
+/// fn hash_of_both(first: &[u8], second: &[u8]) -> u64 {
+///     let mut hasher = XxHash64::with_seed(9001);
+///     hasher.write(first);
+///     hasher.write(second);
+///     hasher.finish()
+/// }
+/// ```
 #[derive(Clone, Debug, Drop)]
 pub struct XxHash64 {
     seed: u64,

@@ -34,6 +34,23 @@ use std::marker::Model;
 ///
 /// An item is contained where all its positions are in the set. So an item that was inserted is contained until a call
 /// takes positions away, and an item that was not inserted may be contained as well.
+///
+/// # Examples
+///
+/// ```
+/// use sketch_base::Error;
+/// use sketch_bloom::BloomFilterBuilder;
+/// use std::alloc::Global;
+///
+/// fn seen_by_both(alloc: Global) -> Result<bool, Error> {
+///     let mut today = BloomFilterBuilder::with_size(959, 7).build(alloc)?;
+///     let mut yesterday = BloomFilterBuilder::with_size(959, 7).build(alloc)?;
+///     today.insert("apple");
+///     yesterday.insert("apple");
+///     today.intersect(&yesterday)?;
+///     Ok(today.contains(&"apple"))
+/// }
+/// ```
 #[derive(Drop)]
 pub struct BloomFilter {
     words: Vec<u64>,
@@ -100,6 +117,16 @@ impl BloomFilter {
     }
 
     /// Inserts the item's positions, and answers whether all of them were in the set before. It takes no memory.
+    ///
+    /// # Examples
+    ///
+    /// ```
+    /// use sketch_bloom::BloomFilter;
+    ///
+    /// fn is_first_visit(seen: &mut BloomFilter, visitor: u64) -> bool {
+    ///     !seen.contains_and_insert(&visitor)
+    /// }
+    /// ```
     #[inline]
     pub fn contains_and_insert<T: Hash>(&mut self, item: &T) -> bool
         ensures answer { result ≡ contains_item self.old (fed_bytes T.hash_input item.now) }
@@ -332,6 +359,19 @@ impl BloomFilter {
     ///
     /// Those of `deserialize`, and `TableTooLarge` of the kind `InvalidData` where the words would take more: behind
     /// the checks that come before memory, and then no memory is asked for.
+    ///
+    /// # Examples
+    ///
+    /// ```
+    /// use sketch_base::Error;
+    /// use sketch_bloom::BloomFilter;
+    /// use std::alloc::Global;
+    ///
+    /// fn sent(alloc: Global, filter: &BloomFilter) -> Result<BloomFilter, Error> {
+    ///     let image = filter.serialize()?;
+    ///     BloomFilter::deserialize_with_limit(alloc, &image, 1 << 20)
+    /// }
+    /// ```
     pub fn deserialize_with_limit(
         alloc: Global,
         image: &[u8],

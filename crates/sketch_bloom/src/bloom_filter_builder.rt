@@ -15,6 +15,18 @@ use std::marker::Model;
 /// The number of bits and of hashes and the seed of a filter that is to be made.
 ///
 /// Nothing is checked before [`build`](BloomFilterBuilder::build).
+///
+/// # Examples
+///
+/// ```
+/// use sketch_base::Error;
+/// use sketch_bloom::{BloomFilter, BloomFilterBuilder};
+/// use std::alloc::Global;
+///
+/// fn filter_of_visitors(alloc: Global) -> Result<BloomFilter, Error> {
+///     BloomFilterBuilder::with_size(959, 7).seed(42).build(alloc)
+/// }
+/// ```
 #[derive(Debug, Clone, Drop)]
 pub struct BloomFilterBuilder {
     num_bits: u64,

@@ -41,6 +41,21 @@ const E_DENOMINATOR: u128 = 1_000_000_000_000_000_000;
 /// same bytes are the same item.
 ///
 /// No cell is further from zero than the total weight.
+///
+/// # Examples
+///
+/// ```
+/// use sketch_base::Error;
+/// use sketch_countmin::CountMinSketch;
+/// use std::alloc::Global;
+///
+/// fn bytes_of_apple(alloc: Global) -> Result<u64, Error> {
+///     let mut traffic: CountMinSketch<u64> = CountMinSketch::new(alloc, 4, 128)?;
+///     traffic.update_with_weight("apple", 90)?;
+///     traffic.halve();
+///     Ok(traffic.estimate("apple"))
+/// }
+/// ```
 #[derive(Drop)]
 pub struct CountMinSketch<T: CountMinValue> {
     buckets: Divisor,
@@ -294,6 +309,23 @@ impl<T: CountMinValue> CountMinSketch<T> {
     ///
     /// `Mismatch` where the hashes, the buckets or the seeds differ, and then `WeightOverflow` where the totals
     /// together pass the type's greatest value. The sketch is then as it was.
+    ///
+    /// # Examples
+    ///
+    /// ```
+    /// use sketch_base::Error;
+    /// use sketch_countmin::CountMinSketch;
+    /// use std::alloc::Global;
+    ///
+    /// fn apples_of_both_days(alloc: Global) -> Result<(u64, u64), Error> {
+    ///     let mut monday: CountMinSketch<u64> = CountMinSketch::new(alloc, 4, 128)?;
+    ///     let mut tuesday: CountMinSketch<u64> = CountMinSketch::new(alloc, 4, 128)?;
+    ///     monday.update("apple")?;
+    ///     tuesday.update_with_weight("apple", 9)?;
+    ///     monday.merge(&tuesday)?;
+    ///     Ok((monday.lower_bound("apple"), monday.upper_bound("apple")))
+    /// }
+    /// ```
     pub fn merge(&mut self, other: &CountMinSketch<T>) -> Result<(), Error>
         ensures joined { OnOk result (Joins self.old other.now self.new) }
         ensures state { IsCountState T.greatest self.new }
@@ -431,6 +463,22 @@ impl<T: CountMinValue> CountMinSketch<T> {
     ///
     /// Those of `deserialize_with_seed`, and `TableTooLarge` of the kind `InvalidData` where the sketch would take
     /// more: behind the checks that come before memory, and then no memory is asked for.
+    ///
+    /// # Examples
+    ///
+    /// ```
+    /// use sketch_base::Error;
+    /// use sketch_countmin::CountMinSketch;
+    /// use std::alloc::Global;
+    ///
+    /// fn sent_counts(
+    ///     alloc: Global,
+    ///     counts: &CountMinSketch<u64>,
+    /// ) -> Result<CountMinSketch<u64>, Error> {
+    ///     let image = counts.serialize()?;
+    ///     CountMinSketch::deserialize_with_seed_and_limit(alloc, &image, counts.seed(), 1 << 20)
+    /// }
+    /// ```
     pub fn deserialize_with_seed_and_limit(
         alloc: Global,
         image: &[u8],
@@ -537,6 +585,16 @@ impl<T: UnsignedCountMinValue> CountMinSketch<T> {
 
     /// Multiplies each cell and the total by `numerator / denominator`, rounded down, where
     /// `0 < numerator <= denominator`. It takes no memory.
+    ///
+    /// # Examples
+    ///
+    /// ```
+    /// use sketch_countmin::CountMinSketch;
+    ///
+    /// fn age(traffic: &mut CountMinSketch<u64>) {
+    ///     traffic.decay(9, 10);
+    /// }
+    /// ```
     pub fn decay(&mut self, numerator: u64, denominator: u64)
         requires positive { 0 < numerator }
         requires at_most_one { numerator ≤ denominator }

@@ -2,7 +2,7 @@ use Rattle.std.proofs.Common.{◌≡◌, ℕ, List, [], ◌+◌, ◌-◌, ◌%�
 use Rattle.std.proofs.lemmas.List.{take_all, drop_all, length-take-le, length-drop}
 use Rattle.sketch_base.specs.Murmur3State as pieces
 use Rattle.sketch_base.specs.Murmur3State.{Murmur3State}
-use Rattle.sketch_base.proofs.Murmur3Pieces.{zeros_long, view_long, body_none}
+use Rattle.sketch_base.proofs.Murmur3Pieces.{body_is, zeros_long, view_long}
 use Rattle.sketch_base.proofs.murmurhash.MurmurHash3X64128.fill_block.Goals as goal
 
 -- the piece is as long as the room that is left
@@ -34,5 +34,5 @@ returns c =
     let none : [] ≡ drop (16 - u) bs = sym (drop_all (16 - u) bs (omega arith)) in
     let all : c.copy_short.new.to ≡ take (16 - u) bs = c.copy_short.ensures ∙ sym (take_all (16 - u) bs (omega arith)) in
     view_long c.self.inside.halves _ c.self.inside.buffer _ bs [] [] [] _ c.self.inside.total c.self.told (omega arith) refl all none
-    (c.block-self-inside.ensures ∙ sym (body_none _ [])) refl refl
+    (c.block-self-inside.ensures ∙ sym (body_is.none _ [])) refl refl
     ∙ ap (λ (f : Murmur3State). pieces.write f bs) c.self.view_is

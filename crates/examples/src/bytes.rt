@@ -1,0 +1,48 @@
+//! Bytes that are hashed, written and read.
+use sketch_base::{
+    Divisor, Error, ErrorKind, Fault, MurmurHash3X64128, SketchBytes, SketchSlice, XxHash64,
+};
+use std::alloc::Global;
+use std::hash::{Hash, Hasher};
+
+/// A number, written and read again.
+pub fn there_and_back(alloc: Global, n: u32) -> Result<u32, Error> {
+    let mut out = SketchBytes::with_capacity(alloc, 4)?;
+    out.write_u32_le(n)?;
+    let image = out.into_bytes();
+    SketchSlice::new(&image).read_u32_le()
+}
+
+/// Two fields of an image.
+pub fn version_and_seed(image: &[u8]) -> Result<(u8, u64), Error> {
+    let mut unread = SketchSlice::new(image);
+    let version = unread.read_u8()?;
+    let seed = unread.read_u64_le()?;
+    Ok((version, seed))
+}
+
+/// The hash of two pieces, which is that of both as one.
+pub fn hash_of_both(first: &[u8], second: &[u8]) -> u64 {
+    let mut hasher = XxHash64::with_seed(9001);
+    hasher.write(first);
+    hasher.write(second);
+    hasher.finish()
+}
+
+/// Both halves of the hash of an item.
+pub fn halves_of<T: Hash>(item: &T) -> (u64, u64) {
+    let mut hasher = MurmurHash3X64128::default();
+    item.hash(&mut hasher);
+    hasher.finish128()
+}
+
+/// The bucket of a hash, of 128 buckets.
+pub fn bucket(hash: u64) -> u64 {
+    let buckets = Divisor::new(128);
+    buckets.rem(hash)
+}
+
+/// Whether an image lacks bytes at its end.
+pub fn is_cut_short(error: &Error) -> bool {
+    error.kind() == ErrorKind::InvalidData && error.fault() == Fault::InsufficientData
+}
