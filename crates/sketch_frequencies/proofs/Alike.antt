@@ -5,7 +5,7 @@ use Rattle.std.specs.Int.{is_power_of_two}
 use Rattle.std.specs.Cmp.{IsEquivalence}
 use Rattle.std.specs.List.{AllZip}
 use Rattle.std.proofs.lemmas.List.Sorted.{IsPermutation-refl}
-use Rattle.sketch_frequencies.specs.Tables.{IsSameEntry, IsSameMap}
+use Rattle.counter_table.specs.Tables.{IsSameEntry, IsSameMap}
 use Rattle.sketch_frequencies.specs.History.{FrequentHistory}
 use Rattle.sketch_frequencies.specs.History.FrequentHistory.{Update}
 use Rattle.sketch_frequencies.specs.State.{FrequentState, IsState, IsSampleSize}

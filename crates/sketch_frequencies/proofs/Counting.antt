@@ -11,7 +11,7 @@ use Rattle.sketch_base.specs.declared.fault.Fault.{Fault}
 use Rattle.sketch_frequencies.specs.Image.{◌>>=◌, items_in, items_at, weights_at, weight_of, contents_of, active_at, fault_in}
 use Rattle.sketch_frequencies.specs.Items.{Codec}
 use Rattle.sketch_frequencies.specs.Reading.{AreCounted, AreCounters, with_front, AreCountersSoFar}
-use Rattle.sketch_frequencies.specs.Tables.{count_of, put, sum_of}
+use Rattle.counter_table.specs.Tables.{count_of, put, sum_of}
 use Rattle.sketch_frequencies.proofs.Cases.{by_test}
 use Rattle.sketch_frequencies.proofs.Orders.{count_of-permutation}
 use Rattle.sketch_frequencies.proofs.Puts.{count_of-put, positive-put, sum_of-put, IsDistinct-put, length_put_le}

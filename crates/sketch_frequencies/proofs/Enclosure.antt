@@ -5,7 +5,7 @@ use Rattle.std.specs.Cmp.{IsEquivalence}
 use Rattle.std.specs.Map.{keys_of}
 use Rattle.std.proofs.lemmas.Map.Made.{length-le_from_is_member}
 use Rattle.std.proofs.lemmas.Map.Entries.{length-keys_of}
-use Rattle.sketch_frequencies.specs.Tables.{count_of, put, purged}
+use Rattle.counter_table.specs.Tables.{count_of, put, purged}
 use Rattle.sketch_frequencies.specs.History.{FrequentHistory, own_size, least_size, own_sample, least_sample}
 use Rattle.sketch_frequencies.specs.History.FrequentHistory.{New, Update, Merge, Reset, Restored}
 use Rattle.sketch_frequencies.specs.State.{FrequentState, IsState, capacity, greatest_sample_size}

@@ -11,7 +11,7 @@ use Rattle.sketch_frequencies.specs.Image.{◌>>=◌, IsImage, items_in, items_a
 use Rattle.sketch_frequencies.specs.Items.{Codec, IsLawful}
 use Rattle.sketch_frequencies.specs.Reading.{AreCounted, AreCounters}
 use Rattle.sketch_frequencies.specs.State.{FrequentState, IsState, capacity, greatest_sample_size, empty_state}
-use Rattle.sketch_frequencies.specs.Tables.{put}
+use Rattle.counter_table.specs.Tables.{put}
 use Rattle.sketch_frequencies.proofs.Cases.{by_test}
 use Rattle.sketch_frequencies.proofs.Counting.{none_counted, counted_more, counted_dropped}
 use Rattle.sketch_frequencies.proofs.Fresh.{fresh_state}

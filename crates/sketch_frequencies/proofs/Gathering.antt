@@ -5,10 +5,10 @@ use Rattle.std.proofs.Math.Seq.{take-add}
 use Rattle.std.proofs.lemmas.List.Concat.{flat_map-append}
 use Rattle.std.proofs.lemmas.List.Elements.{filter_map-append}
 use Rattle.sketch_frequencies.specs.Image.{encoded_weights}
-use Rattle.sketch_frequencies.specs.Slots.{entries_of, slot_entry}
-use Rattle.sketch_frequencies.specs.declared.slot.Slot.{Slot}
-use Rattle.sketch_frequencies.specs.declared.slot.Slot.TheVariants.{Free, Taken}
-use Rattle.sketch_frequencies.proofs.Samples.{entries_taken, entries_passed}
+use Rattle.counter_table.specs.Slots.{entries_of, slot_entry}
+use Rattle.counter_table.specs.declared.slot.Slot.{Slot}
+use Rattle.counter_table.specs.declared.slot.Slot.TheVariants.{Free, Taken}
+use Rattle.sketch_frequencies.proofs.SlotEntries.{entries_taken, entries_passed}
 use Rattle.sketch_frequencies.proofs.Spellings.{weights_push}
 
 -- a weight takes eight bytes
@@ -22,11 +22,11 @@ weight_more i slots drift count x d was now bytes lt slot_is was_is bytes_are no
     now_is
     ∙ (ap (λ (l : List ℕ). l ++ bytes) was_is
     ∙ (ap (λ (l : List ℕ). encoded_weights es ++ l) bytes_are
-    ∙ (sym (weights_push es (x, count)) ∙ ap encoded_weights (sym (entries_taken i slots drift count x d lt slot_is)))))
+    ∙ (sym (weights_push es (x, count)) ∙ ap encoded_weights (sym (entries_taken slots i drift count x d lt slot_is)))))
 
 -- no weight more
 pub weight_passed : {T : Type 0} (i : ℕ) (slots : List (Slot T)) (d : Slot T) (was now : List ℕ) → i < length slots → get_or slots i d ≡ Free → was ≡ encoded_weights (entries_of (take i slots)) → now ≡ was → now ≡ encoded_weights (entries_of (take (i + 1) slots))
-weight_passed i slots d was now lt slot_is was_is now_is = now_is ∙ (was_is ∙ ap encoded_weights (sym (entries_passed i slots d lt slot_is)))
+weight_passed i slots d was now lt slot_is was_is now_is = now_is ∙ (was_is ∙ ap encoded_weights (sym (entries_passed slots i d lt slot_is)))
 
 -- the weights of several slots more
 pub weights_of_part : {T : Type 0} (slots part : List (Slot T)) (i n : ℕ) (old was now bytes : List ℕ) → i ≤ n → part ≡ take (n - i) (drop i slots) → was ≡ old ++ encoded_weights (entries_of (take i slots)) → bytes ≡ encoded_weights (entries_of part) → now ≡ was ++ bytes → now ≡ old ++ encoded_weights (entries_of (take n slots))

@@ -14,7 +14,7 @@ use Rattle.sketch_frequencies.specs.Items.{Codec}
 use Rattle.sketch_frequencies.specs.Reading.{AreCounters}
 use Rattle.sketch_frequencies.specs.State.{FrequentState, IsState, IsSampleSize, capacity, greatest_sample_size, empty_state}
 use Rattle.sketch_frequencies.specs.Steps.{HoldsSame}
-use Rattle.sketch_frequencies.specs.Tables.{count_of, sum_of}
+use Rattle.counter_table.specs.Tables.{count_of, sum_of}
 use Rattle.sketch_frequencies.proofs.Alike.{encloses_alike, budget_alike}
 use Rattle.sketch_frequencies.proofs.Cases.{by_test}
 use Rattle.sketch_frequencies.proofs.Counting.{distinct_contents}

@@ -6,7 +6,7 @@ use denote.RattleType.{RattleType}
 use Rattle.sketch_base.specs.Checks.{IsImageRefusal, or_else}
 use Rattle.sketch_base.specs.Errors.{ErrorValue}
 use Rattle.sketch_base.specs.declared.fault.Fault.{Fault}
-use Rattle.sketch_frequencies.specs.Bytes.{table_bytes}
+use Rattle.counter_table.specs.Bytes.{table_bytes}
 use Rattle.sketch_frequencies.specs.Image.{early_fault, early_fault_within, limit_fault, restored_size}
 
 -- a table takes at most so many bytes, by the formula

@@ -6,7 +6,7 @@ use Rattle.std.proofs.lemmas.List.{append-nil}
 use Rattle.std.proofs.lemmas.List.Elements.{AllZip-push, All-head, All-tail}
 use Rattle.std.proofs.lemmas.List.Sums.{sum_by-append, sum_by-cons}
 use Rattle.std.proofs.lemmas.List.Sorted.{IsPermutation-refl, All-permutation, sum_by-IsPermutation}
-use Rattle.sketch_frequencies.specs.Tables.{IsSameEntry, sum_of}
+use Rattle.counter_table.specs.Tables.{IsSameEntry, sum_of}
 use Rattle.sketch_frequencies.specs.History.{FrequentHistory}
 use Rattle.sketch_frequencies.specs.History.FrequentHistory.{Merge}
 use Rattle.sketch_frequencies.specs.State.{FrequentState, IsState}

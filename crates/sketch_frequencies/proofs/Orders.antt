@@ -1,16 +1,15 @@
 -- What entries say in any order, and after a purge.
-use Rattle.std.proofs.Common.{◌≡◌, ℕ, ◌+◌, ◌-◌, Bool, true, false, cond, List, [], ◌∷◌, ◌++◌, length, map, refl, ap, sym, ◌∙◌, arith, ltb, sum_by, IsPermutation, unwrap_or, Some, None, Option, is_some, take, drop}
+use Rattle.std.proofs.Common.{◌≡◌, ℕ, ◌+◌, ◌-◌, Bool, true, false, cond, List, [], ◌∷◌, ◌++◌, map, refl, ap, sym, ◌∙◌, arith, ltb, sum_by, IsPermutation, unwrap_or, Some, None, Option, is_some}
 use Rattle.std.specs.Cmp.{IsEquivalence}
 use Rattle.std.specs.List.{IsDistinct, AllByRecursion, filter}
 use Rattle.std.specs.Map.{lookup, keys_of}
 use Rattle.std.proofs.lemmas.Bool.{false≢true}
 use Rattle.std.proofs.lemmas.Bool.Decides.{nat_tests}
 use Rattle.std.proofs.lemmas.List.Sums.{sum_by-cons}
-use Rattle.std.proofs.lemmas.List.{take-append-le, take_all}
 use Rattle.sketch_frequencies.proofs.Filters.{filter-permutation}
 use Rattle.std.proofs.lemmas.List.Sorted.{sum_by-IsPermutation, IsPermutation-map, list_any-IsPermutation, IsPermutation-append_left, IsPermutation-trans}
 use Rattle.std.proofs.lemmas.Map.Keys.{IsDistinct-head, IsDistinct-tail, IsDistinct-cons, IsDistinct-IsPermutation}
-use Rattle.sketch_frequencies.specs.Tables.{count_of, is_tracked, put, purged, IsSampleMiddle}
+use Rattle.counter_table.specs.Tables.{count_of, is_tracked, put, purged, IsSampleMiddle}
 use Rattle.sketch_frequencies.proofs.Cases.{by_test}
 use Rattle.sketch_frequencies.proofs.Puts.{is_tracked-keys, put_absent}
 
@@ -69,7 +68,7 @@ put_tracked {eq = eq} laws (e ∷ es) x w h t =
     (λ _ is _. ap (λ l. (e.0, e.1 + w) ∷ l) (sym (bumped_none laws e.0 x w es (IsDistinct-head eq e.0 (keys_of es) h) is)))
     (λ _ _ there. ap (λ l. e ∷ l) (put_tracked laws es x w (IsDistinct-tail eq e.0 (keys_of es) h) there)) refl t
 
-pub none_from_is_some : (o : Option ℕ) → is_some o ≡ false → o ≡ None
+none_from_is_some : (o : Option ℕ) → is_some o ≡ false → o ≡ None
 none_from_is_some None h = refl
 none_from_is_some (Some v) h = absurd (false≢true (sym h))
 
@@ -103,11 +102,6 @@ count_of-purged {eq = eq} laws m (e ∷ es) y h =
     (λ _ low. let gone = absent_count laws e.0 y es (IsDistinct-head eq e.0 (keys_of es) h) is in grind (arith, nat_tests, rest, gone, low)) refl)
     (λ _ is. by_test (ltb m e.1) (λ c. count_of eq (map (λ e. (e.0, e.1 - m)) (cond c (e ∷ filter (λ e. ltb m e.1) es) (filter (λ e. ltb m e.1) es))) y ≡ count_of eq es y - m)
     (λ _. rw is rest) (λ _. rest)) refl
-
--- what a purge leaves is no longer than what there was
--- a slice written back whole
-pub written_whole : {X : Type 0} (n : ℕ) (a b : List X) → length a ≡ n → take n (a ++ drop (length a) b) ≡ a
-written_whole n a b h = rw (← h) (take-append-le (length a) a (drop (length a) b) (omega arith) ∙ take_all (length a) a (omega arith))
 
 pub purged-permutation : {T : Type 0} (m : ℕ) (es fs : List (T × ℕ)) → IsPermutation es fs → IsPermutation (purged m es) (purged m fs)
 purged-permutation {T} m es fs h = let f : T × ℕ → T × ℕ = λ e. (e.0, e.1 - m) in IsPermutation-map f (filter (λ (e : T × ℕ). ltb m e.1) es) (filter (λ (e : T × ℕ). ltb m e.1) fs) (filter-permutation (λ (e : T × ℕ). ltb m e.1) es fs h)

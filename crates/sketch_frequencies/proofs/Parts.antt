@@ -4,7 +4,7 @@ use Rattle.std.specs.Cmp.{IsEquivalence}
 use Rattle.std.proofs.lemmas.Bool.{cases_lt, le-ltb}
 use Rattle.std.proofs.lemmas.Bool.Decides.{nat_tests}
 use Rattle.std.proofs.lemmas.List.Sorted.{length_permutation, IsPermutation-trans}
-use Rattle.sketch_frequencies.specs.Tables.{Table, is_tracked, put, IsSampleMiddle}
+use Rattle.counter_table.specs.Tables.{Table, is_tracked, put, IsSampleMiddle}
 use Rattle.sketch_frequencies.specs.State.{FrequentState, IsState, capacity, must_grow, must_double}
 use Rattle.sketch_frequencies.specs.Steps.{Steps}
 use Rattle.sketch_frequencies.specs.Growth.{MakesRoom, Adds}

@@ -6,7 +6,7 @@ use Rattle.std.specs.Map.{keys_of, lookup}
 use Rattle.std.proofs.lemmas.List.Elements.{All-head, All-tail}
 use Rattle.std.proofs.lemmas.List.Sorted.{IsPermutation-refl, IsPermutation-cons, IsPermutation-middle, IsPermutation-trans, IsPermutation-map, All-permutation}
 use Rattle.std.proofs.lemmas.Map.Keys.{IsDistinct-head, IsDistinct-tail, IsDistinct-IsPermutation}
-use Rattle.sketch_frequencies.specs.Tables.{count_of, IsSameMap}
+use Rattle.counter_table.specs.Tables.{count_of, IsSameMap}
 use Rattle.sketch_frequencies.proofs.Cases.{by_test}
 use Rattle.sketch_frequencies.proofs.Orders.{absent_count, count_of-permutation}
 

@@ -11,7 +11,7 @@ use Rattle.std.proofs.lemmas.List.Sorted.{length_permutation, IsPermutation-tran
 use Rattle.std.proofs.lemmas.Map.Keys.{IsDistinct-IsPermutation}
 use Rattle.std.specs.Prelude.{IsTrue}
 use Rattle.std.specs.Int.{is_power_of_two}
-use Rattle.sketch_frequencies.specs.Tables.{Table, put, sum_of, purged, IsSampleMiddle}
+use Rattle.counter_table.specs.Tables.{Table, put, sum_of, purged, IsSampleMiddle}
 use Rattle.sketch_frequencies.specs.State.{FrequentState, IsState, IsSampleSize, capacity}
 use Rattle.sketch_frequencies.specs.Growth.{Adds}
 use Rattle.sketch_frequencies.proofs.Puts.{IsDistinct-put, positive-put, sum_of-put, length_put_le}

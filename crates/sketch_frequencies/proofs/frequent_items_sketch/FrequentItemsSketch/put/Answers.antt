@@ -3,7 +3,7 @@ use Rattle.std.proofs.lemmas.List.Sorted.{length_permutation}
 use Rattle.sketch_frequencies.specs.State.{FrequentState, state_of, capacity}
 use Rattle.sketch_frequencies.specs.Steps.{Steps}
 use Rattle.sketch_frequencies.specs.Growth.{Adds}
-use Rattle.sketch_frequencies.specs.Tables.{put}
+use Rattle.counter_table.specs.Tables.{put}
 use Rattle.sketch_frequencies.proofs.Parts.{length_put, step_with_room}
 use Rattle.sketch_frequencies.proofs.Puts.{count_le_sum}
 use Rattle.sketch_frequencies.proofs.States.{adds_kept, state_after}

@@ -1,0 +1,48 @@
+-- The home of an item, and the place after a place.
+use Rattle.std.proofs.Common.{◌≡◌, ℕ, ◌+◌, ◌-◌, ◌%◌, ◌^◌, ◌<◌, ap, sym, ◌∙◌, arith, List, bit_and}
+use Rattle.std.proofs.Math.Nat.{mod-lt}
+use Rattle.std.proofs.lemmas.Nat.{and_mask}
+use Rattle.sketch_base.specs.Murmur3.{murmur3_x64_128}
+use Rattle.counter_table.specs.Homes.{home_of, ahead}
+use Rattle.counter_table.specs.Slots.{IsTableSize}
+use Rattle.counter_table.proofs.ArithmeticPowers.{power_of, power_positive}
+use Rattle.counter_table.proofs.ArithmeticRing.{ahead_is}
+
+pub some_size : (n : ℕ) → IsTableSize n → 0 < n
+some_size n size = power_positive n size.power
+
+-- a mask takes the remainder
+masked : (x n : ℕ) → IsTableSize n → bit_and x (n - 1) ≡ x % n
+masked x n size =
+    let k = power_of n size.power in
+    let e : n - 1 ≡ 2 ^ k.0 - 1 = ap (λ m. m - 1) k.1 in
+    ap (bit_and x) e ∙ and_mask x k.0 ∙ ap (λ m. x % m) (sym k.1)
+
+pub home_masked : (bytes : List ℕ) (hash n : ℕ) → hash ≡ (murmur3_x64_128 bytes 9001).0 → IsTableSize n → bit_and hash (n - 1) ≡ home_of bytes n
+unfolding home_of
+home_masked bytes hash n e size = masked hash n size ∙ ap (λ x. x % n) e
+
+pub next_masked : (p n : ℕ) → IsTableSize n → bit_and (p + 1) (n - 1) ≡ ahead n p 1
+unfolding ahead
+next_masked p n size = masked (p + 1) n size
+
+pub before_masked : (p back n : ℕ) → IsTableSize n → bit_and (p + (n - back)) (n - 1) ≡ ahead n p (n - back)
+unfolding ahead
+before_masked p back n size = masked (p + (n - back)) n size
+
+pub stride_masked : (p stride n : ℕ) → IsTableSize n → bit_and (p + stride) (n - 1) ≡ (p + stride) % n
+stride_masked p stride n size = masked (p + stride) n size
+
+pub home_of-below : (bytes : List ℕ) (n : ℕ) → 0 < n → home_of bytes n < n
+unfolding home_of
+home_of-below bytes n h = mod-lt ((murmur3_x64_128 bytes 9001).0) h
+
+pub ahead-next : (n h j : ℕ) → h < n → j + 1 < n → ahead n (ahead n h j) 1 ≡ ahead n h (j + 1)
+ahead-next n h j l m =
+    let a = ahead_is n h j l (omega arith) in
+    let b = ahead_is n (ahead n h j) 1 a.below (omega arith) in
+    let c = ahead_is n h (j + 1) l (omega arith) in
+    omega arith
+
+pub ahead-zero : (n h : ℕ) → h < n → ahead n h 0 ≡ h
+ahead-zero n h l = let a = ahead_is n h 0 l (omega arith) in omega arith
