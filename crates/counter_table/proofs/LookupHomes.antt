@@ -1,9 +1,10 @@
--- The home of an item, and the place after a place.
+-- The home of an item, the place after a place, and where a look-up stands.
 use Rattle.std.proofs.Common.{◌≡◌, ℕ, ◌+◌, ◌-◌, ◌%◌, ◌^◌, ◌<◌, ap, sym, ◌∙◌, arith, List, bit_and}
 use Rattle.std.proofs.Math.Nat.{mod-lt}
 use Rattle.std.proofs.lemmas.Nat.{and_mask}
+use Rattle.sketch_base.specs.Hashes.{fed_bytes}
 use Rattle.sketch_base.specs.Murmur3.{murmur3_x64_128}
-use Rattle.counter_table.specs.Homes.{home_of, ahead}
+use Rattle.counter_table.specs.Homes.{home_in, home_of, ahead}
 use Rattle.counter_table.specs.Slots.{IsTableSize}
 use Rattle.counter_table.proofs.ArithmeticPowers.{power_of, power_positive}
 use Rattle.counter_table.proofs.ArithmeticRing.{ahead_is}
@@ -46,3 +47,20 @@ ahead-next n h j l m =
 
 pub ahead-zero : (n h : ℕ) → h < n → ahead n h 0 ≡ h
 ahead-zero n h l = let a = ahead_is n h 0 l (omega arith) in omega arith
+
+-- ---- a look-up that has looked at so many places from the home of x on
+module _ {T : Type 0} (input : T → List (List ℕ)) (x : T) (n : ℕ) (size : IsTableSize n) where
+  home_below : home_in input n x < n
+  home_below = home_of-below (fed_bytes input x) n (some_size n size)
+
+  -- it starts at the home
+  pub stands_first : (place : ℕ) → place ≡ home_in input n x → place ≡ ahead n (home_in input n x) 0
+  stands_first place is = is ∙ sym (ahead-zero n (home_in input n x) home_below)
+
+  -- its place is one of the table's
+  pub stands_within : (place looked : ℕ) → place ≡ ahead n (home_in input n x) looked → looked < n → place < n
+  stands_within place looked at below = let a = ahead_is n (home_in input n x) looked home_below (omega (arith, below)) in omega (arith, at, a.below)
+
+  -- and goes on to the next
+  pub stands_next : (place next looked : ℕ) → place ≡ ahead n (home_in input n x) looked → next ≡ ahead n place 1 → looked + 1 < n → next ≡ ahead n (home_in input n x) (looked + 1)
+  stands_next place next looked at step below = step ∙ ap (λ p. ahead n p 1) at ∙ ahead-next n (home_in input n x) looked home_below below

@@ -13,7 +13,7 @@ use Rattle.sketch_frequencies.specs.Stands.{Encloses, StandsFor, HasFewItems}
 use Rattle.sketch_frequencies.specs.Steps.{Steps}
 use Rattle.sketch_frequencies.proofs.Cases.{by_cases}
 use Rattle.sketch_frequencies.proofs.Puts.{count_of-put, IsDistinct-put, positive-put, positive_from_tracked}
-use Rattle.sketch_frequencies.proofs.Orders.{count_of-permutation, count_of-purged, IsDistinct-purged}
+use Rattle.sketch_frequencies.proofs.Permutations.{count_of-permutation, count_of-purged, IsDistinct-purged}
 
 -- the counts after a step, at each item
 pub record Counted {T : Type 0} (eq : T → T → Bool) (old : FrequentState T) (x : T) (w : ℕ) (new : FrequentState T) : Type 0 where

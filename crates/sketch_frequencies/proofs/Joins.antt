@@ -20,11 +20,11 @@ use Rattle.sketch_frequencies.specs.Steps.{Steps, StepsAlong, AddsAll, Joins}
 use Rattle.sketch_frequencies.specs.Growth.{Adds}
 use Rattle.sketch_frequencies.proofs.Cases.{by_test, by_cases}
 use Rattle.sketch_frequencies.proofs.Enclosure.{counted, least_le_own, sample_enough}
-use Rattle.sketch_frequencies.proofs.Orders.{share, share_is, count_is_sum, count_of-permutation}
+use Rattle.sketch_frequencies.proofs.Permutations.{share, share_is, count_is_sum, count_of-permutation}
 use Rattle.sketch_frequencies.proofs.Powers.{doubled_fits, lesser_power}
 use Rattle.sketch_frequencies.proofs.Reports.{or_true, or_false}
 use Rattle.sketch_frequencies.proofs.Puts.{is_tracked-keys, keys_of-put, same_set_test, IsDistinct-put, length_put_le, positive_from_tracked}
-use Rattle.sketch_frequencies.proofs.States.{state_after, state_made, length_le_sum}
+use Rattle.sketch_frequencies.proofs.UpdateStates.{state_after, state_made, length_le_sum}
 use Rattle.sketch_frequencies.proofs.Tail.{budget_step}
 
 -- a step leaves a state

@@ -13,9 +13,9 @@ use Rattle.sketch_frequencies.specs.State.{FrequentState, IsState}
 use Rattle.sketch_frequencies.specs.Stands.{StandsFor, KeepsTailBudget}
 use Rattle.sketch_frequencies.specs.Steps.{StepsEqual, StepsAlong, AddsAll, JoinsEqual, IsSameState}
 use Rattle.sketch_frequencies.specs.Growth.{AddsCounters}
-use Rattle.sketch_frequencies.proofs.Alike.{same_state_refl, state_alike, stands_alike, budget_alike}
+use Rattle.sketch_frequencies.proofs.SameStates.{same_state_refl, state_alike, stands_alike, budget_alike}
 use Rattle.sketch_frequencies.proofs.Joins.{steps_more, stands_merged, budget_merged}
-use Rattle.sketch_frequencies.proofs.Same.{same_sum}
+use Rattle.sketch_frequencies.proofs.SameMaps.{same_sum}
 
 -- the counters given so far were added to `old`, with items equal to theirs
 pub record AddedSoFar {T : Type 0} (eq : T → T → Bool) (old other : FrequentState T) (given rest : List (T × ℕ)) (now : FrequentState T) : Type 0 where

@@ -17,7 +17,7 @@ use Rattle.sketch_frequencies.specs.Rows.{passes, Shows, ShowsExactly}
 use Rattle.sketch_frequencies.specs.declared.error_type.ErrorType.{ErrorType}
 use Rattle.sketch_frequencies.proofs.Cases.{by_test}
 use Rattle.sketch_frequencies.proofs.Lookups.{lookup_middle, absent_before, lookup_same}
-use Rattle.sketch_frequencies.proofs.Orders.{count_of-permutation, is_tracked-permutation}
+use Rattle.sketch_frequencies.proofs.Permutations.{count_of-permutation, is_tracked-permutation}
 use Rattle.sketch_frequencies.proofs.Puts.{same_set_test, is_tracked-keys}
 
 -- the rows are those of the entries given so far

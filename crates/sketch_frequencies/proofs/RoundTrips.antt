@@ -19,10 +19,10 @@ use Rattle.sketch_frequencies.specs.Items.{Codec, IsLawful}
 use Rattle.sketch_frequencies.specs.State.{FrequentState, IsState, capacity}
 use Rattle.counter_table.specs.Tables.{count_of, sum_of}
 use Rattle.sketch_frequencies.proofs.Cases.{by_cases}
-use Rattle.sketch_frequencies.proofs.Orders.{count_is_sum, count_of-permutation, share}
+use Rattle.sketch_frequencies.proofs.Permutations.{count_is_sum, count_of-permutation, share}
 use Rattle.sketch_frequencies.proofs.Powers.{pow_twice}
-use Rattle.sketch_frequencies.proofs.States.{length_le_sum}
-use Rattle.sketch_frequencies.proofs.Weights.{weights_pass}
+use Rattle.sketch_frequencies.proofs.UpdateStates.{length_le_sum}
+use Rattle.sketch_frequencies.proofs.ImageWeights.{weights_pass}
 
 -- ---- the items and the weights are read again
 

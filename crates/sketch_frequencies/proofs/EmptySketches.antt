@@ -1,5 +1,6 @@
 -- A sketch into which nothing was fed.
-use Rattle.std.proofs.Common.{◌≡◌, ℕ, ◌^◌, ◌≤◌, Bool, refl, subst, arith}
+use Rattle.std.proofs.Common.{◌≡◌, ℕ, ◌^◌, ◌≤◌, Bool, refl, sym, subst, arith}
+use Rattle.std.proofs.Math.Pow.{pow_mono}
 use Rattle.std.specs.Prelude.{IsTrue}
 use Rattle.std.specs.Int.{is_power_of_two}
 use Rattle.std.specs.List.{IsDistinct}
@@ -7,8 +8,9 @@ use Rattle.std.proofs.lemmas.List.Elements.{All-nil}
 use Rattle.sketch_frequencies.specs.History.{FrequentHistory, own_size, own_sample}
 use Rattle.sketch_frequencies.specs.History.FrequentHistory.{New, Reset}
 use Rattle.sketch_frequencies.specs.Stands.{StandsFor, KeepsTailBudget}
-use Rattle.sketch_frequencies.specs.State.{IsState, IsSampleSize, empty_state}
+use Rattle.sketch_frequencies.specs.State.{IsState, IsSampleSize, empty_state, greatest_sample_size}
 use Rattle.sketch_frequencies.proofs.Powers.{eight_is_power}
+use Rattle.sketch_frequencies.proofs.SampleSizes.{usual_sample}
 
 -- it is a state
 pub fresh_state : {T : Type 0} (eq : T → T → Bool) (m n : ℕ) → 8 ≤ m → m ≤ 2 ^ 30 → IsTrue (is_power_of_two m) → IsSampleSize m n → IsState eq (empty_state m n)
@@ -26,6 +28,13 @@ fresh_state eq m n least most power sample = record {
   empty = λ _. refl;
   sample = sample;
 }
+
+-- so it is as it is read from an image, with the sample size that `new` gives
+pub restored_empty : {T : Type 0} (eq : T → T → Bool) (lg m n : ℕ) → 3 ≤ lg → m ≡ 2 ^ lg → m ≤ 2 ^ 30 → IsTrue (is_power_of_two m) → n ≡ greatest_sample_size m → IsState eq (empty_state m n)
+restored_empty eq lg m n low value most power usual =
+    let least : 2 ^ 3 ≤ 2 ^ lg = pow_mono low in
+    let large : 8 ≤ m = omega (arith, least, value) in
+    fresh_state eq m n large most power (subst (λ (k : ℕ). IsSampleSize m k) (sym usual) (usual_sample m large power))
 
 -- it stands for nothing fed
 pub new_stands : {T : Type 0} (eq : T → T → Bool) (m n : ℕ) → 8 ≤ m → IsTrue (is_power_of_two m) → IsSampleSize m n → StandsFor eq (empty_state m n) (New m n)

@@ -15,7 +15,7 @@ use Rattle.counter_table.specs.Tables.{Table, put, sum_of, purged, IsSampleMiddl
 use Rattle.sketch_frequencies.specs.State.{FrequentState, IsState, IsSampleSize, capacity}
 use Rattle.sketch_frequencies.specs.Growth.{Adds}
 use Rattle.sketch_frequencies.proofs.Puts.{IsDistinct-put, positive-put, sum_of-put, length_put_le}
-use Rattle.sketch_frequencies.proofs.Orders.{IsDistinct-purged, purged-permutation, IsSampleMiddle-permutation}
+use Rattle.sketch_frequencies.proofs.Permutations.{IsDistinct-purged, purged-permutation, IsSampleMiddle-permutation}
 use Rattle.sketch_frequencies.proofs.Cases.{by_cases}
 use Rattle.sketch_frequencies.proofs.Powers.{power_twice}
 use Rattle.sketch_frequencies.proofs.Purges.{purge_takes, heavy, heavy_outside, purged_shorter}

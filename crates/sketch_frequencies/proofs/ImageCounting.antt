@@ -13,9 +13,9 @@ use Rattle.sketch_frequencies.specs.Items.{Codec}
 use Rattle.sketch_frequencies.specs.Reading.{AreCounted, AreCounters, with_front, AreCountersSoFar}
 use Rattle.counter_table.specs.Tables.{count_of, put, sum_of}
 use Rattle.sketch_frequencies.proofs.Cases.{by_test}
-use Rattle.sketch_frequencies.proofs.Orders.{count_of-permutation}
+use Rattle.sketch_frequencies.proofs.Permutations.{count_of-permutation}
 use Rattle.sketch_frequencies.proofs.Puts.{count_of-put, positive-put, sum_of-put, IsDistinct-put, length_put_le}
-use Rattle.sketch_frequencies.proofs.Weights.{length-weights_at, sum_next, sum_take-le}
+use Rattle.sketch_frequencies.proofs.ImageWeights.{length-weights_at, sum_next, sum_take-le}
 
 module _ {T C : Type 0} (same : C → C → Bool) (content : T → C) (eq : T → T → Bool) (alike : (x y : T) → eq x y ≡ same (content x) (content y)) where
   none_equal : (k : T) (es : List (T × ℕ)) → AllByRecursion (λ q. eq k q ≡ false) (keys_of es) → AllByRecursion (λ q. same (content k) q ≡ false) (keys_of (contents_of content es))

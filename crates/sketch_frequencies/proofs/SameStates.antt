@@ -14,7 +14,7 @@ use Rattle.sketch_frequencies.specs.Steps.{StepsEqual, HoldsSame, IsSameState}
 use Rattle.sketch_frequencies.proofs.Enclosure.{stands_after}
 use Rattle.sketch_frequencies.proofs.Tail.{budget_after}
 use Rattle.sketch_frequencies.proofs.Puts.{same_set_test}
-use Rattle.sketch_frequencies.proofs.Same.{same_length, same_count, same_distinct, same_sum, same_sum_outside, same_positive}
+use Rattle.sketch_frequencies.proofs.SameMaps.{same_length, same_count, same_distinct, same_sum, same_sum_outside, same_positive}
 
 module _ {T : Type 0} {eq : T → T → Bool} (laws : IsEquivalence eq) where
   zip_refl : (es : List (T × ℕ)) → AllZip (IsSameEntry eq) es es

@@ -8,7 +8,7 @@ use Rattle.std.proofs.lemmas.List.Sums.{sum_by-cons}
 use Rattle.std.proofs.lemmas.List.Sorted.{IsPermutation-map, All-permutation, length_permutation, sum_by-IsPermutation}
 use Rattle.std.proofs.lemmas.Map.Keys.{IsDistinct-head, IsDistinct-tail, IsDistinct-cons, IsDistinct-IsPermutation}
 use Rattle.counter_table.specs.Tables.{count_of, is_tracked, sum_of, sum_outside, IsSameEntry, IsSameMap}
-use Rattle.sketch_frequencies.proofs.Orders.{count_of-permutation, is_tracked-permutation}
+use Rattle.sketch_frequencies.proofs.Permutations.{count_of-permutation, is_tracked-permutation}
 use Rattle.sketch_frequencies.proofs.Puts.{same_set_test}
 
 module _ {T : Type 0} {eq : T → T → Bool} (laws : IsEquivalence eq) where

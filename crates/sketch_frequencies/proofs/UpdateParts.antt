@@ -10,8 +10,8 @@ use Rattle.sketch_frequencies.specs.Steps.{Steps}
 use Rattle.sketch_frequencies.specs.Growth.{MakesRoom, Adds}
 use Rattle.sketch_frequencies.proofs.Cases.{by_cases}
 use Rattle.sketch_frequencies.proofs.Puts.{length-put}
-use Rattle.sketch_frequencies.proofs.States.{adds_kept}
-use Rattle.sketch_frequencies.proofs.Orders.{put-permutation, purged-permutation, IsSampleMiddle-permutation}
+use Rattle.sketch_frequencies.proofs.UpdateStates.{adds_kept}
+use Rattle.sketch_frequencies.proofs.Permutations.{put-permutation, purged-permutation, IsSampleMiddle-permutation}
 
 -- the table must grow where all its places are taken and it may
 pub grow_from_parts : {T : Type 0} (s : FrequentState T) → capacity s.size ≤ length s.counters → s.size < s.max_size → must_grow s ≡ true

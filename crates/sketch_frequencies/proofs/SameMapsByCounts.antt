@@ -8,7 +8,7 @@ use Rattle.std.proofs.lemmas.List.Sorted.{IsPermutation-refl, IsPermutation-cons
 use Rattle.std.proofs.lemmas.Map.Keys.{IsDistinct-head, IsDistinct-tail, IsDistinct-IsPermutation}
 use Rattle.counter_table.specs.Tables.{count_of, IsSameMap}
 use Rattle.sketch_frequencies.proofs.Cases.{by_test}
-use Rattle.sketch_frequencies.proofs.Orders.{absent_count, count_of-permutation}
+use Rattle.sketch_frequencies.proofs.Permutations.{absent_count, count_of-permutation}
 
 module _ {T : Type 0} {eq : T → T → Bool} (laws : IsEquivalence eq) where
   -- the entry of an item, and the others
