@@ -9,7 +9,7 @@ use Rattle.sketch_frequencies.specs.declared.error_type.ErrorType.{ErrorType}
 use Rattle.sketch_frequencies.specs.RowValue.{RowValue}
 use Rattle.sketch_frequencies.specs.Rows.{ShowsExactly, Descends}
 use Rattle.sketch_frequencies.specs.State.{FrequentState, estimate_of, capacity}
-use Rattle.sketch_frequencies.specs.Tables.{count_of}
+use Rattle.counter_table.specs.Tables.{count_of}
 use Rattle.sketch_countmin.specs.State.{CountState, IsLeastCell, upper_bound_of}
 use Rattle.sketch_bloom.specs.State.{contains_item, capacity_of}
 use Rattle.datasketches.specs.declared.reply.Reply.{Reply}

@@ -10,7 +10,7 @@ use Rattle.sketch_frequencies.specs.History.{FrequentHistory, true_weight, total
 use Rattle.sketch_frequencies.specs.Items.{Codec}
 use Rattle.sketch_frequencies.specs.Stands.{HasFewItems, KeepsTailBudget}
 use Rattle.sketch_frequencies.specs.State.{FrequentState, IsState, capacity}
-use Rattle.sketch_frequencies.specs.Tables.{count_of, sum_of}
+use Rattle.counter_table.specs.Tables.{count_of, sum_of}
 use Rattle.datasketches.specs.SessionStandsFor.{SessionStandsFor}
 use Rattle.datasketches.specs.Histories.{History, Assignment, after_one}
 use Rattle.datasketches.specs.Histories.History.{OfFrequent, OfCountI64, OfCountU64, OfBloom}

@@ -8,7 +8,7 @@ use Rattle.sketch_frequencies.specs.RowValue.{RowValue}
 use Rattle.sketch_frequencies.specs.Rows.{Shows, ShowsExactly}
 use Rattle.sketch_frequencies.specs.Stands.{StandsFor, KeepsTailBudget}
 use Rattle.sketch_frequencies.specs.State.{FrequentState, IsState, greatest_sample_size}
-use Rattle.sketch_frequencies.specs.Tables.{sum_outside}
+use Rattle.counter_table.specs.Tables.{sum_outside}
 use Rattle.sketch_frequencies.specs.declared.error_type.ErrorType.{ErrorType}
 use Rattle.heavy_windows.specs.Fresh.{fresh_state, fresh_history, window_budget}
 use Rattle.heavy_windows.specs.Histories.{report_history}

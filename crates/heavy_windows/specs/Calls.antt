@@ -2,7 +2,7 @@
 use Rattle.std.specs.Prelude.{◌≡◌, ◌≢◌, ℕ, ◌<◌, ◌≤◌, ◌^◌, Bool, false, [], None, Result, Ok, Err, ⊤, IsOk, IfOk, IfErr, OnOk, OnErr, IsErrOf}
 use Rattle.sketch_base.specs.Errors.{ErrorValue, invalid_argument, no_memory, refusal_of}
 use Rattle.sketch_base.specs.declared.fault.Fault.TheVariants.{WeightOverflow}
-use Rattle.sketch_frequencies.specs.State.{Overflows, Fits, must_double}
+use Rattle.sketch_frequencies.specs.State.{Overflows, TotalHasRoom, must_double}
 use Rattle.sketch_frequencies.specs.declared.error_type.ErrorType.{ErrorType}
 use Rattle.sketch_frequencies.specs.declared.error_type.ErrorType.TheVariants.{NoFalseNegatives, NoFalsePositives}
 use Rattle.heavy_windows.specs.Fresh.{fresh_state}
@@ -31,9 +31,9 @@ module _ {T : Type 0} (eq : T → T → Bool) where
     pub others : OnlyChanges tenant old new
     pub err : OnErr result (new ≡ old)
     pub overflow : 0 < weight → Overflows (newest_of tenant old) weight → IsErrOf result (invalid_argument WeightOverflow)
-    pub memory : Fits (newest_of tenant old) weight → IfErr result (λ e. e ≡ no_memory)
+    pub memory : TotalHasRoom (newest_of tenant old) weight → IfErr result (λ e. e ≡ no_memory)
     pub succeeds :
-        Fits (newest_of tenant old) weight → must_double eq (newest_of tenant old) item ≡ false →
+        TotalHasRoom (newest_of tenant old) weight → must_double eq (newest_of tenant old) item ≡ false →
         at_tenant tenant old ≢ [] → IsOk result
 
   -- an empty window was opened for a tenant, or refused

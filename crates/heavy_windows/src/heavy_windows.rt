@@ -1,7 +1,7 @@
 //! Windows of many tenants.
 ghost use Rattle.std.specs.Prelude.{◌≡◌, ◌≢◌, ℕ, ◌<◌, ◌≤◌, ◌^◌, [], false, None, IfOk, IfErr, IsOk, IsTrue, OnOk, OnErr, IsErrOf};
 ghost use Rattle.sketch_base.specs.Errors.{invalid_argument, no_memory, refusal_of};
-ghost use Rattle.sketch_frequencies.specs.State.{Overflows, Fits, must_double};
+ghost use Rattle.sketch_frequencies.specs.State.{Overflows, TotalHasRoom, must_double};
 ghost use Rattle.heavy_windows.specs.Fresh.{fresh_state};
 ghost use Rattle.heavy_windows.specs.Histories.{added_history, turned_history};
 ghost use Rattle.heavy_windows.specs.Merging.{IsMerged};
@@ -116,9 +116,9 @@ impl<T: Eq + Hash + Drop> HeavyWindows<T> {
         ensures overflow { 0 < weight
             → Overflows (newest_of tenant self.old) weight
             → IsErrOf result (invalid_argument Fault.WeightOverflow) }
-        ensures memory { Fits (newest_of tenant self.old) weight
+        ensures memory { TotalHasRoom (newest_of tenant self.old) weight
             → IfErr result (λ e. e ≡ no_memory) }
-        ensures succeeds { Fits (newest_of tenant self.old) weight
+        ensures succeeds { TotalHasRoom (newest_of tenant self.old) weight
             → must_double T.eq (newest_of tenant self.old) item ≡ false
             → at_tenant tenant self.old ≢ [] → IsOk result }
     {

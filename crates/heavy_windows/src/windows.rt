@@ -2,7 +2,7 @@
 ghost use Rattle.std.specs.Prelude.{◌≡◌, ◌<◌, ◌≤◌, ◌^◌, ◌+◌, ℕ, [], ◌∷◌, false, None, IfOk, IfErr, IsOk, IsTrue, OnOk, OnErr, IsErrOf};
 ghost use Rattle.sketch_base.specs.Errors.{invalid_argument, no_memory};
 ghost use Rattle.sketch_frequencies.specs.Sizes.{size_fault};
-ghost use Rattle.sketch_frequencies.specs.State.{FrequentState, Overflows, Fits, must_double};
+ghost use Rattle.sketch_frequencies.specs.State.{FrequentState, Overflows, TotalHasRoom, must_double};
 ghost use Rattle.heavy_windows.specs.Histories.{added_history};
 ghost use Rattle.heavy_windows.specs.Merging.{IsMerged};
 ghost use Rattle.heavy_windows.specs.Newest.{newest, turned};
@@ -54,9 +54,9 @@ impl<T: Eq + Hash + Drop> Windows<T> {
         ensures err { OnErr result (self.new ≡ self.old) }
         ensures overflow { (fresh : FrequentState T) → Overflows (newest fresh self.old) weight
             → IsErrOf result (invalid_argument Fault.WeightOverflow) }
-        ensures memory { (fresh : FrequentState T) → Fits (newest fresh self.old) weight
+        ensures memory { (fresh : FrequentState T) → TotalHasRoom (newest fresh self.old) weight
             → IfErr result (λ e. e ≡ no_memory) }
-        ensures succeeds { (fresh : FrequentState T) → Fits (newest fresh self.old) weight
+        ensures succeeds { (fresh : FrequentState T) → TotalHasRoom (newest fresh self.old) weight
             → must_double T.eq (newest fresh self.old) item ≡ false → IsOk result }
     {
         self.newest.update_with_count(item, weight)

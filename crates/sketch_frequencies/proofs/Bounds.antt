@@ -2,7 +2,7 @@
 use Rattle.std.proofs.Common.{◌≡◌, ℕ, ◌+◌, ◌-◌, ◌*◌, ◌/◌, ◌<◌, ◌≤◌, Bool, [], refl, ap, subst, arith}
 use Rattle.std.specs.Prelude.{IsTrue}
 use Rattle.std.specs.Int.{is_power_of_two}
-use Rattle.sketch_frequencies.specs.Tables.{sum_outside}
+use Rattle.counter_table.specs.Tables.{sum_outside}
 use Rattle.sketch_frequencies.specs.History.{FrequentHistory, total_weight, weight_outside, least_size, least_sample, budget_size, HasUsualSamples}
 use Rattle.sketch_frequencies.specs.History.FrequentHistory.{New, Update, Merge, Reset, Restored}
 use Rattle.sketch_frequencies.specs.State.{FrequentState}

@@ -5,7 +5,7 @@ use Rattle.std.specs.Cmp.{IsEquivalence}
 use Rattle.std.specs.Map.{keys_of}
 use Rattle.std.proofs.lemmas.Map.Made.{length-le_from_is_member}
 use Rattle.std.proofs.lemmas.Map.Entries.{length-keys_of}
-use Rattle.sketch_frequencies.specs.Tables.{count_of, put, purged}
+use Rattle.counter_table.specs.Tables.{count_of, put, purged}
 use Rattle.sketch_frequencies.specs.History.{FrequentHistory, own_size, least_size, own_sample, least_sample}
 use Rattle.sketch_frequencies.specs.History.FrequentHistory.{New, Update, Merge, Reset, Restored}
 use Rattle.sketch_frequencies.specs.State.{FrequentState, IsState, capacity, greatest_sample_size}
@@ -13,7 +13,7 @@ use Rattle.sketch_frequencies.specs.Stands.{Encloses, StandsFor, HasFewItems}
 use Rattle.sketch_frequencies.specs.Steps.{Steps}
 use Rattle.sketch_frequencies.proofs.Cases.{by_cases}
 use Rattle.sketch_frequencies.proofs.Puts.{count_of-put, IsDistinct-put, positive-put, positive_from_tracked}
-use Rattle.sketch_frequencies.proofs.Orders.{count_of-permutation, count_of-purged, IsDistinct-purged}
+use Rattle.sketch_frequencies.proofs.Permutations.{count_of-permutation, count_of-purged, IsDistinct-purged}
 
 -- the counts after a step, at each item
 pub record Counted {T : Type 0} (eq : T → T → Bool) (old : FrequentState T) (x : T) (w : ℕ) (new : FrequentState T) : Type 0 where

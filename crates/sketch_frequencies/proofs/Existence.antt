@@ -11,15 +11,15 @@ use Rattle.sketch_frequencies.specs.Image.{◌>>=◌, IsImage, items_in, items_a
 use Rattle.sketch_frequencies.specs.Items.{Codec, IsLawful}
 use Rattle.sketch_frequencies.specs.Reading.{AreCounted, AreCounters}
 use Rattle.sketch_frequencies.specs.State.{FrequentState, IsState, capacity, greatest_sample_size, empty_state}
-use Rattle.sketch_frequencies.specs.Tables.{put}
+use Rattle.counter_table.specs.Tables.{put}
 use Rattle.sketch_frequencies.proofs.Cases.{by_test}
-use Rattle.sketch_frequencies.proofs.Counting.{none_counted, counted_more, counted_dropped}
-use Rattle.sketch_frequencies.proofs.Fresh.{fresh_state}
+use Rattle.sketch_frequencies.proofs.ImageCounting.{none_counted, counted_more, counted_dropped}
+use Rattle.sketch_frequencies.proofs.EmptySketches.{fresh_state}
 use Rattle.sketch_frequencies.proofs.Images.{image_of_none, state_of_counters, image_of_counters}
 use Rattle.sketch_frequencies.proofs.Powers.{power_is}
 use Rattle.sketch_frequencies.proofs.Puts.{IsDistinct-put}
 use Rattle.sketch_frequencies.proofs.SampleSizes.{usual_sample}
-use Rattle.sketch_frequencies.proofs.Weights.{length-weights_at}
+use Rattle.sketch_frequencies.proofs.ImageWeights.{length-weights_at}
 
 -- each check passes
 abbrev AllPass : List (Bool × Fault) → Type 0

@@ -14,11 +14,11 @@ use Rattle.sketch_frequencies.specs.Items.{Codec}
 use Rattle.sketch_frequencies.specs.Reading.{AreCounters}
 use Rattle.sketch_frequencies.specs.State.{FrequentState, IsState, IsSampleSize, capacity, greatest_sample_size, empty_state}
 use Rattle.sketch_frequencies.specs.Steps.{HoldsSame}
-use Rattle.sketch_frequencies.specs.Tables.{count_of, sum_of}
-use Rattle.sketch_frequencies.proofs.Alike.{encloses_alike, budget_alike}
+use Rattle.counter_table.specs.Tables.{count_of, sum_of}
+use Rattle.sketch_frequencies.proofs.SameStates.{encloses_alike, budget_alike}
 use Rattle.sketch_frequencies.proofs.Cases.{by_test}
-use Rattle.sketch_frequencies.proofs.Counting.{distinct_contents}
-use Rattle.sketch_frequencies.proofs.SameCounts.{same_map}
+use Rattle.sketch_frequencies.proofs.ImageCounting.{distinct_contents}
+use Rattle.sketch_frequencies.proofs.SameMapsByCounts.{same_map}
 
 sum_of-contents : {T C : Type 0} (content : T → C) (es : List (T × ℕ)) → sum_of (contents_of content es) ≡ sum_of es
 sum_of-contents content [] = refl

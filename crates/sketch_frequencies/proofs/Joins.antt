@@ -11,7 +11,7 @@ use Rattle.std.proofs.lemmas.List.Sorted.{sum_by-IsPermutation, IsPermutation-re
 use Rattle.std.proofs.lemmas.List.Folds.{list_any-append}
 use Rattle.std.proofs.lemmas.Map.Entries.{length-keys_of}
 use Rattle.std.proofs.lemmas.Map.Made.{length-le_from_is_member}
-use Rattle.sketch_frequencies.specs.Tables.{Table, count_of, is_tracked, put, sum_of, sum_outside}
+use Rattle.counter_table.specs.Tables.{Table, count_of, is_tracked, put, sum_of, sum_outside}
 use Rattle.sketch_frequencies.specs.History.{FrequentHistory, true_weight, total_weight, weight_outside, least_size, least_sample, budget_size}
 use Rattle.sketch_frequencies.specs.History.FrequentHistory.{New, Update, Merge, Reset, Restored}
 use Rattle.sketch_frequencies.specs.State.{FrequentState, IsState, IsSampleSize, capacity}
@@ -20,11 +20,11 @@ use Rattle.sketch_frequencies.specs.Steps.{Steps, StepsAlong, AddsAll, Joins}
 use Rattle.sketch_frequencies.specs.Growth.{Adds}
 use Rattle.sketch_frequencies.proofs.Cases.{by_test, by_cases}
 use Rattle.sketch_frequencies.proofs.Enclosure.{counted, least_le_own, sample_enough}
-use Rattle.sketch_frequencies.proofs.Orders.{share, share_is, count_is_sum, count_of-permutation}
+use Rattle.sketch_frequencies.proofs.Permutations.{share, share_is, count_is_sum, count_of-permutation}
 use Rattle.sketch_frequencies.proofs.Powers.{doubled_fits, lesser_power}
 use Rattle.sketch_frequencies.proofs.Reports.{or_true, or_false}
 use Rattle.sketch_frequencies.proofs.Puts.{is_tracked-keys, keys_of-put, same_set_test, IsDistinct-put, length_put_le, positive_from_tracked}
-use Rattle.sketch_frequencies.proofs.States.{state_after, state_made, length_le_sum}
+use Rattle.sketch_frequencies.proofs.UpdateStates.{state_after, state_made, length_le_sum}
 use Rattle.sketch_frequencies.proofs.Tail.{budget_step}
 
 -- a step leaves a state

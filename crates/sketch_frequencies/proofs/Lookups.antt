@@ -1,6 +1,6 @@
 -- What an entry says of its item, and of the items before it.
 use Rattle.std.proofs.Common.{◌≡◌, ℕ, Bool, true, false, List, [], ◌∷◌, ◌++◌, Some, is_some, refl, ap, sym, ◌∙◌}
-use Rattle.sketch_frequencies.specs.Tables.{is_tracked}
+use Rattle.counter_table.specs.Tables.{is_tracked}
 use Rattle.std.specs.Cmp.{IsEquivalence}
 use Rattle.std.specs.List.{IsDistinct, AllByRecursion, list_any}
 use Rattle.std.specs.Map.{lookup, keys_of}

@@ -6,16 +6,16 @@ use Rattle.std.proofs.lemmas.List.{append-nil}
 use Rattle.std.proofs.lemmas.List.Elements.{AllZip-push, All-head, All-tail}
 use Rattle.std.proofs.lemmas.List.Sums.{sum_by-append, sum_by-cons}
 use Rattle.std.proofs.lemmas.List.Sorted.{IsPermutation-refl, All-permutation, sum_by-IsPermutation}
-use Rattle.sketch_frequencies.specs.Tables.{IsSameEntry, sum_of}
+use Rattle.counter_table.specs.Tables.{IsSameEntry, sum_of}
 use Rattle.sketch_frequencies.specs.History.{FrequentHistory}
 use Rattle.sketch_frequencies.specs.History.FrequentHistory.{Merge}
 use Rattle.sketch_frequencies.specs.State.{FrequentState, IsState}
 use Rattle.sketch_frequencies.specs.Stands.{StandsFor, KeepsTailBudget}
 use Rattle.sketch_frequencies.specs.Steps.{StepsEqual, StepsAlong, AddsAll, JoinsEqual, IsSameState}
 use Rattle.sketch_frequencies.specs.Growth.{AddsCounters}
-use Rattle.sketch_frequencies.proofs.Alike.{same_state_refl, state_alike, stands_alike, budget_alike}
+use Rattle.sketch_frequencies.proofs.SameStates.{same_state_refl, state_alike, stands_alike, budget_alike}
 use Rattle.sketch_frequencies.proofs.Joins.{steps_more, stands_merged, budget_merged}
-use Rattle.sketch_frequencies.proofs.Same.{same_sum}
+use Rattle.sketch_frequencies.proofs.SameMaps.{same_sum}
 
 -- the counters given so far were added to `old`, with items equal to theirs
 pub record AddedSoFar {T : Type 0} (eq : T → T → Bool) (old other : FrequentState T) (given rest : List (T × ℕ)) (now : FrequentState T) : Type 0 where

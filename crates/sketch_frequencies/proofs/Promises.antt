@@ -2,7 +2,7 @@
 use Rattle.std.proofs.Common.{◌≡◌, ℕ, ◌<◌, max, Bool, true, List, ap, sym, ◌∙◌, arith}
 use Rattle.std.proofs.lemmas.Bool.{lt-ltb, ltb-true}
 use Rattle.std.proofs.lemmas.List.Elements.{All-weaker}
-use Rattle.sketch_frequencies.specs.Tables.{count_of, is_tracked}
+use Rattle.counter_table.specs.Tables.{count_of, is_tracked}
 use Rattle.sketch_frequencies.specs.History.{true_weight}
 use Rattle.sketch_frequencies.specs.State.{FrequentState}
 use Rattle.sketch_frequencies.specs.RowValue.{RowValue}

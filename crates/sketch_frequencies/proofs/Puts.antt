@@ -8,7 +8,7 @@ use Rattle.std.specs.Map.{lookup, keys_of}
 use Rattle.std.proofs.lemmas.Map.Keys.{IsDistinct-push}
 use Rattle.std.proofs.lemmas.List.Sums.{sum_by-cons}
 use Rattle.std.proofs.lemmas.List.Elements.{All-cons, All-nil, All-head, All-tail}
-use Rattle.sketch_frequencies.specs.Tables.{count_of, is_tracked, put, sum_of, sum_outside}
+use Rattle.counter_table.specs.Tables.{count_of, is_tracked, put, sum_of, sum_outside}
 use Rattle.sketch_frequencies.proofs.Cases.{by_test}
 
 -- a push of an item that is not there

@@ -10,14 +10,14 @@ use Rattle.std.proofs.lemmas.List.Folds.{list_any-append}
 use Rattle.std.proofs.lemmas.List.Sums.{sum_by-append, sum_by-cons}
 use Rattle.std.proofs.lemmas.List.Sorted.{sum_by-IsPermutation, IsPermutation-map, All-permutation, list_any-IsPermutation}
 use Rattle.std.proofs.lemmas.Map.Keys.{IsDistinct-push, IsDistinct-IsPermutation}
-use Rattle.sketch_frequencies.specs.Tables.{count_of, is_tracked, sum_of}
+use Rattle.counter_table.specs.Tables.{count_of, is_tracked, sum_of}
 use Rattle.sketch_frequencies.specs.State.{FrequentState, estimate_of}
 use Rattle.sketch_frequencies.specs.RowValue.{RowValue}
 use Rattle.sketch_frequencies.specs.Rows.{passes, Shows, ShowsExactly}
 use Rattle.sketch_frequencies.specs.declared.error_type.ErrorType.{ErrorType}
 use Rattle.sketch_frequencies.proofs.Cases.{by_test}
 use Rattle.sketch_frequencies.proofs.Lookups.{lookup_middle, absent_before, lookup_same}
-use Rattle.sketch_frequencies.proofs.Orders.{count_of-permutation, is_tracked-permutation}
+use Rattle.sketch_frequencies.proofs.Permutations.{count_of-permutation, is_tracked-permutation}
 use Rattle.sketch_frequencies.proofs.Puts.{same_set_test, is_tracked-keys}
 
 -- the rows are those of the entries given so far

@@ -1,29 +1,23 @@
 -- How many counters a purge may sample.
-use Rattle.std.proofs.Common.{◌≡◌, ℕ, ◌+◌, ◌-◌, ◌*◌, ◌/◌, ◌≤◌, ◌^◌, Bool, true, false, leb, ltb, cond, not, Option, None, Some, refl, ap, arith}
+use Rattle.std.proofs.Common.{◌≡◌, ℕ, ◌*◌, ◌/◌, ◌≤◌, ◌^◌, Bool, true, false, leb, ltb, cond, not, Option, None, Some, refl, arith}
 use Rattle.std.specs.Prelude.{IsTrue}
 use Rattle.std.specs.Int.{is_power_of_two}
-use Rattle.std.proofs.Math.Pow.{pow_mono}
-use Rattle.std.proofs.lemmas.Bool.{cases_lt, le-leb, ltb-false}
-use Rattle.std.proofs.lemmas.Nat.{pow-add}
+use Rattle.std.proofs.lemmas.Bool.{le-leb, ltb-false}
 use Rattle.sketch_base.specs.Checks.{or_else}
 use Rattle.sketch_base.specs.declared.fault.Fault.{Fault}
 use Rattle.sketch_frequencies.specs.History.{FrequentHistory, own_size, least_size, own_sample, least_sample, HasUsualSamples}
 use Rattle.sketch_frequencies.specs.History.FrequentHistory.{New, Update, Merge, Reset, Restored}
 use Rattle.sketch_frequencies.specs.Sizes.{size_fault, sample_fault, sizes_fault}
 use Rattle.sketch_frequencies.specs.State.{IsSampleSize, greatest_sample_size}
-use Rattle.sketch_frequencies.proofs.Cases.{by_cases}
-use Rattle.sketch_frequencies.proofs.Powers.{power_of}
+use Rattle.sketch_frequencies.proofs.Powers.{halves}
 
 -- a power of two from 8 on is a multiple of 8
 pub eighths : (m : ℕ) → IsTrue (is_power_of_two m) → 8 ≤ m → m ≡ 8 * (m / 8)
 eighths m power least =
-    let a = power_of m power in
-    by_cases (cases_lt a.0 3)
-    (λ low. let up : 2 ^ a.0 ≤ 2 ^ 2 = pow_mono {i = a.0} {j = 2} (omega (arith, low)) in absurd (omega (arith, up, a.1, least)))
-    (λ high.
-    let j : ℕ = a.0 - 3 in
-    let e : a.0 ≡ 3 + j = omega (arith, high) in
-    omega (arith, a.1, ap (λ n. 2 ^ n) e, pow-add 2 3 j))
+    let a = halves m power (omega (arith, least)) in
+    let b = halves (m / 2) a.1 (omega (arith, least)) in
+    let c = halves (m / 2 / 2) b.1 (omega (arith, least)) in
+    omega (arith, a.0, b.0, c.0)
 
 -- the most that a purge may sample, it may
 pub usual_sample : (m : ℕ) → 8 ≤ m → IsTrue (is_power_of_two m) → IsSampleSize m (greatest_sample_size m)

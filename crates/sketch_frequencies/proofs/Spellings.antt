@@ -9,13 +9,13 @@ use Rattle.std.proofs.lemmas.List.Elements.{filter_map-append}
 use Rattle.std.proofs.lemmas.List.Sorted.{IsPermutation-refl}
 use Rattle.sketch_frequencies.specs.Image.{AreEncoded, IsSpelledFor, contents_of, encoded_weights, header, preamble}
 use Rattle.sketch_frequencies.specs.Items.{Codec}
-use Rattle.sketch_frequencies.specs.Slots.{entries_of, slot_entry}
+use Rattle.counter_table.specs.Slots.{entries_of, slot_entry}
 use Rattle.sketch_frequencies.specs.State.{FrequentState, IsState}
 use Rattle.sketch_frequencies.specs.Writing.{WritesItems}
-use Rattle.sketch_frequencies.specs.declared.slot.Slot.{Slot}
-use Rattle.sketch_frequencies.specs.declared.slot.Slot.TheVariants.{Taken}
+use Rattle.counter_table.specs.declared.slot.Slot.{Slot}
+use Rattle.counter_table.specs.declared.slot.Slot.TheVariants.{Taken}
 use Rattle.sketch_frequencies.proofs.Images.{contents_state}
-use Rattle.sketch_frequencies.proofs.Samples.{entries_taken}
+use Rattle.sketch_frequencies.proofs.SlotEntries.{entries_taken}
 
 pub ok_and : {A E : Type 0} {P : A → Type 0} (r : Result A E) → IsOkAnd r P → (x : A) × (r ≡ Ok x) × P x
 ok_and (Ok x) h = (x, refl, h)
@@ -26,7 +26,7 @@ pub any_entry : {T : Type 0} (P : T × ℕ → Type 0) (i : ℕ) (slots : List (
 any_entry {T} P i slots drift n x d lt is h =
     let front = entries_of (take i slots) in
     let rest = entries_of (drop (i + 1) slots) in
-    let whole : entries_of slots ≡ front ++ (x, n) ∷ rest = ap entries_of (sym (take-append-drop (i + 1) slots)) ∙ filter_map-append slot_entry (take (i + 1) slots) (drop (i + 1) slots) ∙ ap (λ (l : List (T × ℕ)). l ++ rest) (entries_taken i slots drift n x d lt is) ∙ append_assoc front ((x, n) ∷ []) rest in
+    let whole : entries_of slots ≡ front ++ (x, n) ∷ rest = ap entries_of (sym (take-append-drop (i + 1) slots)) ∙ filter_map-append slot_entry (take (i + 1) slots) (drop (i + 1) slots) ∙ ap (λ (l : List (T × ℕ)). l ++ rest) (entries_taken slots i drift n x d lt is) ∙ append_assoc front ((x, n) ∷ []) rest in
     subst (λ (l : List (T × ℕ)). Any P l) (sym whole) (length front, (x, n), omega (arith, length-append front ((x, n) ∷ rest)), get_or-append_seam front (x, n) rest (x, n), h)
 
 -- one weight more

@@ -5,7 +5,7 @@ use Rattle.std.specs.Cmp.{IsEquivalence}
 use Rattle.std.specs.List.{list_any}
 use Rattle.std.proofs.lemmas.Bool.{cases_lt}
 use Rattle.std.proofs.lemmas.List.Sorted.{sum_by-IsPermutation}
-use Rattle.sketch_frequencies.specs.Tables.{put, sum_outside, purged}
+use Rattle.counter_table.specs.Tables.{put, sum_outside, purged}
 use Rattle.sketch_frequencies.specs.History.{FrequentHistory, weight_outside, budget_size}
 use Rattle.sketch_frequencies.specs.History.FrequentHistory.{Update}
 use Rattle.sketch_frequencies.specs.State.{FrequentState, IsState, capacity}

@@ -1,6 +1,6 @@
 -- The two parts of an update. No public clause cites this module.
 use Rattle.std.specs.Prelude.{◌≡◌, ℕ, ◌+◌, ◌*◌, ◌<◌, ◌≤◌, Bool, true, false, List, length, IsPermutation}
-use Rattle.sketch_frequencies.specs.Tables.{put, IsSameMap}
+use Rattle.counter_table.specs.Tables.{put, IsSameMap}
 use Rattle.sketch_frequencies.specs.State.{FrequentState, capacity, must_grow}
 use Rattle.sketch_frequencies.specs.Steps.{Becomes, Purges, StepsAlong}
 

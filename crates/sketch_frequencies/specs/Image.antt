@@ -9,13 +9,13 @@ use Rattle.sketch_base.specs.Errors.{ErrorValue, invalid_argument, no_memory}
 use Rattle.sketch_base.specs.Fields.{byte_at, le_at, words_in}
 use Rattle.sketch_base.specs.declared.fault.Fault.{Fault}
 use Rattle.sketch_base.specs.declared.fault.Fault.TheVariants.{InsufficientData, BadFamily, BadVersion, LgCurTooSmall, LgMaxTooLarge, LgCurAboveMax, BadPreamble, EmptyFlagMismatch, TooManyActive, ZeroTotal, WeightsExceedTotal, ErrorExceedsTotal, TableTooLarge}
-use Rattle.sketch_frequencies.specs.Bytes.{table_bytes}
+use Rattle.counter_table.specs.Bytes.{table_bytes}
 use Rattle.sketch_frequencies.specs.History.{FrequentHistory}
 use Rattle.sketch_frequencies.specs.History.FrequentHistory.{Restored}
 use Rattle.sketch_frequencies.specs.Items.{Codec}
 use Rattle.sketch_frequencies.specs.Stands.{Encloses, StandsFor, KeepsTailBudget}
 use Rattle.sketch_frequencies.specs.State.{FrequentState, IsState, capacity}
-use Rattle.sketch_frequencies.specs.Tables.{count_of}
+use Rattle.counter_table.specs.Tables.{count_of}
 
 -- ---- the fields
 

@@ -4,7 +4,7 @@ use Rattle.sketch_frequencies.specs.Image.{IsImage, IsSpelled, first_fault}
 use Rattle.sketch_frequencies.specs.Items.{Codec}
 use Rattle.sketch_frequencies.specs.State.{FrequentState}
 use Rattle.sketch_frequencies.specs.Steps.{HoldsSame}
-use Rattle.sketch_frequencies.specs.Tables.{sum_of}
+use Rattle.counter_table.specs.Tables.{sum_of}
 
 module _ {C : Type 0} (codec : Codec C) where
   -- what is spelled for a sketch is an image of it

@@ -7,7 +7,7 @@ use Rattle.sketch_base.specs.Fields.{byte_at}
 use Rattle.sketch_base.specs.declared.fault.Fault.{Fault}
 use Rattle.sketch_frequencies.specs.Image.{◌>>=◌, says_empty, active_at, total_at, error_at, weights_at, weight_of, items_in, items_at, fault_in, contents_of}
 use Rattle.sketch_frequencies.specs.Items.{Codec}
-use Rattle.sketch_frequencies.specs.Tables.{count_of, sum_of}
+use Rattle.counter_table.specs.Tables.{count_of, sum_of}
 use Rattle.sketch_frequencies.specs.declared.image.Header.{Header}
 use Rattle.sketch_frequencies.specs.declared.image.Numbers.{Numbers}
 

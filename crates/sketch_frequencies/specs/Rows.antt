@@ -6,7 +6,7 @@ use Rattle.sketch_frequencies.specs.History.{FrequentHistory, true_weight}
 use Rattle.sketch_frequencies.specs.RowValue.{RowValue}
 use Rattle.sketch_frequencies.specs.Stands.{Encloses}
 use Rattle.sketch_frequencies.specs.State.{FrequentState, estimate_of}
-use Rattle.sketch_frequencies.specs.Tables.{count_of, is_tracked}
+use Rattle.counter_table.specs.Tables.{count_of, is_tracked}
 use Rattle.sketch_frequencies.specs.declared.error_type.ErrorType.{ErrorType}
 
 -- whether the item of this count is shown: the bound that counts is above the threshold and above the error

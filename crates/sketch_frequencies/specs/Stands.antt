@@ -2,7 +2,7 @@
 use Rattle.std.specs.Prelude.{◌≡◌, ℕ, ◌+◌, ◌-◌, ◌*◌, ◌<◌, ◌≤◌, Bool, true, IsTrue, List, length}
 use Rattle.std.specs.Int.{is_power_of_two}
 use Rattle.std.specs.List.{list_any}
-use Rattle.sketch_frequencies.specs.Tables.{count_of, sum_outside}
+use Rattle.counter_table.specs.Tables.{count_of, sum_outside}
 use Rattle.sketch_frequencies.specs.History.{FrequentHistory, true_weight, total_weight, weight_outside, own_size, least_size, own_sample, least_sample, budget_size}
 use Rattle.sketch_frequencies.specs.State.{FrequentState, IsSampleSize, capacity}
 

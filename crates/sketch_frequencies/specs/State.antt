@@ -3,7 +3,7 @@ use Rattle.std.specs.Prelude.{◌≡◌, ℕ, ◌+◌, ◌*◌, ◌/◌, ◌%◌
 use Rattle.std.specs.Int.{is_power_of_two}
 use Rattle.std.specs.List.{IsDistinct}
 use Rattle.std.specs.Map.{keys_of}
-use Rattle.sketch_frequencies.specs.Tables.{Table, count_of, is_tracked, sum_of}
+use Rattle.counter_table.specs.Tables.{Table, count_of, is_tracked, sum_of}
 
 -- the counters in some order, the error, the total, the greatest and the current size of the table, and how many counters
 -- a purge samples
@@ -45,8 +45,8 @@ abbrev pub Overflows : {T : Type 0} → FrequentState T → ℕ → Type 0
 Overflows s weight = 2 ^ 64 ≤ s.total + weight
 
 -- so much more weight fits
-abbrev pub Fits : {T : Type 0} → FrequentState T → ℕ → Type 0
-Fits s weight = s.total + weight < 2 ^ 64
+abbrev pub TotalHasRoom : {T : Type 0} → FrequentState T → ℕ → Type 0
+TotalHasRoom s weight = s.total + weight < 2 ^ 64
 
 -- what holds of every sketch
 pub record IsState {T : Type 0} (eq : T → T → Bool) (s : FrequentState T) : Type 0 where

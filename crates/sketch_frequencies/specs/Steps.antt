@@ -1,6 +1,6 @@
 -- What an update and a merge do to a sketch. Which counters a purge samples, and the order of a merge, are open.
 use Rattle.std.specs.Prelude.{◌≡◌, ℕ, ◌+◌, ◌*◌, ◌<◌, ◌≤◌, Bool, true, List, [], ◌∷◌, length, IsPermutation}
-use Rattle.sketch_frequencies.specs.Tables.{put, purged, IsSampleMiddle, IsSameMap}
+use Rattle.counter_table.specs.Tables.{put, purged, IsSampleMiddle, IsSameMap}
 use Rattle.sketch_frequencies.specs.State.{FrequentState, capacity}
 
 module _ {T : Type 0} where

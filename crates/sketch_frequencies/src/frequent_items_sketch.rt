@@ -2,7 +2,7 @@
 ghost use Rattle.std.specs.Prelude.{◌≡◌, ℕ, ◌+◌, ◌*◌, ◌<◌, ◌≤◌, ◌^◌, ◌↔◌, true, false, None, length, IfOk, IfErr, IsOk, IsTrue, OnOk, OnErr, IsErrOf};
 ghost use Rattle.sketch_base.specs.Errors.{invalid_argument, no_memory, refusal_of};
 ghost use Rattle.sketch_base.specs.Checks.{IsImageRefusal};
-ghost use Rattle.sketch_frequencies.specs.Bytes.{table_bytes};
+ghost use Rattle.counter_table.specs.Bytes.{table_bytes};
 ghost use Rattle.sketch_frequencies.specs.Image.{IsImageOf, IsSpelledFor, IsImageWritingRefusal, Restores, RestoresBudget, early_fault, first_fault, early_fault_within, first_fault_within};
 ghost use Rattle.sketch_frequencies.specs.Growth.{MakesRoom, Adds, AddsCounters};
 ghost use Rattle.sketch_frequencies.specs.History.{FrequentHistory, least_size, least_sample, total_weight, HasUsualSamples};
@@ -10,9 +10,9 @@ ghost use Rattle.sketch_frequencies.specs.History.FrequentHistory.{New, Update, 
 ghost use Rattle.sketch_frequencies.specs.Rows.{ShowsExactly, Descends, MissesNone, ShowsNoneBelow};
 ghost use Rattle.sketch_frequencies.specs.Sizes.{size_fault, sizes_fault};
 ghost use Rattle.sketch_frequencies.specs.Stands.{Encloses, StandsFor, KeepsTailBudget, Extends, ExtendsBudget, ExtendsBoth, ExtendsBothBudgets, IsLowerBound, IsUpperBound, IsExactOfFew};
-ghost use Rattle.sketch_frequencies.specs.State.{IsState, capacity, greatest_sample_size, empty_state, estimate_of, must_double, must_grow, Overflows, Fits};
+ghost use Rattle.sketch_frequencies.specs.State.{IsState, capacity, greatest_sample_size, empty_state, estimate_of, must_double, must_grow, Overflows, TotalHasRoom};
 ghost use Rattle.sketch_frequencies.specs.Steps.{Steps, StepsEqual, IsSameState, JoinsEqual};
-ghost use Rattle.sketch_frequencies.specs.Tables.{count_of, is_tracked, put, sum_of};
+ghost use Rattle.counter_table.specs.Tables.{count_of, is_tracked, put, sum_of};
 
 use crate::error_type::ErrorType;
 use crate::frequent_item_value::FrequentItemValue;
@@ -20,8 +20,8 @@ use crate::image::{
     Numbers, begin_image, check_limit, check_weights, empty_image, image_size, read_counters,
     read_header, read_numbers, table_size, write_items, write_weights,
 };
-use crate::reverse_purge_item_hash_map::{MAX_SAMPLE_SIZE, ReversePurgeItemHashMap, capacity_of};
 use crate::row::Row;
+use counter_table::{MAX_SAMPLE_SIZE, ReversePurgeItemHashMap, capacity_of, lg_of};
 use sketch_base::{Error, Fault};
 use std::alloc::Global;
 use std::hash::Hash;
@@ -149,8 +149,8 @@ impl<T: Eq + Hash + Drop> FrequentItemsSketch<T> {
         ensures budget { OnOk result (ExtendsBudget T.eq self.old self.new (λ h. Update h item 1)) }
         ensures err { OnErr result (self.new ≡ self.old) }
         ensures overflow { Overflows self.old 1 → IsErrOf result (invalid_argument Fault.WeightOverflow) }
-        ensures memory { Fits self.old 1 → IfErr result (λ e. e ≡ no_memory) }
-        ensures succeeds { Fits self.old 1 → must_double T.eq self.old item ≡ false → IsOk result }
+        ensures memory { TotalHasRoom self.old 1 → IfErr result (λ e. e ≡ no_memory) }
+        ensures succeeds { TotalHasRoom self.old 1 → must_double T.eq self.old item ≡ false → IsOk result }
     {
         self.update_with_count(item, 1)
     }
@@ -174,8 +174,8 @@ impl<T: Eq + Hash + Drop> FrequentItemsSketch<T> {
         // A refusal changes nothing. Memory is refused only where the table must double.
         ensures err { OnErr result (self.new ≡ self.old) }
         ensures overflow { Overflows self.old count → IsErrOf result (invalid_argument Fault.WeightOverflow) }
-        ensures memory { Fits self.old count → IfErr result (λ e. e ≡ no_memory) }
-        ensures succeeds { Fits self.old count → must_double T.eq self.old item ≡ false → IsOk result }
+        ensures memory { TotalHasRoom self.old count → IfErr result (λ e. e ≡ no_memory) }
+        ensures succeeds { TotalHasRoom self.old count → must_double T.eq self.old item ≡ false → IsOk result }
     {
         if count > u64::MAX - self.total {
             return Err(Error::invalid_argument(Fault::WeightOverflow));
@@ -205,8 +205,8 @@ impl<T: Eq + Hash + Drop> FrequentItemsSketch<T> {
         ensures budget { OnOk result (ExtendsBudget T.eq self.old self.new (λ h. Update h item.now 1)) }
         ensures err { OnErr result (self.new ≡ self.old) }
         ensures overflow { Overflows self.old 1 → IsErrOf result (invalid_argument Fault.WeightOverflow) }
-        ensures memory { Fits self.old 1 → IfErr result (λ e. e ≡ no_memory) }
-        ensures succeeds { Fits self.old 1 → is_tracked T.eq self.old.counters item.now ≡ true → IsOk result }
+        ensures memory { TotalHasRoom self.old 1 → IfErr result (λ e. e ≡ no_memory) }
+        ensures succeeds { TotalHasRoom self.old 1 → is_tracked T.eq self.old.counters item.now ≡ true → IsOk result }
     {
         self.update_with_count_ref(item, 1)
     }
@@ -234,8 +234,8 @@ impl<T: Eq + Hash + Drop> FrequentItemsSketch<T> {
         // A refusal changes nothing. Memory is refused only for an item that is not tracked.
         ensures err { OnErr result (self.new ≡ self.old) }
         ensures overflow { Overflows self.old count → IsErrOf result (invalid_argument Fault.WeightOverflow) }
-        ensures memory { Fits self.old count → IfErr result (λ e. e ≡ no_memory) }
-        ensures succeeds { Fits self.old count → is_tracked T.eq self.old.counters item.now ≡ true → IsOk result }
+        ensures memory { TotalHasRoom self.old count → IfErr result (λ e. e ≡ no_memory) }
+        ensures succeeds { TotalHasRoom self.old count → is_tracked T.eq self.old.counters item.now ≡ true → IsOk result }
     {
         if count > u64::MAX - self.total {
             return Err(Error::invalid_argument(Fault::WeightOverflow));
@@ -277,7 +277,7 @@ impl<T: Eq + Hash + Drop> FrequentItemsSketch<T> {
         // A refusal changes nothing.
         ensures err { OnErr result (self.new ≡ self.old) }
         ensures overflow { Overflows self.old other.now.total → IsErrOf result (invalid_argument Fault.WeightOverflow) }
-        ensures memory { Fits self.old other.now.total → IfErr result (λ e. e ≡ no_memory) }
+        ensures memory { TotalHasRoom self.old other.now.total → IfErr result (λ e. e ≡ no_memory) }
     {
         if other.total > u64::MAX - self.total {
             return Err(Error::invalid_argument(Fault::WeightOverflow));
@@ -419,7 +419,7 @@ impl<T: Eq + Hash + Drop> FrequentItemsSketch<T> {
     pub fn lg_max_map_size(&self) -> u8
         ensures { 2 ^ result ≡ self.now.max_size }
     {
-        self.max_size.ilog2() as u8
+        lg_of(self.max_size)
     }
 
     /// The table's current size as a power of two.
@@ -533,7 +533,7 @@ impl<T: Eq + Hash + Drop> FrequentItemsSketch<T> {
     #[inline]
     fn put(&mut self, item: T, count: u64)
         requires positive { 0 < count }
-        requires fits { Fits self.old count }
+        requires fits { TotalHasRoom self.old count }
         requires room { length self.old.counters < capacity self.old.size }
         ensures step { Steps T.eq self.old item count self.new }
         ensures state { IsState T.eq self.new }
@@ -545,7 +545,7 @@ impl<T: Eq + Hash + Drop> FrequentItemsSketch<T> {
     /// Adds to the item's count where it is tracked, and answers whether it is.
     fn adjust(&mut self, item: &T, count: u64) -> bool
         requires positive { 0 < count }
-        requires fits { Fits self.old count }
+        requires fits { TotalHasRoom self.old count }
         ensures tracked { result ≡ is_tracked T.eq self.old.counters item.now }
         ensures present { result ≡ true → Steps T.eq self.old item.now count self.new }
         ensures absent { result ≡ false → self.new ≡ self.old }
@@ -562,7 +562,7 @@ impl<T: Eq + Hash + Drop> FrequentItemsSketch<T> {
     fn track(&mut self, item: T, count: u64) -> Result<(), Error>
         requires absent { is_tracked T.eq self.old.counters item ≡ false }
         requires positive { 0 < count }
-        requires fits { Fits self.old count }
+        requires fits { TotalHasRoom self.old count }
         ensures step { OnOk result (Steps T.eq self.old item count self.new) }
         ensures state { IsState T.eq self.new }
         ensures err { OnErr result (self.new ≡ self.old) }
@@ -599,7 +599,7 @@ impl<T: Eq + Hash + Drop> FrequentItemsSketch<T> {
     fn insert(&mut self, item: T, count: u64)
         requires absent { is_tracked T.eq self.old.counters item ≡ false }
         requires positive { 0 < count }
-        requires fits { Fits self.old count }
+        requires fits { TotalHasRoom self.old count }
         requires room { capacity self.old.size < length (put T.eq self.old.counters item count)
             → self.old.size ≡ self.old.max_size }
         ensures adds { Adds T.eq self.old item count self.new }
@@ -617,7 +617,7 @@ impl<T: Eq + Hash + Drop> FrequentItemsSketch<T> {
     where
         T: Clone,
         requires clones { (x y : T) → T.is_clone x y → IsTrue (T.eq x y) }
-        requires fits { Fits self.old other.now.total }
+        requires fits { TotalHasRoom self.old other.now.total }
         ensures ok { OnOk result (AddsCounters T.eq self.old other.now.counters self.new) }
         ensures state { IsState T.eq self.new }
         ensures err { IfErr result (λ e. e ≡ no_memory) }

@@ -1,5 +1,5 @@
 use Rattle.std.proofs.Common.{ℕ, ◌+◌, ◌≤◌, subst}
-use Rattle.sketch_frequencies.specs.Tables.{sum_of}
+use Rattle.counter_table.specs.Tables.{sum_of}
 use Rattle.datasketches.proofs.Promised.{named_stands}
 use Rattle.datasketches.proofs.laws.what_frequent_items_say.Goals as goal
 

@@ -1,6 +1,6 @@
 use Rattle.std.proofs.Common.{arith, ◌≡◌, ◌≤◌, ◌∙◌, sum, refl}
 use Rattle.sketch_frequencies.specs.Image.{active_at, weights_at}
-use Rattle.sketch_frequencies.proofs.Weights.{over_error, weights_pass, sum_whole}
+use Rattle.sketch_frequencies.proofs.ImageWeights.{over_error, weights_pass, sum_whole}
 use Rattle.sketch_frequencies.proofs.image.check_weights.Goals as goal
 
 pub returns-then-numbers-total-clause-err : goal.returns-then-numbers-total-clause-err

@@ -1,7 +1,7 @@
 use Rattle.std.proofs.Common.{◌≡◌, ◌+◌, ◌-◌, ◌<◌, ◌≤◌, ℕ, List, length, take, sym, ap, ◌∙◌, arith}
 use Rattle.std.specs.Int.{w64, to_le_bytes}
 use Rattle.std.proofs.lemmas.Slice.{take-put_mid, take-put_mid_below}
-use Rattle.sketch_frequencies.proofs.Gathering.{weight_long, weight_more, weight_passed}
+use Rattle.sketch_frequencies.proofs.ImageGathering.{weight_long, weight_more, weight_passed}
 use Rattle.sketch_frequencies.proofs.image.gather_weights.Goals as goal
 use Rattle.sketch_frequencies.proofs.image.gather_weights.Goals.{in-Taken, in-Free}
 

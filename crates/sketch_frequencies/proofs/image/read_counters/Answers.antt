@@ -3,7 +3,7 @@ use Rattle.std.proofs.lemmas.Result.{err_from_is_err_and}
 use Rattle.sketch_frequencies.specs.Image.{active_at, items_at}
 use Rattle.sketch_frequencies.proofs.Cases.{by_cases}
 use Rattle.sketch_frequencies.proofs.Puts.{count_le_sum}
-use Rattle.sketch_frequencies.proofs.Counting.{at_start, one_more, one_dropped, at_end, fails, so_far_within}
+use Rattle.sketch_frequencies.proofs.ImageCounting.{at_start, one_more, one_dropped, at_end, fails, so_far_within}
 use Rattle.sketch_frequencies.proofs.image.read_counters.Goals as goal
 use Rattle.sketch_frequencies.proofs.image.read_counters.Goals.{then-weight-ne0, else-weight-ne0}
 

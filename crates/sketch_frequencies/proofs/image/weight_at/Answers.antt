@@ -1,5 +1,5 @@
 use Rattle.std.proofs.Common.{sym, ◌∙◌}
-use Rattle.sketch_frequencies.proofs.Weights.{weight_is}
+use Rattle.sketch_frequencies.proofs.ImageWeights.{weight_is}
 use Rattle.sketch_frequencies.proofs.image.weight_at.Goals as goal
 
 pub returns : goal.returns

@@ -1,8 +1,8 @@
 use Rattle.std.proofs.Common.{◌≡◌, ◌∙◌, sym, inl, inr, Err, take}
 use Rattle.std.proofs.lemmas.Result.{err_from_is_err_and}
-use Rattle.sketch_frequencies.specs.Slots.{entries_of}
+use Rattle.counter_table.specs.Slots.{entries_of}
 use Rattle.sketch_frequencies.proofs.Cases.{by_cases}
-use Rattle.sketch_frequencies.proofs.Samples.{entries_taken, entries_passed}
+use Rattle.sketch_frequencies.proofs.SlotEntries.{entries_taken, entries_passed}
 use Rattle.sketch_frequencies.proofs.Spellings.{ok_and, any_entry, items_push}
 use Rattle.sketch_frequencies.proofs.image.write_items.Goals as goal
 use Rattle.sketch_frequencies.proofs.image.write_items.Goals.{in-Taken+in_ok-serialize_value, in_default}
@@ -26,10 +26,10 @@ loop-slot-preserved g c =
     elim c.match-slot.branch [
       | in-Taken+in_ok-serialize_value w ↦
           let t = w.in-Taken in
-          let more = entries_taken i slots t.drift t.count t.item c.slot-item.result c.loop-slot-test.true (sym c.slot-item.is ∙ t.is) in
+          let more = entries_taken slots i t.drift t.count t.item c.slot-item.result c.loop-slot-test.true (sym c.slot-item.is ∙ t.is) in
           let one = ok_and (codec.encoding (content t.item)) w.in_ok-serialize_value.ensures.ok in
           rw (more, w.out-is) (items_push codec content es (t.item, t.count) c.args.out.now.bytes c.loop-slot.out.bytes w.serialize_value.new.out.bytes one.0 c.loop-slot.invariant one.1 one.2)
       | in_default w ↦
-          let more = entries_passed i slots c.slot-item.result c.loop-slot-test.true (sym c.slot-item.is ∙ w.in_default.is) in
+          let more = entries_passed slots i c.slot-item.result c.loop-slot-test.true (sym c.slot-item.is ∙ w.in_default.is) in
           rw (more, w.out-is) c.loop-slot.invariant
     ]

@@ -1,6 +1,6 @@
 use Rattle.std.proofs.Common.{take}
 use Rattle.sketch_frequencies.specs.Image.{contents_of}
-use Rattle.sketch_frequencies.specs.Slots.{entries_of}
+use Rattle.counter_table.specs.Slots.{entries_of}
 use Rattle.sketch_frequencies.specs.Writing.{WritesItems}
 use Rattle.sketch_frequencies.proofs.image.write_items.Given as goal
 

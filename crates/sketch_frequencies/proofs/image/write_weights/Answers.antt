@@ -1,8 +1,8 @@
 use Rattle.std.proofs.Common.{◌≡◌, ◌+◌, ◌-◌, ◌*◌, ◌/◌, ◌++◌, ℕ, List, length, take, drop, ap, refl, ◌∙◌, subst, arith}
 use Rattle.std.proofs.lemmas.List.{take_all}
 use Rattle.sketch_frequencies.specs.Image.{encoded_weights}
-use Rattle.sketch_frequencies.specs.Slots.{entries_of}
-use Rattle.sketch_frequencies.proofs.Gathering.{weights_of_part}
+use Rattle.counter_table.specs.Slots.{entries_of}
+use Rattle.sketch_frequencies.proofs.ImageGathering.{weights_of_part}
 use Rattle.sketch_frequencies.proofs.image.write_weights.Goals as goal
 
 pub whole-preserved : goal.whole-preserved

@@ -1,6 +1,6 @@
 use Rattle.std.proofs.Common.{◌≡◌, ◌*◌, ◌++◌, take}
 use Rattle.sketch_frequencies.specs.Image.{encoded_weights}
-use Rattle.sketch_frequencies.specs.Slots.{entries_of}
+use Rattle.counter_table.specs.Slots.{entries_of}
 use Rattle.sketch_frequencies.proofs.image.write_weights.Given as goal
 
 -- the weights of the blocks so far are written

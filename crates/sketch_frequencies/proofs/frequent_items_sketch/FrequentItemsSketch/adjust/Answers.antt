@@ -1,9 +1,9 @@
 use Rattle.std.proofs.Common.{arith, ap, sym, subst, ◌+◌, ◌∙◌}
 use Rattle.sketch_frequencies.specs.State.{FrequentState, state_of}
 use Rattle.sketch_frequencies.specs.Steps.{Steps}
-use Rattle.sketch_frequencies.proofs.Parts.{adds_tracked, step_tracked}
+use Rattle.sketch_frequencies.proofs.UpdateParts.{adds_tracked, step_tracked}
 use Rattle.sketch_frequencies.proofs.Puts.{count_le_sum}
-use Rattle.sketch_frequencies.proofs.States.{state_after}
+use Rattle.sketch_frequencies.proofs.UpdateStates.{state_after}
 use Rattle.sketch_frequencies.proofs.frequent_items_sketch.FrequentItemsSketch.adjust.Goals as goal
 
 pub adjust-requires : goal.adjust-requires

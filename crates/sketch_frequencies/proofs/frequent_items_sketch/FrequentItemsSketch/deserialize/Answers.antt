@@ -1,5 +1,5 @@
 use Rattle.sketch_frequencies.specs.Image.{late_fault}
-use Rattle.sketch_frequencies.proofs.Limits.{no_limit}
+use Rattle.sketch_frequencies.proofs.ImageLimits.{no_limit}
 use Rattle.sketch_frequencies.proofs.frequent_items_sketch.FrequentItemsSketch.deserialize.Goals as goal
 
 pub returns-clause-err : goal.returns-clause-err

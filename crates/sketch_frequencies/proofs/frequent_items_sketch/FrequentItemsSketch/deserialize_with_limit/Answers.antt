@@ -1,11 +1,11 @@
 use Rattle.std.proofs.Common.{arith, ◌≤◌, ◌^◌, ℕ, ap, sym, ◌∙◌, subst}
 use Rattle.std.proofs.Math.Pow.{pow_mono}
 use Rattle.sketch_frequencies.specs.State.{FrequentState, IsSampleSize}
-use Rattle.sketch_frequencies.proofs.Fresh.{fresh_state}
+use Rattle.sketch_frequencies.proofs.EmptySketches.{restored_empty}
 use Rattle.sketch_frequencies.proofs.Images.{image_of_none, state_of_counters, image_of_counters, restores, restores_budget}
 use Rattle.sketch_frequencies.proofs.Powers.{eight_is_power}
 use Rattle.sketch_frequencies.proofs.SampleSizes.{usual_sample}
-use Rattle.sketch_frequencies.proofs.Weights.{length-weights_at}
+use Rattle.sketch_frequencies.proofs.ImageWeights.{length-weights_at}
 use Rattle.sketch_frequencies.proofs.frequent_items_sketch.FrequentItemsSketch.deserialize_with_limit.Goals as goal
 
 pub new-requires-clause-power : goal.new-requires-clause-power
@@ -13,27 +13,21 @@ new-requires-clause-power g c = eight_is_power
 
 pub invariant_of-result : goal.invariant_of-result
 invariant_of-result g c =
+    let size = c.table_size-max_size.ensures in
     let h = c.in_ok-header.ensures in
-    let low : 3 ≤ c.in_ok-header.header.lg_max = omega (arith, h.least, h.within) in
-    let least : 2 ^ 3 ≤ 2 ^ c.in_ok-header.header.lg_max = pow_mono low in
-    let m = c.table_size-max_size.result in
-    let n = c.greatest_sample_of-sample_size.result in
-    let sample : IsSampleSize m n = subst (λ (k : ℕ). IsSampleSize m k) (sym c.greatest_sample_of-sample_size.ensures) (usual_sample m (omega (arith, least, c.table_size-max_size.ensures.value)) c.table_size-max_size.ensures.power) in
-    rw c.in_ok-map.ensures.ok (fresh_state g.T.PartialEq.eq m n (omega (arith, least, c.table_size-max_size.ensures.value)) c.table_size-max_size.ensures.limit c.table_size-max_size.ensures.power sample)
+    rw c.in_ok-map.ensures.ok (restored_empty g.T.PartialEq.eq c.in_ok-header.header.lg_max c.table_size-max_size.result _ (omega (arith, h.least, h.within)) size.value size.limit size.power c.greatest_sample_of-sample_size.ensures)
 
 pub returns-then-header-clause-state : goal.returns-then-header-clause-state
 returns-then-header-clause-state g c = invariant_of-result g c
 
 pub returns-then-header-clause-image : goal.returns-then-header-clause-image
 returns-then-header-clause-image g c =
+    let size = c.table_size-max_size.ensures in
     let h = c.in_ok-header.ensures in
-    let low : 3 ≤ c.in_ok-header.header.lg_max = omega (arith, h.least, h.within) in
-    let least : 2 ^ 3 ≤ 2 ^ c.in_ok-header.header.lg_max = pow_mono low in
     let m = c.table_size-max_size.result in
     let n = c.greatest_sample_of-sample_size.result in
-    let sample : IsSampleSize m n = subst (λ (k : ℕ). IsSampleSize m k) (sym c.greatest_sample_of-sample_size.ensures) (usual_sample m (omega (arith, least, c.table_size-max_size.ensures.value)) c.table_size-max_size.ensures.power) in
-    let state = fresh_state g.T.PartialEq.eq m n (omega (arith, least, c.table_size-max_size.ensures.value)) c.table_size-max_size.ensures.limit c.table_size-max_size.ensures.power sample in
-    rw c.in_ok-map.ensures.ok (image_of_none g.T.FrequentItemValue.codec g.T.FrequentItemValue.content g.T.PartialEq.eq g.met.T.FrequentItemValue.alike c.args.image.now m n state h.checks (sym h.fields.is_empty ∙ c.if-header.true) (c.table_size-max_size.ensures.value ∙ ap (λ (n : ℕ). 2 ^ n) h.fields.lg_max))
+    let state = restored_empty g.T.PartialEq.eq c.in_ok-header.header.lg_max m n (omega (arith, h.least, h.within)) size.value size.limit size.power c.greatest_sample_of-sample_size.ensures in
+    rw c.in_ok-map.ensures.ok (image_of_none g.T.FrequentItemValue.codec g.T.FrequentItemValue.content g.T.PartialEq.eq g.met.T.FrequentItemValue.alike c.args.image.now m n state h.checks (sym h.fields.is_empty ∙ c.if-header.true) (size.value ∙ ap (λ (n : ℕ). 2 ^ n) h.fields.lg_max))
 
 pub returns-then-header-clause-stands : goal.returns-then-header-clause-stands
 returns-then-header-clause-stands g c = λ old was h stands. restores g.T.FrequentItemValue.codec g.T.FrequentItemValue.content g.T.PartialEq.eq g.met.T.FrequentItemValue.alike g.met.T.Eq.laws c.args.image.now _ (returns-then-header-clause-image g c) c.greatest_sample_of-sample_size.ensures old was h stands

@@ -1,6 +1,6 @@
 use Rattle.std.proofs.Common.{◌≡◌, ◌+◌, arith, ap, sym, ◌∙◌, subst, unwrap_or}
 use Rattle.sketch_frequencies.specs.State.{estimate_of, state_of}
-use Rattle.sketch_frequencies.specs.Tables.{count_of}
+use Rattle.counter_table.specs.Tables.{count_of}
 use Rattle.sketch_frequencies.proofs.Estimates.{estimate_none, estimate_some, estimate_exact}
 use Rattle.sketch_frequencies.proofs.Puts.{count_le_sum}
 use Rattle.sketch_frequencies.proofs.frequent_items_sketch.FrequentItemsSketch.estimate.Goals as goal

@@ -1,10 +1,10 @@
 use Rattle.std.proofs.Common.{arith, ap, sym, subst, ◌≡◌, ◌<◌, ◌+◌, length, ℕ, min, refl, ◌∙◌}
 use Rattle.std.proofs.lemmas.List.Sorted.{length_permutation, sum_by-IsPermutation}
-use Rattle.sketch_frequencies.specs.Tables.{is_tracked, put}
+use Rattle.counter_table.specs.Tables.{is_tracked, put}
 use Rattle.sketch_frequencies.specs.State.{FrequentState, IsState, capacity, state_of}
 use Rattle.sketch_frequencies.specs.Growth.{Adds}
 use Rattle.sketch_frequencies.proofs.Puts.{sum_of-put}
-use Rattle.sketch_frequencies.proofs.States.{state_after, adds_kept, adds_purged, sum_of-purged}
+use Rattle.sketch_frequencies.proofs.UpdateStates.{state_after, adds_kept, adds_purged, sum_of-purged}
 use Rattle.sketch_frequencies.proofs.frequent_items_sketch.FrequentItemsSketch.insert.Goals as goal
 
 pub insert-requires-clause-absent : goal.insert-requires-clause-absent

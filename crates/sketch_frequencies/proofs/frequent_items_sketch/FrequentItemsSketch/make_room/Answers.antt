@@ -2,9 +2,9 @@ use Rattle.std.proofs.Common.{◌<◌, ◌*◌, arith, ap, sym, ◌∙◌, refl,
 use Rattle.std.proofs.lemmas.Bool.{false≢true}
 use Rattle.sketch_frequencies.specs.State.{FrequentState, must_grow, state_of}
 use Rattle.sketch_frequencies.specs.Growth.{MakesRoom}
-use Rattle.sketch_frequencies.proofs.Parts.{grow_from_parts}
+use Rattle.sketch_frequencies.proofs.UpdateParts.{grow_from_parts}
 use Rattle.sketch_frequencies.proofs.Powers.{power_twice, doubled_fits}
-use Rattle.sketch_frequencies.proofs.States.{state_made, length_le_sum}
+use Rattle.sketch_frequencies.proofs.UpdateStates.{state_made, length_le_sum}
 use Rattle.sketch_frequencies.proofs.frequent_items_sketch.FrequentItemsSketch.make_room.Goals as goal
 
 pub resize-requires-clause-power : goal.resize-requires-clause-power

@@ -3,10 +3,10 @@ use Rattle.std.proofs.lemmas.List.Sorted.{length_permutation}
 use Rattle.sketch_frequencies.specs.State.{FrequentState, state_of, capacity}
 use Rattle.sketch_frequencies.specs.Steps.{Steps}
 use Rattle.sketch_frequencies.specs.Growth.{Adds}
-use Rattle.sketch_frequencies.specs.Tables.{put}
-use Rattle.sketch_frequencies.proofs.Parts.{length_put, step_with_room}
+use Rattle.counter_table.specs.Tables.{put}
+use Rattle.sketch_frequencies.proofs.UpdateParts.{length_put, step_with_room}
 use Rattle.sketch_frequencies.proofs.Puts.{count_le_sum}
-use Rattle.sketch_frequencies.proofs.States.{adds_kept, state_after}
+use Rattle.sketch_frequencies.proofs.UpdateStates.{adds_kept, state_after}
 use Rattle.sketch_frequencies.proofs.frequent_items_sketch.FrequentItemsSketch.put.Goals as goal
 
 pub adjust_or_put_value-requires-clause-fits : goal.adjust_or_put_value-requires-clause-fits

@@ -1,5 +1,5 @@
 use Rattle.std.proofs.Common.{arith, ap, ◌∙◌}
-use Rattle.sketch_frequencies.proofs.Fresh.{fresh_state, reset_stands, reset_budget}
+use Rattle.sketch_frequencies.proofs.EmptySketches.{fresh_state, reset_stands, reset_budget}
 use Rattle.sketch_frequencies.proofs.Powers.{eight_is_power}
 use Rattle.sketch_frequencies.proofs.frequent_items_sketch.FrequentItemsSketch.reset.Goals as goal
 

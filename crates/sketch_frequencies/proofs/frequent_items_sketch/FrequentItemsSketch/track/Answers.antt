@@ -1,7 +1,7 @@
 use Rattle.std.proofs.Common.{◌∙◌, subst}
 use Rattle.sketch_frequencies.specs.State.{IsState}
-use Rattle.sketch_frequencies.proofs.Orders.{is_tracked-permutation}
-use Rattle.sketch_frequencies.proofs.Parts.{room_made, step_from}
+use Rattle.sketch_frequencies.proofs.Permutations.{is_tracked-permutation}
+use Rattle.sketch_frequencies.proofs.UpdateParts.{room_made, step_from}
 use Rattle.sketch_frequencies.proofs.frequent_items_sketch.FrequentItemsSketch.track.Goals as goal
 
 pub insert-requires-clause-absent : goal.insert-requires-clause-absent

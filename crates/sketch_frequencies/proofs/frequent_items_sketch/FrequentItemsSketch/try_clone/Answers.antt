@@ -1,7 +1,7 @@
 use Rattle.std.proofs.Common.{subst, refl}
 use Rattle.sketch_frequencies.specs.State.{FrequentState, IsState}
 use Rattle.sketch_frequencies.specs.Steps.{IsSameState}
-use Rattle.sketch_frequencies.proofs.Alike.{state_alike, stands_alike, budget_alike}
+use Rattle.sketch_frequencies.proofs.SameStates.{state_alike, stands_alike, budget_alike}
 use Rattle.sketch_frequencies.proofs.frequent_items_sketch.FrequentItemsSketch.try_clone.Goals as goal
 
 pub invariant_of-result : goal.invariant_of-result

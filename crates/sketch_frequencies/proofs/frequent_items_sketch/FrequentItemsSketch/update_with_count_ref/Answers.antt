@@ -1,8 +1,8 @@
 use Rattle.std.proofs.Common.{ap, sym, ◌∙◌, subst}
 use Rattle.sketch_frequencies.specs.State.{IsState}
 use Rattle.sketch_frequencies.specs.Steps.{Steps}
-use Rattle.sketch_frequencies.specs.Tables.{is_tracked}
-use Rattle.sketch_frequencies.proofs.Alike.{stands_step, budget_step_equal}
+use Rattle.counter_table.specs.Tables.{is_tracked}
+use Rattle.sketch_frequencies.proofs.SameStates.{stands_step, budget_step_equal}
 use Rattle.sketch_frequencies.proofs.Lookups.{tracked_alike}
 use Rattle.sketch_frequencies.proofs.frequent_items_sketch.FrequentItemsSketch.update_with_count_ref.Goals as goal
 

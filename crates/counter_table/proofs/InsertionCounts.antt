@@ -1,0 +1,46 @@
+-- The number of entries that a table keeps beside its slots.
+use Rattle.std.proofs.Common.{◌≡◌, ℕ, ◌+◌, ◌≤◌, ◌^◌, Bool, true, false, inl, inr, refl, ap, sym, ◌∙◌, subst, arith, List, [], length, take, drop, ◌++◌, IsPermutation}
+use Rattle.std.specs.Prelude.{IsTrue}
+use Rattle.std.specs.Int.{is_power_of_two}
+use Rattle.std.proofs.lemmas.Bool.{cases_Bool}
+use Rattle.std.proofs.lemmas.List.{take-append-le, take_all}
+use Rattle.std.proofs.lemmas.List.Sorted.{length_permutation}
+use Rattle.counter_table.specs.declared.slot.Slot.{Slot}
+use Rattle.counter_table.specs.Slots.{entries_of, table_of, IsCounted, IsSlots, IsTableSize}
+use Rattle.counter_table.specs.Tables.{is_tracked, put}
+use Rattle.counter_table.proofs.InsertionPuts.{length_tracked, length_new}
+
+module _ {T : Type 0} (eq : T → T → Bool) (input : T → List (List ℕ)) (old lent new : List (Slot T)) (active : ℕ) (x : T) (w : ℕ) (was : IsCounted eq input old active) (same : lent ≡ old) (ok : IsSlots eq input new) where
+  -- an item that was there got more
+  pub counted_kept : is_tracked eq (entries_of lent) x ≡ true → IsPermutation (put eq (entries_of lent) x w) (entries_of new) → IsCounted eq input new active
+  counted_kept t perm =
+      let es = entries_of lent in
+      let more : length (put eq es x w) ≡ length es = length_tracked eq es x w t in
+      let long = ap (λ l. length (entries_of l)) same in
+      record { slots_ok = ok; active_is = omega (arith, was.active_is, long, more, length_permutation _ _ perm) }
+
+  -- one that was not came in
+  pub counted_more : is_tracked eq (entries_of lent) x ≡ false → IsPermutation (put eq (entries_of lent) x w) (entries_of new) → IsCounted eq input new (active + 1)
+  counted_more f perm =
+      let es = entries_of lent in
+      let more : length (put eq es x w) ≡ length es + 1 = length_new eq es x w f in
+      let long = ap (λ l. length (entries_of l)) same in
+      record { slots_ok = ok; active_is = omega (arith, was.active_is, long, more, length_permutation _ _ perm) }
+
+  -- got more where it was there
+  pub counted_adjusted : (b : Bool) → b ≡ is_tracked eq (entries_of lent) x → (b ≡ true → IsPermutation (put eq (entries_of lent) x w) (entries_of new)) → (b ≡ false → new ≡ lent) → IsCounted eq input new active
+  counted_adjusted b tracked present absent = elim (cases_Bool b) [
+    | inl t ↦ counted_kept (sym tracked ∙ t) (present t)
+    | inr f ↦ record { slots_ok = ok; active_is = was.active_is ∙ ap (λ l. length (entries_of l)) (sym (absent f ∙ same)) }
+  ]
+
+pub table_size_of : (n m : ℕ) → n ≡ m → IsTrue (is_power_of_two m) → m ≤ 2 ^ 30 → IsTableSize n
+table_size_of n m e power limit = let P : ℕ → Type 0 = λ k. IsTableSize k in subst P (sym e) (record { power = power; limit = limit })
+
+-- a table without an entry
+pub table_is : {T : Type 0} (slots : List (Slot T)) (n : ℕ) → entries_of slots ≡ [] → length slots ≡ n → table_of slots ≡ record { entries = []; size = n }
+table_is slots n a b = rw (a, b) refl
+
+-- a slice written back whole
+pub written_whole : {X : Type 0} (n : ℕ) (a b : List X) → length a ≡ n → take n (a ++ drop (length a) b) ≡ a
+written_whole n a b h = rw (← h) (take-append-le (length a) a (drop (length a) b) (omega arith) ∙ take_all (length a) a (omega arith))

@@ -1,0 +1,66 @@
+-- The home of an item, the place after a place, and where a look-up stands.
+use Rattle.std.proofs.Common.{◌≡◌, ℕ, ◌+◌, ◌-◌, ◌%◌, ◌^◌, ◌<◌, ap, sym, ◌∙◌, arith, List, bit_and}
+use Rattle.std.proofs.Math.Nat.{mod-lt}
+use Rattle.std.proofs.lemmas.Nat.{and_mask}
+use Rattle.sketch_base.specs.Hashes.{fed_bytes}
+use Rattle.sketch_base.specs.Murmur3.{murmur3_x64_128}
+use Rattle.counter_table.specs.Homes.{home_in, home_of, ahead}
+use Rattle.counter_table.specs.Slots.{IsTableSize}
+use Rattle.counter_table.proofs.ArithmeticPowers.{power_of, power_positive}
+use Rattle.counter_table.proofs.ArithmeticRing.{ahead_is}
+
+pub some_size : (n : ℕ) → IsTableSize n → 0 < n
+some_size n size = power_positive n size.power
+
+-- a mask takes the remainder
+masked : (x n : ℕ) → IsTableSize n → bit_and x (n - 1) ≡ x % n
+masked x n size =
+    let k = power_of n size.power in
+    let e : n - 1 ≡ 2 ^ k.0 - 1 = ap (λ m. m - 1) k.1 in
+    ap (bit_and x) e ∙ and_mask x k.0 ∙ ap (λ m. x % m) (sym k.1)
+
+pub home_masked : (bytes : List ℕ) (hash n : ℕ) → hash ≡ (murmur3_x64_128 bytes 9001).0 → IsTableSize n → bit_and hash (n - 1) ≡ home_of bytes n
+unfolding home_of
+home_masked bytes hash n e size = masked hash n size ∙ ap (λ x. x % n) e
+
+pub next_masked : (p n : ℕ) → IsTableSize n → bit_and (p + 1) (n - 1) ≡ ahead n p 1
+unfolding ahead
+next_masked p n size = masked (p + 1) n size
+
+pub before_masked : (p back n : ℕ) → IsTableSize n → bit_and (p + (n - back)) (n - 1) ≡ ahead n p (n - back)
+unfolding ahead
+before_masked p back n size = masked (p + (n - back)) n size
+
+pub stride_masked : (p stride n : ℕ) → IsTableSize n → bit_and (p + stride) (n - 1) ≡ (p + stride) % n
+stride_masked p stride n size = masked (p + stride) n size
+
+pub home_of-below : (bytes : List ℕ) (n : ℕ) → 0 < n → home_of bytes n < n
+unfolding home_of
+home_of-below bytes n h = mod-lt ((murmur3_x64_128 bytes 9001).0) h
+
+pub ahead-next : (n h j : ℕ) → h < n → j + 1 < n → ahead n (ahead n h j) 1 ≡ ahead n h (j + 1)
+ahead-next n h j l m =
+    let a = ahead_is n h j l (omega arith) in
+    let b = ahead_is n (ahead n h j) 1 a.below (omega arith) in
+    let c = ahead_is n h (j + 1) l (omega arith) in
+    omega arith
+
+pub ahead-zero : (n h : ℕ) → h < n → ahead n h 0 ≡ h
+ahead-zero n h l = let a = ahead_is n h 0 l (omega arith) in omega arith
+
+-- ---- a look-up that has looked at so many places from the home of x on
+module _ {T : Type 0} (input : T → List (List ℕ)) (x : T) (n : ℕ) (size : IsTableSize n) where
+  home_below : home_in input n x < n
+  home_below = home_of-below (fed_bytes input x) n (some_size n size)
+
+  -- it starts at the home
+  pub stands_first : (place : ℕ) → place ≡ home_in input n x → place ≡ ahead n (home_in input n x) 0
+  stands_first place is = is ∙ sym (ahead-zero n (home_in input n x) home_below)
+
+  -- its place is one of the table's
+  pub stands_within : (place looked : ℕ) → place ≡ ahead n (home_in input n x) looked → looked < n → place < n
+  stands_within place looked at below = let a = ahead_is n (home_in input n x) looked home_below (omega (arith, below)) in omega (arith, at, a.below)
+
+  -- and goes on to the next
+  pub stands_next : (place next looked : ℕ) → place ≡ ahead n (home_in input n x) looked → next ≡ ahead n place 1 → looked + 1 < n → next ≡ ahead n (home_in input n x) (looked + 1)
+  stands_next place next looked at step below = step ∙ ap (λ p. ahead n p 1) at ∙ ahead-next n (home_in input n x) looked home_below below

@@ -1,0 +1,17 @@
+use Rattle.std.proofs.Common.{◌≡◌, ℕ, ◌<◌, ◌-◌, length, true}
+use Rattle.counter_table.specs.Homes.{home_in, ahead}
+use Rattle.counter_table.specs.Slots.{is_taken}
+use Rattle.counter_table.proofs.slots.find_free.Given as goal
+
+-- the places so far are taken
+abbrev pub invariant-probe : goal.invariant-probe
+invariant-probe g l =
+    let h = home_in g.T.Hash.hash_input (length l.slots) l.item in
+    record {
+      at : l.place ≡ ahead (length l.slots) h l.looked;
+      below : l.looked < length l.slots;
+      taken : (j : ℕ) → j < l.looked → is_taken l.slots (ahead (length l.slots) h j) ≡ true;
+    }
+
+abbrev pub decreases-probe : goal.decreases-probe
+decreases-probe g l = length l.slots - l.looked

@@ -1,0 +1,9 @@
+pub mod Bytes
+pub mod Homes
+pub mod Places
+pub mod Probes
+pub mod Shifted
+pub mod Slots
+pub mod Tables
+pub mod Walk
+pub mod Walking

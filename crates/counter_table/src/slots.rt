@@ -1,0 +1,469 @@
+//! Work on the slots of a table: linear probing from an item's home on, round the end.
+//!
+//! Every place from an entry's home on to its slot is taken, so a look-up may end at the first free one. Freeing a slot
+//! keeps it so by shifting back each later entry of the cluster whose home is not after the freed slot, as Knuth's
+//! algorithm R does.
+ghost use Rattle.std.specs.Prelude.{◌≡◌, ℕ, ◌+◌, ◌-◌, ◌<◌, ◌≤◌, ◌^◌, [], None, Some, true, false, not, length, map, filter, replicate, nat_lt, slice_index_or, slice_set, IfOk, IfErr, IsTrue, IsPermutation};
+ghost use Rattle.std.specs.List.{IsDistinct, AllZip};
+ghost use Rattle.std.specs.Map.{keys_of};
+ghost use Rattle.sketch_base.specs.Errors.{no_memory};
+ghost use Rattle.counter_table.specs.Homes.{home_in, ahead};
+ghost use Rattle.counter_table.specs.Probes.{IsProbe, IsGap};
+ghost use Rattle.counter_table.specs.Shifted.{Origins};
+ghost use Rattle.counter_table.specs.Slots.{IsTableSize, IsPlaced, IsSlots, IsSameSlot, CountHasRoom, AddsAt, DriftsBy, ShiftsBack, drift_of, entries_of, is_spent, is_taken, lessened, slot_at};
+ghost use Rattle.counter_table.specs.Tables.{count_of, is_tracked, put, purged, IsSampleMiddle};
+
+use crate::sizes::MAX_SAMPLE_SIZE;
+use crate::slot::Slot;
+use arrayvec::ArrayVec;
+use sketch_base::{DEFAULT_UPDATE_SEED, Error, murmur3_of};
+use std::alloc::Global;
+use std::hash::Hash;
+use std::mem;
+
+/// The most counts of a small sample.
+const SMALL_SAMPLE_SIZE: usize = 64;
+
+/// Where a look-up ended: at the item's slot, with its count, or at the free one where the item goes.
+#[derive(Drop)]
+pub(crate) struct Probe {
+    pub(crate) place: usize,
+    pub(crate) found: Option<u64>,
+    pub(crate) looked: usize,
+}
+
+/// Where the first free slot is from an item's home on, and how many slots were looked at to find it.
+#[derive(Drop)]
+pub(crate) struct Gap {
+    place: usize,
+    looked: usize,
+}
+
+/// The home of the item in a table of this size.
+#[inline(always)]
+fn home<T: Hash>(item: &T, size: usize) -> usize
+    requires { IsTableSize size }
+    ensures { result ≡ home_in T.hash_input size item.now }
+{
+    murmur3_of(item, DEFAULT_UPDATE_SEED).0 as usize & (size - 1)
+}
+
+/// The place after this one.
+#[inline(always)]
+fn next(place: usize, size: usize) -> usize
+    requires size { IsTableSize size }
+    requires place { place < size }
+    ensures { result ≡ ahead size place 1 }
+{
+    (place + 1) & (size - 1)
+}
+
+/// The place so many places before this one.
+#[inline(always)]
+fn before(place: usize, back: usize, size: usize) -> usize
+    requires size { IsTableSize size }
+    requires place { place < size }
+    requires back { back ≤ size }
+    ensures { result ≡ ahead size place (size - back) }
+{
+    (place + (size - back)) & (size - 1)
+}
+
+/// Looks at a slot, and counts it. Look-ups and walks read slots by this call alone.
+#[inline(always)]
+pub(crate) fn look<'a, T>(slots: &'a [Slot<T>], place: usize, looked: &mut usize) -> &'a Slot<T>
+    requires place { place < length slots.now }
+    requires looked { looked.old < 2 ^ 30 }
+    ensures value { result.now ≡ slice_index_or slots.now place Slot.Free }
+    ensures counted { looked.new ≡ looked.old + 1 }
+{
+    *looked += 1;
+    &slots[place]
+}
+
+/// Looks the item up from its home on.
+#[inline(always)]
+pub(crate) fn find<T: Eq + Hash>(slots: &[Slot<T>], item: &T) -> Probe
+    requires size { IsTableSize (length slots.now) }
+    requires room { length (entries_of slots.now) < length slots.now }
+    requires placed { IsPlaced (home_in T.hash_input (length slots.now)) slots.now }
+    ensures { IsProbe T.eq (home_in T.hash_input (length slots.now) item.now) slots.now item.now
+        result.place result.found result.looked }
+{
+    let size = slots.len();
+    let mut place = home(item, size);
+    let mut looked = 0;
+    'probe: loop {
+        match look(slots, place, &mut looked) {
+            Slot::Taken {
+                count,
+                item: there,
+                ..
+            } => {
+                if *item == *there {
+                    return Probe {
+                        place,
+                        found: Some(*count),
+                        looked,
+                    };
+                }
+            }
+            Slot::Free => {
+                return Probe {
+                    place,
+                    found: None,
+                    looked,
+                };
+            }
+        }
+        place = next(place, size);
+    }
+}
+
+/// Looks for the first free slot from the item's home on.
+#[inline(always)]
+pub(crate) fn find_free<T: Hash>(slots: &[Slot<T>], item: &T) -> Gap
+    requires size { IsTableSize (length slots.now) }
+    requires room { length (entries_of slots.now) < length slots.now }
+    ensures { IsGap (home_in T.hash_input (length slots.now) item.now) slots.now result.place result.looked }
+{
+    let size = slots.len();
+    let mut place = home(item, size);
+    let mut looked = 0;
+    'probe: loop {
+        if let Slot::Free = look(slots, place, &mut looked) {
+            return Gap { place, looked };
+        }
+        place = next(place, size);
+    }
+}
+
+/// Adds to the count in a slot.
+#[inline(always)]
+pub(crate) fn add_at<T>(slots: &mut [Slot<T>], place: usize, amount: u64)
+    requires place { place < length slots.old }
+    requires fits { CountHasRoom slots.old place amount }
+    ensures { AddsAt slots.old place amount slots.new }
+{
+    if let Slot::Taken { count, .. } = &mut slots[place] {
+        *count += amount;
+    }
+}
+
+/// Fills a slot.
+#[inline(always)]
+fn fill<T: Drop>(slots: &mut [Slot<T>], place: usize, slot: Slot<T>)
+    requires { place < length slots.old }
+    ensures { slots.new ≡ slice_set slots.old place slot }
+{
+    slots[place] = slot;
+}
+
+/// Adds to the item's count, and answers whether it has one.
+#[inline(always)]
+pub(crate) fn adjust_in<T: Eq + Hash>(slots: &mut [Slot<T>], item: &T, amount: u64) -> bool
+    requires slots { IsSlots T.eq T.hash_input slots.old }
+    requires fits { is_tracked T.eq (entries_of slots.old) item.now ≡ true
+        → count_of T.eq (entries_of slots.old) item.now + amount < 2 ^ 64 }
+    ensures tracked { result ≡ is_tracked T.eq (entries_of slots.old) item.now }
+    ensures slots { IsSlots T.eq T.hash_input slots.new }
+    ensures present { result ≡ true
+        → IsPermutation (put T.eq (entries_of slots.old) item.now amount) (entries_of slots.new) }
+    ensures absent { result ≡ false → slots.new ≡ slots.old }
+{
+    let probe = find(slots, item);
+    match probe.found {
+        Some(_) => {
+            add_at(slots, probe.place, amount);
+            true
+        }
+        None => false,
+    }
+}
+
+/// Puts an item that is absent into the first free slot from its home on.
+#[inline(always)]
+pub(crate) fn insert_in<T: Eq + Hash + Drop>(slots: &mut [Slot<T>], item: T, amount: u64)
+    requires slots { IsSlots T.eq T.hash_input slots.old }
+    requires absent { is_tracked T.eq (entries_of slots.old) item ≡ false }
+    requires room { length (entries_of slots.old) + 1 < length slots.old }
+    ensures slots { IsSlots T.eq T.hash_input slots.new }
+    ensures entries { IsPermutation (put T.eq (entries_of slots.old) item amount) (entries_of slots.new) }
+{
+    let gap = find_free(slots, &item);
+    let slot = Slot::Taken {
+        drift: gap.looked as u32,
+        count: amount,
+        item,
+    };
+    fill(slots, gap.place, slot);
+}
+
+/// Adds to the item's count, or puts the item where its look-up ended, and answers whether it was put there.
+#[inline(always)]
+pub(crate) fn put_in<T: Eq + Hash + Drop>(slots: &mut [Slot<T>], item: T, amount: u64) -> bool
+    requires slots { IsSlots T.eq T.hash_input slots.old }
+    requires room { is_tracked T.eq (entries_of slots.old) item ≡ false
+        → length (entries_of slots.old) + 1 < length slots.old }
+    requires fits { is_tracked T.eq (entries_of slots.old) item ≡ true
+        → count_of T.eq (entries_of slots.old) item + amount < 2 ^ 64 }
+    ensures tracked { is_tracked T.eq (entries_of slots.old) item ≡ not result }
+    ensures slots { IsSlots T.eq T.hash_input slots.new }
+    ensures entries { IsPermutation (put T.eq (entries_of slots.old) item amount) (entries_of slots.new) }
+{
+    let probe = find(slots, &item);
+    match probe.found {
+        Some(_) => {
+            add_at(slots, probe.place, amount);
+            false
+        }
+        None => {
+            let slot = Slot::Taken {
+                drift: probe.looked as u32,
+                count: amount,
+                item,
+            };
+            fill(slots, probe.place, slot);
+            true
+        }
+    }
+}
+
+/// Moves what stands in one slot to a free one that is so many places nearer to its home.
+#[inline(always)]
+fn shift_back<T: Drop>(slots: &mut [Slot<T>], from: usize, to: usize, by: u32)
+    requires from { from < length slots.old }
+    requires to { to < length slots.old }
+    requires by { DriftsBy slots.old from by }
+    ensures { ShiftsBack slots.old from to by slots.new }
+{
+    let moved = mem::replace(&mut slots[from], Slot::Free);
+    if let Slot::Taken { drift, count, item } = moved {
+        slots[to] = Slot::Taken {
+            drift: drift - by,
+            count,
+            item,
+        };
+    }
+}
+
+/// The drift in a slot, 0 where it is free.
+#[inline(always)]
+fn drift_at<T>(slots: &[Slot<T>], place: usize) -> u32
+    requires { place < length slots.now }
+    ensures { result ≡ drift_of (slot_at slots.now place) }
+{
+    match &slots[place] {
+        Slot::Taken { drift, .. } => *drift,
+        Slot::Free => 0,
+    }
+}
+
+/// Frees a slot, and shifts back each later entry of the cluster whose home is not after it.
+fn remove_at<T: Eq + Hash + Drop>(slots: &mut [Slot<T>], place: usize)
+    requires slots { IsSlots T.eq T.hash_input slots.old }
+    requires taken { is_taken slots.old place ≡ true }
+    ensures slots { IsSlots T.eq T.hash_input slots.new }
+    ensures entries { IsPermutation (entries_of (slice_set slots.old place Slot.Free)) (entries_of slots.new) }
+    ensures origins { Origins slots.old place slots.new }
+{
+    let size = slots.len();
+    slots[place] = Slot::Free;
+    let mut hole = place;
+    let mut probe = place;
+    let mut shift = 0;
+    for _ in 0..slots.len() {
+        probe = next(probe, size);
+        shift += 1;
+        let drift = drift_at(slots, probe);
+        if drift == 0 {
+            return;
+        }
+        if drift > shift {
+            shift_back(slots, probe, hole, shift);
+            hole = probe;
+            shift = 0;
+        }
+    }
+}
+
+/// Whether a slot is free.
+#[inline(always)]
+fn is_free<T>(slots: &[Slot<T>], place: usize) -> bool
+    requires { place < length slots.now }
+    ensures { result ≡ not (is_taken slots.now place) }
+{
+    match &slots[place] {
+        Slot::Taken { .. } => false,
+        Slot::Free => true,
+    }
+}
+
+/// Whether a slot holds a count of 0.
+#[inline(always)]
+fn is_spent<T>(slots: &[Slot<T>], place: usize) -> bool
+    requires { place < length slots.now }
+    ensures { result ≡ is_spent (slot_at slots.now place) }
+{
+    match &slots[place] {
+        Slot::Taken { count, .. } => *count == 0,
+        Slot::Free => false,
+    }
+}
+
+/// The highest free slot.
+fn last_free<T>(slots: &[Slot<T>]) -> usize
+    requires { length (entries_of slots.now) < length slots.now }
+    ensures below { result < length slots.now }
+    ensures free { is_taken slots.now result ≡ false }
+{
+    let mut place = slots.len() - 1;
+    while !is_free(slots, place) {
+        place -= 1;
+    }
+    place
+}
+
+/// Removes each entry with a count of 0, and answers how many there were.
+///
+/// The scan starts below the highest free slot, goes down to 0, and then from the top down to that slot. So what a
+/// removal shifts back was scanned before.
+fn drop_spent<T: Eq + Hash + Drop>(slots: &mut [Slot<T>]) -> usize
+    requires { IsSlots T.eq T.hash_input slots.old }
+    ensures slots { IsSlots T.eq T.hash_input slots.new }
+    ensures entries { IsPermutation (filter (λ e. nat_lt 0 e.1) (entries_of slots.old)) (entries_of slots.new) }
+    ensures removed { result + length (entries_of slots.new) ≡ length (entries_of slots.old) }
+{
+    let size = slots.len();
+    let free = last_free(slots);
+    let mut removed = 0;
+    for back in 1..size {
+        let place = before(free, back, size);
+        if is_spent(slots, place) {
+            remove_at(slots, place);
+            removed += 1;
+        }
+    }
+    removed
+}
+
+/// Takes `amount` from each count, or all of it where there is less.
+fn subtract<T>(slots: &mut [Slot<T>], amount: u64)
+    ensures { slots.new ≡ map (lessened amount) slots.old }
+{
+    for slot in slots.iter_mut() {
+        if let Slot::Taken { count, .. } = slot {
+            *count = count.saturating_sub(amount);
+        }
+    }
+}
+
+/// Takes `amount` from each count, removes the entries at or below it, and answers how many there were.
+pub(crate) fn lower<T: Eq + Hash + Drop>(slots: &mut [Slot<T>], amount: u64) -> usize
+    requires { IsSlots T.eq T.hash_input slots.old }
+    ensures slots { IsSlots T.eq T.hash_input slots.new }
+    ensures entries { IsPermutation (purged amount (entries_of slots.old)) (entries_of slots.new) }
+    ensures removed { result + length (entries_of slots.new) ≡ length (entries_of slots.old) }
+{
+    subtract(slots, amount);
+    drop_spent(slots)
+}
+
+/// A middle count of the first `size` entries.
+///
+/// A sample's room is cleared before it is filled, and a small sketch is purged often: so a small sample has less of it.
+pub(crate) fn middle_of<T>(slots: &[Slot<T>], size: usize) -> u64
+    requires some { 0 < size }
+    requires few { size ≤ 1024 }
+    requires active { size ≤ length (entries_of slots.now) }
+    ensures { IsSampleMiddle size (entries_of slots.now) result }
+{
+    if size <= SMALL_SAMPLE_SIZE {
+        middle_in::<T, SMALL_SAMPLE_SIZE>(slots, size)
+    } else {
+        middle_in::<T, MAX_SAMPLE_SIZE>(slots, size)
+    }
+}
+
+/// The same, with room for `N` counts.
+fn middle_in<T, const N: usize>(slots: &[Slot<T>], size: usize) -> u64
+    requires some { 0 < size }
+    requires few { size ≤ N }
+    requires room { N ≤ 1024 }
+    requires active { size ≤ length (entries_of slots.now) }
+    ensures { IsSampleMiddle size (entries_of slots.now) result }
+{
+    let mut sample: ArrayVec<u64, N> = ArrayVec::new_in(());
+    for slot in slots {
+        if sample.len() == size {
+            break;
+        }
+        if let Slot::Taken { count, .. } = slot {
+            sample.push(*count);
+        }
+    }
+    let counts = sample.as_mut_slice();
+    counts.sort_unstable();
+    counts[size / 2]
+}
+
+/// So many free slots. They ask for memory once.
+pub(crate) fn free_slots<T: Drop>(alloc: Global, size: usize) -> Result<Vec<Slot<T>>, Error>
+    ensures ok { IfOk result (λ slots. slots.items ≡ replicate size Slot.Free) }
+    ensures err { IfErr result (λ e. e ≡ no_memory) }
+{
+    let mut slots = Vec::with_capacity(alloc, size)?;
+    for _ in 0..size {
+        slots.push_reserved(Slot::Free);
+    }
+    Ok(slots)
+}
+
+/// Frees every slot.
+pub(crate) fn free_all<T: Drop>(slots: &mut [Slot<T>])
+    ensures { entries_of slots.new ≡ [] }
+{
+    for slot in slots.iter_mut() {
+        *slot = Slot::Free;
+    }
+}
+
+/// Moves all entries of `old` into slots that are free.
+pub(crate) fn move_all<T: Eq + Hash + Drop>(old: Vec<Slot<T>>, slots: &mut [Slot<T>])
+    requires distinct { IsDistinct T.eq (keys_of (entries_of old.items)) }
+    requires room { length (entries_of old.items) < length slots.old }
+    requires size { IsTableSize (length slots.old) }
+    requires free { entries_of slots.old ≡ [] }
+    ensures slots { IsSlots T.eq T.hash_input slots.new }
+    ensures entries { IsPermutation (entries_of old.items) (entries_of slots.new) }
+{
+    for slot in old {
+        if let Slot::Taken { count, item, .. } = slot {
+            insert_in(slots, item, count);
+        }
+    }
+}
+
+/// The same slots with clones of the items. Clones have to equal their originals.
+pub(crate) fn clone_slots<T: Eq + Clone + Drop>(
+    alloc: Global,
+    slots: &[Slot<T>],
+) -> Result<Vec<Slot<T>>, Error>
+    requires clones { (x y : T) → T.is_clone x y → IsTrue (T.eq x y) }
+    ensures ok { IfOk result (λ clones. AllZip (IsSameSlot T.eq) slots.now clones.items) }
+    ensures err { IfErr result (λ e. e ≡ no_memory) }
+{
+    let mut clones = Vec::with_capacity(alloc, slots.len())?;
+    for slot in slots {
+        let clone = match slot {
+            Slot::Taken { drift, count, item } => Slot::Taken {
+                drift: *drift,
+                count: *count,
+                item: item.clone()?,
+            },
+            Slot::Free => Slot::Free,
+        };
+        clones.push_reserved(clone);
+    }
+    Ok(clones)
+}

@@ -1,0 +1,74 @@
+-- A sketch into which nothing was fed.
+use Rattle.std.proofs.Common.{◌≡◌, ℕ, ◌^◌, ◌≤◌, Bool, refl, sym, subst, arith}
+use Rattle.std.proofs.Math.Pow.{pow_mono}
+use Rattle.std.specs.Prelude.{IsTrue}
+use Rattle.std.specs.Int.{is_power_of_two}
+use Rattle.std.specs.List.{IsDistinct}
+use Rattle.std.proofs.lemmas.List.Elements.{All-nil}
+use Rattle.sketch_frequencies.specs.History.{FrequentHistory, own_size, own_sample}
+use Rattle.sketch_frequencies.specs.History.FrequentHistory.{New, Reset}
+use Rattle.sketch_frequencies.specs.Stands.{StandsFor, KeepsTailBudget}
+use Rattle.sketch_frequencies.specs.State.{IsState, IsSampleSize, empty_state, greatest_sample_size}
+use Rattle.sketch_frequencies.proofs.Powers.{eight_is_power}
+use Rattle.sketch_frequencies.proofs.SampleSizes.{usual_sample}
+
+-- it is a state
+pub fresh_state : {T : Type 0} (eq : T → T → Bool) (m n : ℕ) → 8 ≤ m → m ≤ 2 ^ 30 → IsTrue (is_power_of_two m) → IsSampleSize m n → IsState eq (empty_state m n)
+unfolding IsDistinct
+fresh_state eq m n least most power sample = record {
+  distinct = tt;
+  positive = All-nil _;
+  few = omega arith;
+  sum = omega arith;
+  least = omega arith;
+  within = least;
+  greatest = most;
+  size_power = eight_is_power;
+  max_size_power = power;
+  empty = λ _. refl;
+  sample = sample;
+}
+
+-- so it is as it is read from an image, with the sample size that `new` gives
+pub restored_empty : {T : Type 0} (eq : T → T → Bool) (lg m n : ℕ) → 3 ≤ lg → m ≡ 2 ^ lg → m ≤ 2 ^ 30 → IsTrue (is_power_of_two m) → n ≡ greatest_sample_size m → IsState eq (empty_state m n)
+restored_empty eq lg m n low value most power usual =
+    let least : 2 ^ 3 ≤ 2 ^ lg = pow_mono low in
+    let large : 8 ≤ m = omega (arith, least, value) in
+    fresh_state eq m n large most power (subst (λ (k : ℕ). IsSampleSize m k) (sym usual) (usual_sample m large power))
+
+-- it stands for nothing fed
+pub new_stands : {T : Type 0} (eq : T → T → Bool) (m n : ℕ) → 8 ≤ m → IsTrue (is_power_of_two m) → IsSampleSize m n → StandsFor eq (empty_state m n) (New m n)
+new_stands eq m n least power sample = record {
+  encloses = record {
+    max_size = refl;
+    total = refl;
+    at_least = λ _. omega arith;
+    at_most = λ _. omega arith;
+    exact = λ _. refl;
+    least = least;
+    power = power;
+    sample = sample;
+  };
+  sample_size = refl;
+}
+
+-- after a reset it stands for what was reset, and keeps the tail budget
+pub reset_stands : {T : Type 0} (eq : T → T → Bool) (m n : ℕ) → 8 ≤ m → IsTrue (is_power_of_two m) → IsSampleSize m n → (h : FrequentHistory T) → m ≡ own_size h → n ≡ own_sample h → StandsFor eq (empty_state m n) (Reset h)
+reset_stands eq m n least power sample h own own_n =
+    let so_many : IsSampleSize m (own_sample h) = subst (λ (k : ℕ). IsSampleSize m k) own_n sample in
+    record {
+      encloses = record {
+        max_size = own;
+        total = refl;
+        at_least = λ _. omega arith;
+        at_most = λ _. omega arith;
+        exact = λ _. refl;
+        least = omega (arith, least, own);
+        power = subst (λ (k : ℕ). IsTrue (is_power_of_two k)) own power;
+        sample = subst (λ (k : ℕ). IsSampleSize k (own_sample h)) own so_many;
+      };
+      sample_size = own_n;
+    }
+
+pub reset_budget : {T : Type 0} (eq : T → T → Bool) (m n : ℕ) (h : FrequentHistory T) → KeepsTailBudget eq (empty_state m n) (Reset h)
+reset_budget eq m n h = λ set short. omega arith

@@ -1,8 +1,0 @@
-use Rattle.std.proofs.Common.{sym}
-use Rattle.sketch_frequencies.proofs.Probes.{answers_lent}
-use Rattle.sketch_frequencies.proofs.reverse_purge_item_hash_map.ReversePurgeItemHashMap.look_up.Goals as goal
-
-pub returns : goal.returns
-returns g c =
-    let a = answers_lent g.met.T.Eq.laws g.met.T.Hash.respects_eq c.self.inside.slots.items c.deref.result.now c.self.invariant.slots_ok c.args.self.now c.self.view_is c.deref.ensures.value c.args.item.now _ _ _ c.find.ensures in
-    sym a.looked_up

@@ -1,7 +1,0 @@
-use Rattle.std.proofs.Common.{length}
-use Rattle.sketch_frequencies.specs.Places.{entry_at}
-use Rattle.sketch_frequencies.proofs.WalkSteps.{given_few}
-use Rattle.sketch_frequencies.proofs.reverse_purge_item_iter.ReversePurgeItemIter.looked_at.Goals as goal
-
-pub returns-clause-at_least : goal.returns-clause-at_least
-returns-clause-at_least g c = rw (← c.self.view_is) (given_few (entry_at c.self.inside.slots.now) (length c.self.inside.slots.now) c.self.inside.stride c.self.inside.looked)

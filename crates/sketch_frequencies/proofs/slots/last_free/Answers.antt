@@ -1,8 +1,0 @@
-use Rattle.std.proofs.Common.{arith}
-use Rattle.sketch_frequencies.proofs.Full.{free_from_few}
-use Rattle.sketch_frequencies.proofs.slots.last_free.Goals as goal
-
-pub loop-place-init : goal.loop-place-init
-loop-place-init g c =
-    let f = free_from_few c.args.slots.now c.requires in
-    record { below = omega (arith, c.requires); gap = (f.place, omega (arith, f.below), f.free) }
