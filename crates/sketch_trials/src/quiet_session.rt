@@ -5,7 +5,7 @@ use crate::texts::text;
 use crate::trial::{Stopped, Trial};
 use crate::windows::{add_counted, ask};
 use datasketches::frequencies::ErrorType;
-use datasketches::{Command, Reply, Session, Spare};
+use datasketches::{Command, Reply, Session, Recycled};
 use heavy_windows::HeavyWindows;
 use std::alloc::Global;
 
@@ -147,10 +147,10 @@ fn apply(
     session: &mut Session<String>,
     command: Command<String>,
     spares: bool,
-    spare: &mut Spare<String>,
+    spare: &mut Recycled<String>,
 ) -> Reply<String> {
     if spares {
-        session.apply_sparing(command, spare)
+        session.apply_recycling(command, spare)
     } else {
         session.apply(command)
     }
@@ -164,7 +164,7 @@ fn apply_all(
 ) -> bool {
     let mut room = true;
     let mut spares = false;
-    let mut spare = Spare::new();
+    let mut spare = Recycled::new();
     for command in commands {
         let reply = apply(session, command, spares, &mut spare);
         spares = !spares;
