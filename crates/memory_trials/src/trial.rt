@@ -11,23 +11,23 @@ const END: usize = 7927;
 
 /// Something that no trial is about went wrong.
 #[derive(Drop)]
-pub struct Stopped;
+pub struct SetupFailed;
 
-impl From<AllocError> for Stopped {
+impl From<AllocError> for SetupFailed {
     fn from(_e: AllocError) -> Self {
-        Stopped
+        SetupFailed
     }
 }
 
-impl<V: Drop> From<AllocFailed<V>> for Stopped {
+impl<V: Drop> From<AllocFailed<V>> for SetupFailed {
     fn from(_e: AllocFailed<V>) -> Self {
-        Stopped
+        SetupFailed
     }
 }
 
-impl From<Error> for Stopped {
+impl From<Error> for SetupFailed {
     fn from(_e: Error) -> Self {
-        Stopped
+        SetupFailed
     }
 }
 
@@ -40,7 +40,7 @@ pub struct Trial {
     text: String,
     // They are kept, so that no compiler takes a request and its return for nothing.
     marks: Vec<Vec<u8>>,
-    stopped: bool,
+    failed: bool,
 }
 
 impl Trial {
@@ -49,14 +49,14 @@ impl Trial {
             alloc,
             text: String::new(alloc),
             marks: Vec::new(alloc),
-            stopped: false,
+            failed: false,
         }
     }
 
-    /// Says that a call follows, whose requests for memory are counted.
+    /// Says that a call follows that may answer want of memory, and that its requests are counted.
     pub fn begin_call(&mut self) {
         if self.text.push_str("call\n").is_err() {
-            self.stopped = true;
+            self.failed = true;
         }
         self.begin();
     }
@@ -64,61 +64,72 @@ impl Trial {
     /// Requests for memory are counted from here on.
     pub fn begin(&mut self) {
         if self.marks.reserve(1).is_err() || self.mark(BEGIN).is_err() {
-            self.stopped = true;
+            self.failed = true;
         }
     }
 
     /// Requests for memory are counted no longer.
     pub fn end(&mut self) {
         if self.mark(END).is_err() {
-            self.stopped = true;
+            self.failed = true;
         }
     }
 
     /// Something that the trial is not about went wrong.
-    pub fn stop(&mut self) {
-        self.stopped = true;
+    pub fn fail(&mut self) {
+        self.failed = true;
     }
 
-    fn mark(&mut self, size: usize) -> Result<(), Stopped> {
+    fn mark(&mut self, size: usize) -> Result<(), SetupFailed> {
         self.marks.push(Vec::with_capacity(self.alloc, size)?)?;
         Ok(())
     }
 
     /// What was written for it, where nothing went wrong.
-    pub fn text(&self) -> Result<&str, Stopped> {
-        if self.stopped {
-            return Err(Stopped);
+    pub fn text(&self) -> Result<&str, SetupFailed> {
+        if self.failed {
+            return Err(SetupFailed);
         }
         Ok(self.text.as_str())
     }
 }
 
 impl fmt::Write for Trial {
-    fn write_str(&mut self, said: &str) -> fmt::Result {
-        if self.text.write_str(said).is_err() {
-            self.stopped = true;
+    fn write_str(&mut self, text: &str) -> fmt::Result {
+        if self.text.write_str(text).is_err() {
+            self.failed = true;
         }
         Ok(())
     }
 }
 
 /// Writes for a trial.
-macro_rules! say {
-    ($trial:expr, $($said:tt)*) => {{
-        let _ = write!($trial, $($said)*);
+macro_rules! write_words {
+    ($trial:expr, $($words:tt)*) => {{
+        let _ = write!($trial, $($words)*);
     }};
 }
 
 /// The same with the end of a line.
-macro_rules! say_line {
+macro_rules! write_line {
     ($trial:expr) => {{
         let _ = writeln!($trial);
     }};
-    ($trial:expr, $($said:tt)*) => {{
-        let _ = writeln!($trial, $($said)*);
+    ($trial:expr, $($words:tt)*) => {{
+        let _ = writeln!($trial, $($words)*);
     }};
 }
 
-pub(crate) use say;
-pub(crate) use say_line;
+/// The answer of a call whose requests for memory are counted.
+macro_rules! counted {
+    ($trial:expr, $call:expr) => {{
+        $trial.begin();
+        let answer = $call;
+        $trial.end();
+        answer
+    }};
+}
+
+pub(crate) use counted;
+pub(crate) use write_line;
+pub(crate) use write_words;

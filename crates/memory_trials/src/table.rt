@@ -3,11 +3,15 @@ ghost use Rattle.std.specs.Prelude.{IsTrue};
 
 use datasketches::error::{Error, Fault};
 use datasketches::frequencies::ReversePurgeItemHashMap;
+use sketch_items::Item;
 use std::alloc::Global;
 use std::hash::Hash;
 
 /// The most slots of a table here.
 const MOST_SLOTS: usize = 32;
+
+/// A table of items of a kind.
+pub type Map<const KIND: u8> = ReversePurgeItemHashMap<Item<KIND>>;
 
 /// An empty table.
 pub fn free_table<T: Eq + Hash + Drop>(

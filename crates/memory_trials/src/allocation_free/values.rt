@@ -1,6 +1,6 @@
 //! Calls on the numbers that Count-Min sketches count in. None of them takes memory.
-use crate::tell::tell_values;
-use crate::trial::{Stopped, Trial, say, say_line};
+use crate::output::write_values;
+use crate::trial::{SetupFailed, Trial, counted, write_line, write_words};
 use datasketches::countmin::{CountMinValue, Error, UnsignedCountMinValue};
 use std::fmt::Write;
 
@@ -37,15 +37,15 @@ fn checked<V: CountMinValue>() -> [Option<i128>; 6] {
 }
 
 /// Numbers on a line of their own, with `none` for one that the type does not have.
-fn tell_checked(trial: &mut Trial, numbers: &[Option<i128>]) {
-    say!(trial, "checked");
+fn write_checked(trial: &mut Trial, numbers: &[Option<i128>]) {
+    write_words!(trial, "checked");
     for number in numbers {
         match number {
-            Some(number) => say!(trial, " {number}"),
-            None => say!(trial, " none"),
+            Some(number) => write_words!(trial, " {number}"),
+            None => write_words!(trial, " none"),
         }
     }
-    say_line!(trial);
+    write_line!(trial);
 }
 
 /// The number of a value that was read.
@@ -63,47 +63,47 @@ fn read<V: CountMinValue>() -> [Result<i128, Error>; 3] {
 }
 
 /// Numbers that were read on a line of their own, or why they were not.
-fn tell_read(trial: &mut Trial, answers: &[Result<i128, Error>]) {
-    say!(trial, "read");
+fn write_read(trial: &mut Trial, answers: &[Result<i128, Error>]) {
+    write_words!(trial, "read");
     for answer in answers {
         match answer {
-            Ok(number) => say!(trial, " {number}"),
-            Err(e) => say!(trial, " {}", e.fault().name()),
+            Ok(number) => write_words!(trial, " {number}"),
+            Err(e) => write_words!(trial, " {}", e.fault().name()),
         }
     }
-    say_line!(trial);
+    write_line!(trial);
+}
+
+/// A factor of 1, the least number there and back, whether numbers are ordered, and how many bytes they take.
+fn others<V: CountMinValue>() -> [i128; 4] {
+    [
+        V::ONE.scale_nonnegative(1, 1).to_number(),
+        V::from_number_in_range(V::MIN.to_number()).to_number(),
+        (V::MIN < V::MAX) as i128,
+        V::SIZE as i128,
+    ]
 }
 
 /// All calls on the values of a type.
 fn values<V: CountMinValue>(trial: &mut Trial) {
-    trial.begin();
-    let numbers = own_numbers::<V>();
-    let checked = checked::<V>();
-    let scaled = V::ONE.scale_nonnegative(1, 1).to_number();
-    let back = V::from_number_in_range(V::MIN.to_number()).to_number();
-    let ordered = V::MIN < V::MAX;
-    let read = read::<V>();
-    trial.end();
-    tell_values(trial, "numbers", &numbers);
-    tell_checked(trial, &checked);
-    say_line!(
-        trial,
-        "scaled {scaled} back {back} ordered {ordered} size {}",
-        V::SIZE
-    );
-    tell_read(trial, &read);
+    let numbers = counted!(trial, own_numbers::<V>());
+    write_values(trial, "numbers", &numbers);
+    let checked = counted!(trial, checked::<V>());
+    write_checked(trial, &checked);
+    let others = counted!(trial, others::<V>());
+    write_values(trial, "others", &others);
+    let read = counted!(trial, read::<V>());
+    write_read(trial, &read);
 }
 
 /// The same of a type without negative numbers, and a half.
 fn unsigned_values<V: UnsignedCountMinValue>(trial: &mut Trial) {
     values::<V>(trial);
-    trial.begin();
-    let half = V::MAX.halve().to_number();
-    trial.end();
-    say_line!(trial, "half {half}");
+    let half = counted!(trial, V::MAX.halve().to_number());
+    write_line!(trial, "half {half}");
 }
 
-pub fn signed(trial: &mut Trial) -> Result<(), Stopped> {
+pub fn signed(trial: &mut Trial) -> Result<(), SetupFailed> {
     values::<i8>(trial);
     values::<i16>(trial);
     values::<i32>(trial);
@@ -111,7 +111,7 @@ pub fn signed(trial: &mut Trial) -> Result<(), Stopped> {
     Ok(())
 }
 
-pub fn unsigned(trial: &mut Trial) -> Result<(), Stopped> {
+pub fn unsigned(trial: &mut Trial) -> Result<(), SetupFailed> {
     unsigned_values::<u8>(trial);
     unsigned_values::<u16>(trial);
     unsigned_values::<u32>(trial);
