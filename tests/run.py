@@ -278,9 +278,9 @@ class Tests:
                 self.check(f"{where} all is as before", lines[end + 1 :] == before or end == len(lines), lines)
                 n += 1
 
-    def quiet_calls(self):
+    def allocation_free_calls(self):
         """They ask for no memory."""
-        for name, wanted in trials.QUIET.items():
+        for name, wanted in trials.ALLOCATION_FREE.items():
             lines, numbers = self.play([name], 0)
             self.check(f"trial {name}", (lines, numbers[0]) == (wanted, 0), (lines, numbers))
 
@@ -386,7 +386,7 @@ def main():
         run = tests.list_of_calls("session")
         windows = tests.list_of_calls("windows")
         tests.each_call()
-        tests.quiet_calls()
+        tests.allocation_free_calls()
         tests.counted_calls()
         tests.hard_items_and_ranges()
         tests.streams_that_fail()

@@ -1,4 +1,4 @@
-"""What the trials of `crates/sketch_trials` have to write. Each value was found by hand from what the calls promise."""
+"""What the trials of `crates/memory_trials` have to write. Each value was found by hand from what the calls promise."""
 
 SIX = "frequent 6 0 6 6 64 1/1/1 1/1/1 1/1/1 0/0/0"
 SEVENTH = "frequent 7 0 7 12 64 1/1/1 1/1/1 1/1/1 1/1/1"
@@ -27,7 +27,7 @@ CALLS = {
     "table_new": ["call", "accepted"],
     "table_add_ref": [TABLE, "call", "accepted", "after", "table 7 8 3 3 3 4"],
     "table_resize": [TABLE, "call", "accepted", "after", "table 6 32 3 3 3 0"],
-    "table_double": ["table 6 8 3 0", "call", "accepted", "after", "table 6 16 3 0"],
+    "table_double": [TABLE, "call", "accepted", "after", "table 6 16 3 3 3 0"],
     "table_clone": [TABLE, "call", TABLE, "after", TABLE],
     "table_entries": [TABLE, "call", "entries 6", "after", TABLE],
     "filter_new": ["call", "accepted"],
@@ -58,7 +58,7 @@ def values(bits, signed):
     return [
         f"numbers 0 1 {least} {greatest}",
         f"checked {greatest} none {greatest} {'none' if signed else 0} 2 none",
-        f"scaled 1 back {least} ordered true size {bits // 8}",
+        f"others 1 {least} 1 {bits // 8}",
         f"read {least} {wide} {ones}",
     ] + ([] if signed else [f"half {greatest // 2}"])
 
@@ -67,26 +67,27 @@ SPAM = 0xFBCEA83C8A378BF1
 FOX = 0xE34BBC7BBC071B6C ^ 0x7A433CA9C49A9347
 OVERFLOW = "refused argument WeightOverflow"
 
+OTHERS = ["InsufficientData", "InsufficientData", "SeedHashMismatch", "InsufficientData"]
 QUESTIONS = ["numbers 3 8 3 6 224", "counts 3 0 5 0"]
-WALK = ["start 3 0", "sum 10 end 0 left 0 true"]
+WALK = ["walk 3 0 10 0 0", "looked true"]
 
 # Calls that take no memory. Hashes, positions and buckets are published, or those of a program in another language,
 # written from the public descriptions.
-QUIET = {
-    "quiet_hashes": [
+ALLOCATION_FREE = {
+    "allocation-free_hashes": [
         f"texts {SPAM} {SPAM} {0x44BC2CF5AD770999} {FOX} {FOX} {0xCB57126DD8878D21}",
         f"items {0x3A92A5C0E5AA0E19} {0xF9870733D517E9C1} {0xB1214042AB4DFAD7}",
     ],
-    "quiet_seeds": [f"seed {0x93CC}", "faults ZeroSeedHash SeedHashMismatch none"],
-    "quiet_refusals": [
+    "allocation-free_seeds": [f"seed {0x93CC}", "faults none ZeroSeedHash SeedHashMismatch none"],
+    "allocation-free_refusals": [
         "refusal memory NoMemory out of memory",
         "refusal argument Mismatch shapes or seeds differ",
         "refusal data BadFamily wrong family",
         "families none none BadFamily",
     ],
     # lengths of 8, 8 and 4 + 2; 7, 252 and seven of 255, 2, and 97 + 98
-    "quiet_items": ["sizes 8 8 6", "writes" + 3 * " none", "bytes 22 2241"],
-    "quiet_texts": [
+    "allocation-free_items": ["sizes 8 8 6", "writes" + 3 * " none", "bytes 22 2241"],
+    "allocation-free_texts": [
         "wrong family",
         "Error { kind: InvalidData, fault: BadFamily }",
         "Error {",
@@ -96,84 +97,97 @@ QUIET = {
         "true true",
     ],
     # 97 + 98, 5, 2 + 1, 3, the bytes of -2, which are 254 and three of 255, 7, and those of -4: 252 and seven of 255
-    "quiet_writes": ["writes" + 7 * " none", "bytes 29 3269"],
-    "quiet_reads": ["numbers 5 258 3 -2 7 -4", "97 98 left 2"],
-    "quiet_short_reads": ["reads" + 7 * " InsufficientData", "InsufficientData left 3"],
+    "allocation-free_writes": ["writes" + 7 * " none", "bytes 29 3269"],
+    "allocation-free_reads": ["numbers 5 258 3 -2 7 -4", "bytes 97 98", "left 2"],
+    "allocation-free_short_reads": ["reads" + 7 * " InsufficientData", "InsufficientData left 3"],
     # the greatest number of 64 bits ends in 615
-    "quiet_fields": ["fields 258 3 -2 7", "615 by 1000", "faults none InsufficientData none BadVersion"],
-    "quiet_signed_values": [line for bits in (8, 16, 32, 64) for line in values(bits, True)],
-    "quiet_unsigned_values": [line for bits in (8, 16, 32, 64) for line in values(bits, False)],
+    "allocation-free_fields": ["fields 258 3 -2 7", "remainder 1000 615", "faults none InsufficientData none BadVersion"],
+    "allocation-free_signed_values": [line for bits in (8, 16, 32, 64) for line in values(bits, True)],
+    "allocation-free_unsigned_values": [line for bits in (8, 16, 32, 64) for line in values(bits, False)],
     # the seventh item is one counter too many, and all counts are 1
-    "quiet_updates": ["accepted 7", "frequent 0 1 7 6 8 0/0/1 0/0/1"],
-    "quiet_updates_of_tracked": ["frequent 6 0 7 6 64 2/2/2 0/0/0"],
-    "quiet_updates_by_reference": ["faults" + 4 * " none", "frequent 1 0 4 6 8 4/4/4"],
+    "allocation-free_updates": ["updates" + 7 * " none", "frequent 0 1 7 6 8 0/0/1 0/0/1"],
+    "allocation-free_updates_of_tracked": ["updates none", "frequent 6 0 7 6 64 2/2/2 0/0/0"],
+    "allocation-free_updates_by_reference": ["updates" + 4 * " none", "frequent 1 0 4 6 8 4/4/4"],
     # again all counts are 1
-    "quiet_purges": ["frequent 0 1 1537 1536 2048 0/0/1 0/0/1"],
+    "allocation-free_purges": ["frequent 0 1 1537 1536 2048 0/0/1 0/0/1"],
     # 2048 slots of 28 bytes; 1 and 2 more for one of 1536 items
-    "quiet_full": [
-        "numbers 1536 1536 0 1536 1536 2048 11 11 1024 57344",
+    "allocation-free_full": [
+        "numbers 1536 1536 0 1536 1536 2048 11 11 1024 57344 0",
         "tracked 1 1 1",
         "absent 0 0 0",
-        "false",
-        "faults none none",
+        "updates none none",
         "frequent 1536 0 1539 1536 2048 4/4/4 0/0/0",
         "frequent 0 0 0 6 2048 0/0/0 0/0/0",
     ],
-    "quiet_merges": ["frequent 1 0 1 6 8 1/1/1", "frequent 0 0 0 6 8 0/0/0"],
-    "quiet_frequent_refusals": [
-        "faults" + 5 * " WeightOverflow",
+    "allocation-free_merges": ["merge none", "frequent 1 0 1 6 8 1/1/1", "frequent 0 0 0 6 8 0/0/0"],
+    "allocation-free_frequent_refusals": [
+        "merge WeightOverflow",
+        "updates" + 4 * " WeightOverflow",
         "frequent 1 0 18446744073709551615 6 8"
         " 18446744073709551615/18446744073709551615/18446744073709551615 0/0/0",
     ],
     # 1 to 7 are 28, an `Option<i64>` takes 16 bytes, and 16 slots 28 bytes each
-    "quiet_frequent_questions": ["numbers 7 28 0 48 12 64 6 4 48 448", "tracked 3 3 3", "absent 0 0 0", "false"],
-    "quiet_bounds": ["tracked 5 6 6", "absent 0 0 1"],
-    "quiet_rows": ["row 2 2 2 1", "row 1 1 1 2", "equal false true"],
-    "quiet_filters": [
-        "true true true false false",
+    "allocation-free_frequent_questions": ["numbers 7 28 0 48 12 64 6 4 48 448 0", "tracked 3 3 3", "absent 0 0 0"],
+    "allocation-free_bounds": ["bounds 5 6 6", "bounds 0 0 1"],
+    "allocation-free_rows": ["row 2 2 2 1", "equal false", "row 1 1 1 2", "equal true"],
+    "allocation-free_filters": [
+        "found false",
+        "combined none none none",
         "filter 3 256 3 9001 2",
         "filter 0 256 3 9001",
+        "equal false",
         "filter 0 256 3 9001",
     ],
     # the positions of 5 are 103, 108 and 113, and those of 6 are 121, 39 and 213
-    "quiet_filter_questions": [
+    "allocation-free_filter_questions": [
         "numbers 3 256 3 7 32",
-        "contained true false",
-        "empty false true",
-        "compatible false true",
-        "equal false true",
+        "contains true false false",
+        "compared true true",
+        "numbers 0 256 3 7 32",
+        "contains false false true",
+        "compared false false",
     ],
-    "quiet_filter_refusals": ["faults" + 3 * " Mismatch", "filter 3 256 3 9001 2"],
-    "quiet_counts": ["faults" + 4 * " none", "false", "counts 11 3 64 9001 0 4 7 0", "counts 2 3 64 9001 0 2 0 0"],
+    "allocation-free_filter_refusals": [
+        "combined" + 3 * " Mismatch",
+        "filter 3 256 3 9001 2",
+        "filter 2 256 2 9001 2",
+        "equal false",
+    ],
+    "allocation-free_counts": ["faults" + 4 * " none", "counts 11 3 64 9001 0 4 7 0", "counts 2 3 64 9001 0 2 0 0"],
     # 1, 2 and 4 have buckets of their own in the first row, and the margin is e times 100 / 64
-    "quiet_count_questions": ["numbers 100 3 64 9001 1560", "counted 60 60 64", "absent 0 0 4", "false"],
-    "quiet_equal_counts": ["equal false true", "true"],
-    "quiet_count_refusals": ["faults WeightOverflow WeightOverflow WeightOverflow Mismatch", "255"],
-    "quiet_signed_refusals": ["WeightOverflow 0"],
+    "allocation-free_count_questions": ["numbers 100 3 64 9001 1560 0", "bounds 60 60 64", "bounds 0 0 4"],
+    "allocation-free_equal_counts": ["compared true false", "compared false true"],
+    "allocation-free_count_refusals": 2 * ["update WeightOverflow"] + ["merge WeightOverflow", "merge Mismatch", "255"],
+    "allocation-free_signed_refusals": ["update WeightOverflow", "0"],
     # four words, 3 x 64 cells and 3 seeds of 8 bytes, and 8 slots of 28
-    "quiet_images": ["large" + 4 * " TableTooLarge", "seed SeedHashMismatch", "none" + 3 * " InsufficientData"],
+    "allocation-free_images": [f"faults TableTooLarge {other}" for other in OTHERS],
     # the middle one of 0, 3, 3, 3 and 7 is 3
-    "quiet_table_changes": ["table 5 8 7 3 0", "purged 3", "table 1 8 4 0 0"],
+    "allocation-free_table_changes": ["table 5 8 7 3 0", "purged 3", "table 1 8 4 0 0"],
     # 8 slots of 28 bytes
-    "quiet_table_questions": QUESTIONS,
+    "allocation-free_table_questions": QUESTIONS,
     # what is absent is told from three entries of one home by a fourth slot
-    "quiet_table_looks": ["0 looked 4"],
-    "quiet_table_walk": WALK,
-    "quiet_hostile_text": ["refused data InsufficientData"],
-    "quiet_new_session": ["refused NoSuchName"],
+    "allocation-free_table_looks": ["0 looked 4"],
+    "allocation-free_table_walk": WALK,
+    "allocation-free_hostile_text": ["refused data InsufficientData"],
+    "allocation-free_new_session": ["refused NoSuchName"],
     # 1, 9 and 3 are 13, of which a half is 6, and of that 3; the margin of -9 is e times 9 / 16
-    "quiet_session": 17 * ["done"]
+    "allocation-free_session": 17 * ["done"]
     + ["bounds 9 9 9", "bounds 3 3 3", "bounds -9 -9 -8", "contains true", "contains false"]
-    + ["frequent 2 0 11 8 8 6", "countu 3 2 16 9001", "counti 9 2 16 9001", "bloom 0 128 2 9001"],
-    "quiet_session_refusals": 18 * ["refused NoSuchName"]
+    + [
+        "Frequent { active: 2, error: 0, total: 11, size: 8, max: 8, capacity: 6 }",
+        "CountU64 { total: 3, hashes: 2, buckets: 16, seed: 9001 }",
+        "CountI64 { total: 9, hashes: 2, buckets: 16, seed: 9001 }",
+        "Bloom { bits: 0, capacity: 128, hashes: 2, seed: 9001 }",
+    ],
+    "allocation-free_session_refusals": 18 * ["refused NoSuchName"]
     + 12 * ["refused WrongKind"]
     + 6 * ["refused NameTaken"]
     + 2 * ["refused SameName"]
     + 5 * ["refused argument Mismatch"]
     + 2 * ["refused BadFraction"]
     + 3 * [OVERFLOW],
-    "quiet_windows": ["new BadWindows", "faults none none none WeightOverflow none", "report 10 0 a=8 b=2"],
-    "quiet_full_windows": ["faults none WeightOverflow"],
+    "allocation-free_windows": ["refused argument BadWindows"] + 3 * ["accepted"] + [OVERFLOW, "accepted", "report 10 0 a=8 b=2"],
+    "allocation-free_full_windows": ["accepted", OVERFLOW],
 }
 
 # Calls whose requests for memory are counted, and the blocks that they give back: how many of both, and what is said.
@@ -186,11 +200,11 @@ COUNTED = {
     "bytes_write_text": (1, 0, CALLS["bytes_write_text"]),
     "frequent_update": (1, 1, CALLS["frequent_update"]),
     "frequent_serialize": (1, 0, CALLS["frequent_serialize"]),
-    "quiet_full": (0, 0, QUIET["quiet_full"]),
-    "asks_fills": (8, 8, FULL),
-    "asks_refills": (8, 8, FULL),
+    "allocation-free_full": (0, 0, ALLOCATION_FREE["allocation-free_full"]),
+    "counted_fills": (8, 8, FULL),
+    "counted_refills": (8, 8, FULL),
     # the table alone
-    "asks_hostile_image": (1, 1, ["refused data InsufficientData"]),
+    "counted_hostile_image": (1, 1, ["refused data InsufficientData"]),
 }
 
 # The sizes of a new sketch of 16 slots, an `Option` of whose items takes 16 bytes, and with seven items. An image says
@@ -227,10 +241,10 @@ ENTRIES = ["table 6 8 13 6 2 3 3 2", "purged 2", "table 2 8 2 2 0 1 1 0", "table
 
 # Items that are hard to hash, to clone, to write or to tell apart, and weights at the ends of their types.
 ITEMS = {
-    "mute_sketch": SKETCH,
-    "mute_clones": CLONES,
-    "mute_marked": MARKED,
-    "mute_table": ENTRIES,
+    "feeds-nothing_sketch": SKETCH,
+    "feeds-nothing_clones": CLONES,
+    "feeds-nothing_marked": MARKED,
+    "feeds-nothing_table": ENTRIES,
     "unclonable_sketch": SKETCH,
     "unclonable_clones": [REFUSED, WITHOUT_MARKED] * 2,
     "unclonable_marked": ["accepted", REFUSED, REFUSED, "accepted", MARKED_ALONE],
@@ -276,7 +290,7 @@ ITEMS = {
     ],
     "thousands": ["bytes 49184", "frequent 3072 0 3072 3072 4096 0/0/0 1/1/1 1/1/1 0/0/0", "rows 3072"],
 }
-for item in ["mute", "unclonable", "unwritable", "letter"]:
+for item in ["feeds-nothing", "unclonable", "unwritable", "letter"]:
     ITEMS[f"{item}_sizes"] = SMALL
     ITEMS[f"{item}_rows"] = HEAVY
     ITEMS[f"{item}_questions"] = QUESTIONS

@@ -7,7 +7,7 @@ use sketch_base::{
     Divisor, Error, ErrorKind, Family, Fault, MurmurHash3X64128, SketchBytes, SketchSlice,
     XxHash64, check_seed_hash, compute_seed_hash, murmur3_of, murmur3_of_u64, xxh64_of,
 };
-use std::alloc::Global;
+use std::alloc::{AllocError, Global};
 use std::hash::Hasher;
 use std::test::Fail;
 
@@ -35,83 +35,133 @@ fn murmur3(text: &[u8], seed: u64, at: usize) -> (u64, u64) {
     hasher.finish128()
 }
 
+const XXH64_VECTORS: [(&[u8], u64); 3] = [
+    (b"", 0xEF46_DB37_51D8_E999),
+    (b"abc", 0x44BC_2CF5_AD77_0999),
+    (
+        b"Nobody inspects the spammish repetition",
+        0xFBCE_A83C_8A37_8BF1,
+    ),
+];
+
+const MURMUR3_VECTORS: [(&[u8], (u64, u64)); 2] = [
+    (b"", (0, 0)),
+    (
+        b"The quick brown fox jumps over the lazy dog",
+        (0xE34B_BC7B_BC07_1B6C, 0x7A43_3CA9_C49A_9347),
+    ),
+];
+
 // Fed whole, cut at every place, and byte by byte.
 #[test]
-fn gives_the_published_hashes(rt: HostRuntime) {
-    let vectors: [(&[u8], u64); 3] = [
-        (b"", 0xEF46_DB37_51D8_E999),
-        (b"abc", 0x44BC_2CF5_AD77_0999),
-        (
-            b"Nobody inspects the spammish repetition",
-            0xFBCE_A83C_8A37_8BF1,
-        ),
-    ];
-    for (text, wanted) in vectors {
+fn gives_the_published_xxh64(rt: HostRuntime) {
+    for (text, wanted) in XXH64_VECTORS {
         for at in 0..50 {
             assert!(rt; xxh64(text, 0, at) == wanted);
         }
     }
-    let vectors: [(&[u8], (u64, u64)); 2] = [
-        (b"", (0, 0)),
-        (
-            b"The quick brown fox jumps over the lazy dog",
-            (0xE34B_BC7B_BC07_1B6C, 0x7A43_3CA9_C49A_9347),
-        ),
-    ];
-    for (text, wanted) in vectors {
+}
+
+#[test]
+fn gives_the_published_murmur3(rt: HostRuntime) {
+    for (text, wanted) in MURMUR3_VECTORS {
         for at in 0..50 {
             assert!(rt; murmur3(text, 0, at) == wanted);
         }
     }
 }
 
-#[test]
-fn hashes_items_and_seeds(rt: HostRuntime) -> Result<(), Fail> {
-    let text = String::from_str(rt.alloc(), "abc")?;
-    assert!(rt; xxh64_of(&text, 9001) == 0x078E_021E_CB9F_9EE2);
-    assert!(rt; xxh64_of(&-1i64, 3) == 0x84CD_946D_2475_5F42);
-    assert!(rt; murmur3_of(&text, 9001) == (0xECDD_B6A3_DE68_9B90, 0xF917_2DCC_678B_ED57));
-    assert!(rt; murmur3_of_u64(7, 9001) == (0xF987_0733_D517_E9C1, 0xB121_4042_AB4D_FAD7));
+/// The hashes of a text, of a negative number and of one that is known to be of 64 bits.
+fn hashes_of_items(text: &String) -> [u64; 6] {
+    let (text_low, text_high) = murmur3_of(text, 9001);
+    let (low, high) = murmur3_of_u64(7, 9001);
+    [
+        xxh64_of(text, 9001),
+        xxh64_of(&-1i64, 3),
+        text_low,
+        text_high,
+        low,
+        high,
+    ]
+}
+
+/// The hash of a text by a clone of the hasher that was fed it.
+fn hash_of_clone(text: &[u8]) -> Result<u64, AllocError> {
     let mut hasher = MurmurHash3X64128::default();
-    hasher.write(b"abc");
-    assert!(rt; hasher.clone()?.finish() == 0xCB57_126D_D887_8D21);
-    // The second is the least seed whose hash is 0.
+    hasher.write(text);
+    Ok(hasher.clone()?.finish())
+}
+
+#[test]
+fn hashes_items(rt: HostRuntime) -> Result<(), Fail> {
+    let text = String::from_str(rt.alloc(), "abc")?;
+    let wanted = [
+        0x078E_021E_CB9F_9EE2,
+        0x84CD_946D_2475_5F42,
+        0xECDD_B6A3_DE68_9B90,
+        0xF917_2DCC_678B_ED57,
+        0xF987_0733_D517_E9C1,
+        0xB121_4042_AB4D_FAD7,
+    ];
+    assert!(rt; hashes_of_items(&text) == wanted);
+    assert!(rt; hash_of_clone(b"abc")? == 0xCB57_126D_D887_8D21);
+    Ok(())
+}
+
+// The second is the least seed whose hash is 0.
+#[test]
+fn hashes_seeds(rt: HostRuntime) {
     assert!(rt; compute_seed_hash(9001, ErrorKind::InvalidArgument) == Ok(0x93CC));
     let zero = Error::new(ErrorKind::InvalidData, Fault::ZeroSeedHash);
     assert!(rt; compute_seed_hash(50541, ErrorKind::InvalidData) == Err(zero));
     let differ = Error::new(ErrorKind::InvalidData, Fault::SeedHashMismatch);
-    assert!(rt; check_seed_hash(1, 2, ErrorKind::InvalidData) == Err(differ));
-    assert!(rt; check_seed_hash(2, 2, ErrorKind::InvalidData) == Ok(()));
-    Ok(())
-}
-
-#[test]
-fn names_families_and_faults(rt: HostRuntime) -> Result<(), Fail> {
-    let other = Error::invalid_data(Fault::BadFamily);
-    assert!(rt; Family::BLOOMFILTER.validate_id(18) == Err(other));
-    for (family, id) in [
-        (Family::BLOOMFILTER, 21),
-        (Family::COUNTMIN, 18),
-        (Family::FREQUENCY, 10),
-    ] {
-        assert!(rt; family.validate_id(id) == Ok(()));
+    for (stated, wanted) in [(1, Err(differ)), (2, Ok(()))] {
+        assert!(rt; check_seed_hash(stated, 2, ErrorKind::InvalidData) == wanted);
     }
-    let error = Error::invalid_argument(Fault::MapSizeTooSmall);
-    assert!(rt; error.kind() == ErrorKind::InvalidArgument);
-    assert!(rt; error.fault().name() == "MapSizeTooSmall");
-    assert!(rt; format!(in rt.alloc(); "{error}")?.as_str() == "map size below 8");
-    Ok(())
 }
 
 #[test]
-fn stays_at_a_short_read(rt: HostRuntime) -> Result<(), Fail> {
-    let mut slice = SketchSlice::new(&[1, 2, 3]);
-    assert!(rt; slice.read_u16_le() == Ok(513));
-    let short = Error::invalid_data(Fault::InsufficientData);
-    assert!(rt; slice.read_u32_le() == Err(short));
-    assert!(rt; slice.remaining() == [3].as_slice());
-    assert!(rt; slice.read_u8() == Ok(3));
+fn names_families(rt: HostRuntime) {
+    let other = Err(Error::invalid_data(Fault::BadFamily));
+    for (family, id, wanted) in [
+        (Family::BLOOMFILTER, 18, other),
+        (Family::BLOOMFILTER, 21, Ok(())),
+        (Family::COUNTMIN, 18, Ok(())),
+        (Family::FREQUENCY, 10, Ok(())),
+    ] {
+        assert!(rt; family.validate_id(id) == wanted);
+    }
+}
+
+#[test]
+fn names_faults(rt: HostRuntime) -> Result<(), Fail> {
+    let error = Error::invalid_argument(Fault::MapSizeTooSmall);
+    let text = format!(in rt.alloc(); "{} {error}", error.fault().name())?;
+    assert!(rt; text.as_str() == "MapSizeTooSmall map size below 8");
+    assert!(rt; error.kind() == ErrorKind::InvalidArgument);
     Ok(())
+}
+
+/// Three reads of three bytes, of which the second is refused, and what was left behind it.
+fn read_short(
+    bytes: &[u8],
+) -> (
+    Result<u16, Error>,
+    Result<u32, Error>,
+    usize,
+    Result<u8, Error>,
+) {
+    let mut slice = SketchSlice::new(bytes);
+    let first = slice.read_u16_le();
+    let second = slice.read_u32_le();
+    let left = slice.remaining().len();
+    (first, second, left, slice.read_u8())
+}
+
+#[test]
+fn stays_at_a_short_read(rt: HostRuntime) {
+    let short = Err(Error::invalid_data(Fault::InsufficientData));
+    assert!(rt; read_short(&[1, 2, 3]) == (Ok(513), short, 1, Ok(3)));
 }
 
 /// A byte, and one number of each width.
@@ -212,39 +262,57 @@ fn misses_of_generated(d: u64, x: &mut u64) -> u64
     missed
 }
 
+/// Numbers of which the first is 0, and the last 2^32.
+const NUMBERS: [u64; 7] = [
+    0,
+    1,
+    u64::MAX,
+    u64::MAX - 1,
+    1 << 63,
+    4294967295,
+    4294967296,
+];
+
+/// Their remainders by each divisor.
+const REMAINDERS: [(u64, [u64; 7]); 8] = [
+    (3, [0, 1, 0, 2, 2, 0, 1]),
+    (5, [0, 1, 0, 4, 3, 0, 1]),
+    (7, [0, 1, 1, 0, 1, 3, 4]),
+    (1000, [0, 1, 615, 614, 808, 295, 296]),
+    (20000, [0, 1, 11615, 11614, 15808, 7295, 7296]),
+    (65537, [0, 1, 0, 65536, 32769, 0, 1]),
+    (4294967294, [0, 1, 3, 2, 2, 1, 2]),
+    (4294967295, [0, 1, 0, 4294967294, 2147483648, 0, 1]),
+];
+
 #[test]
 fn gives_the_known_remainders(rt: HostRuntime) {
-    let most = 1u64 << 63;
-    let numbers = [0, 1, u64::MAX, u64::MAX - 1, most, 4294967295, 4294967296];
-    let rows = [
-        (3, [0, 1, 0, 2, 2, 0, 1]),
-        (5, [0, 1, 0, 4, 3, 0, 1]),
-        (7, [0, 1, 1, 0, 1, 3, 4]),
-        (1000, [0, 1, 615, 614, 808, 295, 296]),
-        (20000, [0, 1, 11615, 11614, 15808, 7295, 7296]),
-        (65537, [0, 1, 0, 65536, 32769, 0, 1]),
-        (4294967294, [0, 1, 3, 2, 2, 1, 2]),
-        (4294967295, [0, 1, 0, 4294967294, 2147483648, 0, 1]),
-    ];
     let mut x = 0x9E37_79B9_7F4A_7C15;
-    for (d, wanted) in rows {
+    for (d, wanted) in REMAINDERS {
         assert!(rt; 1 < d);
         let divisor = Divisor::new(d);
-        assert!(rt; numbers.map(|a| divisor.rem(a)) == wanted);
+        assert!(rt; NUMBERS.map(|a| divisor.rem(a)) == wanted);
         assert!(rt; misses_of_generated(d, &mut x) == 0);
     }
-    for d in [
-        64,
-        128,
-        960,
-        1 << 37,
-        (1 << 37) - 64,
-        most - 1,
-        most,
-        u64::MAX,
-    ] {
+}
+
+/// Divisors near powers of two.
+const DIVISORS: [u64; 8] = [
+    64,
+    128,
+    960,
+    1 << 37,
+    (1 << 37) - 64,
+    (1 << 63) - 1,
+    1 << 63,
+    u64::MAX,
+];
+
+#[test]
+fn gives_the_remainders_of_division(rt: HostRuntime) {
+    for d in DIVISORS {
         assert!(rt; 1 < d);
-        assert!(rt; misses(d, &numbers) == 0);
+        assert!(rt; misses(d, &NUMBERS) == 0);
     }
     for k in 0..4295u64 {
         let d = 3 + 1_000_003 * k;

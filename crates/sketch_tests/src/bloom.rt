@@ -1,4 +1,5 @@
 //! Worked rows, vectors from outside, printed texts, and that each call succeeds.
+use crate::alter::altered;
 use sketch_bloom::{BloomFilter, BloomFilterBuilder, Error, Fault, laws};
 use std::alloc::Global;
 use std::test::Fail;
@@ -163,21 +164,22 @@ fn sizes_of_words(alloc: Global, num_words: u8) -> Result<[u64; 5], Error> {
     sizes(&left, &filled(alloc, 64 * words, 3, 4 * words, 10 * words)?)
 }
 
-// The sizes are those of the same program.
+/// The sizes of filters of so many words: those of the same program.
+const SIZES: [(u8, [u64; 5]); 9] = [
+    (1, [17, 16, 26, 7, 10]),
+    (3, [48, 46, 70, 24, 24]),
+    (4, [64, 55, 92, 27, 37]),
+    (5, [77, 82, 120, 39, 38]),
+    (8, [124, 127, 192, 59, 65]),
+    (9, [131, 139, 206, 64, 67]),
+    (10, [158, 163, 249, 72, 86]),
+    (12, [185, 197, 294, 88, 97]),
+    (13, [206, 207, 318, 95, 111]),
+];
+
 #[test]
 fn combines_sets(rt: HostRuntime) -> Result<(), Fail> {
-    let rows = [
-        (1, [17, 16, 26, 7, 10]),
-        (3, [48, 46, 70, 24, 24]),
-        (4, [64, 55, 92, 27, 37]),
-        (5, [77, 82, 120, 39, 38]),
-        (8, [124, 127, 192, 59, 65]),
-        (9, [131, 139, 206, 64, 67]),
-        (10, [158, 163, 249, 72, 86]),
-        (12, [185, 197, 294, 88, 97]),
-        (13, [206, 207, 318, 95, 111]),
-    ];
-    for (num_words, wanted) in rows {
+    for (num_words, wanted) in SIZES {
         assert!(rt;
             sizes_of_words(rt.alloc(), num_words)? == wanted,
             "{num_words}"
@@ -240,51 +242,47 @@ fn bits_of(alloc: Global, image: &[u8]) -> Result<u64, Error> {
     }
 }
 
-/// The same of the image of two bits with four bytes of it, or eight, altered.
+/// The same of the image of two bits with some bytes of it altered.
 fn bits_of_altered(alloc: Global, place: u8, bytes: &[u8]) -> Result<u64, Fault> {
-    let mut image = TWO_BITS;
-    for (i, byte) in bytes.iter().enumerate() {
-        if let Some(old) = image.get_mut(place as usize + i) {
-            *old = *byte;
-        }
-    }
-    bits_of(alloc, &image).map_err(|e| e.fault())
+    bits_of(alloc, &altered(TWO_BITS, place, bytes)).map_err(|e| e.fault())
 }
+
+/// Eight bytes of the image of two bits, and how many bits it then has.
+const ALTERED: [(u8, [u8; 8], Result<u64, Fault>); 21] = [
+    (0, [4, 1, 21, 0, 1, 0, 0, 0], Ok(2)),
+    (0, [2, 1, 21, 0, 1, 0, 0, 0], Err(Fault::BadPreamble)),
+    (0, [5, 1, 21, 0, 1, 0, 0, 0], Err(Fault::BadPreamble)),
+    (0, [3, 1, 21, 0, 1, 0, 0, 0], Ok(2)),
+    (0, [4, 1, 21, 1, 1, 0, 0, 0], Ok(2)),
+    (0, [4, 2, 21, 0, 1, 0, 0, 0], Err(Fault::BadVersion)),
+    (0, [4, 1, 18, 0, 1, 0, 0, 0], Err(Fault::BadFamily)),
+    (0, [4, 2, 18, 0, 0, 0, 0, 0], Err(Fault::BadFamily)),
+    (0, [4, 1, 21, 4, 1, 0, 0, 0], Ok(0)),
+    (0, [4, 1, 21, 0, 0, 0, 0, 0], Err(Fault::BadNumHashes)),
+    (0, [4, 1, 21, 0, 0, 128, 0, 0], Err(Fault::BadNumHashes)),
+    (0, [4, 1, 21, 0, 255, 127, 0, 0], Ok(2)),
+    (16, [0, 0, 0, 0, 0, 0, 0, 0], Err(Fault::BadNumWords)),
+    (
+        16,
+        [255, 255, 255, 255, 0, 0, 0, 0],
+        Err(Fault::BadNumWords),
+    ),
+    (16, [0, 0, 0, 128, 0, 0, 0, 0], Err(Fault::BadNumWords)),
+    (16, [2, 0, 0, 0, 0, 0, 0, 0], Err(Fault::InsufficientData)),
+    (
+        16,
+        [255, 255, 255, 127, 0, 0, 0, 0],
+        Err(Fault::InsufficientData),
+    ),
+    (24, [255; 8], Ok(2)),
+    (24, [3, 0, 0, 0, 0, 0, 0, 0], Err(Fault::BadBitCount)),
+    (24, [10, 0, 0, 0, 0, 0, 0, 0], Err(Fault::BadBitCount)),
+    (32, [7, 0, 0, 0, 0, 0, 0, 0], Err(Fault::BadBitCount)),
+];
 
 #[test]
 fn reads_altered_images(rt: HostRuntime) {
-    let rows: [(u8, [u8; 8], Result<u64, Fault>); 21] = [
-        (0, [4, 1, 21, 0, 1, 0, 0, 0], Ok(2)),
-        (0, [2, 1, 21, 0, 1, 0, 0, 0], Err(Fault::BadPreamble)),
-        (0, [5, 1, 21, 0, 1, 0, 0, 0], Err(Fault::BadPreamble)),
-        (0, [3, 1, 21, 0, 1, 0, 0, 0], Ok(2)),
-        (0, [4, 1, 21, 1, 1, 0, 0, 0], Ok(2)),
-        (0, [4, 2, 21, 0, 1, 0, 0, 0], Err(Fault::BadVersion)),
-        (0, [4, 1, 18, 0, 1, 0, 0, 0], Err(Fault::BadFamily)),
-        (0, [4, 2, 18, 0, 0, 0, 0, 0], Err(Fault::BadFamily)),
-        (0, [4, 1, 21, 4, 1, 0, 0, 0], Ok(0)),
-        (0, [4, 1, 21, 0, 0, 0, 0, 0], Err(Fault::BadNumHashes)),
-        (0, [4, 1, 21, 0, 0, 128, 0, 0], Err(Fault::BadNumHashes)),
-        (0, [4, 1, 21, 0, 255, 127, 0, 0], Ok(2)),
-        (16, [0, 0, 0, 0, 0, 0, 0, 0], Err(Fault::BadNumWords)),
-        (
-            16,
-            [255, 255, 255, 255, 0, 0, 0, 0],
-            Err(Fault::BadNumWords),
-        ),
-        (16, [0, 0, 0, 128, 0, 0, 0, 0], Err(Fault::BadNumWords)),
-        (16, [2, 0, 0, 0, 0, 0, 0, 0], Err(Fault::InsufficientData)),
-        (
-            16,
-            [255, 255, 255, 127, 0, 0, 0, 0],
-            Err(Fault::InsufficientData),
-        ),
-        (24, [255; 8], Ok(2)),
-        (24, [3, 0, 0, 0, 0, 0, 0, 0], Err(Fault::BadBitCount)),
-        (24, [10, 0, 0, 0, 0, 0, 0, 0], Err(Fault::BadBitCount)),
-        (32, [7, 0, 0, 0, 0, 0, 0, 0], Err(Fault::BadBitCount)),
-    ];
-    for (place, bytes, wanted) in rows {
+    for (place, bytes, wanted) in ALTERED {
         assert!(rt; bits_of_altered(rt.alloc(), place, &bytes) == wanted);
     }
 }

@@ -1,75 +1,9 @@
 //! Worked rows, vectors from outside, printed texts, and that each call succeeds.
-use sketch_base::Divisor;
+use crate::alter::altered;
 use sketch_countmin::laws::{merge_as_one_stream, restored, restored_from_bytes, what_images_say};
 use sketch_countmin::{CountMinSketch, CountMinValue, Error, Fault, UnsignedCountMinValue};
 use std::alloc::Global;
 use std::test::Fail;
-
-/// The bucket of a hash.
-fn bucket(hash: u64, num_buckets: u32) -> u64 {
-    if num_buckets < 2 {
-        return 0;
-    }
-    Divisor::new(num_buckets as u64).rem(hash)
-}
-
-#[test]
-fn finds_the_known_buckets(rt: HostRuntime) {
-    let rows = [
-        (3, [0, 1, 0, 2, 2, 0, 1]),
-        (5, [0, 1, 0, 4, 3, 0, 1]),
-        (7, [0, 1, 1, 0, 1, 3, 4]),
-        (1000, [0, 1, 615, 614, 808, 295, 296]),
-        (20000, [0, 1, 11615, 11614, 15808, 7295, 7296]),
-        (65537, [0, 1, 0, 65536, 32769, 0, 1]),
-        (4294967294, [0, 1, 3, 2, 2, 1, 2]),
-        (4294967295, [0, 1, 0, 4294967294, 2147483648, 0, 1]),
-    ];
-    for (num_buckets, wanted) in rows {
-        let found = [
-            bucket(0, num_buckets),
-            bucket(1, num_buckets),
-            bucket(u64::MAX, num_buckets),
-            bucket(u64::MAX - 1, num_buckets),
-            bucket(1 << 63, num_buckets),
-            bucket(4294967295, num_buckets),
-            bucket(4294967296, num_buckets),
-        ];
-        assert!(rt; found == wanted, "{num_buckets}");
-    }
-}
-
-/// The number after one in a row of pseudo-random numbers.
-fn next(x: u64) -> u64 {
-    let a = x ^ x << 13;
-    let b = a ^ a >> 7;
-    b ^ b << 17
-}
-
-/// Whether the buckets of 10000 numbers after one are those that division finds. The last of them takes its place.
-fn finds_what_division_finds(x: &mut u64, num_buckets: u32) -> bool {
-    if num_buckets < 2 {
-        return false;
-    }
-    for _ in 0..10000 {
-        *x = next(*x);
-        if bucket(*x, num_buckets) != *x % num_buckets as u64 {
-            return false;
-        }
-    }
-    true
-}
-
-#[test]
-fn finds_the_buckets_that_division_finds(rt: HostRuntime) {
-    let mut x = 0x9E37_79B9_7F4A_7C15;
-    for num_buckets in [3, 5, 7, 1000, 20000, 65537, 4294967294, 4294967295] {
-        assert!(rt;
-            finds_what_division_finds(&mut x, num_buckets),
-            "{num_buckets}"
-        );
-    }
-}
 
 /// Whether a weight of one item is refused since the total would overflow.
 fn overflows<T: CountMinValue>(sketch: &mut CountMinSketch<T>, weight: T) -> bool {
@@ -343,76 +277,72 @@ fn total_of<T: CountMinValue>(alloc: Global, image: &[u8]) -> Result<T, Error> {
 
 /// The same of the image of three cells with some bytes of it altered.
 fn total_of_altered(alloc: Global, place: u8, bytes: &[u8]) -> Result<i8, Fault> {
-    let mut image = THREE_CELLS;
-    for (i, byte) in bytes.iter().enumerate() {
-        if let Some(old) = image.get_mut(place as usize + i) {
-            *old = *byte;
-        }
-    }
-    total_of(alloc, &image).map_err(|e| e.fault())
+    total_of(alloc, &altered(THREE_CELLS, place, bytes)).map_err(|e| e.fault())
 }
+
+/// Eight bytes of the image of three cells, and the total that it then has.
+const ALTERED: [(u8, [u8; 8], Result<i8, Fault>); 24] = [
+    (0, [2, 1, 18, 0, 7, 7, 7, 7], Ok(5)),
+    (0, [1, 1, 18, 0, 0, 0, 0, 0], Err(Fault::BadPreamble)),
+    (0, [1, 2, 18, 0, 0, 0, 0, 0], Err(Fault::BadVersion)),
+    (0, [1, 2, 21, 0, 0, 0, 0, 0], Err(Fault::BadFamily)),
+    (0, [2, 1, 18, 1, 0, 0, 0, 0], Ok(0)),
+    (0, [2, 1, 18, 2, 0, 0, 0, 0], Ok(5)),
+    (8, [3, 0, 0, 0, 1, 0xcc, 0x93, 7], Ok(5)),
+    (
+        8,
+        [2, 0, 0, 0, 0, 0xcd, 0x93, 0],
+        Err(Fault::SeedHashMismatch),
+    ),
+    (8, [2, 0, 0, 0, 0, 0xcc, 0x93, 0], Err(Fault::BadNumHashes)),
+    (8, [2, 0, 0, 0, 1, 0xcc, 0x93, 0], Err(Fault::BadNumBuckets)),
+    (
+        8,
+        [3, 0, 0, 0, 2, 0xcc, 0x93, 0],
+        Err(Fault::InsufficientData),
+    ),
+    (
+        8,
+        [4, 0, 0, 0, 1, 0xcc, 0x93, 0],
+        Err(Fault::InsufficientData),
+    ),
+    (
+        8,
+        [0, 0, 0, 64, 1, 0xcc, 0x93, 0],
+        Err(Fault::TableTooLarge),
+    ),
+    (
+        8,
+        [255, 255, 255, 63, 1, 0xcc, 0x93, 0],
+        Err(Fault::InsufficientData),
+    ),
+    (16, [128, 0, 0, 0, 0, 0, 0, 0], Err(Fault::ValueOutOfRange)),
+    (16, [255; 8], Err(Fault::NegativeTotal)),
+    (16, [127, 0, 0, 0, 0, 0, 0, 0], Ok(127)),
+    (16, [4, 0, 0, 0, 0, 0, 0, 0], Err(Fault::CellAboveTotal)),
+    (24, [6, 0, 0, 0, 0, 0, 0, 0], Err(Fault::CellAboveTotal)),
+    (24, [128, 0, 0, 0, 0, 0, 0, 0], Err(Fault::ValueOutOfRange)),
+    (32, [5, 0, 0, 0, 0, 0, 0, 0], Ok(5)),
+    (
+        40,
+        [127, 255, 255, 255, 255, 255, 255, 255],
+        Err(Fault::ValueOutOfRange),
+    ),
+    (
+        40,
+        [128, 255, 255, 255, 255, 255, 255, 255],
+        Err(Fault::CellAboveTotal),
+    ),
+    (
+        40,
+        [250, 255, 255, 255, 255, 255, 255, 255],
+        Err(Fault::CellAboveTotal),
+    ),
+];
 
 #[test]
 fn reads_altered_images(rt: HostRuntime) {
-    let rows: [(u8, [u8; 8], Result<i8, Fault>); 24] = [
-        (0, [2, 1, 18, 0, 7, 7, 7, 7], Ok(5)),
-        (0, [1, 1, 18, 0, 0, 0, 0, 0], Err(Fault::BadPreamble)),
-        (0, [1, 2, 18, 0, 0, 0, 0, 0], Err(Fault::BadVersion)),
-        (0, [1, 2, 21, 0, 0, 0, 0, 0], Err(Fault::BadFamily)),
-        (0, [2, 1, 18, 1, 0, 0, 0, 0], Ok(0)),
-        (0, [2, 1, 18, 2, 0, 0, 0, 0], Ok(5)),
-        (8, [3, 0, 0, 0, 1, 0xcc, 0x93, 7], Ok(5)),
-        (
-            8,
-            [2, 0, 0, 0, 0, 0xcd, 0x93, 0],
-            Err(Fault::SeedHashMismatch),
-        ),
-        (8, [2, 0, 0, 0, 0, 0xcc, 0x93, 0], Err(Fault::BadNumHashes)),
-        (8, [2, 0, 0, 0, 1, 0xcc, 0x93, 0], Err(Fault::BadNumBuckets)),
-        (
-            8,
-            [3, 0, 0, 0, 2, 0xcc, 0x93, 0],
-            Err(Fault::InsufficientData),
-        ),
-        (
-            8,
-            [4, 0, 0, 0, 1, 0xcc, 0x93, 0],
-            Err(Fault::InsufficientData),
-        ),
-        (
-            8,
-            [0, 0, 0, 64, 1, 0xcc, 0x93, 0],
-            Err(Fault::TableTooLarge),
-        ),
-        (
-            8,
-            [255, 255, 255, 63, 1, 0xcc, 0x93, 0],
-            Err(Fault::InsufficientData),
-        ),
-        (16, [128, 0, 0, 0, 0, 0, 0, 0], Err(Fault::ValueOutOfRange)),
-        (16, [255; 8], Err(Fault::NegativeTotal)),
-        (16, [127, 0, 0, 0, 0, 0, 0, 0], Ok(127)),
-        (16, [4, 0, 0, 0, 0, 0, 0, 0], Err(Fault::CellAboveTotal)),
-        (24, [6, 0, 0, 0, 0, 0, 0, 0], Err(Fault::CellAboveTotal)),
-        (24, [128, 0, 0, 0, 0, 0, 0, 0], Err(Fault::ValueOutOfRange)),
-        (32, [5, 0, 0, 0, 0, 0, 0, 0], Ok(5)),
-        (
-            40,
-            [127, 255, 255, 255, 255, 255, 255, 255],
-            Err(Fault::ValueOutOfRange),
-        ),
-        (
-            40,
-            [128, 255, 255, 255, 255, 255, 255, 255],
-            Err(Fault::CellAboveTotal),
-        ),
-        (
-            40,
-            [250, 255, 255, 255, 255, 255, 255, 255],
-            Err(Fault::CellAboveTotal),
-        ),
-    ];
-    for (place, bytes, wanted) in rows {
+    for (place, bytes, wanted) in ALTERED {
         assert!(rt; total_of_altered(rt.alloc(), place, &bytes) == wanted);
     }
     let first_of_two = [6, 0, 0, 0, 0, 0, 0, 0, 128, 0, 0, 0, 0, 0, 0, 0];

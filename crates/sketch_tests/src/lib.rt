@@ -5,6 +5,8 @@
 #![tactic(auto)]
 
 #[cfg(test)]
+mod alter;
+#[cfg(test)]
 mod base;
 #[cfg(test)]
 mod bloom;

@@ -43,6 +43,9 @@ enum Said {
     Refused(Refusal),
 }
 
+/// A command and what it is to answer: a name, what is done, a second name where there is one, and the reply.
+type Row = (&'static str, Does, &'static str, Said);
+
 /// The command on one name, or on a first and a second.
 fn command(alloc: Global, name: &str, does: Does, other: &str) -> Result<Command<i64>, Error> {
     let name = String::from_str(alloc, name)?;
@@ -129,7 +132,7 @@ fn summary(reply: &Reply<i64>) -> Said {
 }
 
 /// The commands of some rows.
-fn commands(alloc: Global, rows: &[(&str, Does, &str, Said)]) -> Result<Vec<Command<i64>>, Error> {
+fn commands(alloc: Global, rows: &[Row]) -> Result<Vec<Command<i64>>, Error> {
     let mut commands = Vec::new(alloc);
     for (name, does, other, _) in rows {
         commands.push(command(alloc, name, *does, other)?)?;
@@ -138,7 +141,7 @@ fn commands(alloc: Global, rows: &[(&str, Does, &str, Said)]) -> Result<Vec<Comm
 }
 
 /// The first row that has another reply than it says.
-fn first_other(rows: &[(&str, Does, &str, Said)], replies: &[Reply<i64>]) -> Option<usize> {
+fn first_other(rows: &[Row], replies: &[Reply<i64>]) -> Option<usize> {
     for (place, ((_, _, _, wanted), reply)) in rows.iter().zip(replies).enumerate() {
         if summary(reply) != *wanted {
             return Some(place);
@@ -152,107 +155,115 @@ fn first_other(rows: &[(&str, Does, &str, Said)], replies: &[Reply<i64>]) -> Opt
 }
 
 /// The first row whose command has another reply, in a run of all, than the row says.
-fn first_wrong(alloc: Global, rows: &[(&str, Does, &str, Said)]) -> Result<Option<usize>, Error> {
+fn first_wrong(alloc: Global, rows: &[Row]) -> Result<Option<usize>, Error> {
     let commands = commands(alloc, rows)?;
     let replies = Session::new(alloc).run(commands)?;
     Ok(first_other(rows, &replies))
 }
 
+/// Sketches that are saved, restored and merged.
+const SAVED_AND_MERGED: [Row; 12] = [
+    ("a", Does::CreateFrequent(8), "", Said::Done),
+    ("a", Does::Add(1, 5), "", Said::Done),
+    ("a", Does::Save, "p", Said::Done),
+    ("a", Does::Add(1, 2), "", Said::Done),
+    ("p", Does::Restore, "b", Said::Done),
+    ("a", Does::Merge, "b", Said::Done),
+    ("a", Does::Ask(1), "", Said::Bounds(12, 12, 12)),
+    ("b", Does::Ask(1), "", Said::Bounds(5, 5, 5)),
+    ("a", Does::Merge, "a", Said::Refused(Refusal::SameName)),
+    ("a", Does::Save, "p", Said::Refused(Refusal::NameTaken)),
+    ("a", Does::Halve, "", Said::Refused(Refusal::WrongKind)),
+    (
+        "a",
+        Does::GetStatus,
+        "",
+        Said::Status(Status::Frequent {
+            active: 1,
+            error: 0,
+            total: 12,
+            size: 8,
+            max: 8,
+            capacity: 6,
+        }),
+    ),
+];
+
 #[test]
 fn saves_restores_and_merges(rt: HostRuntime) -> Result<(), Fail> {
-    let rows = [
-        ("a", Does::CreateFrequent(8), "", Said::Done),
-        ("a", Does::Add(1, 5), "", Said::Done),
-        ("a", Does::Save, "p", Said::Done),
-        ("a", Does::Add(1, 2), "", Said::Done),
-        ("p", Does::Restore, "b", Said::Done),
-        ("a", Does::Merge, "b", Said::Done),
-        ("a", Does::Ask(1), "", Said::Bounds(12, 12, 12)),
-        ("b", Does::Ask(1), "", Said::Bounds(5, 5, 5)),
-        ("a", Does::Merge, "a", Said::Refused(Refusal::SameName)),
-        ("a", Does::Save, "p", Said::Refused(Refusal::NameTaken)),
-        ("a", Does::Halve, "", Said::Refused(Refusal::WrongKind)),
-        (
-            "a",
-            Does::GetStatus,
-            "",
-            Said::Status(Status::Frequent {
-                active: 1,
-                error: 0,
-                total: 12,
-                size: 8,
-                max: 8,
-                capacity: 6,
-            }),
-        ),
-    ];
-    assert!(rt; first_wrong(rt.alloc(), &rows)? == None);
+    assert!(rt; first_wrong(rt.alloc(), &SAVED_AND_MERGED)? == None);
     Ok(())
 }
+
+/// Weights of three kinds of sketches.
+const WEIGHED: [Row; 14] = [
+    ("f", Does::CreateFrequent(8), "", Said::Done),
+    ("i", Does::CreateCountI64(128), "", Said::Done),
+    ("u", Does::CreateCountU64(128), "", Said::Done),
+    ("f", Does::Add(1, 5), "", Said::Done),
+    ("f", Does::ListRows(0), "", Said::Rows(1)),
+    ("f", Does::Reset, "", Said::Done),
+    ("f", Does::Ask(1), "", Said::Bounds(0, 0, 0)),
+    ("i", Does::AddSigned(1, -5), "", Said::Done),
+    ("i", Does::Ask(1), "", Said::Bounds(-5, -5, -5)),
+    ("u", Does::Add(1, 100), "", Said::Done),
+    ("u", Does::Decay(99, 100), "", Said::Done),
+    ("u", Does::Ask(1), "", Said::Bounds(99, 99, 101)),
+    ("u", Does::Halve, "", Said::Done),
+    ("u", Does::Ask(1), "", Said::Bounds(49, 49, 50)),
+];
 
 #[test]
 fn counts_weights(rt: HostRuntime) -> Result<(), Fail> {
-    let rows = [
-        ("f", Does::CreateFrequent(8), "", Said::Done),
-        ("i", Does::CreateCountI64(128), "", Said::Done),
-        ("u", Does::CreateCountU64(128), "", Said::Done),
-        ("f", Does::Add(1, 5), "", Said::Done),
-        ("f", Does::ListRows(0), "", Said::Rows(1)),
-        ("f", Does::Reset, "", Said::Done),
-        ("f", Does::Ask(1), "", Said::Bounds(0, 0, 0)),
-        ("i", Does::AddSigned(1, -5), "", Said::Done),
-        ("i", Does::Ask(1), "", Said::Bounds(-5, -5, -5)),
-        ("u", Does::Add(1, 100), "", Said::Done),
-        ("u", Does::Decay(99, 100), "", Said::Done),
-        ("u", Does::Ask(1), "", Said::Bounds(99, 99, 101)),
-        ("u", Does::Halve, "", Said::Done),
-        ("u", Does::Ask(1), "", Said::Bounds(49, 49, 50)),
-    ];
-    assert!(rt; first_wrong(rt.alloc(), &rows)? == None);
+    assert!(rt; first_wrong(rt.alloc(), &WEIGHED)? == None);
     Ok(())
 }
+
+/// Filters that are saved and combined.
+const COMBINED: [Row; 12] = [
+    ("b", Does::CreateBloom(64), "", Said::Done),
+    ("b", Does::Save, "p", Said::Done),
+    ("p", Does::ShowImage, "", Said::Image(24, 107)),
+    ("b", Does::Insert(1), "", Said::Done),
+    ("p", Does::Restore, "c", Said::Done),
+    ("c", Does::Ask(1), "", Said::Contains(false)),
+    ("c", Does::Union, "b", Said::Done),
+    ("c", Does::Intersect, "b", Said::Done),
+    ("c", Does::Ask(1), "", Said::Contains(true)),
+    ("c", Does::Difference, "b", Said::Done),
+    ("c", Does::Ask(1), "", Said::Contains(false)),
+    ("b", Does::Ask(1), "", Said::Contains(true)),
+];
 
 #[test]
 fn combines_filters(rt: HostRuntime) -> Result<(), Fail> {
-    let rows = [
-        ("b", Does::CreateBloom(64), "", Said::Done),
-        ("b", Does::Save, "p", Said::Done),
-        ("p", Does::ShowImage, "", Said::Image(24, 107)),
-        ("b", Does::Insert(1), "", Said::Done),
-        ("p", Does::Restore, "c", Said::Done),
-        ("c", Does::Ask(1), "", Said::Contains(false)),
-        ("c", Does::Union, "b", Said::Done),
-        ("c", Does::Intersect, "b", Said::Done),
-        ("c", Does::Ask(1), "", Said::Contains(true)),
-        ("c", Does::Difference, "b", Said::Done),
-        ("c", Does::Ask(1), "", Said::Contains(false)),
-        ("b", Does::Ask(1), "", Said::Contains(true)),
-    ];
-    assert!(rt; first_wrong(rt.alloc(), &rows)? == None);
+    assert!(rt; first_wrong(rt.alloc(), &COMBINED)? == None);
     Ok(())
 }
 
+/// Commands that are refused for their names, before all else.
+const REFUSED_NAMES: [Row; 11] = [
+    ("f", Does::CreateFrequent(8), "", Said::Done),
+    ("f", Does::Save, "p", Said::Done),
+    (
+        "f",
+        Does::CreateFrequent(12),
+        "",
+        Said::Refused(Refusal::NameTaken),
+    ),
+    ("g", Does::Merge, "g", Said::Refused(Refusal::NoSuchName)),
+    ("f", Does::Union, "g", Said::Refused(Refusal::NoSuchName)),
+    ("f", Does::Union, "f", Said::Refused(Refusal::SameName)),
+    ("g", Does::Save, "p", Said::Refused(Refusal::NoSuchName)),
+    ("q", Does::Restore, "f", Said::Refused(Refusal::NoSuchName)),
+    ("p", Does::Restore, "f", Said::Refused(Refusal::NameTaken)),
+    ("p", Does::Ask(1), "", Said::Refused(Refusal::NoSuchName)),
+    ("f", Does::ShowImage, "", Said::Refused(Refusal::NoSuchName)),
+];
+
 #[test]
 fn refuses_names_first(rt: HostRuntime) -> Result<(), Fail> {
-    let rows = [
-        ("f", Does::CreateFrequent(8), "", Said::Done),
-        ("f", Does::Save, "p", Said::Done),
-        (
-            "f",
-            Does::CreateFrequent(12),
-            "",
-            Said::Refused(Refusal::NameTaken),
-        ),
-        ("g", Does::Merge, "g", Said::Refused(Refusal::NoSuchName)),
-        ("f", Does::Union, "g", Said::Refused(Refusal::NoSuchName)),
-        ("f", Does::Union, "f", Said::Refused(Refusal::SameName)),
-        ("g", Does::Save, "p", Said::Refused(Refusal::NoSuchName)),
-        ("q", Does::Restore, "f", Said::Refused(Refusal::NoSuchName)),
-        ("p", Does::Restore, "f", Said::Refused(Refusal::NameTaken)),
-        ("p", Does::Ask(1), "", Said::Refused(Refusal::NoSuchName)),
-        ("f", Does::ShowImage, "", Said::Refused(Refusal::NoSuchName)),
-    ];
-    assert!(rt; first_wrong(rt.alloc(), &rows)? == None);
+    assert!(rt; first_wrong(rt.alloc(), &REFUSED_NAMES)? == None);
     Ok(())
 }
 
@@ -261,7 +272,7 @@ fn refuses_kinds_before_arguments(rt: HostRuntime) -> Result<(), Fail> {
     let size = Refusal::Call(Error::invalid_argument(Fault::MapSizeNotPowerOfTwo));
     let sample = Refusal::Call(Error::invalid_argument(Fault::BadSampleSize));
     let mismatch = Refusal::Call(Error::invalid_argument(Fault::Mismatch));
-    let rows = [
+    let rows: [Row; 12] = [
         ("u", Does::CreateCountU64(128), "", Said::Done),
         ("b", Does::CreateBloom(64), "", Said::Done),
         ("c", Does::CreateBloom(128), "", Said::Done),

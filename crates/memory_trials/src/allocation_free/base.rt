@@ -1,0 +1,299 @@
+//! Calls of the layer under the sketches that take no memory, and those that write items.
+use crate::output::{fault_of, kind_of, write_bytes, write_values};
+use crate::texts::text;
+use crate::trial::{SetupFailed, Trial, counted, write_line};
+use datasketches::codec::family::Family;
+use datasketches::codec::{SketchBytes, SketchSlice};
+use datasketches::error::{Error, ErrorKind, Fault};
+use datasketches::frequencies::FrequentItemValue;
+use datasketches::hash::{MurmurHash3X64128, XxHash64, check_seed_hash, compute_seed_hash};
+use sketch_base::image::{check_length, check_version, i32_at, u16_at, u32_at, u64_at};
+use sketch_base::{Divisor, murmur3_of, murmur3_of_u64, xxh64_of};
+use std::fmt::Write;
+use std::hash::Hasher;
+
+/// A text with a published XXH64, longer than a stripe.
+const SPAM: &[u8] = b"Nobody inspects the spammish repetition";
+
+/// A text with a published MurmurHash3 x64 128, longer than two blocks.
+const FOX: &[u8] = b"The quick brown fox jumps over the lazy dog";
+
+/// Feeds a text in two pieces.
+fn feed<H: Hasher>(hasher: &mut H, text: &[u8], at: usize) {
+    let at = at.min(text.len());
+    hasher.write(&text[..at]);
+    hasher.write(&text[at..]);
+}
+
+fn xxh64(text: &[u8], at: usize) -> u64 {
+    let mut hasher = XxHash64::with_seed(0);
+    feed(&mut hasher, text, at);
+    hasher.finish()
+}
+
+fn murmur3(text: &[u8], at: usize) -> u64 {
+    let mut hasher = MurmurHash3X64128::with_seed(0);
+    feed(&mut hasher, text, at);
+    hasher.finish() ^ hasher.finish128().1
+}
+
+/// The hash of a text by the hasher of the usual seed.
+fn usual(text: &[u8]) -> u64 {
+    let mut hasher = MurmurHash3X64128::default();
+    hasher.write(text);
+    hasher.finish()
+}
+
+/// Hashes of texts that are fed whole, or cut within a block or a stripe.
+fn hashes_of_texts() -> [u64; 6] {
+    [
+        xxh64(SPAM, 0),
+        xxh64(SPAM, 7),
+        xxh64(b"abc", 1),
+        murmur3(FOX, 0),
+        murmur3(FOX, 7),
+        usual(b"abc"),
+    ]
+}
+
+/// Hashes of items.
+fn hashes_of_items() -> [u64; 3] {
+    [
+        xxh64_of(&7u64, 9001),
+        murmur3_of(&7u64, 9001).0,
+        murmur3_of_u64(7, 9001).1,
+    ]
+}
+
+/// Hashes of texts and of items.
+pub fn hashes(trial: &mut Trial) -> Result<(), SetupFailed> {
+    let texts = counted!(trial, hashes_of_texts());
+    let items = counted!(trial, hashes_of_items());
+    write_values(trial, "texts", &texts);
+    write_values(trial, "items", &items);
+    Ok(())
+}
+
+/// Why seeds or hashes of seeds are refused, if they are: the second seed has the hash 0.
+fn faults_of_seeds() -> [&'static str; 4] {
+    [
+        fault_of(compute_seed_hash(9001, ErrorKind::InvalidArgument)),
+        fault_of(compute_seed_hash(50541, ErrorKind::InvalidData)),
+        fault_of(check_seed_hash(1, 2, ErrorKind::InvalidData)),
+        fault_of(check_seed_hash(2, 2, ErrorKind::InvalidData)),
+    ]
+}
+
+/// Hashes of seeds, of which one is 0.
+pub fn seeds(trial: &mut Trial) -> Result<(), SetupFailed> {
+    let faults = counted!(trial, faults_of_seeds());
+    let hash = compute_seed_hash(9001, ErrorKind::InvalidArgument)?;
+    write_line!(trial, "seed {hash}");
+    write_values(trial, "faults", &faults);
+    Ok(())
+}
+
+/// The kind of a refusal, the name of its fault and its text.
+fn words_of(error: Error) -> [&'static str; 3] {
+    let fault = error.fault();
+    [kind_of(error), fault.name(), fault.text()]
+}
+
+/// Why families of images are refused, if they are.
+fn faults_of_families() -> [&'static str; 3] {
+    [
+        fault_of(Family::FREQUENCY.validate_id(10)),
+        fault_of(Family::COUNTMIN.validate_id(18)),
+        fault_of(Family::BLOOMFILTER.validate_id(18)),
+    ]
+}
+
+/// Refusals, and the families of images.
+pub fn refusals(trial: &mut Trial) -> Result<(), SetupFailed> {
+    for (kind, fault) in [
+        (ErrorKind::OutOfMemory, Fault::NoMemory),
+        (ErrorKind::InvalidArgument, Fault::Mismatch),
+        (ErrorKind::InvalidData, Fault::BadFamily),
+    ] {
+        let words = counted!(trial, words_of(Error::new(kind, fault)));
+        write_values(trial, "refusal", &words);
+    }
+    let families = counted!(trial, faults_of_families());
+    write_values(trial, "families", &families);
+    Ok(())
+}
+
+/// Writes the texts of a refusal, one for users and two for programmers. Answers whether there was room.
+fn write_texts(texts: &mut String, error: Error) -> bool {
+    writeln!(texts, "{error}").is_ok()
+        && writeln!(texts, "{error:?}").is_ok()
+        && writeln!(texts, "{error:#?}").is_ok()
+}
+
+/// Whether a refusal's clone equals it.
+fn equals_clone(error: Error) -> bool {
+    match error.clone() {
+        Ok(copy) => copy == error,
+        Err(_) => false,
+    }
+}
+
+/// The texts of a refusal, in memory that is there, and its clone.
+pub fn texts(trial: &mut Trial) -> Result<(), SetupFailed> {
+    let error = Error::invalid_data(Fault::BadFamily);
+    let mut texts = String::with_capacity(trial.alloc, 256)?;
+    let written = counted!(trial, write_texts(&mut texts, error));
+    let same = counted!(trial, equals_clone(error));
+    write_line!(trial, "{texts}{written} {same}");
+    Ok(())
+}
+
+/// Writes of each width within the capacity.
+fn write_all(bytes: &mut SketchBytes) -> [&'static str; 7] {
+    [
+        fault_of(bytes.write(b"ab")),
+        fault_of(bytes.write_u8(5)),
+        fault_of(bytes.write_u16_le(258)),
+        fault_of(bytes.write_u32_le(3)),
+        fault_of(bytes.write_i32_le(-2)),
+        fault_of(bytes.write_u64_le(7)),
+        fault_of(bytes.write_i64_le(-4)),
+    ]
+}
+
+/// Writes of each width, and the bytes.
+pub fn writes(trial: &mut Trial) -> Result<(), SetupFailed> {
+    let mut bytes = SketchBytes::with_capacity(trial.alloc, 29)?;
+    let faults = counted!(trial, write_all(&mut bytes));
+    let bytes = counted!(trial, bytes.into_bytes());
+    write_values(trial, "writes", &faults);
+    write_bytes(trial, &bytes);
+    Ok(())
+}
+
+/// The sizes of items.
+fn sizes_of(text: &String) -> [usize; 3] {
+    [
+        u64::serialize_size(&7),
+        i64::serialize_size(&-4),
+        String::serialize_size(text),
+    ]
+}
+
+/// Writes of items within the capacity.
+fn write_items(bytes: &mut SketchBytes, text: &String) -> [&'static str; 3] {
+    [
+        fault_of(7u64.serialize_value(bytes)),
+        fault_of((-4i64).serialize_value(bytes)),
+        fault_of(text.serialize_value(bytes)),
+    ]
+}
+
+/// The sizes of items, and their writes.
+pub fn items(trial: &mut Trial) -> Result<(), SetupFailed> {
+    let text = text(trial.alloc, "ab")?;
+    let mut bytes = SketchBytes::with_capacity(trial.alloc, 22)?;
+    let sizes = counted!(trial, sizes_of(&text));
+    let faults = counted!(trial, write_items(&mut bytes, &text));
+    write_values(trial, "sizes", &sizes);
+    write_values(trial, "writes", &faults);
+    write_bytes(trial, &bytes.into_bytes());
+    Ok(())
+}
+
+/// A number of each width.
+fn numbers(slice: &mut SketchSlice) -> Result<[i64; 6], Error> {
+    Ok([
+        i64::from(slice.read_u8()?),
+        i64::from(slice.read_u16_le()?),
+        i64::from(slice.read_u32_le()?),
+        i64::from(slice.read_i32_le()?),
+        slice.read_u64_le()?.cast_signed(),
+        slice.read_i64_le()?,
+    ])
+}
+
+/// Two bytes, and a jump over the next.
+fn last_bytes(slice: &mut SketchSlice) -> Result<[u8; 2], Error> {
+    let mut two = [0; 2];
+    slice.read_exact(&mut two)?;
+    if !slice.remaining().is_empty() {
+        slice.advance(1);
+    }
+    Ok(two)
+}
+
+/// Reads of each width, a jump over a byte, and how many bytes are left.
+pub fn reads(trial: &mut Trial) -> Result<(), SetupFailed> {
+    let bytes =
+        b"\x05\x02\x01\x03\0\0\0\xFE\xFF\xFF\xFF\x07\0\0\0\0\0\0\0\xFC\xFF\xFF\xFF\xFF\xFF\xFF\xFFabcde";
+    let mut slice = counted!(trial, SketchSlice::new(bytes));
+    let numbers = counted!(trial, numbers(&mut slice))?;
+    let two = counted!(trial, last_bytes(&mut slice))?;
+    write_values(trial, "numbers", &numbers);
+    write_values(trial, "bytes", &two);
+    write_line!(trial, "left {}", slice.remaining().len());
+    Ok(())
+}
+
+/// Reads of each width where nothing is left.
+fn read_none(slice: &mut SketchSlice) -> [&'static str; 7] {
+    [
+        fault_of(slice.read_u8()),
+        fault_of(slice.read_u16_le()),
+        fault_of(slice.read_u32_le()),
+        fault_of(slice.read_i32_le()),
+        fault_of(slice.read_u64_le()),
+        fault_of(slice.read_i64_le()),
+        fault_of(slice.read_exact(&mut [0; 2])),
+    ]
+}
+
+/// Reads of more than is left, which is 3 bytes in one cursor.
+pub fn short_reads(trial: &mut Trial) -> Result<(), SetupFailed> {
+    let faults = counted!(trial, read_none(&mut SketchSlice::new(b"")));
+    write_values(trial, "reads", &faults);
+    let mut slice = SketchSlice::new(b"abc");
+    let short = counted!(trial, fault_of(slice.read_u32_le()));
+    write_line!(trial, "{short} left {}", slice.remaining().len());
+    Ok(())
+}
+
+/// The fields of an image.
+const FIELDS: &[u8; 18] = b"\x02\x01\x03\0\0\0\xFE\xFF\xFF\xFF\x07\0\0\0\0\0\0\0";
+
+fn fields_of_image() -> [i64; 4] {
+    [
+        i64::from(u16_at(FIELDS, 0)),
+        i64::from(u32_at(FIELDS, 2)),
+        i64::from(i32_at(FIELDS, 6)),
+        u64_at(FIELDS, 10).cast_signed(),
+    ]
+}
+
+/// Why an image's length or version is refused, if it is.
+fn faults_of_image() -> [&'static str; 4] {
+    [
+        fault_of(check_length(FIELDS, 18)),
+        fault_of(check_length(FIELDS, 19)),
+        fault_of(check_version(1)),
+        fault_of(check_version(2)),
+    ]
+}
+
+/// A divisor, and the remainder of the greatest number.
+fn remainder() -> [u64; 2] {
+    let divisor = Divisor::new(1000);
+    [divisor.divisor(), divisor.rem(u64::MAX)]
+}
+
+/// The fields of images, their checks, and a remainder.
+pub fn fields(trial: &mut Trial) -> Result<(), SetupFailed> {
+    let numbers = counted!(trial, fields_of_image());
+    write_values(trial, "fields", &numbers);
+    let numbers = counted!(trial, remainder());
+    write_values(trial, "remainder", &numbers);
+    let faults = counted!(trial, faults_of_image());
+    write_values(trial, "faults", &faults);
+    Ok(())
+}

@@ -1,0 +1,305 @@
+//! Calls of the sketches of frequent items that take no memory.
+use crate::output::{fault_of, write_frequent, write_values};
+use crate::texts::{SIX, UpdateBy, sketch_of, text, texts, update};
+use crate::trial::{SetupFailed, Trial, counted, write_line, write_words};
+use datasketches::error::Error;
+use datasketches::frequencies::{ErrorType, FrequentItemsSketch, Row};
+use std::alloc::{AllocError, Global};
+use std::fmt::Write;
+use std::hash::Hash;
+
+/// A sketch of texts, and one of numbers.
+type Texts = FrequentItemsSketch<String>;
+
+type Numbers = FrequentItemsSketch<i64>;
+
+/// A text that is kept on the heap.
+const LONG: &str = "a long text, not kept in place";
+
+/// Seven texts once each, which are purged, and a heavy one.
+const PURGED: [(&str, u64); 8] = [
+    ("a", 1),
+    ("b", 1),
+    ("c", 1),
+    ("d", 1),
+    ("e", 1),
+    ("f", 1),
+    ("g", 1),
+    (LONG, 5),
+];
+
+/// Updates by value: the seventh item is one counter too many, and all are purged.
+const SEVEN_ITEMS: [(&str, UpdateBy); 7] = [
+    ("a", UpdateBy::Value),
+    ("b", UpdateBy::Value),
+    ("c", UpdateBy::Value),
+    ("d", UpdateBy::Value),
+    ("e", UpdateBy::Value),
+    ("f", UpdateBy::Value),
+    ("g", UpdateBy::Value),
+];
+
+/// Updates by reference of an item that is tracked, and updates of weight 0.
+const BY_REFERENCE: [(&str, UpdateBy); 4] = [
+    ("a", UpdateBy::Reference),
+    ("a", UpdateBy::ReferenceWithCount(2)),
+    ("h", UpdateBy::ReferenceWithCount(0)),
+    ("h", UpdateBy::ValueWithCount(0)),
+];
+
+/// Updates that would pass the greatest total.
+const TOO_HEAVY: [(&str, UpdateBy); 4] = [
+    ("b", UpdateBy::Reference),
+    ("a", UpdateBy::ReferenceWithCount(1)),
+    ("b", UpdateBy::Value),
+    ("a", UpdateBy::ValueWithCount(1)),
+];
+
+/// Makes the updates with their requests for memory counted, and writes why each is refused, if it is.
+fn update_all(
+    trial: &mut Trial,
+    sketch: &mut Texts,
+    updates: &[(&str, UpdateBy)],
+) -> Result<(), AllocError> {
+    write_words!(trial, "updates");
+    for (item, by) in updates {
+        let item = text(trial.alloc, item)?;
+        let updated = counted!(trial, update(sketch, *by, item));
+        write_words!(trial, " {}", fault_of(updated));
+    }
+    write_line!(trial);
+    Ok(())
+}
+
+/// A sketch's numbers, and the estimates and bounds of some texts.
+fn write_texts(trial: &mut Trial, sketch: &Texts, asked: &[&str]) -> Result<(), AllocError> {
+    let asked = texts(trial.alloc, asked)?;
+    write_frequent(trial, sketch, &asked);
+    Ok(())
+}
+
+/// The updates of a sketch, and what it says then.
+fn play_updates(
+    trial: &mut Trial,
+    mut sketch: Texts,
+    updates: &[(&str, UpdateBy)],
+    asked: &[&str],
+) -> Result<(), SetupFailed> {
+    update_all(trial, &mut sketch, updates)?;
+    Ok(write_texts(trial, &sketch, asked)?)
+}
+
+pub fn updates(trial: &mut Trial) -> Result<(), SetupFailed> {
+    let empty = sketch_of(trial.alloc, 8, &[])?;
+    play_updates(trial, empty, &SEVEN_ITEMS, &["a", "g"])
+}
+
+/// An update by value of an item that is tracked, where the table must double for one that is not.
+pub fn updates_of_tracked(trial: &mut Trial) -> Result<(), SetupFailed> {
+    let six = sketch_of(trial.alloc, 64, &SIX)?;
+    play_updates(trial, six, &[("a", UpdateBy::Value)], &["a", "g"])
+}
+
+pub fn updates_by_reference(trial: &mut Trial) -> Result<(), SetupFailed> {
+    let one = sketch_of(trial.alloc, 8, &[("a", 1)])?;
+    play_updates(trial, one, &BY_REFERENCE, &["a"])
+}
+
+/// A merge of a sketch of these items with its requests for memory counted.
+fn merge(trial: &mut Trial, sketch: &mut Texts, items: &[(&str, u64)]) -> Result<(), SetupFailed> {
+    let other = sketch_of(trial.alloc, 64, items)?;
+    let merged = counted!(trial, sketch.merge(&other));
+    write_line!(trial, "merge {}", fault_of(merged));
+    Ok(())
+}
+
+/// Updates and a merge that would pass the greatest total.
+pub fn refusals(trial: &mut Trial) -> Result<(), SetupFailed> {
+    let mut heavy = sketch_of(trial.alloc, 8, &[("a", u64::MAX)])?;
+    merge(trial, &mut heavy, &[("b", 1)])?;
+    play_updates(trial, heavy, &TOO_HEAVY, &["a", "b"])
+}
+
+/// A merge of a sketch into which nothing was fed, and a reset.
+pub fn merges(trial: &mut Trial) -> Result<(), SetupFailed> {
+    let mut sketch = sketch_of(trial.alloc, 8, &[("a", 1)])?;
+    merge(trial, &mut sketch, &[])?;
+    write_texts(trial, &sketch, &["a"])?;
+    counted!(trial, sketch.reset());
+    Ok(write_texts(trial, &sketch, &["a"])?)
+}
+
+/// Adds as many items as a sketch of 2048 slots may hold, once each.
+fn fill(sketch: &mut Numbers) -> Result<(), Error> {
+    for item in 0..1536i64 {
+        sketch.update(item)?;
+    }
+    Ok(())
+}
+
+/// Such a sketch, which is full.
+fn full(alloc: Global) -> Result<Numbers, Error> {
+    let mut sketch = FrequentItemsSketch::new(alloc, 2048)?;
+    fill(&mut sketch)?;
+    Ok(sketch)
+}
+
+/// Fills a sketch with its requests for memory counted.
+fn fill_counted(trial: &mut Trial, mut sketch: Numbers) -> Result<(), SetupFailed> {
+    counted!(trial, fill(&mut sketch))?;
+    write_frequent(trial, &sketch, &[0, 1536]);
+    Ok(())
+}
+
+/// A new sketch is filled: its table doubles from 8 slots to 2048.
+pub fn fills(trial: &mut Trial) -> Result<(), SetupFailed> {
+    let sketch = FrequentItemsSketch::new(trial.alloc, 2048)?;
+    fill_counted(trial, sketch)
+}
+
+/// The same behind a reset.
+pub fn refills(trial: &mut Trial) -> Result<(), SetupFailed> {
+    let mut sketch = full(trial.alloc)?;
+    sketch.reset();
+    fill_counted(trial, sketch)
+}
+
+/// Updates by reference of an item that is tracked.
+fn update_by_reference(sketch: &mut Numbers) -> [&'static str; 2] {
+    [
+        fault_of(sketch.update_ref(&5)),
+        fault_of(sketch.update_with_count_ref(&5, 2)),
+    ]
+}
+
+/// All questions to a full sketch, updates by reference of an item that it tracks, and its reset.
+pub fn full_sketch(trial: &mut Trial) -> Result<(), SetupFailed> {
+    let mut sketch = full(trial.alloc)?;
+    write_answers(trial, &sketch);
+    let faults = counted!(trial, update_by_reference(&mut sketch));
+    write_values(trial, "updates", &faults);
+    write_frequent(trial, &sketch, &[5, 1536]);
+    counted!(trial, sketch.reset());
+    write_frequent(trial, &sketch, &[5, 1536]);
+    Ok(())
+}
+
+/// A purge of as many counters as one ever samples.
+pub fn purges(trial: &mut Trial) -> Result<(), SetupFailed> {
+    let mut sketch = full(trial.alloc)?;
+    counted!(trial, sketch.update_with_count(1536, 1))?;
+    write_frequent(trial, &sketch, &[0, 1536]);
+    Ok(())
+}
+
+/// A sketch's numbers: of what came, of its sizes, and of its memory.
+fn numbers(sketch: &Numbers) -> [u64; 11] {
+    [
+        sketch.num_active_items() as u64,
+        sketch.total_weight(),
+        sketch.maximum_error(),
+        sketch.maximum_map_capacity() as u64,
+        sketch.current_map_capacity() as u64,
+        sketch.max_map_size() as u64,
+        u64::from(sketch.lg_max_map_size()),
+        u64::from(sketch.lg_cur_map_size()),
+        sketch.sample_size() as u64,
+        sketch.estimated_size() as u64,
+        sketch.is_empty() as u64,
+    ]
+}
+
+/// An item's lower bound, estimate and upper bound.
+fn bounds_of<T: Eq + Hash + Drop>(sketch: &FrequentItemsSketch<T>, item: &T) -> [u64; 3] {
+    [
+        sketch.lower_bound(item),
+        sketch.estimate(item),
+        sketch.upper_bound(item),
+    ]
+}
+
+/// An item's bounds with the requests for memory counted.
+fn write_bounds<T: Eq + Hash + Drop>(
+    trial: &mut Trial,
+    sketch: &FrequentItemsSketch<T>,
+    word: &str,
+    item: &T,
+) {
+    let bounds = counted!(trial, bounds_of(sketch, item));
+    write_values(trial, word, &bounds);
+}
+
+/// All questions to a sketch that tracks 3, and does not track -1.
+fn write_answers(trial: &mut Trial, sketch: &Numbers) {
+    let numbers = counted!(trial, numbers(sketch));
+    write_values(trial, "numbers", &numbers);
+    write_bounds(trial, sketch, "tracked", &3);
+    write_bounds(trial, sketch, "absent", &-1);
+}
+
+/// Seven items with the weights 1 to 7, for which the table has doubled.
+fn seven(alloc: Global) -> Result<Numbers, Error> {
+    let mut sketch = FrequentItemsSketch::new(alloc, 64)?;
+    for item in 1..=7u8 {
+        sketch.update_with_count(i64::from(item), u64::from(item))?;
+    }
+    Ok(sketch)
+}
+
+/// All questions to a sketch of numbers.
+pub fn questions(trial: &mut Trial) -> Result<(), SetupFailed> {
+    let sketch = seven(trial.alloc)?;
+    write_answers(trial, &sketch);
+    Ok(())
+}
+
+/// The bounds of texts behind a purge of seven, all of weight 1.
+pub fn bounds(trial: &mut Trial) -> Result<(), SetupFailed> {
+    let sketch = sketch_of(trial.alloc, 8, &PURGED)?;
+    let asked = texts(trial.alloc, &[LONG, "b"])?;
+    for item in &asked {
+        write_bounds(trial, &sketch, "bounds", item);
+    }
+    Ok(())
+}
+
+/// A row's numbers, and how long its item is.
+fn row_numbers(row: &Row<String>) -> [u64; 4] {
+    [
+        row.lower_bound(),
+        row.estimate(),
+        row.upper_bound(),
+        row.item().len() as u64,
+    ]
+}
+
+/// The rows of two items.
+fn two_rows(alloc: Global) -> Result<Vec<Row<String>>, SetupFailed> {
+    let sketch = sketch_of(alloc, 8, &[("ab", 1), ("c", 2)])?;
+    Ok(sketch.frequent_items(ErrorType::NoFalseNegatives)?)
+}
+
+/// A row's numbers, and whether it equals another.
+fn write_row(trial: &mut Trial, row: &Row<String>, other: &Row<String>) {
+    let numbers = counted!(trial, row_numbers(row));
+    let equal = counted!(trial, *row == *other);
+    write_values(trial, "row", &numbers);
+    write_line!(trial, "equal {equal}");
+}
+
+/// The questions to two rows and a copy of the second.
+fn write_rows(trial: &mut Trial, rows: &[Row<String>]) -> Result<(), SetupFailed> {
+    let [first, second] = rows else {
+        return Err(SetupFailed);
+    };
+    write_row(trial, first, second);
+    let copy = second.try_clone()?;
+    write_row(trial, second, &copy);
+    Ok(())
+}
+
+/// The questions to the rows of a report.
+pub fn rows(trial: &mut Trial) -> Result<(), SetupFailed> {
+    let rows = two_rows(trial.alloc)?;
+    write_rows(trial, &rows)
+}

@@ -1,0 +1,146 @@
+//! Calls of the table of counters that take no memory.
+use crate::output::{write_table, write_values};
+use crate::table::{Map, free_table, purge, put, put_ref};
+use crate::texts::{text, texts};
+use crate::trial::{SetupFailed, Trial, counted, write_line};
+use datasketches::error::Error;
+use datasketches::frequencies::{ReversePurgeItemHashMap, ReversePurgeItemIter};
+use sketch_items::{FEEDS_NOTHING, Item};
+use std::alloc::Global;
+use std::fmt::Write;
+
+/// A table of texts.
+type Texts = ReversePurgeItemHashMap<String>;
+
+/// Amounts for new items and tracked ones, also by reference.
+const AMOUNTS: [(&str, u8, bool); 7] = [
+    ("a", 3, false),
+    ("b", 3, false),
+    ("c", 3, false),
+    ("d", 3, false),
+    ("a", 3, true),
+    ("a", 1, false),
+    ("e", 0, false),
+];
+
+/// Adds an amount to an item's count.
+fn add(map: &mut Texts, item: String, amount: u8, by_reference: bool) -> Result<(), Error> {
+    if by_reference {
+        put_ref(map, &item, amount)
+    } else {
+        put(map, item, amount);
+        Ok(())
+    }
+}
+
+/// Adds all amounts with the requests for memory counted.
+fn add_all(trial: &mut Trial, map: &mut Texts) -> Result<(), SetupFailed> {
+    for (item, amount, by_reference) in AMOUNTS {
+        let item = text(trial.alloc, item)?;
+        counted!(trial, add(map, item, amount, by_reference))?;
+    }
+    Ok(())
+}
+
+/// A table's numbers, and the counts of three texts.
+fn write_asked(trial: &mut Trial, map: &Texts) -> Result<(), SetupFailed> {
+    let asked = texts(trial.alloc, &["a", "b", "e"])?;
+    write_table(trial, map, &asked);
+    Ok(())
+}
+
+/// Amounts for new items and tracked ones, and a purge.
+pub fn changes(trial: &mut Trial) -> Result<(), SetupFailed> {
+    let mut map = free_table(trial.alloc, 8)?;
+    add_all(trial, &mut map)?;
+    write_asked(trial, &map)?;
+    let middle = counted!(trial, purge(&mut map));
+    write_line!(trial, "purged {middle}");
+    write_asked(trial, &map)
+}
+
+/// A table of three items.
+fn three<const KIND: u8>(alloc: Global) -> Result<Map<KIND>, Error> {
+    let mut map = free_table(alloc, 8)?;
+    for (number, amount) in [(1, 2), (2, 3), (3, 5)] {
+        put(&mut map, Item::of(number), amount);
+    }
+    Ok(map)
+}
+
+/// A table's numbers: of its entries, of its slots, and of its memory.
+fn numbers<const KIND: u8>(map: &Map<KIND>) -> [usize; 5] {
+    [
+        map.num_active(),
+        map.len(),
+        map.lg_length() as usize,
+        map.capacity(),
+        map.estimated_size(),
+    ]
+}
+
+/// The counts of items that are there and of one that is not, by both calls.
+fn counts<const KIND: u8>(map: &Map<KIND>) -> [u64; 4] {
+    [
+        map.get(&Item::of(2)),
+        map.get(&Item::of(4)),
+        map.get_counted(&Item::of(3)).0,
+        map.get_counted(&Item::of(4)).0,
+    ]
+}
+
+/// All questions.
+pub fn questions<const KIND: u8>(trial: &mut Trial) -> Result<(), SetupFailed> {
+    let map = three::<KIND>(trial.alloc)?;
+    let numbers = counted!(trial, numbers(&map));
+    let counts = counted!(trial, counts(&map));
+    write_values(trial, "numbers", &numbers);
+    write_values(trial, "counts", &counts);
+    Ok(())
+}
+
+/// Of items that feed a hasher nothing all have one home: a question for an absent one looks at the three and a free
+/// slot.
+pub fn looks(trial: &mut Trial) -> Result<(), SetupFailed> {
+    let map = three::<FEEDS_NOTHING>(trial.alloc)?;
+    let (absent, looked) = counted!(trial, map.get_counted(&Item::of(4)));
+    write_line!(trial, "{absent} looked {looked}");
+    Ok(())
+}
+
+/// The count of the next entry, and 0 behind the last.
+fn next_count<const KIND: u8>(walk: &mut ReversePurgeItemIter<Item<KIND>>) -> u64 {
+    match walk.next() {
+        Some((_, count)) => count,
+        None => 0,
+    }
+}
+
+/// What a walk past its end says: how many entries are to come, and how many slots were looked at, before and after it,
+/// the sum of the counts, and the count behind the end.
+fn walk_past_end<const KIND: u8>(map: &Map<KIND>) -> [u64; 6] {
+    let mut walk = map.iter();
+    let (to_come, looked_at) = (walk.len(), walk.looked_at());
+    let mut sum = 0u64;
+    for _ in 0..3 {
+        sum = sum.wrapping_add(next_count(&mut walk));
+    }
+    let behind = next_count(&mut walk);
+    [
+        to_come as u64,
+        looked_at as u64,
+        sum,
+        behind,
+        walk.size_hint().0 as u64,
+        walk.looked_at() as u64,
+    ]
+}
+
+/// A walk past its end, and whether it looked at as many slots as it may.
+pub fn walk<const KIND: u8>(trial: &mut Trial) -> Result<(), SetupFailed> {
+    let map = three::<KIND>(trial.alloc)?;
+    let [to_come, looked_at, sum, behind, left, looked] = counted!(trial, walk_past_end(&map));
+    write_values(trial, "walk", &[to_come, looked_at, sum, behind, left]);
+    write_line!(trial, "looked {}", 3 <= looked && looked <= 8);
+    Ok(())
+}

@@ -1,0 +1,56 @@
+//! Calls of bytes that are written, and texts that are written and read.
+use crate::calls::refusable;
+use crate::output::{write_bytes, write_error, write_outcome};
+use crate::texts::text;
+use crate::trial::{SetupFailed, Trial, write_line};
+use datasketches::codec::{SketchBytes, SketchSlice};
+use datasketches::frequencies::FrequentItemValue;
+use std::fmt::Write;
+
+/// Plays the trial of the name.
+pub fn play(trial: &mut Trial, call: &str) -> Result<(), SetupFailed> {
+    match call {
+        "new" => new(trial),
+        "beyond" => beyond(trial),
+        "write_text" => write_text(trial),
+        "read_text" => read_text(trial),
+        _ => Err(SetupFailed),
+    }
+}
+
+fn new(trial: &mut Trial) -> Result<(), SetupFailed> {
+    let alloc = trial.alloc;
+    let made = refusable!(trial, SketchBytes::with_capacity(alloc, 4));
+    write_outcome(trial, made);
+    Ok(())
+}
+
+/// A write beyond the capacity.
+fn beyond(trial: &mut Trial) -> Result<(), SetupFailed> {
+    let mut bytes = SketchBytes::with_capacity(trial.alloc, 4)?;
+    bytes.write_u32_le(7)?;
+    let beyond = refusable!(trial, bytes.write_u64_le(9));
+    write_outcome(trial, beyond);
+    write_bytes(trial, &bytes.into_bytes());
+    Ok(())
+}
+
+/// A text, written where there is room for its length alone.
+fn write_text(trial: &mut Trial) -> Result<(), SetupFailed> {
+    let item = text(trial.alloc, "abcdef")?;
+    let mut bytes = SketchBytes::with_capacity(trial.alloc, 4)?;
+    let written = refusable!(trial, item.serialize_value(&mut bytes));
+    write_outcome(trial, written);
+    write_bytes(trial, &bytes.into_bytes());
+    Ok(())
+}
+
+fn read_text(trial: &mut Trial) -> Result<(), SetupFailed> {
+    let alloc = trial.alloc;
+    let mut slice = SketchSlice::new(b"\x06\0\0\0abcdefgh");
+    match refusable!(trial, String::deserialize_value(alloc, &mut slice)) {
+        Ok(text) => write_line!(trial, "text {text}"),
+        Err(e) => write_error(trial, e),
+    }
+    Ok(())
+}

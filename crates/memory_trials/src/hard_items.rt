@@ -1,0 +1,205 @@
+//! Items that are hard to hash, to clone, to write or to tell apart, through all calls that take items.
+use crate::allocation_free;
+use crate::output::{begin_frequent, begin_values, write_bounds, write_error, write_outcome};
+use crate::table::{Map, free_table, grow, purge, put, put_ref};
+use crate::trial::{SetupFailed, Trial, write_line, write_words};
+use datasketches::error::Error;
+use datasketches::frequencies::{ErrorType, FrequentItemsSketch};
+use sketch_items::{Item, MARKED, NUM_LETTERS};
+use std::alloc::Global;
+use std::fmt::Write;
+
+/// A sketch of items of a kind.
+type Sketch<const KIND: u8> = FrequentItemsSketch<Item<KIND>>;
+
+/// Plays the trial of the name with items of a kind.
+pub fn play<const KIND: u8>(trial: &mut Trial, calls: &str) -> Result<(), SetupFailed> {
+    match calls {
+        "sketch" => sketch::<KIND>(trial),
+        "clones" => clones::<KIND>(trial),
+        "sizes" => crate::sizes_and_rows::sizes::<KIND>(trial),
+        "rows" => crate::sizes_and_rows::rows::<KIND>(trial),
+        "questions" => allocation_free::table::questions::<KIND>(trial),
+        "walk" => allocation_free::table::walk::<KIND>(trial),
+        "marked" => marked::<KIND>(trial),
+        "table" => table::<KIND>(trial),
+        _ => Err(SetupFailed),
+    }
+}
+
+/// The numbers that are asked for: 33 equals 1 where not all numbers are told apart.
+const ASKED: [u64; 4] = [1, 2, MARKED, 1 + NUM_LETTERS];
+
+/// What a sketch says of itself and of the items that are asked for.
+fn write_asked<const KIND: u8>(trial: &mut Trial, sketch: &Sketch<KIND>) {
+    begin_frequent(trial, sketch);
+    for number in ASKED {
+        write_bounds(trial, sketch, &Item::of(number));
+    }
+    write_line!(trial);
+}
+
+/// A sketch of one item.
+fn of_one<const KIND: u8>(alloc: Global, number: u64, count: u64) -> Result<Sketch<KIND>, Error> {
+    let mut sketch = FrequentItemsSketch::new(alloc, 8)?;
+    sketch.update_with_count(Item::of(number), count)?;
+    Ok(sketch)
+}
+
+/// Updates of a sketch by value and by reference.
+fn update_all<const KIND: u8>(sketch: &mut Sketch<KIND>) -> Result<(), Error> {
+    sketch.update_with_count(Item::of(2), 5)?;
+    sketch.update_ref(&Item::of(1 + NUM_LETTERS))?;
+    sketch.update_with_count_ref(&Item::of(3), 9)
+}
+
+/// Merges a sketch of one item.
+fn merge_one<const KIND: u8>(
+    alloc: Global,
+    sketch: &mut Sketch<KIND>,
+    number: u64,
+    count: u64,
+) -> Result<(), Error> {
+    let other = of_one(alloc, number, count)?;
+    sketch.merge(&other)
+}
+
+/// The image of a clone.
+fn image_of_clone<const KIND: u8>(sketch: &Sketch<KIND>) -> Result<Vec<u8>, Error> {
+    sketch.try_clone()?.serialize()
+}
+
+/// A clone of the sketch, as its image gives it back.
+fn restored<const KIND: u8>(alloc: Global, sketch: &Sketch<KIND>) -> Result<Sketch<KIND>, Error> {
+    let image = image_of_clone(sketch)?;
+    FrequentItemsSketch::deserialize(alloc, &image)
+}
+
+/// Seven items of weight 2: the seventh is one counter too many.
+fn purged<const KIND: u8>(sketch: &mut Sketch<KIND>) -> Result<(), Error> {
+    sketch.reset();
+    for number in 1..=7 {
+        sketch.update_with_count(Item::of(number), 2)?;
+    }
+    Ok(())
+}
+
+/// The items whose lower bound is above 1.
+fn write_rows<const KIND: u8>(trial: &mut Trial, sketch: &Sketch<KIND>) -> Result<(), Error> {
+    let rows = sketch.frequent_items_with_threshold(ErrorType::NoFalsePositives, 1)?;
+    write_words!(trial, "rows");
+    for row in &rows {
+        write_words!(trial, " {}={}", row.item().number(), row.estimate());
+    }
+    write_line!(trial);
+    Ok(())
+}
+
+/// What the sketch's image gives back says, and its rows.
+fn write_restored<const KIND: u8>(trial: &mut Trial, sketch: &Sketch<KIND>) -> Result<(), Error> {
+    let copy = restored(trial.alloc, sketch)?;
+    write_asked(trial, &copy);
+    write_rows(trial, &copy)
+}
+
+/// Updates by value and by reference, a merge, a clone, rows and an image, of items that are not marked.
+fn sketch<const KIND: u8>(trial: &mut Trial) -> Result<(), SetupFailed> {
+    let mut sketch = of_one::<KIND>(trial.alloc, 1, 1)?;
+    update_all(&mut sketch)?;
+    write_asked(trial, &sketch);
+    merge_one(trial.alloc, &mut sketch, 2 + NUM_LETTERS, 20)?;
+    write_asked(trial, &sketch);
+    write_restored(trial, &sketch)?;
+    purged(&mut sketch)?;
+    write_asked(trial, &sketch);
+    Ok(())
+}
+
+/// An update and a merge that clone a marked item.
+fn clones<const KIND: u8>(trial: &mut Trial) -> Result<(), SetupFailed> {
+    let mut sketch = of_one::<KIND>(trial.alloc, 2, 1)?;
+    let updated = sketch.update_with_count_ref(&Item::of(MARKED), 4);
+    write_outcome(trial, updated);
+    write_asked(trial, &sketch);
+    let merged = merge_one(trial.alloc, &mut sketch, MARKED, 2);
+    write_outcome(trial, merged);
+    write_asked(trial, &sketch);
+    Ok(())
+}
+
+/// The calls that clone or write, of a sketch of a marked item, which is not cloned for an update where it is tracked.
+fn marked<const KIND: u8>(trial: &mut Trial) -> Result<(), SetupFailed> {
+    let mut sketch = of_one::<KIND>(trial.alloc, MARKED, 1)?;
+    let updated = sketch.update_ref(&Item::of(MARKED));
+    write_outcome(trial, updated);
+    write_outcome(trial, sketch.try_clone());
+    write_outcome(trial, sketch.frequent_items(ErrorType::NoFalseNegatives));
+    write_outcome(trial, sketch.serialize());
+    write_asked(trial, &sketch);
+    Ok(())
+}
+
+/// The calls of the table.
+fn table<const KIND: u8>(trial: &mut Trial) -> Result<(), SetupFailed> {
+    let mut map = filled::<KIND>(trial.alloc)?;
+    write_table(trial, &map)?;
+    write_purged(trial, &map)?;
+    grow(&mut map, 32)?;
+    Ok(write_table(trial, &map)?)
+}
+
+/// A table of five items, two of them added to by reference, and a sixth.
+fn filled<const KIND: u8>(alloc: Global) -> Result<Map<KIND>, Error> {
+    let mut map = free_table(alloc, 8)?;
+    for number in [1, 2, 1 + NUM_LETTERS, 4, MARKED] {
+        put(&mut map, Item::of(number), 2);
+    }
+    for number in [2, 5, MARKED] {
+        put_ref(&mut map, &Item::of(number), 1)?;
+    }
+    Ok(map)
+}
+
+/// A purge of a clone.
+fn write_purged<const KIND: u8>(trial: &mut Trial, map: &Map<KIND>) -> Result<(), Error> {
+    match map.try_clone() {
+        Ok(mut clone) => {
+            write_line!(trial, "purged {}", purge(&mut clone));
+            write_table(trial, &clone)
+        }
+        Err(e) => {
+            write_error(trial, e);
+            Ok(())
+        }
+    }
+}
+
+/// The sum of all counts, by a walk.
+fn sum_of_counts<const KIND: u8>(map: &Map<KIND>) -> u64 {
+    let mut sum = 0u64;
+    for (_, count) in map {
+        sum = sum.wrapping_add(count);
+    }
+    sum
+}
+
+/// How long the list of entries is.
+fn num_entries<const KIND: u8>(map: &Map<KIND>) -> Result<usize, Error> {
+    Ok(map.active_entries()?.len())
+}
+
+/// How many entries there are, the sum of a walk, how long the list of entries is, and some counts.
+fn write_table<const KIND: u8>(trial: &mut Trial, map: &Map<KIND>) -> Result<(), Error> {
+    let numbers = [
+        map.num_active() as u64,
+        map.len() as u64,
+        sum_of_counts(map),
+        num_entries(map)? as u64,
+    ];
+    begin_values(trial, "table", &numbers);
+    for number in ASKED {
+        write_words!(trial, " {}", map.get_counted(&Item::of(number)).0);
+    }
+    write_line!(trial);
+    Ok(())
+}

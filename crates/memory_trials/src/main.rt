@@ -1,0 +1,94 @@
+//! Calls of the library, each alone, for tests that count its requests for memory and refuse them.
+//!
+//! The first word of its arguments names a trial. What a trial writes says what its calls answered, and what the sketches
+//! said before and after them. Requests for memory of two sizes of their own mark the calls that a trial is about; what
+//! loads before the C library may count the requests in between, and refuse one of them.
+//!
+//! | trial | shows |
+//! |---|---|
+//! | `session LEFT_OUT..` | a run of a session over commands of all kinds, without those of the given places |
+//! | `windows LEFT_OUT..` | calls on the windows of tenants, without those of the given places |
+//! | `frequent_..`, `table_..`, `filter_..`, `counts_..`, `bytes_..` | a call of the library that may answer want of memory, alone |
+//! | `allocation-free_..` | calls that take no memory |
+//! | `counted_..` | calls whose requests for memory are counted |
+//! | `feeds-nothing_..`, `unclonable_..`, `unwritable_..`, `letter_..` | items that are hard to hash, to clone, to write or to tell apart |
+//! | `great_small_weights`, `great_weights`, `great_totals`, `thousands` | weights and totals at the ends of their types |
+//! | `sizes` | shapes of the greatest sizes |
+//!
+//! Without a word it writes nothing. It ends with status 3 where something went wrong that no trial is about.
+#![tactic(auto)]
+
+mod allocation_free;
+mod calls;
+mod commands;
+mod hard_items;
+mod output;
+mod ranges;
+mod session;
+mod sizes_and_rows;
+mod table;
+mod texts;
+mod trial;
+mod windows;
+
+use sketch_items::{FEEDS_NOTHING, LETTER, UNCLONABLE, UNWRITABLE};
+use std::process::ExitCode;
+use trial::{SetupFailed, Trial};
+
+fn main(rt: HostRuntime) -> ExitCode {
+    let mut trial = Trial::new(rt.alloc());
+    let Ok(words) = std::env::args(&rt) else {
+        return ExitCode::from(3);
+    };
+    let mut words = words.skip(1);
+    let Some(name) = words.next() else {
+        return ExitCode::SUCCESS;
+    };
+    let mut places = Vec::new(rt.alloc());
+    for word in words {
+        let Ok(place) = word.parse::<usize>() else {
+            return ExitCode::from(3);
+        };
+        if places.push(place).is_err() {
+            return ExitCode::from(3);
+        }
+    }
+    let played = play(&mut trial, name.as_str(), &places);
+    match trial.text() {
+        Ok(text) if played.is_ok() && rt.print(text).is_ok() => ExitCode::SUCCESS,
+        _ => ExitCode::from(3),
+    }
+}
+
+/// Plays the trial of the name.
+fn play(trial: &mut Trial, name: &str, places: &[usize]) -> Result<(), SetupFailed> {
+    match name {
+        "session" => session::session(trial, places),
+        "windows" => windows::windows(trial, places),
+        "sizes" => ranges::sizes(trial),
+        "thousands" => ranges::thousands(trial),
+        _ => match name.split_once('_') {
+            Some((subject, call)) => play_subject(trial, subject, call),
+            None => Err(SetupFailed),
+        },
+    }
+}
+
+/// Plays the trial of a subject.
+fn play_subject(trial: &mut Trial, subject: &str, call: &str) -> Result<(), SetupFailed> {
+    match subject {
+        "frequent" => calls::frequent::play(trial, call),
+        "table" => calls::table::play(trial, call),
+        "filter" => calls::filter::play(trial, call),
+        "counts" => calls::counts::play(trial, call),
+        "bytes" => calls::bytes::play(trial, call),
+        "allocation-free" => allocation_free::play(trial, call),
+        "counted" => allocation_free::play_counted(trial, call),
+        "feeds-nothing" => hard_items::play::<FEEDS_NOTHING>(trial, call),
+        "unclonable" => hard_items::play::<UNCLONABLE>(trial, call),
+        "unwritable" => hard_items::play::<UNWRITABLE>(trial, call),
+        "letter" => hard_items::play::<LETTER>(trial, call),
+        "great" => ranges::play_great(trial, call),
+        _ => Err(SetupFailed),
+    }
+}
