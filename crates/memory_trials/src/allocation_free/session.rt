@@ -129,10 +129,10 @@ fn made(alloc: Global) -> Result<Session<String>, SetupFailed> {
 fn apply(
     session: &mut Session<String>,
     command: Command<String>,
-    spares: bool,
+    recycles: bool,
     recycled: &mut Recycled<String>,
 ) -> Reply<String> {
-    if spares {
+    if recycles {
         session.apply_recycling(command, recycled)
     } else {
         session.apply(command)
@@ -146,11 +146,11 @@ fn apply_all(
     replies: &mut Vec<Reply<String>>,
 ) -> bool {
     let mut room = true;
-    let mut spares = false;
+    let mut recycles = false;
     let mut recycled = Recycled::new();
     for command in commands {
-        let reply = apply(session, command, spares, &mut recycled);
-        spares = !spares;
+        let reply = apply(session, command, recycles, &mut recycled);
+        recycles = !recycles;
         room = replies.push(reply).is_ok() && room;
     }
     room
