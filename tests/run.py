@@ -12,6 +12,7 @@ import sys
 import tempfile
 import threading
 
+import examples
 import trials
 
 HERE = os.path.dirname(os.path.abspath(__file__))
@@ -395,6 +396,7 @@ def main():
         tests.statuses()
         tests.failing_streams()
         tests.sizes()
+        examples.check(tests)
         print(f"requests refused in turn: {worked} and {many} of the program, {run} of a run of a session, {windows} on windows")
         print(f"{before[0] + tests.passed} passed, {before[1] + tests.failed} failed")
     sys.exit(1 if before[1] + tests.failed else 0)
