@@ -1,6 +1,19 @@
 //! What is done to a sketch.
 
 /// What is done to a sketch. Each kind of sketch knows some of these.
+///
+/// # Examples
+///
+/// ```
+/// use datasketches::{Action, Change};
+///
+/// fn insertion(name: String, item: u64) -> Action<u64> {
+///     Action::Change {
+///         name,
+///         change: Change::Insert { item },
+///     }
+/// }
+/// ```
 #[derive(Debug, PartialEq, Eq, Drop)]
 pub enum Change<T> {
     /// An item is added with a weight.

@@ -138,6 +138,18 @@ pub enum Command<T> {
 }
 
 /// What commands did not keep: a name and an item, whose memory further commands may take.
+///
+/// # Examples
+///
+/// ```
+/// use datasketches::{Command, Recycled, Session};
+///
+/// fn recycles(session: &mut Session<u64>, name: String, item: u64) -> bool {
+///     let mut recycled = Recycled::new();
+///     session.apply_recycling(Command::Insert { name, item }, &mut recycled);
+///     recycled.name.is_some()
+/// }
+/// ```
 #[derive(Drop)]
 pub struct Recycled<T> {
     /// A name.

@@ -1,6 +1,20 @@
 //! What is done to a sketch with another one.
 
 /// What is done to a sketch with another one. Each kind of sketch knows some of these.
+///
+/// # Examples
+///
+/// ```
+/// use datasketches::{Action, Join};
+///
+/// fn union(into: String, other: String) -> Action<u64> {
+///     Action::Join {
+///         into,
+///         other,
+///         join: Join::Union,
+///     }
+/// }
+/// ```
 #[derive(Clone, Copy, Debug, PartialEq, Eq)]
 pub enum Join {
     /// The other's weights are added.

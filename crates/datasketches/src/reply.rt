@@ -7,6 +7,31 @@ use sketch_frequencies::Row;
 use std::fmt;
 
 /// The answer to a command.
+///
+/// # Examples
+///
+/// ```
+/// use datasketches::error::Error;
+/// use datasketches::{Command, Reply, Session};
+/// use std::alloc::Global;
+///
+/// fn visits_by_seven(alloc: Global) -> Result<Reply<u64>, Error> {
+///     let mut session = Session::new(alloc);
+///     let name = String::from_str(alloc, "visits")?;
+///     session.apply(Command::CreateFrequent {
+///         name,
+///         max_map_size: 64,
+///     });
+///     let name = String::from_str(alloc, "visits")?;
+///     session.apply(Command::Add {
+///         name,
+///         item: 7,
+///         weight: 5,
+///     });
+///     let name = String::from_str(alloc, "visits")?;
+///     Ok(session.apply(Command::Ask { name, item: 7 }))
+/// }
+/// ```
 #[derive(Debug, PartialEq, Eq, Drop)]
 pub enum Reply<T> {
     /// It was done.
@@ -30,6 +55,19 @@ pub enum Reply<T> {
 }
 
 /// A sketch's numbers.
+///
+/// # Examples
+///
+/// ```
+/// use datasketches::Status;
+///
+/// fn most_slots(status: Status) -> Option<usize> {
+///     match status {
+///         Status::Frequent { max, .. } => Some(max),
+///         _ => None,
+///     }
+/// }
+/// ```
 #[derive(Clone, Copy, Debug, PartialEq, Eq)]
 pub enum Status {
     /// Those of a sketch of frequent items: counters, error, total weight, slots now and at most, and how many counters
@@ -66,6 +104,16 @@ pub enum Status {
 }
 
 /// Why a command was refused.
+///
+/// # Examples
+///
+/// ```
+/// use datasketches::Refusal;
+///
+/// fn word_for(refusal: Refusal) -> &'static str {
+///     refusal.name()
+/// }
+/// ```
 #[derive(Clone, Copy, Debug, PartialEq, Eq)]
 pub enum Refusal {
     /// No sketch, or no image, has the name.

@@ -1,6 +1,19 @@
 //! What a sketch is made by.
 
 /// What a sketch is made by: its kind and its numbers.
+///
+/// # Examples
+///
+/// ```
+/// use datasketches::{Action, Command, Shape};
+///
+/// fn made_shape(command: Command<u64>) -> Option<Shape> {
+///     match Action::from(command) {
+///         Action::Create { shape, .. } => Some(shape),
+///         _ => None,
+///     }
+/// }
+/// ```
 #[derive(Clone, Copy, Debug, PartialEq, Eq)]
 pub enum Shape {
     /// A sketch of frequent items of at most so many slots.

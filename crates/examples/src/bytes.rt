@@ -1,6 +1,6 @@
 //! Bytes that are hashed, written and read.
 use sketch_base::{
-    Divisor, Error, ErrorKind, Fault, MurmurHash3X64128, SketchBytes, SketchSlice, XxHash64,
+    Divisor, Error, ErrorKind, Family, Fault, MurmurHash3X64128, SketchBytes, SketchSlice, XxHash64,
 };
 use std::alloc::Global;
 use std::hash::{Hash, Hasher};
@@ -45,4 +45,14 @@ pub fn bucket(hash: u64) -> u64 {
 /// Whether an image lacks bytes at its end.
 pub fn is_cut_short(error: &Error) -> bool {
     error.kind() == ErrorKind::InvalidData && error.fault() == Fault::InsufficientData
+}
+
+/// Whether an image is one of a filter, by the number of its family.
+pub fn is_of_a_filter(family: u8) -> bool {
+    Family::BLOOMFILTER.validate_id(family).is_ok()
+}
+
+/// What was wrong, for a reader.
+pub fn reason(error: &Error) -> &'static str {
+    error.fault().text()
 }

@@ -1,6 +1,6 @@
 //! Weights in a table of a fixed size.
 use sketch_base::Error;
-use sketch_countmin::CountMinSketch;
+use sketch_countmin::{CountMinSketch, CountMinValue, UnsignedCountMinValue};
 use std::alloc::Global;
 
 /// The weight of an apple, aged by a half.
@@ -41,4 +41,14 @@ pub fn apples_in_store(alloc: Global) -> Result<i64, Error> {
     store.update_with_weight("apple", 90)?;
     store.update_with_weight("apple", -20)?;
     Ok(store.estimate("apple"))
+}
+
+/// The weight of all items, over any type of numbers.
+pub fn weight_of_all<T: CountMinValue>(counts: &CountMinSketch<T>) -> T {
+    counts.total_weight()
+}
+
+/// Half of each weight, over any type without numbers below zero.
+pub fn halve<T: UnsignedCountMinValue>(counts: &mut CountMinSketch<T>) {
+    counts.halve();
 }

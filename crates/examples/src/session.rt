@@ -1,6 +1,8 @@
 //! Commands on named sketches.
 use datasketches::error::Error;
-use datasketches::{Action, Command, Refusal, Reply, Session, Shape};
+use datasketches::{
+    Action, Change, Command, Join, Recycled, Refusal, Reply, Session, Shape, Status,
+};
 use std::alloc::Global;
 
 /// Whether a filter of a session has seen the number 7.
@@ -60,4 +62,41 @@ pub fn made_shape(command: Command<u64>) -> Option<Shape> {
         Action::Create { shape, .. } => Some(shape),
         _ => None,
     }
+}
+
+/// How many slots a sketch of frequent items may have.
+pub fn most_slots(status: Status) -> Option<usize> {
+    match status {
+        Status::Frequent { max, .. } => Some(max),
+        _ => None,
+    }
+}
+
+/// The word for a refusal, as the program prints it.
+pub fn word_for(refusal: Refusal) -> &'static str {
+    refusal.name()
+}
+
+/// An item that goes into a filter.
+pub fn insertion(name: String, item: u64) -> Action<u64> {
+    Action::Change {
+        name,
+        change: Change::Insert { item },
+    }
+}
+
+/// A filter that takes in what another has.
+pub fn union(into: String, other: String) -> Action<u64> {
+    Action::Join {
+        into,
+        other,
+        join: Join::Union,
+    }
+}
+
+/// Inserts an item, and answers whether its name can be used again.
+pub fn recycles(session: &mut Session<u64>, name: String, item: u64) -> bool {
+    let mut recycled = Recycled::new();
+    session.apply_recycling(Command::Insert { name, item }, &mut recycled);
+    recycled.name.is_some()
 }

@@ -1,16 +1,23 @@
 //! What the examples answer.
 use crate::bytes::{
-    bucket, halves_of, hash_of_both, is_cut_short, there_and_back, version_and_seed,
+    bucket, halves_of, hash_of_both, is_cut_short, is_of_a_filter, reason, there_and_back,
+    version_and_seed,
 };
-use crate::counts::{age, apples_in_store, apples_of_both_days, bytes_of_apple, sent_counts};
+use crate::counts::{
+    age, apples_in_store, apples_of_both_days, bytes_of_apple, halve, sent_counts, weight_of_all,
+};
 use crate::filters::{filter_of_visitors, is_first_visit, seen_by_both, still_refused};
 use crate::frequent_items::{apples_of_both_shops, heaviest};
 use crate::images::sent;
-use crate::session::{has_seen_seven, made_shape, refusal_of_an_unknown_name, visits_by_seven};
+use crate::session::{
+    has_seen_seven, insertion, made_shape, most_slots, recycles, refusal_of_an_unknown_name, union,
+    visits_by_seven, word_for,
+};
 use crate::windows::{load_of_a_customer, weight_of_the_first};
 use datasketches::bloom::BloomFilterBuilder;
 use datasketches::error::Error;
-use datasketches::{Command, Refusal, Reply, Shape};
+use datasketches::{Action, Command, Refusal, Reply, Session, Shape, Status};
+use sketch_base::Fault;
 use sketch_countmin::CountMinSketch;
 use std::alloc::Global;
 use std::test::Fail;
@@ -49,6 +56,7 @@ fn bytes_are_as_the_docs_say(rt: HostRuntime) -> Result<(), Fail> {
     assert!(rt; there_and_back(rt.alloc(), 77)? == 77);
     assert!(rt; version_and_seed(&[1, 2, 0, 0, 0, 0, 0, 0, 0])? == (1, 2));
     assert!(rt; version_and_seed(&[1]).is_err_and(|e| is_cut_short(&e)));
+    assert!(rt; is_of_a_filter(21) && !is_of_a_filter(10));
     assert!(rt; hash_of_both(b"app", b"le") == hash_of_both(b"", b"apple"));
     assert!(rt; halves_of(&7u64) == halves_of(&7u64));
     assert!(rt; bucket(300) == 44);
@@ -110,5 +118,46 @@ fn sessions_are_as_the_docs_say(rt: HostRuntime) -> Result<(), Fail> {
     );
     assert!(rt; refusal_of_an_unknown_name(rt.alloc())? == Some(Refusal::NoSuchName));
     assert!(rt; shape_of_visits(rt.alloc())? == Some(Shape::Frequent { max_map_size: 64 }));
+    Ok(())
+}
+
+/// Half of a weight of 16.
+fn half_of_sixteen(alloc: Global) -> Result<u64, Error> {
+    let mut counts: CountMinSketch<u64> = CountMinSketch::new(alloc, 4, 128)?;
+    counts.update_with_weight("apple", 16)?;
+    halve(&mut counts);
+    Ok(weight_of_all(&counts))
+}
+
+/// Whether an item and a name make an insertion, and two names a union.
+fn makes_actions(alloc: Global) -> Result<bool, Error> {
+    let inserts = matches!(
+        insertion(String::from_str(alloc, "a")?, 7),
+        Action::Change { .. }
+    );
+    let joins = union(String::from_str(alloc, "a")?, String::from_str(alloc, "b")?);
+    Ok(inserts && matches!(joins, Action::Join { .. }))
+}
+
+/// Whether the name of a refused insertion can be used again.
+fn recycles_a_name(alloc: Global) -> Result<bool, Error> {
+    let mut session = Session::new(alloc);
+    Ok(recycles(&mut session, String::from_str(alloc, "a")?, 7))
+}
+
+#[test]
+fn types_are_as_their_docs_say(rt: HostRuntime) -> Result<(), Fail> {
+    let status = Status::CountU64 {
+        total: 0,
+        hashes: 4,
+        buckets: 128,
+        seed: 9001,
+    };
+    assert!(rt; half_of_sixteen(rt.alloc())? == 8);
+    assert!(rt; makes_actions(rt.alloc())?);
+    assert!(rt; recycles_a_name(rt.alloc())?);
+    assert!(rt; most_slots(status) == None);
+    assert!(rt; word_for(Refusal::NameTaken) == "NameTaken");
+    assert!(rt; reason(&Error::invalid_data(Fault::BadFamily)) == "wrong family");
     Ok(())
 }

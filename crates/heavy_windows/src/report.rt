@@ -2,6 +2,21 @@
 use sketch_frequencies::Row;
 
 /// What weighed most in the windows of a tenant.
+///
+/// # Examples
+///
+/// ```
+/// use heavy_windows::{Error, ErrorType, HeavyWindows, Report};
+/// use std::alloc::Global;
+///
+/// fn load_of_a_customer(alloc: Global) -> Result<Report<&'static str>, Error> {
+///     let mut load = HeavyWindows::new(alloc, 24, 1024)?;
+///     load.add(7, "/search", 5_300)?;
+///     load.turn(7)?;
+///     load.add(7, "/search", 1_200)?;
+///     load.report(7, ErrorType::NoFalsePositives, 1_000)
+/// }
+/// ```
 #[derive(Debug, Drop)]
 pub struct Report<T> {
     /// The items that are shown, in rows that descend by estimate.

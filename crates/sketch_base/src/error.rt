@@ -8,6 +8,16 @@ use std::fmt;
 use std::marker::Model;
 
 /// The kind of a refusal.
+///
+/// # Examples
+///
+/// ```
+/// use sketch_base::{Error, ErrorKind, Fault};
+///
+/// fn is_cut_short(error: &Error) -> bool {
+///     error.kind() == ErrorKind::InvalidData && error.fault() == Fault::InsufficientData
+/// }
+/// ```
 #[derive(Clone, Copy, Debug, PartialEq, Eq)]
 pub enum ErrorKind {
     /// A call was given an argument that it does not take.

@@ -6,6 +6,16 @@ use crate::error::Error;
 use crate::fault::Fault;
 
 /// A family of sketches: the number that names it in an image, and how many longs its preamble may have.
+///
+/// # Examples
+///
+/// ```
+/// use sketch_base::Family;
+///
+/// fn is_of_a_filter(family: u8) -> bool {
+///     Family::BLOOMFILTER.validate_id(family).is_ok()
+/// }
+/// ```
 #[derive(Clone, Copy, Debug, PartialEq, Eq)]
 pub struct Family {
     /// The number of the family in an image.

@@ -5,6 +5,16 @@ ghost use Rattle.sketch_base.specs.Faults.{fault_text, fault_name};
 use std::fmt;
 
 /// What was wrong.
+///
+/// # Examples
+///
+/// ```
+/// use sketch_base::Error;
+///
+/// fn reason(error: &Error) -> &'static str {
+///     error.fault().text()
+/// }
+/// ```
 #[derive(Clone, Copy, Debug, PartialEq, Eq)]
 pub enum Fault {
     /// The number of bits of a filter is out of range.

@@ -12,6 +12,16 @@ use sketch_base::{Error, Fault};
 ///
 /// To a contract `number` is the number of a value, and `least` and `greatest` are the least and the greatest number
 /// of the type.
+///
+/// # Examples
+///
+/// ```
+/// use sketch_countmin::{CountMinSketch, CountMinValue};
+///
+/// fn weight_of_all<T: CountMinValue>(counts: &CountMinSketch<T>) -> T {
+///     counts.total_weight()
+/// }
+/// ```
 pub trait CountMinValue: Copy + Ord {
     /// Zero.
     const ZERO: Self;

@@ -5,6 +5,16 @@ ghost use Rattle.sketch_countmin.specs.Values.{halved};
 use crate::count_min_value::CountMinValue;
 
 /// A type without negative numbers that a [`CountMinSketch`](crate::CountMinSketch) can count in: `u8` to `u64`.
+///
+/// # Examples
+///
+/// ```
+/// use sketch_countmin::{CountMinSketch, UnsignedCountMinValue};
+///
+/// fn halve<T: UnsignedCountMinValue>(counts: &mut CountMinSketch<T>) {
+///     counts.halve();
+/// }
+/// ```
 pub trait UnsignedCountMinValue: CountMinValue {
     /// Half of the value, rounded down.
     #[inline(always)]
