@@ -1,16 +1,11 @@
 //! Windows of many tenants.
-ghost use Rattle.std.specs.Prelude.{◌≡◌, ◌≢◌, ℕ, ◌<◌, ◌≤◌, ◌^◌, [], false, None, IfOk, IfErr, IsOk, IsTrue, OnOk, OnErr, IsErrOf};
+ghost use Rattle.std.specs.Prelude.{◌≡◌, ℕ, ◌<◌, ◌≤◌, ◌^◌, [], None, IfOk, IfErr, IsOk, IsTrue, OnOk, IsErrOf};
 ghost use Rattle.sketch_base.specs.Errors.{invalid_argument, no_memory, refusal_of};
-ghost use Rattle.sketch_frequencies.specs.State.{Overflows, TotalHasRoom, must_double};
-ghost use Rattle.heavy_windows.specs.Fresh.{fresh_state};
-ghost use Rattle.heavy_windows.specs.Histories.{added_history, turned_history};
+ghost use Rattle.heavy_windows.specs.Calls.{IsMade, IsAddition, IsTurn, IsReport};
 ghost use Rattle.heavy_windows.specs.Merging.{IsMerged};
-ghost use Rattle.heavy_windows.specs.Newest.{turned};
-ghost use Rattle.heavy_windows.specs.Reports.{Reports, HasTotal, EnclosesEach, MissesNone, ShowsNoneBelow, IsPaidByTail};
 ghost use Rattle.heavy_windows.specs.Sizes.{limits_fault};
-ghost use Rattle.heavy_windows.specs.Stands.{WindowsStandFor, ExtendsWindows};
-ghost use Rattle.heavy_windows.specs.State.{at_tenant, newest_of, nothing_added, windows_total, IsWindows, OnlyChanges};
-ghost use Rattle.heavy_windows.specs.Steps.{AddsToNewest};
+ghost use Rattle.heavy_windows.specs.Stands.{WindowsStandFor};
+ghost use Rattle.heavy_windows.specs.State.{at_tenant, windows_total, IsWindows};
 
 use crate::report::Report;
 use crate::windows::Windows;
@@ -77,11 +72,9 @@ impl<T: Eq + Hash + Drop> HeavyWindows<T> {
     ///
     /// `BadWindows`, `MapSizeNotPowerOfTwo`, `MapSizeTooSmall` below 8 and `MapSizeTooLarge` above 2^30, in this order.
     pub fn new(alloc: Global, windows: usize, max_map_size: usize) -> Result<Self, Error>
-        ensures ok { IfOk result (λ w. w ≡ nothing_added windows max_map_size) }
+        ensures call { IsMade windows max_map_size result }
         ensures state { IfOk result IsWindows }
         ensures stands { IfOk result (λ w. (tenant : ℕ) → WindowsStandFor T.eq max_map_size (at_tenant tenant w) []) }
-        ensures accepted { limits_fault windows max_map_size ≡ None → IsOk result }
-        ensures refused { IfErr result (λ e. e ≡ refusal_of (limits_fault windows max_map_size)) }
     {
         check_limits(windows, max_map_size)?;
         Ok(HeavyWindows {
@@ -101,26 +94,8 @@ impl<T: Eq + Hash + Drop> HeavyWindows<T> {
     /// there is no memory for a first window, or for a table of twice the size where the newest's must double. All
     /// windows are then as they were, and an unknown tenant is still unknown.
     pub fn add(&mut self, tenant: u64, item: T, weight: u64) -> Result<(), Error>
-        ensures zero { weight ≡ 0 → IsOk result × (self.new ≡ self.old) }
-        ensures adds { OnOk result (0 < weight → AddsToNewest T.eq (fresh_state self.old.max_map_size)
-            (at_tenant tenant self.old) item weight (at_tenant tenant self.new)) }
+        ensures call { IsAddition T.eq tenant weight item self.old result self.new }
         ensures state { IsWindows self.new }
-
-        // What the windows stood for, they stand for with the weight added to the newest.
-        ensures stands { OnOk result (0 < weight → ExtendsWindows T.eq tenant self.old self.new
-            (added_history self.old.max_map_size item weight)) }
-
-        // No other tenant's windows change, and a refusal changes nothing.
-        ensures others { OnlyChanges tenant self.old self.new }
-        ensures err { OnErr result (self.new ≡ self.old) }
-        ensures overflow { 0 < weight
-            → Overflows (newest_of tenant self.old) weight
-            → IsErrOf result (invalid_argument Fault.WeightOverflow) }
-        ensures memory { TotalHasRoom (newest_of tenant self.old) weight
-            → IfErr result (λ e. e ≡ no_memory) }
-        ensures succeeds { TotalHasRoom (newest_of tenant self.old) weight
-            → must_double T.eq (newest_of tenant self.old) item ≡ false
-            → at_tenant tenant self.old ≢ [] → IsOk result }
     {
         // for the prover: a look at a field brings in what holds of all windows
         let _ = &self.tenants;
@@ -144,19 +119,8 @@ impl<T: Eq + Hash + Drop> HeavyWindows<T> {
     ///
     /// `NoMemory` where there is no memory for a window. All windows are then as they were.
     pub fn turn(&mut self, tenant: u64) -> Result<(), Error>
-        ensures turned { OnOk result (at_tenant tenant self.new
-            ≡ turned self.old.limit (fresh_state self.old.max_map_size) (at_tenant tenant self.old)) }
+        ensures call { IsTurn T.eq tenant self.old result self.new }
         ensures state { IsWindows self.new }
-
-        // What the windows stood for, they stand for with an empty one behind them, and without the dropped one.
-        ensures stands { OnOk result (ExtendsWindows T.eq tenant self.old self.new
-            (turned_history self.old.limit self.old.max_map_size)) }
-
-        // No other tenant's windows change, and a refusal changes nothing.
-        ensures others { OnlyChanges tenant self.old self.new }
-        ensures unknown { at_tenant tenant self.old ≡ [] → IsOk result × (self.new ≡ self.old) }
-        ensures err { OnErr result (self.new ≡ self.old) }
-        ensures memory { IfErr result (λ e. e ≡ no_memory) }
     {
         let Some(windows) = self.tenants.get_mut(&tenant) else {
             return Ok(());
@@ -183,22 +147,7 @@ impl<T: Eq + Hash + Drop> HeavyWindows<T> {
     where
         T: Clone,
         requires clones { (x y : T) → T.is_clone x y → IsTrue (T.eq x y) }
-        ensures ok { IfOk result (λ report. Reports T.eq error_type threshold self.now.max_map_size
-            (at_tenant tenant self.now) report) }
-
-        // What the report says of whatever the tenant's windows stand for.
-        ensures total { IfOk result (λ report. HasTotal T.eq self.now.max_map_size (at_tenant tenant self.now) report) }
-        ensures encloses { IfOk result (λ report. EnclosesEach T.eq self.now.max_map_size (at_tenant tenant self.now) report) }
-        ensures none_missing { IfOk result (λ report. error_type ≡ ErrorType.NoFalseNegatives
-            → MissesNone T.eq self.now.max_map_size (at_tenant tenant self.now) threshold report) }
-        ensures none_below { IfOk result (λ report. error_type ≡ ErrorType.NoFalsePositives
-            → ShowsNoneBelow T.eq self.now.max_map_size (at_tenant tenant self.now) threshold report) }
-        ensures budget { IfOk result (λ report. IsPaidByTail T.eq self.now.max_map_size (at_tenant tenant self.now) report) }
-
-        // An overflow is refused before memory.
-        ensures overflow { 2 ^ 64 ≤ windows_total (at_tenant tenant self.now)
-            → IsErrOf result (invalid_argument Fault.WeightOverflow) }
-        ensures memory { windows_total (at_tenant tenant self.now) < 2 ^ 64 → IfErr result (λ e. e ≡ no_memory) }
+        ensures call { IsReport T.eq tenant error_type threshold self.now result }
     {
         let merged = self.merged(tenant)?;
         let rows = merged.frequent_items_with_threshold(error_type, threshold)?;

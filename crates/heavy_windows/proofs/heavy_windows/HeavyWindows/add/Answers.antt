@@ -1,4 +1,5 @@
-use Rattle.std.proofs.Common.{◌≡◌, ◌<◌, arith, [], ◌∷◌, Some, unwrap_or, refl, ap, sym, subst}
+use Rattle.std.proofs.Common.{rules, ◌≡◌, ◌<◌, arith, [], ◌∷◌, Some, unwrap_or, refl, ap, sym, subst}
+use Rattle.std.proofs.lemmas.Grind.{common_steps}
 use Rattle.std.proofs.Math.Dec.{eqb}
 use Rattle.std.proofs.lemmas.Result.{on_err_weaker}
 use Rattle.std.specs.Map.{lookup}
@@ -37,21 +38,35 @@ invariant_of-self g c =
 pub returns-in-Some-clause-state : goal.returns-in-Some-clause-state
 returns-in-Some-clause-state g c = invariant_of-self g c
 
-pub returns-in-Some-clause-others : goal.returns-in-Some-clause-others
-returns-in-Some-clause-others g c = put_others_of c.args.tenant c.add.new.self _ c.args.self.now _ c.self.view_is (put g c)
+pub returns-in-Some-clause-call : goal.returns-in-Some-clause-call
+returns-in-Some-clause-call g c = record {
+  zero = search rules;
+  adds = search rules;
+  stands = search rules;
+  others = put_others_of c.args.tenant c.add.new.self _ c.args.self.now _ c.self.view_is (put g c);
+  err = on_err_weaker c.add.result
+      (λ e. put_back c.args.tenant c.self.inside.limit c.self.inside.max_map_size c.self.inside.tenants.entries (c.get_mut.follows.lender c.add.new.self).entries c.in-Some.windows.now c.args.self.now c.self.view_is (sym c.in-Some.ensures.value) (rw e (c.get_mut.follows.holds c.in-Some.windows.now).0))
+      c.add.ensures.err;
+  overflow = search rules;
+  memory = search rules;
+  succeeds = search rules;
+}
 
-pub returns-in-Some-clause-err : goal.returns-in-Some-clause-err
-returns-in-Some-clause-err g c =
-    on_err_weaker c.add.result
-    (λ e. put_back c.args.tenant c.self.inside.limit c.self.inside.max_map_size c.self.inside.tenants.entries (c.get_mut.follows.lender c.add.new.self).entries c.in-Some.windows.now c.args.self.now c.self.view_is (sym c.in-Some.ensures.value) (rw e (c.get_mut.follows.holds c.in-Some.windows.now).0))
-    c.add.ensures.err
-
-pub returns-in_err-insert-clause-others : goal.returns-in_err-insert-clause-others
-returns-in_err-insert-clause-others g c =
+pub returns-in_err-insert-clause-call : goal.returns-in_err-insert-clause-call
+returns-in_err-insert-clause-call g c =
     let old = c.self.inside.tenants.entries in
     let same : c.insert.new.self.entries ≡ old = rw c.get_mut.follows.holds-at-none at c.in_err-insert.ensures.err in
     let new : WindowsState g.row.T.Denot = record { limit = c.self.inside.limit; max_map_size = c.self.inside.max_map_size; tenants = c.insert.new.self.entries } in
-    same_changes c.args.tenant c.args.self.now new (put_none c.self.inside.limit c.self.inside.max_map_size old c.insert.new.self.entries c.args.self.now c.self.view_is same)
+    record {
+      zero = search rules;
+      adds = grind (arith, common_steps);
+      stands = grind (arith, common_steps);
+      others = same_changes c.args.tenant c.args.self.now new (put_none c.self.inside.limit c.self.inside.max_map_size old c.insert.new.self.entries c.args.self.now c.self.view_is same);
+      err = grind (arith, common_steps);
+      overflow = grind (arith, common_steps);
+      memory = grind (arith, common_steps);
+      succeeds = search rules;
+    }
 
 -- an unknown tenant got a first window
 put_first : (g : given.Over) (c : goal.Joined-branch-4 g)
@@ -73,31 +88,29 @@ invariant_of-self-2 g c =
 pub returns-clause-state : goal.returns-clause-state
 returns-clause-state g c = invariant_of-self-2 g c
 
-pub returns-clause-others : goal.returns-clause-others
-returns-clause-others g c = put_others_of c.args.tenant (c.update_with_count.new.self ∷ []) _ c.args.self.now _ c.self.view_is (put_first g c)
-
-pub returns-clause-adds : goal.returns-clause-adds
-returns-clause-adds g c = λ some.
-    let eq = g.T.PartialEq.eq in
-    let tenant = c.args.tenant in
-    let old : WindowsState g.row.T.Denot = record { limit = c.self.inside.limit; max_map_size = c.self.inside.max_map_size; tenants = c.self.inside.tenants.entries } in
-    let new : WindowsState g.row.T.Denot = record { limit = c.self.inside.limit; max_map_size = c.self.inside.max_map_size; tenants = c.insert.new.self.entries } in
-    let before : at_tenant tenant old ≡ [] = ap (λ o. unwrap_or o []) (sym c.in_default.ensures.value) in
-    let after = put_at tenant (c.update_with_count.new.self ∷ []) old new (put_first g c) in
-    let step = subst (λ s. Steps eq s c.args.item c.args.weight c.update_with_count.new.self) c.in_ok-window.ensures.ok (c.in_ok-update_with_count.ensures.step some) in
-    subst (λ (s : WindowsState g.row.T.Denot). AddsToNewest eq (fresh_state s.max_map_size) (at_tenant tenant s) c.args.item c.args.weight (at_tenant tenant new)) c.self.view_is
-    (adds_first eq (fresh_state c.self.inside.max_map_size) (at_tenant tenant old) (at_tenant tenant new) c.update_with_count.new.self c.args.item c.args.weight before after step)
-
-pub returns-clause-stands : goal.returns-clause-stands
-returns-clause-stands g c = λ some.
+pub returns-clause-call : goal.returns-clause-call
+returns-clause-call g c =
     let eq = g.T.PartialEq.eq in
     let tenant = c.args.tenant in
     let max_map_size = c.self.inside.max_map_size in
-    let old : WindowsState g.row.T.Denot = record { limit = c.self.inside.limit; max_map_size = c.self.inside.max_map_size; tenants = c.self.inside.tenants.entries } in
-    let new : WindowsState g.row.T.Denot = record { limit = c.self.inside.limit; max_map_size = c.self.inside.max_map_size; tenants = c.insert.new.self.entries } in
+    let old : WindowsState g.row.T.Denot = record { limit = c.self.inside.limit; max_map_size = max_map_size; tenants = c.self.inside.tenants.entries } in
+    let new : WindowsState g.row.T.Denot = record { limit = c.self.inside.limit; max_map_size = max_map_size; tenants = c.insert.new.self.entries } in
     let before : at_tenant tenant old ≡ [] = ap (λ o. unwrap_or o []) (sym c.in_default.ensures.value) in
     let after = put_at tenant (c.update_with_count.new.self ∷ []) old new (put_first g c) in
-    subst (λ (s : WindowsState g.row.T.Denot). ExtendsEach eq s.max_map_size (at_tenant tenant s) (at_tenant tenant new) (added_history s.max_map_size c.args.item c.args.weight)) c.self.view_is
-    (first_at eq max_map_size c.in_ok-window.window c.update_with_count.new.self c.args.item c.args.weight (at_tenant tenant old) (at_tenant tenant new) before after
-    (c.in_ok-update_with_count.ensures.stands some) (c.in_ok-update_with_count.ensures.budget some)
-    (fresh_window eq max_map_size c.in_ok-window.window c.in_ok-window.ensures.stands c.in_ok-window.ensures.budget))
+    record {
+      zero = search rules;
+      adds = λ some.
+          let step = subst (λ s. Steps eq s c.args.item c.args.weight c.update_with_count.new.self) c.in_ok-window.ensures.ok (c.in_ok-update_with_count.ensures.step some) in
+          subst (λ (s : WindowsState g.row.T.Denot). AddsToNewest eq (fresh_state s.max_map_size) (at_tenant tenant s) c.args.item c.args.weight (at_tenant tenant new)) c.self.view_is
+          (adds_first eq (fresh_state max_map_size) (at_tenant tenant old) (at_tenant tenant new) c.update_with_count.new.self c.args.item c.args.weight before after step);
+      stands = λ some.
+          subst (λ (s : WindowsState g.row.T.Denot). ExtendsEach eq s.max_map_size (at_tenant tenant s) (at_tenant tenant new) (added_history s.max_map_size c.args.item c.args.weight)) c.self.view_is
+          (first_at eq max_map_size c.in_ok-window.window c.update_with_count.new.self c.args.item c.args.weight (at_tenant tenant old) (at_tenant tenant new) before after
+          (c.in_ok-update_with_count.ensures.stands some) (c.in_ok-update_with_count.ensures.budget some)
+          (fresh_window eq max_map_size c.in_ok-window.window c.in_ok-window.ensures.stands c.in_ok-window.ensures.budget));
+      others = put_others_of tenant (c.update_with_count.new.self ∷ []) _ c.args.self.now _ c.self.view_is (put_first g c);
+      err = search rules;
+      overflow = search rules;
+      memory = search rules;
+      succeeds = search rules;
+    }

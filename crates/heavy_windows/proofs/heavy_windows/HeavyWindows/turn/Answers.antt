@@ -1,4 +1,5 @@
-use Rattle.std.proofs.Common.{◌≡◌, [], Some, unwrap_or, refl, ap, sym, ◌∙◌, subst}
+use Rattle.std.proofs.Common.{rules, arith, ◌≡◌, [], Some, unwrap_or, refl, ap, sym, ◌∙◌, subst}
+use Rattle.std.proofs.lemmas.Grind.{common_steps}
 use Rattle.std.proofs.Math.Dec.{eqb}
 use Rattle.std.proofs.lemmas.Result.{err_from_is_err_and, on_ok_weaker, on_err_weaker}
 use Rattle.std.specs.Map.{lookup}
@@ -25,13 +26,17 @@ invariant_of-self-in_err-window g c =
 pub returns-in_err-window-clause-state : goal.returns-in_err-window-clause-state
 returns-in_err-window-clause-state g c = invariant_of-self-in_err-window g c
 
-pub returns-in_err-window-clause-others : goal.returns-in_err-window-clause-others
-returns-in_err-window-clause-others g c = same_changes c.args.tenant c.args.self.now _ (same g c)
-
-pub returns-in_err-window-clause-err : goal.returns-in_err-window-clause-err
-returns-in_err-window-clause-err g c =
-    let p = err_from_is_err_and c.from_residual.result c.from_residual.ensures.1 in
-    rw p.1 (same g c)
+pub returns-in_err-window-clause-call : goal.returns-in_err-window-clause-call
+returns-in_err-window-clause-call g c = record {
+  turned = search rules;
+  stands = search rules;
+  others = same_changes c.args.tenant c.args.self.now _ (same g c);
+  unknown = search rules;
+  err =
+      let p = err_from_is_err_and c.from_residual.result c.from_residual.ensures.1 in
+      rw p.1 (same g c);
+  memory = grind (arith, common_steps);
+}
 
 -- the windows were turned, or left as they were
 put : (g : given.Over) (c : goal.After-self-2-1 g)
@@ -55,24 +60,24 @@ invariant_of-self-2 g c =
 pub returns-clause-state : goal.returns-clause-state
 returns-clause-state g c = invariant_of-self-2 g c
 
-pub returns-clause-others : goal.returns-clause-others
-returns-clause-others g c = put_others_of c.args.tenant c.turn.new.self _ c.args.self.now _ c.self.view_is (put g c)
-
-pub returns-clause-err : goal.returns-clause-err
-returns-clause-err g c =
-    on_err_weaker c.turn.result
-    (λ e. put_back c.args.tenant c.self.inside.limit c.self.inside.max_map_size c.self.inside.tenants.entries (c.get_mut.follows.lender c.turn.new.self).entries c.in-Some.windows.now c.args.self.now c.self.view_is (sym c.in-Some.ensures.value) (rw e (c.get_mut.follows.holds c.in-Some.windows.now).0))
-    c.turn.ensures.err
-
-pub returns-clause-stands : goal.returns-clause-stands
-returns-clause-stands g c =
+pub returns-clause-call : goal.returns-clause-call
+returns-clause-call g c =
     let eq = g.T.PartialEq.eq in
     let tenant = c.args.tenant in
     let new : WindowsState g.row.T.Denot = record { limit = c.self.inside.limit; max_map_size = c.self.inside.max_map_size; tenants = (c.get_mut.follows.lender c.turn.new.self).entries } in
     let before = ap (λ o. unwrap_or o []) (sym c.in-Some.ensures.value) in
     let after = put_at tenant c.turn.new.self _ new (put g c) in
-    subst (λ (s : WindowsState g.row.T.Denot). OnOk c.turn.result (ExtendsEach eq s.max_map_size (at_tenant tenant s) (at_tenant tenant new) (turned_history s.limit s.max_map_size))) c.self.view_is
-    (on_ok_weaker c.turn.result
-    (λ done. opened_at eq c.self.inside.limit c.self.inside.max_map_size c.in_ok-window.window c.in-Some.windows.now _ (at_tenant tenant new) before (after ∙ done)
-    (fresh_window eq c.self.inside.max_map_size c.in_ok-window.window c.in_ok-window.ensures.stands c.in_ok-window.ensures.budget))
-    c.turn.ensures.turned)
+    record {
+      turned = search rules;
+      stands = subst (λ (s : WindowsState g.row.T.Denot). OnOk c.turn.result (ExtendsEach eq s.max_map_size (at_tenant tenant s) (at_tenant tenant new) (turned_history s.limit s.max_map_size))) c.self.view_is
+          (on_ok_weaker c.turn.result
+          (λ done. opened_at eq c.self.inside.limit c.self.inside.max_map_size c.in_ok-window.window c.in-Some.windows.now _ (at_tenant tenant new) before (after ∙ done)
+          (fresh_window eq c.self.inside.max_map_size c.in_ok-window.window c.in_ok-window.ensures.stands c.in_ok-window.ensures.budget))
+          c.turn.ensures.turned);
+      others = put_others_of tenant c.turn.new.self _ c.args.self.now _ c.self.view_is (put g c);
+      unknown = search rules;
+      err = on_err_weaker c.turn.result
+          (λ e. put_back tenant c.self.inside.limit c.self.inside.max_map_size c.self.inside.tenants.entries (c.get_mut.follows.lender c.turn.new.self).entries c.in-Some.windows.now c.args.self.now c.self.view_is (sym c.in-Some.ensures.value) (rw e (c.get_mut.follows.holds c.in-Some.windows.now).0))
+          c.turn.ensures.err;
+      memory = search rules;
+    }
