@@ -5,7 +5,6 @@ use Rattle.std.specs.Str.{bytes_eq}
 use Rattle.std.specs.Borrow.{Bor}
 use Rattle.std.specs.Str.{IsUtf8}
 use Rattle.std.specs.String.{string_bytes}
-use Rattle.std.proofs.lemmas.Bool.{false≢true}
 use Rattle.std.proofs.lemmas.List.{take_all, length-take}
 use Rattle.datasketches.specs.declared.action.Action.{Action}
 use Rattle.datasketches.specs.declared.action.Action.TheVariants as action
@@ -41,32 +40,21 @@ short_change v words change.Reset (w, e) = omega (arith, ap length e)
 short_change v words change.Halve (w, e) = omega (arith, ap length e)
 short_change v words (change.Decay numerator denominator) (n, d, w, e, x, y) = omega (arith, ap length e)
 
-short_made : (words : List (List ℕ)) (a : Action Text) → Make words a → length words ≤ 5
-short_made words (action.Create name s) (v, rest, e, m) = omega (arith, ap length e, short_shape v rest s m)
-short_made words (action.Change name c) (v, rest, e, m) = omega (arith, ap length e, short_change v rest c m)
-short_made words (action.Join into other j) e = omega (arith, ap length e)
-short_made words (action.Save name image) e = omega (arith, ap length e)
-short_made words (action.Restore image name) e = omega (arith, ap length e)
-short_made words (action.ShowImage image) e = omega (arith, ap length e)
-short_made words (action.Ask name item) e = omega (arith, ap length e)
-short_made words (action.GetStatus name) e = omega (arith, ap length e)
-short_made words (action.ListRows name error_type threshold) (n, e, x) = omega (arith, ap length e)
-
--- and at least two in all make an action
-long_made : (words : List (List ℕ)) (a : Action Text) → Make words a → 2 ≤ length words
-long_made words (action.Create name s) (v, rest, e, m) = omega (arith, ap length e)
-long_made words (action.Change name c) (v, rest, e, m) = omega (arith, ap length e)
-long_made words (action.Join into other j) e = omega (arith, ap length e)
-long_made words (action.Save name image) e = omega (arith, ap length e)
-long_made words (action.Restore image name) e = omega (arith, ap length e)
-long_made words (action.ShowImage image) e = omega (arith, ap length e)
-long_made words (action.Ask name item) e = omega (arith, ap length e)
-long_made words (action.GetStatus name) e = omega (arith, ap length e)
-long_made words (action.ListRows name error_type threshold) (n, e, x) = omega (arith, ap length e)
+-- two to five words make an action
+words_made : (words : List (List ℕ)) (a : Action Text) → Make words a → (2 ≤ length words) × (length words ≤ 5)
+words_made words (action.Create name s) (v, rest, e, m) = (omega (arith, ap length e), omega (arith, ap length e, short_shape v rest s m))
+words_made words (action.Change name c) (v, rest, e, m) = (omega (arith, ap length e), omega (arith, ap length e, short_change v rest c m))
+words_made words (action.Join into other j) e = (omega (arith, ap length e), omega (arith, ap length e))
+words_made words (action.Save name image) e = (omega (arith, ap length e), omega (arith, ap length e))
+words_made words (action.Restore image name) e = (omega (arith, ap length e), omega (arith, ap length e))
+words_made words (action.ShowImage image) e = (omega (arith, ap length e), omega (arith, ap length e))
+words_made words (action.Ask name item) e = (omega (arith, ap length e), omega (arith, ap length e))
+words_made words (action.GetStatus name) e = (omega (arith, ap length e), omega (arith, ap length e))
+words_made words (action.ListRows name error_type threshold) (n, e, x) = (omega (arith, ap length e), omega (arith, ap length e))
 
 -- at most five words make a request
 short_asked : (words : List (List ℕ)) (asked : Request) → Ask words asked → length words ≤ 5
-short_asked words (request.Action a) (inl made) = short_made words a made
+short_asked words (request.Action a) (inl made) = (words_made words a made).1
 short_asked words (request.Windows windows max) (inr (n, m, e, x, y)) = omega (arith, ap length e)
 short_asked words (request.Add tenant weight item) (inr (t, w, e, x, y)) = omega (arith, ap length e)
 short_asked words (request.Turn tenant) (inr (t, e, x)) = omega (arith, ap length e)
@@ -84,21 +72,6 @@ says_this line text words asked same utf8 told asks =
     let here : texts_of words ≡ take 6 (words_of line) = told ∙ ap (λ (l : List ℕ). take 6 (words_of l)) same in
     let asks_first : Ask (take 6 (words_of line)) asked = subst (λ (l : List (List ℕ)). Ask l asked) here asks in
     (utf8, subst (λ (l : List (List ℕ)). Ask l asked) (first_are_all (words_of line) asked asks_first) asks_first)
-
--- words that are no numbers of a Count-Min sketch make no shape of one
-pub no_signed : (words : List (List ℕ)) → ((hashes buckets seed : ℕ) → ¬ AreCounts words hashes buckets seed) → (made : Shape) → ¬ MakeShape (codes "counti") words made
-no_signed words none (shape.Frequent max) (m, w, e, n) = cc
-no_signed words none (shape.FrequentSampled max sample) (m, n, w, e, x, y) = cc
-no_signed words none (shape.CountI64 hashes buckets seed) (w, counts) = none hashes buckets seed counts
-no_signed words none (shape.CountU64 hashes buckets seed) (w, counts) = false≢true (ap (λ (l : List ℕ). bytes_eq l (codes "countu")) w)
-no_signed words none (shape.Bloom bits hashes seed) (b, h, s, w, e, x, y, z) = cc
-
-pub no_unsigned : (words : List (List ℕ)) → ((hashes buckets seed : ℕ) → ¬ AreCounts words hashes buckets seed) → (made : Shape) → ¬ MakeShape (codes "countu") words made
-no_unsigned words none (shape.Frequent max) (m, w, e, n) = cc
-no_unsigned words none (shape.FrequentSampled max sample) (m, n, w, e, x, y) = cc
-no_unsigned words none (shape.CountI64 hashes buckets seed) (w, counts) = false≢true (ap (λ (l : List ℕ). bytes_eq l (codes "counti")) w)
-no_unsigned words none (shape.CountU64 hashes buckets seed) (w, counts) = none hashes buckets seed counts
-no_unsigned words none (shape.Bloom bits hashes seed) (b, h, s, w, e, x, y, z) = cc
 
 -- all verbs, each with the number of what it asks for
 abbrev verbs : List (List ℕ × ℕ)
@@ -177,6 +150,6 @@ split_action (x ∷ y ∷ xs) first second v n some count e =
 
 -- one word makes no action
 pub none_of_one : (words : List (Bor (List ℕ))) → length words < 2 → (a : Action Text) → ¬ Make (texts_of words) a
-none_of_one [] few a made = omega (arith, long_made [] a made)
-none_of_one (x ∷ []) few a made = omega (arith, long_made (x.now ∷ []) a made)
+none_of_one [] few a made = omega (arith, (words_made [] a made).0)
+none_of_one (x ∷ []) few a made = omega (arith, (words_made (x.now ∷ []) a made).0)
 none_of_one (x ∷ y ∷ xs) few a made = omega arith

@@ -1,5 +1,5 @@
 -- What parsing finds in a line.
-use Rattle.std.specs.Prelude.{◌≡◌, ◌≢◌, ℕ, List, [], ◌∷◌, map, Option, MatchOption}
+use Rattle.std.specs.Prelude.{◌≡◌, ◌≢◌, ℕ, Bool, true, false, List, [], ◌∷◌, map, Option, MatchOption, codes}
 use Rattle.std.specs.Borrow.{Bor}
 use Rattle.datasketches.specs.ErrorType.{ErrorType}
 use Rattle.datasketches.specs.declared.action.Action.{Action}
@@ -9,7 +9,7 @@ use Rattle.datasketches.specs.declared.shape.Shape.{Shape}
 use Rattle.datasketches_cli.specs.Texts.{Text}
 use Rattle.datasketches_cli.specs.declared.request.Request.{Request}
 use Rattle.datasketches_cli.specs.Asking.{AskOnWindows}
-use Rattle.datasketches_cli.specs.Grammar.{report_word, join_word, AreCounts, MakeShape, MakeChange, Make}
+use Rattle.datasketches_cli.specs.Grammar.{report_word, join_word, MakeShape, MakeChange, Make}
 
 -- the texts of some words
 abbrev pub texts_of : List (Bor (List ℕ)) → List (List ℕ)
@@ -26,11 +26,10 @@ IsReportOf word found =
     MatchOption found ((error_type : ErrorType) → word ≢ report_word error_type)
     (λ error_type. word ≡ report_word error_type)
 
--- the numbers of a Count-Min sketch, or none where there are none
-abbrev pub AreCountsOf : List (List ℕ) → Option (ℕ × ℕ × ℕ) → Type 0
-AreCountsOf words found =
-    MatchOption found ((hashes buckets seed : ℕ) → ¬ AreCounts words hashes buckets seed)
-    (λ counts. AreCounts words counts.0 counts.1 counts.2)
+-- the verb that makes a Count-Min sketch of signed counts, or of unsigned ones
+abbrev pub count_verb : Bool → List ℕ
+count_verb true = codes "counti"
+count_verb false = codes "countu"
 
 -- the shape that the words make, or none where they make none
 abbrev pub IsShapeOf : List ℕ → List (List ℕ) → Option Shape → Type 0

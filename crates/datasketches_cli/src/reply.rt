@@ -79,7 +79,7 @@ fn write_reply(alloc: Global, out: &mut String, reply: &Reply<String>) -> Result
 fn write_status(out: &mut String, status: &Status) -> Result<(), Stopped>
     ensures { OnOk result (string_bytes out.new ≡ string_bytes out.old ++ status_text status.now) }
 {
-    match *status {
+    match status {
         Status::Frequent {
             active,
             error,
@@ -87,95 +87,38 @@ fn write_status(out: &mut String, status: &Status) -> Result<(), Stopped>
             size,
             max,
             capacity,
-        } => write_frequent(out, active, error, total, size, max, capacity),
+        } => write!(
+            out,
+            "frequent active {active} error {error} total {total} size {size} max {max} capacity {capacity}"
+        )?,
         Status::CountI64 {
             total,
             hashes,
             buckets,
             seed,
-        } => write_count_i64(out, total, hashes, buckets, seed),
+        } => write!(
+            out,
+            "counti total {total} hashes {hashes} buckets {buckets} seed {seed}"
+        )?,
         Status::CountU64 {
             total,
             hashes,
             buckets,
             seed,
-        } => write_count_u64(out, total, hashes, buckets, seed),
+        } => write!(
+            out,
+            "countu total {total} hashes {hashes} buckets {buckets} seed {seed}"
+        )?,
         Status::Bloom {
             bits,
             capacity,
             hashes,
             seed,
-        } => write_bloom(out, bits, capacity, hashes, seed),
+        } => write!(
+            out,
+            "bloom bits {bits} capacity {capacity} hashes {hashes} seed {seed}"
+        )?,
     }
-}
-
-fn write_frequent(
-    out: &mut String,
-    active: usize,
-    error: u64,
-    total: u64,
-    size: usize,
-    max: usize,
-    capacity: usize,
-) -> Result<(), Stopped>
-    ensures { OnOk result (string_bytes out.new
-        ≡ string_bytes out.old ++ status_text (Status.Frequent active error total size max capacity)) }
-{
-    write!(
-        out,
-        "frequent active {active} error {error} total {total} size {size} max {max} capacity {capacity}"
-    )?;
-    Ok(())
-}
-
-fn write_count_i64(
-    out: &mut String,
-    total: i64,
-    hashes: u8,
-    buckets: u32,
-    seed: u64,
-) -> Result<(), Stopped>
-    ensures { OnOk result (string_bytes out.new
-        ≡ string_bytes out.old ++ status_text (Status.CountI64 total hashes buckets seed)) }
-{
-    write!(
-        out,
-        "counti total {total} hashes {hashes} buckets {buckets} seed {seed}"
-    )?;
-    Ok(())
-}
-
-fn write_count_u64(
-    out: &mut String,
-    total: u64,
-    hashes: u8,
-    buckets: u32,
-    seed: u64,
-) -> Result<(), Stopped>
-    ensures { OnOk result (string_bytes out.new
-        ≡ string_bytes out.old ++ status_text (Status.CountU64 total hashes buckets seed)) }
-{
-    write!(
-        out,
-        "countu total {total} hashes {hashes} buckets {buckets} seed {seed}"
-    )?;
-    Ok(())
-}
-
-fn write_bloom(
-    out: &mut String,
-    bits: u64,
-    capacity: usize,
-    hashes: u16,
-    seed: u64,
-) -> Result<(), Stopped>
-    ensures { OnOk result (string_bytes out.new
-        ≡ string_bytes out.old ++ status_text (Status.Bloom bits capacity hashes seed)) }
-{
-    write!(
-        out,
-        "bloom bits {bits} capacity {capacity} hashes {hashes} seed {seed}"
-    )?;
     Ok(())
 }
 

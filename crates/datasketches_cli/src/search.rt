@@ -12,14 +12,14 @@ pub fn first_place(byte: u8, bytes: &[u8]) -> usize
 {
     let mut at = 0;
     while bytes.len() - at >= 16 {
-        let found = first_in_16(byte, bytes, at);
+        let found = first_in::<16>(byte, bytes, at);
         if found < 16 {
             return at + found;
         }
         at += 16;
     }
     if bytes.len() - at >= 8 {
-        let found = first_in_8(byte, bytes, at);
+        let found = first_in::<8>(byte, bytes, at);
         if found < 8 {
             return at + found;
         }
@@ -31,33 +31,18 @@ pub fn first_place(byte: u8, bytes: &[u8]) -> usize
     at
 }
 
-/// The same of sixteen bytes, counted from the first of them.
+/// The same of `N` bytes, counted from the first of them.
 #[inline(always)]
-fn first_in_16(byte: u8, bytes: &[u8], at: usize) -> usize
-    requires { at + 16 ≤ length bytes.now }
-    ensures { result ≡ position_or_len (λ other. other == byte) (slice_range bytes.now at (at + 16)) }
+fn first_in<const N: usize>(byte: u8, bytes: &[u8], at: usize) -> usize
+    requires lanes { N ≤ 64 }
+    requires room { at + N ≤ length bytes.now }
+    ensures { result ≡ position_or_len (λ other. other == byte) (slice_range bytes.now at (at + N)) }
 {
-    let marks = u8x16::from_slice(&bytes[at..])
-        .simd_eq(u8x16::splat(byte))
+    let marks = Simd::<u8, N>::from_slice(&bytes[at..])
+        .simd_eq(Simd::splat(byte))
         .to_bitmask();
     if marks == 0 {
-        16
-    } else {
-        marks.trailing_zeros() as usize
-    }
-}
-
-/// The same of eight bytes.
-#[inline(always)]
-fn first_in_8(byte: u8, bytes: &[u8], at: usize) -> usize
-    requires { at + 8 ≤ length bytes.now }
-    ensures { result ≡ position_or_len (λ other. other == byte) (slice_range bytes.now at (at + 8)) }
-{
-    let marks = u8x8::from_slice(&bytes[at..])
-        .simd_eq(u8x8::splat(byte))
-        .to_bitmask();
-    if marks == 0 {
-        8
+        N
     } else {
         marks.trailing_zeros() as usize
     }

@@ -23,8 +23,8 @@ pub fn change_of(
         "add" => add(alloc, words, recycled),
         "adds" => adds(alloc, words, recycled),
         "insert" => insert(alloc, words, recycled),
-        "reset" => Ok(reset(words)),
-        "halve" => Ok(halve(words)),
+        "reset" => Ok(words.is_empty().then_some(Change::Reset)),
+        "halve" => Ok(words.is_empty().then_some(Change::Halve)),
         "decay" => Ok(decay(words)),
         _ => Ok(None),
     }
@@ -68,26 +68,6 @@ pub fn insert(alloc: Global, words: &[&str], recycled: &mut Option<String>) -> P
     };
     let item = copied(alloc, item, recycled)?;
     Ok(Some(Change::Insert { item }))
-}
-
-fn reset(words: &[&str]) -> Option<Change<String>>
-    ensures { IsChangeOf (codes "reset") (texts_of words.now) result }
-{
-    if words.is_empty() {
-        Some(Change::Reset)
-    } else {
-        None
-    }
-}
-
-fn halve(words: &[&str]) -> Option<Change<String>>
-    ensures { IsChangeOf (codes "halve") (texts_of words.now) result }
-{
-    if words.is_empty() {
-        Some(Change::Halve)
-    } else {
-        None
-    }
 }
 
 fn decay(words: &[&str]) -> Option<Change<String>>

@@ -1,6 +1,6 @@
 //! Words to shapes of sketches.
 ghost use Rattle.std.specs.Prelude.{codes};
-ghost use Rattle.datasketches_cli.specs.Parsing.{AreCountsOf, IsShapeOf, texts_of};
+ghost use Rattle.datasketches_cli.specs.Parsing.{IsShapeOf, count_verb, texts_of};
 
 use super::number::{number_of, number_of_u8, number_of_u16, number_of_u32};
 use datasketches::Shape;
@@ -12,8 +12,8 @@ pub fn shape_of(verb: &str, words: &[&str]) -> Option<Shape>
     match verb {
         "frequent" => frequent(words),
         "sampled" => sampled(words),
-        "counti" => counti(words),
-        "countu" => countu(words),
+        "counti" => counts(true, words),
+        "countu" => counts(false, words),
         "bloom" => bloom(words),
         _ => None,
     }
@@ -42,30 +42,29 @@ fn sampled(words: &[&str]) -> Option<Shape>
     })
 }
 
-fn counti(words: &[&str]) -> Option<Shape>
-    ensures { IsShapeOf (codes "counti") (texts_of words.now) result }
+/// The shape of a Count-Min sketch of signed counts or of unsigned ones.
+fn counts(signed: bool, words: &[&str]) -> Option<Shape>
+    ensures { IsShapeOf (count_verb signed) (texts_of words.now) result }
 {
-    let Some((num_hashes, num_buckets, seed)) = counts_of(words) else {
+    let [num_hashes, num_buckets, seed] = words else {
         return None;
     };
-    Some(Shape::CountI64 {
-        num_hashes,
-        num_buckets,
-        seed,
-    })
-}
-
-fn countu(words: &[&str]) -> Option<Shape>
-    ensures { IsShapeOf (codes "countu") (texts_of words.now) result }
-{
-    let Some((num_hashes, num_buckets, seed)) = counts_of(words) else {
-        return None;
-    };
-    Some(Shape::CountU64 {
-        num_hashes,
-        num_buckets,
-        seed,
-    })
+    let num_hashes = number_of_u8(num_hashes)?;
+    let num_buckets = number_of_u32(num_buckets)?;
+    let seed = number_of(seed)?;
+    if signed {
+        Some(Shape::CountI64 {
+            num_hashes,
+            num_buckets,
+            seed,
+        })
+    } else {
+        Some(Shape::CountU64 {
+            num_hashes,
+            num_buckets,
+            seed,
+        })
+    }
 }
 
 fn bloom(words: &[&str]) -> Option<Shape>
@@ -79,18 +78,4 @@ fn bloom(words: &[&str]) -> Option<Shape>
         num_hashes: number_of_u16(num_hashes)?,
         seed: number_of(seed)?,
     })
-}
-
-/// The numbers of a Count-Min sketch: its hashes, its buckets and its seed.
-fn counts_of(words: &[&str]) -> Option<(u8, u32, u64)>
-    ensures { AreCountsOf (texts_of words.now) result }
-{
-    let [num_hashes, num_buckets, seed] = words else {
-        return None;
-    };
-    Some((
-        number_of_u8(num_hashes)?,
-        number_of_u32(num_buckets)?,
-        number_of(seed)?,
-    ))
 }

@@ -6,24 +6,24 @@ use Rattle.datasketches_cli.proofs.search.first_place.Goals.{then-bytes-at-ge8+e
 
 pub returns-then-found-lt16-clause-value : goal.returns-then-found-lt16-clause-value
 returns-then-found-lt16-clause-value c =
-    found_in (λ other. eqb other c.args.byte) c.args.bytes.now c.loop-at.at 16 _ (omega arith) c.loop-at.invariant.1 c.first_in_16-found.ensures c.if-found-lt16.true
+    found_in (λ other. eqb other c.args.byte) c.args.bytes.now c.loop-at.at 16 _ (omega arith) c.loop-at.invariant.1 c.first_in-found.ensures c.if-found-lt16.true
 
 pub loop-at-preserved : goal.loop-at-preserved
 loop-at-preserved c = (
   omega arith,
-  passed_in (λ other. eqb other c.args.byte) c.args.bytes.now c.loop-at.at 16 _ (omega arith) c.loop-at.invariant.1 c.first_in_16-found.ensures (omega arith),
+  passed_in (λ other. eqb other c.args.byte) c.args.bytes.now c.loop-at.at 16 _ (omega arith) c.loop-at.invariant.1 c.first_in-found.ensures (omega arith),
 )
 
 pub returns-then-found-lt8-clause-value : goal.returns-then-found-lt8-clause-value
 returns-then-found-lt8-clause-value c =
-    found_in (λ other. eqb other c.args.byte) c.args.bytes.now c.loop-at.at 8 _ (omega arith) c.loop-at.invariant.1 c.first_in_8-found.ensures c.if-found-lt8.true
+    found_in (λ other. eqb other c.args.byte) c.args.bytes.now c.loop-at.at 8 _ (omega arith) c.loop-at.invariant.1 c.first_in-found-then-bytes-at-ge8.ensures c.if-found-lt8.true
 
 pub loop-at-2-init : goal.loop-at-2-init
 loop-at-2-init c =
     elim c.if-bytes-at-ge8.branch [
       | then-bytes-at-ge8+else-found-lt8 w ↦ (
         omega arith,
-        rw w.at-is (passed_in (λ other. eqb other c.args.byte) c.args.bytes.now c.loop-at.at 8 _ (omega arith) c.loop-at.invariant.1 w.first_in_8-found.ensures (omega arith)),
+        rw w.at-is (passed_in (λ other. eqb other c.args.byte) c.args.bytes.now c.loop-at.at 8 _ (omega arith) c.loop-at.invariant.1 w.first_in-found-then-bytes-at-ge8.ensures (omega arith)),
       )
       | else-bytes-at-ge8 w ↦ rw w.at-is c.loop-at.invariant
     ]
