@@ -10,17 +10,11 @@ ghost use Rattle.heavy_windows.specs.State.{at_tenant, windows_total, IsWindows}
 use crate::report::Report;
 use crate::windows::Windows;
 use sketch_base::{Error, Fault};
-use sketch_frequencies::{ErrorType, FrequentItemsSketch};
+use sketch_frequencies::{ErrorType, FrequentItemsSketch, check_map_size};
 use std::alloc::Global;
 use std::collections::HashMap;
 use std::hash::Hash;
 use std::marker::Model;
-
-/// The least table size that a window may be limited to.
-const LEAST_MAP_SIZE: usize = 8;
-
-/// The greatest.
-const GREATEST_MAP_SIZE: usize = 1 << 30;
 
 /// The most windows that a tenant may have.
 const MOST_WINDOWS: usize = 1024;
@@ -185,14 +179,5 @@ fn check_limits(windows: usize, max_map_size: usize) -> Result<(), Error>
     if windows == 0 || windows > MOST_WINDOWS {
         return Err(Error::invalid_argument(Fault::BadWindows));
     }
-    if !max_map_size.is_power_of_two() {
-        return Err(Error::invalid_argument(Fault::MapSizeNotPowerOfTwo));
-    }
-    if max_map_size < LEAST_MAP_SIZE {
-        return Err(Error::invalid_argument(Fault::MapSizeTooSmall));
-    }
-    if max_map_size > GREATEST_MAP_SIZE {
-        return Err(Error::invalid_argument(Fault::MapSizeTooLarge));
-    }
-    Ok(())
+    check_map_size(max_map_size)
 }

@@ -33,10 +33,16 @@ sample_passes m n sample =
     rw (low, sample.even, high) refl
 
 -- a size without a fault is one that a sketch may have
-size_passes : (power small large : Bool) (f f' f'' : Fault) → cond (not power) (Some f) (cond small (Some f') (cond large (Some f'') None)) ≡ None → (power ≡ true) × (small ≡ false)
-size_passes true false large f f' f'' e = (refl, refl)
-size_passes true true large f f' f'' e = absurd cc
-size_passes false small large f f' f'' e = absurd cc
+passes : (power small large : Bool) (f f' f'' : Fault) → cond (not power) (Some f) (cond small (Some f') (cond large (Some f'') None)) ≡ None → (power ≡ true) × (small ≡ false) × (large ≡ false)
+passes true false false f f' f'' e = (refl, refl, refl)
+passes true false true f f' f'' e = absurd cc
+passes true true large f f' f'' e = absurd cc
+passes false small large f f' f'' e = absurd cc
+
+pub size_passes : (m : ℕ) → size_fault m ≡ None → IsTrue (is_power_of_two m) × (8 ≤ m) × (m ≤ 2 ^ 30)
+size_passes m none =
+    let p = passes (is_power_of_two m) (ltb m 8) (ltb (2 ^ 30) m) _ _ _ none in
+    (p.0, ltb-false m 8 p.1, ltb-false (2 ^ 30) m p.2)
 
 or_no_more : (a b : Option Fault) → (a ≡ None → b ≡ None) → or_else a b ≡ a
 or_no_more None b h = h refl
@@ -46,8 +52,8 @@ or_no_more (Some f) b h = refl
 pub usual_fault : (m : ℕ) → sizes_fault m (greatest_sample_size m) ≡ size_fault m
 usual_fault m =
     or_no_more (size_fault m) (sample_fault m (greatest_sample_size m)) (λ none.
-    let p = size_passes (is_power_of_two m) (ltb m 8) (ltb (2 ^ 30) m) _ _ _ none in
-    sample_passes m _ (usual_sample m (ltb-false m 8 p.1) p.0))
+    let p = size_passes m none in
+    sample_passes m _ (usual_sample m p.1 p.0))
 
 -- where each new sketch had the sample size of `new`, so has the sketch, and so has the least size
 pub usual_own : {T : Type 0} (h : FrequentHistory T) → HasUsualSamples h → own_sample h ≡ greatest_sample_size (own_size h)

@@ -19,6 +19,7 @@ mod frequent_items_sketch;
 mod image;
 pub mod laws;
 mod row;
+mod sizes;
 
 pub use counter_table::{ReversePurgeItemHashMap, ReversePurgeItemIter};
 pub use error_type::ErrorType;
@@ -26,5 +27,6 @@ pub use frequent_item_value::FrequentItemValue;
 pub use frequent_items_sketch::FrequentItemsSketch;
 pub use image::{EMPTY_FLAG_MASK, PREAMBLE_LONGS_EMPTY, PREAMBLE_LONGS_NONEMPTY};
 pub use row::Row;
+pub use sizes::check_map_size;
 pub use sketch_base::image::SERIAL_VERSION;
 pub use sketch_base::{Error, ErrorKind, Fault, SketchBytes, SketchSlice};

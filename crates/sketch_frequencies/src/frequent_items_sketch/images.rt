@@ -1,0 +1,125 @@
+//! Images of sketches.
+ghost use Rattle.std.specs.Prelude.{◌≡◌, ◌<◌, ◌≤◌, IfOk, IfErr};
+ghost use Rattle.sketch_base.specs.Checks.{IsImageRefusal};
+ghost use Rattle.counter_table.specs.Bytes.{table_bytes};
+ghost use Rattle.sketch_frequencies.specs.Image.{IsImageOf, IsSpelledFor, IsImageWritingRefusal, Restores, RestoresBudget, early_fault, first_fault, early_fault_within, first_fault_within};
+ghost use Rattle.sketch_frequencies.specs.State.{IsState, greatest_sample_size};
+
+use crate::frequent_item_value::FrequentItemValue;
+use crate::frequent_items_sketch::FrequentItemsSketch;
+use crate::image::{
+    Numbers, begin_image, check_limit, check_weights, empty_image, image_size, read_counters,
+    read_header, read_numbers, table_size, write_items, write_weights,
+};
+use crate::sizes::{LEAST_MAP_SIZE, greatest_sample_of};
+use counter_table::ReversePurgeItemHashMap;
+use sketch_base::Error;
+use std::alloc::Global;
+
+impl<T: FrequentItemValue + Drop> FrequentItemsSketch<T> {
+    /// An image of the sketch: it is 8 bytes long where nothing was fed, and else 32, 8 for each counter, and the bytes
+    /// of the items. The order of the items is left open. The sample size is not in it.
+    ///
+    /// # Errors
+    ///
+    /// `NoMemory` where there is no memory for the image, which is asked for once, or where its length would pass the
+    /// greatest `usize`. A fault of the kind `InvalidArgument` where an item has no bytes, as `ItemTooLong` for a text
+    /// of more than 2^32 - 1 bytes.
+    pub fn serialize(&self) -> Result<Vec<u8>, Error>
+        ensures image { IfOk result (λ image. IsSpelledFor T.codec T.content image.items self.now) }
+        ensures err { IfErr result (IsImageWritingRefusal T.codec T.content self.now.counters) }
+    {
+        let alloc = self.map.allocator();
+        let lg_max = self.lg_max_map_size();
+        if self.total == 0 {
+            return Ok(empty_image(alloc, lg_max)?.into_bytes());
+        }
+        let slots = self.map.slots();
+        let active = self.map.num_active();
+        let numbers = Numbers {
+            active: active as u32,
+            total: self.total,
+            error: self.error,
+        };
+        let room = image_size(slots, active)?;
+        let mut out = begin_image(alloc, room, lg_max, self.map.lg_length(), &numbers)?;
+        write_weights(&mut out, slots)?;
+        write_items(&mut out, slots)?;
+        Ok(out.into_bytes())
+    }
+
+    /// The sketch of an image.
+    ///
+    /// The bytes behind the image are ignored, and so are the unused ones within it. Weights of equal items are added
+    /// up, and items of weight 0 are left out. The table takes as many slots as the image states, at most 2^30, of
+    /// which three quarters may be free: see [`deserialize_with_limit`](Self::deserialize_with_limit). An image that
+    /// says that nothing was fed gives a table of 8 slots, whatever it states. An image says nothing of the sample size:
+    /// it is the one that `new` gives.
+    ///
+    /// # Errors
+    ///
+    /// The fault of the first check that fails, of the kind `InvalidData`: in this order `InsufficientData`,
+    /// `BadFamily`, `BadVersion`, `LgCurTooSmall`, `LgMaxTooLarge`, `LgCurAboveMax`, `BadPreamble` and
+    /// `EmptyFlagMismatch`, and where nothing says 'empty' `InsufficientData`, `TooManyActive`, `InsufficientData`,
+    /// `ZeroTotal`, `InsufficientData` twice, `WeightsExceedTotal`, `ErrorExceedsTotal`, and the fault of the first
+    /// item that does not read. `NoMemory` where there is no memory for the table or for an item: that is asked for
+    /// behind all checks but the last three.
+    pub fn deserialize(alloc: Global, image: &[u8]) -> Result<Self, Error>
+        ensures image { IfOk result (λ sketch. IsImageOf T.codec T.content image.now sketch) }
+        ensures state { IfOk result (λ sketch. IsState T.eq sketch) }
+        ensures sample { IfOk result (λ sketch. sketch.sample_size ≡ greatest_sample_size sketch.max_size) }
+        ensures stands { IfOk result (λ sketch. Restores T.codec T.content T.eq image.now sketch) }
+        ensures budget { IfOk result (λ sketch. RestoresBudget T.codec T.content T.eq image.now sketch) }
+        ensures err { IfErr result (IsImageRefusal (early_fault image.now) (first_fault T.codec image.now)) }
+    {
+        Self::deserialize_with_limit(alloc, image, usize::MAX)
+    }
+
+    /// The sketch of an image, whose `estimated_size` is at most so many bytes. As [`deserialize`](Self::deserialize).
+    ///
+    /// # Errors
+    ///
+    /// Those of `deserialize`, and `TableTooLarge` of the kind `InvalidData` where its `estimated_size` would be more:
+    /// behind the checks that come before memory, and then no memory is asked for.
+    pub fn deserialize_with_limit(
+        alloc: Global,
+        image: &[u8],
+        most_bytes: usize,
+    ) -> Result<Self, Error>
+        ensures image { IfOk result (λ sketch. IsImageOf T.codec T.content image.now sketch) }
+        ensures state { IfOk result (λ sketch. IsState T.eq sketch) }
+        ensures sample { IfOk result (λ sketch. sketch.sample_size ≡ greatest_sample_size sketch.max_size) }
+        ensures stands { IfOk result (λ sketch. Restores T.codec T.content T.eq image.now sketch) }
+        ensures budget { IfOk result (λ sketch. RestoresBudget T.codec T.content T.eq image.now sketch) }
+        ensures within { IfOk result (λ sketch. table_bytes T.row sketch.size ≤ most_bytes) }
+        ensures err { IfErr result (IsImageRefusal (early_fault_within T.row most_bytes image.now)
+            (first_fault_within T.row most_bytes T.codec image.now)) }
+    {
+        let header = read_header(image)?;
+        let max_size = table_size(header.lg_max);
+        let sample_size = greatest_sample_of(max_size);
+        if header.is_empty {
+            check_limit::<T>(LEAST_MAP_SIZE, most_bytes)?;
+            let map = ReversePurgeItemHashMap::new(alloc, LEAST_MAP_SIZE)?;
+            return Ok(FrequentItemsSketch {
+                map,
+                error: 0,
+                total: 0,
+                max_size,
+                sample_size,
+            });
+        }
+        let size = table_size(header.lg_cur);
+        let numbers = read_numbers(image, header.lg_cur)?;
+        check_limit::<T>(size, most_bytes)?;
+        check_weights(image, &numbers)?;
+        let map = read_counters(alloc, image, numbers.active, size)?;
+        Ok(FrequentItemsSketch {
+            map,
+            error: numbers.error,
+            total: numbers.total,
+            max_size,
+            sample_size,
+        })
+    }
+}
