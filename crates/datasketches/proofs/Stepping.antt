@@ -17,7 +17,7 @@ use Rattle.datasketches.specs.Replies.{is_refused, refused}
 use Rattle.datasketches.specs.Running.{Midst}
 use Rattle.datasketches.specs.Stands.{StandsFor}
 use Rattle.datasketches.specs.State.{SessionState, IsUnchanged}
-use Rattle.datasketches.specs.Steps.{Refuses, Saves, Restores, Performs, Step, Run}
+use Rattle.datasketches.specs.Steps.{Refuses, MakesFrom, Writes, Reads, Saves, Restores, Performs, Step, Run}
 use Rattle.datasketches.specs.declared.action.Action.{Action}
 use Rattle.datasketches.specs.declared.action.Action.TheVariants as action
 use Rattle.datasketches.specs.declared.command.Command.{Command}
@@ -50,6 +50,18 @@ module _ {T C : Type 0} (eq : T → T → Bool) (codec : Codec C) (content : T �
   told_fits true old new a fits same = unchanged_fits old new a fits same
   told_fits false old new a fits same = unchanged_fits old new a fits same
 
+  -- something is made of what one name has, or nothing is
+  makes_fits : {V W : Type 0} (source : Option V) (taken : Option W) (Makes : V → Type 0) (reply : Reply T) (old new : SessionState T) (a grown : Assignment T) → SessionStandsFor eq codec content old a →
+      ((value : V) → source ≡ Some value → Makes value → SessionStandsFor eq codec content new (cond (is_refused reply) a grown)) → MakesFrom source taken Makes old reply new → SessionStandsFor eq codec content new (cond (is_refused reply) a grown)
+  makes_fits None taken Makes reply old new a grown fits made (same, refusal) = rw refusal (unchanged_fits old new a fits same)
+  makes_fits (Some value) (Some other) Makes reply old new a grown fits made (same, refusal) = rw refusal (unchanged_fits old new a fits same)
+  makes_fits (Some value) None Makes reply old new a grown fits made done = made value refl done
+
+  makes_same : {V W : Type 0} (source : Option V) (taken : Option W) (Makes : V → Type 0) (reply : Reply T) (old new : SessionState T) → ((value : V) → Makes value → IsUnchanged old new) → MakesFrom source taken Makes old reply new → IsUnchanged old new
+  makes_same None taken Makes reply old new made step = step.0
+  makes_same (Some value) (Some other) Makes reply old new made step = step.0
+  makes_same (Some value) None Makes reply old new made done = made value done
+
   -- an image was written, or the call refused
   wrote_fits : (sketch : Sketch T) (image : List ℕ) (history : Option (History T)) (reply : Reply T) (old new : SessionState T) (a : Assignment T) →
       Paired (StandsFor eq) (Some sketch) history → SessionStandsFor eq codec content old a → AreSame old.sketches new.sketches →
@@ -65,21 +77,11 @@ module _ {T C : Type 0} (eq : T → T → Bool) (codec : Codec C) (content : T �
     images = same_pairs (IsImageOf eq codec content) old.images new.images a.images fits.images done.2.1;
   })
 
-  save_case : (name image : List ℕ) (found : Option (Sketch T)) (taken : Option Image) (reply : Reply T) (old new : SessionState T) (a : Assignment T) →
-      at_name name old.sketches ≡ found → at_name image old.images ≡ taken → SessionStandsFor eq codec content old a → Saves codec content name image old reply new →
-      SessionStandsFor eq codec content new (cond (is_refused reply) a (record a { images = put_at image (a.sketches name) a.images }))
-  save_case name image None taken reply old new a e f fits saves =
-      let done = rw e at saves in rw done.1 (unchanged_fits old new a fits done.0)
-  save_case name image (Some sketch) (Some other) reply old new a e f fits saves =
-      let done = rw (e, f) at saves in rw done.1 (unchanged_fits old new a fits done.0)
-  save_case name image (Some sketch) None reply old new a e f fits saves =
-      let done = rw (e, f) at saves in
-      let pair : Paired (StandsFor eq) (Some sketch) (a.sketches name) = rw e at (fits.sketches name) in
-      wrote_fits sketch image (a.sketches name) reply old new a pair fits done.sketches done.outcome
-
   pub save_fits : (name image : List ℕ) (reply : Reply T) (old new : SessionState T) (a : Assignment T) → SessionStandsFor eq codec content old a → Saves codec content name image old reply new →
       SessionStandsFor eq codec content new (cond (is_refused reply) a (record a { images = put_at image (a.sketches name) a.images }))
-  save_fits name image reply old new a fits saves = save_case name image (at_name name old.sketches) (at_name image old.images) reply old new a refl refl fits saves
+  save_fits name image reply old new a fits saves =
+      makes_fits (at_name name old.sketches) (at_name image old.images) (λ sketch. Writes codec content sketch image old reply new) reply old new a (record a { images = put_at image (a.sketches name) a.images }) fits
+      (λ sketch e done. let pair : Paired (StandsFor eq) (Some sketch) (a.sketches name) = rw e at (fits.sketches name) in wrote_fits sketch image (a.sketches name) reply old new a pair fits done.sketches done.outcome) saves
 
   -- a save that was refused
   wrote_same : (sketch : Sketch T) (image : List ℕ) (reply : Reply T) (old new : SessionState T) → is_refused reply ≡ true → AreSame old.sketches new.sketches →
@@ -88,12 +90,9 @@ module _ {T C : Type 0} (eq : T → T → Bool) (codec : Codec C) (content : T �
   wrote_same sketch image reply old new r same (inl done) = absurd (false≢true (sym (ap is_refused done.1) ∙ r))
   wrote_same sketch image reply old new r same (inr done) = record { sketches = same; images = done.2.1 }
 
-  saved_same : (name image : List ℕ) (found : Option (Sketch T)) (taken : Option Image) (reply : Reply T) (old new : SessionState T) →
-      at_name name old.sketches ≡ found → at_name image old.images ≡ taken → is_refused reply ≡ true → Saves codec content name image old reply new → IsUnchanged old new
-  saved_same name image None taken reply old new e f r saves = (rw e at saves).0
-  saved_same name image (Some sketch) (Some other) reply old new e f r saves = (rw (e, f) at saves).0
-  saved_same name image (Some sketch) None reply old new e f r saves =
-      let done = rw (e, f) at saves in wrote_same sketch image reply old new r done.sketches done.outcome
+  saved_same : (name image : List ℕ) (reply : Reply T) (old new : SessionState T) → is_refused reply ≡ true → Saves codec content name image old reply new → IsUnchanged old new
+  saved_same name image reply old new r saves =
+      makes_same (at_name name old.sketches) (at_name image old.images) (λ sketch. Writes codec content sketch image old reply new) reply old new (λ sketch done. wrote_same sketch image reply old new r done.sketches done.outcome) saves
 
   -- a sketch was read, or the call refused
   read_fits : (saved : Image) (name : List ℕ) (history : Option (History T)) (reply : Reply T) (old new : SessionState T) (a : Assignment T) →
@@ -110,21 +109,11 @@ module _ {T C : Type 0} (eq : T → T → Bool) (codec : Codec C) (content : T �
     images = same_pairs (IsImageOf eq codec content) old.images new.images a.images fits.images same;
   })
 
-  restore_case : (image name : List ℕ) (found : Option Image) (taken : Option (Sketch T)) (reply : Reply T) (old new : SessionState T) (a : Assignment T) →
-      at_name image old.images ≡ found → at_name name old.sketches ≡ taken → SessionStandsFor eq codec content old a → Restores eq codec content image name old reply new →
-      SessionStandsFor eq codec content new (cond (is_refused reply) a (record a { sketches = put_at name (option_map restored (a.images image)) a.sketches }))
-  restore_case image name None taken reply old new a e f fits restores =
-      let done = rw e at restores in rw done.1 (unchanged_fits old new a fits done.0)
-  restore_case image name (Some saved) (Some other) reply old new a e f fits restores =
-      let done = rw (e, f) at restores in rw done.1 (unchanged_fits old new a fits done.0)
-  restore_case image name (Some saved) None reply old new a e f fits restores =
-      let done = rw (e, f) at restores in
-      let pair : Paired (IsImageOf eq codec content) (Some saved) (a.images image) = rw e at (fits.images image) in
-      read_fits saved name (a.images image) reply old new a pair fits done.images done.outcome
-
   pub restore_fits : (image name : List ℕ) (reply : Reply T) (old new : SessionState T) (a : Assignment T) → SessionStandsFor eq codec content old a → Restores eq codec content image name old reply new →
       SessionStandsFor eq codec content new (cond (is_refused reply) a (record a { sketches = put_at name (option_map restored (a.images image)) a.sketches }))
-  restore_fits image name reply old new a fits restores = restore_case image name (at_name image old.images) (at_name name old.sketches) reply old new a refl refl fits restores
+  restore_fits image name reply old new a fits restores =
+      makes_fits (at_name image old.images) (at_name name old.sketches) (λ saved. Reads eq codec content saved name old reply new) reply old new a (record a { sketches = put_at name (option_map restored (a.images image)) a.sketches }) fits
+      (λ saved e done. let pair : Paired (IsImageOf eq codec content) (Some saved) (a.images image) = rw e at (fits.images image) in read_fits saved name (a.images image) reply old new a pair fits done.images done.outcome) restores
 
   -- a restore that was refused
   read_same : (saved : Image) (name : List ℕ) (reply : Reply T) (old new : SessionState T) → is_refused reply ≡ true → AreSame old.images new.images →
@@ -133,12 +122,9 @@ module _ {T C : Type 0} (eq : T → T → Bool) (codec : Codec C) (content : T �
   read_same saved name reply old new r same (inl done) = absurd (false≢true (sym (ap is_refused done.1) ∙ r))
   read_same saved name reply old new r same (inr done) = record { sketches = done.2.1; images = same }
 
-  restored_same : (image name : List ℕ) (found : Option Image) (taken : Option (Sketch T)) (reply : Reply T) (old new : SessionState T) →
-      at_name image old.images ≡ found → at_name name old.sketches ≡ taken → is_refused reply ≡ true → Restores eq codec content image name old reply new → IsUnchanged old new
-  restored_same image name None taken reply old new e f r restores = (rw e at restores).0
-  restored_same image name (Some saved) (Some other) reply old new e f r restores = (rw (e, f) at restores).0
-  restored_same image name (Some saved) None reply old new e f r restores =
-      let done = rw (e, f) at restores in read_same saved name reply old new r done.images done.outcome
+  restored_same : (image name : List ℕ) (reply : Reply T) (old new : SessionState T) → is_refused reply ≡ true → Restores eq codec content image name old reply new → IsUnchanged old new
+  restored_same image name reply old new r restores =
+      makes_same (at_name image old.images) (at_name name old.sketches) (λ saved. Reads eq codec content saved name old reply new) reply old new (λ saved done. read_same saved name reply old new r done.images done.outcome) restores
 
 -- ---- one action, one command, and a run
 
@@ -166,8 +152,8 @@ module _ {T C : Type 0} (eq : T → T → Bool) (input : T → List (List ℕ)) 
       record { sketches = change_same eq (Changes eq input change) (changed input change) (string_bytes name) reply old.sketches new.sketches r step.0; images = step.1 }
   action_same (action.Join into other join) reply old new r step =
       record { sketches = join_same eq join (string_bytes into) (string_bytes other) reply old.sketches new.sketches r step.0; images = step.1 }
-  action_same (action.Save name image) reply old new r step = saved_same eq codec content (string_bytes name) (string_bytes image) _ _ reply old new refl refl r step
-  action_same (action.Restore image name) reply old new r step = restored_same eq codec content (string_bytes image) (string_bytes name) _ _ reply old new refl refl r step
+  action_same (action.Save name image) reply old new r step = saved_same eq codec content (string_bytes name) (string_bytes image) reply old new r step
+  action_same (action.Restore image name) reply old new r step = restored_same eq codec content (string_bytes image) (string_bytes name) reply old new r step
   action_same (action.ShowImage image) reply old new r step = step.0
   action_same (action.Ask name item) reply old new r step = step.0
   action_same (action.GetStatus name) reply old new r step = step.0

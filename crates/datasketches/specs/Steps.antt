@@ -1,5 +1,5 @@
 -- What an action and a command do, and what is replied.
-use Rattle.std.specs.Prelude.{◌≡◌, ◌≢◌, ℕ, ◌⊎◌, Bool, List, [], ◌∷◌, MatchOption}
+use Rattle.std.specs.Prelude.{◌≡◌, ◌≢◌, ℕ, ◌⊎◌, Bool, List, [], ◌∷◌, Option, MatchOption}
 use Rattle.std.specs.Global.{Global}
 use Rattle.std.specs.String.{string_bytes}
 use Rattle.std.specs.declared.vec.Vec.{Vec}
@@ -103,6 +103,16 @@ module _ {T : Type 0} where
       IsUnchanged old new
       × MatchOption (at_name name old.images) (reply ≡ Refused NoSuchName) (λ image. ShowsBytes image reply)
 
+  -- of what there is under one name this is made, where there is something, and nothing under the other name
+  abbrev pub MakesFrom :
+      {V W : Type 0} → Option V → Option W → (V → Type 0) → SessionState T → Reply T → SessionState T → Type 0
+  MakesFrom source taken Makes old reply new =
+      MatchOption source
+      (IsUnchanged old new × (reply ≡ Refused NoSuchName))
+      (λ value. MatchOption taken
+      (Makes value)
+      (λ _. IsUnchanged old new × (reply ≡ Refused NameTaken)))
+
 module _ {T C : Type 0} (codec : Codec C) (content : T → C) where
   -- an image of the sketch has the name now, or the call refused
   pub record Writes (sketch : Sketch T) (name : List ℕ) (old : SessionState T) (reply : Reply T) (new : SessionState T)
@@ -115,11 +125,8 @@ module _ {T C : Type 0} (codec : Codec C) (content : T → C) where
   -- the sketch of the name is saved, where the image's name is free
   abbrev pub Saves : List ℕ → List ℕ → SessionState T → Reply T → SessionState T → Type 0
   Saves name image old reply new =
-      MatchOption (at_name name old.sketches)
-      (IsUnchanged old new × (reply ≡ Refused NoSuchName))
-      (λ sketch. MatchOption (at_name image old.images)
-      (Writes sketch image old reply new)
-      (λ _. IsUnchanged old new × (reply ≡ Refused NameTaken)))
+      MakesFrom (at_name name old.sketches) (at_name image old.images) (λ sketch. Writes sketch image old reply new)
+      old reply new
 
 module _ {T C : Type 0} (eq : T → T → Bool) (codec : Codec C) (content : T → C) where
   -- a sketch read from the image has the name now, and stands for what was saved; or the call refused
@@ -134,11 +141,8 @@ module _ {T C : Type 0} (eq : T → T → Bool) (codec : Codec C) (content : T �
   -- the image of the name is restored, where the sketch's name is free
   abbrev pub Restores : List ℕ → List ℕ → SessionState T → Reply T → SessionState T → Type 0
   Restores image name old reply new =
-      MatchOption (at_name image old.images)
-      (IsUnchanged old new × (reply ≡ Refused NoSuchName))
-      (λ found. MatchOption (at_name name old.sketches)
-      (Reads found name old reply new)
-      (λ _. IsUnchanged old new × (reply ≡ Refused NameTaken)))
+      MakesFrom (at_name image old.images) (at_name name old.sketches) (λ found. Reads found name old reply new)
+      old reply new
 
 module _ {T : Type 0} (eq : T → T → Bool) (input : T → List (List ℕ)) where
   -- the sketch of the name is changed

@@ -1,11 +1,11 @@
 //! A sketch of one of four kinds, and what each kind does on a command.
-ghost use Rattle.std.specs.Prelude.{◌≡◌, None, IfOk, IfErr, IsOk, OnOk, OnErr, IsTrue, pos};
+ghost use Rattle.std.specs.Prelude.{◌≡◌, ◌≢◌, None, IfOk, IfErr, IsOk, OnOk, OnErr, IsTrue, pos};
 ghost use Rattle.sketch_base.specs.Errors.{refusal_of};
 ghost use Rattle.datasketches.specs.Answering.{Tells, Lists, status_of};
 ghost use Rattle.datasketches.specs.Changing.{Changes, Adds, AddsSigned, Inserts, Resets, Halves, Decays};
 ghost use Rattle.datasketches.specs.Histories.{begun, changed, joined};
 ghost use Rattle.datasketches.specs.Images.{IsWrittenBy, IsReadFrom, IsWriteRefusal, IsReadRefusal, GivesBack};
-ghost use Rattle.datasketches.specs.Joining.{Joins, Merges, Unites, Intersects, Subtracts};
+ghost use Rattle.datasketches.specs.Joining.{Joins, Merges};
 ghost use Rattle.datasketches.specs.Replies.{done_or, told};
 ghost use Rattle.datasketches.specs.Shapes.{empty_sketch, fault_of};
 ghost use Rattle.datasketches.specs.Stands.{StandsFor, Carries, CarriesBoth};
@@ -199,45 +199,24 @@ impl<T: Eq + Hash + Drop> Sketch<T> {
         }
     }
 
-    fn unite(&mut self, other: &Sketch<T>) -> Result<(), Refusal>
-        ensures own { Unites other.now self.old (done_or result) self.new }
-        ensures carries { OnOk result (CarriesBoth T.eq (joined Join.Union) self.old other.now self.new) }
+    /// Joins a filter to this one, where both are filters.
+    fn combine(&mut self, join: Join, other: &Sketch<T>) -> Result<(), Refusal>
+        requires { join ≢ Join.Merge }
+        ensures own { Joins T.eq join other.now self.old (done_or result) self.new }
+        ensures carries { OnOk result (CarriesBoth T.eq (joined join) self.old other.now self.new) }
         ensures refused { OnErr result (self.new ≡ self.old) }
     {
         let Sketch::Bloom(other) = other else {
             return Err(Refusal::WrongKind);
         };
-        match self {
-            Sketch::Bloom(filter) => Ok(filter.union(other)?),
-            _ => Err(Refusal::WrongKind),
-        }
-    }
-
-    fn intersect(&mut self, other: &Sketch<T>) -> Result<(), Refusal>
-        ensures own { Intersects other.now self.old (done_or result) self.new }
-        ensures carries { OnOk result (CarriesBoth T.eq (joined Join.Intersect) self.old other.now self.new) }
-        ensures refused { OnErr result (self.new ≡ self.old) }
-    {
-        let Sketch::Bloom(other) = other else {
+        let Sketch::Bloom(filter) = self else {
             return Err(Refusal::WrongKind);
         };
-        match self {
-            Sketch::Bloom(filter) => Ok(filter.intersect(other)?),
-            _ => Err(Refusal::WrongKind),
-        }
-    }
-
-    fn subtract(&mut self, other: &Sketch<T>) -> Result<(), Refusal>
-        ensures own { Subtracts other.now self.old (done_or result) self.new }
-        ensures carries { OnOk result (CarriesBoth T.eq (joined Join.Difference) self.old other.now self.new) }
-        ensures refused { OnErr result (self.new ≡ self.old) }
-    {
-        let Sketch::Bloom(other) = other else {
-            return Err(Refusal::WrongKind);
-        };
-        match self {
-            Sketch::Bloom(filter) => Ok(filter.difference(other)?),
-            _ => Err(Refusal::WrongKind),
+        match join {
+            Join::Merge => Err(Refusal::WrongKind),
+            Join::Union => Ok(filter.union(other)?),
+            Join::Intersect => Ok(filter.intersect(other)?),
+            Join::Difference => Ok(filter.difference(other)?),
         }
     }
 
@@ -365,9 +344,7 @@ impl<T: Eq + Hash + Clone + Drop> Sketch<T> {
     {
         match join {
             Join::Merge => self.merge(other),
-            Join::Union => self.unite(other),
-            Join::Intersect => self.intersect(other),
-            Join::Difference => self.subtract(other),
+            Join::Union | Join::Intersect | Join::Difference => self.combine(join, other),
         }
     }
 

@@ -1,4 +1,4 @@
-//! Worked rows, each command once, the order of refusals, and the tail budget, over named sketches.
+//! Worked rows, each command once, the order of refusals, the tail budget, and what is printed, over named sketches.
 use datasketches::{Command, Refusal, Reply, Session, Status};
 use sketch_base::{Error, Fault};
 use sketch_frequencies::ErrorType;
@@ -443,5 +443,43 @@ fn keeps_the_tail_budget(rt: HostRuntime) -> Result<(), Fail> {
         assert!(rt; kept_and_numbers(rt.alloc(), &mut session, name, from)? == wanted);
     }
     assert!(rt; numbers_of_reset(rt.alloc(), &mut session, "large")? == (0, 0, 64));
+    Ok(())
+}
+
+/// A session of one empty sketch.
+fn of_visits(alloc: Global) -> Result<Session<i64>, Error> {
+    let mut session = Session::new(alloc);
+    apply(alloc, &mut session, "visits", Does::CreateFrequent(8), "")?;
+    Ok(session)
+}
+
+#[test]
+fn shows_names(rt: HostRuntime) -> Result<(), Fail> {
+    let session = of_visits(rt.alloc())?;
+    let insertion = command(rt.alloc(), "visits", Does::Insert(7), "")?;
+    let text = format!(in rt.alloc(); "{session:?} {insertion:?}")?;
+    let wanted =
+        "Session { sketches: {\"visits\"}, images: {}, .. } Insert { name: \"visits\", item: 7 }";
+    assert!(rt; text.as_str() == wanted);
+    Ok(())
+}
+
+#[test]
+fn names_refusals(rt: HostRuntime) -> Result<(), Fail> {
+    let call = Refusal::Call(Error::invalid_argument(Fault::MapSizeTooSmall));
+    for (refusal, wanted) in [
+        (Refusal::NoSuchName, "NoSuchName no such name"),
+        (Refusal::NameTaken, "NameTaken name is taken"),
+        (Refusal::WrongKind, "WrongKind wrong kind of sketch"),
+        (Refusal::SameName, "SameName both names are the same"),
+        (
+            Refusal::BadFraction,
+            "BadFraction fraction not above 0 and at most 1",
+        ),
+        (call, "MapSizeTooSmall map size below 8"),
+    ] {
+        let text = format!(in rt.alloc(); "{} {refusal}", refusal.name())?;
+        assert!(rt; text.as_str() == wanted);
+    }
     Ok(())
 }
