@@ -1,23 +1,22 @@
 -- What refusals print, and their names.
 use Rattle.std.specs.Prelude.{ℕ, List, codes}
-use Rattle.sketch_base.specs.Faults.{fault_text, fault_name}
+use Rattle.sketch_base.specs.Faults.{fault_words}
 use Rattle.datasketches.specs.declared.reply.Refusal.{Refusal}
 use Rattle.datasketches.specs.declared.reply.Refusal.TheVariants.{NoSuchName, NameTaken, WrongKind, SameName, BadFraction, Call}
 
--- what a refusal prints: of a call, its fault
-abbrev pub refusal_text : Refusal → List ℕ
-refusal_text NoSuchName = codes "no such name"
-refusal_text NameTaken = codes "name is taken"
-refusal_text WrongKind = codes "wrong kind of sketch"
-refusal_text SameName = codes "both names are the same"
-refusal_text BadFraction = codes "fraction not above 0 and at most 1"
-refusal_text (Call error) = fault_text error.fault
+-- a refusal's name, and what it prints: of a call, those of its fault
+abbrev pub refusal_words : Refusal → List ℕ × List ℕ
+refusal_words NoSuchName = (codes "NoSuchName", codes "no such name")
+refusal_words NameTaken = (codes "NameTaken", codes "name is taken")
+refusal_words WrongKind = (codes "WrongKind", codes "wrong kind of sketch")
+refusal_words SameName = (codes "SameName", codes "both names are the same")
+refusal_words BadFraction = (codes "BadFraction", codes "fraction not above 0 and at most 1")
+refusal_words (Call error) = fault_words error.fault
 
--- a refusal's name: of a call, that of its fault
+-- what a refusal prints
+abbrev pub refusal_text : Refusal → List ℕ
+refusal_text refusal = (refusal_words refusal).1
+
+-- a refusal's name
 abbrev pub refusal_name : Refusal → List ℕ
-refusal_name NoSuchName = codes "NoSuchName"
-refusal_name NameTaken = codes "NameTaken"
-refusal_name WrongKind = codes "WrongKind"
-refusal_name SameName = codes "SameName"
-refusal_name BadFraction = codes "BadFraction"
-refusal_name (Call error) = fault_name error.fault
+refusal_name refusal = (refusal_words refusal).0

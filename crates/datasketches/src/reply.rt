@@ -135,27 +135,28 @@ impl Refusal {
     pub fn text(self) -> &'static str
         ensures { result.now ≡ refusal_text self }
     {
-        match self {
-            Refusal::NoSuchName => "no such name",
-            Refusal::NameTaken => "name is taken",
-            Refusal::WrongKind => "wrong kind of sketch",
-            Refusal::SameName => "both names are the same",
-            Refusal::BadFraction => "fraction not above 0 and at most 1",
-            Refusal::Call(error) => error.fault().text(),
-        }
+        self.words().1
     }
 
     /// The refusal's own name, such as `NoSuchName`. That of a call is its fault's, such as `MapSizeTooSmall`.
     pub fn name(self) -> &'static str
         ensures { result.now ≡ refusal_name self }
     {
+        self.words().0
+    }
+
+    /// The name and the text.
+    fn words(self) -> (&'static str, &'static str)
+        ensures name { result.0.now ≡ refusal_name self }
+        ensures text { result.1.now ≡ refusal_text self }
+    {
         match self {
-            Refusal::NoSuchName => "NoSuchName",
-            Refusal::NameTaken => "NameTaken",
-            Refusal::WrongKind => "WrongKind",
-            Refusal::SameName => "SameName",
-            Refusal::BadFraction => "BadFraction",
-            Refusal::Call(error) => error.fault().name(),
+            Refusal::NoSuchName => ("NoSuchName", "no such name"),
+            Refusal::NameTaken => ("NameTaken", "name is taken"),
+            Refusal::WrongKind => ("WrongKind", "wrong kind of sketch"),
+            Refusal::SameName => ("SameName", "both names are the same"),
+            Refusal::BadFraction => ("BadFraction", "fraction not above 0 and at most 1"),
+            Refusal::Call(error) => (error.fault().name(), error.fault().text()),
         }
     }
 }

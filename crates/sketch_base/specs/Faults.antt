@@ -3,76 +3,47 @@ use Rattle.std.specs.Prelude.{ℕ, List, codes}
 use Rattle.sketch_base.specs.declared.fault.Fault.{Fault}
 use Rattle.sketch_base.specs.declared.fault.Fault.TheVariants as fault
 
+-- a fault's name, and what it prints
+abbrev pub fault_words : Fault → List ℕ × List ℕ
+fault_words fault.BadNumBits = (codes "BadNumBits", codes "num_bits out of range")
+fault_words fault.BadNumHashes = (codes "BadNumHashes", codes "num_hashes out of range")
+fault_words fault.BadNumBuckets = (codes "BadNumBuckets", codes "num_buckets below 3")
+fault_words fault.TableTooLarge = (codes "TableTooLarge", codes "table too large")
+fault_words fault.ZeroSeedHash = (codes "ZeroSeedHash", codes "seed hash is zero")
+fault_words fault.Mismatch = (codes "Mismatch", codes "shapes or seeds differ")
+fault_words fault.WeightOverflow = (codes "WeightOverflow", codes "total weight overflow")
+fault_words fault.MapSizeNotPowerOfTwo = (codes "MapSizeNotPowerOfTwo", codes "map size is not a power of two")
+fault_words fault.MapSizeTooSmall = (codes "MapSizeTooSmall", codes "map size below 8")
+fault_words fault.MapSizeTooLarge = (codes "MapSizeTooLarge", codes "map size above 2^30")
+fault_words fault.ItemTooLong = (codes "ItemTooLong", codes "item too long")
+fault_words fault.InsufficientData = (codes "InsufficientData", codes "insufficient data")
+fault_words fault.BadFamily = (codes "BadFamily", codes "wrong family")
+fault_words fault.BadVersion = (codes "BadVersion", codes "wrong serial version")
+fault_words fault.BadPreamble = (codes "BadPreamble", codes "wrong preamble longs")
+fault_words fault.BadNumWords = (codes "BadNumWords", codes "number of words below 1")
+fault_words fault.BadBitCount = (codes "BadBitCount", codes "wrong number of set bits")
+fault_words fault.SeedHashMismatch = (codes "SeedHashMismatch", codes "seed hashes differ")
+fault_words fault.ValueOutOfRange = (codes "ValueOutOfRange", codes "value out of range")
+fault_words fault.NegativeTotal = (codes "NegativeTotal", codes "total weight is negative")
+fault_words fault.CellAboveTotal = (codes "CellAboveTotal", codes "counter exceeds total weight")
+fault_words fault.LgCurTooSmall = (codes "LgCurTooSmall", codes "current map size below 8")
+fault_words fault.LgMaxTooLarge = (codes "LgMaxTooLarge", codes "greatest map size above 2^30")
+fault_words fault.LgCurAboveMax = (codes "LgCurAboveMax", codes "current map size above greatest")
+fault_words fault.EmptyFlagMismatch = (codes "EmptyFlagMismatch", codes "empty flag does not match preamble")
+fault_words fault.TooManyActive = (codes "TooManyActive", codes "too many active items")
+fault_words fault.ZeroTotal = (codes "ZeroTotal", codes "total weight is zero")
+fault_words fault.WeightsExceedTotal = (codes "WeightsExceedTotal", codes "weights exceed total weight")
+fault_words fault.ErrorExceedsTotal = (codes "ErrorExceedsTotal", codes "weights and error exceed total weight")
+fault_words fault.InvalidUtf8 = (codes "InvalidUtf8", codes "invalid UTF-8")
+fault_words fault.BadItem = (codes "BadItem", codes "bad item")
+fault_words fault.NoMemory = (codes "NoMemory", codes "out of memory")
+fault_words fault.BadSampleSize = (codes "BadSampleSize", codes "sample size out of range")
+fault_words fault.BadWindows = (codes "BadWindows", codes "windows out of range")
+
 -- what a fault prints
 abbrev pub fault_text : Fault → List ℕ
-fault_text fault.BadNumBits = codes "num_bits out of range"
-fault_text fault.BadNumHashes = codes "num_hashes out of range"
-fault_text fault.BadNumBuckets = codes "num_buckets below 3"
-fault_text fault.TableTooLarge = codes "table too large"
-fault_text fault.ZeroSeedHash = codes "seed hash is zero"
-fault_text fault.Mismatch = codes "shapes or seeds differ"
-fault_text fault.WeightOverflow = codes "total weight overflow"
-fault_text fault.MapSizeNotPowerOfTwo = codes "map size is not a power of two"
-fault_text fault.MapSizeTooSmall = codes "map size below 8"
-fault_text fault.MapSizeTooLarge = codes "map size above 2^30"
-fault_text fault.ItemTooLong = codes "item too long"
-fault_text fault.InsufficientData = codes "insufficient data"
-fault_text fault.BadFamily = codes "wrong family"
-fault_text fault.BadVersion = codes "wrong serial version"
-fault_text fault.BadPreamble = codes "wrong preamble longs"
-fault_text fault.BadNumWords = codes "number of words below 1"
-fault_text fault.BadBitCount = codes "wrong number of set bits"
-fault_text fault.SeedHashMismatch = codes "seed hashes differ"
-fault_text fault.ValueOutOfRange = codes "value out of range"
-fault_text fault.NegativeTotal = codes "total weight is negative"
-fault_text fault.CellAboveTotal = codes "counter exceeds total weight"
-fault_text fault.LgCurTooSmall = codes "current map size below 8"
-fault_text fault.LgMaxTooLarge = codes "greatest map size above 2^30"
-fault_text fault.LgCurAboveMax = codes "current map size above greatest"
-fault_text fault.EmptyFlagMismatch = codes "empty flag does not match preamble"
-fault_text fault.TooManyActive = codes "too many active items"
-fault_text fault.ZeroTotal = codes "total weight is zero"
-fault_text fault.WeightsExceedTotal = codes "weights exceed total weight"
-fault_text fault.ErrorExceedsTotal = codes "weights and error exceed total weight"
-fault_text fault.InvalidUtf8 = codes "invalid UTF-8"
-fault_text fault.BadItem = codes "bad item"
-fault_text fault.NoMemory = codes "out of memory"
-fault_text fault.BadSampleSize = codes "sample size out of range"
-fault_text fault.BadWindows = codes "windows out of range"
+fault_text f = (fault_words f).1
 
 -- a fault's name
 abbrev pub fault_name : Fault → List ℕ
-fault_name fault.BadNumBits = codes "BadNumBits"
-fault_name fault.BadNumHashes = codes "BadNumHashes"
-fault_name fault.BadNumBuckets = codes "BadNumBuckets"
-fault_name fault.TableTooLarge = codes "TableTooLarge"
-fault_name fault.ZeroSeedHash = codes "ZeroSeedHash"
-fault_name fault.Mismatch = codes "Mismatch"
-fault_name fault.WeightOverflow = codes "WeightOverflow"
-fault_name fault.MapSizeNotPowerOfTwo = codes "MapSizeNotPowerOfTwo"
-fault_name fault.MapSizeTooSmall = codes "MapSizeTooSmall"
-fault_name fault.MapSizeTooLarge = codes "MapSizeTooLarge"
-fault_name fault.ItemTooLong = codes "ItemTooLong"
-fault_name fault.InsufficientData = codes "InsufficientData"
-fault_name fault.BadFamily = codes "BadFamily"
-fault_name fault.BadVersion = codes "BadVersion"
-fault_name fault.BadPreamble = codes "BadPreamble"
-fault_name fault.BadNumWords = codes "BadNumWords"
-fault_name fault.BadBitCount = codes "BadBitCount"
-fault_name fault.SeedHashMismatch = codes "SeedHashMismatch"
-fault_name fault.ValueOutOfRange = codes "ValueOutOfRange"
-fault_name fault.NegativeTotal = codes "NegativeTotal"
-fault_name fault.CellAboveTotal = codes "CellAboveTotal"
-fault_name fault.LgCurTooSmall = codes "LgCurTooSmall"
-fault_name fault.LgMaxTooLarge = codes "LgMaxTooLarge"
-fault_name fault.LgCurAboveMax = codes "LgCurAboveMax"
-fault_name fault.EmptyFlagMismatch = codes "EmptyFlagMismatch"
-fault_name fault.TooManyActive = codes "TooManyActive"
-fault_name fault.ZeroTotal = codes "ZeroTotal"
-fault_name fault.WeightsExceedTotal = codes "WeightsExceedTotal"
-fault_name fault.ErrorExceedsTotal = codes "ErrorExceedsTotal"
-fault_name fault.InvalidUtf8 = codes "InvalidUtf8"
-fault_name fault.BadItem = codes "BadItem"
-fault_name fault.NoMemory = codes "NoMemory"
-fault_name fault.BadSampleSize = codes "BadSampleSize"
-fault_name fault.BadWindows = codes "BadWindows"
+fault_name f = (fault_words f).0

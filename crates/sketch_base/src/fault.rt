@@ -92,83 +92,62 @@ impl Fault {
     pub fn text(self) -> &'static str
         ensures { result.now ≡ fault_text self }
     {
-        match self {
-            Fault::BadNumBits => "num_bits out of range",
-            Fault::BadNumHashes => "num_hashes out of range",
-            Fault::BadNumBuckets => "num_buckets below 3",
-            Fault::TableTooLarge => "table too large",
-            Fault::ZeroSeedHash => "seed hash is zero",
-            Fault::Mismatch => "shapes or seeds differ",
-            Fault::WeightOverflow => "total weight overflow",
-            Fault::MapSizeNotPowerOfTwo => "map size is not a power of two",
-            Fault::MapSizeTooSmall => "map size below 8",
-            Fault::MapSizeTooLarge => "map size above 2^30",
-            Fault::ItemTooLong => "item too long",
-            Fault::InsufficientData => "insufficient data",
-            Fault::BadFamily => "wrong family",
-            Fault::BadVersion => "wrong serial version",
-            Fault::BadPreamble => "wrong preamble longs",
-            Fault::BadNumWords => "number of words below 1",
-            Fault::BadBitCount => "wrong number of set bits",
-            Fault::SeedHashMismatch => "seed hashes differ",
-            Fault::ValueOutOfRange => "value out of range",
-            Fault::NegativeTotal => "total weight is negative",
-            Fault::CellAboveTotal => "counter exceeds total weight",
-            Fault::LgCurTooSmall => "current map size below 8",
-            Fault::LgMaxTooLarge => "greatest map size above 2^30",
-            Fault::LgCurAboveMax => "current map size above greatest",
-            Fault::EmptyFlagMismatch => "empty flag does not match preamble",
-            Fault::TooManyActive => "too many active items",
-            Fault::ZeroTotal => "total weight is zero",
-            Fault::WeightsExceedTotal => "weights exceed total weight",
-            Fault::ErrorExceedsTotal => "weights and error exceed total weight",
-            Fault::InvalidUtf8 => "invalid UTF-8",
-            Fault::BadItem => "bad item",
-            Fault::NoMemory => "out of memory",
-            Fault::BadSampleSize => "sample size out of range",
-            Fault::BadWindows => "windows out of range",
-        }
+        self.words().1
     }
 
     /// The fault's own name, such as `MapSizeTooSmall`.
     pub fn name(self) -> &'static str
         ensures { result.now ≡ fault_name self }
     {
+        self.words().0
+    }
+
+    /// The name and the text.
+    fn words(self) -> (&'static str, &'static str)
+        ensures name { result.0.now ≡ fault_name self }
+        ensures text { result.1.now ≡ fault_text self }
+    {
         match self {
-            Fault::BadNumBits => "BadNumBits",
-            Fault::BadNumHashes => "BadNumHashes",
-            Fault::BadNumBuckets => "BadNumBuckets",
-            Fault::TableTooLarge => "TableTooLarge",
-            Fault::ZeroSeedHash => "ZeroSeedHash",
-            Fault::Mismatch => "Mismatch",
-            Fault::WeightOverflow => "WeightOverflow",
-            Fault::MapSizeNotPowerOfTwo => "MapSizeNotPowerOfTwo",
-            Fault::MapSizeTooSmall => "MapSizeTooSmall",
-            Fault::MapSizeTooLarge => "MapSizeTooLarge",
-            Fault::ItemTooLong => "ItemTooLong",
-            Fault::InsufficientData => "InsufficientData",
-            Fault::BadFamily => "BadFamily",
-            Fault::BadVersion => "BadVersion",
-            Fault::BadPreamble => "BadPreamble",
-            Fault::BadNumWords => "BadNumWords",
-            Fault::BadBitCount => "BadBitCount",
-            Fault::SeedHashMismatch => "SeedHashMismatch",
-            Fault::ValueOutOfRange => "ValueOutOfRange",
-            Fault::NegativeTotal => "NegativeTotal",
-            Fault::CellAboveTotal => "CellAboveTotal",
-            Fault::LgCurTooSmall => "LgCurTooSmall",
-            Fault::LgMaxTooLarge => "LgMaxTooLarge",
-            Fault::LgCurAboveMax => "LgCurAboveMax",
-            Fault::EmptyFlagMismatch => "EmptyFlagMismatch",
-            Fault::TooManyActive => "TooManyActive",
-            Fault::ZeroTotal => "ZeroTotal",
-            Fault::WeightsExceedTotal => "WeightsExceedTotal",
-            Fault::ErrorExceedsTotal => "ErrorExceedsTotal",
-            Fault::InvalidUtf8 => "InvalidUtf8",
-            Fault::BadItem => "BadItem",
-            Fault::NoMemory => "NoMemory",
-            Fault::BadSampleSize => "BadSampleSize",
-            Fault::BadWindows => "BadWindows",
+            Fault::BadNumBits => ("BadNumBits", "num_bits out of range"),
+            Fault::BadNumHashes => ("BadNumHashes", "num_hashes out of range"),
+            Fault::BadNumBuckets => ("BadNumBuckets", "num_buckets below 3"),
+            Fault::TableTooLarge => ("TableTooLarge", "table too large"),
+            Fault::ZeroSeedHash => ("ZeroSeedHash", "seed hash is zero"),
+            Fault::Mismatch => ("Mismatch", "shapes or seeds differ"),
+            Fault::WeightOverflow => ("WeightOverflow", "total weight overflow"),
+            Fault::MapSizeNotPowerOfTwo => (
+                "MapSizeNotPowerOfTwo",
+                "map size is not a power of two",
+            ),
+            Fault::MapSizeTooSmall => ("MapSizeTooSmall", "map size below 8"),
+            Fault::MapSizeTooLarge => ("MapSizeTooLarge", "map size above 2^30"),
+            Fault::ItemTooLong => ("ItemTooLong", "item too long"),
+            Fault::InsufficientData => ("InsufficientData", "insufficient data"),
+            Fault::BadFamily => ("BadFamily", "wrong family"),
+            Fault::BadVersion => ("BadVersion", "wrong serial version"),
+            Fault::BadPreamble => ("BadPreamble", "wrong preamble longs"),
+            Fault::BadNumWords => ("BadNumWords", "number of words below 1"),
+            Fault::BadBitCount => ("BadBitCount", "wrong number of set bits"),
+            Fault::SeedHashMismatch => ("SeedHashMismatch", "seed hashes differ"),
+            Fault::ValueOutOfRange => ("ValueOutOfRange", "value out of range"),
+            Fault::NegativeTotal => ("NegativeTotal", "total weight is negative"),
+            Fault::CellAboveTotal => ("CellAboveTotal", "counter exceeds total weight"),
+            Fault::LgCurTooSmall => ("LgCurTooSmall", "current map size below 8"),
+            Fault::LgMaxTooLarge => ("LgMaxTooLarge", "greatest map size above 2^30"),
+            Fault::LgCurAboveMax => ("LgCurAboveMax", "current map size above greatest"),
+            Fault::EmptyFlagMismatch => ("EmptyFlagMismatch", "empty flag does not match preamble"),
+            Fault::TooManyActive => ("TooManyActive", "too many active items"),
+            Fault::ZeroTotal => ("ZeroTotal", "total weight is zero"),
+            Fault::WeightsExceedTotal => ("WeightsExceedTotal", "weights exceed total weight"),
+            Fault::ErrorExceedsTotal => (
+                "ErrorExceedsTotal",
+                "weights and error exceed total weight",
+            ),
+            Fault::InvalidUtf8 => ("InvalidUtf8", "invalid UTF-8"),
+            Fault::BadItem => ("BadItem", "bad item"),
+            Fault::NoMemory => ("NoMemory", "out of memory"),
+            Fault::BadSampleSize => ("BadSampleSize", "sample size out of range"),
+            Fault::BadWindows => ("BadWindows", "windows out of range"),
         }
     }
 }

@@ -27,17 +27,13 @@ length-bytes_of_words (word ∷ words) = omega (arith, length-append (to_le_byte
 
 -- the fields of the preamble are read as they were written, whatever stands behind it
 module _ (longs flags num_hashes seed num_words : ℕ) (tail : List ℕ) where
-  num_hashes_back : num_hashes < 2 ^ 16 → num_hashes_at (preamble longs flags num_hashes seed num_words ++ tail) ≡ num_hashes
+  fields_back : num_hashes < 2 ^ 16 → seed < 2 ^ 64 → num_words < 2 ^ 32 →
+      (num_hashes_at (preamble longs flags num_hashes seed num_words ++ tail) ≡ num_hashes)
+      × (seed_at (preamble longs flags num_hashes seed num_words ++ tail) ≡ seed)
+      × (num_words_at (preamble longs flags num_hashes seed num_words ++ tail) ≡ num_words)
   unfolding le_at
-  num_hashes_back fits = from_le_bytes-to_le_bytes_2 num_hashes fits
-
-  seed_back : seed < 2 ^ 64 → seed_at (preamble longs flags num_hashes seed num_words ++ tail) ≡ seed
-  unfolding le_at
-  seed_back fits = from_le_bytes-to_le_bytes_8 seed fits
-
-  num_words_back : num_words < 2 ^ 32 → num_words_at (preamble longs flags num_hashes seed num_words ++ tail) ≡ num_words
-  unfolding le_at
-  num_words_back fits = from_le_bytes-to_le_bytes_4 num_words fits
+  fields_back few_hashes fits few_words =
+      (from_le_bytes-to_le_bytes_2 num_hashes few_hashes, from_le_bytes-to_le_bytes_8 seed fits, from_le_bytes-to_le_bytes_4 num_words few_words)
 
   bit_count_back : (count : ℕ) (rest : List ℕ) → count < 2 ^ 64 → bit_count_at (preamble longs flags num_hashes seed num_words ++ to_le_bytes w64 count ++ rest) ≡ count
   unfolding le_at
@@ -49,16 +45,14 @@ module _ (longs flags num_hashes seed num_words : ℕ) (tail : List ℕ) where
 -- the image of a filter whose set is empty
 empty_image : (s : FilterState) → IsFilterState s → s.seed < 2 ^ 64 → s.set ≡ set.empty → IsImage (preamble 3 4 s.num_hashes s.seed s.num_words) s
 empty_image s state fits none =
-    let hashes = num_hashes_back 3 4 s.num_hashes s.seed s.num_words [] (omega (arith, state.few_hashes)) in
-    let words = num_words_back 3 4 s.num_hashes s.seed s.num_words [] (omega (arith, state.few_words)) in
-    let seed = seed_back 3 4 s.num_hashes s.seed s.num_words [] fits in
+    let back = fields_back 3 4 s.num_hashes s.seed s.num_words [] (omega (arith, state.few_hashes)) fits (omega (arith, state.few_words)) in
     let some_hashes : leb 1 s.num_hashes ≡ true = le-leb _ _ state.some_hashes in
     let few_hashes : leb s.num_hashes 32767 ≡ true = le-leb _ _ state.few_hashes in
     let some_words : leb 1 s.num_words ≡ true = le-leb _ _ state.some_words in
     let few_words : leb s.num_words 2147483647 ≡ true = le-leb _ _ state.few_words in
     record {
-      no_fault = rw (hashes, words, some_hashes, few_hashes, some_words, few_words) refl;
-      value = rw (hashes, words, seed, sym none) refl;
+      no_fault = rw (back.0, back.2, some_hashes, few_hashes, some_words, few_words) refl;
+      value = rw (back.0, back.2, back.1, sym none) refl;
     }
 
 -- the image of a filter whose set is not empty
@@ -68,9 +62,10 @@ full_image s words state fits are =
     let tail = to_le_bytes w64 count ++ bytes_of_words words in
     let front = preamble 4 0 s.num_hashes s.seed s.num_words in
     let image = front ++ to_le_bytes w64 count ++ bytes_of_words words in
-    let hashes : num_hashes_at image ≡ s.num_hashes = num_hashes_back 4 0 s.num_hashes s.seed s.num_words tail (omega (arith, state.few_hashes)) in
-    let num_words : num_words_at image ≡ s.num_words = num_words_back 4 0 s.num_hashes s.seed s.num_words tail (omega (arith, state.few_words)) in
-    let seed : seed_at image ≡ s.seed = seed_back 4 0 s.num_hashes s.seed s.num_words tail fits in
+    let back = fields_back 4 0 s.num_hashes s.seed s.num_words tail (omega (arith, state.few_hashes)) fits (omega (arith, state.few_words)) in
+    let hashes : num_hashes_at image ≡ s.num_hashes = back.0 in
+    let seed : seed_at image ≡ s.seed = back.1 in
+    let num_words : num_words_at image ≡ s.num_words = back.2 in
     let few : count < 2 ^ 64 = omega (arith, len-set_of-le words, ap set.len are.set, are.count, state.few_words) in
     let stored : bit_count_at image ≡ count = bit_count_back 4 0 s.num_hashes s.seed s.num_words tail count (bytes_of_words words) few in
     let long : length image ≡ 32 + 8 * s.num_words = omega (arith, length_back 4 0 s.num_hashes s.seed s.num_words tail, length-append (to_le_bytes w64 count) (bytes_of_words words), length-bytes_of_words words, are.count) in
