@@ -2,7 +2,7 @@
 use crate::commands::{Does, Row, commands};
 use crate::output::write_replies;
 use crate::trial::{SetupFailed, Trial, counted};
-use datasketches::{Command, Reply, Session, Recycled};
+use datasketches::{Command, Recycled, Reply, Session};
 use std::alloc::Global;
 
 /// Sketches of all four kinds, an item of two of them, and an image.
