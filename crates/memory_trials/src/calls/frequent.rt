@@ -4,7 +4,7 @@ use crate::calls::{
     write_length,
 };
 use crate::output::{write_error, write_frequent, write_rows};
-use crate::texts::{SIX, UpdateBy, sketch_of, text, texts, update};
+use crate::texts::{SIX, UpdateBy, asked, sketch_of, text, update};
 use crate::trial::{SetupFailed, Trial, write_line, write_words};
 use datasketches::frequencies::{ErrorType, FrequentItemsSketch, Row};
 use std::alloc::Global;
@@ -16,10 +16,8 @@ type Sketch = FrequentItemsSketch<String>;
 /// The sketch's numbers, and what it says of four texts.
 impl Described for FrequentItemsSketch<String> {
     fn describe(&self, trial: &mut Trial) {
-        match texts(trial.alloc, &["a", "b", "c", "g"]) {
-            Ok(asked) => write_frequent(trial, self, &asked),
-            Err(_) => trial.fail(),
-        }
+        let asked = asked(trial);
+        write_frequent(trial, self, &asked);
     }
 }
 

@@ -4,7 +4,7 @@ use crate::calls::{
 };
 use crate::output::write_table;
 use crate::table::{free_table, grow, put, put_ref};
-use crate::texts::{SIX, text, texts};
+use crate::texts::{SIX, asked, text};
 use crate::trial::{SetupFailed, Trial};
 use datasketches::frequencies::ReversePurgeItemHashMap;
 use std::alloc::Global;
@@ -15,10 +15,8 @@ type Table = ReversePurgeItemHashMap<String>;
 /// The table's numbers, and the counts of four texts.
 impl Described for ReversePurgeItemHashMap<String> {
     fn describe(&self, trial: &mut Trial) {
-        match texts(trial.alloc, &["a", "b", "c", "g"]) {
-            Ok(asked) => write_table(trial, self, &asked),
-            Err(_) => trial.fail(),
-        }
+        let asked = asked(trial);
+        write_table(trial, self, &asked);
     }
 }
 
