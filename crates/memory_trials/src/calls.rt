@@ -19,30 +19,18 @@ macro_rules! refusable {
     }};
 }
 
-/// Makes calls, and writes of each what it answers: the value, or why there is none.
-macro_rules! play_answers {
-    ($trial:ident, $($call:expr),+) => {{
+/// Makes calls, and writes of each what it answers, by a function that says how.
+macro_rules! play_calls {
+    ($trial:ident, $write:ident, $($call:expr),+) => {{
         $(
             let answer = $crate::calls::refusable!($trial, $call);
-            $crate::calls::write_answer($trial, answer);
+            $write($trial, answer);
         )+
         Ok(())
     }};
 }
 
-/// Makes calls, and writes of each whether it is accepted.
-macro_rules! play_outcomes {
-    ($trial:ident, $($call:expr),+) => {{
-        $(
-            let answer = $crate::calls::refusable!($trial, $call);
-            $crate::output::write_outcome($trial, answer);
-        )+
-        Ok(())
-    }};
-}
-
-pub(crate) use play_answers;
-pub(crate) use play_outcomes;
+pub(crate) use play_calls;
 pub(crate) use refusable;
 
 /// What a trial says of a value.

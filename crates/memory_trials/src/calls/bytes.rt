@@ -1,5 +1,5 @@
 //! Calls of bytes that are written, and texts that are written and read.
-use crate::calls::{play_outcomes, refusable};
+use crate::calls::{play_calls, refusable};
 use crate::output::{write_bytes, write_error, write_outcome};
 use crate::texts::text;
 use crate::trial::{SetupFailed, Trial, write_line};
@@ -10,7 +10,11 @@ use std::fmt::Write;
 /// Plays the trial of the name.
 pub fn play(trial: &mut Trial, call: &str) -> Result<(), SetupFailed> {
     match call {
-        "new" => play_outcomes!(trial, SketchBytes::with_capacity(trial.alloc, 4)),
+        "new" => play_calls!(
+            trial,
+            write_outcome,
+            SketchBytes::with_capacity(trial.alloc, 4)
+        ),
         "beyond" => beyond(trial),
         "write_text" => write_text(trial),
         "read_text" => read_text(trial),

@@ -1,6 +1,6 @@
 //! Calls of a Count-Min sketch of three numbers.
-use crate::calls::{Described, Subject, clone_of, play_answers, play_on, play_outcomes};
-use crate::output::write_counts;
+use crate::calls::{Described, Subject, clone_of, play_calls, play_on, write_answer};
+use crate::output::{write_counts, write_outcome};
 use crate::trial::{SetupFailed, Trial};
 use datasketches::countmin::CountMinSketch;
 use std::alloc::Global;
@@ -23,8 +23,8 @@ impl Subject for CountMinSketch<u64> {
 
     fn play_call(&mut self, trial: &mut Trial, call: &str) -> Result<(), SetupFailed> {
         match call {
-            "clone" => play_answers!(trial, self.try_clone(), clone_of(self)),
-            "serialize" => play_answers!(trial, self.serialize()),
+            "clone" => play_calls!(trial, write_answer, self.try_clone(), clone_of(self)),
+            "serialize" => play_calls!(trial, write_answer, self.serialize()),
             _ => Err(SetupFailed),
         }
     }
@@ -33,8 +33,9 @@ impl Subject for CountMinSketch<u64> {
 /// Plays the trial of the name.
 pub fn play(trial: &mut Trial, call: &str) -> Result<(), SetupFailed> {
     match call {
-        "new" => play_outcomes!(
+        "new" => play_calls!(
             trial,
+            write_outcome,
             CountMinSketch::<u64>::new(trial.alloc, 3, 64),
             CountMinSketch::<i8>::with_seed(trial.alloc, 3, 64, 7)
         ),
@@ -46,8 +47,9 @@ pub fn play(trial: &mut Trial, call: &str) -> Result<(), SetupFailed> {
 fn deserialize(trial: &mut Trial) -> Result<(), SetupFailed> {
     let alloc = trial.alloc;
     let image = CountMinSketch::<u64>::make(alloc)?.serialize()?;
-    play_answers!(
+    play_calls!(
         trial,
+        write_answer,
         CountMinSketch::<u64>::deserialize(alloc, &image),
         CountMinSketch::<u64>::deserialize_with_seed(alloc, &image, 9001),
         CountMinSketch::<u64>::deserialize_with_limit(alloc, &image, 4096),

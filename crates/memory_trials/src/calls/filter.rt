@@ -1,6 +1,6 @@
 //! Calls of a filter of three numbers.
-use crate::calls::{Described, Subject, clone_of, play_answers, play_on, play_outcomes};
-use crate::output::write_filter;
+use crate::calls::{Described, Subject, clone_of, play_calls, play_on, write_answer};
+use crate::output::{write_filter, write_outcome};
 use crate::trial::{SetupFailed, Trial};
 use datasketches::bloom::{BloomFilter, BloomFilterBuilder};
 use std::alloc::Global;
@@ -23,8 +23,8 @@ impl Subject for BloomFilter {
 
     fn play_call(&mut self, trial: &mut Trial, call: &str) -> Result<(), SetupFailed> {
         match call {
-            "clone" => play_answers!(trial, self.try_clone(), clone_of(self)),
-            "serialize" => play_answers!(trial, self.serialize()),
+            "clone" => play_calls!(trial, write_answer, self.try_clone(), clone_of(self)),
+            "serialize" => play_calls!(trial, write_answer, self.serialize()),
             _ => Err(SetupFailed),
         }
     }
@@ -35,7 +35,7 @@ pub fn play(trial: &mut Trial, call: &str) -> Result<(), SetupFailed> {
     match call {
         "new" => {
             let builder = BloomFilterBuilder::with_size(256, 3);
-            play_outcomes!(trial, builder.build(trial.alloc))
+            play_calls!(trial, write_outcome, builder.build(trial.alloc))
         }
         "deserialize" => deserialize(trial),
         _ => play_on::<BloomFilter>(trial, call),
@@ -45,8 +45,9 @@ pub fn play(trial: &mut Trial, call: &str) -> Result<(), SetupFailed> {
 fn deserialize(trial: &mut Trial) -> Result<(), SetupFailed> {
     let alloc = trial.alloc;
     let image = BloomFilter::make(alloc)?.serialize()?;
-    play_answers!(
+    play_calls!(
         trial,
+        write_answer,
         BloomFilter::deserialize(alloc, &image),
         BloomFilter::deserialize_with_limit(alloc, &image, 32)
     )

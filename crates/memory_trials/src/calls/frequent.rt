@@ -1,9 +1,8 @@
 //! Calls of a sketch of six texts, whose table must double for a seventh.
 use crate::calls::{
-    Described, Subject, play_answers, play_on, play_outcomes, refusable, write_after, write_answer,
-    write_length,
+    Described, Subject, play_calls, play_on, refusable, write_after, write_answer, write_length,
 };
-use crate::output::{write_error, write_frequent, write_rows};
+use crate::output::{write_error, write_frequent, write_outcome, write_rows};
 use crate::texts::{SIX, UpdateBy, asked, sketch_of, text, update};
 use crate::trial::{SetupFailed, Trial, write_line, write_words};
 use datasketches::frequencies::{ErrorType, FrequentItemsSketch, Row};
@@ -33,8 +32,8 @@ impl Subject for FrequentItemsSketch<String> {
             "update_with_count" => play_update(trial, self, UpdateBy::ValueWithCount(5)),
             "update_ref" => play_update(trial, self, UpdateBy::Reference),
             "update_with_count_ref" => play_update(trial, self, UpdateBy::ReferenceWithCount(5)),
-            "clone" => play_answers!(trial, self.try_clone()),
-            "serialize" => play_answers!(trial, self.serialize()),
+            "clone" => play_calls!(trial, write_answer, self.try_clone()),
+            "serialize" => play_calls!(trial, write_answer, self.serialize()),
             _ => Err(SetupFailed),
         }
     }
@@ -51,8 +50,9 @@ impl Described for Vec<Row<String>> {
 /// Plays the trial of the name.
 pub fn play(trial: &mut Trial, call: &str) -> Result<(), SetupFailed> {
     match call {
-        "new" => play_outcomes!(
+        "new" => play_calls!(
             trial,
+            write_outcome,
             Sketch::new(trial.alloc, 64),
             Sketch::with_sample_size(trial.alloc, 64, 2)
         ),
@@ -67,7 +67,7 @@ pub fn play(trial: &mut Trial, call: &str) -> Result<(), SetupFailed> {
 /// Updates the sketch with a seventh text.
 fn play_update(trial: &mut Trial, sketch: &mut Sketch, by: UpdateBy) -> Result<(), SetupFailed> {
     let seventh = text(trial.alloc, "g")?;
-    play_answers!(trial, update(sketch, by, seventh))
+    play_calls!(trial, write_answer, update(sketch, by, seventh))
 }
 
 /// Items are cloned, and the table doubles.
@@ -130,8 +130,9 @@ fn clone_row(trial: &mut Trial) -> Result<(), SetupFailed> {
 fn deserialize(trial: &mut Trial) -> Result<(), SetupFailed> {
     let alloc = trial.alloc;
     let image = Sketch::make(alloc)?.serialize()?;
-    play_answers!(
+    play_calls!(
         trial,
+        write_answer,
         Sketch::deserialize(alloc, &image),
         Sketch::deserialize_with_limit(alloc, &image, 1024)
     )

@@ -1,8 +1,8 @@
 //! Calls of a table of six texts.
 use crate::calls::{
-    Described, Subject, play_answers, play_on, play_outcomes, refusable, write_length,
+    Described, Subject, play_calls, play_on, refusable, write_answer, write_length,
 };
-use crate::output::write_table;
+use crate::output::{write_outcome, write_table};
 use crate::table::{free_table, grow, put, put_ref};
 use crate::texts::{SIX, asked, text};
 use crate::trial::{SetupFailed, Trial};
@@ -33,9 +33,9 @@ impl Subject for ReversePurgeItemHashMap<String> {
     fn play_call(&mut self, trial: &mut Trial, call: &str) -> Result<(), SetupFailed> {
         match call {
             "add_ref" => add_ref(trial, self),
-            "resize" => play_answers!(trial, grow(self, 32)),
-            "double" => play_answers!(trial, grow(self, 16)),
-            "clone" => play_answers!(trial, self.try_clone()),
+            "resize" => play_calls!(trial, write_answer, grow(self, 32)),
+            "double" => play_calls!(trial, write_answer, grow(self, 16)),
+            "clone" => play_calls!(trial, write_answer, self.try_clone()),
             "entries" => entries(trial, self),
             _ => Err(SetupFailed),
         }
@@ -45,14 +45,14 @@ impl Subject for ReversePurgeItemHashMap<String> {
 /// Plays the trial of the name.
 pub fn play(trial: &mut Trial, call: &str) -> Result<(), SetupFailed> {
     match call {
-        "new" => play_outcomes!(trial, free_table::<String>(trial.alloc, 8)),
+        "new" => play_calls!(trial, write_outcome, free_table::<String>(trial.alloc, 8)),
         _ => play_on::<Table>(trial, call),
     }
 }
 
 fn add_ref(trial: &mut Trial, map: &mut Table) -> Result<(), SetupFailed> {
     let item = text(trial.alloc, "g")?;
-    play_answers!(trial, put_ref(map, &item, 4))
+    play_calls!(trial, write_answer, put_ref(map, &item, 4))
 }
 
 fn entries(trial: &mut Trial, map: &Table) -> Result<(), SetupFailed> {
