@@ -53,12 +53,11 @@ impl Trial {
         }
     }
 
-    /// Says that a call follows that may answer want of memory, and that its requests are counted.
-    pub fn begin_call(&mut self) {
+    /// Says that a call follows that may answer want of memory.
+    pub fn announce_call(&mut self) {
         if self.text.push_str("call\n").is_err() {
             self.failed = true;
         }
-        self.begin();
     }
 
     /// Requests for memory are counted from here on.

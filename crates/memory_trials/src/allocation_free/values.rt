@@ -103,18 +103,18 @@ fn unsigned_values<V: UnsignedCountMinValue>(trial: &mut Trial) {
     write_line!(trial, "half {half}");
 }
 
+/// The same calls on the values of each type.
+macro_rules! play_types {
+    ($trial:ident, $calls:ident: $($value:ty),+) => {{
+        $($calls::<$value>($trial);)+
+        Ok(())
+    }};
+}
+
 pub fn signed(trial: &mut Trial) -> Result<(), SetupFailed> {
-    values::<i8>(trial);
-    values::<i16>(trial);
-    values::<i32>(trial);
-    values::<i64>(trial);
-    Ok(())
+    play_types!(trial, values: i8, i16, i32, i64)
 }
 
 pub fn unsigned(trial: &mut Trial) -> Result<(), SetupFailed> {
-    unsigned_values::<u8>(trial);
-    unsigned_values::<u16>(trial);
-    unsigned_values::<u32>(trial);
-    unsigned_values::<u64>(trial);
-    Ok(())
+    play_types!(trial, unsigned_values: u8, u16, u32, u64)
 }

@@ -1,7 +1,9 @@
 //! Calls of a sketch of six texts, whose table must double for a seventh.
-use crate::calls::{Described, refusable, write_after, write_answer, write_length};
+use crate::calls::{
+    Described, Subject, play_calls, play_on, refusable, write_after, write_answer, write_length,
+};
 use crate::output::{write_error, write_frequent, write_outcome, write_rows};
-use crate::texts::{SIX, UpdateBy, sketch_of, text, texts, update};
+use crate::texts::{SIX, UpdateBy, asked, sketch_of, text, update};
 use crate::trial::{SetupFailed, Trial, write_line, write_words};
 use datasketches::frequencies::{ErrorType, FrequentItemsSketch, Row};
 use std::alloc::Global;
@@ -13,9 +15,26 @@ type Sketch = FrequentItemsSketch<String>;
 /// The sketch's numbers, and what it says of four texts.
 impl Described for FrequentItemsSketch<String> {
     fn describe(&self, trial: &mut Trial) {
-        match texts(trial.alloc, &["a", "b", "c", "g"]) {
-            Ok(asked) => write_frequent(trial, self, &asked),
-            Err(_) => trial.fail(),
+        let asked = asked(trial);
+        write_frequent(trial, self, &asked);
+    }
+}
+
+/// A sketch of six texts.
+impl Subject for FrequentItemsSketch<String> {
+    fn make(alloc: Global) -> Result<Self, SetupFailed> {
+        sketch_of(alloc, 64, &SIX)
+    }
+
+    fn play_call(&mut self, trial: &mut Trial, call: &str) -> Result<(), SetupFailed> {
+        match call {
+            "update" => play_update(trial, self, UpdateBy::Value),
+            "update_with_count" => play_update(trial, self, UpdateBy::ValueWithCount(5)),
+            "update_ref" => play_update(trial, self, UpdateBy::Reference),
+            "update_with_count_ref" => play_update(trial, self, UpdateBy::ReferenceWithCount(5)),
+            "clone" => play_calls!(trial, write_answer, self.try_clone()),
+            "serialize" => play_calls!(trial, write_answer, self.serialize()),
+            _ => Err(SetupFailed),
         }
     }
 }
@@ -31,62 +50,36 @@ impl Described for Vec<Row<String>> {
 /// Plays the trial of the name.
 pub fn play(trial: &mut Trial, call: &str) -> Result<(), SetupFailed> {
     match call {
-        "new" => new(trial),
-        "update" => play_update(trial, UpdateBy::Value),
-        "update_with_count" => play_update(trial, UpdateBy::ValueWithCount(5)),
-        "update_ref" => play_update(trial, UpdateBy::Reference),
-        "update_with_count_ref" => play_update(trial, UpdateBy::ReferenceWithCount(5)),
+        "new" => play_calls!(
+            trial,
+            write_outcome,
+            Sketch::new(trial.alloc, 64),
+            Sketch::with_sample_size(trial.alloc, 64, 2)
+        ),
         "merge" => merge(trial),
-        "clone" => clone(trial),
         "rows" => rows(trial),
         "clone_row" => clone_row(trial),
-        "serialize" => serialize(trial),
         "deserialize" => deserialize(trial),
-        _ => Err(SetupFailed),
+        _ => play_on::<Sketch>(trial, call),
     }
 }
 
-fn new(trial: &mut Trial) -> Result<(), SetupFailed> {
-    let alloc = trial.alloc;
-    let made = refusable!(trial, Sketch::new(alloc, 64));
-    write_outcome(trial, made);
-    let made = refusable!(trial, Sketch::with_sample_size(alloc, 64, 2));
-    write_outcome(trial, made);
-    Ok(())
-}
-
-/// A sketch of these texts, of which it is said what it holds.
-fn prepared(trial: &mut Trial, items: &[(&str, u64)]) -> Result<Sketch, SetupFailed> {
-    let sketch = sketch_of(trial.alloc, 64, items)?;
-    sketch.describe(trial);
-    Ok(sketch)
-}
-
-fn play_update(trial: &mut Trial, by: UpdateBy) -> Result<(), SetupFailed> {
-    let mut sketch = prepared(trial, &SIX)?;
+/// Updates the sketch with a seventh text.
+fn play_update(trial: &mut Trial, sketch: &mut Sketch, by: UpdateBy) -> Result<(), SetupFailed> {
     let seventh = text(trial.alloc, "g")?;
-    let updated = refusable!(trial, update(&mut sketch, by, seventh));
-    write_answer(trial, updated);
-    write_after(trial, &sketch);
-    Ok(())
+    play_calls!(trial, write_answer, update(sketch, by, seventh))
 }
 
 /// Items are cloned, and the table doubles.
 fn merge(trial: &mut Trial) -> Result<(), SetupFailed> {
-    let mut sketch = prepared(trial, &SIX)?;
-    let other = prepared(trial, &[("a", 1), ("g", 1), ("h", 1)])?;
+    let mut sketch = Sketch::make(trial.alloc)?;
+    let other = sketch_of(trial.alloc, 64, &[("a", 1), ("g", 1), ("h", 1)])?;
+    sketch.describe(trial);
+    other.describe(trial);
     let merged = refusable!(trial, sketch.merge(&other));
     write_answer(trial, merged);
     write_after(trial, &sketch);
     other.describe(trial);
-    Ok(())
-}
-
-fn clone(trial: &mut Trial) -> Result<(), SetupFailed> {
-    let sketch = prepared(trial, &SIX)?;
-    let clone = refusable!(trial, sketch.try_clone());
-    write_answer(trial, clone);
-    write_after(trial, &sketch);
     Ok(())
 }
 
@@ -105,7 +98,8 @@ fn ask_rows(trial: &mut Trial, sketch: &Sketch) {
 }
 
 fn rows(trial: &mut Trial) -> Result<(), SetupFailed> {
-    let sketch = prepared(trial, &WEIGHTED)?;
+    let sketch = sketch_of(trial.alloc, 64, &WEIGHTED)?;
+    sketch.describe(trial);
     ask_rows(trial, &sketch);
     write_after(trial, &sketch);
     Ok(())
@@ -133,25 +127,13 @@ fn clone_row(trial: &mut Trial) -> Result<(), SetupFailed> {
     Ok(())
 }
 
-fn serialize(trial: &mut Trial) -> Result<(), SetupFailed> {
-    let sketch = prepared(trial, &SIX)?;
-    let image = refusable!(trial, sketch.serialize());
-    write_answer(trial, image);
-    write_after(trial, &sketch);
-    Ok(())
-}
-
-/// The image of a sketch of six texts.
-fn image_of_six(alloc: Global) -> Result<Vec<u8>, SetupFailed> {
-    Ok(sketch_of(alloc, 64, &SIX)?.serialize()?)
-}
-
 fn deserialize(trial: &mut Trial) -> Result<(), SetupFailed> {
     let alloc = trial.alloc;
-    let image = image_of_six(alloc)?;
-    let made = refusable!(trial, Sketch::deserialize(alloc, &image));
-    write_answer(trial, made);
-    let made = refusable!(trial, Sketch::deserialize_with_limit(alloc, &image, 1024));
-    write_answer(trial, made);
-    Ok(())
+    let image = Sketch::make(alloc)?.serialize()?;
+    play_calls!(
+        trial,
+        write_answer,
+        Sketch::deserialize(alloc, &image),
+        Sketch::deserialize_with_limit(alloc, &image, 1024)
+    )
 }
