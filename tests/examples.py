@@ -34,7 +34,7 @@ def blocks():
     for path in [f"{TOP}/README.md", *sorted(glob.glob(f"{TOP}/crates/*/README.md"))]:
         for block in re.findall(r"^```rust\n(.*?)^```$", read(path), re.DOTALL | re.MULTILINE):
             yield path, block
-    for path in sorted(glob.glob(f"{TOP}/crates/*/src/*.rt")):
+    for path in sorted(glob.glob(f"{TOP}/crates/*/src/**/*.rt", recursive=True)):
         docs = "\n".join(it.strip()[3:].removeprefix(" ") for it in read(path).split("\n") if it.strip().startswith("//"))
         for block in re.findall(r"^```\n(.*?)^```$", docs, re.DOTALL | re.MULTILINE):
             yield path, textwrap.dedent(block)

@@ -5,6 +5,7 @@ use Rattle.std.specs.Cmp.{IsEquivalence}
 use Rattle.std.specs.List.{AllByRecursion, AllZip, IsDistinct, concat}
 use Rattle.std.specs.Map.{keys_of}
 use Rattle.std.proofs.lemmas.List.Sorted.{IsPermutation-refl}
+use Rattle.std.proofs.lemmas.Slice.Zip.{AllZip-long}
 use Rattle.counter_table.specs.declared.slot.Slot.{Slot}
 use Rattle.counter_table.specs.declared.slot.Slot.TheVariants.{Free, Taken}
 use Rattle.counter_table.specs.Homes.{ahead, distance, home_in, home_of}
@@ -13,11 +14,8 @@ use Rattle.counter_table.specs.Tables.{IsSameEntry, IsSameMap}
 use Rattle.std.proofs.lemmas.Map.Keys.{IsDistinct-head, IsDistinct-tail, IsDistinct-cons}
 
 module _ {T : Type 0} (eq : T → T → Bool) where
-  zip_slots_length : (slots clones : List (Slot T)) → AllZip (IsSameSlot eq) slots clones → length clones ≡ length slots
-  zip_slots_length [] [] h = refl
-  zip_slots_length [] (p ∷ ps) h = absurd h
-  zip_slots_length (o ∷ os) [] h = absurd h
-  zip_slots_length (o ∷ os) (p ∷ ps) h = omega (arith, zip_slots_length os ps h.1)
+  pub cloned_size : (slots clones : List (Slot T)) → AllZip (IsSameSlot eq) slots clones → length clones ≡ length slots
+  cloned_size slots clones zip = AllZip-long (IsSameSlot eq) slots clones zip
 
   zip_entries : (slots clones : List (Slot T)) → AllZip (IsSameSlot eq) slots clones → AllZip (IsSameEntry eq) (entries_of slots) (entries_of clones)
   zip_entries [] [] h = tt
@@ -27,15 +25,6 @@ module _ {T : Type 0} (eq : T → T → Bool) where
   zip_entries (Free ∷ os) (Taken e k y ∷ ps) h = absurd h.0
   zip_entries (Taken d n x ∷ os) (Free ∷ ps) h = absurd h.0
   zip_entries (Taken d n x ∷ os) (Taken e k y ∷ ps) h = ((h.0.2, h.0.1), zip_entries os ps h.1)
-
-  zip_entries_length : (slots clones : List (Slot T)) → AllZip (IsSameSlot eq) slots clones → length (entries_of clones) ≡ length (entries_of slots)
-  zip_entries_length [] [] h = refl
-  zip_entries_length [] (p ∷ ps) h = absurd h
-  zip_entries_length (o ∷ os) [] h = absurd h
-  zip_entries_length (Free ∷ os) (Free ∷ ps) h = zip_entries_length os ps h.1
-  zip_entries_length (Free ∷ os) (Taken e k y ∷ ps) h = absurd h.0
-  zip_entries_length (Taken d n x ∷ os) (Free ∷ ps) h = absurd h.0
-  zip_entries_length (Taken d n x ∷ os) (Taken e k y ∷ ps) h = omega (arith, zip_entries_length os ps h.1)
 
   -- an item equal to one that differs from all originals differs from all clones
   zip_apart : IsEquivalence eq → (x y : T) → eq x y ≡ true → (slots clones : List (Slot T)) → AllZip (IsSameSlot eq) slots clones → AllByRecursion (λ q. eq x q ≡ false) (keys_of (entries_of slots)) → AllByRecursion (λ q. eq y q ≡ false) (keys_of (entries_of clones))
@@ -88,7 +77,7 @@ module _ {T : Type 0} (eq : T → T → Bool) where
   IsPlaced-clones : (home : T → ℕ) → ((x y : T) → eq x y ≡ true → home x ≡ home y) → (slots clones : List (Slot T)) → AllZip (IsSameSlot eq) slots clones → IsPlaced home slots → IsPlaced home clones
   IsPlaced-clones home respects slots clones zip placed =
       let n = length slots in
-      let long = zip_slots_length slots clones zip in
+      let long = cloned_size slots clones zip in
       record {
         drift = λ k s e.
             let t = zip_held slots clones zip k s e in
@@ -109,11 +98,11 @@ module _ {T : Type 0} (eq : T → T → Bool) where
   }
 
   pub cloned_length : (slots clones : List (Slot T)) → AllZip (IsSameSlot eq) slots clones → length (entries_of clones) ≡ length (entries_of slots)
-  cloned_length = zip_entries_length
+  cloned_length slots clones zip = AllZip-long (IsSameEntry eq) (entries_of slots) (entries_of clones) (zip_entries slots clones zip)
 
   pub IsSlots-clones : IsEquivalence eq → (input : T → List (List ℕ)) → ((x y : T) → IsTrue (eq x y) → input x ≡ input y) → (slots clones : List (Slot T)) → AllZip (IsSameSlot eq) slots clones → IsSlots eq input slots → IsSlots eq input clones
   IsSlots-clones laws input respects slots clones zip ok =
-      let long = zip_slots_length slots clones zip in
+      let long = cloned_size slots clones zip in
       let P : ℕ → Type 0 = λ n. IsPlaced (home_in input n) clones in
       record {
         distinct = zip_distinct laws slots clones zip ok.distinct;
@@ -121,6 +110,3 @@ module _ {T : Type 0} (eq : T → T → Bool) where
         room = omega (arith, long, cloned_length slots clones zip, ok.room);
         size = rw long ok.size;
       }
-
-  pub cloned_size : (slots clones : List (Slot T)) → AllZip (IsSameSlot eq) slots clones → length clones ≡ length slots
-  cloned_size slots clones zip = zip_slots_length slots clones zip

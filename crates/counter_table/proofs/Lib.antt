@@ -9,7 +9,6 @@ pub mod LookupHomes
 pub mod LookupProbes
 pub mod LookupReach
 pub mod LookupTallies
-pub mod PurgeFilters
 pub mod PurgeLessening
 pub mod PurgeMiddle
 pub mod PurgeRoom

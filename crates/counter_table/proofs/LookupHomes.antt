@@ -49,18 +49,22 @@ pub ahead-zero : (n h : ℕ) → h < n → ahead n h 0 ≡ h
 ahead-zero n h l = let a = ahead_is n h 0 l (omega arith) in omega arith
 
 -- ---- a look-up that has looked at so many places from the home of x on
+pub record Stands {T : Type 0} (input : T → List (List ℕ)) (x : T) (n place looked : ℕ) : Type 0 where
+  pub at_place : place ≡ ahead n (home_in input n x) looked
+  pub below : looked < n
+
 module _ {T : Type 0} (input : T → List (List ℕ)) (x : T) (n : ℕ) (size : IsTableSize n) where
   home_below : home_in input n x < n
   home_below = home_of-below (fed_bytes input x) n (some_size n size)
 
   -- it starts at the home
-  pub stands_first : (place : ℕ) → place ≡ home_in input n x → place ≡ ahead n (home_in input n x) 0
-  stands_first place is = is ∙ sym (ahead-zero n (home_in input n x) home_below)
+  pub stands_first : (place : ℕ) → place ≡ home_in input n x → Stands input x n place 0
+  stands_first place is = record { at_place = is ∙ sym (ahead-zero n (home_in input n x) home_below); below = some_size n size }
 
   -- its place is one of the table's
-  pub stands_within : (place looked : ℕ) → place ≡ ahead n (home_in input n x) looked → looked < n → place < n
-  stands_within place looked at below = let a = ahead_is n (home_in input n x) looked home_below (omega (arith, below)) in omega (arith, at, a.below)
+  pub stands_within : (place looked : ℕ) → Stands input x n place looked → place < n
+  stands_within place looked s = let a = ahead_is n (home_in input n x) looked home_below (omega (arith, s.below)) in omega (arith, s.at_place, a.below)
 
   -- and goes on to the next
-  pub stands_next : (place next looked : ℕ) → place ≡ ahead n (home_in input n x) looked → next ≡ ahead n place 1 → looked + 1 < n → next ≡ ahead n (home_in input n x) (looked + 1)
-  stands_next place next looked at step below = step ∙ ap (λ p. ahead n p 1) at ∙ ahead-next n (home_in input n x) looked home_below below
+  pub stands_next : (place next looked : ℕ) → Stands input x n place looked → next ≡ ahead n place 1 → looked + 1 < n → Stands input x n next (looked + 1)
+  stands_next place next looked s step below = record { at_place = step ∙ ap (λ p. ahead n p 1) s.at_place ∙ ahead-next n (home_in input n x) looked home_below below; below = below }

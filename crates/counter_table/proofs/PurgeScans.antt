@@ -4,7 +4,7 @@ use Rattle.std.specs.List.{filter}
 use Rattle.std.proofs.Math.ListN.{set}
 use Rattle.std.proofs.lemmas.Bool.{cases_lt, cases_Bool, both_ways, lt-ltb, eqb-true, eqb-false, false≢true}
 use Rattle.std.proofs.lemmas.List.Sorted.{IsPermutation-trans, length_permutation}
-use Rattle.counter_table.proofs.PurgeFilters.{filter-permutation}
+use Rattle.counter_table.specs.Filters.{filter-permutation}
 use Rattle.counter_table.specs.declared.slot.Slot.{Slot}
 use Rattle.counter_table.specs.declared.slot.Slot.TheVariants.{Free, Taken}
 use Rattle.counter_table.specs.Homes.{ahead, distance}

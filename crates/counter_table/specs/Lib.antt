@@ -1,4 +1,5 @@
 pub mod Bytes
+pub mod Filters
 pub mod Homes
 pub mod Places
 pub mod Probes

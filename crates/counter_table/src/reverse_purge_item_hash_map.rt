@@ -28,6 +28,20 @@ use std::mem;
 /// A look-up starts at the slot that the item's hash picks, its home, and goes on slot by slot, round the end. What it
 /// costs is a function of the map alone: no history of purges slows it down. The hash is fixed, so whoever picks the
 /// items can make them cluster; a look-up then looks at one slot an entry and one more, and never at more.
+///
+/// # Examples
+///
+/// ```
+/// use counter_table::ReversePurgeItemHashMap;
+///
+/// fn counts_visit(visits: &mut ReversePurgeItemHashMap<u64>, page: u64) -> bool {
+///     if visits.num_active() >= visits.capacity() || visits.get(&page) == u64::MAX {
+///         return false;
+///     }
+///     visits.adjust_or_put_value(page, 1);
+///     true
+/// }
+/// ```
 #[derive(Debug, Drop)]
 pub struct ReversePurgeItemHashMap<T: Eq + Hash + Drop> {
     slots: Vec<Slot<T>>,

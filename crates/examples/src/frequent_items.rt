@@ -1,5 +1,7 @@
 //! The items that weigh most.
-use sketch_frequencies::{Error, ErrorType, FrequentItemsSketch};
+use counter_table::ReversePurgeItemHashMap;
+use sketch_base::SketchBytes;
+use sketch_frequencies::{Error, ErrorType, FrequentItemValue, FrequentItemsSketch, Row};
 use std::alloc::Global;
 
 /// The greatest estimate among the numbers.
@@ -20,4 +22,44 @@ pub fn apples_of_both_shops(alloc: Global) -> Result<(u64, u64), Error> {
     south.update_with_count("apple", 12)?;
     north.merge(&south)?;
     Ok((north.lower_bound(&"apple"), north.upper_bound(&"apple")))
+}
+
+/// How many pages surely weigh more than the threshold, and how many may.
+pub fn heavier_pages(
+    pages: &FrequentItemsSketch<u64>,
+    threshold: u64,
+) -> Result<(usize, usize), Error> {
+    let surely = pages.frequent_items_with_threshold(ErrorType::NoFalsePositives, threshold)?;
+    let perhaps = pages.frequent_items_with_threshold(ErrorType::NoFalseNegatives, threshold)?;
+    Ok((surely.len(), perhaps.len()))
+}
+
+/// Whether one item surely weighs more than another.
+pub fn surely_weighs_more(one: &Row<u64>, other: &Row<u64>) -> bool {
+    one.lower_bound() > other.upper_bound()
+}
+
+/// A sketch as it comes back from its bytes, which may ask for a MiB.
+pub fn sent_pages(
+    alloc: Global,
+    pages: &FrequentItemsSketch<u64>,
+) -> Result<FrequentItemsSketch<u64>, Error> {
+    let image = pages.serialize()?;
+    FrequentItemsSketch::deserialize_with_limit(alloc, &image, 1 << 20)
+}
+
+/// An item as it stands in an image.
+pub fn bytes_of<T: FrequentItemValue>(alloc: Global, item: &T) -> Result<Vec<u8>, Error> {
+    let mut out = SketchBytes::with_capacity(alloc, T::serialize_size(item))?;
+    item.serialize_value(&mut out)?;
+    Ok(out.into_bytes())
+}
+
+/// Counts a visit where there is room for it, and answers whether there is.
+pub fn counts_visit(visits: &mut ReversePurgeItemHashMap<u64>, page: u64) -> bool {
+    if visits.num_active() >= visits.capacity() || visits.get(&page) == u64::MAX {
+        return false;
+    }
+    visits.adjust_or_put_value(page, 1);
+    true
 }

@@ -7,18 +7,23 @@ use crate::counts::{
     age, apples_in_store, apples_of_both_days, bytes_of_apple, halve, sent_counts, weight_of_all,
 };
 use crate::filters::{filter_of_visitors, is_first_visit, seen_by_both, still_refused};
-use crate::frequent_items::{apples_of_both_shops, heaviest};
+use crate::frequent_items::{
+    apples_of_both_shops, bytes_of, counts_visit, heavier_pages, heaviest, sent_pages,
+    surely_weighs_more,
+};
 use crate::images::sent;
 use crate::session::{
     has_seen_seven, insertion, made_shape, most_slots, recycles, refusal_of_an_unknown_name, union,
     visits_by_seven, word_for,
 };
 use crate::windows::{load_of_a_customer, weight_of_the_first};
+use counter_table::ReversePurgeItemHashMap;
 use datasketches::bloom::BloomFilterBuilder;
 use datasketches::error::Error;
 use datasketches::{Action, Command, Refusal, Reply, Session, Shape, Status};
 use sketch_base::Fault;
 use sketch_countmin::CountMinSketch;
+use sketch_frequencies::{ErrorType, FrequentItemsSketch};
 use std::alloc::Global;
 use std::test::Fail;
 
@@ -84,6 +89,41 @@ fn sketches_are_as_the_docs_say(rt: HostRuntime) -> Result<(), Fail> {
     assert!(rt; visits(rt.alloc())? == (true, false));
     assert!(rt; counts_come_back(rt.alloc())? == (9, true));
     assert!(rt; apples_of_both_days(rt.alloc())? == (10, 10));
+    Ok(())
+}
+
+/// How many pages are heavier than 3, from a sketch that comes back.
+fn pages_come_back(alloc: Global) -> Result<(usize, usize), Error> {
+    let mut pages = FrequentItemsSketch::new(alloc, 8)?;
+    pages.update_with_count(1, 5)?;
+    pages.update_with_count(2, 3)?;
+    heavier_pages(&sent_pages(alloc, &pages)?, 3)
+}
+
+/// Whether the first row of a sketch surely weighs more than itself.
+fn is_above_itself(alloc: Global) -> Result<Option<bool>, Error> {
+    let mut pages = FrequentItemsSketch::new(alloc, 8)?;
+    pages.update(1)?;
+    let rows = pages.frequent_items(ErrorType::NoFalsePositives)?;
+    Ok(rows.first().map(|row| surely_weighs_more(row, row)))
+}
+
+/// Whether a visit was counted in a table of so many slots, a power of two, and the count of its page.
+fn visits_of_a_page(alloc: Global, size: usize) -> Result<(bool, u64), Error> {
+    if !size.is_power_of_two() || size > 8 {
+        return Ok((false, 0));
+    }
+    let mut visits = ReversePurgeItemHashMap::new(alloc, size)?;
+    let counted = counts_visit(&mut visits, 7);
+    Ok((counted, visits.get(&7)))
+}
+
+#[test]
+fn frequent_items_are_as_the_docs_say(rt: HostRuntime) -> Result<(), Fail> {
+    assert!(rt; pages_come_back(rt.alloc())? == (1, 1));
+    assert!(rt; is_above_itself(rt.alloc())? == Some(false));
+    assert!(rt; visits_of_a_page(rt.alloc(), 8)? == (true, 1));
+    assert!(rt; bytes_of(rt.alloc(), &1u64)?.as_slice() == [1u8, 0, 0, 0, 0, 0, 0, 0].as_slice());
     Ok(())
 }
 

@@ -5,9 +5,9 @@ use Rattle.std.specs.Prelude.{IsTrue}
 use Rattle.std.specs.Int.{is_power_of_two}
 use Rattle.std.specs.List.{IsDistinct}
 use Rattle.std.proofs.lemmas.List.Elements.{All-nil}
-use Rattle.sketch_frequencies.specs.History.{FrequentHistory, own_size, own_sample}
+use Rattle.sketch_frequencies.specs.History.{FrequentHistory, own_size, own_sample, least_size, least_sample, total_weight, true_weight}
 use Rattle.sketch_frequencies.specs.History.FrequentHistory.{New, Reset}
-use Rattle.sketch_frequencies.specs.Stands.{StandsFor, KeepsTailBudget}
+use Rattle.sketch_frequencies.specs.Stands.{Encloses, StandsFor, KeepsTailBudget}
 use Rattle.sketch_frequencies.specs.State.{IsState, IsSampleSize, empty_state, greatest_sample_size}
 use Rattle.sketch_frequencies.proofs.Powers.{eight_is_power}
 use Rattle.sketch_frequencies.proofs.SampleSizes.{usual_sample}
@@ -36,19 +36,23 @@ restored_empty eq lg m n low value most power usual =
     let large : 8 ≤ m = omega (arith, least, value) in
     fresh_state eq m n large most power (subst (λ (k : ℕ). IsSampleSize m k) (sym usual) (usual_sample m large power))
 
+-- it is one of a history in which nothing weighs anything
+nothing_weighs : {T : Type 0} (eq : T → T → Bool) (m n : ℕ) (h : FrequentHistory T) → m ≡ own_size h → total_weight h ≡ 0 → ((x : T) → true_weight eq h x ≡ 0) → 8 ≤ least_size h → IsTrue (is_power_of_two (least_size h)) → IsSampleSize (least_size h) (least_sample h) → Encloses eq (empty_state m n) h
+nothing_weighs eq m n h own none none_of least power sample = record {
+  max_size = own;
+  total = sym none;
+  at_least = λ _. omega arith;
+  at_most = λ x. omega (arith, none_of x);
+  exact = λ _. refl;
+  least = least;
+  power = power;
+  sample = sample;
+}
+
 -- it stands for nothing fed
 pub new_stands : {T : Type 0} (eq : T → T → Bool) (m n : ℕ) → 8 ≤ m → IsTrue (is_power_of_two m) → IsSampleSize m n → StandsFor eq (empty_state m n) (New m n)
 new_stands eq m n least power sample = record {
-  encloses = record {
-    max_size = refl;
-    total = refl;
-    at_least = λ _. omega arith;
-    at_most = λ _. omega arith;
-    exact = λ _. refl;
-    least = least;
-    power = power;
-    sample = sample;
-  };
+  encloses = nothing_weighs eq m n (New m n) refl refl (λ _. refl) least power sample;
   sample_size = refl;
 }
 
@@ -57,16 +61,7 @@ pub reset_stands : {T : Type 0} (eq : T → T → Bool) (m n : ℕ) → 8 ≤ m 
 reset_stands eq m n least power sample h own own_n =
     let so_many : IsSampleSize m (own_sample h) = subst (λ (k : ℕ). IsSampleSize m k) own_n sample in
     record {
-      encloses = record {
-        max_size = own;
-        total = refl;
-        at_least = λ _. omega arith;
-        at_most = λ _. omega arith;
-        exact = λ _. refl;
-        least = omega (arith, least, own);
-        power = subst (λ (k : ℕ). IsTrue (is_power_of_two k)) own power;
-        sample = subst (λ (k : ℕ). IsSampleSize k (own_sample h)) own so_many;
-      };
+      encloses = nothing_weighs eq m n (Reset h) own refl (λ _. refl) (omega (arith, least, own)) (subst (λ (k : ℕ). IsTrue (is_power_of_two k)) own power) (subst (λ (k : ℕ). IsSampleSize k (own_sample h)) own so_many);
       sample_size = own_n;
     }
 

@@ -31,6 +31,23 @@ positive_from_contents {T} {C} content (e ∷ es) h =
     let Q : C × ℕ → Type 0 = λ p. 0 < p.1 in
     All-cons (λ (p : T × ℕ). 0 < p.1) e es (All-head Q (content e.0, e.1) (contents_of content es) h) (positive_from_contents content es (All-tail Q (content e.0, e.1) (contents_of content es) h))
 
+-- a state stays one where its counters are replaced by as many of other items, of the same weight together
+with_counters : {A B : Type 0} (eq : A → A → Bool) (other : B → B → Bool) (s : FrequentState A) (counters : List (B × ℕ)) → IsState eq s → IsDistinct other (keys_of counters) → All (λ e. 0 < e.1) counters → length counters ≡ length s.counters → sum_of counters ≡ sum_of s.counters →
+    IsState other (record { counters = counters; error = s.error; total = s.total; max_size = s.max_size; size = s.size; sample_size = s.sample_size })
+with_counters eq other s counters h distinct positive long weight = record {
+  distinct = distinct;
+  positive = positive;
+  few = omega (arith, h.few, long);
+  sum = omega (arith, h.sum, weight);
+  least = h.least;
+  within = h.within;
+  greatest = h.greatest;
+  size_power = h.size_power;
+  max_size_power = h.max_size_power;
+  empty = h.empty;
+  sample = h.sample;
+}
+
 -- no bytes are an image of two states of contents
 pub image_is_of_one : {C : Type 0} (codec : Codec C) → IsEquivalence codec.same → (image : List ℕ) (s t : FrequentState C) → IsImage codec image s → IsImage codec image t → HoldsSame codec.same s t
 image_is_of_one codec laws image s t a b = record {
@@ -44,19 +61,9 @@ image_is_of_one codec laws image s t a b = record {
 module _ {T C : Type 0} (codec : Codec C) (content : T → C) (eq : T → T → Bool) (alike : (x y : T) → eq x y ≡ codec.same (content x) (content y)) where
   -- a sketch and its contents are states together
   pub contents_state : (s : FrequentState T) → IsState eq s → IsState codec.same (state_of_contents content s)
-  contents_state s h = record {
-    distinct = distinct_contents codec.same content eq alike s.counters h.distinct;
-    positive = All-map (λ (e : C × ℕ). 0 < e.1) (λ (e : T × ℕ). (content e.0, e.1)) s.counters h.positive;
-    few = simp length-map h.few;
-    sum = omega (arith, h.sum, sum_of-contents content s.counters);
-    least = h.least;
-    within = h.within;
-    greatest = h.greatest;
-    size_power = h.size_power;
-    max_size_power = h.max_size_power;
-    empty = h.empty;
-    sample = h.sample;
-  }
+  contents_state s h =
+      let f : T × ℕ → C × ℕ = λ e. (content e.0, e.1) in
+      with_counters eq codec.same s (contents_of content s.counters) h (distinct_contents codec.same content eq alike s.counters h.distinct) (All-map (λ (e : C × ℕ). 0 < e.1) f s.counters h.positive) (length-map s.counters f) (sum_of-contents content s.counters)
 
   none_equal_back : (k : T) (es : List (T × ℕ)) → AllByRecursion (λ q. codec.same (content k) q ≡ false) (keys_of (contents_of content es)) → AllByRecursion (λ q. eq k q ≡ false) (keys_of es)
   none_equal_back k [] h = tt
@@ -70,19 +77,7 @@ module _ {T C : Type 0} (codec : Codec C) (content : T → C) (eq : T → T → 
   state_from_contents : (s : FrequentState T) → IsState codec.same (state_of_contents content s) → IsState eq s
   state_from_contents s h =
       let f : T × ℕ → C × ℕ = λ e. (content e.0, e.1) in
-      record {
-        distinct = distinct_back s.counters h.distinct;
-        positive = positive_from_contents content s.counters h.positive;
-        few = omega (arith, h.few, length-map s.counters f);
-        sum = omega (arith, h.sum, sum_of-contents content s.counters);
-        least = h.least;
-        within = h.within;
-        greatest = h.greatest;
-        size_power = h.size_power;
-        max_size_power = h.max_size_power;
-        empty = h.empty;
-        sample = h.sample;
-      }
+      with_counters codec.same eq (state_of_contents content s) s.counters h (distinct_back s.counters h.distinct) (positive_from_contents content s.counters h.positive) (sym (length-map s.counters f)) (sym (sum_of-contents content s.counters))
 
   count_of-contents : (es : List (T × ℕ)) (x : T) → count_of codec.same (contents_of content es) (content x) ≡ count_of eq es x
   count_of-contents [] x = refl

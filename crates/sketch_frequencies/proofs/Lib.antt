@@ -5,7 +5,6 @@ pub mod EmptySketches
 pub mod Enclosure
 pub mod Estimates
 pub mod Existence
-pub mod Filters
 pub mod ImageCounting
 pub mod ImageGathering
 pub mod ImageLimits

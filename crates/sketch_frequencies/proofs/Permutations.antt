@@ -6,7 +6,7 @@ use Rattle.std.specs.Map.{lookup, keys_of}
 use Rattle.std.proofs.lemmas.Bool.{false≢true}
 use Rattle.std.proofs.lemmas.Bool.Decides.{nat_tests}
 use Rattle.std.proofs.lemmas.List.Sums.{sum_by-cons}
-use Rattle.sketch_frequencies.proofs.Filters.{filter-permutation}
+use Rattle.counter_table.specs.Filters.{filter-permutation}
 use Rattle.std.proofs.lemmas.List.Sorted.{sum_by-IsPermutation, IsPermutation-map, list_any-IsPermutation, IsPermutation-append_left, IsPermutation-trans}
 use Rattle.std.proofs.lemmas.Map.Keys.{IsDistinct-head, IsDistinct-tail, IsDistinct-cons, IsDistinct-IsPermutation}
 use Rattle.counter_table.specs.Tables.{count_of, is_tracked, put, purged, IsSampleMiddle}

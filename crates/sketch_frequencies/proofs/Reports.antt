@@ -1,5 +1,5 @@
 -- The rows so far of a report, entry by entry.
-use Rattle.std.proofs.Common.{◌≡◌, ℕ, ◌+◌, ◌≤◌, Bool, true, false, ◌||◌, List, [], ◌∷◌, ◌++◌, unwrap_or, is_some, map, refl, ap, sym, ◌∙◌, subst, arith, IsPermutation, append_assoc}
+use Rattle.std.proofs.Common.{◌≡◌, ℕ, ◌+◌, ◌≤◌, Bool, true, false, ◌||◌, max, List, [], ◌∷◌, ◌++◌, unwrap_or, is_some, map, refl, ap, sym, ◌∙◌, subst, arith, IsPermutation, append_assoc}
 use Rattle.std.specs.Cmp.{IsEquivalence}
 use Rattle.std.specs.List.{IsDistinct, list_any, All}
 use Rattle.std.specs.Map.{keys_of}
@@ -11,6 +11,7 @@ use Rattle.std.proofs.lemmas.List.Sums.{sum_by-append, sum_by-cons}
 use Rattle.std.proofs.lemmas.List.Sorted.{sum_by-IsPermutation, IsPermutation-map, All-permutation, list_any-IsPermutation}
 use Rattle.std.proofs.lemmas.Map.Keys.{IsDistinct-push, IsDistinct-IsPermutation}
 use Rattle.counter_table.specs.Tables.{count_of, is_tracked, sum_of}
+use Rattle.sketch_frequencies.specs.Above.{is_above}
 use Rattle.sketch_frequencies.specs.State.{FrequentState, estimate_of}
 use Rattle.sketch_frequencies.specs.RowValue.{RowValue}
 use Rattle.sketch_frequencies.specs.Rows.{passes, Shows, ShowsExactly}
@@ -166,3 +167,8 @@ exact_in_order {T} {eq} laws kind threshold s rows sorted p exact =
       once = IsDistinct-IsPermutation eq laws.symm (map item_of rows) (map item_of sorted) (IsPermutation-map item_of rows sorted p) exact.once;
       whole = λ x tracked pass. sym (list_any-IsPermutation (λ row. eq x row.item) rows sorted p) ∙ exact.whole x tracked pass;
     }
+
+-- an item passes as the test of its row says, which goes by the sketch's error
+pub passes_tested : {T : Type 0} (kind : ErrorType) (threshold : ℕ) (s : FrequentState T) (count error floor : ℕ) (tested b : Bool) → error ≡ s.error → floor ≡ max threshold error → tested ≡ is_above kind floor count (count + error) → tested ≡ b → passes kind threshold s count ≡ b
+passes_tested kind threshold s count error floor tested b own floor_is test_is is =
+    subst (λ (e : ℕ). is_above kind (max threshold e) count (count + e) ≡ b) own (ap (λ (f : ℕ). is_above kind f count (count + error)) (sym floor_is) ∙ (sym test_is ∙ is))

@@ -14,6 +14,20 @@ use std::hash::Hash;
 /// What an implementation writes it has to read again as an equal item, whatever follows, and to leave that unread.
 /// It is proved once, for the implementation: `codec` defines how contents are written and read, and `lawful` is the
 /// proof that this is so.
+///
+/// # Examples
+///
+/// ```
+/// use sketch_base::SketchBytes;
+/// use sketch_frequencies::{Error, FrequentItemValue};
+/// use std::alloc::Global;
+///
+/// fn bytes_of<T: FrequentItemValue>(alloc: Global, item: &T) -> Result<Vec<u8>, Error> {
+///     let mut out = SketchBytes::with_capacity(alloc, T::serialize_size(item))?;
+///     item.serialize_value(&mut out)?;
+///     Ok(out.into_bytes())
+/// }
+/// ```
 pub trait FrequentItemValue: Sized + Eq + Hash {
     // What an item says, wherever it lies in memory.
     ghost Content: { Type 0 };

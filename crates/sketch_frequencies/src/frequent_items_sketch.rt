@@ -30,6 +30,22 @@ use std::marker::Model;
 ///
 /// How many counters a purge samples, the sample size, is chosen when the sketch is made: a small sample makes a purge
 /// cheap, and a large one keeps the error small. Half of it is the number of items that the tail budget may set aside.
+///
+/// # Examples
+///
+/// ```
+/// use sketch_frequencies::{Error, ErrorType, FrequentItemsSketch};
+/// use std::alloc::Global;
+///
+/// fn heaviest(alloc: Global, numbers: &[u64]) -> Result<Option<u64>, Error> {
+///     let mut sketch = FrequentItemsSketch::new(alloc, 64)?;
+///     for number in numbers {
+///         sketch.update(*number)?;
+///     }
+///     let rows = sketch.frequent_items(ErrorType::NoFalsePositives)?;
+///     Ok(rows.first().map(|row| row.estimate()))
+/// }
+/// ```
 #[derive(Debug, Drop)]
 pub struct FrequentItemsSketch<T: Eq + Hash + Drop> {
     map: ReversePurgeItemHashMap<T>,

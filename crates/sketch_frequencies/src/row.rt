@@ -8,6 +8,16 @@ use std::fmt;
 use std::marker::Model;
 
 /// A row of a report: an item with its estimated weight and the bounds of its true weight.
+///
+/// # Examples
+///
+/// ```
+/// use sketch_frequencies::Row;
+///
+/// fn surely_weighs_more(one: &Row<u64>, other: &Row<u64>) -> bool {
+///     one.lower_bound() > other.upper_bound()
+/// }
+/// ```
 #[derive(Debug, PartialEq, Eq, Drop)]
 pub struct Row<T> {
     item: T,

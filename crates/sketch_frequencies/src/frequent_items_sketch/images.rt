@@ -81,6 +81,21 @@ impl<T: FrequentItemValue + Drop> FrequentItemsSketch<T> {
     ///
     /// Those of `deserialize`, and `TableTooLarge` of the kind `InvalidData` where its `estimated_size` would be more:
     /// behind the checks that come before memory, and then no memory is asked for.
+    ///
+    /// # Examples
+    ///
+    /// ```
+    /// use sketch_frequencies::{Error, FrequentItemsSketch};
+    /// use std::alloc::Global;
+    ///
+    /// fn sent_pages(
+    ///     alloc: Global,
+    ///     pages: &FrequentItemsSketch<u64>,
+    /// ) -> Result<FrequentItemsSketch<u64>, Error> {
+    ///     let image = pages.serialize()?;
+    ///     FrequentItemsSketch::deserialize_with_limit(alloc, &image, 1 << 20)
+    /// }
+    /// ```
     pub fn deserialize_with_limit(
         alloc: Global,
         image: &[u8],

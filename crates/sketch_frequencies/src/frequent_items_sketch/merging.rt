@@ -24,6 +24,22 @@ impl<T: Eq + Hash + Drop> FrequentItemsSketch<T> {
     ///
     /// `WeightOverflow` where the weight of both together would pass the greatest `u64`, and `NoMemory` where there is
     /// no memory for the result. Both sketches are then as they were.
+    ///
+    /// # Examples
+    ///
+    /// ```
+    /// use sketch_frequencies::{Error, FrequentItemsSketch};
+    /// use std::alloc::Global;
+    ///
+    /// fn apples_of_both_shops(alloc: Global) -> Result<(u64, u64), Error> {
+    ///     let mut north = FrequentItemsSketch::with_sample_size(alloc, 1024, 100)?;
+    ///     let mut south = FrequentItemsSketch::with_sample_size(alloc, 1024, 100)?;
+    ///     north.update_with_count("apple", 30)?;
+    ///     south.update_with_count("apple", 12)?;
+    ///     north.merge(&south)?;
+    ///     Ok((north.lower_bound(&"apple"), north.upper_bound(&"apple")))
+    /// }
+    /// ```
     pub fn merge(&mut self, other: &Self) -> Result<(), Error>
     where
         T: Clone,

@@ -88,6 +88,21 @@ impl<T: Eq + Hash + Drop> FrequentItemsSketch<T> {
     /// # Errors
     ///
     /// `NoMemory` where there is no memory for the rows or for a clone.
+    ///
+    /// # Examples
+    ///
+    /// ```
+    /// use sketch_frequencies::{Error, ErrorType, FrequentItemsSketch};
+    ///
+    /// fn heavier_pages(
+    ///     pages: &FrequentItemsSketch<u64>,
+    ///     threshold: u64,
+    /// ) -> Result<(usize, usize), Error> {
+    ///     let surely = pages.frequent_items_with_threshold(ErrorType::NoFalsePositives, threshold)?;
+    ///     let perhaps = pages.frequent_items_with_threshold(ErrorType::NoFalseNegatives, threshold)?;
+    ///     Ok((surely.len(), perhaps.len()))
+    /// }
+    /// ```
     pub fn frequent_items_with_threshold(
         &self,
         error_type: ErrorType,

@@ -9,18 +9,17 @@ use Rattle.counter_table.proofs.slots.find.Goals as goal
 
 pub probe-init : goal.probe-init
 probe-init g c = record {
-  at = stands_first g.T.Hash.hash_input c.args.item.now _ c.requires.size _ c.home-place.ensures;
-  below = some_size _ c.requires.size;
+  stands = stands_first g.T.Hash.hash_input c.args.item.now _ c.requires.size _ c.home-place.ensures;
   passed = IsPassed-none _ _ _ _;
 }
 
 pub look-requires-clause-place : goal.look-requires-clause-place
-look-requires-clause-place g c = stands_within g.T.Hash.hash_input c.args.item.now _ c.requires.size c.probe.place c.probe.looked c.probe.invariant.at c.probe.invariant.below
+look-requires-clause-place g c = stands_within g.T.Hash.hash_input c.args.item.now _ c.requires.size c.probe.place c.probe.looked c.probe.invariant.stands
 
 pub returns-then-eq : goal.returns-then-eq
 returns-then-eq g c =
     let s : Held g.row.T.Denot = record { item = c.in-Taken.there; count = c.in-Taken.count; drift = c.in-Taken.drift } in
-    IsProbe-hit c.probe.invariant.passed c.probe.invariant.below c.probe.place c.look.new.looked s c.probe.invariant.at c.look.ensures.counted (ap held (sym c.look.ensures.value ∙ c.in-Taken.is)) (sym c.eq.ensures ∙ c.if-eq.true)
+    IsProbe-hit c.probe.invariant.passed c.probe.invariant.stands.below c.probe.place c.look.new.looked s c.probe.invariant.stands.at_place c.look.ensures.counted (ap held (sym c.look.ensures.value ∙ c.in-Taken.is)) (sym c.eq.ensures ∙ c.if-eq.true)
 
 pub probe-preserved : goal.probe-preserved
 probe-preserved g c =
@@ -28,11 +27,10 @@ probe-preserved g c =
     let n = length slots in
     let h = home_in g.T.Hash.hash_input n c.args.item.now in
     let s : Held g.row.T.Denot = record { item = c.in-Taken.there; count = c.in-Taken.count; drift = c.in-Taken.drift } in
-    let slot : slot_at slots (ahead n h c.probe.looked) ≡ Some s = ap (slot_at slots) (sym c.probe.invariant.at) ∙ ap held (sym c.look.ensures.value ∙ c.in-Taken.is) in
+    let slot : slot_at slots (ahead n h c.probe.looked) ≡ Some s = ap (slot_at slots) (sym c.probe.invariant.stands.at_place) ∙ ap held (sym c.look.ensures.value ∙ c.in-Taken.is) in
     let more = IsPassed-more c.probe.invariant.passed s slot (sym c.eq.ensures ∙ c.if-eq.false) in
     let below = IsPassed-below (home_of-below (fed_bytes g.T.Hash.hash_input c.args.item.now) n (some_size n c.requires.size)) (free_from_few slots c.requires.room) more in
     rw (c.look.ensures.counted) (record {
-      at = stands_next g.T.Hash.hash_input c.args.item.now n c.requires.size c.probe.place c.next-place.result c.probe.looked c.probe.invariant.at c.next-place.ensures below;
-      below = below;
+      stands = stands_next g.T.Hash.hash_input c.args.item.now n c.requires.size c.probe.place c.next-place.result c.probe.looked c.probe.invariant.stands c.next-place.ensures below;
       passed = more;
     })

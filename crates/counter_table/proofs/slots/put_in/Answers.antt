@@ -1,7 +1,8 @@
 use Rattle.std.proofs.Common.{ap, ◌∙◌, is_some, length}
 use Rattle.counter_table.proofs.LookupHomes.{some_size, home_of-below}
 use Rattle.counter_table.proofs.LookupProbes.{answers, fits_from_probe, gap_from_probe, probe_below}
-use Rattle.counter_table.proofs.InsertionWrites.{wrote_hit, wrote_gap}
+use Rattle.counter_table.proofs.InsertionWrites.{Wrote, wrote_hit, wrote_gap}
+use Rattle.counter_table.proofs.slots.put_in.Given as given
 use Rattle.counter_table.proofs.slots.put_in.Goals as goal
 
 pub add_at-requires-clause-fits : goal.add_at-requires-clause-fits
@@ -17,33 +18,32 @@ returns-in-Some-clause-tracked g c =
     let a = answers g.met.T.Eq.laws g.met.T.Hash.respects_eq c.args.slots.now c.requires.slots c.args.item _ _ _ c.find-probe.ensures in
     ap is_some (a.looked_up ∙ c.in-Some.is)
 
-pub returns-in-Some-clause-slots : goal.returns-in-Some-clause-slots
-returns-in-Some-clause-slots g c =
+-- the count was written to the item's own slot
+wrote_there : (g : given.Over) (c : goal.After-drop-item g) → Wrote g.T.PartialEq.eq g.T.Hash.hash_input c.args.slots.now c.args.item c.args.amount c.add_at.new.slots
+wrote_there g c =
     let here = c.find-probe.ensures.here c.in-Some.field-0 c.in-Some.is in
-    let w = wrote_hit g.met.T.Eq.laws g.T.Hash.hash_input c.args.slots.now c.requires.slots c.args.item c.args.amount c.find-probe.result.place here.0 here.1 here.3 c.add_at.new.slots (c.add_at.ensures here.0 here.1) in
-    w.slots_ok
+    wrote_hit g.met.T.Eq.laws g.T.Hash.hash_input c.args.slots.now c.requires.slots c.args.item c.args.amount c.find-probe.result.place here.0 here.1 here.3 c.add_at.new.slots (c.add_at.ensures here.0 here.1)
+
+pub returns-in-Some-clause-slots : goal.returns-in-Some-clause-slots
+returns-in-Some-clause-slots g c = (wrote_there g c).slots_ok
 
 pub returns-in-Some-clause-entries : goal.returns-in-Some-clause-entries
-returns-in-Some-clause-entries g c =
-    let here = c.find-probe.ensures.here c.in-Some.field-0 c.in-Some.is in
-    let w = wrote_hit g.met.T.Eq.laws g.T.Hash.hash_input c.args.slots.now c.requires.slots c.args.item c.args.amount c.find-probe.result.place here.0 here.1 here.3 c.add_at.new.slots (c.add_at.ensures here.0 here.1) in
-    w.entries
+returns-in-Some-clause-entries g c = (wrote_there g c).entries
 
 pub returns-in-None-clause-tracked : goal.returns-in-None-clause-tracked
 returns-in-None-clause-tracked g c =
     let a = answers g.met.T.Eq.laws g.met.T.Hash.respects_eq c.args.slots.now c.requires.slots c.args.item _ _ _ c.find-probe.ensures in
     ap is_some (a.looked_up ∙ c.in-None.is)
 
-pub returns-in-None-clause-slots : goal.returns-in-None-clause-slots
-returns-in-None-clause-slots g c =
+-- the item was written to the free slot
+wrote_in_gap : (g : given.Over) (c : goal.After-slots-in-None-1 g) → Wrote g.T.PartialEq.eq g.T.Hash.hash_input c.args.slots.now c.args.item c.args.amount c.fill.new.slots
+wrote_in_gap g c =
     let a = answers g.met.T.Eq.laws g.met.T.Hash.respects_eq c.args.slots.now c.requires.slots c.args.item _ _ _ c.find-probe.ensures in
     let absent = ap is_some (a.looked_up ∙ c.in-None.is) in
-    let w = wrote_gap g.met.T.Eq.laws g.T.Hash.hash_input c.args.slots.now c.requires.slots c.args.item c.args.amount c.find-probe.result.place c.find-probe.result.looked absent (c.requires.room absent) (gap_from_probe c.in-None.is c.find-probe.ensures) c.fill.new.slots c.fill.ensures in
-    w.slots_ok
+    wrote_gap g.met.T.Eq.laws g.T.Hash.hash_input c.args.slots.now c.requires.slots c.args.item c.args.amount c.find-probe.result.place c.find-probe.result.looked absent (c.requires.room absent) (gap_from_probe c.in-None.is c.find-probe.ensures) c.fill.new.slots c.fill.ensures
+
+pub returns-in-None-clause-slots : goal.returns-in-None-clause-slots
+returns-in-None-clause-slots g c = (wrote_in_gap g c).slots_ok
 
 pub returns-in-None-clause-entries : goal.returns-in-None-clause-entries
-returns-in-None-clause-entries g c =
-    let a = answers g.met.T.Eq.laws g.met.T.Hash.respects_eq c.args.slots.now c.requires.slots c.args.item _ _ _ c.find-probe.ensures in
-    let absent = ap is_some (a.looked_up ∙ c.in-None.is) in
-    let w = wrote_gap g.met.T.Eq.laws g.T.Hash.hash_input c.args.slots.now c.requires.slots c.args.item c.args.amount c.find-probe.result.place c.find-probe.result.looked absent (c.requires.room absent) (gap_from_probe c.in-None.is c.find-probe.ensures) c.fill.new.slots c.fill.ensures in
-    w.entries
+returns-in-None-clause-entries g c = (wrote_in_gap g c).entries

@@ -10,6 +10,7 @@ use Rattle.sketch_frequencies.specs.State.{FrequentState, greatest_sample_size}
 use Rattle.sketch_frequencies.specs.Steps.{HoldsSame}
 use Rattle.sketch_frequencies.proofs.Images.{one_sketch}
 use Rattle.sketch_frequencies.proofs.RoundTrips.{spelled_is_image}
+use Rattle.sketch_frequencies.proofs.laws.restored.Given as given
 use Rattle.sketch_frequencies.proofs.laws.restored.Goals as goal
 
 -- the bytes are an image of one sketch alone
@@ -28,13 +29,14 @@ only_memory codec content counters before whole (Ok x) none h = h
 only_memory codec content counters before whole (Err e) none (inl h) = inl h.0
 only_memory codec content counters before whole (Err e) none (inr h) = cc (sym none ∙ h.1)
 
-pub returns-clause-same : goal.returns-clause-same
-returns-clause-same g c =
+-- what was written is an image of the sketch
+was : (g : given.Over) (c : goal.After-drop-image g) → IsImageOf g.T.FrequentItemValue.codec g.T.FrequentItemValue.content c.deref.result.now c.args.sketch.now
+was g c =
     let codec = g.T.FrequentItemValue.codec in
-    let content = g.T.FrequentItemValue.content in
-    let image = c.deref.result.now in
-    let was : IsImageOf codec content image c.args.sketch.now = subst (λ bytes. IsImageOf codec content bytes c.args.sketch.now) (sym c.deref.ensures.value) (spelled_is_image codec g.met.T.FrequentItemValue.lawful c.in_ok-image.image.items _ c.in_ok-image.ensures.image) in
-    same_sketch codec content g.T.PartialEq.eq g.met.T.FrequentItemValue.alike g.met.T.Eq.laws image c.args.sketch.now c.deserialize.result was c.deserialize.ensures.image
+    subst (λ bytes. IsImageOf codec g.T.FrequentItemValue.content bytes c.args.sketch.now) (sym c.deref.ensures.value) (spelled_is_image codec g.met.T.FrequentItemValue.lawful c.in_ok-image.image.items _ c.in_ok-image.ensures.image)
+
+pub returns-clause-same : goal.returns-clause-same
+returns-clause-same g c = same_sketch g.T.FrequentItemValue.codec g.T.FrequentItemValue.content g.T.PartialEq.eq g.met.T.FrequentItemValue.alike g.met.T.Eq.laws c.deref.result.now c.args.sketch.now c.deserialize.result (was g c) c.deserialize.ensures.image
 
 pub returns-clause-sample : goal.returns-clause-sample
 returns-clause-sample g c = usual_copy g.T.PartialEq.eq c.args.sketch.now c.deserialize.result (returns-clause-same g c) c.deserialize.ensures.sample
@@ -42,7 +44,4 @@ returns-clause-sample g c = usual_copy g.T.PartialEq.eq c.args.sketch.now c.dese
 pub returns-clause-err : goal.returns-clause-err
 returns-clause-err g c =
     let codec = g.T.FrequentItemValue.codec in
-    let content = g.T.FrequentItemValue.content in
-    let image = c.deref.result.now in
-    let was : IsImageOf codec content image c.args.sketch.now = subst (λ bytes. IsImageOf codec content bytes c.args.sketch.now) (sym c.deref.ensures.value) (spelled_is_image codec g.met.T.FrequentItemValue.lawful c.in_ok-image.image.items _ c.in_ok-image.ensures.image) in
-    only_memory codec content c.args.sketch.now.counters _ (first_fault codec image) c.deserialize.result was.no_fault c.deserialize.ensures.err
+    only_memory codec g.T.FrequentItemValue.content c.args.sketch.now.counters _ (first_fault codec c.deref.result.now) c.deserialize.result (was g c).no_fault c.deserialize.ensures.err

@@ -1,16 +1,13 @@
 use Rattle.std.proofs.Common.{ap, sym, ◌∙◌, arith, length}
 use Rattle.std.proofs.lemmas.List.{append-nil}
-use Rattle.counter_table.specs.Places.{entry_at}
-use Rattle.counter_table.proofs.WalkSteps.{place_within, progress, rest_some}
-use Rattle.counter_table.proofs.WalkSlots.{slot_stepped}
+use Rattle.counter_table.proofs.WalkSteps.{place_within, progress}
+use Rattle.counter_table.proofs.WalkSlots.{more_left, slot_stepped}
 use Rattle.counter_table.proofs.reverse_purge_item_iter.ReversePurgeItemIterIterator.next.Goals as goal
 
 pub invariant_of-self : goal.invariant_of-self
 invariant_of-self g c =
     let i = c.walk.invariant in
-    let at = entry_at c.self.inside.slots.now in
-    let n = length c.self.inside.slots.now in
-    let more = rest_some at n c.walk.self-inside.stride c.walk.self-inside.looked (omega (arith, ap length i.rest, i.left, i.some)) in
+    let more = more_left c.self.inside.slots.now c.walk.self-inside.stride c.walk.self-inside.looked c.walk.self-inside.left _ i.rest i.left i.some in
     let step = slot_stepped _ _ _ _ c.look.result.now i.cursor more c.look.ensures.value in
     let one = ap length (sym i.rest ∙ (rw c.in-Taken.is at step.rest)) in
     rw (i.same, c.look.ensures.counted) (step.cursor, omega (arith, one, i.left))
@@ -18,9 +15,7 @@ invariant_of-self g c =
 pub returns-in-Taken-clause-steps : goal.returns-in-Taken-clause-steps
 returns-in-Taken-clause-steps g c =
     let i = c.walk.invariant in
-    let at = entry_at c.self.inside.slots.now in
-    let n = length c.self.inside.slots.now in
-    let more = rest_some at n c.walk.self-inside.stride c.walk.self-inside.looked (omega (arith, ap length i.rest, i.left, i.some)) in
+    let more = more_left c.self.inside.slots.now c.walk.self-inside.stride c.walk.self-inside.looked c.walk.self-inside.left _ i.rest i.left i.some in
     let step = slot_stepped _ _ _ _ c.look.result.now i.cursor more c.look.ensures.value in
     rw (i.same, c.look.ensures.counted) (sym i.rest ∙ (rw c.in-Taken.is at step.rest), rw (← i.given) (rw c.in-Taken.is at step.given), i.size, omega (arith, i.looked))
 
@@ -30,9 +25,7 @@ returns-in-Taken-clause-goes g c = progress (λ walk. walk.rest) _ _ _ _ (return
 pub walk-preserved : goal.walk-preserved
 walk-preserved g c =
     let i = c.walk.invariant in
-    let at = entry_at c.self.inside.slots.now in
-    let n = length c.self.inside.slots.now in
-    let more = rest_some at n c.walk.self-inside.stride c.walk.self-inside.looked (omega (arith, ap length i.rest, i.left, i.some)) in
+    let more = more_left c.self.inside.slots.now c.walk.self-inside.stride c.walk.self-inside.looked c.walk.self-inside.left _ i.rest i.left i.some in
     let step = slot_stepped _ _ _ _ c.look.result.now i.cursor more c.look.ensures.value in
     rw c.look.ensures.counted (record {
       cursor = step.cursor;
@@ -48,15 +41,11 @@ walk-preserved g c =
 pub look-requires-clause-place : goal.look-requires-clause-place
 look-requires-clause-place g c =
     let i = c.walk.invariant in
-    let at = entry_at c.self.inside.slots.now in
-    let n = length c.self.inside.slots.now in
-    let more = rest_some at n c.walk.self-inside.stride c.walk.self-inside.looked (omega (arith, ap length i.rest, i.left, i.some)) in
-    place_within n c.walk.self-inside.stride c.walk.self-inside.looked c.walk.self-inside.place i.cursor more
+    let more = more_left c.self.inside.slots.now c.walk.self-inside.stride c.walk.self-inside.looked c.walk.self-inside.left _ i.rest i.left i.some in
+    place_within (length c.self.inside.slots.now) c.walk.self-inside.stride c.walk.self-inside.looked c.walk.self-inside.place i.cursor more
 
 pub look-requires-clause-looked : goal.look-requires-clause-looked
 look-requires-clause-looked g c =
     let i = c.walk.invariant in
-    let at = entry_at c.self.inside.slots.now in
-    let n = length c.self.inside.slots.now in
-    let more = rest_some at n c.walk.self-inside.stride c.walk.self-inside.looked (omega (arith, ap length i.rest, i.left, i.some)) in
+    let more = more_left c.self.inside.slots.now c.walk.self-inside.stride c.walk.self-inside.looked c.walk.self-inside.left _ i.rest i.left i.some in
     omega (arith, more, i.cursor.size_ok.limit)

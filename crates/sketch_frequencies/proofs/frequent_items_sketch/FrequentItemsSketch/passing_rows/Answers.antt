@@ -1,8 +1,6 @@
-use Rattle.std.proofs.Common.{◌≡◌, ◌+◌, max, true, false, arith, ap, sym, ◌∙◌, subst, IsPermutation}
-use Rattle.sketch_frequencies.specs.Above.{is_above}
-use Rattle.sketch_frequencies.specs.Rows.{passes}
+use Rattle.std.proofs.Common.{◌≡◌, ◌+◌, true, false, arith, ap, sym, ◌∙◌, subst, IsPermutation}
 use Rattle.sketch_frequencies.specs.State.{IsState}
-use Rattle.sketch_frequencies.proofs.Reports.{rows_none, rows_skip, rows_more, rows_done, count_fits}
+use Rattle.sketch_frequencies.proofs.Reports.{passes_tested, rows_none, rows_skip, rows_more, rows_done, count_fits}
 use Rattle.sketch_frequencies.proofs.frequent_items_sketch.FrequentItemsSketch.passing_rows.Goals as goal
 
 pub loop-item-init : goal.loop-item-init
@@ -32,9 +30,7 @@ loop-item-preserved-in_ok-push g c =
     let kind = c.args.error_type in
     let count = c.in-Some.count in
     let error = ap (λ s. s.error) c.self.view_is in
-    let high : passes kind c.args.threshold s count ≡ true =
-    subst (λ e. is_above kind (max c.args.threshold e) count (count + e) ≡ true) error
-    (ap (λ f. is_above kind f count (count + c.self.inside.error)) (sym c.max-floor.ensures) ∙ (sym c.is_above.ensures ∙ c.if-is_above.true)) in
+    let high = passes_tested kind c.args.threshold s count _ _ _ true error c.max-floor.ensures c.is_above.ensures c.if-is_above.true in
     let row = c.new.result in
     let same = subst (λ y. eq c.in-Some.item.now y ≡ true) (sym (ap (λ r. r.item) c.new.ensures)) (c.requires.clones c.in-Some.item.now c.in_ok-clone.field-0 c.in_ok-clone.ensures.cases) in
     let upper = ap (λ e. count + e) error in
@@ -46,12 +42,8 @@ loop-item-preserved g c =
     let s = c.args.self.now in
     let ok : IsState eq s = subst (λ s. IsState eq s) c.self.view_is c.self.invariant in
     let h = c.in-Some.ensures.steps in
-    let kind = c.args.error_type in
-    let count = c.in-Some.count in
-    let low : passes kind c.args.threshold s count ≡ false =
-    subst (λ e. is_above kind (max c.args.threshold e) count (count + e) ≡ false) (ap (λ s. s.error) c.self.view_is)
-    (ap (λ f. is_above kind f count (count + c.self.inside.error)) (sym c.max-floor.ensures) ∙ (sym c.is_above.ensures ∙ c.if-is_above.false)) in
-    rw h.1 (tt, tt, rows_skip g.met.T.Eq.laws kind c.args.threshold s ok.distinct _ _ _ (c.in-Some.item.now, count) _ h.0 c.loop-item.invariant.2 low)
+    let low = passes_tested c.args.error_type c.args.threshold s c.in-Some.count _ _ _ false (ap (λ s. s.error) c.self.view_is) c.max-floor.ensures c.is_above.ensures c.if-is_above.false in
+    rw h.1 (tt, tt, rows_skip g.met.T.Eq.laws c.args.error_type c.args.threshold s ok.distinct _ _ _ (c.in-Some.item.now, c.in-Some.count) _ h.0 c.loop-item.invariant.2 low)
 
 pub returns-clause-exact : goal.returns-clause-exact
 returns-clause-exact g c =

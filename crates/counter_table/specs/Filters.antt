@@ -1,4 +1,5 @@
--- A filter of a permutation is a permutation of the filter.
+-- A filter of a permutation is a permutation of the filter. No clause cites this module: it is a lemma for the proofs here and in
+-- the crate above.
 use Rattle.std.proofs.Common.{ℕ, ◌<◌, zero, suc, Bool, true, false, cond, List, [], ◌∷◌, length, get_or, arith, IsPermutation}
 use Rattle.std.proofs.Math.ListN.{set}
 use Rattle.std.specs.List.{filter, swap}
