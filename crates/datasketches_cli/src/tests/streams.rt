@@ -196,8 +196,8 @@ fn calls_of(
 /// How many bytes the streams move a call, which calls fail, and how many there are.
 ///
 /// The three lines have 31 bytes, and the end of input takes a read more; the replies have 33, and are passed on in one more
-/// call, or where each line is read by itself in one more for each. The main job and its questions have 133 bytes through the bad line,
-/// behind which nothing is read, and their 13 replies have 146.
+/// call, or where each line is read by itself in one more for each. The main job and its questions have 133 bytes through the
+/// bad line, behind which nothing is read, and their 13 replies have 146.
 const CALLS: [(Input, Steps, Failing, usize); 10] = [
     (Input::ThreeLines, (100, 100), Failing::Read, 2),
     (Input::ThreeLines, (1, 100), Failing::Read, 32),
