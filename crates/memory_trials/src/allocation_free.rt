@@ -10,7 +10,7 @@ pub mod values;
 pub mod windows;
 
 use crate::trial::{SetupFailed, Trial};
-use sketch_items::FEEDS_NOTHING;
+use test_items::FEEDS_NOTHING;
 
 /// Plays the trial of the name: of the sketches, of what they are made of, or of what is made of them.
 pub fn play(trial: &mut Trial, calls: &str) -> Result<(), SetupFailed> {

@@ -5,9 +5,9 @@ use crate::table::{Map, free_table, grow, purge, put, put_ref};
 use crate::trial::{SetupFailed, Trial, write_line, write_words};
 use datasketches::error::Error;
 use datasketches::frequencies::{ErrorType, FrequentItemsSketch};
-use sketch_items::{Item, MARKED, NUM_LETTERS};
 use std::alloc::Global;
 use std::fmt::Write;
+use test_items::{Item, MARKED, NUM_LETTERS};
 
 /// A sketch of items of a kind.
 type Sketch<const KIND: u8> = FrequentItemsSketch<Item<KIND>>;

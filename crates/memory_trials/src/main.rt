@@ -31,8 +31,8 @@ mod texts;
 mod trial;
 mod windows;
 
-use sketch_items::{FEEDS_NOTHING, LETTER, UNCLONABLE, UNWRITABLE};
 use std::process::ExitCode;
+use test_items::{FEEDS_NOTHING, LETTER, UNCLONABLE, UNWRITABLE};
 use trial::{SetupFailed, Trial};
 
 fn main(rt: HostRuntime) -> ExitCode {

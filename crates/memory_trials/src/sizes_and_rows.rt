@@ -4,9 +4,9 @@ use crate::output::{write_error, write_values};
 use crate::trial::{SetupFailed, Trial, write_line};
 use datasketches::error::Error;
 use datasketches::frequencies::{ErrorType, FrequentItemsSketch, Row};
-use sketch_items::{Item, NUM_LETTERS};
 use std::alloc::Global;
 use std::fmt::Write;
+use test_items::{Item, NUM_LETTERS};
 
 /// A sketch's sizes.
 fn write_sizes<const KIND: u8>(trial: &mut Trial, sketch: &FrequentItemsSketch<Item<KIND>>) {

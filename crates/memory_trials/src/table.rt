@@ -3,9 +3,9 @@ ghost use Rattle.std.specs.Prelude.{IsTrue};
 
 use datasketches::error::{Error, Fault};
 use datasketches::frequencies::ReversePurgeItemHashMap;
-use sketch_items::Item;
 use std::alloc::Global;
 use std::hash::Hash;
+use test_items::Item;
 
 /// The most slots of a table here.
 const MOST_SLOTS: usize = 32;

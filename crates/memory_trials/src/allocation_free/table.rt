@@ -5,9 +5,9 @@ use crate::texts::{text, texts};
 use crate::trial::{SetupFailed, Trial, counted, write_line};
 use datasketches::error::Error;
 use datasketches::frequencies::{ReversePurgeItemHashMap, ReversePurgeItemIter};
-use sketch_items::{FEEDS_NOTHING, Item};
 use std::alloc::Global;
 use std::fmt::Write;
+use test_items::{FEEDS_NOTHING, Item};
 
 /// A table of texts.
 type Texts = ReversePurgeItemHashMap<String>;

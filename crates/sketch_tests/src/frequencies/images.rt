@@ -3,9 +3,9 @@ use crate::alter::altered;
 use crate::frequencies::{numbers, once_each};
 use sketch_base::{Error, Fault};
 use sketch_frequencies::{FrequentItemValue, FrequentItemsSketch, laws};
-use sketch_items::{FEEDS_NOTHING, Item};
 use std::alloc::Global;
 use std::test::Fail;
+use test_items::{FEEDS_NOTHING, Item};
 
 /// The image of a sketch of the item 7 with a weight of 2, limited to 8 slots.
 const SEVEN: [u8; 48] = [

@@ -1,11 +1,11 @@
 //! The table under a sketch, with items of one home.
 use sketch_base::{Error, murmur3_of};
 use sketch_frequencies::ReversePurgeItemHashMap;
-use sketch_items::{FEEDS_NOTHING, Item};
 use std::alloc::Global;
 use std::hash::Hash;
 use std::process::Abort;
 use std::test::Fail;
+use test_items::{FEEDS_NOTHING, Item};
 
 /// A table of items that feed a hasher nothing, so that all have one home.
 type Table = ReversePurgeItemHashMap<Item<FEEDS_NOTHING>>;

@@ -6,7 +6,7 @@
 ghost use Rattle.std.specs.Prelude.{◌≡◌};
 ghost use Rattle.std.proofs.Common.{rules};
 ghost use Rattle.std.specs.Cmp.Rules.{comparing, hashing};
-ghost use Rattle.sketch_items.specs.Kinds.{told_apart_by, same, fed_by};
+ghost use Rattle.test_items.specs.Kinds.{told_apart_by, same, fed_by};
 
 use sketch_base::{Error, Fault, SketchBytes, SketchSlice};
 use sketch_frequencies::FrequentItemValue;
@@ -71,7 +71,7 @@ impl<const KIND: u8> Eq for Item<KIND> {
 }
 
 impl<const KIND: u8> Hash for Item<KIND> {
-    ghost use Rattle.sketch_items.specs.Kinds.{fed_alike};
+    ghost use Rattle.test_items.specs.Kinds.{fed_alike};
 
     ghost hash_input = { λ item. fed_by KIND item.0 };
 
@@ -98,7 +98,7 @@ impl<const KIND: u8> Clone for Item<KIND> {
 impl<const KIND: u8> FrequentItemValue for Item<KIND> {
     ghost use Rattle.std.specs.Prelude.{ℕ};
     ghost use Rattle.sketch_frequencies.specs.Items.{u64_reading};
-    ghost use Rattle.sketch_items.specs.Kinds.{encoding_of, lawful_of};
+    ghost use Rattle.test_items.specs.Kinds.{encoding_of, lawful_of};
 
     ghost Content = { ℕ };
 
