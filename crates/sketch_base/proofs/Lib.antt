@@ -1,5 +1,6 @@
 pub mod Blocks
 pub mod DirectRemainder
+pub mod KeptBytes
 pub mod Murmur3Pieces
 pub mod Rotation
 mod Vectors

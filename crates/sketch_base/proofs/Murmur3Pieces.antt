@@ -8,6 +8,7 @@ use Rattle.sketch_base.specs.Murmur3.{block, body, finalization, murmur3_x64_128
 use Rattle.sketch_base.specs.Murmur3State.{Murmur3State, HasFed, initial, write, finish128}
 use Rattle.sketch_base.proofs.Blocks.{IsBlocks, all_pieces, none_whole, each_filled, tail_filled, each_more, tail_more, length_begun, left_after, left_behind, front_is, front_short, filled, room_filled}
 use Rattle.sketch_base.proofs.Blocks.Width.{Sixteen}
+use Rattle.sketch_base.proofs.KeptBytes.{zeros_behind}
 
 -- a state by its parts
 abbrev pub fed : ℕ × ℕ → List ℕ → ℕ → Murmur3State
@@ -79,11 +80,7 @@ pub zeros_short : (b ys bs : List ℕ) (k t : ℕ) → length b ≡ 16 → drop 
     → drop ((t + length bs) % 2 ^ 64 % 16) (put_mid (t % 16) k b ys) ≡ replicate (16 - (t + length bs) % 2 ^ 64 % 16) 0
 zeros_short b ys bs k t lb zeros same ek short =
     let at : (t + length bs) % 2 ^ 64 % 16 ≡ t % 16 + length bs = omega arith in
-    let past : drop (t % 16 + length bs) (put_mid (t % 16) k b ys) ≡ drop (t % 16 + length bs) b = drop-put_mid (t % 16) k b ys (t % 16 + length bs) (omega arith) (omega arith) (ap length same ∙ sym ek) in
-    let split : drop (t % 16 + length bs) b ≡ drop (length bs) (drop (t % 16) b) = sym (drop-drop (length bs) (t % 16) b) in
-    let left : drop (length bs) (drop (t % 16) b) ≡ replicate (16 - t % 16 - length bs) 0 = ap (drop (length bs)) zeros ∙ drop-replicate (length bs) (16 - t % 16) 0 in
-    let count : 16 - t % 16 - length bs ≡ 16 - (t % 16 + length bs) = omega arith in
-    rw at (past ∙ (split ∙ (left ∙ ap (λ (n : ℕ). replicate n 0) count)))
+    rw at (zeros_behind b ys bs (t % 16) k lb zeros same ek short)
 
 -- the state after a short piece
 pub view_short : (h : ℕ × ℕ) (b ys bs : List ℕ) (k t : ℕ) → length b ≡ 16 → ys ≡ bs → t % 16 + length bs < 16

@@ -7,6 +7,8 @@ pub mod Hashes
 pub mod MachineWords
 pub mod Murmur3
 pub mod Murmur3State
+pub mod PowersOfTwo
 pub mod Reciprocal
+pub mod ShortBytes
 pub mod Xxh64
 pub mod Xxh64State

@@ -5,7 +5,7 @@ ghost use Rattle.sketch_base.specs.Reciprocal.{reciprocal};
 use std::marker::Model;
 
 /// A divisor above 1, with a multiplier of 64 bits by which a remainder takes two products and no division.
-/// A contract sees it as the number.
+/// A contract sees it as the number. The remainder by a power of two is a mask.
 ///
 /// The multiplier is 2^64 - 1 over the divisor, rounded down. The upper half of its product with a number is then the
 /// quotient or one less, so that the number without so many divisors is below twice the divisor, and one subtraction
@@ -69,7 +69,11 @@ impl Divisor {
         ensures value { result ≡ a % self }
         ensures below { result < self }
     {
-        direct_remainder(a, self.multiplier, self.divisor)
+        if self.divisor.is_power_of_two() {
+            a & self.divisor - 1
+        } else {
+            direct_remainder(a, self.multiplier, self.divisor)
+        }
     }
 }
 

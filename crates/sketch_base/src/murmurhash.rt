@@ -76,7 +76,7 @@ fn fmix64(k: u64) -> u64
 
 #[tactic(auto, unfolding(crate::specs::Murmur3::finalization))]
 #[inline(always)]
-fn finalization(h: (u64, u64), rest: &[u8], len: u64) -> (u64, u64)
+pub(crate) fn finalization(h: (u64, u64), rest: &[u8], len: u64) -> (u64, u64)
     requires { length rest.now ≡ 16 }
     ensures { result ≡ spec.finalization h rest.now len }
 {

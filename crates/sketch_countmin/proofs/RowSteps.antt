@@ -1,5 +1,5 @@
 -- One row more.
-use Rattle.std.proofs.Common.{◌≡◌, ◌≢◌, ℕ, ◌+◌, ◌*◌, ◌<◌, ◌≤◌, Bool, true, false, eqb, cond, List, [], ◌∷◌, ◌++◌, replicate, length, get_or, set, ℤ, pos, ◌+ℤ◌, refl, sym, ap, ◌∙◌, subst, arith, get_or-set_other, get_or-set_same, below_more, map, inl, inr, ◌⊎◌, ⊎_elim}
+use Rattle.std.proofs.Common.{◌≡◌, ◌≢◌, ℕ, ◌+◌, ◌*◌, ◌%◌, ◌<◌, ◌≤◌, Bool, true, false, eqb, cond, List, [], ◌∷◌, ◌++◌, replicate, length, get_or, set, ℤ, pos, ◌+ℤ◌, refl, sym, ap, ◌∙◌, subst, arith, get_or-set_other, get_or-set_same, below_more, map, inl, inr, ◌⊎◌, ⊎_elim}
 use Rattle.std.proofs.lemmas.List.{get_or-map, map-set, map_push, replicate_more, get_or_append_left, get_or_push}
 use Rattle.sketch_base.specs.Hashes.{le64}
 use Rattle.sketch_base.specs.Murmur3.{murmur3_x64_128}
@@ -11,7 +11,11 @@ use Rattle.std.proofs.lemmas.Int.{ints}
 use Rattle.std.proofs.lemmas.Nat.{mul-le}
 use Rattle.std.proofs.lemmas.Bool.{eqb-true, eqb-false}
 use Rattle.sketch_countmin.specs.Cells.{flat_at, RowsAdded, IsLeastOf}
-use Rattle.sketch_countmin.specs.Buckets.{row_seed}
+use Rattle.sketch_countmin.specs.Buckets.{row_seed, bucket_by}
+
+-- where an item is counted in a row, by its hash under the row's seed
+pub bucket_found : (d seed place : ℕ) (hash : ℕ × ℕ) (hashed bytes : List ℕ) → place ≡ hash.0 % d → hash ≡ murmur3_x64_128 hashed seed → hashed ≡ bytes → place ≡ bucket_by d seed bytes
+bucket_found d seed place hash hashed bytes at h e = at ∙ (ap (λ (h : ℕ × ℕ). h.0 % d) h ∙ ap (bucket_by d seed) e)
 
 pub plus_zero : (z : ℤ) → z ≡ z +ℤ pos 0
 plus_zero z = omega (arith, ints)

@@ -7,7 +7,7 @@ ghost use Rattle.sketch_countmin.specs.Buckets.{row_seed, buckets_by};
 
 use crate::count_min_value::CountMinValue;
 use crate::unsigned_count_min_value::UnsignedCountMinValue;
-use sketch_base::{Divisor, murmur3_of, murmur3_of_u64};
+use sketch_base::{Divisor, SeedlessItem, murmur3_of_u64};
 use std::alloc::{AllocError, Global};
 use std::hash::Hash;
 
@@ -62,8 +62,9 @@ pub fn add_to_rows<T: CountMinValue, I: Hash>(
         (length row_seeds.now) (map T.number counts.old) (map T.number counts.new) }
 {
     let columns = buckets.divisor() as usize;
+    let hashed = SeedlessItem::new(item);
     for (row, seed) in row_seeds.iter().enumerate() {
-        let place = row * columns + buckets.rem(murmur3_of(item, *seed).0) as usize;
+        let place = row * columns + buckets.rem(hashed.murmur3(*seed).0) as usize;
         add_at(counts, place, weight);
     }
 }
@@ -116,10 +117,11 @@ pub fn least_cell<T: CountMinValue, I: Hash>(
         (length row_seeds.now) (T.number result) }
 {
     let columns = buckets.divisor() as usize;
-    let first = buckets.rem(murmur3_of(item, row_seeds[0]).0) as usize;
+    let hashed = SeedlessItem::new(item);
+    let first = buckets.rem(hashed.murmur3(row_seeds[0]).0) as usize;
     let mut least = counts[first];
     for row in 1..row_seeds.len() {
-        let place = row * columns + buckets.rem(murmur3_of(item, row_seeds[row]).0) as usize;
+        let place = row * columns + buckets.rem(hashed.murmur3(row_seeds[row]).0) as usize;
         let cell = counts[place];
         least = least.min(cell);
     }

@@ -8,4 +8,5 @@ abbrev pub invariant-loop-row : goal.invariant-loop-row
 invariant-loop-row g l = record {
   added : RowsAdded l.buckets (g.T.CountMinValue.number l.weight) (λ r. bucket_by l.buckets (slice_index l.row_seeds r) (fed_bytes g.I.Hash.hash_input l.item)) l.row (map g.T.CountMinValue.number l.initial.counts) (map g.T.CountMinValue.number l.counts);
   columns : l.columns ≡ l.buckets;
+  hashed : l.hashed ≡ fed_bytes g.I.Hash.hash_input l.item;
 }

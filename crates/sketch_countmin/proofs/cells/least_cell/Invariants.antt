@@ -8,4 +8,5 @@ abbrev pub invariant-loop-row : goal.invariant-loop-row
 invariant-loop-row g l = record {
   least : IsLeastOf l.buckets (map g.T.CountMinValue.number l.counts) (λ r. bucket_by l.buckets (slice_index l.row_seeds r) (fed_bytes g.I.Hash.hash_input l.item)) l.row (g.T.CountMinValue.number l.least);
   columns : l.columns ≡ l.buckets;
+  hashed : l.hashed ≡ fed_bytes g.I.Hash.hash_input l.item;
 }
