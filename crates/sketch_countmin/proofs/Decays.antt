@@ -1,7 +1,7 @@
 -- What halving and decay leave.
 use Rattle.std.proofs.Common.{◌≡◌, ℕ, zero, suc, ◌*◌, ◌/◌, ◌<◌, ◌≤◌, List, [], ◌∷◌, length, get_or, map, ℤ, pos, negsuc, unsigned_abs, refl, sym, ap, ◌∙◌, arith}
 use Rattle.std.specs.Prelude.{◌≤ℤ◌}
-use Rattle.std.proofs.Math.Nat.{le-div_iff_mul-le, zero-mul, zero-div}
+use Rattle.std.proofs.Math.Nat.{le-div_iff_mul-le, mul-div_cancel, zero-mul, zero-div}
 use Rattle.std.proofs.lemmas.Int.{ints}
 use Rattle.std.proofs.lemmas.List.{length-map}
 use Rattle.std.proofs.lemmas.Nat.{mul-le, div-add-mod'}
@@ -27,6 +27,16 @@ cell_map f z (row ∷ rows) (suc r) b = cell_map f z rows r b
 -- nothing scaled is nothing
 pub scaled_zero : (n d : ℕ) → scaled n d (pos 0) ≡ pos 0
 scaled_zero n d = ap pos (ap (λ (k : ℕ). k / d) (zero-mul n) ∙ zero-div d)
+
+-- what is not negative, by a fraction of one, is itself
+scaled_same : (n d : ℕ) → 0 < n → n ≡ d → (z : ℤ) → pos 0 ≤ℤ z → z ≡ scaled n d z
+scaled_same n d p e (pos a) low = ap pos (sym (ap (λ (k : ℕ). a * n / k) (sym e) ∙ mul-div_cancel a p))
+scaled_same n d p e (negsuc a) low = absurd (omega (arith, ints))
+
+-- and so are cells
+pub scaled_whole : {T : Type 0} (number : T → ℤ) → ((x : T) → pos 0 ≤ℤ number x) → (n d : ℕ) → 0 < n → n ≡ d → (xs : List T) → map number xs ≡ map (scaled n d) (map number xs)
+scaled_whole number h n d p e [] = refl
+scaled_whole number h n d p e (x ∷ xs) = λ i. scaled_same n d p e (number x) (h x) i ∷ scaled_whole number h n d p e xs i
 
 -- the cells of a type without negative numbers are not negative
 pub cells_nonnegative : {T : Type 0} (number : T → ℤ) → ((x : T) → pos 0 ≤ℤ number x) → (xs : List T) (k : ℕ) → pos 0 ≤ℤ get_or (map number xs) k (pos 0)

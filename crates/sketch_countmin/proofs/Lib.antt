@@ -12,5 +12,6 @@ pub mod Merges
 pub mod Decays
 pub mod Estimates
 pub mod Standing
+pub mod Fractions
 pub mod Histories
 pub mod States

@@ -1,6 +1,7 @@
 pub mod Buckets
 pub mod Cells
 pub mod Equality
+pub mod Fractions
 pub mod History
 pub mod Image
 pub mod Laws

@@ -6,6 +6,7 @@ ghost use Rattle.sketch_countmin.specs.Cells.{cell_in, RowsAdded, IsLeastOf};
 ghost use Rattle.sketch_countmin.specs.Buckets.{row_seed, buckets_by};
 
 use crate::count_min_value::CountMinValue;
+use crate::fraction::Fraction;
 use crate::unsigned_count_min_value::UnsignedCountMinValue;
 use sketch_base::{Divisor, SeedlessItem, murmur3_of_u64};
 use std::alloc::{AllocError, Global};
@@ -97,9 +98,24 @@ pub fn scale_all<T: UnsignedCountMinValue>(counts: &mut [T], numerator: u64, den
     requires at_most_one { numerator ≤ denominator }
     ensures { map T.number counts.new ≡ map (scaled numerator denominator) (map T.number counts.old) }
 {
-    for value in counts.iter_mut() {
-        *value = value.scale_nonnegative(numerator, denominator as u128);
+    if numerator == denominator {
+        return;
     }
+    let fraction = Fraction::new(numerator, denominator);
+    for value in counts.iter_mut() {
+        *value = scale_by(*value, &fraction);
+    }
+}
+
+/// The value times the fraction, rounded down.
+#[inline(always)]
+fn scale_by<T: UnsignedCountMinValue>(value: T, fraction: &Fraction) -> T
+    requires positive { 0 < fraction.now.0 }
+    requires below_one { fraction.now.0 < fraction.now.1 }
+    ensures { T.number result ≡ scaled fraction.now.0 fraction.now.1 (T.number value) }
+{
+    let scaled = fraction.of(value.to_number() as u64);
+    T::from_number_in_range(scaled as i128)
 }
 
 /// The least of the item's cells.

@@ -8,6 +8,7 @@
 mod cells;
 mod count_min_sketch;
 mod count_min_value;
+mod fraction;
 mod image;
 pub mod laws;
 mod limits;

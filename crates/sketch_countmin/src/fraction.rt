@@ -1,0 +1,62 @@
+//! Multiplication by a fraction below one, without a division.
+ghost use Rattle.std.specs.Prelude.{◌≡◌, ◌*◌, ◌/◌, ◌<◌};
+
+use std::marker::Model;
+
+/// How many numbers there are of 64 bits.
+const WORD: u128 = 1 << 64;
+
+/// A fraction below one, with a multiplier of 128 bits by which a product takes two multiplications and no division.
+/// A contract sees its numerator and its denominator.
+///
+/// The multiplier is 2^128 times the fraction, rounded down, and one more. Its product with a number of 64 bits is above
+/// 2^128 times the true product by at most the number, which is less than 2^128 over the denominator. So the whole parts
+/// are the same, for each fraction and each number of 64 bits.
+#[derive(Drop)]
+pub struct Fraction {
+    numerator: u64,
+    denominator: u64,
+    // The halves of the multiplier.
+    upper: u64,
+    lower: u64,
+}
+
+impl Model for Fraction {
+    ghost use Rattle.std.specs.Prelude.{ℕ, ◌<◌};
+    ghost use Rattle.sketch_countmin.specs.Fractions.{IsMultiplier};
+
+    ghost Value = { ℕ × ℕ };
+
+    ghost view = { λ f. (f.numerator, f.denominator) };
+
+    ghost invariant = { λ f. (f.numerator < f.denominator) × IsMultiplier f.numerator f.denominator f.upper f.lower };
+}
+
+impl Fraction {
+    /// The numerator over the denominator, which is greater.
+    pub fn new(numerator: u64, denominator: u64) -> Self
+        requires { numerator < denominator }
+        ensures { result ≡ (numerator, denominator) }
+    {
+        let divisor = denominator as u128;
+        let shifted = numerator as u128 * WORD;
+        let upper = shifted / divisor;
+        let lower = shifted % divisor * WORD / divisor;
+        let multiplier = upper * WORD + lower + 1;
+        Fraction {
+            numerator,
+            denominator,
+            upper: (multiplier / WORD) as u64,
+            lower: (multiplier % WORD) as u64,
+        }
+    }
+
+    /// The value times the fraction, rounded down.
+    #[inline(always)]
+    pub fn of(&self, value: u64) -> u64
+        ensures { result ≡ value * self.now.0 / self.now.1 }
+    {
+        let low = value as u128 * self.lower as u128 >> 64;
+        (value as u128 * self.upper as u128 + low >> 64) as u64
+    }
+}
