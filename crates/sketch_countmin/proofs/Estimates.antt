@@ -1,5 +1,6 @@
 -- The least cell of an item, and the bound above it.
-use Rattle.std.proofs.Common.{◌≡◌, ℕ, ◌<◌, List, length, map, ℤ, pos, sym, ap, ◌∙◌, subst, arith}
+use Rattle.std.proofs.Common.{◌≡◌, ◌≢◌, ℕ, ◌+◌, ◌<◌, List, length, map, get_or, set, ℤ, pos, sym, ap, ◌∙◌, subst, arith, get_or-set_other, get_or-set_same, below_more}
+use Rattle.std.proofs.lemmas.List.{map-set, length-map}
 use Rattle.std.specs.Prelude.{slice_index, ◌≤ℤ◌}
 use Rattle.std.specs.Int.{int_min}
 use Rattle.std.proofs.lemmas.Int.{ints, clamps, by_lt_z}
@@ -55,3 +56,12 @@ min_below v w g e le = omega (arith, ints, clamps, e, le)
 -- and where it is no number of a type that it can only be above
 pub min_above : (least w : ℤ) (g : ℕ) → least ≤ℤ w → ¬ InRange least g w → pos g ≡ int_min w (pos g)
 min_above least w g low none = by_lt_z (pos g) w (λ lt. omega (arith, ints, clamps, lt)) (λ le. absurd (none (low, le)))
+
+-- ---- many estimates
+
+-- one more, behind those before it
+pub estimates_more : {T : Type 0} (num : T → ℤ) (P : ℕ → ℤ → Type 0) (xs : List T) (n : ℕ) (v : T) → n < length xs
+    → ((i : ℕ) → i < n → P i (get_or (map num xs) i (pos 0))) → P n (num v) → (i : ℕ) → i < n + 1 → P i (get_or (map num (set xs n v)) i (pos 0))
+estimates_more num P xs n v fits before here = below_more (λ (i : ℕ). P i (get_or (map num (set xs n v)) i (pos 0))) n
+    (λ i lt. let ne : i ≢ n = omega arith in subst (P i) (sym (ap (λ (zs : List ℤ). get_or zs i (pos 0)) (map-set num xs n v) ∙ get_or-set_other (map num xs) n i (num v) (pos 0) ne)) (before i lt))
+    (subst (P n) (sym (ap (λ (zs : List ℤ). get_or zs n (pos 0)) (map-set num xs n v) ∙ get_or-set_same (map num xs) n (num v) (pos 0) (omega (arith, length-map xs num)))) here)

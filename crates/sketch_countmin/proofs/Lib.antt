@@ -4,7 +4,9 @@ pub mod RoundTrips
 pub mod Writing
 pub mod Spellings
 pub mod Images
+pub mod RowCounts
 pub mod RowSteps
+pub mod BatchUpdates
 pub mod CellMaps
 pub mod Tables
 pub mod Updates

@@ -1,5 +1,5 @@
 -- Cells that lie row by row in one list, and what the loops over them do.
-use Rattle.std.specs.Prelude.{◌≡◌, ℕ, ◌+◌, ◌*◌, ◌<◌, ◌≤◌, ◌==◌, if◌then◌else◌, List, slice_index_or, ℤ, pos, ◌+ℤ◌, ◌≤ℤ◌}
+use Rattle.std.specs.Prelude.{◌≡◌, ℕ, ◌+◌, ◌*◌, ◌<◌, ◌≤◌, ◌==◌, if◌then◌else◌, List, count_by, slice_index_or, ℤ, pos, ◌+ℤ◌, ◌≤ℤ◌}
 
 -- the cell at a place of the list, or 0 past its end
 abbrev pub cell_in : List ℤ → ℕ → ℤ
@@ -13,6 +13,19 @@ flat_at buckets cells r b = cell_in cells (r * buckets + b)
 pub record RowsAdded (buckets : ℕ) (w : ℤ) (bucket : ℕ → ℕ) (n : ℕ) (old new : List ℤ) : Type 0 where
   pub done : (r : ℕ) → r < n → (b : ℕ) → b < buckets
       → flat_at buckets new r b ≡ flat_at buckets old r b +ℤ (if bucket r == b then w else pos 0)
+  pub rest : (k : ℕ) → n * buckets ≤ k → cell_in new k ≡ cell_in old k
+
+-- the row n has one more at an item's bucket, for each of the items; the other cells are as before
+pub record RowCounted (buckets : ℕ) (bucket : List ℕ → ℕ) (items : List (List ℕ)) (n : ℕ) (old new : List ℤ) : Type 0 where
+  pub done : (b : ℕ) → b < buckets
+      → flat_at buckets new n b ≡ flat_at buckets old n b +ℤ pos (count_by (λ bytes. bucket bytes == b) items)
+  pub before : (k : ℕ) → k < n * buckets → cell_in new k ≡ cell_in old k
+  pub behind : (k : ℕ) → n * buckets + buckets ≤ k → cell_in new k ≡ cell_in old k
+
+-- and so has each of the first n rows
+pub record RowsCounted (buckets : ℕ) (bucket : ℕ → List ℕ → ℕ) (items : List (List ℕ)) (n : ℕ) (old new : List ℤ) : Type 0 where
+  pub done : (r : ℕ) → r < n → (b : ℕ) → b < buckets
+      → flat_at buckets new r b ≡ flat_at buckets old r b +ℤ pos (count_by (λ bytes. bucket r bytes == b) items)
   pub rest : (k : ℕ) → n * buckets ≤ k → cell_in new k ≡ cell_in old k
 
 -- the first n cells have those of another list added; the rest are as before

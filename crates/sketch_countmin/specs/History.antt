@@ -1,5 +1,5 @@
 -- What was counted in a Count-Min sketch.
-use Rattle.std.specs.Prelude.{ℕ, ◌+◌, ◌*◌, ◌/◌, ◌==◌, ◌&&◌, not, Bool, if◌then◌else◌, List, ℤ, pos, ◌+ℤ◌, ◌≤ℤ◌, unsigned_abs}
+use Rattle.std.specs.Prelude.{ℕ, ◌+◌, ◌*◌, ◌/◌, ◌==◌, ◌&&◌, not, Bool, if◌then◌else◌, List, [], ◌∷◌, ℤ, pos, ◌+ℤ◌, ◌≤ℤ◌, unsigned_abs}
 use Rattle.std.specs.Str.{bytes_eq}
 use Rattle.sketch_countmin.specs.Values.{scaled, halved}
 use Rattle.sketch_countmin.specs.Buckets.{bucket_of}
@@ -12,6 +12,11 @@ pub data CountHistory : Type 0 where
   Halve : CountHistory → CountHistory
   Decay : CountHistory → (numerator denominator : ℕ) → CountHistory
   Restored : CountHistory → CountHistory
+
+-- each of these byte lists counted by 1, one after another
+abbrev pub all_updated : CountHistory → List (List ℕ) → CountHistory
+all_updated h [] = h
+all_updated h (bytes ∷ rest) = all_updated (Update h bytes (pos 1)) rest
 
 -- the value over the byte lists that pass a test
 abbrev pub value_over : CountHistory → (List ℕ → Bool) → ℤ

@@ -1,5 +1,5 @@
 -- A Count-Min sketch as its numbers, and what each call does to it.
-use Rattle.std.specs.Prelude.{◌≡◌, ◌≢◌, ℕ, ◌+◌, ◌*◌, ◌/◌, ◌^◌, ◌<◌, ◌≤◌, ◌==◌, if◌then◌else◌, List, length, map, replicate, All, ℤ, pos, ◌+ℤ◌, ◌≤ℤ◌, unsigned_abs}
+use Rattle.std.specs.Prelude.{◌≡◌, ◌≢◌, ℕ, ◌+◌, ◌*◌, ◌/◌, ◌^◌, ◌<◌, ◌≤◌, ◌==◌, if◌then◌else◌, List, length, map, replicate, count_by, All, ℤ, pos, ◌+ℤ◌, ◌≤ℤ◌, unsigned_abs}
 use Rattle.std.specs.Int.{int_min}
 use Rattle.sketch_base.specs.Hashes.{seed_hash}
 use Rattle.sketch_countmin.specs.Values.{scaled, halved}
@@ -51,6 +51,14 @@ pub record Counts (old : CountState) (bytes : List ℕ) (weight : ℤ) (new : Co
   pub cells : (r : ℕ) → r < old.hashes → (b : ℕ) → b < old.buckets
       → cell_at new.rows r b
       ≡ cell_at old.rows r b +ℤ (if bucket_of old.buckets old.seed r bytes == b then weight else pos 0)
+
+-- new is old after each of these byte lists was counted by 1
+pub record CountsAll (old : CountState) (items : List (List ℕ)) (new : CountState) : Type 0 where
+  pub shape : SameShape new old
+  pub total : new.total ≡ old.total + length items
+  pub cells : (r : ℕ) → r < old.hashes → (b : ℕ) → b < old.buckets
+      → cell_at new.rows r b
+      ≡ cell_at old.rows r b +ℤ pos (count_by (λ bytes. bucket_of old.buckets old.seed r bytes == b) items)
 
 -- new is old with each cell and the total of another of its shape added
 pub record Joins (old other new : CountState) : Type 0 where

@@ -2,13 +2,13 @@
 ghost use Rattle.std.specs.Prelude.{◌≡◌, ℕ, ◌+◌, ◌*◌, ◌<◌, ◌≤◌, map, length, slice_index, slice_set, pos, ◌+ℤ◌, unsigned_abs, replicate, vec_len, IfOk, IsTrue, ◌↔◌};
 ghost use Rattle.sketch_base.specs.Hashes.{fed_bytes};
 ghost use Rattle.sketch_countmin.specs.Values.{scaled, halved};
-ghost use Rattle.sketch_countmin.specs.Cells.{cell_in, RowsAdded, IsLeastOf};
-ghost use Rattle.sketch_countmin.specs.Buckets.{row_seed, buckets_by};
+ghost use Rattle.sketch_countmin.specs.Cells.{cell_in, flat_at, RowsAdded, RowCounted, RowsCounted, IsLeastOf};
+ghost use Rattle.sketch_countmin.specs.Buckets.{row_seed, bucket_by, buckets_by};
 
 use crate::count_min_value::CountMinValue;
 use crate::fraction::Fraction;
 use crate::unsigned_count_min_value::UnsignedCountMinValue;
-use sketch_base::{Divisor, SeedlessItem, murmur3_of_u64};
+use sketch_base::{Divisor, SeedlessItem, murmur3_of, murmur3_of_u64};
 use std::alloc::{AllocError, Global};
 use std::hash::Hash;
 
@@ -67,6 +67,47 @@ pub fn add_to_rows<T: CountMinValue, I: Hash>(
     for (row, seed) in row_seeds.iter().enumerate() {
         let place = row * columns + buckets.rem(hashed.murmur3(*seed).0) as usize;
         add_at(counts, place, weight);
+    }
+}
+
+/// Adds 1 at each item's bucket of each row, row after row: the cells of one row stay in a cache for all items.
+#[inline]
+pub fn count_in_rows<T: CountMinValue, I: Hash>(
+    counts: &mut [T],
+    buckets: Divisor,
+    row_seeds: &[u64],
+    items: &[I],
+)
+    requires shape { length counts.old ≡ length row_seeds.now * buckets }
+    requires room { (k : ℕ) → unsigned_abs (cell_in (map T.number counts.old) k) + length items.now ≤ T.greatest }
+    ensures { RowsCounted buckets (λ r. bucket_by buckets (slice_index row_seeds.now r))
+        (map (fed_bytes I.hash_input) items.now)
+        (length row_seeds.now) (map T.number counts.old) (map T.number counts.new) }
+{
+    for (row, seed) in row_seeds.iter().enumerate() {
+        count_in_row(counts, buckets, row, *seed, items);
+    }
+}
+
+/// Adds 1 at each item's bucket of one row.
+#[inline]
+fn count_in_row<T: CountMinValue, I: Hash>(
+    counts: &mut [T],
+    buckets: Divisor,
+    row: usize,
+    seed: u64,
+    items: &[I],
+)
+    requires shape { row * buckets + buckets ≤ length counts.old }
+    requires room { (b : ℕ) → b < buckets
+        → unsigned_abs (flat_at buckets (map T.number counts.old) row b) + length items.now ≤ T.greatest }
+    ensures { RowCounted buckets (bucket_by buckets seed) (map (fed_bytes I.hash_input) items.now)
+        row (map T.number counts.old) (map T.number counts.new) }
+{
+    let start = row * buckets.divisor() as usize;
+    for item in items {
+        let place = start + buckets.rem(murmur3_of(item, seed).0) as usize;
+        add_at(counts, place, T::ONE);
     }
 }
 

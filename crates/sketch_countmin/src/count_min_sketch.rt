@@ -1,18 +1,19 @@
 //! The Count-Min sketch.
-ghost use Rattle.std.specs.Prelude.{◌≡◌, ◌≢◌, ℕ, ◌+◌, ◌*◌, ◌<◌, ◌≤◌, ◌↔◌, None, false, ℤ, pos, ◌≤ℤ◌, ◌-ℤ◌, unsigned_abs, OnOk, OnErr, IfOk, IfErr, IsOk, IsTrue, IsErrOf};
+ghost use Rattle.std.specs.Prelude.{◌≡◌, ◌≢◌, ℕ, ◌+◌, ◌*◌, ◌<◌, ◌≤◌, ◌↔◌, None, false, ℤ, pos, ◌≤ℤ◌, ◌-ℤ◌, unsigned_abs, ◌-◌, [], length, map, take, slice_index_or, OnOk, OnErr, IfOk, IfErr, IsOk, IsTrue, IsErrOf};
 ghost use Rattle.sketch_base.specs.Errors.{invalid_argument, no_memory, refusal_of};
 ghost use Rattle.sketch_base.specs.Hashes.{fed_bytes, seed_hash};
-ghost use Rattle.sketch_countmin.specs.History.{CountHistory, IsNonnegative, IsExact, own_value, others_share};
+ghost use Rattle.sketch_countmin.specs.History.{CountHistory, all_updated, IsNonnegative, IsExact, own_value, others_share};
 ghost use Rattle.sketch_countmin.specs.History.CountHistory.{New, Update, Merge, Halve, Decay};
 ghost use Rattle.sketch_countmin.specs.Rows.{cell_at};
 ghost use Rattle.sketch_countmin.specs.Shapes.{shape_fault};
 ghost use Rattle.sketch_countmin.specs.Stands.{StandsFor, Extends, ExtendsBoth};
-ghost use Rattle.sketch_countmin.specs.State.{IsCountState, SameShape, Counts, Joins, IsLeast, IsLeastCell, empty_state, halved_state, decayed_state, upper_bound_of};
+ghost use Rattle.sketch_countmin.specs.State.{IsCountState, SameShape, Counts, CountsAll, Joins, IsLeast, IsLeastCell, empty_state, halved_state, decayed_state, upper_bound_of};
 
 mod images;
 
 use crate::cells::{
-    add_all, add_to_rows, halve_all, least_cell, row_seeds, same_cells, scale_all, zeros,
+    add_all, add_to_rows, count_in_rows, halve_all, least_cell, row_seeds, same_cells, scale_all,
+    zeros,
 };
 use crate::count_min_value::CountMinValue;
 use crate::limits::{MAX_TABLE_ENTRIES, MIN_NUM_BUCKETS};
@@ -229,6 +230,64 @@ impl<T: CountMinValue> CountMinSketch<T> {
         Ok(())
     }
 
+    /// Counts each item of a slice with a weight of 1, as [`update`](Self::update) does one after another. It takes no
+    /// memory.
+    ///
+    /// It goes through the slice once for each row, which is faster than an update for each item where the slice stays
+    /// in a cache: give it some thousands of items at a time.
+    ///
+    /// # Errors
+    ///
+    /// `WeightOverflow` where the total would pass the type's greatest value. The items before the first that does not
+    /// fit are then counted, and no others.
+    ///
+    /// # Examples
+    ///
+    /// ```
+    /// use sketch_base::Error;
+    /// use sketch_countmin::CountMinSketch;
+    ///
+    /// fn count_batch(visits: &mut CountMinSketch<u32>, users: &[u64]) -> Result<(), Error> {
+    ///     visits.update_all(users)
+    /// }
+    /// ```
+    pub fn update_all<I: Hash>(&mut self, items: &[I]) -> Result<(), Error>
+        ensures counted { CountsAll self.old
+            (take (T.greatest - self.old.total) (map (fed_bytes I.hash_input) items.now)) self.new }
+        ensures state { IsCountState T.greatest self.new }
+        ensures stands { Extends self.old self.new (λ h. all_updated h
+            (take (T.greatest - self.old.total) (map (fed_bytes I.hash_input) items.now))) }
+
+        // It is refused exactly where there are more items than the total has room for.
+        ensures overflow { T.greatest < self.old.total + length items.now
+            → IsErrOf result (invalid_argument Fault.WeightOverflow) }
+        ensures succeeds { self.old.total + length items.now ≤ T.greatest → IsOk result }
+    {
+        let fitting = self.room().min(items.len());
+        self.count_fitting(&items[..fitting]);
+        if fitting < items.len() {
+            return Err(Error::invalid_argument(Fault::WeightOverflow));
+        }
+        Ok(())
+    }
+
+    /// What the total may still gain.
+    fn room(&self) -> usize
+        ensures { self.now.total + result ≡ T.greatest }
+    {
+        (T::MAX.to_number() - self.total.to_number()) as usize
+    }
+
+    /// Counts each item with a weight of 1.
+    fn count_fitting<I: Hash>(&mut self, items: &[I])
+        requires { self.old.total + length items.now ≤ T.greatest }
+        ensures counted { CountsAll self.old (map (fed_bytes I.hash_input) items.now) self.new }
+        ensures state { IsCountState T.greatest self.new }
+    {
+        count_in_rows(&mut self.counts, self.buckets, &self.row_seeds, items);
+        self.total = T::from_number_in_range(self.total.to_number() + items.len() as i128);
+    }
+
     /// The total with the distance of a weight from zero added, unless it would pass the type's greatest value.
     #[inline(always)]
     fn total_with(&self, weight: T) -> Result<T, Error>
@@ -272,6 +331,32 @@ impl<T: CountMinValue> CountMinSketch<T> {
             (T.number result -ℤ own_value h bytes) }
     {
         least_cell(&self.counts, self.buckets, &self.row_seeds, &item)
+    }
+
+    /// The estimate of each item of a slice, as [`estimate`](Self::estimate) gives it, into a slice as long. It takes no
+    /// memory.
+    ///
+    /// # Examples
+    ///
+    /// ```
+    /// use sketch_countmin::CountMinSketch;
+    ///
+    /// fn visits_of(visits: &CountMinSketch<u32>, users: [u64; 2]) -> [u32; 2] {
+    ///     let mut estimates = [0; 2];
+    ///     visits.estimate_all(&users, &mut estimates);
+    ///     estimates
+    /// }
+    /// ```
+    pub fn estimate_all<I: Hash>(&self, items: &[I], estimates: &mut [T])
+        requires same_length { length items.now ≡ length estimates.old }
+        ensures length { length estimates.new ≡ length items.now }
+        ensures least { (i : ℕ) → i < length items.now → IsLeastCell self.now
+            (slice_index_or (map (fed_bytes I.hash_input) items.now) i [])
+            (slice_index_or (map T.number estimates.new) i (pos 0)) }
+    {
+        for (place, item) in items.iter().enumerate() {
+            estimates[place] = least_cell(&self.counts, self.buckets, &self.row_seeds, item);
+        }
     }
 
     /// The estimate. It is no lower bound of the item's true weight: collisions can raise it above that.

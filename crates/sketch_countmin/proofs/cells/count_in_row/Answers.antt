@@ -1,0 +1,52 @@
+use Rattle.std.proofs.Common.{arith, ap, sym, subst, ◌∙◌, ◌≡◌, ℕ, ◌+◌, ◌*◌, ◌<◌, ◌≤◌, List, [], map, take, length, get_or, set, ℤ, pos, ◌+ℤ◌, unsigned_abs}
+use Rattle.std.proofs.lemmas.List.{length-map}
+use Rattle.sketch_base.specs.Hashes.{fed_bytes}
+use Rattle.sketch_countmin.specs.Buckets.{bucket_by}
+use Rattle.sketch_countmin.proofs.RowSteps.{bucket_found}
+use Rattle.sketch_countmin.proofs.RowCounts.{row_start, row_counted, room_in_row, read_item}
+use Rattle.sketch_countmin.proofs.cells.count_in_row.Given as given
+use Rattle.sketch_countmin.proofs.cells.count_in_row.Goals as goal
+use Rattle.sketch_countmin.proofs.cells.count_in_row.Goals.{After-ONE}
+
+-- the bytes of all items
+abbrev fed : (g : given.Over) → After-ONE g → List (List ℕ)
+fed g c = map (fed_bytes g.I.Hash.hash_input) c.args.items.now
+
+-- the item's bucket
+at : (g : given.Over) (c : After-ONE g) → c.rem.result ≡ bucket_by c.args.buckets c.args.seed (get_or (fed g c) c.loop-item.item-index [])
+at g c =
+    bucket_found c.args.buckets c.args.seed c.rem.result c.murmur3_of.result _ _ c.rem.ensures.value c.murmur3_of.ensures
+    (read_item (fed_bytes g.I.Hash.hash_input) c.args.items.now c.loop-item.item-index c.item-item.result c.loop-item-test.true c.item-item.is)
+
+-- where it lies
+place : (g : given.Over) (c : After-ONE g) → c.args.row * c.divisor.result + c.rem.result ≡ c.args.row * c.args.buckets + bucket_by c.args.buckets c.args.seed (get_or (fed g c) c.loop-item.item-index [])
+place g c = omega (arith, at g c, ap (λ (k : ℕ). c.args.row * k) c.divisor.ensures.value)
+
+in_row : (g : given.Over) (c : After-ONE g) → bucket_by c.args.buckets c.args.seed (get_or (fed g c) c.loop-item.item-index []) < c.args.buckets
+in_row g c = omega (arith, at g c, c.rem.ensures.below)
+
+more : (g : given.Over) (c : After-ONE g) → c.loop-item.item-index < length (fed g c)
+more g c = omega (arith, length-map c.args.items.now (fed_bytes g.I.Hash.hash_input), c.loop-item-test.true)
+
+pub loop-item-init : goal.loop-item-init
+loop-item-init g c = record { counted = row_start _ _ _ _; start = ap (λ (k : ℕ). c.args.row * k) c.divisor.ensures.value }
+
+pub add_at-requires-clause-room : goal.add_at-requires-clause-room
+add_at-requires-clause-room g c =
+    let one : g.T.CountMinValue.number c.ONE.result ≡ pos 1 = ap g.T.CountMinValue.number c.ONE.ensures ∙ g.met.T.CountMinValue.one_is in
+    rw one (room_in_row _ _ g.T.CountMinValue.greatest _ (fed g c) c.loop-item.item-index _ (map g.T.CountMinValue.number c.loop-item.counts) _ _ c.loop-item.invariant.counted (more g c) (in_row g c) (place g c)
+    (omega (arith, length-map c.args.items.now (fed_bytes g.I.Hash.hash_input), c.requires.room _ (in_row g c))))
+
+pub loop-item-preserved : goal.loop-item-preserved
+loop-item-preserved g c =
+    let now = (goal.at.loop-item-preserved g c).After-ONE in
+    let number = g.T.CountMinValue.number in
+    let one : number c.ONE.result ≡ pos 1 = ap number c.ONE.ensures ∙ g.met.T.CountMinValue.one_is in
+    let k : ℕ = c.args.row * c.divisor.result + c.rem.result in
+    let mid : List ℤ = map number c.loop-item.counts in
+    record {
+      counted = row_counted _ _ _ (fed g now) c.loop-item.item-index _ mid _ c.loop-item.invariant.counted (more g now) k (in_row g now) (place g now)
+          (omega (arith, place g now, in_row g now, length-map c.loop-item.counts number, c.loop-item.auto.counts, c.requires.shape))
+          (c.add_at.ensures ∙ ap (λ (z : ℤ). set mid k (get_or mid k (pos 0) +ℤ z)) one);
+      start = c.loop-item.invariant.start;
+    }

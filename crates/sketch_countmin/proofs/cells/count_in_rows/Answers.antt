@@ -1,0 +1,18 @@
+use Rattle.std.proofs.Common.{arith, sym, subst, ℕ, ◌+◌, ◌*◌, ◌≤◌, length, ℤ, unsigned_abs}
+use Rattle.sketch_countmin.proofs.RowCounts.{rows_start, rows_counted, row_fits}
+use Rattle.sketch_countmin.proofs.cells.count_in_rows.Goals as goal
+
+pub loop-row-init : goal.loop-row-init
+loop-row-init g c = rows_start _ _ _ _
+
+pub count_in_row-requires-clause-shape : goal.count_in_row-requires-clause-shape
+count_in_row-requires-clause-shape g c =
+    row_fits c.args.buckets (length c.args.row_seeds.now) c.loop-row.row (length c.loop-row.counts) (omega (arith, c.loop-row.auto.counts, c.requires.shape)) c.loop-row-test.true
+
+pub count_in_row-requires-clause-room : goal.count_in_row-requires-clause-room
+count_in_row-requires-clause-room g c = λ b lb.
+    let k : ℕ = c.loop-row.row * c.args.buckets + b in
+    subst (λ (z : ℤ). unsigned_abs z + length c.args.items.now ≤ g.T.CountMinValue.greatest) (sym (c.loop-row.invariant.rest k (omega arith))) (c.requires.room k)
+
+pub loop-row-preserved : goal.loop-row-preserved
+loop-row-preserved g c = rows_counted _ _ _ _ _ _ _ c.loop-row.invariant c.count_in_row.ensures
