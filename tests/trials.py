@@ -76,7 +76,7 @@ WALK = ["walk 3 0 10 0 0", "looked true"]
 ALLOCATION_FREE = {
     "allocation-free_hashes": [
         f"texts {SPAM} {SPAM} {0x44BC2CF5AD770999} {FOX} {FOX} {0xCB57126DD8878D21}",
-        f"items {0x3A92A5C0E5AA0E19} {0xF9870733D517E9C1} {0xB1214042AB4DFAD7}",
+        f"items {0x3A92A5C0E5AA0E19} {0xF9870733D517E9C1} {0xB1214042AB4DFAD7} {0xB1214042AB4DFAD7}",
     ],
     "allocation-free_seeds": [f"seed {0x93CC}", "faults none ZeroSeedHash SeedHashMismatch none"],
     "allocation-free_refusals": [
@@ -153,11 +153,18 @@ ALLOCATION_FREE = {
         "filter 2 256 2 9001 2",
         "equal false",
     ],
-    "allocation-free_counts": ["faults" + 4 * " none", "counts 11 3 64 9001 0 4 7 0", "counts 2 3 64 9001 0 2 0 0"],
+    "allocation-free_counts": [
+        "faults" + 4 * " none",
+        "counts 11 3 64 9001 0 4 7 0",
+        "counts 2 3 64 9001 0 2 0 0",
+        "update_all none",
+        "counts 14 3 64 9001 0 5 9 0",
+    ],
     # 1, 2 and 4 have buckets of their own in the first row, and the margin is e times 100 / 64
-    "allocation-free_count_questions": ["numbers 100 3 64 9001 1560 0", "bounds 60 60 64", "bounds 0 0 4"],
+    "allocation-free_count_questions": ["numbers 100 3 64 9001 1560 0", "bounds 60 60 64", "bounds 0 0 4", "estimate_all 40 0"],
     "allocation-free_equal_counts": ["compared true false", "compared false true"],
-    "allocation-free_count_refusals": 2 * ["update WeightOverflow"] + ["merge WeightOverflow", "merge Mismatch", "255"],
+    "allocation-free_count_refusals": ["update WeightOverflow", "update_all WeightOverflow", "update WeightOverflow"]
+    + ["merge WeightOverflow", "merge Mismatch", "255"],
     "allocation-free_signed_refusals": ["update WeightOverflow", "0"],
     # four words, 3 x 64 cells and 3 seeds of 8 bytes, and 8 slots of 28
     "allocation-free_images": [f"faults TableTooLarge {other}" for other in OTHERS],

@@ -1,6 +1,7 @@
 //! Bytes that are hashed, written and read.
 use sketch_base::{
-    Divisor, Error, ErrorKind, Family, Fault, MurmurHash3X64128, SketchBytes, SketchSlice, XxHash64,
+    Divisor, Error, ErrorKind, Family, Fault, MurmurHash3X64128, SeedlessItem, SketchBytes,
+    SketchSlice, XxHash64,
 };
 use std::alloc::Global;
 use std::hash::{Hash, Hasher};
@@ -34,6 +35,12 @@ pub fn halves_of<T: Hash>(item: &T) -> (u64, u64) {
     let mut hasher = MurmurHash3X64128::default();
     item.hash(&mut hasher);
     hasher.finish128()
+}
+
+/// The hashes of a user under the seeds of two rows.
+pub fn hashes_of_both_rows(user: u64, seeds: (u64, u64)) -> (u64, u64) {
+    let item = SeedlessItem::new(&user);
+    (item.murmur3(seeds.0).0, item.murmur3(seeds.1).0)
 }
 
 /// The bucket of a hash, of 128 buckets.

@@ -48,6 +48,18 @@ pub fn weight_of_all<T: CountMinValue>(counts: &CountMinSketch<T>) -> T {
     counts.total_weight()
 }
 
+/// A batch of visits, counted at once.
+pub fn count_batch(visits: &mut CountMinSketch<u32>, users: &[u64]) -> Result<(), Error> {
+    visits.update_all(users)
+}
+
+/// The visits of two users.
+pub fn visits_of(visits: &CountMinSketch<u32>, users: [u64; 2]) -> [u32; 2] {
+    let mut estimates = [0; 2];
+    visits.estimate_all(&users, &mut estimates);
+    estimates
+}
+
 /// Half of each weight, over any type without numbers below zero.
 pub fn halve<T: UnsignedCountMinValue>(counts: &mut CountMinSketch<T>) {
     counts.halve();

@@ -1,10 +1,11 @@
 //! What the examples answer.
 use crate::bytes::{
-    bucket, halves_of, hash_of_both, is_cut_short, is_of_a_filter, reason, there_and_back,
-    version_and_seed,
+    bucket, halves_of, hash_of_both, hashes_of_both_rows, is_cut_short, is_of_a_filter, reason,
+    there_and_back, version_and_seed,
 };
 use crate::counts::{
-    age, apples_in_store, apples_of_both_days, bytes_of_apple, halve, sent_counts, weight_of_all,
+    age, apples_in_store, apples_of_both_days, bytes_of_apple, count_batch, halve, sent_counts,
+    visits_of, weight_of_all,
 };
 use crate::filters::{filter_of_visitors, is_first_visit, seen_by_both, still_refused};
 use crate::frequent_items::{
@@ -65,6 +66,7 @@ fn bytes_are_as_the_docs_say(rt: HostRuntime) -> Result<(), Fail> {
     assert!(rt; hash_of_both(b"app", b"le") == hash_of_both(b"", b"apple"));
     assert!(rt; halves_of(&7u64) == halves_of(&7u64));
     assert!(rt; bucket(300) == 44);
+    assert!(rt; hashes_of_both_rows(7, (9001, 9001)).1 == 0xF987_0733_D517_E9C1);
     Ok(())
 }
 
@@ -84,11 +86,19 @@ fn counts_come_back(alloc: Global) -> Result<(u64, bool), Error> {
     Ok((copy.estimate("apple"), copy == counts))
 }
 
+/// The visits of two users, after a batch.
+fn batch_of_visits(alloc: Global) -> Result<[u32; 2], Error> {
+    let mut visits = CountMinSketch::new(alloc, 4, 128)?;
+    count_batch(&mut visits, &[7, 9, 7])?;
+    Ok(visits_of(&visits, [7, 9]))
+}
+
 #[test]
 fn sketches_are_as_the_docs_say(rt: HostRuntime) -> Result<(), Fail> {
     assert!(rt; visits(rt.alloc())? == (true, false));
     assert!(rt; counts_come_back(rt.alloc())? == (9, true));
     assert!(rt; apples_of_both_days(rt.alloc())? == (10, 10));
+    assert!(rt; batch_of_visits(rt.alloc())? == [2, 1]);
     Ok(())
 }
 

@@ -4,8 +4,9 @@
 ghost use Rattle.std.specs.Prelude.{◌<◌};
 
 use sketch_base::{
-    Divisor, Error, ErrorKind, Family, Fault, MurmurHash3X64128, SketchBytes, SketchSlice,
-    XxHash64, check_seed_hash, compute_seed_hash, murmur3_of, murmur3_of_u64, xxh64_of,
+    Divisor, Error, ErrorKind, Family, Fault, MurmurHash3X64128, SeedlessItem, SketchBytes,
+    SketchSlice, XxHash64, check_seed_hash, compute_seed_hash, murmur3_of, murmur3_of_u64,
+    xxh64_of,
 };
 use std::alloc::{AllocError, Global};
 use std::hash::Hasher;
@@ -85,6 +86,13 @@ fn hashes_of_items(text: &String) -> [u64; 6] {
     ]
 }
 
+/// The hashes of a number and of a long text, whose bytes are fed again for each seed.
+fn hashes_under_seeds(text: &String) -> [(u64, u64); 3] {
+    let number = SeedlessItem::new(&7u64);
+    let long = SeedlessItem::new(text);
+    [number.murmur3(9001), long.murmur3(3), long.murmur3(9001)]
+}
+
 /// The hash of a text by a clone of the hasher that was fed it.
 fn hash_of_clone(text: &[u8]) -> Result<u64, AllocError> {
     let mut hasher = MurmurHash3X64128::default();
@@ -105,6 +113,13 @@ fn hashes_items(rt: HostRuntime) -> Result<(), Fail> {
     ];
     assert!(rt; hashes_of_items(&text) == wanted);
     assert!(rt; hash_of_clone(b"abc")? == 0xCB57_126D_D887_8D21);
+    let long = String::from_str(rt.alloc(), "The quick brown fox jumps over the lazy dog")?;
+    let wanted = [
+        (0xF987_0733_D517_E9C1, 0xB121_4042_AB4D_FAD7),
+        murmur3_of(&long, 3),
+        murmur3_of(&long, 9001),
+    ];
+    assert!(rt; hashes_under_seeds(&long) == wanted);
     Ok(())
 }
 

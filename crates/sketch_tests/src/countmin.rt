@@ -54,6 +54,24 @@ fn refuses_weights_that_overflow(rt: HostRuntime) -> Result<(), Fail> {
 /// The estimate of an item, its lower and upper bound, the total, and whether that is 0.
 type Shown = (u64, u64, u64, u64, bool);
 
+/// The total, the estimates of two items and whether the last are refused, after a weight and then items at once.
+fn counted_at_once(alloc: Global, weight: u8, items: &[u64]) -> Result<(u8, [u8; 2], bool), Error> {
+    let mut sketch = CountMinSketch::new(alloc, 4, 128)?;
+    sketch.update_with_weight(7u64, weight)?;
+    let refusal = sketch.update_all(items).err();
+    let mut estimates = [0; 2];
+    sketch.estimate_all(&[7u64, 9], &mut estimates);
+    let overflow = refusal == Some(Error::invalid_argument(Fault::WeightOverflow));
+    Ok((sketch.total_weight(), estimates, overflow))
+}
+
+#[test]
+fn counts_many_items_at_once(rt: HostRuntime) -> Result<(), Fail> {
+    assert!(rt; counted_at_once(rt.alloc(), 250, &[9, 7, 9])? == (253, [251, 2], false));
+    assert!(rt; counted_at_once(rt.alloc(), 253, &[9, 7, 9])? == (255, [254, 1], true));
+    Ok(())
+}
+
 /// What a sketch shows of one item.
 fn shown(sketch: &CountMinSketch<u64>) -> Shown {
     (

@@ -8,7 +8,7 @@ use datasketches::error::{Error, ErrorKind, Fault};
 use datasketches::frequencies::FrequentItemValue;
 use datasketches::hash::{MurmurHash3X64128, XxHash64, check_seed_hash, compute_seed_hash};
 use sketch_base::image::{check_length, check_version, i32_at, u16_at, u32_at, u64_at};
-use sketch_base::{Divisor, murmur3_of, murmur3_of_u64, xxh64_of};
+use sketch_base::{Divisor, SeedlessItem, murmur3_of, murmur3_of_u64, xxh64_of};
 use std::fmt::Write;
 use std::hash::Hasher;
 
@@ -57,11 +57,12 @@ fn hashes_of_texts() -> [u64; 6] {
 }
 
 /// Hashes of items.
-fn hashes_of_items() -> [u64; 3] {
+fn hashes_of_items() -> [u64; 4] {
     [
         xxh64_of(&7u64, 9001),
         murmur3_of(&7u64, 9001).0,
         murmur3_of_u64(7, 9001).1,
+        SeedlessItem::new(&7u64).murmur3(9001).1,
     ]
 }
 

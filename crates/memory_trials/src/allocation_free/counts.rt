@@ -27,6 +27,9 @@ pub fn changes(trial: &mut Trial) -> Result<(), SetupFailed> {
     write_values(trial, "faults", &faults);
     write_counts(trial, &sketch);
     write_counts(trial, &other);
+    let counted = counted!(trial, sketch.update_all(&[1u64, 2, 2]));
+    write_line!(trial, "update_all {}", fault_of(counted));
+    write_counts(trial, &sketch);
     Ok(())
 }
 
@@ -68,6 +71,9 @@ pub fn questions(trial: &mut Trial) -> Result<(), SetupFailed> {
         let bounds = counted!(trial, bounds_of(&sketch, item));
         write_values(trial, "bounds", &bounds);
     }
+    let mut estimates = [0; 2];
+    counted!(trial, sketch.estimate_all(&[2u64, 4], &mut estimates));
+    write_values(trial, "estimate_all", &estimates);
     Ok(())
 }
 
@@ -128,6 +134,8 @@ pub fn refusals(trial: &mut Trial) -> Result<(), SetupFailed> {
     let mut sketch = of_one(trial.alloc, 3, 1, 255)?;
     let updated = counted!(trial, sketch.update(1u64));
     write_line!(trial, "update {}", fault_of(updated));
+    let counted = counted!(trial, sketch.update_all(&[1u64, 2]));
+    write_line!(trial, "update_all {}", fault_of(counted));
     update(trial, &mut sketch, 2, 1);
     for (num_buckets, weight) in [(3, 1), (4, 0)] {
         merge(trial, &mut sketch, num_buckets, weight)?;
