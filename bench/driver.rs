@@ -11,6 +11,7 @@ fn main() {
     if names_only {
         words.remove(0);
     }
+    timing::keep_memory();
     let table = timing::Table::new(words, names_only);
     rows::hashes::rows(&table);
     rows::filters::rows(&table);

@@ -16,6 +16,7 @@ compile() {
 }
 
 # Copies of the crates, with the loops as one more. A file that is gone must not stay there.
+mkdir -p "$crates"
 for crate in $libraries $program; do
     mkdir -p "$crates/$crate"
     rm -rf "$crates/$crate/src" "$crates/$crate/specs" "$crates/$crate/proofs"
@@ -33,8 +34,10 @@ prove bench_loops lib
 # The heap of the proved side is the C library's, as that of the plain side.
 compile driver.rs -o out/driver -L "$crates/bench_loops/out" -l static=bench_loops \
     -C link-arg="$(dirname "$(rt doc)")/c/liblibc_c.a"
-if out/driver --names "$@" | grep -q '^program'; then
+case $(out/driver --names "$@") in
+*'program, '*)
     prove datasketches_cli run
     compile plain_program.rs -o out/plain_program
-fi
+    ;;
+esac
 out/driver "$@"

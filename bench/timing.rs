@@ -6,6 +6,10 @@ use std::hint::black_box;
 /// The rounds of which the least time of each side counts.
 const ROUNDS: u32 = 25;
 
+/// The C library's limits: how much free memory it keeps, and from what size on it asks the system for each block.
+const KEPT_MEMORY: i32 = -1;
+const SEPARATE_BLOCKS: i32 = -3;
+
 /// Linux's clock of a thread's time on a processor.
 const THREAD_CLOCK: i32 = 3;
 
@@ -25,6 +29,14 @@ struct Usage {
 unsafe extern "C" {
     fn clock_gettime(clock: i32, time: &mut Time) -> i32;
     fn getrusage(who: i32, usage: &mut Usage) -> i32;
+    fn mallopt(limit: i32, value: i32) -> i32;
+}
+
+/// Has the C library keep the memory that it was once given: else how often the system is asked for pages, and clears
+/// them, depends on where in memory a block comes to lie.
+pub fn keep_memory() {
+    assert_eq!(unsafe { mallopt(SEPARATE_BLOCKS, 32 << 20) }, 1);
+    assert_eq!(unsafe { mallopt(KEPT_MEMORY, i32::MAX) }, 1);
 }
 
 /// The time that this thread has had on a processor, in seconds.
@@ -119,9 +131,12 @@ impl Table {
     ) {
         // a side's least times with no turn and with all
         let mut least = [[f64::MAX; 2]; 2];
-        for _ in 0..ROUNDS {
+        for round in 0..ROUNDS {
             for (times, turns) in [0, turns].into_iter().enumerate() {
-                let (here, plain) = (here(turns), plain(turns));
+                // either side comes first in every other round
+                let before = (round % 2 == 1).then(|| plain(turns));
+                let here = here(turns);
+                let plain = before.unwrap_or_else(|| plain(turns));
                 assert_eq!(here.1, plain.1, "{name}");
                 assert!(turns == 0 || here.1 != 0, "{name}");
                 least[0][times] = least[0][times].min(here.0);

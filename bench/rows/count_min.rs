@@ -122,12 +122,12 @@ fn write(shape: &Shape, items: &[u64], _: &[u64], turns: u64) -> u64 {
 
 /// The image of one in cells of `i64` is read.
 fn read(shape: &Shape, items: &[u64], _: &[u64], turns: u64) -> u64 {
-    let mut sketch = filled_signed(shape, items);
-    let image = sketch.serialize();
+    let image = filled_signed(shape, items).serialize();
+    let mut last: CountMin<i64> = CountMin::deserialize(&image, 9001).unwrap();
     for _ in 0..turns {
-        sketch = black_box(CountMin::deserialize(&image, 9001).unwrap());
+        last = black_box(CountMin::deserialize(&image, 9001).unwrap());
     }
-    digest(&sketch.serialize())
+    digest(&last.serialize())
 }
 
 pub fn rows(t: &Table) {

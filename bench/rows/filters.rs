@@ -94,12 +94,12 @@ fn write(shape: &Shape, items: &[u64], _: &[u64], turns: u64) -> u64 {
 
 /// Its image is read.
 fn read(shape: &Shape, items: &[u64], _: &[u64], turns: u64) -> u64 {
-    let mut filter = filled(shape, items);
-    let image = filter.serialize();
+    let image = filled(shape, items).serialize();
+    let mut last = Filter::deserialize(&image).unwrap();
     for _ in 0..turns {
-        filter = black_box(Filter::deserialize(&image).unwrap());
+        last = black_box(Filter::deserialize(&image).unwrap());
     }
-    digest(&filter.serialize()).wrapping_add(filter.bits_used())
+    digest(&last.serialize()).wrapping_add(last.bits_used())
 }
 
 pub fn rows(t: &Table) {

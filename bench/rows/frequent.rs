@@ -94,12 +94,13 @@ fn written<T: Written>(sketch: &Frequent<T>, turns: u64) -> u64 {
     digest(&image)
 }
 
-fn read_back<T: Written>(mut sketch: Frequent<T>, turns: u64) -> Frequent<T> {
+fn read_back<T: Written>(sketch: &Frequent<T>, turns: u64) -> Frequent<T> {
     let image = sketch.serialize();
+    let mut last = Frequent::deserialize(&image).unwrap();
     for _ in 0..turns {
-        sketch = black_box(Frequent::deserialize(&image).unwrap());
+        last = black_box(Frequent::deserialize(&image).unwrap());
     }
-    sketch
+    last
 }
 
 /// Its image is written.
@@ -109,8 +110,8 @@ fn write(shape: &Shape, items: &[i64], _: &[i64], turns: u64) -> u64 {
 
 /// Its image is read.
 fn read(shape: &Shape, items: &[i64], _: &[i64], turns: u64) -> u64 {
-    let sketch = read_back(filled(shape, items), turns);
-    digest(&sketch.serialize()).wrapping_add(summary(&sketch))
+    let last = read_back(&filled(shape, items), turns);
+    digest(&last.serialize()).wrapping_add(summary(&last))
 }
 
 /// 65536 texts, each with its number.
@@ -148,8 +149,8 @@ fn write_texts(shape: &Shape, _: &[i64], _: &[i64], turns: u64) -> u64 {
 
 /// The same image is read.
 fn read_texts(shape: &Shape, _: &[i64], _: &[i64], turns: u64) -> u64 {
-    let sketch = read_back(filled_with_texts(shape), turns);
-    digest(&sketch.serialize()).wrapping_add(sketch.total())
+    let last = read_back(&filled_with_texts(shape), turns);
+    digest(&last.serialize()).wrapping_add(last.total())
 }
 
 /// A stream of so many items, of which the one of rank r comes with a weight of 1 over r to the power 1.1.
