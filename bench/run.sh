@@ -1,14 +1,43 @@
 #!/usr/bin/env bash
-# Proves and builds the loops over a copy of the crate, builds the driver beside them, and runs it.
+# Prints one table of what the operations of the proved crates take, beside plain Rust. Words choose its rows: those whose
+# names have each of them.
 set -eu
 cd "$(dirname "$0")"
 crates=out/crates
-mkdir -p "$crates/sketch_base" "$crates/hash_loops/src" "$crates/hash_loops/specs" "$crates/hash_loops/proofs"
-rm -rf "$crates/sketch_base/src" "$crates/sketch_base/specs" "$crates/sketch_base/proofs"
-(cd ../crates/sketch_base && tar -c --exclude=./out --exclude=./must-fail .) | tar -x -C "$crates/sketch_base"
-cp hash_loops.rt.txt "$crates/hash_loops/src/lib.rt"
-printf 'sketch_base:\nhash_loops staticlib: sketch_base\n' >out/crates.txt
-(cd "$crates/hash_loops" && rt lib) >out/log || { tail -n 20 out/log; exit 1; }
-rustc --edition 2024 -O -C codegen-units=1 -C target-cpu=x86-64-v2 driver.rs -o out/driver \
-    -L "$crates/hash_loops/out" -l static=hash_loops
-out/driver
+libraries='sketch_base counter_table sketch_frequencies sketch_bloom sketch_countmin'
+program='heavy_windows datasketches datasketches_cli'
+
+prove() { # a crate, by a command of rt
+    (cd "$crates/$1" && rt "$2" </dev/null) >out/log 2>&1 || { tail -n 20 out/log; exit 1; }
+}
+
+compile() {
+    rustc --edition 2024 -O -C codegen-units=1 -C target-cpu=x86-64-v2 "$@"
+}
+
+# Copies of the crates, with the loops as one more. A file that is gone must not stay there.
+mkdir -p "$crates"
+for crate in $libraries $program; do
+    mkdir -p "$crates/$crate"
+    rm -rf "$crates/$crate/src" "$crates/$crate/specs" "$crates/$crate/proofs"
+    (cd "../crates/$crate" && tar -c --exclude=./out --exclude=./must-fail .) | tar -x -C "$crates/$crate"
+    grep "^$crate:" ../crates.txt
+done >out/crates.txt
+echo "bench_loops staticlib: $libraries" >>out/crates.txt
+rm -rf "$crates/bench_loops/src"
+mkdir -p "$crates"/bench_loops/{src,specs,proofs}
+for loops in loops/*.rt.txt; do
+    cp "$loops" "$crates/bench_loops/src/$(basename "$loops" .txt)"
+done
+
+prove bench_loops lib
+# The heap of the proved side is the C library's, as that of the plain side.
+compile driver.rs -o out/driver -L "$crates/bench_loops/out" -l static=bench_loops \
+    -C link-arg="$(dirname "$(rt doc)")/c/liblibc_c.a"
+case $(out/driver --names "$@") in
+*'program, '*)
+    prove datasketches_cli run
+    compile plain_program.rs -o out/plain_program
+    ;;
+esac
+out/driver "$@"

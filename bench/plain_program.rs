@@ -1,25 +1,13 @@
 //! Some of the program's lines as a Rust programmer would serve them: those that make a sketch, feed it and ask it.
-#![allow(dead_code)]
 
-#[path = "../countmin/sketch.rs"]
-mod countmin;
-#[path = "../filters/sketch.rs"]
-mod filters;
-#[path = "../frequent/sketch.rs"]
-mod frequent;
-#[path = "../murmur3.rs"]
-mod murmur3;
-#[path = "../xxhash.rs"]
-mod xxhash;
+mod plain;
 
-use countmin::CountMin;
-use filters::Filter;
-use frequent::Frequent;
+use plain::count_min::CountMin;
+use plain::filter::Filter;
+use plain::frequent::Frequent;
 use std::collections::HashMap;
-use std::hash::{Hash, Hasher};
 use std::io::{self, BufRead, BufReader, BufWriter, Write};
 use std::process::ExitCode;
-use xxhash::Xxh64;
 
 /// The number e is the first over the second.
 const E_NUMERATOR: u128 = 2_718_281_828_459_045_235;
@@ -27,19 +15,8 @@ const E_DENOMINATOR: u128 = 1_000_000_000_000_000_000;
 
 enum Sketch {
     Frequent(Frequent<String>),
-    Count(CountMin),
+    Count(CountMin<u64>),
     Bloom(Filter),
-}
-
-/// The two hashes by which a filter finds an item's positions.
-fn filter_hashes(item: &str, seed: u64) -> (u64, u64) {
-    let hash = |seed| {
-        let mut hasher = Xxh64::with_seed(seed);
-        item.hash(&mut hasher);
-        hasher.finish()
-    };
-    let h0 = hash(seed);
-    (h0, hash(h0))
 }
 
 /// Does the command of a line, and answers whether it is one.
@@ -54,20 +31,21 @@ fn serve(line: &str, sketches: &mut HashMap<String, Sketch>, out: &mut impl Writ
     let rest = [words.next(), words.next(), words.next(), words.next()];
     let made = match (verb, rest) {
         ("add", [Some(weight), Some(item), None, _]) => {
-            let Ok(weight) = weight.parse() else {
+            let Ok(weight) = weight.parse::<u64>() else {
                 return Ok(false);
             };
             let done = match sketches.get_mut(name) {
                 None => "refused NoSuchName",
-                Some(Sketch::Frequent(sketch)) => match sketch.update_with_count(item.to_string(), weight) {
-                    Ok(()) => "ok",
-                    Err(_) => "refused WeightOverflow",
-                },
-                Some(Sketch::Count(sketch)) => match sketch.update_with_weight(item, weight) {
-                    Ok(()) => "ok",
-                    Err(_) => "refused WeightOverflow",
-                },
+                Some(Sketch::Frequent(sketch)) if sketch.total().checked_add(weight).is_some() => {
+                    sketch.update_with_count_ref(item, weight);
+                    "ok"
+                }
+                Some(Sketch::Count(sketch)) if sketch.total().checked_add(weight).is_some() => {
+                    sketch.update_with_weight(item, weight);
+                    "ok"
+                }
                 Some(Sketch::Bloom(_)) => "refused WrongKind",
+                Some(_) => "refused WeightOverflow",
             };
             writeln!(out, "{done}")?;
             return Ok(true);
@@ -76,8 +54,7 @@ fn serve(line: &str, sketches: &mut HashMap<String, Sketch>, out: &mut impl Writ
             let done = match sketches.get_mut(name) {
                 None => "refused NoSuchName",
                 Some(Sketch::Bloom(filter)) => {
-                    let (h0, h1) = filter_hashes(item, filter.seed);
-                    filter.insert_hashes(h0, h1);
+                    filter.insert(item);
                     "ok"
                 }
                 Some(_) => "refused WrongKind",
@@ -89,18 +66,21 @@ fn serve(line: &str, sketches: &mut HashMap<String, Sketch>, out: &mut impl Writ
             match sketches.get(name) {
                 None => writeln!(out, "refused NoSuchName")?,
                 Some(Sketch::Frequent(sketch)) => {
-                    let count = sketch.table.get(&item.to_string());
-                    let estimate = count.map_or(0, |count| count + sketch.error);
-                    let lower = count.unwrap_or(0);
-                    writeln!(out, "estimate {estimate} lower {lower} upper {}", lower + sketch.error)?;
+                    let lower = sketch.lower_bound(item);
+                    let upper = lower + sketch.error();
+                    let estimate = if lower > 0 { upper } else { 0 };
+                    writeln!(out, "estimate {estimate} lower {lower} upper {upper}")?;
                 }
                 Some(Sketch::Count(sketch)) => {
                     let estimate = sketch.estimate(item);
-                    writeln!(out, "estimate {estimate} lower {estimate} upper {}", upper(sketch, estimate))?;
+                    writeln!(
+                        out,
+                        "estimate {estimate} lower {estimate} upper {}",
+                        upper(sketch, estimate)
+                    )?;
                 }
                 Some(Sketch::Bloom(filter)) => {
-                    let (h0, h1) = filter_hashes(item, filter.seed);
-                    let said = if filter.contains_hashes(h0, h1) { "yes" } else { "no" };
+                    let said = if filter.contains(item) { "yes" } else { "no" };
                     writeln!(out, "{said}")?;
                 }
             }
@@ -117,11 +97,7 @@ fn serve(line: &str, sketches: &mut HashMap<String, Sketch>, out: &mut impl Writ
             }
         }
         ("bloom", [Some(bits), Some(hashes), Some(seed), None]) => match (bits.parse(), hashes.parse(), seed.parse()) {
-            (Ok(bits), Ok(hashes), Ok(seed)) => {
-                let mut filter = Filter::with_size(bits, hashes);
-                filter.seed = seed;
-                Sketch::Bloom(filter)
-            }
+            (Ok(bits), Ok(hashes), Ok(seed)) => Sketch::Bloom(Filter::with_size(bits, hashes, seed)),
             _ => return Ok(false),
         },
         _ => return Ok(false),
@@ -136,9 +112,9 @@ fn serve(line: &str, sketches: &mut HashMap<String, Sketch>, out: &mut impl Writ
 }
 
 /// An estimate with e over the buckets of the total added.
-fn upper(sketch: &CountMin, estimate: u64) -> u64 {
-    let scale = E_DENOMINATOR * sketch.buckets as u128;
-    let margin = sketch.total as u128 * E_NUMERATOR / scale;
+fn upper(sketch: &CountMin<u64>, estimate: u64) -> u64 {
+    let scale = E_DENOMINATOR * u128::from(sketch.num_buckets());
+    let margin = u128::from(sketch.total()) * E_NUMERATOR / scale;
     u64::try_from(estimate as u128 + margin).unwrap_or(u64::MAX)
 }
 

@@ -1,32 +1,30 @@
-//! XXH64 as a Rust programmer would write it, beside which the proved hashes are timed.
+//! XXH64 as a Rust programmer would write it, each call inlined.
 
-use crate::murmur3::word;
+use super::murmur3::word;
 use std::hash::Hasher;
 
-pub const P1: u64 = 0x9E37_79B1_85EB_CA87;
-pub const P2: u64 = 0xC2B2_AE3D_27D4_EB4F;
-pub const P3: u64 = 0x1656_67B1_9E37_79F9;
-pub const P4: u64 = 0x85EB_CA77_C2B2_AE63;
-pub const P5: u64 = 0x27D4_EB2F_1656_67C5;
+const P1: u64 = 0x9E37_79B1_85EB_CA87;
+const P2: u64 = 0xC2B2_AE3D_27D4_EB4F;
+const P3: u64 = 0x1656_67B1_9E37_79F9;
+const P4: u64 = 0x85EB_CA77_C2B2_AE63;
+const P5: u64 = 0x27D4_EB2F_1656_67C5;
 
 /// XXH64 as a Rust programmer would write it.
 pub struct Xxh64 {
-    pub seed: u64,
-    pub lanes: [u64; 4],
-    pub total: u64,
-    pub buffer: [u8; 32],
-    pub used: usize,
+    seed: u64,
+    lanes: [u64; 4],
+    total: u64,
+    buffer: [u8; 32],
+    used: usize,
 }
 
 #[inline(always)]
-pub fn round(acc: u64, lane: u64) -> u64 {
-    acc.wrapping_add(lane.wrapping_mul(P2))
-        .rotate_left(31)
-        .wrapping_mul(P1)
+fn round(acc: u64, lane: u64) -> u64 {
+    acc.wrapping_add(lane.wrapping_mul(P2)).rotate_left(31).wrapping_mul(P1)
 }
 
 #[inline(always)]
-pub fn merge(h: u64, acc: u64) -> u64 {
+fn merge(h: u64, acc: u64) -> u64 {
     (h ^ round(0, acc)).wrapping_mul(P1).wrapping_add(P4)
 }
 
@@ -48,7 +46,7 @@ impl Xxh64 {
     }
 
     #[inline(always)]
-    pub fn stripe(&mut self, chunk: &[u8]) {
+    fn stripe(&mut self, chunk: &[u8]) {
         for i in 0..4 {
             self.lanes[i] = round(self.lanes[i], word(&chunk[8 * i..]));
         }
@@ -113,9 +111,7 @@ impl Hasher for Xxh64 {
             rest = &rest[4..];
         }
         for byte in rest {
-            h = (h ^ (*byte as u64).wrapping_mul(P5))
-                .rotate_left(11)
-                .wrapping_mul(P1);
+            h = (h ^ (*byte as u64).wrapping_mul(P5)).rotate_left(11).wrapping_mul(P1);
         }
         h = (h ^ (h >> 33)).wrapping_mul(P2);
         h = (h ^ (h >> 29)).wrapping_mul(P3);

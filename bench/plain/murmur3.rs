@@ -1,4 +1,4 @@
-//! MurmurHash3 x64 128 as a Rust programmer would write it, beside which the proved hashes are timed.
+//! MurmurHash3 x64 128 as a Rust programmer would write it, each call inlined.
 
 use std::hash::Hasher;
 

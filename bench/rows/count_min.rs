@@ -1,0 +1,164 @@
+//! Count-Min sketches: each has counted the items by the weight first.
+
+use crate::plain::count_min::CountMin;
+use crate::row;
+use crate::timing::{Table, digest, numbers};
+use std::hint::black_box;
+
+/// What a sketch is made of, the weight of each item, and the fraction by which it decays.
+#[repr(C)]
+struct Shape {
+    num_hashes: u8,
+    num_buckets: u32,
+    weight: u64,
+    numerator: u64,
+    denominator: u64,
+}
+
+/// A sketch that counted each item by the weight.
+fn filled(shape: &Shape, items: &[u64]) -> CountMin<u64> {
+    let mut sketch = CountMin::new(shape.num_hashes, shape.num_buckets, 9001);
+    for n in items {
+        sketch.update_with_weight(*n, shape.weight);
+    }
+    sketch
+}
+
+/// The total and the sum of all estimates, without the carries.
+fn summary(sketch: &CountMin<u64>, items: &[u64]) -> u64 {
+    items
+        .iter()
+        .fold(sketch.total(), |all, n| all.wrapping_add(sketch.estimate(*n)))
+}
+
+/// The items are counted by a weight of 1.
+fn update(shape: &Shape, items: &[u64], _: &[u64], turns: u64) -> u64 {
+    let mut sketch = filled(shape, items);
+    for _ in 0..turns {
+        for n in items {
+            sketch.update(*n);
+        }
+    }
+    summary(&sketch, items)
+}
+
+/// The items are counted by the weight.
+fn weigh(shape: &Shape, items: &[u64], _: &[u64], turns: u64) -> u64 {
+    let mut sketch = filled(shape, items);
+    for _ in 0..turns {
+        for n in items {
+            sketch.update_with_weight(*n, shape.weight);
+        }
+    }
+    summary(&sketch, items)
+}
+
+/// The others are estimated.
+fn estimate(shape: &Shape, items: &[u64], others: &[u64], turns: u64) -> u64 {
+    let sketch = filled(shape, items);
+    let mut all = sketch.total();
+    for turn in 0..turns {
+        for n in others {
+            all = all.wrapping_add(sketch.estimate(*n) ^ turn);
+        }
+    }
+    all
+}
+
+/// A sketch of the others is merged into it.
+fn merge(shape: &Shape, items: &[u64], others: &[u64], turns: u64) -> u64 {
+    let (mut sketch, other) = (filled(shape, items), filled(shape, others));
+    for _ in 0..turns {
+        sketch.merge(&other).unwrap();
+    }
+    summary(&sketch, items)
+}
+
+fn halve(shape: &Shape, items: &[u64], _: &[u64], turns: u64) -> u64 {
+    let mut sketch = filled(shape, items);
+    for _ in 0..turns {
+        sketch.halve();
+    }
+    summary(&sketch, items)
+}
+
+/// It decays by a float, as the published crate's do.
+fn decay(shape: &Shape, items: &[u64], _: &[u64], turns: u64) -> u64 {
+    let mut sketch = filled(shape, items);
+    let factor = shape.numerator as f64 / shape.denominator as f64;
+    for _ in 0..turns {
+        sketch.decay(factor);
+    }
+    summary(&sketch, items)
+}
+
+/// It decays by the fraction.
+fn decay_by(shape: &Shape, items: &[u64], _: &[u64], turns: u64) -> u64 {
+    let mut sketch = filled(shape, items);
+    for _ in 0..turns {
+        sketch.decay_by(shape.numerator, shape.denominator);
+    }
+    summary(&sketch, items)
+}
+
+/// A sketch in cells of `i64` that counted each item by the weight.
+fn filled_signed(shape: &Shape, items: &[u64]) -> CountMin<i64> {
+    let mut sketch = CountMin::new(shape.num_hashes, shape.num_buckets, 9001);
+    for n in items {
+        sketch.update_with_weight(*n, (shape.weight % (1 << 40)) as i64);
+    }
+    sketch
+}
+
+/// The image of one in cells of `i64` is written.
+fn write(shape: &Shape, items: &[u64], _: &[u64], turns: u64) -> u64 {
+    let sketch = filled_signed(shape, items);
+    let mut image = sketch.serialize();
+    for _ in 0..turns {
+        image = black_box(sketch.serialize());
+    }
+    digest(&image)
+}
+
+/// The image of one in cells of `i64` is read.
+fn read(shape: &Shape, items: &[u64], _: &[u64], turns: u64) -> u64 {
+    let image = filled_signed(shape, items).serialize();
+    let mut last: CountMin<i64> = CountMin::deserialize(&image, 9001).unwrap();
+    for _ in 0..turns {
+        last = black_box(CountMin::deserialize(&image, 9001).unwrap());
+    }
+    digest(&last.serialize())
+}
+
+pub fn rows(t: &Table) {
+    let items = numbers(0, 1 << 16);
+    let few = &items[..1 << 12];
+    for (num_hashes, num_buckets) in [(4, 65536), (8, 20000)] {
+        let shape = Shape {
+            num_hashes,
+            num_buckets,
+            weight: black_box((1 << 39) + 1),
+            numerator: black_box(999),
+            denominator: black_box(1000),
+        };
+        // a fraction that is a float to the bit, so that both ways give the same
+        let exact = Shape {
+            numerator: black_box(1_023_000),
+            denominator: black_box(1_024_000),
+            ..shape
+        };
+        let count = items.len();
+        let cells = usize::from(num_hashes) * num_buckets as usize;
+        let name = |what: &str| format!("count-min, {what}, {num_hashes} x {num_buckets}");
+        let cell = |what: &str| name(&format!("{what}, a cell"));
+        row!(t, &name("update by 1"), 8, count; rattle_count_update, update; shape, items, []);
+        row!(t, &name("update by a weight"), 8, count; rattle_count_weigh, weigh; shape, items, []);
+        row!(t, &name("estimate"), 8, count; rattle_count_estimate, estimate; shape, items, items);
+        row!(t, &cell("merge"), 100, cells; rattle_count_merge, merge; shape, few, few);
+        row!(t, &cell("halve"), 30, cells; rattle_count_halve, halve; shape, few, []);
+        row!(t, &cell("decay beside floats"), 20, cells; rattle_count_decay, decay; exact, few, []);
+        row!(t, &cell("decay by the same fraction"), 20, cells; rattle_count_decay, decay_by; shape, few, []);
+        row!(t, &cell("write an image"), 50, cells; rattle_count_write, write; shape, few, []);
+        row!(t, &cell("read an image"), 50, cells; rattle_count_read, read; shape, few, []);
+    }
+}
