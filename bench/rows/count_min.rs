@@ -154,6 +154,8 @@ pub fn rows(t: &Table) {
         row!(t, &name("update by 1"), 8, count; rattle_count_update, update; shape, items, []);
         row!(t, &name("update by a weight"), 8, count; rattle_count_weigh, weigh; shape, items, []);
         row!(t, &name("estimate"), 8, count; rattle_count_estimate, estimate; shape, items, items);
+        row!(t, &name("update_all"), 8, count; rattle_count_update_all, update; shape, items, []);
+        row!(t, &name("estimate_all"), 8, count; rattle_count_estimate_all, estimate; shape, items, items);
         row!(t, &cell("merge"), 100, cells; rattle_count_merge, merge; shape, few, few);
         row!(t, &cell("halve"), 30, cells; rattle_count_halve, halve; shape, few, []);
         row!(t, &cell("decay beside floats"), 20, cells; rattle_count_decay, decay; exact, few, []);
