@@ -1,5 +1,5 @@
 -- The positions that two hashes give, one after another.
-use Rattle.std.proofs.Common.{◌≡◌, ◌≢◌, inl, inr, ℕ, zero, suc, ◌+◌, ◌*◌, ◌/◌, ◌%◌, ◌^◌, ◌<◌, ◌≤◌, ◌==◌, eqb-true, Bool, true, false, ◌&&◌, ◌||◌, map, refl, sym, ap, ◌∙◌, arith, List, length, get_or, set as put, bit_and, bit_or, cond, add-zero, subst}
+use Rattle.std.proofs.Common.{◌≡◌, ◌≢◌, inl, inr, ℕ, zero, suc, ◌+◌, ◌*◌, ◌/◌, ◌%◌, ◌^◌, ◌<◌, ◌≤◌, ◌==◌, eqb-true, Bool, true, false, ◌&&◌, ◌||◌, not, add_comm, mul_comm, map, refl, sym, ap, ◌∙◌, arith, List, length, get_or, set as put, bit_and, bit_or, cond, add-zero, subst}
 use mir.Val.{bool_byte}
 use Rattle.std.specs.Int.{bit_at}
 use Rattle.std.proofs.lemmas.Nat.Bits.{bit_at-lt, shr_and_one}
@@ -163,3 +163,27 @@ reads_set words p d =
     let low : bit_at (get_or words (p / 64) 0) (p % 64) < 2 = bit_at-lt (get_or words (p / 64) 0) (p % 64) in
     let one : bit_at (get_or words (p / 64) 0) (p % 64) ≡ 1 = omega arith in
     contains-set_of words p ∙ ap (λ n. n == 1) one
+
+-- the first position alone
+pub first_position : (capacity h0 h1 : ℕ) (s : Numbers) → set.is_subset (positions capacity 1 h0 h1) s ≡ set.contains s (position capacity h0 h1 1)
+first_position capacity h0 h1 s =
+    ap (λ t. set.is_subset t s) (positions-suc capacity 0 h0 h1)
+    ∙ is_subset-insert (positions capacity 0 h0 h1) s (position capacity h0 h1 1)
+    ∙ ap (λ t. set.is_subset t s && set.contains s (position capacity h0 h1 1)) (positions-zero capacity h0 h1)
+    ∙ ap (λ b. b && set.contains s (position capacity h0 h1 1)) (is_subset-empty s)
+
+-- the test of the bit at a number's place
+pub reads_test : (words : List ℕ) (p : ℕ) → not (bit_and (get_or words (p / 64) 0 / 2 ^ (p % 64)) 1 == 0) ≡ set.contains (set_of words) p
+reads_test words p =
+    let bit : ℕ = bit_and (get_or words (p / 64) 0 / 2 ^ (p % 64)) 1 in
+    elim (bit == 0) as (λ b. (bit == 0) ≡ b → not b ≡ set.contains (set_of words) p) [
+      | true ↦ λ e. sym (reads_unset words p (eqb-true bit 0 e))
+      | false ↦ λ e. sym (reads_set words p (λ z. grind (arith, nat_tests)))
+    ] refl
+
+-- a sum of hashes to begin with
+pub sum_from : (h0 h1 looked : ℕ) → (h0 + h1 * looked % 2 ^ 64) % 2 ^ 64 ≡ (h0 + looked * h1) % 2 ^ 64
+sum_from h0 h1 looked =
+    ap (λ n. n % 2 ^ 64) (add_comm h0 (h1 * looked % 2 ^ 64))
+    ∙ mod-add-mod (h1 * looked) (2 ^ 64) h0
+    ∙ ap (λ n. n % 2 ^ 64) (add_comm (h1 * looked) h0 ∙ ap (λ n. h0 + n) (mul_comm h1 looked))
