@@ -29,6 +29,16 @@ unsafe extern "C" {
         inserts: u64,
         looks: u64,
     ) -> u64;
+    fn rattle_batches(
+        num_bits: u64,
+        num_hashes: u16,
+        numbers: *const u64,
+        numbers_len: usize,
+        asked: *const u64,
+        asked_len: usize,
+        inserts: u64,
+        looks: u64,
+    ) -> u64;
     fn rattle_sets(
         num_bits: u64,
         num_hashes: u16,
@@ -190,6 +200,42 @@ fn compare_items(bits: u32, count: u64, many: u64) {
     }
 }
 
+/// The same by calls for all items at once, beside calls for one after another.
+fn compare_batches(bits: u32, count: u64, many: u64) {
+    let num_bits = 1u64 << bits;
+    let (inserted, others) = (numbers(0, count), numbers(1 << 40, count));
+    let rattle = |asked: &[u64], inserts, looks| unsafe {
+        let (len, asked_len) = (inserted.len(), asked.len());
+        rattle_batches(
+            num_bits,
+            black_box(7),
+            inserted.as_ptr(),
+            len,
+            asked.as_ptr(),
+            asked_len,
+            inserts,
+            looks,
+        )
+    };
+    let rust = |asked: &[u64], inserts, looks| rust_items(num_bits, black_box(7), &inserted, asked, inserts, looks);
+    compare(
+        &format!("insert_all, 2^{bits} bits"),
+        many,
+        count,
+        &|turns| rattle(&[], turns, 0),
+        &|turns| rust(&[], turns, 0),
+    );
+    for (name, asked) in [("present", &inserted), ("absent", &others)] {
+        compare(
+            &format!("contains_all, {name}, 2^{bits} bits"),
+            many,
+            count,
+            &|turns| rattle(asked, 1, turns),
+            &|turns| rust(asked, 1, turns),
+        );
+    }
+}
+
 /// The items of two filters, of which half are the same, are enough to write to each page of memory: a page that was
 /// never written to is read from one place.
 fn compare_sets(bits: u32, count: u64, many: u64) {
@@ -252,8 +298,10 @@ fn compare_images(bits: u32, count: u64, many: u64) {
 fn main() {
     println!("{:<32} {:>12} {:>12} {:>8}", "what", "proved, ns", "plain, ns", "ratio");
     compare_items(20, 1 << 16, 4);
+    compare_batches(20, 1 << 16, 4);
     compare_sets(20, 1000, 200);
     compare_items(27, 1 << 18, 2);
+    compare_batches(27, 1 << 18, 2);
     compare_sets(27, 1 << 15, 25);
     compare_images(13, 1 << 8, 1 << 16);
     compare_images(19, 1 << 10, 1 << 10);

@@ -2,7 +2,7 @@
 //!
 //! The hashes of an item do not depend on those of another, so a processor works on several at once, and then waits for
 //! the words of several at once.
-ghost use Rattle.std.specs.Prelude.{◌≡◌, ◌+◌, ◌*◌, ◌≤◌, map, fold, length, take};
+ghost use Rattle.std.specs.Prelude.{◌≡◌, ◌+◌, ◌*◌, ◌≤◌, map, fold, length};
 ghost use Rattle.std.specs.FinSet as set;
 ghost use Rattle.sketch_base.specs.Hashes.{fed_bytes};
 ghost use Rattle.sketch_base.specs.Xxh64.{xxh64};
@@ -27,18 +27,16 @@ pub fn hashes_of<T: Hash>(item: &T, seed: u64) -> (u64, u64)
     (h0, xxh64_of(item, h0))
 }
 
-/// The hashes of each item of a block, in front of what is no hash of any.
+/// Writes down the hashes of each item.
 #[inline(always)]
-fn hashes_of_block<T: Hash>(items: &[T], seed: u64) -> [(u64, u64); BLOCK]
-    requires { length items.now ≤ BLOCK }
-    ensures { take (length items.now) result ≡ map (λ item. pair_of seed (fed_bytes T.hash_input item)) items.now }
+fn hash_block<T: Hash>(items: &[T], seed: u64, pairs: &mut [(u64, u64)])
+    requires { length pairs.old ≡ length items.now }
+    ensures { pairs.new ≡ map (λ item. pair_of seed (fed_bytes T.hash_input item)) items.now }
 {
-    let mut pairs = [(0, 0); BLOCK];
     // The label is there for the prover alone.
     'hashes: for i in 0..items.len() {
         pairs[i] = hashes_of(&items[i], seed);
     }
-    pairs
 }
 
 /// Inserts the positions of all items, and answers how many of them are new.
@@ -58,13 +56,14 @@ pub fn insert_items<T: Hash>(
 {
     let mut added = 0;
     let blocks = items.len().div_ceil(BLOCK);
+    let mut pairs = [(0, 0); BLOCK];
     // The label is there for the prover alone.
     'each: for b in 0..blocks {
         let from = BLOCK * b;
         let to = from + BLOCK.min(items.len() - from);
-        let block = &items[from..to];
-        let pairs = hashes_of_block(block, seed);
-        added += bit_set::insert_pairs(words, capacity, num_hashes, &pairs[..block.len()]);
+        let block = &mut pairs[..to - from];
+        hash_block(&items[from..to], seed, block);
+        added += bit_set::insert_pairs(words, capacity, num_hashes, block);
     }
     added
 }
@@ -86,18 +85,13 @@ pub fn contains_items<T: Hash>(
         ≡ map (λ item. contains_pair capacity num_hashes (set_of words.now) (pair_of seed (fed_bytes T.hash_input item))) items.now }
 {
     let blocks = items.len().div_ceil(BLOCK);
+    let mut pairs = [(0, 0); BLOCK];
     // The label is there for the prover alone.
     'each: for b in 0..blocks {
         let from = BLOCK * b;
         let to = from + BLOCK.min(items.len() - from);
-        let block = &items[from..to];
-        let pairs = hashes_of_block(block, seed);
-        bit_set::contains_pairs(
-            words,
-            capacity,
-            num_hashes,
-            &pairs[..block.len()],
-            &mut answers[from..to],
-        );
+        let block = &mut pairs[..to - from];
+        hash_block(&items[from..to], seed, block);
+        bit_set::contains_pairs(words, capacity, num_hashes, block, &mut answers[from..to]);
     }
 }

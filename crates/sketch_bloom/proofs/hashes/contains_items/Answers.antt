@@ -17,7 +17,7 @@ each-preserved g c =
     let block = take (to - from) (drop from c.args.items.now) in
     written_block answer c.args.items.now c.each.answers c.contains_pairs.new.answers from to (16 * (c.each.b + 1)) (to - from)
     (omega arith) (omega arith) (λ l. omega arith) (omega arith) (omega arith) refl
-    (c.contains_pairs.ensures ∙ (ap (map (contains_pair c.args.capacity c.args.num_hashes (set_of c.args.words.now))) c.hashes_of_block-pairs.ensures ∙ map-map _ _ block))
+    (c.contains_pairs.ensures ∙ (ap (map (contains_pair c.args.capacity c.args.num_hashes (set_of c.args.words.now))) c.hash_block.ensures ∙ map-map _ _ block))
     c.each.invariant
 
 pub returns : goal.returns

@@ -26,7 +26,7 @@ each-preserved g c =
     let block = take (to - from) (drop from c.args.items.now) in
     record {
       union = c.insert_pairs-added.ensures.union
-          ∙ (ap (fold F (set_of c.each.words)) c.hashes_of_block-pairs.ensures
+          ∙ (ap (fold F (set_of c.each.words)) c.hash_block.ensures
           ∙ (ap (λ (s : Numbers). fold F s (map f block)) c.each.invariant.union
           ∙ fold_block f F (set_of c.args.words.now) c.args.items.now from to (16 * (c.each.b + 1)) (omega arith) (omega arith) (λ l. omega arith)));
       added = omega arith;
