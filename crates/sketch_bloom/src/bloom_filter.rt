@@ -160,16 +160,6 @@ impl BloomFilter {
     ///
     /// It is faster than a call an item, since the hashes of the next items are under way while the words of this one
     /// are waited for.
-    ///
-    /// # Examples
-    ///
-    /// ```
-    /// use sketch_bloom::BloomFilter;
-    ///
-    /// fn learn(seen: &mut BloomFilter, visitors: &[u64]) {
-    ///     seen.insert_all(visitors);
-    /// }
-    /// ```
     pub fn insert_all<T: Hash>(&mut self, items: &[T])
         ensures insertions { self.new ≡ all_inserted self.old (map (fed_bytes T.hash_input) items.now) }
         ensures state { IsFilterState self.new }
