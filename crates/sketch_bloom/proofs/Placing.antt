@@ -187,3 +187,35 @@ sum_from h0 h1 looked =
     ap (λ n. n % 2 ^ 64) (add_comm h0 (h1 * looked % 2 ^ 64))
     ∙ mod-add-mod (h1 * looked) (2 ^ 64) h0
     ∙ ap (λ n. n % 2 ^ 64) (add_comm (h1 * looked) h0 ∙ ap (λ n. h0 + n) (mul_comm h1 looked))
+
+-- the first two positions
+pub first_two : (capacity h0 h1 : ℕ) (s : Numbers) → set.is_subset (positions capacity 2 h0 h1) s ≡ (set.contains s (position capacity h0 h1 1) && set.contains s (position capacity h0 h1 2))
+first_two capacity h0 h1 s =
+    ap (λ t. set.is_subset t s) (positions-suc capacity 1 h0 h1)
+    ∙ is_subset-insert (positions capacity 1 h0 h1) s (position capacity h0 h1 2)
+    ∙ ap (λ b. b && set.contains s (position capacity h0 h1 2)) (first_position capacity h0 h1 s)
+
+-- where not both are in the set, not all are
+pub missing_of_two : (capacity n h0 h1 : ℕ) (s : Numbers) → 1 < n → set.is_subset (positions capacity 2 h0 h1) s ≡ false → set.is_subset (positions capacity n h0 h1) s ≡ false
+missing_of_two capacity n h0 h1 s l none =
+    elim (set.contains s (position capacity h0 h1 1)) as (λ b. set.contains s (position capacity h0 h1 1) ≡ b → set.is_subset (positions capacity n h0 h1) s ≡ false) [
+      | false ↦ λ e. missing_position capacity n h0 h1 0 s (omega arith) e
+      | true ↦ λ e. missing_position capacity n h0 h1 1 s l (sym (ap (λ b. b && set.contains s (position capacity h0 h1 2)) e) ∙ (sym (first_two capacity h0 h1 s) ∙ none))
+    ] refl
+
+-- two bits by one test
+pub both_bits : (a b : ℕ) → a < 2 → b < 2 → not (bit_and a b == 0) ≡ (not (a == 0) && not (b == 0))
+both_bits zero zero _ _ = refl
+both_bits zero (suc zero) _ _ = refl
+both_bits zero (suc (suc b)) _ l = absurd (omega arith)
+both_bits (suc zero) zero _ _ = refl
+both_bits (suc zero) (suc zero) _ _ = refl
+both_bits (suc zero) (suc (suc b)) _ l = absurd (omega arith)
+both_bits (suc (suc a)) b l _ = absurd (omega arith)
+
+-- the bit at a number's place is below 2
+pub bit_below : (words : List ℕ) (p : ℕ) → bit_and (get_or words (p / 64) 0 / 2 ^ (p % 64)) 1 < 2
+bit_below words p =
+    let bit : bit_and (get_or words (p / 64) 0 / 2 ^ (p % 64)) 1 ≡ bit_at (get_or words (p / 64) 0) (p % 64) = shr_and_one (get_or words (p / 64) 0) (p % 64) in
+    let low : bit_at (get_or words (p / 64) 0) (p % 64) < 2 = bit_at-lt (get_or words (p / 64) 0) (p % 64) in
+    omega arith
