@@ -1,12 +1,12 @@
 -- Many items inserted: the state, and the history that it stands for.
-use Rattle.std.proofs.Common.{◌≡◌, ℕ, ◌*◌, [], ◌∷◌, List, Bool, length, map, refl, sym, ap, ◌∙◌}
+use Rattle.std.proofs.Common.{◌≡◌, ℕ, ◌*◌, [], ◌∷◌, List, length, map, refl, sym, ap, ◌∙◌}
 use Rattle.std.specs.List.{fold}
 use Rattle.std.specs.Global.{Vec}
 use Rattle.std.specs.Vec.{with_items}
 use Rattle.std.proofs.lemmas.List.{with_items_is}
 use Rattle.std.specs.FinSet as set
 use Rattle.sketch_bloom.specs.BitSet.{set_of}
-use Rattle.sketch_bloom.specs.History.{BloomHistory, words_of, hashes_of, seed_of, all_inserted_after}
+use Rattle.sketch_bloom.specs.History.{BloomHistory, all_inserted_after}
 use Rattle.sketch_bloom.specs.History.BloomHistory.{Insert}
 use Rattle.sketch_bloom.specs.Pairs.{pair_of, contains_pair, with_pair}
 use Rattle.sketch_bloom.specs.Positions.{positions_of}

@@ -1,11 +1,10 @@
-use Rattle.std.proofs.Common.{◌≡◌, ◌+◌, ◌*◌, ◌%◌, ◌^◌, sym, ap, ◌∙◌, arith}
+use Rattle.std.proofs.Common.{◌≡◌, ◌+◌, sym, ap, ◌∙◌}
 use Rattle.std.specs.FinSet as set
-use Rattle.std.proofs.Math.Nat.{mod-eq_of_lt}
 use Rattle.sketch_bloom.specs.BitSet.{set_of}
 use Rattle.sketch_bloom.specs.Positions.{position, positions}
 use Rattle.std.proofs.lemmas.Bool.{and_from}
-use Rattle.sketch_bloom.proofs.Sets.{is_subset-empty, is_subset-insert}
-use Rattle.sketch_bloom.proofs.Placing.{positions-zero, positions-suc, missing_position, running_sum, reads_set, reads_unset, place_is, sum_from}
+use Rattle.sketch_bloom.proofs.Sets.{is_subset-insert}
+use Rattle.sketch_bloom.proofs.Placing.{positions-suc, missing_position, running_sum, reads_set, reads_unset, place_is, sum_from}
 use Rattle.sketch_bloom.proofs.bit_set.contains_others.Goals as goal
 
 pub looks-init : goal.looks-init

@@ -1,6 +1,6 @@
-use Rattle.std.proofs.Common.{◌≡◌, ◌+◌, ◌<◌, ◌≤◌, ℕ, List, Bool, false, map, length, take, get_or, set, refl, sym, ap, ◌∙◌, arith}
+use Rattle.std.proofs.Common.{◌≡◌, ◌+◌, ℕ, List, Bool, false, map, take, get_or, set, refl, ap, ◌∙◌, arith}
 use Rattle.std.proofs.lemmas.List.{get_or-map, get_or-set_other}
-use Rattle.sketch_bloom.specs.BitSet.{Numbers, set_of}
+use Rattle.sketch_bloom.specs.BitSet.{set_of}
 use Rattle.sketch_bloom.specs.Pairs.{contains_pair}
 use Rattle.sketch_bloom.proofs.Batches.{written_more, written_all}
 use Rattle.sketch_bloom.proofs.Pairs.{contains_first_of}

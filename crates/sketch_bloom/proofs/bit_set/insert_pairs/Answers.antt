@@ -1,10 +1,9 @@
-use Rattle.std.proofs.Common.{◌≡◌, ◌+◌, ◌*◌, ◌≤◌, ℕ, get_or, length, add-zero, refl, sym, ap, ◌∙◌, arith}
+use Rattle.std.proofs.Common.{◌*◌, ◌≤◌, ℕ, get_or, length, add-zero, refl, sym, ap, ◌∙◌, arith}
 use Rattle.std.specs.List.{fold}
 use Rattle.std.specs.FinSet as set
 use Rattle.std.proofs.lemmas.List.{take_all}
 use Rattle.sketch_bloom.specs.BitSet.{Numbers, set_of}
 use Rattle.sketch_bloom.specs.Pairs.{with_pair}
-use Rattle.sketch_bloom.specs.Positions.{positions}
 use Rattle.sketch_bloom.proofs.Batches.{fold_more}
 use Rattle.sketch_bloom.proofs.Counting.{len-set_of-le}
 use Rattle.sketch_bloom.proofs.bit_set.insert_pairs.Goals as goal

@@ -1,4 +1,4 @@
-use Rattle.std.proofs.Common.{◌≡◌, ◌+◌, ℕ, map, length, take, get_or, set, refl, sym, ap, ◌∙◌, arith}
+use Rattle.std.proofs.Common.{◌≡◌, ◌+◌, ℕ, take, get_or, set, refl, ap, ◌∙◌, arith}
 use Rattle.sketch_base.specs.Hashes.{fed_bytes}
 use Rattle.sketch_base.specs.Xxh64.{xxh64}
 use Rattle.sketch_bloom.specs.Pairs.{pair_of}

@@ -1,4 +1,4 @@
-use Rattle.std.proofs.Common.{◌≡◌, ◌*◌, ℕ, List, map, length, ap, ◌∙◌}
+use Rattle.std.proofs.Common.{ℕ, List, map, ap, ◌∙◌}
 use Rattle.sketch_base.specs.Hashes.{fed_bytes}
 use Rattle.sketch_bloom.specs.BitSet.{set_of}
 use Rattle.sketch_bloom.specs.Pairs.{pair_of, contains_pair}
