@@ -42,11 +42,7 @@ pub fn still_refused(alloc: Global) -> Result<(bool, bool), Error> {
 }
 
 /// The orders that may have a customer on the other side of a join.
-pub fn orders_to_join(
-    alloc: Global,
-    customers: &[u64],
-    orders: &[u64],
-) -> Result<Vec<u64>, Error> {
+pub fn orders_to_join(alloc: Global, customers: &[u64], orders: &[u64]) -> Result<Vec<u64>, Error> {
     let mut filter = BloomFilterBuilder::with_size(1 << 16, 7).build(alloc)?;
     filter.insert_all(customers);
     let mut may_join = vec![in alloc; false; orders.len()]?;
