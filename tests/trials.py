@@ -137,14 +137,17 @@ ALLOCATION_FREE = {
         "filter 0 256 3 9001",
         "equal false",
         "filter 0 256 3 9001",
+        "filter 6 256 3 9001 3 5",
     ],
     # the positions of 5 are 103, 108 and 113, and those of 6 are 121, 39 and 213
     "allocation-free_filter_questions": [
         "numbers 3 256 3 7 32",
         "contains true false false",
+        "contains_all false true",
         "compared true true",
         "numbers 0 256 3 7 32",
         "contains false false true",
+        "contains_all false false",
         "compared false false",
     ],
     "allocation-free_filter_refusals": [

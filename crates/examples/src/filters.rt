@@ -40,3 +40,25 @@ pub fn still_refused(alloc: Global) -> Result<(bool, bool), Error> {
         refused.contains(&"shop.example"),
     ))
 }
+
+/// The orders that may have a customer on the other side of a join.
+pub fn orders_to_join(alloc: Global, customers: &[u64], orders: &[u64]) -> Result<Vec<u64>, Error> {
+    let mut filter = BloomFilterBuilder::with_size(1 << 16, 7).build(alloc)?;
+    filter.insert_all(customers);
+    let mut may_join = vec![in alloc; false; orders.len()]?;
+    filter.contains_all(orders, &mut may_join);
+    let mut kept = Vec::new(alloc);
+    for (i, customer) in orders.iter().enumerate() {
+        if may_join[i] {
+            kept.push(*customer)?;
+        }
+    }
+    Ok(kept)
+}
+
+/// Which of four visitors are known.
+pub fn known_of_four(seen: &BloomFilter, visitors: &[u64; 4]) -> [bool; 4] {
+    let mut known = [false; 4];
+    seen.contains_all(visitors, &mut known);
+    known
+}

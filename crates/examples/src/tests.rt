@@ -7,7 +7,9 @@ use crate::counts::{
     age, apples_in_store, apples_of_both_days, bytes_of_apple, count_batch, halve, sent_counts,
     visits_of, weight_of_all,
 };
-use crate::filters::{filter_of_visitors, is_first_visit, seen_by_both, still_refused};
+use crate::filters::{
+    filter_of_visitors, is_first_visit, known_of_four, orders_to_join, seen_by_both, still_refused,
+};
 use crate::frequent_items::{
     apples_of_both_shops, bytes_of, counts_visit, heavier_pages, heaviest, sent_pages,
     surely_weighs_more,
@@ -77,6 +79,13 @@ fn visits(alloc: Global) -> Result<(bool, bool), Error> {
     Ok((first, is_first_visit(&mut seen, 7)))
 }
 
+/// Which of four visitors are known once the first came.
+fn known_visitors(alloc: Global) -> Result<[bool; 4], Error> {
+    let mut seen = filter_of_visitors(alloc)?;
+    is_first_visit(&mut seen, 7);
+    Ok(known_of_four(&seen, &[7, 8, 9, 10]))
+}
+
 /// Whether an aged sketch comes back.
 fn counts_come_back(alloc: Global) -> Result<(u64, bool), Error> {
     let mut counts = CountMinSketch::new(alloc, 4, 128)?;
@@ -96,6 +105,7 @@ fn batch_of_visits(alloc: Global) -> Result<[u32; 2], Error> {
 #[test]
 fn sketches_are_as_the_docs_say(rt: HostRuntime) -> Result<(), Fail> {
     assert!(rt; visits(rt.alloc())? == (true, false));
+    assert!(rt; known_visitors(rt.alloc())? == [true, false, false, false]);
     assert!(rt; counts_come_back(rt.alloc())? == (9, true));
     assert!(rt; apples_of_both_days(rt.alloc())? == (10, 10));
     assert!(rt; batch_of_visits(rt.alloc())? == [2, 1]);
@@ -141,6 +151,8 @@ fn frequent_items_are_as_the_docs_say(rt: HostRuntime) -> Result<(), Fail> {
 fn calls_answer_as_the_readme_of_each_crate_says(rt: HostRuntime) -> Result<(), Fail> {
     assert!(rt; apples_of_both_shops(rt.alloc())? == (42, 42));
     assert!(rt; still_refused(rt.alloc())? == (true, false));
+    let kept = orders_to_join(rt.alloc(), &[7, 9], &[1, 7, 9, 7, 2])?;
+    assert!(rt; kept.as_slice() == [7u64, 9, 7].as_slice());
     assert!(rt; apples_in_store(rt.alloc())? == 70);
     assert!(rt; weight_of_the_first(rt.alloc())? == 5);
     assert!(rt; has_seen_seven(rt.alloc())?);

@@ -9,3 +9,6 @@ pub mod SetAlgebra
 pub mod RoundTrips
 pub mod Spellings
 pub mod States
+pub mod Batches
+pub mod Inserting
+pub mod Pairs

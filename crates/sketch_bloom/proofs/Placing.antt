@@ -1,5 +1,5 @@
 -- The positions that two hashes give, one after another.
-use Rattle.std.proofs.Common.{◌≡◌, ◌≢◌, inl, inr, ℕ, zero, suc, ◌+◌, ◌*◌, ◌/◌, ◌%◌, ◌^◌, ◌<◌, ◌≤◌, ◌==◌, eqb-true, Bool, true, false, ◌&&◌, ◌||◌, map, refl, sym, ap, ◌∙◌, arith, List, length, get_or, set as put, bit_and, bit_or, cond, add-zero, subst}
+use Rattle.std.proofs.Common.{◌≡◌, ◌≢◌, inl, inr, ℕ, zero, suc, ◌+◌, ◌*◌, ◌/◌, ◌%◌, ◌^◌, ◌<◌, ◌≤◌, ◌==◌, eqb-true, Bool, true, false, ◌&&◌, ◌||◌, not, add_comm, mul_comm, map, refl, sym, ap, ◌∙◌, arith, List, length, get_or, set as put, bit_and, bit_or, cond, add-zero, subst}
 use mir.Val.{bool_byte}
 use Rattle.std.specs.Int.{bit_at}
 use Rattle.std.proofs.lemmas.Nat.Bits.{bit_at-lt, shr_and_one}
@@ -163,3 +163,59 @@ reads_set words p d =
     let low : bit_at (get_or words (p / 64) 0) (p % 64) < 2 = bit_at-lt (get_or words (p / 64) 0) (p % 64) in
     let one : bit_at (get_or words (p / 64) 0) (p % 64) ≡ 1 = omega arith in
     contains-set_of words p ∙ ap (λ n. n == 1) one
+
+-- the first position alone
+pub first_position : (capacity h0 h1 : ℕ) (s : Numbers) → set.is_subset (positions capacity 1 h0 h1) s ≡ set.contains s (position capacity h0 h1 1)
+first_position capacity h0 h1 s =
+    ap (λ t. set.is_subset t s) (positions-suc capacity 0 h0 h1)
+    ∙ is_subset-insert (positions capacity 0 h0 h1) s (position capacity h0 h1 1)
+    ∙ ap (λ t. set.is_subset t s && set.contains s (position capacity h0 h1 1)) (positions-zero capacity h0 h1)
+    ∙ ap (λ b. b && set.contains s (position capacity h0 h1 1)) (is_subset-empty s)
+
+-- the test of the bit at a number's place
+pub reads_test : (words : List ℕ) (p : ℕ) → not (bit_and (get_or words (p / 64) 0 / 2 ^ (p % 64)) 1 == 0) ≡ set.contains (set_of words) p
+reads_test words p =
+    let bit : ℕ = bit_and (get_or words (p / 64) 0 / 2 ^ (p % 64)) 1 in
+    elim (bit == 0) as (λ b. (bit == 0) ≡ b → not b ≡ set.contains (set_of words) p) [
+      | true ↦ λ e. sym (reads_unset words p (eqb-true bit 0 e))
+      | false ↦ λ e. sym (reads_set words p (λ z. grind (arith, nat_tests)))
+    ] refl
+
+-- a sum of hashes to begin with
+pub sum_from : (h0 h1 looked : ℕ) → (h0 + h1 * looked % 2 ^ 64) % 2 ^ 64 ≡ (h0 + looked * h1) % 2 ^ 64
+sum_from h0 h1 looked =
+    ap (λ n. n % 2 ^ 64) (add_comm h0 (h1 * looked % 2 ^ 64))
+    ∙ mod-add-mod (h1 * looked) (2 ^ 64) h0
+    ∙ ap (λ n. n % 2 ^ 64) (add_comm (h1 * looked) h0 ∙ ap (λ n. h0 + n) (mul_comm h1 looked))
+
+-- the first two positions
+pub first_two : (capacity h0 h1 : ℕ) (s : Numbers) → set.is_subset (positions capacity 2 h0 h1) s ≡ (set.contains s (position capacity h0 h1 1) && set.contains s (position capacity h0 h1 2))
+first_two capacity h0 h1 s =
+    ap (λ t. set.is_subset t s) (positions-suc capacity 1 h0 h1)
+    ∙ is_subset-insert (positions capacity 1 h0 h1) s (position capacity h0 h1 2)
+    ∙ ap (λ b. b && set.contains s (position capacity h0 h1 2)) (first_position capacity h0 h1 s)
+
+-- where not both are in the set, not all are
+pub missing_of_two : (capacity n h0 h1 : ℕ) (s : Numbers) → 1 < n → set.is_subset (positions capacity 2 h0 h1) s ≡ false → set.is_subset (positions capacity n h0 h1) s ≡ false
+missing_of_two capacity n h0 h1 s l none =
+    elim (set.contains s (position capacity h0 h1 1)) as (λ b. set.contains s (position capacity h0 h1 1) ≡ b → set.is_subset (positions capacity n h0 h1) s ≡ false) [
+      | false ↦ λ e. missing_position capacity n h0 h1 0 s (omega arith) e
+      | true ↦ λ e. missing_position capacity n h0 h1 1 s l (sym (ap (λ b. b && set.contains s (position capacity h0 h1 2)) e) ∙ (sym (first_two capacity h0 h1 s) ∙ none))
+    ] refl
+
+-- two bits by one test
+pub both_bits : (a b : ℕ) → a < 2 → b < 2 → not (bit_and a b == 0) ≡ (not (a == 0) && not (b == 0))
+both_bits zero zero _ _ = refl
+both_bits zero (suc zero) _ _ = refl
+both_bits zero (suc (suc b)) _ l = absurd (omega arith)
+both_bits (suc zero) zero _ _ = refl
+both_bits (suc zero) (suc zero) _ _ = refl
+both_bits (suc zero) (suc (suc b)) _ l = absurd (omega arith)
+both_bits (suc (suc a)) b l _ = absurd (omega arith)
+
+-- the bit at a number's place is below 2
+pub bit_below : (words : List ℕ) (p : ℕ) → bit_and (get_or words (p / 64) 0 / 2 ^ (p % 64)) 1 < 2
+bit_below words p =
+    let bit : bit_and (get_or words (p / 64) 0 / 2 ^ (p % 64)) 1 ≡ bit_at (get_or words (p / 64) 0) (p % 64) = shr_and_one (get_or words (p / 64) 0) (p % 64) in
+    let low : bit_at (get_or words (p / 64) 0) (p % 64) < 2 = bit_at-lt (get_or words (p / 64) 0) (p % 64) in
+    omega arith

@@ -1,5 +1,5 @@
 -- How a filter came about, and the set that this denotes.
-use Rattle.std.specs.Prelude.{ℕ, ◌*◌, List}
+use Rattle.std.specs.Prelude.{ℕ, ◌*◌, List, fold}
 use Rattle.std.specs.FinSet as set
 use Rattle.sketch_bloom.specs.BitSet.{Numbers}
 use Rattle.sketch_bloom.specs.Positions.{positions_of}
@@ -14,6 +14,10 @@ pub data BloomHistory : Type 0 where
   Difference : BloomHistory → BloomHistory → BloomHistory
   Reset : BloomHistory → BloomHistory
   Restored : BloomHistory → BloomHistory
+
+-- items inserted one after another
+abbrev pub all_inserted_after : BloomHistory → List (List ℕ) → BloomHistory
+all_inserted_after h items = fold Insert h items
 
 -- what the shape and the seed of the first filter make, which a combination has from the one that it changes
 abbrev pub of_first : (ℕ → ℕ → ℕ → ℕ) → BloomHistory → ℕ

@@ -2,6 +2,7 @@ pub mod BitSet
 pub mod Operations
 pub mod Fields
 pub mod Positions
+pub mod Pairs
 pub mod State
 pub mod History
 pub mod Stands

@@ -1,5 +1,5 @@
 -- A filter as callers see it: its shape, its seed and a set of positions.
-use Rattle.std.specs.Prelude.{◌≡◌, ℕ, ◌*◌, ◌<◌, ◌≤◌, ◌==◌, Bool, true, ◌&&◌, List, refl}
+use Rattle.std.specs.Prelude.{◌≡◌, ℕ, ◌*◌, ◌<◌, ◌≤◌, ◌==◌, Bool, true, ◌&&◌, List, fold, refl}
 use Rattle.std.specs.Coded.{Coded, code_by, coded×, coded_ℕ}
 use Rattle.std.specs.FinSet as set
 use Rattle.sketch_bloom.specs.BitSet.{Numbers, same_set}
@@ -59,6 +59,10 @@ same_filter a b =
 -- a filter with an item inserted
 abbrev pub inserted : FilterState → List ℕ → FilterState
 inserted s bytes = record s { set = set.union s.set (item_positions s bytes) }
+
+-- a filter with items inserted, one after another
+abbrev pub all_inserted : FilterState → List (List ℕ) → FilterState
+all_inserted s items = fold inserted s items
 
 -- a filter with nothing left in it
 abbrev pub cleared : FilterState → FilterState

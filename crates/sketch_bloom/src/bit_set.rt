@@ -2,12 +2,13 @@
 //!
 //! A number `p` stands in the words where bit `p % 64` of word `p / 64` is set. Two sets are combined eight words at a
 //! time, then four where so many are left, and the last three at most one by one.
-ghost use Rattle.std.specs.Prelude.{◌≡◌, ◌+◌, ◌*◌, ◌/◌, ◌%◌, ◌<◌, ◌≤◌, ◌==◌, ◌↔◌, IsTrue, length, take, drop, count_ones};
+ghost use Rattle.std.specs.Prelude.{◌≡◌, ◌+◌, ◌*◌, ◌/◌, ◌%◌, ◌<◌, ◌≤◌, ◌==◌, ◌↔◌, true, IsTrue, map, fold, length, take, drop, count_ones};
 ghost use Rattle.std.specs.List.{sum_by};
 ghost use Rattle.std.specs.FinSet as set;
 ghost use Rattle.sketch_bloom.specs.BitSet.{set_of};
 ghost use Rattle.sketch_bloom.specs.Operations.{on_sets};
-ghost use Rattle.sketch_bloom.specs.Positions.{positions};
+ghost use Rattle.sketch_bloom.specs.Positions.{position, positions};
+ghost use Rattle.sketch_bloom.specs.Pairs.{contains_pair, with_pair};
 
 use crate::limits::MAX_NUM_WORDS;
 use crate::set_operation::SetOperation;
@@ -35,9 +36,63 @@ pub fn contains_positions(
     requires { capacity ≡ 64 * length words.now }
     ensures { result ≡ set.is_subset (positions capacity num_hashes h0 h1) (set_of words.now) }
 {
-    let mut hash = h0;
+    contains_others(words, capacity, 0, num_hashes, h0, h1)
+}
+
+/// The same, for words of which many bits are set.
+///
+/// The first two positions are looked for at once, with one test: a processor foresees it more often than one for each,
+/// since a position of an item that was not inserted is then often in the set.
+#[inline(always)]
+pub fn contains_in_crowd(
+    words: &[u64],
+    capacity: Divisor,
+    num_hashes: u16,
+    h0: u64,
+    h1: u64,
+) -> bool
+    requires capacity { capacity ≡ 64 * length words.now }
+    requires some_hashes { 2 ≤ num_hashes }
+    ensures { result ≡ set.is_subset (positions capacity num_hashes h0 h1) (set_of words.now) }
+{
+    if !contains_first_two(words, capacity, h0, h1) {
+        return false;
+    }
+    contains_others(words, capacity, 2, num_hashes, h0, h1)
+}
+
+/// Whether the first two positions that two hashes give stand in the words.
+#[inline(always)]
+fn contains_first_two(words: &[u64], capacity: Divisor, h0: u64, h1: u64) -> bool
+    requires { capacity ≡ 64 * length words.now }
+    ensures { result ≡ set.is_subset (positions capacity 2 h0 h1) (set_of words.now) }
+{
+    let hash = h0.wrapping_add(h1);
+    let first = place_of(hash, capacity);
+    let second = place_of(hash.wrapping_add(h1), capacity);
+    let bit = words[(first / 64) as usize] >> (first % 64) & 1;
+    let other = words[(second / 64) as usize] >> (second % 64) & 1;
+    bit & other != 0
+}
+
+/// The same, where the first positions were looked for before. It stops at the first that does not.
+#[inline(always)]
+fn contains_others(
+    words: &[u64],
+    capacity: Divisor,
+    looked: u16,
+    num_hashes: u16,
+    h0: u64,
+    h1: u64,
+) -> bool
+    requires capacity { capacity ≡ 64 * length words.now }
+    requires few { looked ≤ num_hashes }
+    requires found { set.is_subset (positions capacity looked h0 h1) (set_of words.now) ≡ true }
+    ensures { result ≡ set.is_subset (positions capacity num_hashes h0 h1) (set_of words.now) }
+{
+    let mut hash = h0.wrapping_add(h1.wrapping_mul(looked as u64));
     // The label is there for the prover alone.
-    'looks: for _i in 0..num_hashes {
+    'looks: for _i in looked..num_hashes {
         hash = hash.wrapping_add(h1);
         let place = place_of(hash, capacity);
         let word = words[(place / 64) as usize];
@@ -46,6 +101,81 @@ pub fn contains_positions(
         }
     }
     true
+}
+
+/// Whether the first position that two hashes give stands in the words.
+#[inline(always)]
+fn contains_first(words: &[u64], capacity: Divisor, h0: u64, h1: u64) -> bool
+    requires { capacity ≡ 64 * length words.now }
+    ensures { result ≡ set.contains (set_of words.now) (position capacity h0 h1 1) }
+{
+    let place = place_of(h0.wrapping_add(h1), capacity);
+    words[(place / 64) as usize] >> (place % 64) & 1 != 0
+}
+
+/// Whether all positions that two hashes give stand in the words, where it is known whether the first does.
+#[inline(always)]
+fn contains_behind(
+    words: &[u64],
+    capacity: Divisor,
+    num_hashes: u16,
+    h0: u64,
+    h1: u64,
+    found: bool,
+) -> bool
+    requires capacity { capacity ≡ 64 * length words.now }
+    requires some_hashes { 1 ≤ num_hashes }
+    requires found { found ≡ set.contains (set_of words.now) (position capacity h0 h1 1) }
+    ensures { result ≡ set.is_subset (positions capacity num_hashes h0 h1) (set_of words.now) }
+{
+    found && contains_others(words, capacity, 1, num_hashes, h0, h1)
+}
+
+/// Writes down for each pair of hashes whether all positions that they give stand in the words.
+///
+/// The first positions of all are looked for before any other, so that the processor waits for their words at once.
+#[inline(always)]
+pub fn contains_pairs(
+    words: &[u64],
+    capacity: Divisor,
+    num_hashes: u16,
+    pairs: &[(u64, u64)],
+    answers: &mut [bool],
+)
+    requires capacity { capacity ≡ 64 * length words.now }
+    requires some_hashes { 1 ≤ num_hashes }
+    requires same { length answers.old ≡ length pairs.now }
+    ensures { answers.new ≡ map (contains_pair capacity num_hashes (set_of words.now)) pairs.now }
+{
+    // The labels are there for the prover alone.
+    'firsts: for i in 0..pairs.len() {
+        answers[i] = contains_first(words, capacity, pairs[i].0, pairs[i].1);
+    }
+    'others: for i in 0..pairs.len() {
+        let found = answers[i];
+        answers[i] = contains_behind(words, capacity, num_hashes, pairs[i].0, pairs[i].1, found);
+    }
+}
+
+/// Inserts all positions that pairs of hashes give, and answers how many of them are new.
+#[inline(always)]
+pub fn insert_pairs(
+    words: &mut [u64],
+    capacity: Divisor,
+    num_hashes: u16,
+    pairs: &[(u64, u64)],
+) -> u64
+    requires capacity { capacity ≡ 64 * length words.old }
+    requires few { length words.old ≤ MAX_NUM_WORDS }
+    ensures union { set_of words.new ≡ fold (with_pair capacity num_hashes) (set_of words.old) pairs.now }
+    ensures added { set.len (set_of words.new) ≡ set.len (set_of words.old) + result }
+{
+    let mut added = 0;
+    // The label is there for the prover alone.
+    'pairs: for i in 0..pairs.len() {
+        added += insert_positions(words, capacity, num_hashes, pairs[i].0, pairs[i].1);
+    }
+    added
 }
 
 /// Inserts all positions that two hashes give, and answers how many of them are new.

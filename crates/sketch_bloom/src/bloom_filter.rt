@@ -1,18 +1,18 @@
 //! The filter.
-ghost use Rattle.std.specs.Prelude.{◌≡◌, ℕ, ◌*◌, ◌≤◌, ◌↔◌, IfOk, IfErr, IsOk, IsTrue, OnOk, OnErr};
+ghost use Rattle.std.specs.Prelude.{◌≡◌, ℕ, ◌*◌, ◌≤◌, ◌↔◌, map, length, IfOk, IfErr, IsOk, IsTrue, OnOk, OnErr};
 ghost use Rattle.std.specs.FinSet as set;
 ghost use Rattle.sketch_base.specs.Checks.{IsImageRefusal};
 ghost use Rattle.sketch_base.specs.Errors.{invalid_argument, no_memory};
 ghost use Rattle.sketch_base.specs.Hashes.{fed_bytes};
-ghost use Rattle.sketch_base.specs.Xxh64.{xxh64};
-ghost use Rattle.sketch_bloom.specs.History.{BloomHistory};
+ghost use Rattle.sketch_bloom.specs.History.{BloomHistory, all_inserted_after};
 ghost use Rattle.sketch_bloom.specs.History.BloomHistory.{Insert, Union, Intersection, Difference, Reset};
 ghost use Rattle.sketch_bloom.specs.Image.{IsImage, IsSpelled, Restores, early_fault, first_fault, early_fault_within, first_fault_within};
 ghost use Rattle.sketch_bloom.specs.Operations.{on_sets};
 ghost use Rattle.sketch_bloom.specs.Stands.{Extends, ExtendsBoth};
-ghost use Rattle.sketch_bloom.specs.State.{IsFilterState, IsCompatible, capacity_of, empty_state, contains_item, inserted, cleared, united, intersected, subtracted};
+ghost use Rattle.sketch_bloom.specs.State.{IsFilterState, IsCompatible, capacity_of, empty_state, contains_item, inserted, all_inserted, cleared, united, intersected, subtracted};
 
 use crate::bit_set;
+use crate::hashes::{contains_items, hashes_of, insert_items};
 use crate::image::{
     EMPTY_FLAG_MASK, PREAMBLE_LONGS_EMPTY, PREAMBLE_LONGS_NONEMPTY, UNCOUNTED, begin_image,
     read_preamble, read_words, write_words,
@@ -20,7 +20,7 @@ use crate::image::{
 use crate::limits::{MAX_NUM_HASHES, MAX_NUM_WORDS};
 use crate::set_operation::SetOperation;
 use sketch_base::image::u64_at;
-use sketch_base::{Divisor, Error, Fault, xxh64_of};
+use sketch_base::{Divisor, Error, Fault};
 use std::alloc::{AllocError, Global};
 use std::fmt;
 use std::hash::Hash;
@@ -113,6 +113,9 @@ impl BloomFilter {
         ensures { result ≡ contains_item self.now (fed_bytes T.hash_input item.now) }
     {
         let (h0, h1) = hashes_of(item, self.seed);
+        if self.num_hashes >= 2 && self.bits_used >= self.capacity.divisor() / 8 {
+            return bit_set::contains_in_crowd(&self.words, self.capacity, self.num_hashes, h0, h1);
+        }
         bit_set::contains_positions(&self.words, self.capacity, self.num_hashes, h0, h1)
     }
 
@@ -154,6 +157,56 @@ impl BloomFilter {
         ensures stands { Extends self.old self.new (λ h. Insert h (fed_bytes T.hash_input item)) }
     {
         self.contains_and_insert(&item);
+    }
+
+    /// Inserts the positions of all items, as [`insert`](Self::insert) does one after another. It takes no memory.
+    ///
+    /// It is faster than a call an item, since the hashes of the next items are under way while the words of this one
+    /// are waited for.
+    pub fn insert_all<T: Hash>(&mut self, items: &[T])
+        ensures insertions { self.new ≡ all_inserted self.old (map (fed_bytes T.hash_input) items.now) }
+        ensures state { IsFilterState self.new }
+        ensures stands { Extends self.old self.new (λ h. all_inserted_after h (map (fed_bytes T.hash_input) items.now)) }
+    {
+        let added = insert_items(
+            &mut self.words,
+            self.capacity,
+            self.num_hashes,
+            self.seed,
+            items,
+        );
+        self.bits_used += added;
+    }
+
+    /// Writes down for each item whether all its positions are in the set, as [`contains`](Self::contains) answers. It
+    /// takes no memory, and there are as many answers as items.
+    ///
+    /// It is faster than a call an item, since the hashes of the next items are under way while the words of this one
+    /// are waited for.
+    ///
+    /// # Examples
+    ///
+    /// ```
+    /// use sketch_bloom::BloomFilter;
+    ///
+    /// fn known_of_four(seen: &BloomFilter, visitors: &[u64; 4]) -> [bool; 4] {
+    ///     let mut known = [false; 4];
+    ///     seen.contains_all(visitors, &mut known);
+    ///     known
+    /// }
+    /// ```
+    pub fn contains_all<T: Hash>(&self, items: &[T], answers: &mut [bool])
+        requires { length answers.old ≡ length items.now }
+        ensures { answers.new ≡ map (λ item. contains_item self.now (fed_bytes T.hash_input item)) items.now }
+    {
+        contains_items(
+            &self.words,
+            self.capacity,
+            self.num_hashes,
+            self.seed,
+            items,
+            answers,
+        );
     }
 
     /// Takes all positions out of the set. Shape and seed stay, and so does the memory.
@@ -433,16 +486,6 @@ impl Clone for BloomFilter {
             bits_used: self.bits_used,
         })
     }
-}
-
-/// The two hashes of an item: under the seed, and under the first.
-#[inline(always)]
-fn hashes_of<T: Hash>(item: &T, seed: u64) -> (u64, u64)
-    ensures first { result.0 ≡ xxh64 (fed_bytes T.hash_input item.now) seed }
-    ensures second { result.1 ≡ xxh64 (fed_bytes T.hash_input item.now) result.0 }
-{
-    let h0 = xxh64_of(item, seed);
-    (h0, xxh64_of(item, h0))
 }
 
 /// Filters are equal where they have one number of words, one number of hashes, one seed and one set.

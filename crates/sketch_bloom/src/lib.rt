@@ -8,6 +8,7 @@
 mod bit_set;
 mod bloom_filter;
 mod bloom_filter_builder;
+mod hashes;
 mod image;
 pub mod laws;
 mod limits;

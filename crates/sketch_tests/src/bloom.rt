@@ -125,6 +125,28 @@ fn contained(filter: &BloomFilter, from: u32, to: u32) -> (u64, u64) {
     (count, sum)
 }
 
+/// How many positions a filter of 959 bits has of the numbers below 100, inserted at once.
+fn inserted_at_once(alloc: Global) -> Result<u64, Error> {
+    let mut items = Vec::new(alloc);
+    for item in 0..100u64 {
+        items.push(item)?;
+    }
+    let mut filter = filled(alloc, 959, 7, 0, 0)?;
+    filter.insert_all(&items);
+    Ok(filter.bits_used())
+}
+
+// The numbers are those of `has_the_known_positions`.
+#[test]
+fn takes_many_items_at_once(rt: HostRuntime) -> Result<(), Fail> {
+    assert!(rt; inserted_at_once(rt.alloc())? == 499);
+    let one = filled(rt.alloc(), 64, 1, 0, 4)?;
+    let mut answers = [false; 4];
+    one.contains_all(&[4u64, 5, 11, 12], &mut answers);
+    assert!(rt; answers == [true, false, true, false]);
+    Ok(())
+}
+
 // The numbers are those of a program in another language, written from the public description of XXH64.
 #[test]
 fn has_the_known_positions(rt: HostRuntime) -> Result<(), Fail> {

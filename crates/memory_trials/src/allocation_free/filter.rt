@@ -49,6 +49,8 @@ pub fn changes(trial: &mut Trial) -> Result<(), SetupFailed> {
     combine_counted(trial, &mut filter, &mut other);
     counted!(trial, filter.reset());
     write_filter(trial, &filter);
+    counted!(trial, filter.insert_all(&[3u64, 5]));
+    write_filter(trial, &filter);
     Ok(())
 }
 
@@ -84,6 +86,9 @@ fn write_answers(trial: &mut Trial, filter: &BloomFilter) {
         ]
     );
     write_values(trial, "contains", &contains);
+    let mut answers = [false; 2];
+    counted!(trial, filter.contains_all(&[6u64, 5], &mut answers));
+    write_values(trial, "contains_all", &answers);
 }
 
 /// The questions to two filters.

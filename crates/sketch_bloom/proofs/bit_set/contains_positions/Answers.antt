@@ -1,31 +1,10 @@
-use Rattle.std.proofs.Common.{◌≡◌, ◌+◌, ◌*◌, ◌%◌, ◌^◌, sym, ap, ◌∙◌, arith}
+use Rattle.std.proofs.Common.{ap, ◌∙◌}
 use Rattle.std.specs.FinSet as set
-use Rattle.std.proofs.Math.Nat.{mod-eq_of_lt}
 use Rattle.sketch_bloom.specs.BitSet.{set_of}
-use Rattle.sketch_bloom.specs.Positions.{position, positions}
-use Rattle.std.proofs.lemmas.Bool.{and_from}
-use Rattle.sketch_bloom.proofs.Sets.{is_subset-empty, is_subset-insert}
-use Rattle.sketch_bloom.proofs.Placing.{positions-zero, positions-suc, missing_position, running_sum, reads_set, reads_unset, place_is}
+use Rattle.sketch_bloom.proofs.Sets.{is_subset-empty}
+use Rattle.sketch_bloom.proofs.Placing.{positions-zero}
 use Rattle.sketch_bloom.proofs.bit_set.contains_positions.Goals as goal
 
-pub looks-init : goal.looks-init
-looks-init c =
-    let none : c.args.h0 + 0 * c.args.h1 ≡ c.args.h0 = omega arith in (
-      sym (ap (λ n. n % 2 ^ 64) none ∙ mod-eq_of_lt c.ranges.h0.fits),
-      ap (λ s. set.is_subset s (set_of c.args.words.now)) (positions-zero c.args.capacity c.args.h0 c.args.h1) ∙ is_subset-empty (set_of c.args.words.now),
-    )
-
-pub returns-then-word-place-eq0 : goal.returns-then-word-place-eq0
-returns-then-word-place-eq0 c =
-    let place : c.place_of-place.result ≡ position c.args.capacity c.args.h0 c.args.h1 (c.looks._i + 1) = place_is c.args.capacity c.args.h0 c.args.h1 c.looks._i c.looks.hash c.place_of-place.result c.looks.invariant.0 c.place_of-place.ensures.value in
-    sym (missing_position c.args.capacity c.args.num_hashes c.args.h0 c.args.h1 c.looks._i (set_of c.args.words.now) c.looks-test.true
-    (ap (set.contains (set_of c.args.words.now)) (sym place) ∙ reads_unset c.args.words.now c.place_of-place.result c.if-word-place-eq0.true))
-
-pub looks-preserved : goal.looks-preserved
-looks-preserved c =
-    let place : c.place_of-place.result ≡ position c.args.capacity c.args.h0 c.args.h1 (c.looks._i + 1) = place_is c.args.capacity c.args.h0 c.args.h1 c.looks._i c.looks.hash c.place_of-place.result c.looks.invariant.0 c.place_of-place.ensures.value in (
-      running_sum c.args.h0 c.args.h1 c.looks._i c.looks.hash c.looks.invariant.0,
-      ap (λ s. set.is_subset s (set_of c.args.words.now)) (positions-suc c.args.capacity c.looks._i c.args.h0 c.args.h1)
-          ∙ (is_subset-insert (positions c.args.capacity c.looks._i c.args.h0 c.args.h1) (set_of c.args.words.now) (position c.args.capacity c.args.h0 c.args.h1 (c.looks._i + 1))
-          ∙ and_from _ _ c.looks.invariant.1 (ap (set.contains (set_of c.args.words.now)) (sym place) ∙ reads_set c.args.words.now c.place_of-place.result c.if-word-place-eq0.false)),
-    )
+pub contains_others-requires-clause-found : goal.contains_others-requires-clause-found
+contains_others-requires-clause-found c =
+    ap (λ s. set.is_subset s (set_of c.args.words.now)) (positions-zero c.args.capacity c.args.h0 c.args.h1) ∙ is_subset-empty (set_of c.args.words.now)

@@ -1,0 +1,53 @@
+-- Many items inserted: the state, and the history that it stands for.
+use Rattle.std.proofs.Common.{◌≡◌, ℕ, ◌*◌, [], ◌∷◌, List, length, map, refl, sym, ap, ◌∙◌}
+use Rattle.std.specs.List.{fold}
+use Rattle.std.specs.Global.{Vec}
+use Rattle.std.specs.Vec.{with_items}
+use Rattle.std.proofs.lemmas.List.{with_items_is}
+use Rattle.std.specs.FinSet as set
+use Rattle.sketch_bloom.specs.BitSet.{set_of}
+use Rattle.sketch_bloom.specs.History.{BloomHistory, all_inserted_after}
+use Rattle.sketch_bloom.specs.History.BloomHistory.{Insert}
+use Rattle.sketch_bloom.specs.Pairs.{pair_of, contains_pair, with_pair}
+use Rattle.sketch_bloom.specs.Positions.{positions_of}
+use Rattle.sketch_bloom.specs.Stands.{StandsFor}
+use Rattle.sketch_bloom.specs.State.{FilterState, capacity_of, contains_item, inserted, all_inserted}
+use Rattle.sketch_bloom.proofs.States.{state_of}
+
+-- the set after many insertions, by the pairs of hashes
+pub all_inserted_is : {A : Type 0} (fed : A → List ℕ) (s : FilterState) (items : List A)
+    → all_inserted s (map fed items) ≡ record s { set = fold (with_pair (capacity_of s) s.num_hashes) s.set (map (λ item. pair_of s.seed (fed item)) items) }
+all_inserted_is fed s [] = refl
+all_inserted_is fed s (x ∷ xs) = all_inserted_is fed (inserted s (fed x)) xs
+
+-- the state of a filter whose words were written over so
+pub inserted_state : {A : Type 0} (fed : A → List ℕ) (v : Vec ℕ) (new : List ℕ) (capacity num_hashes seed : ℕ) (items : List A)
+    → length new ≡ length v.items → capacity ≡ 64 * length v.items
+    → set_of new ≡ fold (with_pair capacity num_hashes) (set_of v.items) (map (λ item. pair_of seed (fed item)) items)
+    → state_of (with_items v new).items num_hashes seed ≡ all_inserted (state_of v.items num_hashes seed) (map fed items)
+inserted_state fed v new capacity num_hashes seed items len cap union =
+    let is : (with_items v new).items ≡ new = with_items_is v new (len ∙ sym v.ok.0) in
+    let sets = union ∙ ap (λ c. fold (with_pair c num_hashes) (set_of v.items) (map (λ item. pair_of seed (fed item)) items)) cap in
+    ap (λ (ws : List ℕ). state_of ws num_hashes seed) is
+    ∙ (λ i. record { num_words = len i; num_hashes = num_hashes; seed = seed; set = sets i })
+    ∙ sym (all_inserted_is fed (state_of v.items num_hashes seed) items)
+
+-- what stood for a history stands for it with an item inserted
+inserted_stands : (s : FilterState) (h : BloomHistory) (bytes : List ℕ) → StandsFor s h → StandsFor (inserted s bytes) (Insert h bytes)
+inserted_stands s h bytes e = record {
+  num_words = e.num_words;
+  num_hashes = e.num_hashes;
+  seed = e.seed;
+  set = λ i. set.union (e.set i) (positions_of (64 * e.num_words i) (e.num_hashes i) (e.seed i) bytes);
+}
+
+-- and with many
+pub all_inserted_stands : (s : FilterState) (h : BloomHistory) (items : List (List ℕ)) → StandsFor s h → StandsFor (all_inserted s items) (all_inserted_after h items)
+all_inserted_stands s h [] e = e
+all_inserted_stands s h (x ∷ xs) e = all_inserted_stands (inserted s x) (Insert h x) xs (inserted_stands s h x e)
+
+-- what the words of a filter answer is what its state does
+pub contains_state : {A : Type 0} (fed : A → List ℕ) (words : List ℕ) (capacity num_hashes seed : ℕ) (items : List A) → capacity ≡ 64 * length words
+    → map (λ item. contains_pair capacity num_hashes (set_of words) (pair_of seed (fed item))) items ≡ map (λ item. contains_item (state_of words num_hashes seed) (fed item)) items
+contains_state fed words capacity num_hashes seed items cap =
+    ap (λ c. map (λ item. contains_pair c num_hashes (set_of words) (pair_of seed (fed item))) items) cap

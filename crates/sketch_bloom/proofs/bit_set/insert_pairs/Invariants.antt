@@ -1,0 +1,13 @@
+use Rattle.std.proofs.Common.{◌≡◌, ◌+◌, take}
+use Rattle.std.specs.List.{fold}
+use Rattle.std.specs.FinSet as set
+use Rattle.sketch_bloom.specs.BitSet.{set_of}
+use Rattle.sketch_bloom.specs.Pairs.{with_pair}
+use Rattle.sketch_bloom.proofs.bit_set.insert_pairs.Given as goal
+
+-- the pairs so far are inserted
+abbrev pub invariant-pairs : goal.invariant-pairs
+invariant-pairs l = record {
+  union : set_of l.words ≡ fold (with_pair l.capacity l.num_hashes) (set_of l.fn.words) (take l.i l.pairs);
+  added : set.len (set_of l.words) ≡ set.len (set_of l.fn.words) + l.added;
+}

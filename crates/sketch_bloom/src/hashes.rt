@@ -1,0 +1,97 @@
+//! The two hashes of an item, and those of many items before the first is looked for or inserted.
+//!
+//! The hashes of an item do not depend on those of another, so a processor works on several at once, and then waits for
+//! the words of several at once.
+ghost use Rattle.std.specs.Prelude.{◌≡◌, ◌+◌, ◌*◌, ◌≤◌, map, fold, length};
+ghost use Rattle.std.specs.FinSet as set;
+ghost use Rattle.sketch_base.specs.Hashes.{fed_bytes};
+ghost use Rattle.sketch_base.specs.Xxh64.{xxh64};
+ghost use Rattle.sketch_bloom.specs.BitSet.{set_of};
+ghost use Rattle.sketch_bloom.specs.Pairs.{pair_of, contains_pair, with_pair};
+
+use crate::bit_set;
+use crate::limits::MAX_NUM_WORDS;
+use sketch_base::{Divisor, xxh64_of};
+use std::hash::Hash;
+
+/// How many items are hashed before the first of them is looked for or inserted.
+const BLOCK: usize = 16;
+
+/// The two hashes of an item: under the seed, and under the first.
+#[inline(always)]
+pub fn hashes_of<T: Hash>(item: &T, seed: u64) -> (u64, u64)
+    ensures first { result.0 ≡ xxh64 (fed_bytes T.hash_input item.now) seed }
+    ensures second { result.1 ≡ xxh64 (fed_bytes T.hash_input item.now) result.0 }
+{
+    let h0 = xxh64_of(item, seed);
+    (h0, xxh64_of(item, h0))
+}
+
+/// Writes down the hashes of each item.
+#[inline(always)]
+fn hash_block<T: Hash>(items: &[T], seed: u64, pairs: &mut [(u64, u64)])
+    requires { length pairs.old ≡ length items.now }
+    ensures { pairs.new ≡ map (λ item. pair_of seed (fed_bytes T.hash_input item)) items.now }
+{
+    // The label is there for the prover alone.
+    'hashes: for i in 0..items.len() {
+        pairs[i] = hashes_of(&items[i], seed);
+    }
+}
+
+/// Inserts the positions of all items, and answers how many of them are new.
+#[inline(always)]
+pub fn insert_items<T: Hash>(
+    words: &mut [u64],
+    capacity: Divisor,
+    num_hashes: u16,
+    seed: u64,
+    items: &[T],
+) -> u64
+    requires capacity { capacity ≡ 64 * length words.old }
+    requires few { length words.old ≤ MAX_NUM_WORDS }
+    ensures union { set_of words.new
+        ≡ fold (with_pair capacity num_hashes) (set_of words.old) (map (λ item. pair_of seed (fed_bytes T.hash_input item)) items.now) }
+    ensures added { set.len (set_of words.new) ≡ set.len (set_of words.old) + result }
+{
+    let mut added = 0;
+    let blocks = items.len().div_ceil(BLOCK);
+    let mut pairs = [(0, 0); BLOCK];
+    // The label is there for the prover alone.
+    'each: for b in 0..blocks {
+        let from = BLOCK * b;
+        let to = from + BLOCK.min(items.len() - from);
+        let block = &mut pairs[..to - from];
+        hash_block(&items[from..to], seed, block);
+        added += bit_set::insert_pairs(words, capacity, num_hashes, block);
+    }
+    added
+}
+
+/// Writes down for each item whether all its positions stand in the words.
+#[inline(always)]
+pub fn contains_items<T: Hash>(
+    words: &[u64],
+    capacity: Divisor,
+    num_hashes: u16,
+    seed: u64,
+    items: &[T],
+    answers: &mut [bool],
+)
+    requires capacity { capacity ≡ 64 * length words.now }
+    requires some_hashes { 1 ≤ num_hashes }
+    requires same { length answers.old ≡ length items.now }
+    ensures { answers.new
+        ≡ map (λ item. contains_pair capacity num_hashes (set_of words.now) (pair_of seed (fed_bytes T.hash_input item))) items.now }
+{
+    let blocks = items.len().div_ceil(BLOCK);
+    let mut pairs = [(0, 0); BLOCK];
+    // The label is there for the prover alone.
+    'each: for b in 0..blocks {
+        let from = BLOCK * b;
+        let to = from + BLOCK.min(items.len() - from);
+        let block = &mut pairs[..to - from];
+        hash_block(&items[from..to], seed, block);
+        bit_set::contains_pairs(words, capacity, num_hashes, block, &mut answers[from..to]);
+    }
+}
