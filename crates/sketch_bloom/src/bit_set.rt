@@ -39,42 +39,6 @@ pub fn contains_positions(
     contains_others(words, capacity, 0, num_hashes, h0, h1)
 }
 
-/// The same, for words of which many bits are set.
-///
-/// The first two positions are looked for at once, with one test: a processor foresees it more often than one for each,
-/// since a position of an item that was not inserted is then often in the set.
-#[inline(always)]
-pub fn contains_in_crowd(
-    words: &[u64],
-    capacity: Divisor,
-    num_hashes: u16,
-    h0: u64,
-    h1: u64,
-) -> bool
-    requires capacity { capacity ≡ 64 * length words.now }
-    requires some_hashes { 2 ≤ num_hashes }
-    ensures { result ≡ set.is_subset (positions capacity num_hashes h0 h1) (set_of words.now) }
-{
-    if !contains_first_two(words, capacity, h0, h1) {
-        return false;
-    }
-    contains_others(words, capacity, 2, num_hashes, h0, h1)
-}
-
-/// Whether the first two positions that two hashes give stand in the words.
-#[inline(always)]
-fn contains_first_two(words: &[u64], capacity: Divisor, h0: u64, h1: u64) -> bool
-    requires { capacity ≡ 64 * length words.now }
-    ensures { result ≡ set.is_subset (positions capacity 2 h0 h1) (set_of words.now) }
-{
-    let hash = h0.wrapping_add(h1);
-    let first = place_of(hash, capacity);
-    let second = place_of(hash.wrapping_add(h1), capacity);
-    let bit = words[(first / 64) as usize] >> (first % 64) & 1;
-    let other = words[(second / 64) as usize] >> (second % 64) & 1;
-    bit & other != 0
-}
-
 /// The same, where the first positions were looked for before. It stops at the first that does not.
 #[inline(always)]
 fn contains_others(

@@ -113,9 +113,6 @@ impl BloomFilter {
         ensures { result ≡ contains_item self.now (fed_bytes T.hash_input item.now) }
     {
         let (h0, h1) = hashes_of(item, self.seed);
-        if self.num_hashes >= 2 && self.bits_used >= self.capacity.divisor() / 8 {
-            return bit_set::contains_in_crowd(&self.words, self.capacity, self.num_hashes, h0, h1);
-        }
         bit_set::contains_positions(&self.words, self.capacity, self.num_hashes, h0, h1)
     }
 
