@@ -114,6 +114,11 @@ pub fn rows(t: &Table) {
         row!(t, &name("reset and insert"), turns, count; rattle_filter_fill, fill; shape, items, []);
         row!(t, &name("contains, present"), turns, count; rattle_filter_contains, contains; shape, items, items);
         row!(t, &name("contains, absent"), turns, count; rattle_filter_contains, contains; shape, items, absent);
+        row!(t, &name("insert_all"), turns, count; rattle_filter_insert_all, insert; shape, items, []);
+        row!(t, &name("contains_all, present"), turns, count; rattle_filter_contains_all, contains;
+            shape, items, items);
+        row!(t, &name("contains_all, absent"), turns, count; rattle_filter_contains_all, contains;
+            shape, items, absent);
         row!(t, &name("contains and insert"), turns, count; rattle_filter_contains_and_insert, contains_and_insert;
             shape, items, []);
     }
