@@ -110,5 +110,5 @@ counts_all_here greatest row_seeds d seed t t' old new items i h total = record 
       read_rows (length row_seeds) d new r b lr lb ∙ (h.done r lr b lb
       ∙ (ap (λ (z : ℤ). z +ℤ pos (count_by (λ bytes. bucket_by d (slice_index row_seeds r) bytes == b) items)) (sym (read_rows (length row_seeds) d old r b lr lb))
       ∙ ap (λ (n : ℕ). cell_at (rows_of (length row_seeds) d old) r b +ℤ pos n)
-        (count_same (bucket_by d (slice_index row_seeds r)) (bucket_of d seed r) b items (λ bytes. row_bucket row_seeds d seed r bytes (i.seeds r lr)))));
+      (count_same (bucket_by d (slice_index row_seeds r)) (bucket_of d seed r) b items (λ bytes. row_bucket row_seeds d seed r bytes (i.seeds r lr)))));
 }

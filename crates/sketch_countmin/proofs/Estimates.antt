@@ -1,5 +1,5 @@
 -- The least cell of an item, and the bound above it.
-use Rattle.std.proofs.Common.{◌≡◌, ◌≢◌, ℕ, ◌+◌, ◌<◌, List, length, map, get_or, set, ℤ, pos, sym, ap, ◌∙◌, subst, arith, get_or-set_other, get_or-set_same, below_more}
+use Rattle.std.proofs.Common.{◌≡◌, ◌≢◌, ℕ, ◌+◌, ◌<◌, ◌≤◌, List, length, map, get_or, set, ℤ, pos, sym, ap, ◌∙◌, subst, arith, get_or-set_other, get_or-set_same, below_more}
 use Rattle.std.proofs.lemmas.List.{map-set, length-map}
 use Rattle.std.specs.Prelude.{slice_index, ◌≤ℤ◌}
 use Rattle.std.specs.Int.{int_min}
@@ -65,3 +65,9 @@ pub estimates_more : {T : Type 0} (num : T → ℤ) (P : ℕ → ℤ → Type 0)
 estimates_more num P xs n v fits before here = below_more (λ (i : ℕ). P i (get_or (map num (set xs n v)) i (pos 0))) n
     (λ i lt. let ne : i ≢ n = omega arith in subst (P i) (sym (ap (λ (zs : List ℤ). get_or zs i (pos 0)) (map-set num xs n v) ∙ get_or-set_other (map num xs) n i (num v) (pos 0) ne)) (before i lt))
     (subst (P n) (sym (ap (λ (zs : List ℤ). get_or zs n (pos 0)) (map-set num xs n v) ∙ get_or-set_same (map num xs) n (num v) (pos 0) (omega (arith, length-map xs num)))) here)
+
+-- and those behind it stay
+pub behind_stay : {T : Type 0} (num : T → ℤ) (xs : List T) (n : ℕ) (v : T) (j : ℕ) → n + 1 ≤ j → get_or (map num (set xs n v)) j (pos 0) ≡ get_or (map num xs) j (pos 0)
+behind_stay num xs n v j le =
+    let ne : j ≢ n = omega arith in
+    ap (λ (zs : List ℤ). get_or zs j (pos 0)) (map-set num xs n v) ∙ get_or-set_other (map num xs) n j (num v) (pos 0) ne

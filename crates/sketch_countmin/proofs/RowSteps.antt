@@ -10,7 +10,7 @@ use Rattle.std.specs.Prelude.{◌≤ℤ◌, ◌<ℤ◌}
 use Rattle.std.proofs.lemmas.Int.{ints}
 use Rattle.std.proofs.lemmas.Nat.{mul-le}
 use Rattle.std.proofs.lemmas.Bool.{eqb-true, eqb-false}
-use Rattle.sketch_countmin.specs.Cells.{flat_at, RowsAdded, IsLeastOf}
+use Rattle.sketch_countmin.specs.Cells.{flat_at, RowsAdded, IsLeastOf, IsLesser}
 use Rattle.sketch_countmin.specs.Buckets.{row_seed, bucket_by}
 
 -- where an item is counted in a row, by its hash under the row's seed
@@ -77,15 +77,18 @@ rows_added_here d w bucket n old mid new h k in_row place fits e =
 -- ---- the least cell
 
 -- what the lesser of two values is
-record IsLesser (x y z : ℤ) : Type 0 where
-  first : z ≤ℤ x
-  second : z ≤ℤ y
-  either : (z ≡ x) ⊎ (z ≡ y)
-
-lesser : {T : Type 0} (num : T → ℤ) (a b : T) (o : Ordering) → MatchOrdering o (num b <ℤ num a) (num b ≡ num a) (num a <ℤ num b) → IsLesser (num a) (num b) (num (cond (is_lt o) b a))
+pub lesser : {T : Type 0} (num : T → ℤ) (a b : T) (o : Ordering) → MatchOrdering o (num b <ℤ num a) (num b ≡ num a) (num a <ℤ num b) → IsLesser (num a) (num b) (num (cond (is_lt o) b a))
 lesser num a b Less h = record { first = omega (arith, ints); second = omega (arith, ints); either = inr refl }
 lesser num a b Equal h = record { first = omega (arith, ints); second = omega (arith, ints); either = inl refl }
 lesser num a b Greater h = record { first = omega (arith, ints); second = omega (arith, ints); either = inl refl }
+
+-- the lesser of a value and of the cell at a place
+pub lesser_here : {T : Type 0} (num : T → ℤ) (cmp : T → T → Ordering) (a b c : T) (x y : ℤ)
+    → ((x y : T) → MatchOrdering (cmp x y) (num x <ℤ num y) (num x ≡ num y) (num y <ℤ num x)) → num a ≡ x → num b ≡ y → c ≡ cond (is_lt (cmp b a)) b a → IsLesser x y (num c)
+lesser_here num cmp a b c x y ordered ex ey chosen =
+    subst (λ (x : ℤ). IsLesser x y (num c)) ex
+    (subst (λ (y : ℤ). IsLesser (num a) y (num c)) ey
+    (subst (λ (c : _). IsLesser (num a) (num b) (num c)) (sym chosen) (lesser num a b (cmp b a) (ordered b a))))
 
 pub least_first : {T : Type 0} (num : T → ℤ) (d : ℕ) (bucket : ℕ → ℕ) (xs : List T) (k : ℕ) (x : T) → k ≡ bucket 0 → k < length xs → x ≡ get_or xs k x
     → IsLeastOf d (map num xs) bucket 1 (num x)
@@ -96,6 +99,13 @@ least_first num d bucket xs k x place fits e =
       reached = (0, omega arith, sym here);
     }
 
+-- with the cell of one row more
+pub least_lesser : (d : ℕ) (cells : List ℤ) (bucket : ℕ → ℕ) (n : ℕ) (x z : ℤ) → IsLeastOf d cells bucket n x → IsLesser x (flat_at d cells n (bucket n)) z → IsLeastOf d cells bucket (n + 1) z
+least_lesser d cells bucket n x z h l = record {
+  below = below_more (λ (r : ℕ). z ≤ℤ flat_at d cells r (bucket r)) n (λ r lt. let prior = h.below r lt in omega (arith, ints, l.first, prior)) l.second;
+  reached = ⊎_elim (λ (same : z ≡ x). let there = h.reached in (there.0, omega (arith, there.1), same ∙ there.2)) (λ (same : z ≡ flat_at d cells n (bucket n)). (n, omega arith, same)) l.either;
+}
+
 pub least_more : {T : Type 0} (num : T → ℤ) (cmp : T → T → Ordering) (d : ℕ) (bucket : ℕ → ℕ) (n : ℕ) (xs : List T) (a : T)
     → ((x y : T) → MatchOrdering (cmp x y) (num x <ℤ num y) (num x ≡ num y) (num y <ℤ num x))
     → IsLeastOf d (map num xs) bucket n (num a)
@@ -104,10 +114,7 @@ pub least_more : {T : Type 0} (num : T → ℤ) (cmp : T → T → Ordering) (d 
 least_more num cmp d bucket n xs a ordered h k b c place fits e chosen =
     let l : IsLesser (num a) (num b) (num c) = subst (λ (c : _). IsLesser (num a) (num b) (num c)) (sym chosen) (lesser num a b (cmp b a) (ordered b a)) in
     let here : flat_at d (map num xs) n (bucket n) ≡ num b = ap (λ (j : ℕ). get_or (map num xs) j (pos 0)) (sym place) ∙ read_cell num xs k b fits e in
-    record {
-      below = below_more (λ (r : ℕ). num c ≤ℤ flat_at d (map num xs) r (bucket r)) n (λ r lt. let prior = h.below r lt in omega (arith, ints, l.first, prior)) (omega (arith, ints, l.second, here));
-      reached = ⊎_elim (λ (same : num c ≡ num a). let there = h.reached in (there.0, omega (arith, there.1), same ∙ there.2)) (λ (same : num c ≡ num b). (n, omega arith, same ∙ sym here)) l.either;
-    }
+    least_lesser d (map num xs) bucket n (num a) (num c) h (subst (λ (z : ℤ). IsLesser (num a) z (num c)) (sym here) l)
 
 -- ---- what a new sketch is made of
 

@@ -1,5 +1,5 @@
 -- Cells that lie row by row in one list, and what the loops over them do.
-use Rattle.std.specs.Prelude.{◌≡◌, ℕ, ◌+◌, ◌*◌, ◌<◌, ◌≤◌, ◌==◌, if◌then◌else◌, List, count_by, slice_index_or, ℤ, pos, ◌+ℤ◌, ◌≤ℤ◌}
+use Rattle.std.specs.Prelude.{◌≡◌, ℕ, ◌+◌, ◌*◌, ◌<◌, ◌≤◌, ◌==◌, if◌then◌else◌, List, count_by, slice_index_or, ◌⊎◌, ℤ, pos, ◌+ℤ◌, ◌≤ℤ◌}
 
 -- the cell at a place of the list, or 0 past its end
 abbrev pub cell_in : List ℤ → ℕ → ℤ
@@ -37,3 +37,9 @@ pub record CellsAdded (n : ℕ) (old other new : List ℤ) : Type 0 where
 pub record IsLeastOf (buckets : ℕ) (cells : List ℤ) (bucket : ℕ → ℕ) (n : ℕ) (z : ℤ) : Type 0 where
   pub below : (r : ℕ) → r < n → z ≤ℤ flat_at buckets cells r (bucket r)
   pub reached : (r : ℕ) × (r < n) × (z ≡ flat_at buckets cells r (bucket r))
+
+-- z is the lesser of x and y
+pub record IsLesser (x y z : ℤ) : Type 0 where
+  pub first : z ≤ℤ x
+  pub second : z ≤ℤ y
+  pub either : (z ≡ x) ⊎ (z ≡ y)

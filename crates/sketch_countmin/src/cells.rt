@@ -1,8 +1,8 @@
 //! Loops over the cells of a sketch, which lie row by row in one slice.
-ghost use Rattle.std.specs.Prelude.{◌≡◌, ℕ, ◌+◌, ◌*◌, ◌<◌, ◌≤◌, map, length, slice_index, slice_set, pos, ◌+ℤ◌, unsigned_abs, replicate, vec_len, IfOk, IsTrue, ◌↔◌};
+ghost use Rattle.std.specs.Prelude.{◌≡◌, ℕ, ◌+◌, ◌*◌, ◌<◌, ◌≤◌, [], map, length, slice_index, slice_index_or, slice_set, pos, ◌+ℤ◌, unsigned_abs, replicate, vec_len, IfOk, IsTrue, ◌↔◌};
 ghost use Rattle.sketch_base.specs.Hashes.{fed_bytes};
 ghost use Rattle.sketch_countmin.specs.Values.{scaled, halved};
-ghost use Rattle.sketch_countmin.specs.Cells.{cell_in, flat_at, RowsAdded, RowCounted, RowsCounted, IsLeastOf};
+ghost use Rattle.sketch_countmin.specs.Cells.{cell_in, flat_at, RowsAdded, RowCounted, RowsCounted, IsLeastOf, IsLesser};
 ghost use Rattle.sketch_countmin.specs.Buckets.{row_seed, bucket_by, buckets_by};
 
 use crate::count_min_value::CountMinValue;
@@ -183,6 +183,75 @@ pub fn least_cell<T: CountMinValue, I: Hash>(
         least = least.min(cell);
     }
     least
+}
+
+/// Writes down the least of each item's cells, row after row: the cells of one row stay in a cache for all items.
+#[inline]
+pub fn least_cells<T: CountMinValue, I: Hash>(
+    counts: &[T],
+    buckets: Divisor,
+    row_seeds: &[u64],
+    items: &[I],
+    least: &mut [T],
+)
+    requires shape { length counts.now ≡ length row_seeds.now * buckets }
+    requires rows { 0 < length row_seeds.now }
+    requires same { length least.old ≡ length items.now }
+    ensures { (i : ℕ) → i < length items.now → IsLeastOf buckets (map T.number counts.now)
+        (buckets_by buckets row_seeds.now (slice_index_or (map (fed_bytes I.hash_input) items.now) i []))
+        (length row_seeds.now) (slice_index_or (map T.number least.new) i (pos 0)) }
+{
+    first_cells(counts, buckets, row_seeds[0], items, least);
+    for row in 1..row_seeds.len() {
+        lesser_cells(counts, buckets, row, row_seeds[row], items, least);
+    }
+}
+
+/// Writes down each item's cell of the first row.
+#[inline]
+fn first_cells<T: CountMinValue, I: Hash>(
+    counts: &[T],
+    buckets: Divisor,
+    seed: u64,
+    items: &[I],
+    cells: &mut [T],
+)
+    requires shape { buckets ≤ length counts.now }
+    requires same { length cells.old ≡ length items.now }
+    ensures { (i : ℕ) → i < length items.now → slice_index_or (map T.number cells.new) i (pos 0)
+        ≡ cell_in (map T.number counts.now)
+        (bucket_by buckets seed (slice_index_or (map (fed_bytes I.hash_input) items.now) i [])) }
+{
+    for (i, item) in items.iter().enumerate() {
+        let bucket = buckets.rem(murmur3_of(item, seed).0) as usize;
+        cells[i] = counts[bucket];
+    }
+}
+
+/// Keeps of each number the lesser of it and the item's cell of a row.
+#[inline]
+fn lesser_cells<T: CountMinValue, I: Hash>(
+    counts: &[T],
+    buckets: Divisor,
+    row: usize,
+    seed: u64,
+    items: &[I],
+    least: &mut [T],
+)
+    requires shape { row * buckets + buckets ≤ length counts.now }
+    requires same { length least.old ≡ length items.now }
+    ensures { (i : ℕ) → i < length items.now → IsLesser
+        (slice_index_or (map T.number least.old) i (pos 0))
+        (flat_at buckets (map T.number counts.now) row
+        (bucket_by buckets seed (slice_index_or (map (fed_bytes I.hash_input) items.now) i [])))
+        (slice_index_or (map T.number least.new) i (pos 0)) }
+{
+    let start = row * buckets.divisor() as usize;
+    for (i, item) in items.iter().enumerate() {
+        let place = start + buckets.rem(murmur3_of(item, seed).0) as usize;
+        let cell = counts[place];
+        least[i] = least[i].min(cell);
+    }
 }
 
 /// Whether two tables have the same numbers.

@@ -12,8 +12,8 @@ ghost use Rattle.sketch_countmin.specs.State.{IsCountState, SameShape, Counts, C
 mod images;
 
 use crate::cells::{
-    add_all, add_to_rows, count_in_rows, halve_all, least_cell, row_seeds, same_cells, scale_all,
-    zeros,
+    add_all, add_to_rows, count_in_rows, halve_all, least_cell, least_cells, row_seeds, same_cells,
+    scale_all, zeros,
 };
 use crate::count_min_value::CountMinValue;
 use crate::limits::{MAX_TABLE_ENTRIES, MIN_NUM_BUCKETS};
@@ -334,7 +334,7 @@ impl<T: CountMinValue> CountMinSketch<T> {
     }
 
     /// The estimate of each item of a slice, as [`estimate`](Self::estimate) gives it, into a slice as long. It takes no
-    /// memory.
+    /// memory, and goes through the items once for each row, as [`update_all`](Self::update_all) does.
     ///
     /// # Examples
     ///
@@ -354,9 +354,13 @@ impl<T: CountMinValue> CountMinSketch<T> {
             (slice_index_or (map (fed_bytes I.hash_input) items.now) i [])
             (slice_index_or (map T.number estimates.new) i (pos 0)) }
     {
-        for (place, item) in items.iter().enumerate() {
-            estimates[place] = least_cell(&self.counts, self.buckets, &self.row_seeds, item);
-        }
+        least_cells(
+            &self.counts,
+            self.buckets,
+            &self.row_seeds,
+            items,
+            estimates,
+        );
     }
 
     /// The estimate. It is no lower bound of the item's true weight: collisions can raise it above that.
