@@ -10,6 +10,7 @@ ghost use Rattle.counter_table.specs.Slots.{entries_of};
 ghost use Rattle.counter_table.specs.Tables.{count_of, is_tracked, put, purged, IsSampleMiddle, IsSameMap, PutsEqual};
 ghost use Rattle.counter_table.specs.Walk.{entry_of};
 
+use crate::look_ups;
 use crate::reverse_purge_item_iter::ReversePurgeItemIter;
 use crate::sizes::{MAX_SAMPLE_SIZE, bytes_of_table, capacity_of, lg_of};
 use crate::slot::Slot;
@@ -99,6 +100,29 @@ impl<T: Eq + Hash + Drop> ReversePurgeItemHashMap<T> {
     {
         let probe = slots::find(&self.slots, item);
         (probe.found.unwrap_or(0), probe.looked)
+    }
+
+    /// Writes down the count of each item, 0 where it is absent, as [`get`](Self::get) answers. It takes no memory, and
+    /// there are as many counts as items.
+    ///
+    /// In a large table it is faster than a call an item, since the slots of several items are waited for at once.
+    ///
+    /// # Examples
+    ///
+    /// ```
+    /// use counter_table::ReversePurgeItemHashMap;
+    ///
+    /// fn visits_of_four(visits: &ReversePurgeItemHashMap<u64>, pages: &[u64; 4]) -> [u64; 4] {
+    ///     let mut counts = [0; 4];
+    ///     visits.get_all(pages, &mut counts);
+    ///     counts
+    /// }
+    /// ```
+    pub fn get_all(&self, items: &[T], counts: &mut [u64])
+        requires { length counts.old ≡ length items.now }
+        ensures { counts.new ≡ map (count_of T.eq self.now.entries) items.now }
+    {
+        look_ups::counts_of(&self.slots, items, counts);
     }
 
     /// Adds the amount to the item's count, or inserts the item with it where it is absent, also an amount of 0.

@@ -41,7 +41,7 @@ pub(crate) struct Gap {
 
 /// The home of the item in a table of this size.
 #[inline(always)]
-fn home<T: Hash>(item: &T, size: usize) -> usize
+pub(crate) fn home<T: Hash>(item: &T, size: usize) -> usize
     requires { IsTableSize size }
     ensures { result ≡ home_in T.hash_input size item.now }
 {
@@ -90,8 +90,21 @@ pub(crate) fn find<T: Eq + Hash>(slots: &[Slot<T>], item: &T) -> Probe
     ensures { IsProbe T.eq (home_in T.hash_input (length slots.now) item.now) slots.now item.now
         result.place result.found result.looked }
 {
+    find_from(slots, item, home(item, slots.len()))
+}
+
+/// Looks the item up, whose home is known.
+#[inline(always)]
+pub(crate) fn find_from<T: Eq + Hash>(slots: &[Slot<T>], item: &T, home: usize) -> Probe
+    requires size { IsTableSize (length slots.now) }
+    requires room { length (entries_of slots.now) < length slots.now }
+    requires placed { IsPlaced (home_in T.hash_input (length slots.now)) slots.now }
+    requires home { home ≡ home_in T.hash_input (length slots.now) item.now }
+    ensures { IsProbe T.eq (home_in T.hash_input (length slots.now) item.now) slots.now item.now
+        result.place result.found result.looked }
+{
     let size = slots.len();
-    let mut place = home(item, size);
+    let mut place = home;
     let mut looked = 0;
     'probe: loop {
         match look(slots, place, &mut looked) {
@@ -289,7 +302,7 @@ fn remove_at<T: Eq + Hash + Drop>(slots: &mut [Slot<T>], place: usize)
 
 /// Whether a slot is free.
 #[inline(always)]
-fn is_free<T>(slots: &[Slot<T>], place: usize) -> bool
+pub(crate) fn is_free<T>(slots: &[Slot<T>], place: usize) -> bool
     requires { place < length slots.now }
     ensures { result ≡ not (is_taken slots.now place) }
 {
