@@ -90,11 +90,11 @@ module _ {T : Type 0} {eq : T → T → Bool} (laws : IsEquivalence eq) {input :
   count_at_free free =
       let h : ℕ = home_in input (length slots) x in
       let probe : IsProbe eq h slots x h None 1 = record {
-            some = omega arith;
-            short = omega (arith, home_within);
-            place_is = sym (ahead-zero (length slots) h home_within);
-            passed = IsPassed-none eq h slots x;
-            here = λ c e. cc;
-            free = λ _. mark_free (is_taken slots h) free;
-          } in
+        some = omega arith;
+        short = omega (arith, home_within);
+        place_is = sym (ahead-zero (length slots) h home_within);
+        passed = IsPassed-none eq h slots x;
+        here = λ c e. cc;
+        free = λ _. mark_free (is_taken slots h) free;
+      } in
       count_found h 1 None probe

@@ -10,11 +10,10 @@ ghost use Rattle.counter_table.specs.Slots.{entries_of};
 ghost use Rattle.counter_table.specs.Tables.{count_of, is_tracked, put, purged, IsSampleMiddle, IsSameMap, PutsEqual};
 ghost use Rattle.counter_table.specs.Walk.{entry_of};
 
-use crate::look_ups;
 use crate::reverse_purge_item_iter::ReversePurgeItemIter;
 use crate::sizes::{MAX_SAMPLE_SIZE, bytes_of_table, capacity_of, lg_of};
 use crate::slot::Slot;
-use crate::slots;
+use crate::{look_ups, slots};
 use sketch_base::Error;
 use std::alloc::Global;
 use std::hash::Hash;
