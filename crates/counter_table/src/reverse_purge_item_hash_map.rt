@@ -161,11 +161,9 @@ impl<T: Eq + Hash + Drop> ReversePurgeItemHashMap<T> {
         ensures memory { IfErr result (λ e. e ≡ no_memory) }
         ensures succeeds { is_tracked T.eq self.old.entries item.now ≡ true → IsOk result }
     {
-        if self.adjust(item, adjust_amount) {
-            return Ok(());
+        if slots::put_clone_in(&mut self.slots, item, adjust_amount)? {
+            self.active += 1;
         }
-        let clone = item.clone()?;
-        self.insert(clone, adjust_amount);
         Ok(())
     }
 

@@ -3,7 +3,7 @@
 //! Every place from an entry's home on to its slot is taken, so a look-up may end at the first free one. Freeing a slot
 //! keeps it so by shifting back each later entry of the cluster whose home is not after the freed slot, as Knuth's
 //! algorithm R does.
-ghost use Rattle.std.specs.Prelude.{◌≡◌, ℕ, ◌+◌, ◌-◌, ◌<◌, ◌≤◌, ◌^◌, [], None, Some, true, false, not, length, map, filter, replicate, nat_lt, slice_index_or, slice_set, IfOk, IfErr, IsTrue, IsPermutation};
+ghost use Rattle.std.specs.Prelude.{◌≡◌, ℕ, ◌+◌, ◌-◌, ◌<◌, ◌≤◌, ◌^◌, [], None, Some, true, false, not, length, map, filter, replicate, nat_lt, slice_index_or, slice_set, IfOk, IfErr, OnOk, OnErr, IsOk, IsTrue, IsPermutation};
 ghost use Rattle.std.specs.List.{IsDistinct, AllZip};
 ghost use Rattle.std.specs.Map.{keys_of};
 ghost use Rattle.sketch_base.specs.Errors.{no_memory};
@@ -11,7 +11,7 @@ ghost use Rattle.counter_table.specs.Homes.{home_in, ahead};
 ghost use Rattle.counter_table.specs.Probes.{IsProbe, IsGap};
 ghost use Rattle.counter_table.specs.Shifted.{Origins};
 ghost use Rattle.counter_table.specs.Slots.{IsTableSize, IsPlaced, IsSlots, IsSameSlot, CountHasRoom, AddsAt, DriftsBy, ShiftsBack, drift_of, entries_of, is_spent, is_taken, lessened, slot_at};
-ghost use Rattle.counter_table.specs.Tables.{count_of, is_tracked, put, purged, IsSampleMiddle};
+ghost use Rattle.counter_table.specs.Tables.{count_of, is_tracked, put, purged, IsSampleMiddle, PutsEqual};
 
 use crate::sizes::MAX_SAMPLE_SIZE;
 use crate::slot::Slot;
@@ -238,6 +238,46 @@ pub(crate) fn put_in<T: Eq + Hash + Drop>(slots: &mut [Slot<T>], item: T, amount
             };
             fill(slots, probe.place, slot);
             true
+        }
+    }
+}
+
+/// Adds to the item's count, or puts a clone of the item where its look-up ended, and answers whether it was put there.
+/// Only then is it cloned. Clones have to equal their originals.
+#[inline(always)]
+pub(crate) fn put_clone_in<T: Eq + Hash + Clone + Drop>(
+    slots: &mut [Slot<T>],
+    item: &T,
+    amount: u64,
+) -> Result<bool, Error>
+    requires clones { (x y : T) → T.is_clone x y → IsTrue (T.eq x y) }
+    requires slots { IsSlots T.eq T.hash_input slots.old }
+    requires room { is_tracked T.eq (entries_of slots.old) item.now ≡ false
+        → length (entries_of slots.old) + 1 < length slots.old }
+    requires fits { is_tracked T.eq (entries_of slots.old) item.now ≡ true
+        → count_of T.eq (entries_of slots.old) item.now + amount < 2 ^ 64 }
+    ensures tracked { IfOk result (λ put. is_tracked T.eq (entries_of slots.old) item.now ≡ not put) }
+    ensures slots { IsSlots T.eq T.hash_input slots.new }
+    ensures entries { OnOk result (PutsEqual T.eq (entries_of slots.old) item.now amount (entries_of slots.new)) }
+    ensures err { OnErr result (slots.new ≡ slots.old) }
+    ensures memory { IfErr result (λ e. e ≡ no_memory) }
+    ensures succeeds { is_tracked T.eq (entries_of slots.old) item.now ≡ true → IsOk result }
+{
+    let probe = find(slots, item);
+    match probe.found {
+        Some(_) => {
+            add_at(slots, probe.place, amount);
+            Ok(false)
+        }
+        None => {
+            let clone = item.clone()?;
+            let slot = Slot::Taken {
+                drift: probe.looked as u32,
+                count: amount,
+                item: clone,
+            };
+            fill(slots, probe.place, slot);
+            Ok(true)
         }
     }
 }
