@@ -116,6 +116,10 @@ impl<T: Eq + Hash + Drop> FrequentItemsSketch<T> {
         if count == 0 {
             return Ok(());
         }
+        if self.current_map_capacity() > self.num_active_items() {
+            self.put_ref(item, count)?;
+            return Ok(());
+        }
         if self.adjust(item, count) {
             return Ok(());
         }
@@ -170,6 +174,26 @@ impl<T: Eq + Hash + Drop> FrequentItemsSketch<T> {
     {
         self.map.adjust_or_put_value(item, count);
         self.total += count;
+    }
+
+    /// The same with a clone of the item, where it is not tracked.
+    #[inline]
+    fn put_ref(&mut self, item: &T, count: u64) -> Result<(), Error>
+    where
+        T: Clone,
+        requires clones { (x y : T) → T.is_clone x y → IsTrue (T.eq x y) }
+        requires positive { 0 < count }
+        requires fits { TotalHasRoom self.old count }
+        requires room { length self.old.counters < capacity self.old.size }
+        ensures step { OnOk result (StepsEqual T.eq self.old item.now count self.new) }
+        ensures state { IsState T.eq self.new }
+        ensures err { OnErr result (self.new ≡ self.old) }
+        ensures memory { IfErr result (λ e. e ≡ no_memory) }
+        ensures succeeds { is_tracked T.eq self.old.counters item.now ≡ true → IsOk result }
+    {
+        self.map.adjust_or_put_value_ref(item, count)?;
+        self.total += count;
+        Ok(())
     }
 
     /// Adds to the item's count where it is tracked, and answers whether it is.
