@@ -28,6 +28,14 @@ unsafe extern "C" {
         asked: *const i64,
         asked_len: usize,
     ) -> u64;
+    fn rattle_frequent_update_all(task: &Task, items: *const i64, len: usize) -> u64;
+    fn rattle_frequent_estimate_all(
+        task: &Task,
+        items: *const i64,
+        len: usize,
+        asked: *const i64,
+        asked_len: usize,
+    ) -> u64;
     fn rattle_frequent_merge(
         task: &Task,
         items: *const i64,
@@ -201,7 +209,7 @@ fn compare(
     }
     let each = 1e9 / count as f64;
     println!(
-        "{name:<16} {:>6} {:>12.2} {:>12.2} {:>8.2}",
+        "{name:<20} {:>6} {:>12.2} {:>12.2} {:>8.2}",
         task.size,
         least.0 * each,
         least.1 * each,
@@ -247,7 +255,7 @@ fn two(
 
 fn main() {
     println!(
-        "{:<16} {:>6} {:>12} {:>12} {:>8}",
+        "{:<20} {:>6} {:>12} {:>12} {:>8}",
         "what", "size", "proved, ns", "plain, ns", "ratio"
     );
     let len = 1 << 20;
@@ -268,6 +276,8 @@ fn main() {
         let misses = &others[..asked];
         one("update, Zipf", task(1), many, &zipf, rattle_frequent_update, rust_update);
         one("update, distinct", task(1), many, &distinct, rattle_frequent_update, rust_update);
+        one("update all, Zipf", task(1), many, &zipf, rattle_frequent_update_all, rust_update);
+        one("update all, distinct", task(1), many, &distinct, rattle_frequent_update_all, rust_update);
         one("update, text", task(1), many, &zipf, rattle_frequent_texts, rust_texts);
         two(
             "estimate, hit",
@@ -287,6 +297,17 @@ fn main() {
             rattle_frequent_estimate,
             rust_estimate,
         );
+        for (name, asked) in [("estimate all, hit", &hits[..]), ("estimate all, miss", misses)] {
+            two(
+                name,
+                task(8),
+                asked.len() as u64 * 8,
+                &distinct[..full],
+                asked,
+                rattle_frequent_estimate_all,
+                rust_estimate,
+            );
+        }
         let few = turns / 8;
         two(
             "merge",

@@ -141,7 +141,10 @@ impl<T: Eq + Hash + Drop> FrequentItemsSketch<T> {
     /// use sketch_frequencies::{Error, FrequentItemsSketch};
     /// use std::alloc::Global;
     ///
-    /// fn counted(alloc: Global, visitors: &[u64]) -> Result<FrequentItemsSketch<u64>, Error> {
+    /// fn sketch_of_visitors(
+    ///     alloc: Global,
+    ///     visitors: &[u64],
+    /// ) -> Result<FrequentItemsSketch<u64>, Error> {
     ///     let mut sketch = FrequentItemsSketch::new(alloc, 1024)?;
     ///     sketch.update_all(visitors)?;
     ///     Ok(sketch)
