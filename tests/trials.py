@@ -68,7 +68,7 @@ FOX = 0xE34BBC7BBC071B6C ^ 0x7A433CA9C49A9347
 OVERFLOW = "refused argument WeightOverflow"
 
 OTHERS = ["InsufficientData", "InsufficientData", "SeedHashMismatch", "InsufficientData"]
-QUESTIONS = ["numbers 3 8 3 6 224", "counts 3 0 5 0"]
+QUESTIONS = ["numbers 3 8 3 6 224", "counts 3 0 5 0 3 0"]
 WALK = ["walk 3 0 10 0 0", "looked true"]
 
 # Calls that take no memory. Hashes, positions and buckets are published, or those of a program in another language,
@@ -110,13 +110,14 @@ ALLOCATION_FREE = {
     "allocation-free_updates_by_reference": ["updates" + 4 * " none", "frequent 1 0 4 6 8 4/4/4"],
     # again all counts are 1
     "allocation-free_purges": ["frequent 0 1 1537 1536 2048 0/0/1 0/0/1"],
-    # 2048 slots of 28 bytes; 1 and 2 more for one of 1536 items
+    # 2048 slots of 28 bytes; 1, 2 and 1 more for one of 1536 items
     "allocation-free_full": [
         "numbers 1536 1536 0 1536 1536 2048 11 11 1024 57344 0",
         "tracked 1 1 1",
         "absent 0 0 0",
-        "updates none none",
-        "frequent 1536 0 1539 1536 2048 4/4/4 0/0/0",
+        "both 0 1",
+        "updates none none none",
+        "frequent 1536 0 1540 1536 2048 5/5/5 0/0/0",
         "frequent 0 0 0 6 2048 0/0/0 0/0/0",
     ],
     "allocation-free_merges": ["merge none", "frequent 1 0 1 6 8 1/1/1", "frequent 0 0 0 6 8 0/0/0"],
@@ -127,7 +128,7 @@ ALLOCATION_FREE = {
         " 18446744073709551615/18446744073709551615/18446744073709551615 0/0/0",
     ],
     # 1 to 7 are 28, an `Option<i64>` takes 16 bytes, and 16 slots 28 bytes each
-    "allocation-free_frequent_questions": ["numbers 7 28 0 48 12 64 6 4 48 448 0", "tracked 3 3 3", "absent 0 0 0"],
+    "allocation-free_frequent_questions": ["numbers 7 28 0 48 12 64 6 4 48 448 0", "tracked 3 3 3", "absent 0 0 0", "both 0 3"],
     "allocation-free_bounds": ["bounds 5 6 6", "bounds 0 0 1"],
     "allocation-free_rows": ["row 2 2 2 1", "equal false", "row 1 1 1 2", "equal true"],
     "allocation-free_filters": [

@@ -1,8 +1,9 @@
 -- A write to the slot where a look-up ended.
-use Rattle.std.proofs.Common.{◌≡◌, ℕ, zero, suc, ◌+◌, ◌-◌, ◌<◌, ◌≤◌, Bool, true, false, inl, inr, ap, sym, ◌∙◌, subst, arith, List, [], ◌∷◌, ◌++◌, length, Some, is_some, IsPermutation}
+use Rattle.std.proofs.Common.{◌≡◌, ℕ, zero, suc, ◌+◌, ◌-◌, ◌<◌, ◌≤◌, Bool, true, false, inl, inr, refl, ap, sym, ◌∙◌, subst, arith, List, [], ◌∷◌, ◌++◌, length, Some, is_some, IsPermutation}
 use Rattle.std.specs.Cmp.{IsEquivalence}
-use Rattle.std.specs.List.{IsDistinct}
-use Rattle.std.specs.Map.{keys_of}
+use Rattle.std.specs.List.{IsDistinct, concat}
+use Rattle.std.specs.Prelude.{IsTrue}
+use Rattle.std.specs.Map.{keys_of, lookup}
 use Rattle.std.proofs.Math.ListN.{set}
 use Rattle.std.proofs.lemmas.List.{length-set}
 use Rattle.std.proofs.lemmas.List.Sorted.{IsPermutation-refl, IsPermutation-to_front, IsPermutation-cons, IsPermutation-map, length_permutation}
@@ -12,7 +13,7 @@ use Rattle.counter_table.specs.Tables.{is_tracked, put}
 use Rattle.counter_table.proofs.InsertionPuts.{put_new, distinct_tracked, distinct_new, length_tracked, length_new}
 use Rattle.counter_table.specs.declared.slot.Slot.{Slot}
 use Rattle.counter_table.specs.declared.slot.Slot.TheVariants.{Free, Taken}
-use Rattle.counter_table.specs.Homes.{home_in, ahead, distance}
+use Rattle.counter_table.specs.Homes.{home_in, home_of, ahead, distance}
 use Rattle.counter_table.specs.Slots.{Held, taken, entries_of, slot_at, is_taken, IsPlaced, IsSlots}
 use Rattle.counter_table.specs.Probes.{IsGap}
 use Rattle.counter_table.proofs.ArithmeticRing.{ahead-distance, distance-ahead}
@@ -147,3 +148,16 @@ wrote_gap {T} {eq} laws input slots ok x w k looked absent room p new is =
       };
       entries = moved;
     })
+
+-- ---- an item that is equal to another
+lookup_alike : {T : Type 0} {eq : T → T → Bool} → IsEquivalence eq → (es : List (T × ℕ)) (x y : T) → eq x y ≡ true → lookup (eq x) es ≡ lookup (eq y) es
+lookup_alike laws [] x y h = refl
+lookup_alike laws (e ∷ es) x y h = rw (laws.congr x y e.0 h, lookup_alike laws es x y h) refl
+
+-- is tracked where that is
+pub tracked_alike : {T : Type 0} {eq : T → T → Bool} → IsEquivalence eq → (es : List (T × ℕ)) (x y : T) → eq x y ≡ true → is_tracked eq es y ≡ is_tracked eq es x
+tracked_alike laws es x y h = ap is_some (sym (lookup_alike laws es x y h))
+
+-- and has its home
+pub home_alike : {T : Type 0} {eq : T → T → Bool} {input : T → List (List ℕ)} → ((x y : T) → IsTrue (eq x y) → input x ≡ input y) → (n : ℕ) (x y : T) → IsTrue (eq x y) → home_in input n x ≡ home_in input n y
+home_alike respects n x y t = ap (λ f. home_of (concat f) n) (respects x y t)

@@ -13,7 +13,7 @@ ghost use Rattle.counter_table.specs.Walk.{entry_of};
 use crate::reverse_purge_item_iter::ReversePurgeItemIter;
 use crate::sizes::{MAX_SAMPLE_SIZE, bytes_of_table, capacity_of, lg_of};
 use crate::slot::Slot;
-use crate::slots;
+use crate::{look_ups, slots};
 use sketch_base::Error;
 use std::alloc::Global;
 use std::hash::Hash;
@@ -101,6 +101,29 @@ impl<T: Eq + Hash + Drop> ReversePurgeItemHashMap<T> {
         (probe.found.unwrap_or(0), probe.looked)
     }
 
+    /// Writes down the count of each item, 0 where it is absent, as [`get`](Self::get) answers. It takes no memory, and
+    /// there are as many counts as items.
+    ///
+    /// In a large table it is faster than a call an item, since the slots of several items are waited for at once.
+    ///
+    /// # Examples
+    ///
+    /// ```
+    /// use counter_table::ReversePurgeItemHashMap;
+    ///
+    /// fn visits_of_four(visits: &ReversePurgeItemHashMap<u64>, pages: &[u64; 4]) -> [u64; 4] {
+    ///     let mut counts = [0; 4];
+    ///     visits.get_all(pages, &mut counts);
+    ///     counts
+    /// }
+    /// ```
+    pub fn get_all(&self, items: &[T], counts: &mut [u64])
+        requires { length counts.old ≡ length items.now }
+        ensures { counts.new ≡ map (count_of T.eq self.now.entries) items.now }
+    {
+        look_ups::counts_of(&self.slots, items, counts);
+    }
+
     /// Adds the amount to the item's count, or inserts the item with it where it is absent, also an amount of 0.
     ///
     /// Where the item is absent a slot has to stay free behind it, and where it is present the sum has to fit.
@@ -138,11 +161,9 @@ impl<T: Eq + Hash + Drop> ReversePurgeItemHashMap<T> {
         ensures memory { IfErr result (λ e. e ≡ no_memory) }
         ensures succeeds { is_tracked T.eq self.old.entries item.now ≡ true → IsOk result }
     {
-        if self.adjust(item, adjust_amount) {
-            return Ok(());
+        if slots::put_clone_in(&mut self.slots, item, adjust_amount)? {
+            self.active += 1;
         }
-        let clone = item.clone()?;
-        self.insert(clone, adjust_amount);
         Ok(())
     }
 

@@ -3,7 +3,7 @@
 //! Every place from an entry's home on to its slot is taken, so a look-up may end at the first free one. Freeing a slot
 //! keeps it so by shifting back each later entry of the cluster whose home is not after the freed slot, as Knuth's
 //! algorithm R does.
-ghost use Rattle.std.specs.Prelude.{◌≡◌, ℕ, ◌+◌, ◌-◌, ◌<◌, ◌≤◌, ◌^◌, [], None, Some, true, false, not, length, map, filter, replicate, nat_lt, slice_index_or, slice_set, IfOk, IfErr, IsTrue, IsPermutation};
+ghost use Rattle.std.specs.Prelude.{◌≡◌, ℕ, ◌+◌, ◌-◌, ◌<◌, ◌≤◌, ◌^◌, [], None, Some, true, false, not, length, map, filter, replicate, nat_lt, slice_index_or, slice_set, IfOk, IfErr, OnOk, OnErr, IsOk, IsTrue, IsPermutation};
 ghost use Rattle.std.specs.List.{IsDistinct, AllZip};
 ghost use Rattle.std.specs.Map.{keys_of};
 ghost use Rattle.sketch_base.specs.Errors.{no_memory};
@@ -11,7 +11,7 @@ ghost use Rattle.counter_table.specs.Homes.{home_in, ahead};
 ghost use Rattle.counter_table.specs.Probes.{IsProbe, IsGap};
 ghost use Rattle.counter_table.specs.Shifted.{Origins};
 ghost use Rattle.counter_table.specs.Slots.{IsTableSize, IsPlaced, IsSlots, IsSameSlot, CountHasRoom, AddsAt, DriftsBy, ShiftsBack, drift_of, entries_of, is_spent, is_taken, lessened, slot_at};
-ghost use Rattle.counter_table.specs.Tables.{count_of, is_tracked, put, purged, IsSampleMiddle};
+ghost use Rattle.counter_table.specs.Tables.{count_of, is_tracked, put, purged, IsSampleMiddle, PutsEqual};
 
 use crate::sizes::MAX_SAMPLE_SIZE;
 use crate::slot::Slot;
@@ -41,7 +41,7 @@ pub(crate) struct Gap {
 
 /// The home of the item in a table of this size.
 #[inline(always)]
-fn home<T: Hash>(item: &T, size: usize) -> usize
+pub(crate) fn home<T: Hash>(item: &T, size: usize) -> usize
     requires { IsTableSize size }
     ensures { result ≡ home_in T.hash_input size item.now }
 {
@@ -90,8 +90,21 @@ pub(crate) fn find<T: Eq + Hash>(slots: &[Slot<T>], item: &T) -> Probe
     ensures { IsProbe T.eq (home_in T.hash_input (length slots.now) item.now) slots.now item.now
         result.place result.found result.looked }
 {
+    find_from(slots, item, home(item, slots.len()))
+}
+
+/// Looks the item up, whose home is known.
+#[inline(always)]
+pub(crate) fn find_from<T: Eq + Hash>(slots: &[Slot<T>], item: &T, home: usize) -> Probe
+    requires size { IsTableSize (length slots.now) }
+    requires room { length (entries_of slots.now) < length slots.now }
+    requires placed { IsPlaced (home_in T.hash_input (length slots.now)) slots.now }
+    requires home { home ≡ home_in T.hash_input (length slots.now) item.now }
+    ensures { IsProbe T.eq (home_in T.hash_input (length slots.now) item.now) slots.now item.now
+        result.place result.found result.looked }
+{
     let size = slots.len();
-    let mut place = home(item, size);
+    let mut place = home;
     let mut looked = 0;
     'probe: loop {
         match look(slots, place, &mut looked) {
@@ -229,6 +242,46 @@ pub(crate) fn put_in<T: Eq + Hash + Drop>(slots: &mut [Slot<T>], item: T, amount
     }
 }
 
+/// Adds to the item's count, or puts a clone of the item where its look-up ended, and answers whether it was put there.
+/// Only then is it cloned. Clones have to equal their originals.
+#[inline(always)]
+pub(crate) fn put_clone_in<T: Eq + Hash + Clone + Drop>(
+    slots: &mut [Slot<T>],
+    item: &T,
+    amount: u64,
+) -> Result<bool, Error>
+    requires clones { (x y : T) → T.is_clone x y → IsTrue (T.eq x y) }
+    requires slots { IsSlots T.eq T.hash_input slots.old }
+    requires room { is_tracked T.eq (entries_of slots.old) item.now ≡ false
+        → length (entries_of slots.old) + 1 < length slots.old }
+    requires fits { is_tracked T.eq (entries_of slots.old) item.now ≡ true
+        → count_of T.eq (entries_of slots.old) item.now + amount < 2 ^ 64 }
+    ensures tracked { IfOk result (λ put. is_tracked T.eq (entries_of slots.old) item.now ≡ not put) }
+    ensures slots { IsSlots T.eq T.hash_input slots.new }
+    ensures entries { OnOk result (PutsEqual T.eq (entries_of slots.old) item.now amount (entries_of slots.new)) }
+    ensures err { OnErr result (slots.new ≡ slots.old) }
+    ensures memory { IfErr result (λ e. e ≡ no_memory) }
+    ensures succeeds { is_tracked T.eq (entries_of slots.old) item.now ≡ true → IsOk result }
+{
+    let probe = find(slots, item);
+    match probe.found {
+        Some(_) => {
+            add_at(slots, probe.place, amount);
+            Ok(false)
+        }
+        None => {
+            let clone = item.clone()?;
+            let slot = Slot::Taken {
+                drift: probe.looked as u32,
+                count: amount,
+                item: clone,
+            };
+            fill(slots, probe.place, slot);
+            Ok(true)
+        }
+    }
+}
+
 /// Moves what stands in one slot to a free one that is so many places nearer to its home.
 #[inline(always)]
 fn shift_back<T: Drop>(slots: &mut [Slot<T>], from: usize, to: usize, by: u32)
@@ -289,7 +342,7 @@ fn remove_at<T: Eq + Hash + Drop>(slots: &mut [Slot<T>], place: usize)
 
 /// Whether a slot is free.
 #[inline(always)]
-fn is_free<T>(slots: &[Slot<T>], place: usize) -> bool
+pub(crate) fn is_free<T>(slots: &[Slot<T>], place: usize) -> bool
     requires { place < length slots.now }
     ensures { result ≡ not (is_taken slots.now place) }
 {
@@ -403,8 +456,8 @@ fn middle_in<T, const N: usize>(slots: &[Slot<T>], size: usize) -> u64
         }
     }
     let counts = sample.as_mut_slice();
-    counts.sort_unstable();
-    counts[size / 2]
+    let (_, middle, _) = counts.select_nth_unstable(size / 2);
+    *middle
 }
 
 /// So many free slots. They ask for memory once.

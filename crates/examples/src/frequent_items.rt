@@ -14,6 +14,23 @@ pub fn heaviest(alloc: Global, numbers: &[u64]) -> Result<Option<u64>, Error> {
     Ok(rows.first().map(|row| row.estimate()))
 }
 
+/// A sketch of the visitors, by one call.
+pub fn sketch_of_visitors(
+    alloc: Global,
+    visitors: &[u64],
+) -> Result<FrequentItemsSketch<u64>, Error> {
+    let mut sketch = FrequentItemsSketch::new(alloc, 1024)?;
+    sketch.update_all(visitors)?;
+    Ok(sketch)
+}
+
+/// The weights of four pages, by one call.
+pub fn weights_of_four(visits: &FrequentItemsSketch<u64>, pages: &[u64; 4]) -> [u64; 4] {
+    let mut weights = [0; 4];
+    visits.estimate_all(pages, &mut weights);
+    weights
+}
+
 /// Between which bounds the apples of both shops lie.
 pub fn apples_of_both_shops(alloc: Global) -> Result<(u64, u64), Error> {
     let mut north = FrequentItemsSketch::with_sample_size(alloc, 1024, 100)?;
@@ -62,4 +79,11 @@ pub fn counts_visit(visits: &mut ReversePurgeItemHashMap<u64>, page: u64) -> boo
     }
     visits.adjust_or_put_value(page, 1);
     true
+}
+
+/// The visits of four pages, by one call.
+pub fn visits_of_four(visits: &ReversePurgeItemHashMap<u64>, pages: &[u64; 4]) -> [u64; 4] {
+    let mut counts = [0; 4];
+    visits.get_all(pages, &mut counts);
+    counts
 }

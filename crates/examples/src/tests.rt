@@ -12,7 +12,7 @@ use crate::filters::{
 };
 use crate::frequent_items::{
     apples_of_both_shops, bytes_of, counts_visit, heavier_pages, heaviest, sent_pages,
-    surely_weighs_more,
+    sketch_of_visitors, surely_weighs_more, visits_of_four, weights_of_four,
 };
 use crate::images::sent;
 use crate::session::{
@@ -138,11 +138,28 @@ fn visits_of_a_page(alloc: Global, size: usize) -> Result<(bool, u64), Error> {
     Ok((counted, visits.get(&7)))
 }
 
+/// The counts of four pages in a table of so many slots, a power of two, where page 7 was visited once.
+fn visits_of_pages(alloc: Global, size: usize) -> Result<[u64; 4], Error> {
+    if !size.is_power_of_two() || size > 8 {
+        return Ok([0; 4]);
+    }
+    let mut visits = ReversePurgeItemHashMap::new(alloc, size)?;
+    counts_visit(&mut visits, 7);
+    Ok(visits_of_four(&visits, &[7, 8, 7, 9]))
+}
+
+/// The weights of four pages, of which two visitors came.
+fn weights_of_pages(alloc: Global) -> Result<[u64; 4], Error> {
+    Ok(weights_of_four(&sketch_of_visitors(alloc, &[7, 8, 7])?, &[7, 8, 9, 7]))
+}
+
 #[test]
 fn frequent_items_are_as_the_docs_say(rt: HostRuntime) -> Result<(), Fail> {
     assert!(rt; pages_come_back(rt.alloc())? == (1, 1));
     assert!(rt; is_above_itself(rt.alloc())? == Some(false));
     assert!(rt; visits_of_a_page(rt.alloc(), 8)? == (true, 1));
+    assert!(rt; visits_of_pages(rt.alloc(), 8)? == [1, 0, 1, 0]);
+    assert!(rt; weights_of_pages(rt.alloc())? == [2, 1, 0, 2]);
     assert!(rt; bytes_of(rt.alloc(), &1u64)?.as_slice() == [1u8, 0, 0, 0, 0, 0, 0, 0].as_slice());
     Ok(())
 }

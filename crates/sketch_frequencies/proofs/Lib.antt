@@ -1,3 +1,4 @@
+pub mod Batches
 pub mod Bounds
 pub mod Cases
 pub mod Descents

@@ -1,4 +1,5 @@
 pub mod Above
+pub mod Batches
 pub mod Growth
 pub mod History
 pub mod Image

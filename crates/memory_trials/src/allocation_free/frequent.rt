@@ -165,10 +165,11 @@ pub fn refills(trial: &mut Trial) -> Result<(), SetupFailed> {
 }
 
 /// Updates by reference of an item that is tracked.
-fn update_by_reference(sketch: &mut Numbers) -> [&'static str; 2] {
+fn update_by_reference(sketch: &mut Numbers) -> [&'static str; 3] {
     [
         fault_of(sketch.update_ref(&5)),
         fault_of(sketch.update_with_count_ref(&5, 2)),
+        fault_of(sketch.update_all(&[5])),
     ]
 }
 
@@ -229,12 +230,21 @@ fn write_bounds<T: Eq + Hash + Drop>(
     write_values(trial, word, &bounds);
 }
 
+/// The estimates of two items by one call.
+fn estimates_of(sketch: &Numbers, items: &[i64; 2]) -> [u64; 2] {
+    let mut estimates = [0; 2];
+    sketch.estimate_all(items, &mut estimates);
+    estimates
+}
+
 /// All questions to a sketch that tracks 3, and does not track -1.
 fn write_answers(trial: &mut Trial, sketch: &Numbers) {
     let numbers = counted!(trial, numbers(sketch));
     write_values(trial, "numbers", &numbers);
     write_bounds(trial, sketch, "tracked", &3);
     write_bounds(trial, sketch, "absent", &-1);
+    let estimates = counted!(trial, estimates_of(sketch, &[-1, 3]));
+    write_values(trial, "both", &estimates);
 }
 
 /// Seven items with the weights 1 to 7, for which the table has doubled.

@@ -79,13 +79,17 @@ fn numbers<const KIND: u8>(map: &Map<KIND>) -> [usize; 5] {
     ]
 }
 
-/// The counts of items that are there and of one that is not, by both calls.
-fn counts<const KIND: u8>(map: &Map<KIND>) -> [u64; 4] {
+/// The counts of items that are there and of one that is not, by all calls.
+fn counts<const KIND: u8>(map: &Map<KIND>) -> [u64; 6] {
+    let mut both = [0; 2];
+    map.get_all(&[Item::of(2), Item::of(4)], &mut both);
     [
         map.get(&Item::of(2)),
         map.get(&Item::of(4)),
         map.get_counted(&Item::of(3)).0,
         map.get_counted(&Item::of(4)).0,
+        both[0],
+        both[1],
     ]
 }
 

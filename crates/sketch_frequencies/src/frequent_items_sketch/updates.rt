@@ -1,6 +1,7 @@
 //! How items are added.
 ghost use Rattle.std.specs.Prelude.{◌≡◌, ◌+◌, ◌*◌, ◌<◌, true, false, length, IfErr, IsOk, IsTrue, OnOk, OnErr, IsErrOf};
 ghost use Rattle.sketch_base.specs.Errors.{invalid_argument, no_memory};
+ghost use Rattle.sketch_frequencies.specs.Batches.{UpdatesAll, StopsAt};
 ghost use Rattle.sketch_frequencies.specs.Growth.{MakesRoom, Adds};
 ghost use Rattle.sketch_frequencies.specs.History.FrequentHistory.{Update};
 ghost use Rattle.sketch_frequencies.specs.Stands.{Extends, ExtendsBudget};
@@ -115,11 +116,53 @@ impl<T: Eq + Hash + Drop> FrequentItemsSketch<T> {
         if count == 0 {
             return Ok(());
         }
+        if self.current_map_capacity() > self.num_active_items() {
+            self.put_ref(item, count)?;
+            return Ok(());
+        }
         if self.adjust(item, count) {
             return Ok(());
         }
         let cloned = item.clone()?;
         self.track(cloned, count)?;
+        Ok(())
+    }
+
+    /// Adds 1 to the weight of an item equal to each of these, as [`update_ref`](Self::update_ref) does one after another.
+    ///
+    /// # Errors
+    ///
+    /// Those of `update_ref` at the first item that it refuses. The items before it are added then, and neither it nor
+    /// those behind it are.
+    ///
+    /// # Examples
+    ///
+    /// ```
+    /// use sketch_frequencies::{Error, FrequentItemsSketch};
+    /// use std::alloc::Global;
+    ///
+    /// fn sketch_of_visitors(
+    ///     alloc: Global,
+    ///     visitors: &[u64],
+    /// ) -> Result<FrequentItemsSketch<u64>, Error> {
+    ///     let mut sketch = FrequentItemsSketch::new(alloc, 1024)?;
+    ///     sketch.update_all(visitors)?;
+    ///     Ok(sketch)
+    /// }
+    /// ```
+    pub fn update_all(&mut self, items: &[T]) -> Result<(), Error>
+    where
+        T: Clone,
+        requires clones { (x y : T) → T.is_clone x y → IsTrue (T.eq x y) }
+        ensures updates { OnOk result (UpdatesAll T.eq self.old items.now self.new) }
+        ensures state { IsState T.eq self.new }
+        ensures err { IfErr result (λ e. StopsAt T.eq self.old items.now e self.new) }
+    {
+        // for the prover: a look at a field brings in what holds of every sketch
+        let _ = &self.map;
+        for item in items {
+            self.update_ref(item)?;
+        }
         Ok(())
     }
 
@@ -134,6 +177,26 @@ impl<T: Eq + Hash + Drop> FrequentItemsSketch<T> {
     {
         self.map.adjust_or_put_value(item, count);
         self.total += count;
+    }
+
+    /// The same with a clone of the item, where it is not tracked.
+    #[inline]
+    fn put_ref(&mut self, item: &T, count: u64) -> Result<(), Error>
+    where
+        T: Clone,
+        requires clones { (x y : T) → T.is_clone x y → IsTrue (T.eq x y) }
+        requires positive { 0 < count }
+        requires fits { TotalHasRoom self.old count }
+        requires room { length self.old.counters < capacity self.old.size }
+        ensures step { OnOk result (StepsEqual T.eq self.old item.now count self.new) }
+        ensures state { IsState T.eq self.new }
+        ensures err { OnErr result (self.new ≡ self.old) }
+        ensures memory { IfErr result (λ e. e ≡ no_memory) }
+        ensures succeeds { is_tracked T.eq self.old.counters item.now ≡ true → IsOk result }
+    {
+        self.map.adjust_or_put_value_ref(item, count)?;
+        self.total += count;
+        Ok(())
     }
 
     /// Adds to the item's count where it is tracked, and answers whether it is.

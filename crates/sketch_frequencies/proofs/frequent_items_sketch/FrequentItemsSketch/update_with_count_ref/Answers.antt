@@ -6,6 +6,12 @@ use Rattle.sketch_frequencies.proofs.SameStates.{stands_step, budget_step_equal}
 use Rattle.sketch_frequencies.proofs.Lookups.{tracked_alike}
 use Rattle.sketch_frequencies.proofs.frequent_items_sketch.FrequentItemsSketch.update_with_count_ref.Goals as goal
 
+pub returns-then-current_map_capacity-num_active_items-clause-stands : goal.returns-then-current_map_capacity-num_active_items-clause-stands
+returns-then-current_map_capacity-num_active_items-clause-stands g c = λ pos h s. stands_step g.met.T.Eq.laws c.args.self.now c.put_ref.new.self c.args.item.now c.args.count pos (subst (λ s. IsState g.T.PartialEq.eq s) c.self.view_is c.self.invariant) c.in_ok-put_ref.ensures.step h s
+
+pub returns-then-current_map_capacity-num_active_items-clause-budget : goal.returns-then-current_map_capacity-num_active_items-clause-budget
+returns-then-current_map_capacity-num_active_items-clause-budget g c = λ pos h s keeps. budget_step_equal g.met.T.Eq.laws c.args.self.now c.put_ref.new.self c.args.item.now c.args.count (subst (λ s. IsState g.T.PartialEq.eq s) c.self.view_is c.self.invariant) c.in_ok-put_ref.ensures.step h s keeps
+
 pub returns-then-adjust-clause-step : goal.returns-then-adjust-clause-step
 returns-then-adjust-clause-step g c = λ _. record { item = c.args.item.now; equal = g.met.T.Eq.laws.refl c.args.item.now; step = c.adjust.ensures.present c.if-adjust.true }
 

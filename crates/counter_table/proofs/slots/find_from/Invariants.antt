@@ -2,7 +2,7 @@ use Rattle.std.proofs.Common.{◌-◌, length}
 use Rattle.counter_table.specs.Homes.{home_in}
 use Rattle.counter_table.specs.Probes.{IsPassed}
 use Rattle.counter_table.proofs.LookupHomes.{Stands}
-use Rattle.counter_table.proofs.slots.find.Given as goal
+use Rattle.counter_table.proofs.slots.find_from.Given as goal
 
 -- the places so far hold other items
 abbrev pub invariant-probe : goal.invariant-probe

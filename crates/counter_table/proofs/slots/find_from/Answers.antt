@@ -5,11 +5,11 @@ use Rattle.counter_table.specs.Slots.{Held, held, slot_at}
 use Rattle.counter_table.proofs.LookupReach.{free_from_few}
 use Rattle.counter_table.proofs.LookupHomes.{some_size, home_of-below, stands_first, stands_within, stands_next}
 use Rattle.counter_table.proofs.LookupProbes.{IsProbe-hit, IsPassed-none, IsPassed-more, IsPassed-below}
-use Rattle.counter_table.proofs.slots.find.Goals as goal
+use Rattle.counter_table.proofs.slots.find_from.Goals as goal
 
 pub probe-init : goal.probe-init
 probe-init g c = record {
-  stands = stands_first g.T.Hash.hash_input c.args.item.now _ c.requires.size _ c.home-place.ensures;
+  stands = stands_first g.T.Hash.hash_input c.args.item.now _ c.requires.size _ c.requires.home;
   passed = IsPassed-none _ _ _ _;
 }
 
