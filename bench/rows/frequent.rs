@@ -189,7 +189,7 @@ pub fn rows(t: &Table) {
         let turns = ((1 << 21) / full) as u64;
         // so many questions, in an order that no branch predictor learns
         let asked = 1 << 18;
-        let hits: Vec<i64> = (0..asked).map(|n| distinct[mixed(n) as u64 as usize % full]).collect();
+        let hits: Vec<i64> = (0..asked).map(|n| distinct[(mixed(n) as u64 >> 33) as usize % full]).collect();
         let misses = &others[..asked];
         let name = |what: &str| format!("frequent, {what}, {size} slots");
         let each = |what: &str| name(&format!("{what}, a counter"));
@@ -198,6 +198,10 @@ pub fn rows(t: &Table) {
         row!(t, &name("update by texts, Zipf"), 1, len; rattle_frequent_update_texts, update_texts; shape, zipf, []);
         row!(t, &name("estimate, hit"), 4, asked; rattle_frequent_estimate, estimate; shape, mine, hits);
         row!(t, &name("estimate, miss"), 4, asked; rattle_frequent_estimate, estimate; shape, mine, misses);
+        row!(t, &name("update_all, Zipf"), 1, len; rattle_frequent_update_all, update; shape, zipf, []);
+        row!(t, &name("update_all, distinct"), 1, len; rattle_frequent_update_all, update; shape, distinct, []);
+        row!(t, &name("estimate_all, hit"), 4, asked; rattle_frequent_estimate_all, estimate; shape, mine, hits);
+        row!(t, &name("estimate_all, miss"), 4, asked; rattle_frequent_estimate_all, estimate; shape, mine, misses);
         row!(t, &each("merge"), turns / 8, full; rattle_frequent_merge, merge; shape, mine, theirs);
         row!(t, &each("walk"), turns, full; rattle_frequent_walk, walk; shape, mine, []);
         row!(t, &each("report"), turns / 8, full; rattle_frequent_report, report; shape, mine, []);
