@@ -226,6 +226,18 @@ class Tests:
             lines, replies = sessions.texts_of(rows)
             self.plays(f"session {name}", lines, replies, status)
 
+    def tail_budget(self):
+        """What is kept and shown of sketches that were purged, restored and merged."""
+        for name, first, kept, wanted in sessions.KEPT:
+            asks = [f"ask {name} {n}" for n in range(first, 8)]
+            lines = sessions.text(sessions.PURGED + asks + [f"status {name}", f"reset {name}", f"status {name}"])
+            status, out, _, _ = self.run(lines)
+            replies = [reply.split() for reply in out.decode().splitlines()]
+            lower = sum(int(reply[3]) for reply in replies[len(sessions.PURGED) : -3])
+            numbers, after = [tuple(int(reply[place]) for place in (4, 6, 10)) for reply in (replies[-3], replies[-1])]
+            told = (status, lower, numbers, after)
+            self.check(f"tail budget of {name} from {first}", told == (0, kept, wanted, (0, 0, wanted[2])), told)
+
     def lines(self):
         """What is a line, and what is none."""
         for line in sessions.NO_COMMANDS:
@@ -453,6 +465,7 @@ def main():
         tests.counted_calls()
         tests.hard_items_and_ranges()
         tests.sessions()
+        tests.tail_budget()
         tests.lines()
         tests.streams_that_move_a_little()
         tests.replies_before_reads()

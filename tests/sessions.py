@@ -242,6 +242,113 @@ WINDOWS = [
     ("hturn x", "bad line 19"),
 ]
 
+# Sketches that are saved, restored and merged.
+SAVED_AND_MERGED = [
+    ("frequent a 8", "ok"),
+    ("add a 5 x", "ok"),
+    ("save a p", "ok"),
+    ("add a 2 x", "ok"),
+    ("restore p b", "ok"),
+    ("merge a b", "ok"),
+    ("ask a x", "estimate 12 lower 12 upper 12"),
+    ("ask b x", "estimate 5 lower 5 upper 5"),
+    ("merge a a", "refused SameName"),
+    ("save a p", "refused NameTaken"),
+    ("halve a", "refused WrongKind"),
+    ("status a", "frequent active 1 error 0 total 12 size 8 max 8 capacity 6"),
+]
+
+# Weights of three kinds of sketches.
+WEIGHED = [
+    ("frequent f 8", "ok"),
+    ("counti i 4 128 9001", "ok"),
+    ("countu u 4 128 9001", "ok"),
+    ("add f 5 x", "ok"),
+    ("rows f fp 0", "rows 1 x 5 5 5"),
+    ("reset f", "ok"),
+    ("ask f x", "estimate 0 lower 0 upper 0"),
+    ("adds i -5 x", "ok"),
+    ("ask i x", "estimate -5 lower -5 upper -5"),
+    ("add u 100 x", "ok"),
+    ("decay u 99 100", "ok"),
+    ("ask u x", "estimate 99 lower 99 upper 101"),
+    ("halve u", "ok"),
+    ("ask u x", "estimate 49 lower 49 upper 50"),
+]
+
+# Filters that are saved and combined.
+COMBINED = [
+    ("bloom b 64 1 9001", "ok"),
+    ("save b p", "ok"),
+    ("image p", "image 030115040100000029230000000000000100000000000000"),
+    ("insert b x", "ok"),
+    ("restore p c", "ok"),
+    ("ask c x", "no"),
+    ("union c b", "ok"),
+    ("intersect c b", "ok"),
+    ("ask c x", "yes"),
+    ("difference c b", "ok"),
+    ("ask c x", "no"),
+    ("ask b x", "yes"),
+]
+
+# Commands that are refused for their names, before all else.
+REFUSED_NAMES = [
+    ("frequent f 8", "ok"),
+    ("save f p", "ok"),
+    ("frequent f 12", "refused NameTaken"),
+    ("merge g g", "refused NoSuchName"),
+    ("union f g", "refused NoSuchName"),
+    ("union f f", "refused SameName"),
+    ("save g p", "refused NoSuchName"),
+    ("restore q f", "refused NoSuchName"),
+    ("restore p f", "refused NameTaken"),
+    ("ask p x", "refused NoSuchName"),
+    ("image f", "refused NoSuchName"),
+]
+
+# Commands that are refused for their kinds, before their arguments.
+REFUSED_KINDS = [
+    ("countu u 4 128 9001", "ok"),
+    ("bloom b 64 1 9001", "ok"),
+    ("bloom c 128 1 9001", "ok"),
+    ("frequent f 12", "refused MapSizeNotPowerOfTwo"),
+    ("sampled f 8 3", "refused BadSampleSize"),
+    ("sampled f 8 2", "ok"),
+    ("sampled f 8 3", "refused NameTaken"),
+    ("merge b c", "refused WrongKind"),
+    ("union b c", "refused Mismatch"),
+    ("decay b 2 1", "refused WrongKind"),
+    ("decay u 2 1", "refused BadFraction"),
+    ("rows u fp 0", "refused WrongKind"),
+]
+
+# Six and seven items, once each, saved and restored: to the first a heavy item is added, and the second is merged into a
+# sketch of more slots.
+PURGED = [
+    "frequent six 8",
+    *[f"add six 1 {n}" for n in range(1, 7)],
+    "save six six",
+    "restore six heavy",
+    "add heavy 100 7",
+    "frequent seven 8",
+    *[f"add seven 1 {n}" for n in range(1, 8)],
+    "save seven seven",
+    "restore seven light",
+    "frequent large 64",
+    "add large 5 1",
+    "merge large light",
+]
+
+# A sketch, and of its items from this one to 7 the lower bounds added up; its error, its total and the slots that it may
+# have. The least size is 8, so three items may be set aside: what is kept and three times the error are at most the total.
+# With item 1 aside, what is kept of the others and twice the error are at most 6, which the others weigh.
+KEPT = [
+    ("heavy", 1, 99, (1, 106, 8)),
+    ("large", 1, 5, (1, 12, 64)),
+    ("large", 2, 0, (1, 12, 64)),
+]
+
 # What a run is of, and how it ends: with status 1 behind a bad line, else with 0.
 SESSIONS = [
     ("questions behind the main job", MAIN_JOB + QUESTIONS, 1),
@@ -254,6 +361,11 @@ SESSIONS = [
     ("filters and counts that refuse", FILTERS_AND_COUNTS_THAT_REFUSE, 0),
     ("wrong kinds", WRONG_KINDS, 0),
     ("images", IMAGES, 0),
+    ("saved and merged", SAVED_AND_MERGED, 0),
+    ("weighed", WEIGHED, 0),
+    ("combined", COMBINED, 0),
+    ("refused names", REFUSED_NAMES, 0),
+    ("refused kinds", REFUSED_KINDS, 0),
 ]
 
 NO_COMMANDS = [

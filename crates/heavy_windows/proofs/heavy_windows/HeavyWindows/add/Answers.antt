@@ -39,11 +39,11 @@ pub returns-in-Some-clause-state : goal.returns-in-Some-clause-state
 returns-in-Some-clause-state g c = invariant_of-self g c
 
 pub returns-in-Some-clause-call : goal.returns-in-Some-clause-call
-returns-in-Some-clause-call g c = record {
+returns-in-Some-clause-call g c = let is_put = put g c in record {
   zero = search rules;
   adds = search rules;
   stands = search rules;
-  others = put_others_of c.args.tenant c.add.new.self _ c.args.self.now _ c.self.view_is (put g c);
+  others = put_others_of c.args.tenant c.add.new.self _ c.args.self.now _ c.self.view_is is_put;
   err = on_err_weaker c.add.result
       (λ e. put_back c.args.tenant c.self.inside.limit c.self.inside.max_map_size c.self.inside.tenants.entries (c.get_mut.follows.lender c.add.new.self).entries c.in-Some.windows.now c.args.self.now c.self.view_is (sym c.in-Some.ensures.value) (rw e (c.get_mut.follows.holds c.in-Some.windows.now).0))
       c.add.ensures.err;
