@@ -226,6 +226,17 @@ class Tests:
             lines, replies = sessions.texts_of(rows)
             self.plays(f"session {name}", lines, replies, status)
 
+    def purges(self):
+        """What is left where one item more comes than there is room for."""
+        for size, last, wanted in sessions.DISTINCT:
+            replies = (last + 1) * b"ok\n" + f"frequent {wanted}\n".encode()
+            self.plays(f"{last} items in {size} slots", sessions.distinct_items(size, last), replies, 0)
+        for weight, allowed in sessions.SAMPLED:
+            status, out, _, _ = self.run(sessions.sampled_items(weight))
+            numbers, bounds = out.decode().splitlines()[-2:]
+            holds = any(said in numbers and lower in bounds.split(" upper")[0] for said, lower in allowed)
+            self.check(f"two counters sampled, and a weight of {weight}", holds and status == 0, out)
+
     def tail_budget(self):
         """What is kept and shown of sketches that were purged, restored and merged."""
         for name, first, kept, wanted in sessions.KEPT:
@@ -465,6 +476,7 @@ def main():
         tests.counted_calls()
         tests.hard_items_and_ranges()
         tests.sessions()
+        tests.purges()
         tests.tail_budget()
         tests.lines()
         tests.streams_that_move_a_little()

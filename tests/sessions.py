@@ -323,6 +323,86 @@ REFUSED_KINDS = [
     ("rows u fp 0", "refused WrongKind"),
 ]
 
+# Greatest sizes and sample sizes.
+SIZES = [
+    ("frequent s 0", "refused MapSizeNotPowerOfTwo"),
+    ("frequent s 4", "refused MapSizeTooSmall"),
+    ("frequent s 12", "refused MapSizeNotPowerOfTwo"),
+    ("frequent s 2147483648", "refused MapSizeTooLarge"),
+    ("frequent s 8", "ok"),
+    ("sampled t 12 2", "refused MapSizeNotPowerOfTwo"),
+    ("sampled t 8 0", "refused BadSampleSize"),
+    ("sampled t 8 3", "refused BadSampleSize"),
+    ("sampled t 8 8", "refused BadSampleSize"),
+    ("sampled t 2048 1026", "refused BadSampleSize"),
+    ("sampled t 8 2", "ok"),
+    ("sampled u 8 6", "ok"),
+    ("sampled v 2048 1024", "ok"),
+]
+
+# Item 7 alone is left, whichever six are sampled.
+HEAVY = [
+    ("frequent s 8", "ok"),
+    *[(f"add s 1 {n}", "ok") for n in range(1, 7)],
+    ("add s 100 7", "ok"),
+    ("status s", "frequent active 1 error 1 total 106 size 8 max 8 capacity 6"),
+    ("ask s 7", "estimate 100 lower 99 upper 100"),
+    ("ask s 1", "estimate 0 lower 0 upper 1"),
+]
+
+# A light sketch of 8 slots and a heavy one of 64, each merged into the other.
+UNEQUAL = [
+    ("frequent light 8", "ok"),
+    *[(f"add light 1 {n}", "ok") for n in range(1, 8)],
+    ("save light light", "ok"),
+    ("frequent heavy 64", "ok"),
+    ("add heavy 5 1", "ok"),
+    ("merge light heavy", "ok"),
+    ("status light", "frequent active 1 error 1 total 12 size 8 max 8 capacity 6"),
+    ("ask light 1", "estimate 6 lower 5 upper 6"),
+    ("restore light again", "ok"),
+    ("merge heavy again", "ok"),
+    ("status heavy", "frequent active 1 error 1 total 12 size 8 max 64 capacity 6"),
+    ("ask heavy 1", "estimate 6 lower 5 upper 6"),
+    ("reset heavy", "ok"),
+    ("status heavy", "frequent active 0 error 0 total 0 size 8 max 64 capacity 6"),
+]
+
+# Totals up to the greatest.
+TOTALS = [
+    ("frequent s 8", "ok"),
+    ("add s 18446744073709551615 1", "ok"),
+    ("frequent t 8", "ok"),
+    ("add t 1 2", "ok"),
+    ("add s 1 2", "refused WeightOverflow"),
+    ("merge s t", "refused WeightOverflow"),
+    ("add s 0 2", "ok"),
+    ("status s", "frequent active 1 error 0 total 18446744073709551615 size 8 max 8 capacity 6"),
+    ("status t", "frequent active 1 error 0 total 1 size 8 max 8 capacity 6"),
+]
+
+# A greatest size and how many items came once each, and the numbers of their sketch: one more than three quarters of the
+# greatest size takes 1 from all, which leaves none.
+DISTINCT = [
+    (8, 0, "active 0 error 0 total 0 size 8 max 8 capacity 6"),
+    (8, 6, "active 6 error 0 total 6 size 8 max 8 capacity 6"),
+    (8, 7, "active 0 error 1 total 7 size 8 max 8 capacity 6"),
+    (16, 7, "active 7 error 0 total 7 size 16 max 16 capacity 12"),
+    (64, 7, "active 7 error 0 total 7 size 16 max 64 capacity 12"),
+    (4096, 3072, "active 3072 error 0 total 3072 size 4096 max 4096 capacity 3072"),
+    (4096, 3073, "active 0 error 1 total 3073 size 4096 max 4096 capacity 3072"),
+    (65536, 24577, "active 24577 error 0 total 24577 size 65536 max 65536 capacity 49152"),
+    (65536, 49152, "active 49152 error 0 total 49152 size 65536 max 65536 capacity 49152"),
+    (65536, 49153, "active 0 error 1 total 49153 size 65536 max 65536 capacity 49152"),
+]
+
+# A weight of item 7, where the items 1 to 6 came once each into a sketch of 8 slots whose purges sample two counters: what
+# the sketch and the item may say. The error is the greater of two counts: 1, or 100 where that of 7 is sampled.
+SAMPLED = [
+    (1, [("active 0 error 1 total 7", "lower 0")]),
+    (100, [("active 1 error 1 total 106", "lower 99"), ("active 0 error 100 total 106", "lower 0")]),
+]
+
 # Six and seven items, once each, saved and restored: to the first a heavy item is added, and the second is merged into a
 # sketch of more slots.
 PURGED = [
@@ -349,6 +429,76 @@ KEPT = [
     ("large", 2, 0, (1, 12, 64)),
 ]
 
+# Windows of tenants, of which the last two are reported on: each has 8 slots and so holds six items, and seven once each
+# leave an error of 1.
+LAST_TWO_WINDOWS = [
+    ("windows 2 8", "ok"),
+    ("hturn 1", "ok"),
+    ("hreport 1 fn 0", "report total 0 error 0 rows 0"),
+    ("hadd 1 5 x", "ok"),
+    ("hreport 1 fn 0", "report total 5 error 0 rows 1 x 5 5 5"),
+    ("hturn 1", "ok"),
+    ("hreport 1 fn 0", "report total 5 error 0 rows 1 x 5 5 5"),
+    ("hadd 1 7 x", "ok"),
+    ("hreport 1 fn 0", "report total 12 error 0 rows 1 x 12 12 12"),
+    ("hadd 1 2 y", "ok"),
+    ("hreport 1 fn 0", "report total 14 error 0 rows 2 x 12 12 12 y 2 2 2"),
+    ("hadd 2 9 x", "ok"),
+    ("hreport 2 fn 0", "report total 9 error 0 rows 1 x 9 9 9"),
+    ("hturn 1", "ok"),
+    ("hreport 1 fn 0", "report total 9 error 0 rows 2 x 7 7 7 y 2 2 2"),
+    ("hadd 3 0 x", "ok"),
+    ("hreport 3 fn 0", "report total 0 error 0 rows 0"),
+    *[(f"hadd 4 1 {n}", "ok") for n in range(1, 8)],
+    ("hreport 4 fn 0", "report total 7 error 1 rows 0"),
+    ("hturn 4", "ok"),
+    ("hreport 4 fn 0", "report total 7 error 1 rows 0"),
+    *[(f"hadd 4 1 {n}", "ok") for n in range(1, 8)],
+    ("hreport 4 fn 0", "report total 14 error 2 rows 0"),
+    ("hadd 5 18446744073709551615 x", "ok"),
+    (
+        "hreport 5 fn 0",
+        "report total 18446744073709551615 error 0 rows 1"
+        " x 18446744073709551615 18446744073709551615 18446744073709551615",
+    ),
+    ("hturn 5", "ok"),
+    ("hadd 5 1 y", "ok"),
+    ("hreport 5 fn 0", "refused WeightOverflow"),
+    ("hturn 5", "ok"),
+    ("hreport 5 fn 0", "report total 1 error 0 rows 1 y 1 1 1"),
+    ("hturn 5", "ok"),
+    ("hreport 5 fn 0", "report total 0 error 0 rows 0"),
+    ("hadd 2 0 x", "ok"),
+    ("hreport 2 fn 0", "report total 9 error 0 rows 1 x 9 9 9"),
+]
+
+# Limits of windows: there is one set of them in a run.
+LIMITS = [
+    ("windows 0 8", "refused BadWindows"),
+    ("windows 1025 4", "refused BadWindows"),
+    ("windows 2 12", "refused MapSizeNotPowerOfTwo"),
+    ("windows 2 4", "refused MapSizeTooSmall"),
+    ("windows 2 2147483648", "refused MapSizeTooLarge"),
+    ("windows 1024 8", "ok"),
+]
+
+
+def windows_of_eight_tenants(limit):
+    """Thirty windows of each of eight tenants, of which so many are kept: in each one item, the window's number, whose
+    weight is the tenant's number and the window's; and a report on each."""
+    tenants = range(1, 9)
+    rows = [(f"windows {limit} 64", "ok")]
+    for n in range(30):
+        for tenant in tenants:
+            rows += [(f"hturn {tenant}", "ok"), (f"hadd {tenant} {tenant + n} {n}", "ok")]
+    for tenant in tenants:
+        kept = [(n, tenant + n) for n in range(29, 29 - limit, -1)]
+        shown = "".join(f" {n} {weight} {weight} {weight}" for n, weight in kept)
+        total = sum(weight for _, weight in kept)
+        rows.append((f"hreport {tenant} fn 0", f"report total {total} error 0 rows {limit}{shown}"))
+    return rows
+
+
 # What a run is of, and how it ends: with status 1 behind a bad line, else with 0.
 SESSIONS = [
     ("questions behind the main job", MAIN_JOB + QUESTIONS, 1),
@@ -366,6 +516,13 @@ SESSIONS = [
     ("combined", COMBINED, 0),
     ("refused names", REFUSED_NAMES, 0),
     ("refused kinds", REFUSED_KINDS, 0),
+    ("sizes", SIZES, 0),
+    ("a heavy item", HEAVY, 0),
+    ("merges of unequal sizes", UNEQUAL, 0),
+    ("totals", TOTALS, 0),
+    ("the last two windows", LAST_TWO_WINDOWS, 0),
+    ("limits of windows", LIMITS, 0),
+    *[(f"{limit} windows of each tenant", windows_of_eight_tenants(limit), 0) for limit in (1, 5, 24)],
 ]
 
 NO_COMMANDS = [
@@ -455,6 +612,16 @@ READS = [
         102,
     ),
 ]
+
+
+def distinct_items(size, last):
+    """The items 1 to the last, once each into a sketch, and then its numbers."""
+    return text([f"frequent s {size}", *[f"add s 1 {n}" for n in range(1, last + 1)], "status s"])
+
+
+def sampled_items(weight):
+    """The items 1 to 6, once each, and 7 with a weight, and then what the sketch and item 7 say."""
+    return text(["sampled s 8 2", *[f"add s 1 {n}" for n in range(1, 7)], f"add s {weight} 7", "status s", "ask s 7"])
 
 
 def thousands_of_items():
