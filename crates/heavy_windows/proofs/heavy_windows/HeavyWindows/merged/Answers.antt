@@ -1,4 +1,4 @@
-use Rattle.std.proofs.Common.{◌≡◌, ℕ, [], unwrap_or, ap, sym, ◌∙◌}
+use Rattle.std.proofs.Common.{◌≡◌, [], unwrap_or, ap, sym, ◌∙◌}
 use Rattle.heavy_windows.specs.State.{WindowsState, at_tenant}
 use Rattle.heavy_windows.proofs.heavy_windows.HeavyWindows.merged.Given as given
 use Rattle.heavy_windows.proofs.heavy_windows.HeavyWindows.merged.Goals as goal
