@@ -278,8 +278,8 @@ class Tests:
             self.check(f"reads of {read_step} of {lines[:30]}", told == (0, replies, b"", reads), (told[2:], out[-100:]))
 
     def step_that_fails(self, lines, replies, status, read_step, write_step, which, calls):
-        """Each of so many calls fails in a run of its own, and so does none behind them; a read that is interrupted is made
-        again."""
+        """Each of so many calls fails in a run of its own, and none behind them; a read that is interrupted is made again,
+        where no line is bad."""
         for n in range(1, calls + 2):
             settings = {"READ_STEP": read_step, "WRITE_STEP": write_step, which: n}
             ended, out, said, numbers = self.run(lines, **settings)
@@ -289,7 +289,7 @@ class Tests:
                 continue
             told = (ended, replies.startswith(out), said, numbers[1])
             self.check(f"{where}: it says so", told == (2, True, b"input or output failed\n", 1), (ended, out, said))
-            if which == "FAILS_READ_AT":
+            if which == "FAILS_READ_AT" and status == 0:
                 ended, out, said, numbers = self.run(lines, INTERRUPTED=1, **settings)
                 self.check(f"{where}, interrupted", (ended, out, said, numbers[1]) == (status, replies, b"", 1), out)
 
