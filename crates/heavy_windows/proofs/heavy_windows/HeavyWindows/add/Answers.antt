@@ -52,8 +52,21 @@ returns-in-Some-clause-call g c = let is_put = put g c in record {
   succeeds = search rules;
 }
 
+-- the first window was refused, or the weight
+
+pub returns-in_err-window-clause-call : goal.returns-in_err-window-clause-call
+returns-in_err-window-clause-call g c =
+    let unknown : at_tenant c.args.tenant (record { limit = c.self.inside.limit; max_map_size = c.self.inside.max_map_size; tenants = c.self.inside.tenants.entries }) ≡ [] = ap (λ o. unwrap_or o []) (sym c.in_default.ensures.value) in
+    grind (arith, common_steps)
+
+pub returns-in_err-update_with_count-clause-call : goal.returns-in_err-update_with_count-clause-call
+returns-in_err-update_with_count-clause-call g c =
+    let unknown : at_tenant c.args.tenant (record { limit = c.self.inside.limit; max_map_size = c.self.inside.max_map_size; tenants = c.self.inside.tenants.entries }) ≡ [] = ap (λ o. unwrap_or o []) (sym c.in_default.ensures.value) in
+    grind (arith, common_steps)
+
 pub returns-in_err-insert-clause-call : goal.returns-in_err-insert-clause-call
 returns-in_err-insert-clause-call g c =
+    let unknown : at_tenant c.args.tenant (record { limit = c.self.inside.limit; max_map_size = c.self.inside.max_map_size; tenants = c.self.inside.tenants.entries }) ≡ [] = ap (λ o. unwrap_or o []) (sym c.in_default.ensures.value) in
     let old = c.self.inside.tenants.entries in
     let same : c.insert.new.self.entries ≡ old = rw c.get_mut.follows.holds-at-none at c.in_err-insert.ensures.err in
     let new : WindowsState g.row.T.Denot = record { limit = c.self.inside.limit; max_map_size = c.self.inside.max_map_size; tenants = c.insert.new.self.entries } in
