@@ -7,9 +7,10 @@
  * whether one was refused, how many blocks were not given back, and how many were given back where requests were counted.
  *
  * FAILS_READ_AT and FAILS_WRITE_AT are the numbers of a read of standard input and of a write to standard output that
- * fail, with INTERRUPTED as a signal makes a call fail that is to be made again. ONE_BYTE has each of these move one byte
- * at most. Where one of FAILS_READ_AT, FAILS_WRITE_AT and ONE_BYTE is set, the four numbers are how many reads and
- * writes there were, whether one failed, 0 and 0.
+ * fail, with INTERRUPTED as a signal makes a call fail that is to be made again. READ_STEP and WRITE_STEP are how many
+ * bytes such a read and such a write move at most. Where one of these is set, the four numbers are how many reads there
+ * were, whether a call failed, how many writes there were, and before how many reads not as many lines were written as
+ * were read whole.
  */
 #define _GNU_SOURCE
 #include <dlfcn.h>
@@ -39,11 +40,15 @@ static int counting;
 static long fails_read_at;
 static long fails_write_at;
 static int interrupted;
-static int one_byte;
+static long read_step;
+static long write_step;
 static int streams;
 static long reads;
 static long writes;
 static long failures;
+static long lines_read;
+static long lines_written;
+static long late_reads;
 
 static long number_of(const char *name) {
     const char *text = getenv(name);
@@ -61,8 +66,9 @@ __attribute__((constructor)) static void begin(void) {
     fails_read_at = number_of("FAILS_READ_AT");
     fails_write_at = number_of("FAILS_WRITE_AT");
     interrupted = number_of("INTERRUPTED") > 0;
-    one_byte = number_of("ONE_BYTE") > 0;
-    streams = one_byte || fails_read_at || fails_write_at;
+    read_step = number_of("READ_STEP");
+    write_step = number_of("WRITE_STEP");
+    streams = read_step || write_step || fails_read_at || fails_write_at;
     loaded = 1;
     counting = !getenv("REFUSED_MARKED");
 }
@@ -74,7 +80,7 @@ __attribute__((destructor)) static void end(void) {
     FILE *report = path ? fopen(path, "w") : NULL;
     if (report) {
         if (streams) {
-            fprintf(report, "%ld %ld 0 0\n", reads + writes, failures);
+            fprintf(report, "%ld %ld %ld %ld\n", reads, failures, writes, late_reads);
         } else {
             fprintf(report, "%ld %ld %ld %ld\n", requests, refusals, blocks, given_back);
         }
@@ -150,28 +156,44 @@ static int fails(long *calls, long at) {
     return 1;
 }
 
-ssize_t read(int file, void *bytes, size_t size) {
-    if (file == 0 && streams && loaded) {
-        if (fails(&reads, fails_read_at)) {
-            return -1;
-        }
-        if (one_byte && size > 1) {
-            size = 1;
-        }
+/* How many line feeds there are. */
+static long lines_in(const char *bytes, ssize_t size) {
+    long lines = 0;
+    for (ssize_t i = 0; i < size; i++) {
+        lines += bytes[i] == '\n';
     }
-    return real_read(file, bytes, size);
+    return lines;
+}
+
+ssize_t read(int file, void *bytes, size_t size) {
+    if (file != 0 || !streams || !loaded) {
+        return real_read(file, bytes, size);
+    }
+    late_reads += lines_written != lines_read;
+    if (fails(&reads, fails_read_at)) {
+        return -1;
+    }
+    if (read_step && size > (size_t)read_step) {
+        size = read_step;
+    }
+    ssize_t moved = real_read(file, bytes, size);
+    lines_read += lines_in(bytes, moved);
+    return moved;
 }
 
 ssize_t write(int file, const void *bytes, size_t size) {
-    if (file == 1 && streams && loaded) {
-        if (fails(&writes, fails_write_at)) {
-            return -1;
-        }
-        if (one_byte && size > 1) {
-            size = 1;
-        }
+    if (file != 1 || !streams || !loaded) {
+        return real_write(file, bytes, size);
     }
-    return real_write(file, bytes, size);
+    if (fails(&writes, fails_write_at)) {
+        return -1;
+    }
+    if (write_step && size > (size_t)write_step) {
+        size = write_step;
+    }
+    ssize_t moved = real_write(file, bytes, size);
+    lines_written += lines_in(bytes, moved);
+    return moved;
 }
 
 ssize_t __write(int file, const void *bytes, size_t size) {

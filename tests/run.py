@@ -13,6 +13,7 @@ import tempfile
 import threading
 
 import examples
+import sessions
 import trials
 
 HERE = os.path.dirname(os.path.abspath(__file__))
@@ -182,7 +183,7 @@ class Tests:
         as is asked for, and with streams that move a byte. What was written is then known to the byte."""
         for name, lines, setting in [
             ("streams", WORKED, {}),
-            ("a byte at a time", WORKED[: WORKED.index(b"bloom")], {"ONE_BYTE": 1}),
+            ("a byte at a time", WORKED[: WORKED.index(b"bloom")], {"READ_STEP": 1, "WRITE_STEP": 1}),
         ]:
             whole = self.run(lines)[1]
             replies = whole.splitlines(keepends=True)
@@ -213,11 +214,95 @@ class Tests:
         for which in ["FAILS_READ_AT", "FAILS_WRITE_AT"]:
             n = 1
             while True:
-                status, out, said, numbers = self.run(lines, **{which: n, "INTERRUPTED": 1, "ONE_BYTE": 1})
+                status, out, said, numbers = self.run(lines, **{which: n, "INTERRUPTED": 1, "READ_STEP": 1, "WRITE_STEP": 1})
                 self.check(f"interrupted, {which} {n}", (status, out, said) == (0, whole, b""), (status, out, said))
                 if numbers[1] == 0:
                     break
                 n += 1
+
+    def sessions(self):
+        """Lines of each kind, and the reply to each."""
+        for name, rows, status in sessions.SESSIONS:
+            lines, replies = sessions.texts_of(rows)
+            self.plays(f"session {name}", lines, replies, status)
+
+    def purges(self):
+        """What is left where one item more comes than there is room for."""
+        for size, last, wanted in sessions.DISTINCT:
+            replies = (last + 1) * b"ok\n" + f"frequent {wanted}\n".encode()
+            self.plays(f"{last} items in {size} slots", sessions.distinct_items(size, last), replies, 0)
+        for weight, allowed in sessions.SAMPLED:
+            status, out, _, _ = self.run(sessions.sampled_items(weight))
+            numbers, bounds = out.decode().splitlines()[-2:]
+            holds = any(said in numbers and lower in bounds.split(" upper")[0] for said, lower in allowed)
+            self.check(f"two counters sampled, and a weight of {weight}", holds and status == 0, out)
+
+    def tail_budget(self):
+        """What is kept and shown of sketches that were purged, restored and merged."""
+        for name, first, kept, wanted in sessions.KEPT:
+            asks = [f"ask {name} {n}" for n in range(first, 8)]
+            lines = sessions.text(sessions.PURGED + asks + [f"status {name}", f"reset {name}", f"status {name}"])
+            status, out, _, _ = self.run(lines)
+            replies = [reply.split() for reply in out.decode().splitlines()]
+            lower = sum(int(reply[3]) for reply in replies[len(sessions.PURGED) : -3])
+            numbers, after = [tuple(int(reply[place]) for place in (4, 6, 10)) for reply in (replies[-3], replies[-1])]
+            told = (status, lower, numbers, after)
+            self.check(f"tail budget of {name} from {first}", told == (0, kept, wanted, (0, 0, wanted[2])), told)
+
+    def lines(self):
+        """What is a line, and what is none."""
+        for line in sessions.NO_COMMANDS:
+            lines = b"frequent s 8\n\n  \n" + line + b"\nstatus s\n"
+            self.plays(f"no command {line}", lines, b"ok\nbad line 4\n", 1)
+        for lines, replies, status in sessions.LINE_ENDS:
+            self.plays(f"line ends of {lines}", lines, replies, status)
+        self.plays("thousands of items", *sessions.thousands_of_items(), 0)
+        self.plays("a long line", *sessions.long_line(), 0)
+
+    def plays(self, name, lines, replies, status):
+        ended, out, said, _ = self.run(lines)
+        self.check(name, (ended, out, said) == (status, replies, b""), (ended, out[:1000], said))
+
+    def streams_that_move_a_little(self):
+        """How often the program reads and writes, over streams that move so many bytes a call."""
+        for rows, read_step, write_step, reads, writes in sessions.STEPS:
+            lines, replies = sessions.texts_of(rows)
+            status, out, _, numbers = self.run(lines, READ_STEP=read_step, WRITE_STEP=write_step)
+            told = (out, numbers[0], numbers[2])
+            self.check(f"steps {read_step} and {write_step}", told == (replies, reads, writes), (out, numbers))
+            self.step_that_fails(lines, replies, status, read_step, write_step, "FAILS_READ_AT", reads)
+            self.step_that_fails(lines, replies, status, read_step, write_step, "FAILS_WRITE_AT", writes)
+        for lines, replies, read_step, reads in sessions.READS:
+            status, out, said, numbers = self.run(lines, READ_STEP=read_step)
+            told = (status, out, said, numbers[0])
+            self.check(f"reads of {read_step} of {lines[:30]}", told == (0, replies, b"", reads), (told[2:], out[-100:]))
+
+    def step_that_fails(self, lines, replies, status, read_step, write_step, which, calls):
+        """Each of so many calls fails in a run of its own, and none behind them; a read that is interrupted is made again,
+        where no line is bad."""
+        for n in range(1, calls + 2):
+            settings = {"READ_STEP": read_step, "WRITE_STEP": write_step, which: n}
+            ended, out, said, numbers = self.run(lines, **settings)
+            where = f"steps {read_step} and {write_step}, {which} {n}"
+            if n > calls:
+                self.check(f"{where}: it is whole", (ended, out, said, numbers[1]) == (status, replies, b"", 0), out)
+                continue
+            told = (ended, replies.startswith(out), said, numbers[1])
+            self.check(f"{where}: it says so", told == (2, True, b"input or output failed\n", 1), (ended, out, said))
+            if which == "FAILS_READ_AT" and status == 0:
+                ended, out, said, numbers = self.run(lines, INTERRUPTED=1, **settings)
+                self.check(f"{where}, interrupted", (ended, out, said, numbers[1]) == (status, replies, b"", 1), out)
+
+    def replies_before_reads(self):
+        """Before each read, each line that was read whole has its reply: no line of these has none."""
+        six = b"frequent s 8\nadd s 1 a\nadd s 1 b\nadd s 1 c\nadd s 1 d\nadd s 1 e\n"
+        for name, lines in [("six lines", six), ("worked lines", WORKED)]:
+            whole = self.run(lines)[1]
+            for step in [1, 2, 7, 10, 13, 23, 40, 100]:
+                status, out, said, numbers = self.run(lines, READ_STEP=step)
+                told = (status, out, said, numbers[3])
+                self.check(f"replies of {name} before reads of {step}", told == (0, whole, b"", 0), (told[2:], out))
+        self.check("replies of six lines", self.run(six)[1] == 6 * b"ok\n")
 
     def answers_at_once(self):
         """Over a pipe that stays open each line is answered before the next is sent, also where it comes in two pieces, and
@@ -390,6 +475,12 @@ def main():
         tests.allocation_free_calls()
         tests.counted_calls()
         tests.hard_items_and_ranges()
+        tests.sessions()
+        tests.purges()
+        tests.tail_budget()
+        tests.lines()
+        tests.streams_that_move_a_little()
+        tests.replies_before_reads()
         tests.streams_that_fail()
         tests.interrupted_streams()
         tests.answers_at_once()

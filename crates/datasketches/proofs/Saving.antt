@@ -5,7 +5,7 @@ use Rattle.std.specs.Option.{MatchOption}
 use Rattle.std.proofs.lemmas.Result.{err_from_is_err_and}
 use Rattle.sketch_base.specs.Errors.{ErrorValue, invalid_argument, no_memory, refusal_of}
 use Rattle.sketch_base.specs.declared.fault.Fault.{Fault}
-use Rattle.datasketches.specs.Images.{IsWrittenBy, IsReadFrom}
+use Rattle.datasketches.specs.Images.{IsWrittenBy, IsReadFrom, GivesBack}
 use Rattle.sketch_frequencies.specs.Items.{Codec}
 use Rattle.datasketches.proofs.Saved.{read_first}
 use Rattle.datasketches.specs.Names.{at_name, Puts, AreSame}
@@ -41,6 +41,12 @@ module _ {T C : Type 0} (eq : T → T → Bool) (codec : Codec C) (content : T �
       IsReadFrom codec content saved sketch → reply ≡ refused no_memory → AreSame old.sketches new.sketches → Restores eq codec content image name old reply new
   restores_refused image name old new reply saved sketch found free images read is same =
       rw (found, free) (record { images = images; outcome = inr (no_memory, read_first codec content saved sketch read, (is, same)) })
+
+  -- an image that was read
+  pub restores_done : (image name : List ℕ) (old new : SessionState T) (saved : Image) (sketch : Sketch T) → at_name image old.images ≡ Some saved → at_name name old.sketches ≡ None → AreSame old.images new.images →
+      IsReadFrom codec content saved sketch → GivesBack eq codec content saved sketch → Puts name sketch old.sketches new.sketches → Restores eq codec content image name old Done new
+  restores_done image name old new saved sketch found free images read back puts =
+      rw (found, free) (record { images = images; outcome = inl (sketch, refl, read, back, puts) })
 
 module _ {T C : Type 0} (codec : Codec C) (content : T → C) where
   -- a sketch that was written

@@ -5,6 +5,7 @@ ghost use Rattle.std.specs.Io.BufRead.{strip_last};
 ghost use Rattle.std.specs.Io.KnownBytes.{Appends, IsAtEnd, prepend_known};
 ghost use Rattle.datasketches_cli.specs.Counts.{HasGrown};
 ghost use Rattle.datasketches_cli.specs.Serving.{AnswersNext, WritesFront};
+ghost use Rattle.datasketches_cli.specs.Steps.{nothing_served};
 ghost use Rattle.datasketches_cli.specs.Transcript.{Serves, bad_line};
 
 use crate::counted::Counted;
@@ -92,13 +93,32 @@ fn serve_lines<R: Read, W: Write>(
     ensures all_read { IfOk result (λ ended. ended ≡ Ended.All → IsAtEnd (R.remaining reader.new.inner)) }
     ensures all_written { OnOk result (writer.new.failures ≡ writer.old.failures) }
 {
-    let mut responder = Responder::new(alloc);
     let mut lines = LineReader::new(alloc)?;
+    let mut responder = Responder::new(alloc);
     let mut line = Vec::new(alloc);
+    answer_lines(&mut responder, &mut lines, reader, writer, &mut line)
+}
+
+/// The same, over what is kept from line to line: so nothing is let go where a call stops.
+fn answer_lines<R: Read, W: Write>(
+    responder: &mut Responder,
+    lines: &mut LineReader,
+    reader: &mut Counted<R>,
+    writer: &mut Counted<W>,
+    line: &mut Vec<u8>,
+) -> Result<Ended, Stopped>
+    requires serves { responder.old.state ≡ nothing_served }
+    requires gathers { string_bytes responder.old.replies ≡ [] }
+    requires unread { lines.old ≡ [] }
+    ensures served { IfOk result (Serves (R.remaining reader.old.inner)
+        (W.contents writer.old.inner) (W.contents writer.new.inner)) }
+    ensures all_read { IfOk result (λ ended. ended ≡ Ended.All → IsAtEnd (R.remaining reader.new.inner)) }
+    ensures all_written { OnOk result (writer.new.failures ≡ writer.old.failures) }
+{
     for before in 0..u128::MAX {
         let number = before + 1;
-        write_due(&lines, writer, &mut responder.replies)?;
-        let (became, more) = answer_next(&mut responder, &mut lines, reader, &mut line)?;
+        write_due(lines, writer, &mut responder.replies)?;
+        let (became, more) = answer_next(responder, lines, reader, line)?;
         if is_bad(became) {
             write_bad(writer, &mut responder.replies, number)?;
             return Ok(Ended::BadLine(number));

@@ -1,7 +1,8 @@
-//! Worked examples, and a larger run.
+//! Worked examples. What sketches say of themselves and of items, refusals, purges and merges are lines of the program, in
+//! `tests/sessions.py`.
+mod batches;
 mod images;
 mod reports;
-mod sketches;
 mod tables;
 
 use sketch_base::Error;
@@ -18,18 +19,6 @@ pub fn once_each(
     for item in 1..=last {
         sketch.update(item)?;
     }
-    Ok(sketch)
-}
-
-/// A sketch of one item.
-pub fn of_one(
-    alloc: Global,
-    max_map_size: usize,
-    item: i64,
-    count: u64,
-) -> Result<FrequentItemsSketch<i64>, Error> {
-    let mut sketch = FrequentItemsSketch::new(alloc, max_map_size)?;
-    sketch.update_with_count(item, count)?;
     Ok(sketch)
 }
 

@@ -16,5 +16,3 @@ mod countmin;
 mod frequencies;
 #[cfg(test)]
 mod sessions;
-#[cfg(test)]
-mod windows;

@@ -1,6 +1,9 @@
 use Rattle.datasketches.proofs.Stepping.{action_fits, action_same}
 use Rattle.datasketches.proofs.session.Session.perform_recycling.Goals as goal
 
+pub returns-in-Ok-clause-step : goal.returns-in-Ok-clause-step
+returns-in-Ok-clause-step g c = c.in-Ok.ensures
+
 pub returns-in-Ok-clause-fits : goal.returns-in-Ok-clause-fits
 returns-in-Ok-clause-fits g c = λ a fits. action_fits g.T.PartialEq.eq g.T.Hash.hash_input g.T.FrequentItemValue.codec g.T.FrequentItemValue.content c.args.action _ _ _ a fits c.in-Ok.ensures
 

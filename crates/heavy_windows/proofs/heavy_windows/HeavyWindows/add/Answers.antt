@@ -39,11 +39,11 @@ pub returns-in-Some-clause-state : goal.returns-in-Some-clause-state
 returns-in-Some-clause-state g c = invariant_of-self g c
 
 pub returns-in-Some-clause-call : goal.returns-in-Some-clause-call
-returns-in-Some-clause-call g c = record {
+returns-in-Some-clause-call g c = let is_put = put g c in record {
   zero = search rules;
   adds = search rules;
   stands = search rules;
-  others = put_others_of c.args.tenant c.add.new.self _ c.args.self.now _ c.self.view_is (put g c);
+  others = put_others_of c.args.tenant c.add.new.self _ c.args.self.now _ c.self.view_is is_put;
   err = on_err_weaker c.add.result
       (λ e. put_back c.args.tenant c.self.inside.limit c.self.inside.max_map_size c.self.inside.tenants.entries (c.get_mut.follows.lender c.add.new.self).entries c.in-Some.windows.now c.args.self.now c.self.view_is (sym c.in-Some.ensures.value) (rw e (c.get_mut.follows.holds c.in-Some.windows.now).0))
       c.add.ensures.err;
@@ -52,8 +52,21 @@ returns-in-Some-clause-call g c = record {
   succeeds = search rules;
 }
 
+-- the first window was refused, or the weight
+
+pub returns-in_err-window-clause-call : goal.returns-in_err-window-clause-call
+returns-in_err-window-clause-call g c =
+    let unknown : at_tenant c.args.tenant (record { limit = c.self.inside.limit; max_map_size = c.self.inside.max_map_size; tenants = c.self.inside.tenants.entries }) ≡ [] = ap (λ o. unwrap_or o []) (sym c.in_default.ensures.value) in
+    grind (arith, common_steps)
+
+pub returns-in_err-update_with_count-clause-call : goal.returns-in_err-update_with_count-clause-call
+returns-in_err-update_with_count-clause-call g c =
+    let unknown : at_tenant c.args.tenant (record { limit = c.self.inside.limit; max_map_size = c.self.inside.max_map_size; tenants = c.self.inside.tenants.entries }) ≡ [] = ap (λ o. unwrap_or o []) (sym c.in_default.ensures.value) in
+    grind (arith, common_steps)
+
 pub returns-in_err-insert-clause-call : goal.returns-in_err-insert-clause-call
 returns-in_err-insert-clause-call g c =
+    let unknown : at_tenant c.args.tenant (record { limit = c.self.inside.limit; max_map_size = c.self.inside.max_map_size; tenants = c.self.inside.tenants.entries }) ≡ [] = ap (λ o. unwrap_or o []) (sym c.in_default.ensures.value) in
     let old = c.self.inside.tenants.entries in
     let same : c.insert.new.self.entries ≡ old = rw c.get_mut.follows.holds-at-none at c.in_err-insert.ensures.err in
     let new : WindowsState g.row.T.Denot = record { limit = c.self.inside.limit; max_map_size = c.self.inside.max_map_size; tenants = c.insert.new.self.entries } in

@@ -2,7 +2,7 @@ use Rattle.std.proofs.Common.{◌≡◌, ◌-◌, ◌^◌}
 use Rattle.std.specs.Io.KnownBytes.{prepend_known}
 use Rattle.std.specs.String.{string_bytes}
 use Rattle.datasketches_cli.proofs.Transcripts.{Midway}
-use Rattle.datasketches_cli.proofs.serve.serve_lines.Given as goal
+use Rattle.datasketches_cli.proofs.serve.answer_lines.Given as goal
 
 abbrev pub invariant-loop-before : goal.invariant-loop-before
 invariant-loop-before g l =

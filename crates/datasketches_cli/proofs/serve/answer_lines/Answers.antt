@@ -1,7 +1,7 @@
 use Rattle.std.proofs.Common.{◌∙◌, refl, sym}
 use Rattle.std.proofs.lemmas.Bool.{false≢true}
 use Rattle.datasketches_cli.proofs.Transcripts.{turns_on, turns_bad, turns_last}
-use Rattle.datasketches_cli.proofs.serve.serve_lines.Goals as goal
+use Rattle.datasketches_cli.proofs.serve.answer_lines.Goals as goal
 
 pub returns-then-is_bad-clause-served : goal.returns-then-is_bad-clause-served
 returns-then-is_bad-clause-served g c =

@@ -1,0 +1,654 @@
+"""Runs of the program over lines: what each answers, and how often it reads and writes for it.
+
+A row is a line and its reply, or nothing where there is none. `run.py` plays them.
+"""
+
+# The main job: seven items once each into a sketch of six counters.
+MAIN_JOB = [
+    ("frequent s 8", "ok"),
+    ("add s 1 a", "ok"),
+    ("add s 1 b", "ok"),
+    ("add s 1 c", "ok"),
+    ("add s 1 d", "ok"),
+    ("add s 1 e", "ok"),
+    ("add s 1 f", "ok"),
+    ("add s 1 g", "ok"),
+    ("status s", "frequent active 0 error 1 total 7 size 8 max 8 capacity 6"),
+]
+
+# Questions behind the main job, and a line that is no command.
+QUESTIONS = [
+    ("ask s a", "estimate 0 lower 0 upper 1"),
+    ("rows s fn 0", "rows 0"),
+    ("frequent s 8", "refused NameTaken"),
+    ("decay s", "bad line 13"),
+    ("status s", ""),
+]
+
+THREE_LINES = [
+    ("frequent s 8", "ok"),
+    ("add s 1 a", "ok"),
+    ("ask s a", "estimate 1 lower 1 upper 1"),
+]
+
+# Merges and resets behind the main job.
+MERGES_AND_RESETS = [
+    ("frequent t 64", "ok"),
+    ("add t 5 a", "ok"),
+    ("merge s t", "ok"),
+    ("ask s a", "estimate 6 lower 5 upper 6"),
+    ("status s", "frequent active 1 error 1 total 12 size 8 max 8 capacity 6"),
+    ("merge s s", "refused SameName"),
+    ("reset s", "ok"),
+    ("status s", "frequent active 0 error 0 total 0 size 8 max 8 capacity 6"),
+    ("merge s u", "refused NoSuchName"),
+    ("merge u s", "refused NoSuchName"),
+    ("merge u u", "refused NoSuchName"),
+    ("reset u", "refused NoSuchName"),
+    ("add t 18446744073709551610 b", "ok"),
+    ("add s 1 a", "ok"),
+    ("merge s t", "refused WeightOverflow"),
+    ("merge t s", "refused WeightOverflow"),
+    ("ask s a", "estimate 1 lower 1 upper 1"),
+    ("ask t a", "estimate 5 lower 5 upper 5"),
+]
+
+# Rows descend by estimate.
+ROWS = [
+    ("frequent s 64", "ok"),
+    ("add s 1 b", "ok"),
+    ("add s 5 a", "ok"),
+    ("rows s fn 0", "rows 2 a 5 5 5 b 1 1 1"),
+    ("rows s fp 3", "rows 1 a 5 5 5"),
+    ("rows s fp 5", "rows 0"),
+    ("ask s a", "estimate 5 lower 5 upper 5"),
+    ("ask s c", "estimate 0 lower 0 upper 0"),
+]
+
+ORDER_OF_REFUSALS = [
+    ("add s 1 a", "refused NoSuchName"),
+    ("ask s a", "refused NoSuchName"),
+    ("status s", "refused NoSuchName"),
+    ("rows s fn 0", "refused NoSuchName"),
+    ("frequent s 12", "refused MapSizeNotPowerOfTwo"),
+    ("frequent s 4", "refused MapSizeTooSmall"),
+    ("frequent s 2147483648", "refused MapSizeTooLarge"),
+    ("frequent s 8", "ok"),
+    ("frequent s 12", "refused NameTaken"),
+    ("sampled t 8 3", "refused BadSampleSize"),
+    ("sampled t 8 2", "ok"),
+    ("sampled t 8 2", "refused NameTaken"),
+    ("add s 18446744073709551615 a", "ok"),
+    ("add s 1 b", "refused WeightOverflow"),
+    ("add s 0 b", "ok"),
+    ("status s", "frequent active 1 error 0 total 18446744073709551615 size 8 max 8 capacity 6"),
+]
+
+FILTERS = [
+    ("bloom f 65 1 9001", "ok"),
+    ("ask f a", "no"),
+    ("insert f a", "ok"),
+    ("status f", "bloom bits 1 capacity 128 hashes 1 seed 9001"),
+    ("union f f", "refused SameName"),
+    ("add f 1 a", "refused WrongKind"),
+    ("bloom g 0 1 9001", "refused BadNumBits"),
+    ("ask f a", "yes"),
+    ("bloom g 128 1 9001", "ok"),
+    ("union g f", "ok"),
+    ("ask g a", "yes"),
+    ("intersect g f", "ok"),
+    ("ask g a", "yes"),
+    ("difference g f", "ok"),
+    ("ask g a", "no"),
+    ("status g", "bloom bits 0 capacity 128 hashes 1 seed 9001"),
+    ("reset f", "ok"),
+    ("ask f a", "no"),
+    ("status f", "bloom bits 0 capacity 128 hashes 1 seed 9001"),
+]
+
+COUNTS = [
+    ("countu c 4 128 9001", "ok"),
+    ("add c 100 x", "ok"),
+    ("decay c 99 100", "ok"),
+    ("ask c x", "estimate 99 lower 99 upper 101"),
+    ("status c", "countu total 99 hashes 4 buckets 128 seed 9001"),
+    ("decay c 0 5", "refused BadFraction"),
+    ("decay c 2 1", "refused BadFraction"),
+    ("halve c", "ok"),
+    ("ask c x", "estimate 49 lower 49 upper 50"),
+    ("counti d 4 128 9001", "ok"),
+    ("adds d -3 x", "ok"),
+    ("ask d x", "estimate -3 lower -3 upper -3"),
+    ("merge c d", "refused WrongKind"),
+    ("add d 1 x", "refused WrongKind"),
+    ("merge c nobody", "refused NoSuchName"),
+    ("status d", "counti total 3 hashes 4 buckets 128 seed 9001"),
+]
+
+FILTERS_AND_COUNTS_THAT_REFUSE = [
+    ("bloom f 137438953153 1 1", "refused BadNumBits"),
+    ("bloom f 64 0 1", "refused BadNumHashes"),
+    ("bloom f 64 32768 1", "refused BadNumHashes"),
+    ("bloom f 64 1 1", "ok"),
+    ("bloom g 128 1 1", "ok"),
+    ("union f g", "refused Mismatch"),
+    ("intersect f g", "refused Mismatch"),
+    ("difference f g", "refused Mismatch"),
+    ("counti c 0 3 1", "refused BadNumHashes"),
+    ("counti c 1 2 1", "refused BadNumBuckets"),
+    ("countu c 4 268435456 1", "refused TableTooLarge"),
+    ("counti c 1 3 1", "ok"),
+    ("counti c 1 2 1", "refused NameTaken"),
+    ("adds c -9223372036854775808 a", "refused WeightOverflow"),
+    ("adds c -9223372036854775807 a", "ok"),
+    ("adds c 1 a", "refused WeightOverflow"),
+    ("ask c a", "estimate -9223372036854775807 lower -9223372036854775807 upper -866130501888233029"),
+    ("adds c -0 b", "ok"),
+    ("counti d 1 4 1", "ok"),
+    ("merge c d", "refused Mismatch"),
+    ("countu u 1 3 1", "ok"),
+    ("countu v 1 3 1", "ok"),
+    ("add u 18446744073709551615 a", "ok"),
+    ("add v 1 a", "ok"),
+    ("merge u v", "refused WeightOverflow"),
+    ("merge v u", "refused WeightOverflow"),
+    ("ask u a", "estimate 18446744073709551615 lower 18446744073709551615 upper 18446744073709551615"),
+    ("halve u", "ok"),
+    ("merge u v", "ok"),
+    ("status u", "countu total 9223372036854775808 hashes 1 buckets 3 seed 1"),
+]
+
+# Every kind refuses what it does not know.
+WRONG_KINDS = [
+    ("frequent s 8", "ok"),
+    ("counti i 1 3 9001", "ok"),
+    ("countu u 1 3 9001", "ok"),
+    ("bloom f 64 1 9001", "ok"),
+    ("adds s 1 a", "refused WrongKind"),
+    ("insert s a", "refused WrongKind"),
+    ("halve s", "refused WrongKind"),
+    ("decay s 1 2", "refused WrongKind"),
+    ("add i 1 a", "refused WrongKind"),
+    ("insert i a", "refused WrongKind"),
+    ("reset i", "refused WrongKind"),
+    ("halve i", "refused WrongKind"),
+    ("decay i 0 1", "refused WrongKind"),
+    ("rows i fn 0", "refused WrongKind"),
+    ("adds u 1 a", "refused WrongKind"),
+    ("insert u a", "refused WrongKind"),
+    ("reset u", "refused WrongKind"),
+    ("rows u fp 0", "refused WrongKind"),
+    ("add f 1 a", "refused WrongKind"),
+    ("adds f 1 a", "refused WrongKind"),
+    ("halve f", "refused WrongKind"),
+    ("decay f 1 1", "refused WrongKind"),
+    ("rows f fn 0", "refused WrongKind"),
+    ("merge s i", "refused WrongKind"),
+    ("merge i u", "refused WrongKind"),
+    ("merge f f", "refused SameName"),
+    ("merge f s", "refused WrongKind"),
+    ("union s f", "refused WrongKind"),
+    ("union f s", "refused WrongKind"),
+    ("intersect i u", "refused WrongKind"),
+    ("difference f u", "refused WrongKind"),
+]
+
+# An image stays as it was saved, and is kept beside the sketches.
+IMAGES = [
+    ("bloom f 64 1 9001", "ok"),
+    ("save f p", "ok"),
+    ("image p", "image 030115040100000029230000000000000100000000000000"),
+    ("insert f a", "ok"),
+    ("restore p g", "ok"),
+    ("ask g a", "no"),
+    ("union g f", "ok"),
+    ("ask g a", "yes"),
+    ("merge f g", "refused WrongKind"),
+    ("save f p", "refused NameTaken"),
+    ("restore q h", "refused NoSuchName"),
+    ("save q p", "refused NoSuchName"),
+    ("restore p f", "refused NameTaken"),
+    ("image f", "refused NoSuchName"),
+    ("frequent s 8", "ok"),
+    ("add s 3 ab", "ok"),
+    ("save s f", "ok"),
+    ("image f", "image 04010a03030000000100000000000000030000000000000000000000000000000300000000000000020000006162"),
+    ("restore f t", "ok"),
+    ("ask t ab", "estimate 3 lower 3 upper 3"),
+    ("status t", "frequent active 1 error 0 total 3 size 8 max 8 capacity 6"),
+    ("merge s t", "ok"),
+]
+
+# Windows of tenants: two for each, and what weighed most in them.
+WINDOWS = [
+    ("hturn 1", "refused NoSuchName"),
+    ("hadd 1 5 a", "refused NoSuchName"),
+    ("hreport 1 fn 0", "refused NoSuchName"),
+    ("windows 0 8", "refused BadWindows"),
+    ("windows 2 9", "refused MapSizeNotPowerOfTwo"),
+    ("windows 2 8", "ok"),
+    ("windows 2 8", "refused NameTaken"),
+    ("hadd 1 5 a", "ok"),
+    ("hturn 1", "ok"),
+    ("hadd 1 7 a", "ok"),
+    ("hadd 1 2 b", "ok"),
+    ("hadd 2 9 a", "ok"),
+    ("hreport 1 fn 0", "report total 14 error 0 rows 2 a 12 12 12 b 2 2 2"),
+    ("hturn 1", "ok"),
+    ("hreport 1 fn 0", "report total 9 error 0 rows 2 a 7 7 7 b 2 2 2"),
+    ("hreport 3 fp 0", "report total 0 error 0 rows 0"),
+    ("hadd 2 18446744073709551615 b", "refused WeightOverflow"),
+    ("hreport 2 fp 1", "report total 9 error 0 rows 1 a 9 9 9"),
+    ("hturn x", "bad line 19"),
+]
+
+# Sketches that are saved, restored and merged.
+SAVED_AND_MERGED = [
+    ("frequent a 8", "ok"),
+    ("add a 5 x", "ok"),
+    ("save a p", "ok"),
+    ("add a 2 x", "ok"),
+    ("restore p b", "ok"),
+    ("merge a b", "ok"),
+    ("ask a x", "estimate 12 lower 12 upper 12"),
+    ("ask b x", "estimate 5 lower 5 upper 5"),
+    ("merge a a", "refused SameName"),
+    ("save a p", "refused NameTaken"),
+    ("halve a", "refused WrongKind"),
+    ("status a", "frequent active 1 error 0 total 12 size 8 max 8 capacity 6"),
+]
+
+# Weights of three kinds of sketches.
+WEIGHED = [
+    ("frequent f 8", "ok"),
+    ("counti i 4 128 9001", "ok"),
+    ("countu u 4 128 9001", "ok"),
+    ("add f 5 x", "ok"),
+    ("rows f fp 0", "rows 1 x 5 5 5"),
+    ("reset f", "ok"),
+    ("ask f x", "estimate 0 lower 0 upper 0"),
+    ("adds i -5 x", "ok"),
+    ("ask i x", "estimate -5 lower -5 upper -5"),
+    ("add u 100 x", "ok"),
+    ("decay u 99 100", "ok"),
+    ("ask u x", "estimate 99 lower 99 upper 101"),
+    ("halve u", "ok"),
+    ("ask u x", "estimate 49 lower 49 upper 50"),
+]
+
+# Filters that are saved and combined.
+COMBINED = [
+    ("bloom b 64 1 9001", "ok"),
+    ("save b p", "ok"),
+    ("image p", "image 030115040100000029230000000000000100000000000000"),
+    ("insert b x", "ok"),
+    ("restore p c", "ok"),
+    ("ask c x", "no"),
+    ("union c b", "ok"),
+    ("intersect c b", "ok"),
+    ("ask c x", "yes"),
+    ("difference c b", "ok"),
+    ("ask c x", "no"),
+    ("ask b x", "yes"),
+]
+
+# Commands that are refused for their names, before all else.
+REFUSED_NAMES = [
+    ("frequent f 8", "ok"),
+    ("save f p", "ok"),
+    ("frequent f 12", "refused NameTaken"),
+    ("merge g g", "refused NoSuchName"),
+    ("union f g", "refused NoSuchName"),
+    ("union f f", "refused SameName"),
+    ("save g p", "refused NoSuchName"),
+    ("restore q f", "refused NoSuchName"),
+    ("restore p f", "refused NameTaken"),
+    ("ask p x", "refused NoSuchName"),
+    ("image f", "refused NoSuchName"),
+]
+
+# Commands that are refused for their kinds, before their arguments.
+REFUSED_KINDS = [
+    ("countu u 4 128 9001", "ok"),
+    ("bloom b 64 1 9001", "ok"),
+    ("bloom c 128 1 9001", "ok"),
+    ("frequent f 12", "refused MapSizeNotPowerOfTwo"),
+    ("sampled f 8 3", "refused BadSampleSize"),
+    ("sampled f 8 2", "ok"),
+    ("sampled f 8 3", "refused NameTaken"),
+    ("merge b c", "refused WrongKind"),
+    ("union b c", "refused Mismatch"),
+    ("decay b 2 1", "refused WrongKind"),
+    ("decay u 2 1", "refused BadFraction"),
+    ("rows u fp 0", "refused WrongKind"),
+]
+
+# Greatest sizes and sample sizes.
+SIZES = [
+    ("frequent s 0", "refused MapSizeNotPowerOfTwo"),
+    ("frequent s 4", "refused MapSizeTooSmall"),
+    ("frequent s 12", "refused MapSizeNotPowerOfTwo"),
+    ("frequent s 2147483648", "refused MapSizeTooLarge"),
+    ("frequent s 8", "ok"),
+    ("sampled t 12 2", "refused MapSizeNotPowerOfTwo"),
+    ("sampled t 8 0", "refused BadSampleSize"),
+    ("sampled t 8 3", "refused BadSampleSize"),
+    ("sampled t 8 8", "refused BadSampleSize"),
+    ("sampled t 2048 1026", "refused BadSampleSize"),
+    ("sampled t 8 2", "ok"),
+    ("sampled u 8 6", "ok"),
+    ("sampled v 2048 1024", "ok"),
+]
+
+# Item 7 alone is left, whichever six are sampled.
+HEAVY = [
+    ("frequent s 8", "ok"),
+    *[(f"add s 1 {n}", "ok") for n in range(1, 7)],
+    ("add s 100 7", "ok"),
+    ("status s", "frequent active 1 error 1 total 106 size 8 max 8 capacity 6"),
+    ("ask s 7", "estimate 100 lower 99 upper 100"),
+    ("ask s 1", "estimate 0 lower 0 upper 1"),
+]
+
+# A light sketch of 8 slots and a heavy one of 64, each merged into the other.
+UNEQUAL = [
+    ("frequent light 8", "ok"),
+    *[(f"add light 1 {n}", "ok") for n in range(1, 8)],
+    ("save light light", "ok"),
+    ("frequent heavy 64", "ok"),
+    ("add heavy 5 1", "ok"),
+    ("merge light heavy", "ok"),
+    ("status light", "frequent active 1 error 1 total 12 size 8 max 8 capacity 6"),
+    ("ask light 1", "estimate 6 lower 5 upper 6"),
+    ("restore light again", "ok"),
+    ("merge heavy again", "ok"),
+    ("status heavy", "frequent active 1 error 1 total 12 size 8 max 64 capacity 6"),
+    ("ask heavy 1", "estimate 6 lower 5 upper 6"),
+    ("reset heavy", "ok"),
+    ("status heavy", "frequent active 0 error 0 total 0 size 8 max 64 capacity 6"),
+]
+
+# Totals up to the greatest.
+TOTALS = [
+    ("frequent s 8", "ok"),
+    ("add s 18446744073709551615 1", "ok"),
+    ("frequent t 8", "ok"),
+    ("add t 1 2", "ok"),
+    ("add s 1 2", "refused WeightOverflow"),
+    ("merge s t", "refused WeightOverflow"),
+    ("add s 0 2", "ok"),
+    ("status s", "frequent active 1 error 0 total 18446744073709551615 size 8 max 8 capacity 6"),
+    ("status t", "frequent active 1 error 0 total 1 size 8 max 8 capacity 6"),
+]
+
+# A greatest size and how many items came once each, and the numbers of their sketch: one more than three quarters of the
+# greatest size takes 1 from all, which leaves none.
+DISTINCT = [
+    (8, 0, "active 0 error 0 total 0 size 8 max 8 capacity 6"),
+    (8, 6, "active 6 error 0 total 6 size 8 max 8 capacity 6"),
+    (8, 7, "active 0 error 1 total 7 size 8 max 8 capacity 6"),
+    (16, 7, "active 7 error 0 total 7 size 16 max 16 capacity 12"),
+    (64, 7, "active 7 error 0 total 7 size 16 max 64 capacity 12"),
+    (4096, 3072, "active 3072 error 0 total 3072 size 4096 max 4096 capacity 3072"),
+    (4096, 3073, "active 0 error 1 total 3073 size 4096 max 4096 capacity 3072"),
+    (65536, 24577, "active 24577 error 0 total 24577 size 65536 max 65536 capacity 49152"),
+    (65536, 49152, "active 49152 error 0 total 49152 size 65536 max 65536 capacity 49152"),
+    (65536, 49153, "active 0 error 1 total 49153 size 65536 max 65536 capacity 49152"),
+]
+
+# A weight of item 7, where the items 1 to 6 came once each into a sketch of 8 slots whose purges sample two counters: what
+# the sketch and the item may say. The error is the greater of two counts: 1, or 100 where that of 7 is sampled.
+SAMPLED = [
+    (1, [("active 0 error 1 total 7", "lower 0")]),
+    (100, [("active 1 error 1 total 106", "lower 99"), ("active 0 error 100 total 106", "lower 0")]),
+]
+
+# Six and seven items, once each, saved and restored: to the first a heavy item is added, and the second is merged into a
+# sketch of more slots.
+PURGED = [
+    "frequent six 8",
+    *[f"add six 1 {n}" for n in range(1, 7)],
+    "save six six",
+    "restore six heavy",
+    "add heavy 100 7",
+    "frequent seven 8",
+    *[f"add seven 1 {n}" for n in range(1, 8)],
+    "save seven seven",
+    "restore seven light",
+    "frequent large 64",
+    "add large 5 1",
+    "merge large light",
+]
+
+# A sketch, and of its items from this one to 7 the lower bounds added up; its error, its total and the slots that it may
+# have. The least size is 8, so three items may be set aside: what is kept and three times the error are at most the total.
+# With item 1 aside, what is kept of the others and twice the error are at most 6, which the others weigh.
+KEPT = [
+    ("heavy", 1, 99, (1, 106, 8)),
+    ("large", 1, 5, (1, 12, 64)),
+    ("large", 2, 0, (1, 12, 64)),
+]
+
+# Windows of tenants, of which the last two are reported on: each has 8 slots and so holds six items, and seven once each
+# leave an error of 1.
+LAST_TWO_WINDOWS = [
+    ("windows 2 8", "ok"),
+    ("hturn 1", "ok"),
+    ("hreport 1 fn 0", "report total 0 error 0 rows 0"),
+    ("hadd 1 5 x", "ok"),
+    ("hreport 1 fn 0", "report total 5 error 0 rows 1 x 5 5 5"),
+    ("hturn 1", "ok"),
+    ("hreport 1 fn 0", "report total 5 error 0 rows 1 x 5 5 5"),
+    ("hadd 1 7 x", "ok"),
+    ("hreport 1 fn 0", "report total 12 error 0 rows 1 x 12 12 12"),
+    ("hadd 1 2 y", "ok"),
+    ("hreport 1 fn 0", "report total 14 error 0 rows 2 x 12 12 12 y 2 2 2"),
+    ("hadd 2 9 x", "ok"),
+    ("hreport 2 fn 0", "report total 9 error 0 rows 1 x 9 9 9"),
+    ("hturn 1", "ok"),
+    ("hreport 1 fn 0", "report total 9 error 0 rows 2 x 7 7 7 y 2 2 2"),
+    ("hadd 3 0 x", "ok"),
+    ("hreport 3 fn 0", "report total 0 error 0 rows 0"),
+    *[(f"hadd 4 1 {n}", "ok") for n in range(1, 8)],
+    ("hreport 4 fn 0", "report total 7 error 1 rows 0"),
+    ("hturn 4", "ok"),
+    ("hreport 4 fn 0", "report total 7 error 1 rows 0"),
+    *[(f"hadd 4 1 {n}", "ok") for n in range(1, 8)],
+    ("hreport 4 fn 0", "report total 14 error 2 rows 0"),
+    ("hadd 5 18446744073709551615 x", "ok"),
+    (
+        "hreport 5 fn 0",
+        "report total 18446744073709551615 error 0 rows 1"
+        " x 18446744073709551615 18446744073709551615 18446744073709551615",
+    ),
+    ("hturn 5", "ok"),
+    ("hadd 5 1 y", "ok"),
+    ("hreport 5 fn 0", "refused WeightOverflow"),
+    ("hturn 5", "ok"),
+    ("hreport 5 fn 0", "report total 1 error 0 rows 1 y 1 1 1"),
+    ("hturn 5", "ok"),
+    ("hreport 5 fn 0", "report total 0 error 0 rows 0"),
+    ("hadd 2 0 x", "ok"),
+    ("hreport 2 fn 0", "report total 9 error 0 rows 1 x 9 9 9"),
+]
+
+# Limits of windows: there is one set of them in a run.
+LIMITS = [
+    ("windows 0 8", "refused BadWindows"),
+    ("windows 1025 4", "refused BadWindows"),
+    ("windows 2 12", "refused MapSizeNotPowerOfTwo"),
+    ("windows 2 4", "refused MapSizeTooSmall"),
+    ("windows 2 2147483648", "refused MapSizeTooLarge"),
+    ("windows 1024 8", "ok"),
+]
+
+
+def windows_of_eight_tenants(limit):
+    """Thirty windows of each of eight tenants, of which so many are kept: in each one item, the window's number, whose
+    weight is the tenant's number and the window's; and a report on each."""
+    tenants = range(1, 9)
+    rows = [(f"windows {limit} 64", "ok")]
+    for n in range(30):
+        for tenant in tenants:
+            rows += [(f"hturn {tenant}", "ok"), (f"hadd {tenant} {tenant + n} {n}", "ok")]
+    for tenant in tenants:
+        kept = [(n, tenant + n) for n in range(29, 29 - limit, -1)]
+        shown = "".join(f" {n} {weight} {weight} {weight}" for n, weight in kept)
+        total = sum(weight for _, weight in kept)
+        rows.append((f"hreport {tenant} fn 0", f"report total {total} error 0 rows {limit}{shown}"))
+    return rows
+
+
+# What a run is of, and how it ends: with status 1 behind a bad line, else with 0.
+SESSIONS = [
+    ("questions behind the main job", MAIN_JOB + QUESTIONS, 1),
+    ("merges and resets", MAIN_JOB + MERGES_AND_RESETS, 0),
+    ("windows", WINDOWS, 1),
+    ("rows", ROWS, 0),
+    ("the order of refusals", ORDER_OF_REFUSALS, 0),
+    ("filters", FILTERS, 0),
+    ("counts", COUNTS, 0),
+    ("filters and counts that refuse", FILTERS_AND_COUNTS_THAT_REFUSE, 0),
+    ("wrong kinds", WRONG_KINDS, 0),
+    ("images", IMAGES, 0),
+    ("saved and merged", SAVED_AND_MERGED, 0),
+    ("weighed", WEIGHED, 0),
+    ("combined", COMBINED, 0),
+    ("refused names", REFUSED_NAMES, 0),
+    ("refused kinds", REFUSED_KINDS, 0),
+    ("sizes", SIZES, 0),
+    ("a heavy item", HEAVY, 0),
+    ("merges of unequal sizes", UNEQUAL, 0),
+    ("totals", TOTALS, 0),
+    ("the last two windows", LAST_TWO_WINDOWS, 0),
+    ("limits of windows", LIMITS, 0),
+    *[(f"{limit} windows of each tenant", windows_of_eight_tenants(limit), 0) for limit in (1, 5, 24)],
+]
+
+NO_COMMANDS = [
+    b"frequent",
+    b"frequent s",
+    b"frequent s 8 8",
+    b"frequent s 8 8 8 8",
+    b"frequent s +8",
+    b"frequent s -8",
+    b"frequent s 0x8",
+    b"frequent s 18446744073709551616",
+    b"Frequent s 8",
+    b"frequent\ts 8",
+    b"add s 1",
+    b"add s 18446744073709551616 a",
+    b"add s a 1",
+    b"ask s",
+    b"status s s",
+    b"rows s f 0",
+    b"rows s fn",
+    b"rows s fn 1 1",
+    b"bloom f 65 1",
+    b"bloom f 65 65536 9001",
+    b"counti c 256 3 9001",
+    b"countu c 4 4294967296 9001",
+    b"countu c 4 3 -1",
+    b"adds s 9223372036854775808 a",
+    b"adds s -9223372036854775809 a",
+    b"adds s +1 a",
+    b"adds s --1 a",
+    b"adds s - a",
+    b"insert s",
+    b"decay s 1",
+    b"save s",
+    b"restore p",
+    b"image",
+    b"image p q",
+    b"\xff",
+    b"ask s \xc3\x28",
+    b"\r x",
+    b"\r\r",
+    b"\0",
+]
+
+STATUS = b"ok\nok\nfrequent active 1 error 0 total 7 size 8 max 8 capacity 6\n"
+
+# Line ends, spaces and empty lines: what is read and written, and the status. In the last, a carriage return that ends no
+# line belongs to its word.
+LINE_ENDS = [
+    (b"", b"", 0),
+    (b"frequent s 8\nadd s 7 a\nstatus s", STATUS, 0),
+    (b"frequent s 8\r\nadd s 7 a\r\nstatus s\r\n", STATUS, 0),
+    (b"frequent s 8\nadd s 7 a\nstatus s\r", STATUS, 0),
+    (b"\n\r\n   \nfrequent s 8\n\nadd s 7 a\n \r\nstatus s\n\n", STATUS, 0),
+    (b"  frequent   s  0008 \nadd s 7 a \r\n status  s  ", STATUS, 0),
+    (b"frequent \r 8\nstatus \r\nstatus \r\r\n", b"ok\nbad line 2\n", 1),
+]
+
+# How many bytes a read and a write move at most, and how many reads and writes there are. The three lines have 31 bytes, and
+# the end of input takes a read more; the replies have 33. The main job and its questions have 133 bytes through the bad
+# line, behind which nothing is read, and their 13 replies have 146.
+STEPS = [
+    (THREE_LINES, 100, 100, 2, 1),
+    (THREE_LINES, 1, 100, 32, 3),
+    (THREE_LINES, 100, 1, 2, 33),
+    (THREE_LINES, 1, 1, 32, 33),
+    (MAIN_JOB + QUESTIONS, 1, 1000, 133, 13),
+    (MAIN_JOB + QUESTIONS, 1000, 1, 1, 146),
+    (MAIN_JOB + QUESTIONS, 1, 1, 133, 146),
+]
+
+# What is read and written, how many bytes a read moves at most, and how many reads there are. The input is read no more
+# behind the read that finds its end, also where its last line has no end. Behind that come a line of 1000 bytes, each of
+# which is read by itself, and 10000 lines of 100001 bytes.
+READS = [
+    (b"", b"", 1, 1),
+    (b"\n \n", b"", 1, 4),
+    (b"frequent s 8\n", b"ok\n", 100, 2),
+    (b"frequent s 8", b"ok\n", 100, 2),
+    (b"frequent s 8\r", b"ok\n", 1, 14),
+    (b"frequent s 8\n  ", b"ok\n", 100, 2),
+    (b"frequent " + 988 * b"x" + b" 8\n", b"ok\n", 1, 1001),
+    (
+        b"frequent s 8\n" + 9998 * b"add s 1 a\n" + b"ask s a\n",
+        9999 * b"ok\n" + b"estimate 9998 lower 9998 upper 9998\n",
+        1000,
+        102,
+    ),
+]
+
+
+def distinct_items(size, last):
+    """The items 1 to the last, once each into a sketch, and then its numbers."""
+    return text([f"frequent s {size}", *[f"add s 1 {n}" for n in range(1, last + 1)], "status s"])
+
+
+def sampled_items(weight):
+    """The items 1 to 6, once each, and 7 with a weight, and then what the sketch and item 7 say."""
+    return text(["sampled s 8 2", *[f"add s 1 {n}" for n in range(1, 7)], f"add s {weight} 7", "status s", "ask s 7"])
+
+
+def thousands_of_items():
+    """A thousand items into a sketch of each kind, and what they answer."""
+    lines = ["frequent s 2048", "countu c 4 4096 9001", "bloom f 1048576 7 9001"]
+    for n in range(1000):
+        lines += [f"add s 1 item{n}", f"add c 1 item{n}", f"insert f item{n}"]
+    lines += ["status s", "ask s item0", "status c", "ask f item0"]
+    replies = 3003 * ["ok"] + [
+        "frequent active 1000 error 0 total 1000 size 2048 max 2048 capacity 1536",
+        "estimate 1 lower 1 upper 1",
+        "countu total 1000 hashes 4 buckets 4096 seed 9001",
+        "yes",
+    ]
+    return text(lines), text(replies)
+
+
+def long_line():
+    """An item of two hundred thousand bytes."""
+    status = "frequent active 1 error 0 total 3 size 8 max 8 capacity 6"
+    return text(["frequent s 8", "add s 3 " + 200_000 * "x", "status s"]), text(["ok", "ok", status])
+
+
+def text(lines):
+    return "".join(line + "\n" for line in lines).encode()
+
+
+def texts_of(rows):
+    """The lines of some rows, and their replies."""
+    return text(line for line, _ in rows), text(reply for _, reply in rows if reply)
