@@ -14,6 +14,7 @@ import threading
 
 import examples
 import sessions
+import streams
 import trials
 
 HERE = os.path.dirname(os.path.abspath(__file__))
@@ -251,13 +252,13 @@ class Tests:
 
     def lines(self):
         """What is a line, and what is none."""
-        for line in sessions.NO_COMMANDS:
+        for line in streams.NO_COMMANDS:
             lines = b"frequent s 8\n\n  \n" + line + b"\nstatus s\n"
             self.plays(f"no command {line}", lines, b"ok\nbad line 4\n", 1)
-        for lines, replies, status in sessions.LINE_ENDS:
+        for lines, replies, status in streams.LINE_ENDS:
             self.plays(f"line ends of {lines}", lines, replies, status)
-        self.plays("thousands of items", *sessions.thousands_of_items(), 0)
-        self.plays("a long line", *sessions.long_line(), 0)
+        self.plays("thousands of items", *streams.thousands_of_items(), 0)
+        self.plays("a long line", *streams.long_line(), 0)
 
     def plays(self, name, lines, replies, status):
         ended, out, said, _ = self.run(lines)
@@ -265,14 +266,14 @@ class Tests:
 
     def streams_that_move_a_little(self):
         """How often the program reads and writes, over streams that move so many bytes a call."""
-        for rows, read_step, write_step, reads, writes in sessions.STEPS:
+        for rows, read_step, write_step, reads, writes in streams.STEPS:
             lines, replies = sessions.texts_of(rows)
             status, out, _, numbers = self.run(lines, READ_STEP=read_step, WRITE_STEP=write_step)
             told = (out, numbers[0], numbers[2])
             self.check(f"steps {read_step} and {write_step}", told == (replies, reads, writes), (out, numbers))
             self.step_that_fails(lines, replies, status, read_step, write_step, "FAILS_READ_AT", reads)
             self.step_that_fails(lines, replies, status, read_step, write_step, "FAILS_WRITE_AT", writes)
-        for lines, replies, read_step, reads in sessions.READS:
+        for lines, replies, read_step, reads in streams.READS:
             status, out, said, numbers = self.run(lines, READ_STEP=read_step)
             told = (status, out, said, numbers[0])
             self.check(f"reads of {read_step} of {lines[:30]}", told == (0, replies, b"", reads), (told[2:], out[-100:]))
