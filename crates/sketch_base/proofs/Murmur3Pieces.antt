@@ -1,7 +1,6 @@
 -- Bytes that come piece by piece leave the state of the whole list.
 use Rattle.std.proofs.Common.{◌≡◌, ℕ, ◌+◌, ◌-◌, ◌*◌, ◌/◌, ◌%◌, ◌^◌, ◌<◌, ◌≤◌, List, [], ◌++◌, length, take, drop, refl, sym, ap, subst, ◌∙◌, arith, replicate, length-append, zero-add, fold}
-use Rattle.std.proofs.lemmas.List.{append_assoc, drop-drop, drop_at, drop-replicate, take-append-drop}
-use Rattle.std.proofs.lemmas.Slice.{drop-put_mid}
+use Rattle.std.proofs.lemmas.List.{append_assoc, drop_at, drop-replicate, take-append-drop}
 use borrow.Rule.Slice.PartMut.{put_mid, post_of}
 use Rattle.std.specs.List.{concat}
 use Rattle.sketch_base.specs.Murmur3.{block, body, finalization, murmur3_x64_128}

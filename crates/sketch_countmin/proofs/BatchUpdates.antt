@@ -5,9 +5,9 @@ use Rattle.std.proofs.lemmas.Int.{ints}
 use Rattle.std.proofs.lemmas.Bool.{cases_lt}
 use Rattle.std.proofs.lemmas.List.{take-map, take_min}
 use Rattle.std.proofs.lemmas.List.Sums.{count_by-le-length, sum_by-cons}
-use Rattle.sketch_countmin.specs.Cells.{flat_at, RowsCounted}
+use Rattle.sketch_countmin.specs.Cells.{RowsCounted}
 use Rattle.sketch_countmin.specs.Rows.{cell_at, rows_of}
-use Rattle.sketch_countmin.specs.Buckets.{row_seed, bucket_by, bucket_of}
+use Rattle.sketch_countmin.specs.Buckets.{bucket_by, bucket_of}
 use Rattle.sketch_countmin.specs.State.{CountState, CountsAll}
 use Rattle.sketch_countmin.specs.Table.{IsTable, state_of}
 use Rattle.sketch_countmin.specs.History.{CountHistory, all_updated, value_over, absolute_weight, cell_share, of_first}

@@ -1,5 +1,5 @@
 -- One row more.
-use Rattle.std.proofs.Common.{◌≡◌, ◌≢◌, ℕ, ◌+◌, ◌*◌, ◌%◌, ◌<◌, ◌≤◌, Bool, true, false, eqb, cond, List, [], ◌∷◌, ◌++◌, replicate, length, get_or, set, ℤ, pos, ◌+ℤ◌, refl, sym, ap, ◌∙◌, subst, arith, get_or-set_other, get_or-set_same, below_more, map, inl, inr, ◌⊎◌, ⊎_elim}
+use Rattle.std.proofs.Common.{◌≡◌, ◌≢◌, ℕ, ◌+◌, ◌*◌, ◌%◌, ◌<◌, ◌≤◌, Bool, true, false, eqb, cond, List, [], ◌∷◌, ◌++◌, replicate, length, get_or, set, ℤ, pos, ◌+ℤ◌, refl, sym, ap, ◌∙◌, subst, arith, get_or-set_other, get_or-set_same, below_more, map, inl, inr, ⊎_elim}
 use Rattle.std.proofs.lemmas.List.{get_or-map, map-set, map_push, replicate_more, get_or_append_left, get_or_push}
 use Rattle.sketch_base.specs.Hashes.{le64}
 use Rattle.sketch_base.specs.Murmur3.{murmur3_x64_128}

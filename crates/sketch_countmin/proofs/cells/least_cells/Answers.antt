@@ -1,9 +1,8 @@
-use Rattle.std.proofs.Common.{arith, subst, ◌≡◌, ◌*◌, ℕ, [], map, length, get_or, pos}
+use Rattle.std.proofs.Common.{arith, subst, ◌≡◌, ℕ, [], map, length, get_or, pos}
 use Rattle.sketch_base.specs.Hashes.{fed_bytes}
 use Rattle.sketch_countmin.specs.Buckets.{buckets_by}
 use Rattle.sketch_countmin.specs.Cells.{IsLeastOf}
 use Rattle.sketch_countmin.proofs.RowSteps.{least_lesser}
-use Rattle.sketch_countmin.proofs.RowCounts.{row_fits}
 use Rattle.sketch_countmin.proofs.cells.least_cells.Goals as goal
 
 pub loop-row-preserved : goal.loop-row-preserved

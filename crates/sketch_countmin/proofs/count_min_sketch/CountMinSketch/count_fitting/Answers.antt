@@ -1,4 +1,4 @@
-use Rattle.std.proofs.Common.{arith, ap, subst, sym, ◌∙◌, ◌≡◌, ℕ, ◌+◌, ◌≤◌, ◌++◌, map, length, take, drop, ℤ, pos, unsigned_abs, List, slice_index}
+use Rattle.std.proofs.Common.{arith, ap, subst, ◌∙◌, ◌≡◌, ℕ, ◌+◌, ◌≤◌, ◌++◌, map, length, take, drop, ℤ, pos, unsigned_abs, List, slice_index}
 use Rattle.std.proofs.lemmas.Int.{ints}
 use Rattle.std.proofs.lemmas.List.{take_at, length-map}
 use Rattle.sketch_base.specs.Hashes.{fed_bytes}

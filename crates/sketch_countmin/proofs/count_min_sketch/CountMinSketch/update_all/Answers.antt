@@ -1,4 +1,4 @@
-use Rattle.std.proofs.Common.{arith, subst, ◌≡◌, ℕ, ◌-◌, map, take, length, List}
+use Rattle.std.proofs.Common.{arith, subst, ℕ, ◌-◌, map, take, List}
 use Rattle.std.proofs.lemmas.List.{length-take}
 use Rattle.sketch_base.specs.Hashes.{fed_bytes}
 use Rattle.sketch_countmin.specs.State.{CountsAll}
