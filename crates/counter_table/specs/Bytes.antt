@@ -9,6 +9,10 @@ use denote.RattleType.{RattleType}
 abbrev pub option_bytes : RattleType → ℕ
 option_bytes item = capped (type_size (option.the_row item))
 
--- for each slot those of an `Option` of an item and 12 more, or the greatest `usize` where that passes it
+-- for each slot those of an `Option` of its item and 12 more, or the greatest `usize` where that passes it
+abbrev pub slots_bytes : (option size : ℕ) → ℕ
+slots_bytes option size = min (size * min (option + 12) (2 ^ 64 - 1)) (2 ^ 64 - 1)
+
+-- the bytes of a table for items of this type
 unfoldable pub table_bytes : RattleType → ℕ → ℕ
-table_bytes item size = min (size * min (option_bytes item + 12) (2 ^ 64 - 1)) (2 ^ 64 - 1)
+table_bytes item size = slots_bytes (option_bytes item) size

@@ -8,3 +8,5 @@ pub mod Saved
 pub mod Saving
 pub mod Stepping
 pub mod Steps
+pub mod Streams
+pub mod Taking

@@ -12,10 +12,12 @@ use Rattle.sketch_countmin.specs.State.{CountState, IsCountState}
 use Rattle.sketch_frequencies.specs.Items.{Codec}
 use Rattle.datasketches.specs.SessionStandsFor.{Paired}
 use Rattle.datasketches.specs.Histories.{History}
+use Rattle.datasketches.specs.Histories.History.{OfStranger}
 use Rattle.datasketches.specs.Laws.{IsNamed, IsCounted}
 use Rattle.datasketches.specs.Replies.{greatest_signed, greatest_unsigned}
-use Rattle.datasketches.specs.Stands.{StandsFor}
+use Rattle.datasketches.specs.Stands.{StandsFor, IsSketch}
 use Rattle.datasketches.specs.declared.sketch.Sketch.{Sketch}
+use Rattle.datasketches.specs.declared.sketch.Sketch.TheVariants.{Frequent, CountI64, CountU64, Bloom}
 
 module _ {T C : Type 0} (eq : T → T → Bool) (codec : Codec C) (content : T → C) where
   -- a named sketch stands for the history of the name
@@ -24,6 +26,16 @@ module _ {T C : Type 0} (eq : T → T → Bool) (codec : Codec C) (content : T �
       subst (λ (o : Option (History T)). Paired (StandsFor eq) (Some sketch) o) is.history_is
       (subst (λ (o : Option (Sketch T)). Paired (StandsFor eq) o (is.histories.sketches is.name)) is.sketch_is
       (is.fits.sketches is.name))
+
+  -- one that came from a stranger is a sketch that may be
+  stranger_case : (sketch : Sketch T) → StandsFor eq sketch OfStranger → IsSketch eq sketch
+  stranger_case (Frequent s) stands = stands
+  stranger_case (CountI64 s) stands = stands
+  stranger_case (CountU64 s) stands = stands
+  stranger_case (Bloom s) stands = stands
+
+  pub stranger_is : (sketch : Sketch T) → IsNamed eq codec content sketch OfStranger → IsSketch eq sketch
+  stranger_is sketch is = stranger_case sketch (named_stands sketch OfStranger is)
 
   -- a Count-Min sketch of either kind
   pub counted_stands : (s : CountState) (h : CountHistory) → IsCounted eq codec content s h → count.StandsFor s h

@@ -1,10 +1,14 @@
 -- Saved sketches and what they stand for.
-use Rattle.std.proofs.Common.{◌≡◌, ℕ, ℤ, ◌≤◌, Bool, List, Option, Some, None, inl, refl, sym, subst, arith}
+use Rattle.std.proofs.Common.{◌≡◌, ℕ, ℤ, ◌≤◌, Bool, List, Option, Some, None, inl, refl, sym, ◌∙◌, ap, subst, arith}
+use Rattle.std.specs.Prelude.{true, false, cond, ◌+◌, ◌*◌}
+use Rattle.std.proofs.lemmas.Bool.{le-ltb}
 use Rattle.std.specs.Global.{Global}
 use Rattle.std.specs.declared.vec.Vec.{Vec}
+use Rattle.counter_table.specs.Bytes.{slots_bytes}
 use Rattle.sketch_base.specs.Checks.{or_else}
 use Rattle.sketch_base.specs.Errors.{no_memory}
 use Rattle.sketch_base.specs.declared.fault.Fault.{Fault}
+use Rattle.sketch_base.specs.declared.fault.Fault.TheVariants.{TableTooLarge}
 use Rattle.sketch_bloom.specs.Image as bloom
 use Rattle.sketch_bloom.specs.Laws as bloom_laws
 use Rattle.sketch_bloom.specs.State.{FilterState, IsFilterState}
@@ -17,8 +21,8 @@ use Rattle.sketch_frequencies.specs.Items.{Codec}
 use Rattle.sketch_frequencies.specs.Laws as frequent_laws
 use Rattle.sketch_frequencies.specs.State.{FrequentState, IsState, capacity}
 use Rattle.datasketches.specs.Histories.{History}
-use Rattle.datasketches.specs.Histories.History.{OfFrequent, OfCountI64, OfCountU64, OfBloom}
-use Rattle.datasketches.specs.Images.{IsImageOf, IsCountImage, IsWrittenBy, IsReadFrom, IsReadRefusal, GivesBack}
+use Rattle.datasketches.specs.Histories.History.{OfFrequent, OfCountI64, OfCountU64, OfBloom, OfStranger}
+use Rattle.datasketches.specs.Images.{IsImageOf, IsCountImage, IsWrittenBy, IsReadFrom, IsReadRefusal, IsLoadRefusal, TakesWithin, GivesBack, over_limit}
 use Rattle.datasketches.specs.Replies.{least_signed, greatest_signed, least_unsigned, greatest_unsigned}
 use Rattle.datasketches.specs.Stands.{StandsFor, KeepsCounts}
 use Rattle.datasketches.specs.declared.image.Image.{Image}
@@ -46,16 +50,19 @@ module _ {T C : Type 0} (eq : T → T → Bool) (codec : Codec C) (content : T �
   -- a filter that was read gives back what was saved
   pub filter_back : bloom_laws.SpelledIsImage → (bytes : Vec ℕ Global) (filter : FilterState) → IsFilterState filter → bloom.Restores bytes.items filter → GivesBack eq codec content (image.Bloom bytes) (Bloom filter)
   filter_back spelled bytes filter state restores (OfBloom h) i = record { state = state; stands = restores i.filter (spelled bytes.items i.filter i.spelled) h i.stands }
+  filter_back spelled bytes filter state restores OfStranger i = state
   filter_back spelled bytes filter state restores _ i = absurd i
 
   -- so does a Count-Min sketch
   pub signed_back : count_laws.SpelledIsImage least_signed greatest_signed → (seed : ℕ) (bytes : Vec ℕ Global) (new : CountState) → IsCountState greatest_signed new → count.Restores least_signed greatest_signed seed bytes.items new → GivesBack eq codec content (image.CountI64 seed bytes) (CountI64 new)
   signed_back spelled seed bytes new state restores (OfCountI64 h) i = count_back least_signed greatest_signed seed bytes.items new h spelled state restores i
+  signed_back spelled seed bytes new state restores OfStranger i = state
   signed_back spelled seed bytes new state restores _ i = absurd i
 
   -- so does a Count-Min sketch
   pub unsigned_back : count_laws.SpelledIsImage least_unsigned greatest_unsigned → (seed : ℕ) (bytes : Vec ℕ Global) (new : CountState) → IsCountState greatest_unsigned new → count.Restores least_unsigned greatest_unsigned seed bytes.items new → GivesBack eq codec content (image.CountU64 seed bytes) (CountU64 new)
   unsigned_back spelled seed bytes new state restores (OfCountU64 h) i = count_back least_unsigned greatest_unsigned seed bytes.items new h spelled state restores i
+  unsigned_back spelled seed bytes new state restores OfStranger i = state
   unsigned_back spelled seed bytes new state restores _ i = absurd i
 
   -- so does a sketch of frequent items
@@ -69,17 +76,22 @@ module _ {T C : Type 0} (eq : T → T → Bool) (codec : Codec C) (content : T �
         stands = stands;
         budget = budgets i.sketch was h i.encloses i.budget;
       }
+  frequent_back spelled bytes new state restores budgets OfStranger i = state
   frequent_back spelled bytes new state restores budgets _ i = absurd i
 
   -- what was written for a sketch stands for what the sketch stands for
   pub saved_stands : (sketch : Sketch T) (image : Image) (h : History T) → IsWrittenBy codec content sketch image → StandsFor eq sketch h → IsImageOf eq codec content image h
   saved_stands (Frequent s) (image.Frequent bytes) (OfFrequent h) written stands = record { sketch = s; spelled = written; encloses = stands.stands.encloses; budget = stands.budget }
+  saved_stands (Frequent s) (image.Frequent bytes) OfStranger written stands = tt
   saved_stands (Frequent s) (image.Frequent bytes) _ written stands = absurd stands
   saved_stands (CountI64 s) (image.CountI64 seed bytes) (OfCountI64 h) written stands = record { sketch = s; seed_is = written.0; spelled = written.1; stands = stands.stands }
+  saved_stands (CountI64 s) (image.CountI64 seed bytes) OfStranger written stands = tt
   saved_stands (CountI64 s) (image.CountI64 seed bytes) _ written stands = absurd stands
   saved_stands (CountU64 s) (image.CountU64 seed bytes) (OfCountU64 h) written stands = record { sketch = s; seed_is = written.0; spelled = written.1; stands = stands.stands }
+  saved_stands (CountU64 s) (image.CountU64 seed bytes) OfStranger written stands = tt
   saved_stands (CountU64 s) (image.CountU64 seed bytes) _ written stands = absurd stands
   saved_stands (Bloom s) (image.Bloom bytes) (OfBloom h) written stands = record { filter = s; spelled = written; stands = stands.stands }
+  saved_stands (Bloom s) (image.Bloom bytes) OfStranger written stands = tt
   saved_stands (Bloom s) (image.Bloom bytes) _ written stands = absurd stands
   saved_stands _ _ _ written stands = absurd written
 
@@ -91,3 +103,48 @@ module _ {T C : Type 0} (codec : Codec C) (content : T → C) where
   read_first (image.CountU64 seed bytes) (CountU64 s) read = inl (refl, or_else_none (count.early_fault seed bytes.items) _ read.no_fault)
   read_first (image.Bloom bytes) (Bloom s) read = inl (refl, or_else_none (bloom.early_fault bytes.items) _ read.no_fault)
   read_first _ _ read = absurd read
+
+-- ---- within a limit
+
+-- a limit that is not passed
+not_over : (most n : ℕ) → n ≤ most → over_limit most n ≡ None
+not_over most n h = ap (λ (t : Bool). cond t (Some TableTooLarge) None) (le-ltb most n h)
+
+none_within : (early limit late : Option Fault) → or_else early late ≡ None → limit ≡ None → or_else early limit ≡ None
+none_within None limit late e h = h
+none_within (Some fault) limit late e h = cc
+
+-- the shape that a Count-Min image says
+count_hashes : (least : ℤ) (seed : ℕ) (image : List ℕ) (t : Bool) → count.says_empty image ≡ t → (count.value_at least seed image).hashes ≡ count.hashes_at image
+count_hashes least seed image true e = rw e refl
+count_hashes least seed image false e = rw e refl
+
+count_buckets : (least : ℤ) (seed : ℕ) (image : List ℕ) (t : Bool) → count.says_empty image ≡ t → (count.value_at least seed image).buckets ≡ count.buckets_at image
+count_buckets least seed image true e = rw e refl
+count_buckets least seed image false e = rw e refl
+
+count_within : (least : ℤ) (greatest seed most : ℕ) (bytes : List ℕ) (s : CountState) → count.IsImage least greatest seed bytes s → s.hashes * s.buckets * 8 + 8 * s.hashes ≤ most → count.early_fault_within 8 most seed bytes ≡ None
+count_within least greatest seed most bytes s image within =
+    let hashes = ap (λ (u : CountState). u.hashes) image.value ∙ count_hashes least seed bytes (count.says_empty bytes) refl in
+    let buckets = ap (λ (u : CountState). u.buckets) image.value ∙ count_buckets least seed bytes (count.says_empty bytes) refl in
+    none_within (count.early_fault seed bytes) (count.limit_fault 8 most bytes) _ image.no_fault
+    (not_over most _ (rw (sym hashes, sym buckets) within))
+
+module _ {T C : Type 0} (slot : ℕ) (codec : Codec C) (content : T → C) where
+  -- where an image was loaded, memory may be refused
+  pub load_first : (most : ℕ) (saved : Image) (sketch : Sketch T) → IsReadFrom codec content saved sketch → TakesWithin slot most sketch → IsLoadRefusal slot codec most saved no_memory
+  load_first most (image.Frequent bytes) (Frequent s) read within =
+      inl (
+        refl,
+        none_within (frequent.early_fault bytes.items) (over_limit most (slots_bytes slot (frequent.restored_size bytes.items))) _ read.0.no_fault
+            (not_over most _ (subst (λ (n : ℕ). slots_bytes slot n ≤ most) read.0.size within)),
+      )
+  load_first most (image.CountI64 seed bytes) (CountI64 s) read within = inl (refl, count_within _ _ seed most bytes.items s read within)
+  load_first most (image.CountU64 seed bytes) (CountU64 s) read within = inl (refl, count_within _ _ seed most bytes.items s read within)
+  load_first most (image.Bloom bytes) (Bloom s) read within =
+      inl (
+        refl,
+        none_within (bloom.early_fault bytes.items) (bloom.limit_fault most bytes.items) _ read.no_fault
+            (not_over most _ (subst (λ (n : ℕ). 8 * n ≤ most) (ap (λ (u : FilterState). u.num_words) read.value) within)),
+      )
+  load_first most _ _ read within = absurd read

@@ -5,14 +5,14 @@ use Rattle.std.specs.Option.{MatchOption}
 use Rattle.std.proofs.lemmas.Result.{err_from_is_err_and}
 use Rattle.sketch_base.specs.Errors.{ErrorValue, invalid_argument, no_memory, refusal_of}
 use Rattle.sketch_base.specs.declared.fault.Fault.{Fault}
-use Rattle.datasketches.specs.Images.{IsWrittenBy, IsReadFrom, GivesBack}
+use Rattle.datasketches.specs.Images.{IsWrittenBy, IsReadFrom, GivesBack, TakesWithin}
 use Rattle.sketch_frequencies.specs.Items.{Codec}
-use Rattle.datasketches.proofs.Saved.{read_first}
+use Rattle.datasketches.proofs.Saved.{read_first, load_first}
 use Rattle.datasketches.specs.Names.{at_name, Puts, AreSame}
 use Rattle.datasketches.specs.Replies.{told, refused}
 use Rattle.datasketches.specs.Shapes.{fault_of}
 use Rattle.datasketches.specs.State.{SessionState}
-use Rattle.datasketches.specs.Steps.{Creates, MakesEmpty, Refuses, Saves, Restores}
+use Rattle.datasketches.specs.Steps.{Creates, MakesEmpty, Refuses, Saves, Restores, Loads}
 use Rattle.datasketches.specs.declared.image.Image.{Image}
 use Rattle.datasketches.specs.declared.reply.Refusal.{Refusal}
 use Rattle.datasketches.specs.declared.reply.Refusal.TheVariants.{Call}
@@ -47,6 +47,19 @@ module _ {T C : Type 0} (eq : T → T → Bool) (codec : Codec C) (content : T �
       IsReadFrom codec content saved sketch → GivesBack eq codec content saved sketch → Puts name sketch old.sketches new.sketches → Restores eq codec content image name old Done new
   restores_done image name old new saved sketch found free images read back puts =
       rw (found, free) (record { images = images; outcome = inl (sketch, refl, read, back, puts) })
+
+module _ {T C : Type 0} (slot : ℕ) (eq : T → T → Bool) (codec : Codec C) (content : T → C) where
+  -- an image that was loaded, where there was no memory for its name
+  pub loads_refused : (image : Image) (most : ℕ) (name : List ℕ) (old new : SessionState T) (reply : Reply T) (sketch : Sketch T) → at_name name old.sketches ≡ None → AreSame old.images new.images →
+      IsReadFrom codec content image sketch → TakesWithin slot most sketch → reply ≡ refused no_memory → AreSame old.sketches new.sketches → Loads slot eq codec content image most name old reply new
+  loads_refused image most name old new reply sketch free images read within is same =
+      rw free (record { images = images; outcome = inr (no_memory, load_first slot codec content most image sketch read within, (is, same)) })
+
+  -- an image that was loaded
+  pub loads_done : (image : Image) (most : ℕ) (name : List ℕ) (old new : SessionState T) (sketch : Sketch T) → at_name name old.sketches ≡ None → AreSame old.images new.images →
+      IsReadFrom codec content image sketch → GivesBack eq codec content image sketch → TakesWithin slot most sketch → Puts name sketch old.sketches new.sketches → Loads slot eq codec content image most name old Done new
+  loads_done image most name old new sketch free images read back within puts =
+      rw free (record { images = images; outcome = inl (sketch, refl, record { read = read; stands = back; within = within }, puts) })
 
 module _ {T C : Type 0} (codec : Codec C) (content : T → C) where
   -- a sketch that was written

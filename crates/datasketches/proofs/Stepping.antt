@@ -10,18 +10,21 @@ use Rattle.sketch_base.specs.Errors.{ErrorValue}
 use Rattle.datasketches.specs.Actions.{action_of}
 use Rattle.datasketches.specs.Changing.{Changes}
 use Rattle.datasketches.specs.SessionStandsFor.{Paired, SessionStandsFor}
-use Rattle.datasketches.specs.Histories.{History, Assignment, put_at, changed, restored, after_action, after_one, after}
-use Rattle.datasketches.specs.Images.{IsImageOf, IsWrittenBy, IsReadFrom, IsWriteRefusal, IsReadRefusal, GivesBack}
+use Rattle.datasketches.specs.Histories.{History, Assignment, put_at, changed, restored, after_action, after_action_told, after_one, after_one_told, after, after_told}
+use Rattle.datasketches.specs.Histories.History.{OfStranger}
+use Rattle.datasketches.specs.Images.{image_of, IsImageOf, IsWrittenBy, IsReadFrom, IsWriteRefusal, IsReadRefusal, IsLoadRefusal, GivesBack}
+use Rattle.datasketches.specs.Loading.{IsActionTold, IsTold, AreTold}
 use Rattle.datasketches.specs.Names.{at_name, Puts, AreSame}
 use Rattle.datasketches.specs.Replies.{is_refused, refused}
 use Rattle.datasketches.specs.Running.{Midst}
 use Rattle.datasketches.specs.Stands.{StandsFor}
 use Rattle.datasketches.specs.State.{SessionState, IsUnchanged}
-use Rattle.datasketches.specs.Steps.{Refuses, MakesFrom, Writes, Reads, Saves, Restores, Performs, Step, Run}
+use Rattle.datasketches.specs.Steps.{Refuses, MakesFrom, Writes, Reads, Saves, Restores, IsLoaded, Brings, Loads, Performs, Step, Run}
 use Rattle.datasketches.specs.declared.action.Action.{Action}
 use Rattle.datasketches.specs.declared.action.Action.TheVariants as action
 use Rattle.datasketches.specs.declared.command.Command.{Command}
 use Rattle.datasketches.specs.declared.image.Image.{Image}
+use Rattle.datasketches.specs.declared.image.Image.TheVariants as image
 use Rattle.datasketches.specs.declared.reply.Reply.{Reply}
 use Rattle.datasketches.specs.declared.reply.Reply.TheVariants.{Done}
 use Rattle.datasketches.specs.declared.sketch.Sketch.{Sketch}
@@ -126,26 +129,92 @@ module _ {T C : Type 0} (eq : T → T → Bool) (codec : Codec C) (content : T �
   restored_same image name reply old new r restores =
       makes_same (at_name image old.images) (at_name name old.sketches) (λ saved. Reads eq codec content saved name old reply new) reply old new (λ saved done. read_same saved name reply old new r done.images done.outcome) restores
 
+module _ {T C : Type 0} (slot : ℕ) (eq : T → T → Bool) (codec : Codec C) (content : T → C) where
+  -- bytes were loaded of which a history is told, or the call refused
+  brought_fits : (image : Image) (most_bytes : ℕ) (name : List ℕ) (loaded : History T) (reply : Reply T) (old new : SessionState T) (a : Assignment T) →
+      IsImageOf eq codec content image loaded → SessionStandsFor eq codec content old a → AreSame old.images new.images →
+      ((sketch : Sketch T) × (reply ≡ Done) × IsLoaded slot eq codec content image most_bytes sketch × Puts name sketch old.sketches new.sketches) ⊎ ((e : ErrorValue) × IsLoadRefusal slot codec most_bytes image e × Refuses (refused e) old.sketches reply new.sketches) →
+      SessionStandsFor eq codec content new (cond (is_refused reply) a (record a { sketches = put_at name (Some (restored loaded)) a.sketches }))
+  brought_fits image most_bytes name loaded reply old new a told fits same (inl done) = rw done.1 (record {
+    sketches = put_pair (StandsFor eq) name done.0 (restored loaded) old.sketches new.sketches a.sketches fits.sketches (done.2.stands loaded told) done.3;
+    images = same_pairs (IsImageOf eq codec content) old.images new.images a.images fits.images same;
+  })
+  brought_fits image most_bytes name loaded reply old new a told fits same (inr done) = rw done.2.0 (record {
+    sketches = same_pairs (StandsFor eq) old.sketches new.sketches a.sketches fits.sketches done.2.1;
+    images = same_pairs (IsImageOf eq codec content) old.images new.images a.images fits.images same;
+  })
+
+  free_fits : (image : Image) (most_bytes : ℕ) (name : List ℕ) (found : Option (Sketch T)) (loaded : History T) (reply : Reply T) (old new : SessionState T) (a : Assignment T) → at_name name old.sketches ≡ found →
+      IsImageOf eq codec content image loaded → SessionStandsFor eq codec content old a → Loads slot eq codec content image most_bytes name old reply new →
+      SessionStandsFor eq codec content new (cond (is_refused reply) a (record a { sketches = put_at name (Some (restored loaded)) a.sketches }))
+  free_fits image most_bytes name (Some sketch) loaded reply old new a e told fits loads =
+      let done = rw e at loads in
+      rw done.1 (unchanged_fits eq codec content old new a fits done.0)
+  free_fits image most_bytes name None loaded reply old new a e told fits loads =
+      let done = rw e at loads in
+      brought_fits image most_bytes name loaded reply old new a told fits done.images done.outcome
+
+  pub load_fits : (image : Image) (most_bytes : ℕ) (name : List ℕ) (loaded : History T) (reply : Reply T) (old new : SessionState T) (a : Assignment T) →
+      IsImageOf eq codec content image loaded → SessionStandsFor eq codec content old a → Loads slot eq codec content image most_bytes name old reply new →
+      SessionStandsFor eq codec content new (cond (is_refused reply) a (record a { sketches = put_at name (Some (restored loaded)) a.sketches }))
+  load_fits image most_bytes name loaded reply old new a told fits loads = free_fits image most_bytes name (at_name name old.sketches) loaded reply old new a refl told fits loads
+
+  -- a load that was refused
+  brought_same : (image : Image) (most_bytes : ℕ) (name : List ℕ) (reply : Reply T) (old new : SessionState T) → is_refused reply ≡ true → AreSame old.images new.images →
+      ((sketch : Sketch T) × (reply ≡ Done) × IsLoaded slot eq codec content image most_bytes sketch × Puts name sketch old.sketches new.sketches) ⊎ ((e : ErrorValue) × IsLoadRefusal slot codec most_bytes image e × Refuses (refused e) old.sketches reply new.sketches) →
+      IsUnchanged old new
+  brought_same image most_bytes name reply old new r same (inl done) = absurd (false≢true (sym (ap is_refused done.1) ∙ r))
+  brought_same image most_bytes name reply old new r same (inr done) = record { sketches = done.2.1; images = same }
+
+  free_same : (image : Image) (most_bytes : ℕ) (name : List ℕ) (found : Option (Sketch T)) (reply : Reply T) (old new : SessionState T) → at_name name old.sketches ≡ found → is_refused reply ≡ true → Loads slot eq codec content image most_bytes name old reply new → IsUnchanged old new
+  free_same image most_bytes name (Some sketch) reply old new e r loads = (rw e at loads).0
+  free_same image most_bytes name None reply old new e r loads =
+      let done = rw e at loads in
+      brought_same image most_bytes name reply old new r done.images done.outcome
+
+  loaded_same : (image : Image) (most_bytes : ℕ) (name : List ℕ) (reply : Reply T) (old new : SessionState T) → is_refused reply ≡ true → Loads slot eq codec content image most_bytes name old reply new → IsUnchanged old new
+  loaded_same image most_bytes name reply old new r loads = free_same image most_bytes name (at_name name old.sketches) reply old new refl r loads
+
+module _ {T C : Type 0} (eq : T → T → Bool) (codec : Codec C) (content : T → C) where
+  -- a stranger may have written any image
+  pub of_stranger : (image : Image) → IsImageOf eq codec content image OfStranger
+  of_stranger (image.Frequent bytes) = tt
+  of_stranger (image.CountI64 seed bytes) = tt
+  of_stranger (image.CountU64 seed bytes) = tt
+  of_stranger (image.Bloom bytes) = tt
+
+  pub stranger_told : (action : Action T) → IsActionTold eq codec content action OfStranger
+  stranger_told (action.Load name kind image most_bytes) = of_stranger (image_of kind image)
+  stranger_told _ = tt
+
+  nothing_told : (commands : List (Command T)) → AreTold eq codec content commands []
+  nothing_told [] = tt
+  nothing_told (command ∷ commands) = tt
+
 -- ---- one action, one command, and a run
 
-module _ {T C : Type 0} (eq : T → T → Bool) (input : T → List (List ℕ)) (codec : Codec C) (content : T → C) where
+module _ {T C : Type 0} (slot : ℕ) (eq : T → T → Bool) (input : T → List (List ℕ)) (codec : Codec C) (content : T → C) where
   -- what a session fitted, it fits after an action, with what the action made of it
-  pub action_fits : (action : Action T) (reply : Reply T) (old new : SessionState T) (a : Assignment T) → SessionStandsFor eq codec content old a → Performs eq input codec content old action reply new → SessionStandsFor eq codec content new (after_action input a action reply)
-  action_fits (action.Create name shape) reply old new a fits step =
+  pub action_fits_told : (action : Action T) (loaded : History T) (reply : Reply T) (old new : SessionState T) (a : Assignment T) → SessionStandsFor eq codec content old a → IsActionTold eq codec content action loaded → Performs slot eq input codec content old action reply new → SessionStandsFor eq codec content new (after_action_told input a action loaded reply)
+  action_fits_told (action.Create name shape) loaded reply old new a fits told step =
       after_sketches eq codec content reply _ old new a fits step.1 (create_fits eq shape (string_bytes name) reply old.sketches new.sketches a.sketches fits.sketches step.0)
-  action_fits (action.Change name change) reply old new a fits step =
+  action_fits_told (action.Change name change) loaded reply old new a fits told step =
       after_sketches eq codec content reply _ old new a fits step.1 (change_fits eq (Changes eq input change) (changed input change) (string_bytes name) reply old.sketches new.sketches a.sketches fits.sketches step.0)
-  action_fits (action.Join into other join) reply old new a fits step =
+  action_fits_told (action.Join into other join) loaded reply old new a fits told step =
       after_sketches eq codec content reply _ old new a fits step.1 (join_fits eq join (string_bytes into) (string_bytes other) reply old.sketches new.sketches a.sketches fits.sketches step.0)
-  action_fits (action.Save name image) reply old new a fits step = save_fits eq codec content (string_bytes name) (string_bytes image) reply old new a fits step
-  action_fits (action.Restore image name) reply old new a fits step = restore_fits eq codec content (string_bytes image) (string_bytes name) reply old new a fits step
-  action_fits (action.ShowImage image) reply old new a fits step = told_fits eq codec content (is_refused reply) old new a fits step.0
-  action_fits (action.Ask name item) reply old new a fits step = told_fits eq codec content (is_refused reply) old new a fits step.0
-  action_fits (action.GetStatus name) reply old new a fits step = told_fits eq codec content (is_refused reply) old new a fits step.0
-  action_fits (action.ListRows name error_type threshold) reply old new a fits step = told_fits eq codec content (is_refused reply) old new a fits step.0
+  action_fits_told (action.Save name image) loaded reply old new a fits told step = save_fits eq codec content (string_bytes name) (string_bytes image) reply old new a fits step
+  action_fits_told (action.Restore image name) loaded reply old new a fits told step = restore_fits eq codec content (string_bytes image) (string_bytes name) reply old new a fits step
+  action_fits_told (action.Load name kind image most_bytes) loaded reply old new a fits told step = load_fits slot eq codec content (image_of kind image) most_bytes (string_bytes name) loaded reply old new a told fits step
+  action_fits_told (action.ShowImage image) loaded reply old new a fits told step = told_fits eq codec content (is_refused reply) old new a fits step.0
+  action_fits_told (action.Ask name item) loaded reply old new a fits told step = told_fits eq codec content (is_refused reply) old new a fits step.0
+  action_fits_told (action.GetStatus name) loaded reply old new a fits told step = told_fits eq codec content (is_refused reply) old new a fits step.0
+  action_fits_told (action.ListRows name error_type threshold) loaded reply old new a fits told step = told_fits eq codec content (is_refused reply) old new a fits step.0
+
+  pub action_fits : (action : Action T) (reply : Reply T) (old new : SessionState T) (a : Assignment T) → SessionStandsFor eq codec content old a → Performs slot eq input codec content old action reply new → SessionStandsFor eq codec content new (after_action input a action reply)
+  action_fits action reply old new a fits step = action_fits_told action OfStranger reply old new a fits (stranger_told eq codec content action) step
 
   -- an action that was refused changed nothing
-  pub action_same : (action : Action T) (reply : Reply T) (old new : SessionState T) → is_refused reply ≡ true → Performs eq input codec content old action reply new → IsUnchanged old new
+  pub action_same : (action : Action T) (reply : Reply T) (old new : SessionState T) → is_refused reply ≡ true → Performs slot eq input codec content old action reply new → IsUnchanged old new
   action_same (action.Create name shape) reply old new r step =
       record { sketches = create_same eq shape (string_bytes name) reply old.sketches new.sketches r step.0; images = step.1 }
   action_same (action.Change name change) reply old new r step =
@@ -154,36 +223,52 @@ module _ {T C : Type 0} (eq : T → T → Bool) (input : T → List (List ℕ)) 
       record { sketches = join_same eq join (string_bytes into) (string_bytes other) reply old.sketches new.sketches r step.0; images = step.1 }
   action_same (action.Save name image) reply old new r step = saved_same eq codec content (string_bytes name) (string_bytes image) reply old new r step
   action_same (action.Restore image name) reply old new r step = restored_same eq codec content (string_bytes image) (string_bytes name) reply old new r step
+  action_same (action.Load name kind image most_bytes) reply old new r step = loaded_same slot eq codec content (image_of kind image) most_bytes (string_bytes name) reply old new r step
   action_same (action.ShowImage image) reply old new r step = step.0
   action_same (action.Ask name item) reply old new r step = step.0
   action_same (action.GetStatus name) reply old new r step = step.0
   action_same (action.ListRows name error_type threshold) reply old new r step = step.0
 
   -- the same of a command
-  pub step_fits : (command : Command T) (reply : Reply T) (old new : SessionState T) (a : Assignment T) → SessionStandsFor eq codec content old a → Step eq input codec content old command reply new → SessionStandsFor eq codec content new (after_one input a command reply)
+  pub step_fits_told : (command : Command T) (loaded : History T) (reply : Reply T) (old new : SessionState T) (a : Assignment T) → SessionStandsFor eq codec content old a → IsTold eq codec content command loaded → Step slot eq input codec content old command reply new → SessionStandsFor eq codec content new (after_one_told input a command loaded reply)
+  step_fits_told command loaded reply old new a fits told step = action_fits_told (action_of command) loaded reply old new a fits told step
+
+  pub step_fits : (command : Command T) (reply : Reply T) (old new : SessionState T) (a : Assignment T) → SessionStandsFor eq codec content old a → Step slot eq input codec content old command reply new → SessionStandsFor eq codec content new (after_one input a command reply)
   step_fits command reply old new a fits step = action_fits (action_of command) reply old new a fits step
 
   -- a run of commands
-  pub run_fits : (commands : List (Command T)) (replies : List (Reply T)) (old new : SessionState T) (a : Assignment T) → SessionStandsFor eq codec content old a → Run eq input codec content old commands replies new → SessionStandsFor eq codec content new (after input a commands replies)
-  run_fits [] [] old new a fits run = subst (λ (s : SessionState T). SessionStandsFor eq codec content s a) (sym run) fits
-  run_fits [] (reply ∷ replies) old new a fits run = absurd run
-  run_fits (command ∷ commands) [] old new a fits run = absurd run
-  run_fits (command ∷ commands) (reply ∷ replies) old new a fits run =
-      run_fits commands replies run.0 new (after_one input a command reply) (step_fits command reply old run.0 a fits run.1) run.2
+  pub run_fits_told : (commands : List (Command T)) (loaded : List (History T)) (replies : List (Reply T)) (old new : SessionState T) (a : Assignment T) → SessionStandsFor eq codec content old a → AreTold eq codec content commands loaded → Run slot eq input codec content old commands replies new → SessionStandsFor eq codec content new (after_told input a commands loaded replies)
+  run_fits_told [] loaded [] old new a fits told run = subst (λ (s : SessionState T). SessionStandsFor eq codec content s a) (sym run) fits
+  run_fits_told [] loaded (reply ∷ replies) old new a fits told run = absurd run
+  run_fits_told (command ∷ commands) loaded [] old new a fits told run = absurd run
+  run_fits_told (command ∷ commands) [] (reply ∷ replies) old new a fits told run =
+      run_fits_told commands [] replies run.0 new (after_one_told input a command OfStranger reply) (step_fits command reply old run.0 a fits run.1) (nothing_told eq codec content commands) run.2
+  run_fits_told (command ∷ commands) (history ∷ loaded) (reply ∷ replies) old new a fits told run =
+      run_fits_told commands loaded replies run.0 new (after_one_told input a command history reply) (step_fits_told command history reply old run.0 a fits told.0 run.1) told.1 run.2
+
+  -- where nothing is told, each is a stranger's
+  untold : (commands : List (Command T)) (replies : List (Reply T)) (a : Assignment T) → after_told input a commands [] replies ≡ after input a commands replies
+  untold [] replies a = refl
+  untold (command ∷ commands) [] a = refl
+  untold (command ∷ commands) (reply ∷ replies) a = untold commands replies (after_one input a command reply)
+
+  pub run_fits : (commands : List (Command T)) (replies : List (Reply T)) (old new : SessionState T) (a : Assignment T) → SessionStandsFor eq codec content old a → Run slot eq input codec content old commands replies new → SessionStandsFor eq codec content new (after input a commands replies)
+  run_fits commands replies old new a fits run =
+      subst (λ (b : Assignment T). SessionStandsFor eq codec content new b) (untold commands replies a) (run_fits_told commands [] replies old new a fits (nothing_told eq codec content commands) run)
 
   -- ---- the loop of a run
 
-  pub begins : (start : SessionState T) (commands rest : List (Command T)) (told : List (Reply T)) (room : ℕ) → rest ≡ commands → told ≡ [] → length commands ≤ room → Midst eq input codec content start start commands rest told room
+  pub begins : (start : SessionState T) (commands rest : List (Command T)) (told : List (Reply T)) (room : ℕ) → rest ≡ commands → told ≡ [] → length commands ≤ room → Midst slot eq input codec content start start commands rest told room
   begins start commands rest told room whole none h = rw (whole, none) (record { run = λ replies end r. r; space = omega (arith, h) })
 
   pub goes_on : (start s t : SessionState T) (commands rest left : List (Command T)) (command : Command T) (told : List (Reply T)) (reply : Reply T) (room more : ℕ) →
-      Midst eq input codec content start s commands rest told room → rest ≡ command ∷ left → Step eq input codec content s command reply t → more ≡ room → Midst eq input codec content start t commands left (told ++ reply ∷ []) more
+      Midst slot eq input codec content start s commands rest told room → rest ≡ command ∷ left → Step slot eq input codec content s command reply t → more ≡ room → Midst slot eq input codec content start t commands left (told ++ reply ∷ []) more
   goes_on start s t commands rest left command told reply room more m e step same = record {
     run = λ replies end r. rw append_assoc (m.run (reply ∷ replies) end (rw e (t, step, r)));
     space = omega (arith, length-append told (reply ∷ []), ap length e, m.space, same);
   }
 
-  pub ends : (start s : SessionState T) (commands rest : List (Command T)) (told : List (Reply T)) (room : ℕ) → Midst eq input codec content start s commands rest told room → rest ≡ [] → Run eq input codec content start commands told s
+  pub ends : (start s : SessionState T) (commands rest : List (Command T)) (told : List (Reply T)) (room : ℕ) → Midst slot eq input codec content start s commands rest told room → rest ≡ [] → Run slot eq input codec content start commands told s
   ends start s commands rest told room m e = rw append-nil at (m.run [] s (rw e refl))
 
 pub nothing_left : {X : Type 0} (n : ℕ) (xs : List X) → n ≡ length xs → n ≡ 0 → xs ≡ []

@@ -1,6 +1,6 @@
 -- What each command does.
 use Rattle.datasketches.specs.declared.action.Action.{Action}
-use Rattle.datasketches.specs.declared.action.Action.TheVariants.{Create, Change, Join, Save, Restore, ShowImage, Ask, GetStatus, ListRows}
+use Rattle.datasketches.specs.declared.action.Action.TheVariants.{Create, Change, Join, Save, Restore, Load, ShowImage, Ask, GetStatus, ListRows}
 use Rattle.datasketches.specs.declared.change.Change.TheVariants as change
 use Rattle.datasketches.specs.declared.command.Command.{Command}
 use Rattle.datasketches.specs.declared.command.Command.TheVariants as command
@@ -27,6 +27,7 @@ action_of (command.Halve name) = Change name change.Halve
 action_of (command.Decay name numerator denominator) = Change name (change.Decay numerator denominator)
 action_of (command.Save name image) = Save name image
 action_of (command.Restore image name) = Restore image name
+action_of (command.Load name kind image most_bytes) = Load name kind image most_bytes
 action_of (command.ShowImage image) = ShowImage image
 action_of (command.Ask name item) = Ask name item
 action_of (command.GetStatus name) = GetStatus name

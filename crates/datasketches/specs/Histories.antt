@@ -24,12 +24,13 @@ use Rattle.datasketches.specs.declared.join.Join.TheVariants as join
 use Rattle.datasketches.specs.declared.shape.Shape.{Shape}
 use Rattle.datasketches.specs.declared.shape.Shape.TheVariants as shape
 
--- the history of a sketch of some kind
+-- the history of a sketch of some kind, or of one whose bytes came from a stranger, of which nothing is known
 pub data History (T : Type 0) : Type 0 where
   OfFrequent : FrequentHistory T → History T
   OfCountI64 : CountHistory → History T
   OfCountU64 : CountHistory → History T
   OfBloom : BloomHistory → History T
+  OfStranger : History T
 
 -- a kind and a history for each name of a sketch and each name of an image
 pub record Assignment (T : Type 0) : Type 0 where
@@ -65,8 +66,9 @@ module _ {T : Type 0} where
   restored (OfCountI64 h) = OfCountI64 (count.Restored h)
   restored (OfCountU64 h) = OfCountU64 (count.Restored h)
   restored (OfBloom h) = OfBloom (bloom.Restored h)
+  restored OfStranger = OfStranger
 
-  -- that of two sketches, the second joined to the first
+  -- that of two sketches, the second joined to the first; what a stranger's was joined to is a stranger's
   abbrev pub joined : Join → History T → History T → History T
   joined join.Merge (OfFrequent g) (OfFrequent h) = OfFrequent (frequent.Merge g h)
   joined join.Merge (OfCountI64 g) (OfCountI64 h) = OfCountI64 (count.Merge g h)
@@ -74,6 +76,7 @@ module _ {T : Type 0} where
   joined join.Union (OfBloom g) (OfBloom h) = OfBloom (bloom.Union g h)
   joined join.Intersect (OfBloom g) (OfBloom h) = OfBloom (bloom.Intersection g h)
   joined join.Difference (OfBloom g) (OfBloom h) = OfBloom (bloom.Difference g h)
+  joined _ _ OfStranger = OfStranger
   joined _ history _ = history
 
 -- what items feed to a hash
@@ -109,29 +112,51 @@ module _ {T : Type 0} (input : T → List (List ℕ)) where
             (of_both (joined join) (a.sketches (string_bytes into)) (a.sketches (string_bytes other))) a.sketches;
       }
 
-  -- what an accepted action makes of an assignment
-  abbrev pub accepted : Assignment T → Action T → Assignment T
-  accepted a (action.Create name shape) = made a name shape
-  accepted a (action.Change name change) = grown a name change
-  accepted a (action.Join into other join) = both_joined a into other join
-  accepted a (action.Save name image) =
+  -- what an accepted action makes of an assignment, where the bytes that it loads are said to be of this history
+  abbrev pub accepted_told : Assignment T → Action T → History T → Assignment T
+  accepted_told a (action.Create name shape) loaded = made a name shape
+  accepted_told a (action.Change name change) loaded = grown a name change
+  accepted_told a (action.Join into other join) loaded = both_joined a into other join
+  accepted_told a (action.Save name image) loaded =
       record a { images = put_at (string_bytes image) (a.sketches (string_bytes name)) a.images }
-  accepted a (action.Restore image name) =
+  accepted_told a (action.Restore image name) loaded =
       record a { sketches = put_at (string_bytes name) (option_map restored (a.images (string_bytes image))) a.sketches }
-  accepted a (action.ShowImage image) = a
-  accepted a (action.Ask name item) = a
-  accepted a (action.GetStatus name) = a
-  accepted a (action.ListRows name error_type threshold) = a
+  accepted_told a (action.Load name kind image most_bytes) loaded =
+      record a { sketches = put_at (string_bytes name) (Some (restored loaded)) a.sketches }
+  accepted_told a (action.ShowImage image) loaded = a
+  accepted_told a (action.Ask name item) loaded = a
+  accepted_told a (action.GetStatus name) loaded = a
+  accepted_told a (action.ListRows name error_type threshold) loaded = a
 
   -- and what an action does whose reply is this: nothing where it was refused
-  abbrev pub after_action : Assignment T → Action T → Reply T → Assignment T
-  after_action a action reply = if is_refused reply then a else accepted a action
+  abbrev pub after_action_told : Assignment T → Action T → History T → Reply T → Assignment T
+  after_action_told a action loaded reply = if is_refused reply then a else accepted_told a action loaded
 
   -- a command makes of it what its action makes of it
-  abbrev pub after_one : Assignment T → Command T → Reply T → Assignment T
-  after_one a command reply = after_action a (action_of command) reply
+  abbrev pub after_one_told : Assignment T → Command T → History T → Reply T → Assignment T
+  after_one_told a command loaded reply = after_action_told a (action_of command) loaded reply
 
-  -- what the commands with these replies make of it, in their order
+  -- what the commands with these replies make of it, in their order, where each of them has a history that the bytes
+  -- that it loads are said to be of, or a stranger's where no more are said
+  abbrev pub after_told : Assignment T → List (Command T) → List (History T) → List (Reply T) → Assignment T
+  after_told a [] loaded replies = a
+  after_told a (command ∷ commands) loaded [] = a
+  after_told a (command ∷ commands) [] (reply ∷ replies) =
+      after_told (after_one_told a command OfStranger reply) commands [] replies
+  after_told a (command ∷ commands) (history ∷ loaded) (reply ∷ replies) =
+      after_told (after_one_told a command history reply) commands loaded replies
+
+  -- ---- where nothing is said of the bytes that are loaded: they are a stranger's
+
+  abbrev pub accepted : Assignment T → Action T → Assignment T
+  accepted a action = accepted_told a action OfStranger
+
+  abbrev pub after_action : Assignment T → Action T → Reply T → Assignment T
+  after_action a action reply = after_action_told a action OfStranger reply
+
+  abbrev pub after_one : Assignment T → Command T → Reply T → Assignment T
+  after_one a command reply = after_one_told a command OfStranger reply
+
   abbrev pub after : Assignment T → List (Command T) → List (Reply T) → Assignment T
   after a [] replies = a
   after a (command ∷ commands) [] = a

@@ -1,7 +1,12 @@
--- Saved sketches: how they are written and read, and what they stand for.
-use Rattle.std.specs.Prelude.{◌≡◌, ℕ, ℤ, Bool, List}
-use Rattle.sketch_base.specs.Checks.{IsImageRefusal}
+-- Images of sketches: how they are written and read, and what they stand for.
+use Rattle.std.specs.Prelude.{◌≡◌, ◌≤◌, ℕ, ◌+◌, ◌*◌, nat_lt, ℤ, Bool, List, Option, Some, None, if◌then◌else◌}
+use Rattle.std.specs.Global.{Global}
+use Rattle.std.specs.declared.vec.Vec.{Vec}
+use Rattle.counter_table.specs.Bytes.{slots_bytes}
+use Rattle.sketch_base.specs.Checks.{IsImageRefusal, or_else}
 use Rattle.sketch_base.specs.Errors.{ErrorValue, no_memory}
+use Rattle.sketch_base.specs.declared.fault.Fault.{Fault}
+use Rattle.sketch_base.specs.declared.fault.Fault.TheVariants.{TableTooLarge}
 use Rattle.sketch_bloom.specs.History.{BloomHistory}
 use Rattle.sketch_bloom.specs.Image as bloom
 use Rattle.sketch_bloom.specs.Stands as bloom_stands
@@ -16,11 +21,13 @@ use Rattle.sketch_frequencies.specs.Items.{Codec}
 use Rattle.sketch_frequencies.specs.Stands as frequent_stands
 use Rattle.sketch_frequencies.specs.State.{FrequentState, greatest_sample_size}
 use Rattle.datasketches.specs.Histories.{History, restored}
-use Rattle.datasketches.specs.Histories.History.{OfFrequent, OfCountI64, OfCountU64, OfBloom}
+use Rattle.datasketches.specs.Histories.History.{OfFrequent, OfCountI64, OfCountU64, OfBloom, OfStranger}
 use Rattle.datasketches.specs.Replies.{least_signed, greatest_signed, least_unsigned, greatest_unsigned}
 use Rattle.datasketches.specs.Stands.{StandsFor}
 use Rattle.datasketches.specs.declared.image.Image.{Image}
 use Rattle.datasketches.specs.declared.image.Image.TheVariants as image
+use Rattle.datasketches.specs.declared.image_kind.ImageKind.{ImageKind}
+use Rattle.datasketches.specs.declared.image_kind.ImageKind.TheVariants as kind
 use Rattle.datasketches.specs.declared.sketch.Sketch.{Sketch}
 use Rattle.datasketches.specs.declared.sketch.Sketch.TheVariants.{Frequent, CountI64, CountU64, Bloom}
 
@@ -30,6 +37,13 @@ bytes_of (image.Frequent bytes) = bytes.items
 bytes_of (image.CountI64 seed bytes) = bytes.items
 bytes_of (image.CountU64 seed bytes) = bytes.items
 bytes_of (image.Bloom bytes) = bytes.items
+
+-- the image of these bytes, read as one of this kind
+abbrev pub image_of : ImageKind → Vec ℕ Global → Image
+image_of kind.Frequent bytes = image.Frequent bytes
+image_of (kind.CountI64 seed) bytes = image.CountI64 seed bytes
+image_of (kind.CountU64 seed) bytes = image.CountU64 seed bytes
+image_of kind.Bloom bytes = image.Bloom bytes
 
 -- how items are written and read, and what an item says
 module _ {T C : Type 0} (codec : Codec C) (content : T → C) where
@@ -74,6 +88,34 @@ IsReadRefusal codec (image.CountU64 seed bytes) e =
 IsReadRefusal codec (image.Bloom bytes) e =
     IsImageRefusal (bloom.early_fault bytes.items) (bloom.first_fault bytes.items) e
 
+-- the limit is passed where a sketch would take more bytes than that
+abbrev pub over_limit : (most_bytes taken : ℕ) → Option Fault
+over_limit most_bytes taken = if nat_lt most_bytes taken then Some TableTooLarge else None
+
+-- the same of an image that is read where the sketch takes at most so many bytes, which is looked at behind the checks
+-- that come before memory; a slot of frequent items takes so many bytes and 12, a cell of a Count-Min sketch 8
+abbrev pub IsLoadRefusal : (slot : ℕ) → {C : Type 0} → Codec C → (most_bytes : ℕ) → Image → ErrorValue → Type 0
+IsLoadRefusal slot codec most_bytes (image.Frequent bytes) e =
+    let early = or_else (frequent.early_fault bytes.items)
+    (over_limit most_bytes (slots_bytes slot (frequent.restored_size bytes.items))) in
+    IsImageRefusal early (or_else early (frequent.late_fault codec bytes.items)) e
+IsLoadRefusal slot codec most_bytes (image.CountI64 seed bytes) e =
+    IsImageRefusal (count.early_fault_within 8 most_bytes seed bytes.items)
+    (count.first_fault_within least_signed greatest_signed 8 most_bytes seed bytes.items) e
+IsLoadRefusal slot codec most_bytes (image.CountU64 seed bytes) e =
+    IsImageRefusal (count.early_fault_within 8 most_bytes seed bytes.items)
+    (count.first_fault_within least_unsigned greatest_unsigned 8 most_bytes seed bytes.items) e
+IsLoadRefusal slot codec most_bytes (image.Bloom bytes) e =
+    IsImageRefusal (bloom.early_fault_within most_bytes bytes.items)
+    (bloom.first_fault_within most_bytes bytes.items) e
+
+-- the sketch takes at most so many bytes
+abbrev pub TakesWithin : (slot : ℕ) → {T : Type 0} → (most_bytes : ℕ) → Sketch T → Type 0
+TakesWithin slot most_bytes (Frequent s) = slots_bytes slot s.size ≤ most_bytes
+TakesWithin slot most_bytes (CountI64 s) = s.hashes * s.buckets * 8 + 8 * s.hashes ≤ most_bytes
+TakesWithin slot most_bytes (CountU64 s) = s.hashes * s.buckets * 8 + 8 * s.hashes ≤ most_bytes
+TakesWithin slot most_bytes (Bloom s) = 8 * s.num_words ≤ most_bytes
+
 -- it was written by a filter that stands for the history
 pub record IsFilterImage (bytes : List ℕ) (h : BloomHistory) : Type 0 where
   pub filter : FilterState
@@ -96,7 +138,7 @@ module _ {T C : Type 0} (eq : T → T → Bool) (codec : Codec C) (content : T �
     pub encloses : frequent_stands.Encloses eq sketch h
     pub budget : frequent_stands.KeepsTailBudget eq sketch h
 
-  -- it was written by a sketch that stands for the history
+  -- it was written by a sketch that stands for the history; of a stranger's nothing is known
   abbrev pub IsImageOf : Image → History T → Type 0
   IsImageOf (image.Frequent bytes) (OfFrequent h) = IsFrequentImage bytes.items h
   IsImageOf (image.CountI64 seed bytes) (OfCountI64 h) =
@@ -104,6 +146,7 @@ module _ {T C : Type 0} (eq : T → T → Bool) (codec : Codec C) (content : T �
   IsImageOf (image.CountU64 seed bytes) (OfCountU64 h) =
       IsCountImage least_unsigned greatest_unsigned seed bytes.items h
   IsImageOf (image.Bloom bytes) (OfBloom h) = IsFilterImage bytes.items h
+  IsImageOf _ OfStranger = Unit {0}
   IsImageOf _ _ = ⊥
 
   -- whatever was saved so, the sketch stands for it as its image gave it back

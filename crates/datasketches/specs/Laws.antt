@@ -12,8 +12,9 @@ use Rattle.sketch_frequencies.specs.Stands.{HasFewItems, KeepsTailBudget}
 use Rattle.sketch_frequencies.specs.State.{FrequentState, IsState, capacity}
 use Rattle.counter_table.specs.Tables.{count_of, sum_of}
 use Rattle.datasketches.specs.SessionStandsFor.{SessionStandsFor}
-use Rattle.datasketches.specs.Histories.{History, Assignment, after_one}
+use Rattle.datasketches.specs.Histories.{History, Assignment, after_one, after_one_told}
 use Rattle.datasketches.specs.Histories.History.{OfFrequent, OfCountI64, OfCountU64, OfBloom}
+use Rattle.datasketches.specs.Loading.{IsTold}
 use Rattle.datasketches.specs.Names.{at_name}
 use Rattle.datasketches.specs.Replies.{greatest_signed, greatest_unsigned}
 use Rattle.datasketches.specs.State.{SessionState}
@@ -139,10 +140,17 @@ module _ {T C : Type 0} (eq : T → T → Bool) (codec : Codec C) (content : T �
       → (bytes : List ℕ) (least : ℤ) → IsLeastCell s bytes least
       → IsLeast s.hashes (others_share s.buckets s.seed h bytes) (least -ℤ own_value h bytes)
 
-module _ {T C : Type 0} (eq : T → T → Bool) (input : T → List (List ℕ)) (codec : Codec C) (content : T → C) where
+module _ {T C : Type 0} (slot : ℕ) (eq : T → T → Bool) (input : T → List (List ℕ)) (codec : Codec C) (content : T → C) where
   -- whatever steps are made of, as of the lines of a program: what a session stood for, it stands for after a step as
   -- the command and its reply made of it
   abbrev pub StepKeepsFit : Type 0
   StepKeepsFit = (old new : SessionState T) (command : Command T) (reply : Reply T) (a : Assignment T)
-      → SessionStandsFor eq codec content old a → Step eq input codec content old command reply new
+      → SessionStandsFor eq codec content old a → Step slot eq input codec content old command reply new
       → SessionStandsFor eq codec content new (after_one input a command reply)
+
+  -- also where the bytes that it loads are said to be of some history, and are so
+  abbrev pub StepKeepsTold : Type 0
+  StepKeepsTold = (old new : SessionState T) (command : Command T) (reply : Reply T) (a : Assignment T) (loaded : History T)
+      → SessionStandsFor eq codec content old a → IsTold eq codec content command loaded
+      → Step slot eq input codec content old command reply new
+      → SessionStandsFor eq codec content new (after_one_told input a command loaded reply)

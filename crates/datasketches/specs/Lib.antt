@@ -10,11 +10,13 @@ pub mod Changing
 pub mod Joining
 pub mod Answering
 pub mod Images
+pub mod Loading
 pub mod State
 pub mod Places
 pub mod Steps
 pub mod SessionStandsFor
 pub mod Laws
+pub mod Clusters
 pub mod Running
 -- what a crate above names of those below
 pub use Rattle.sketch_base.specs.Faults

@@ -7,8 +7,8 @@ use Rattle.datasketches.specs.declared.command.Command.{Command}
 use Rattle.datasketches.specs.declared.reply.Reply.{Reply}
 
 -- a run of the commands that are left goes on to a run of all, and there is room for their replies
-pub record Midst {T C : Type 0} (eq : T → T → Bool) (input : T → List (List ℕ)) (codec : Codec C) (content : T → C)
+pub record Midst {T C : Type 0} (slot : ℕ) (eq : T → T → Bool) (input : T → List (List ℕ)) (codec : Codec C) (content : T → C)
     (start s : SessionState T) (commands rest : List (Command T)) (told : List (Reply T)) (room : ℕ) : Type 0 where
   pub run : (replies : List (Reply T)) (end : SessionState T)
-      → Run eq input codec content s rest replies end → Run eq input codec content start commands (told ++ replies) end
+      → Run slot eq input codec content s rest replies end → Run slot eq input codec content start commands (told ++ replies) end
   pub space : length told + length rest ≤ room

@@ -10,7 +10,7 @@ use Rattle.sketch_frequencies.specs.History.{FrequentHistory, own_size}
 use Rattle.sketch_frequencies.specs.Stands as frequent
 use Rattle.sketch_frequencies.specs.State.{FrequentState, IsState, capacity}
 use Rattle.datasketches.specs.Histories.{History}
-use Rattle.datasketches.specs.Histories.History.{OfFrequent, OfCountI64, OfCountU64, OfBloom}
+use Rattle.datasketches.specs.Histories.History.{OfFrequent, OfCountI64, OfCountU64, OfBloom, OfStranger}
 use Rattle.datasketches.specs.Replies.{is_refused, greatest_signed, greatest_unsigned}
 use Rattle.datasketches.specs.declared.reply.Reply.{Reply}
 use Rattle.datasketches.specs.declared.sketch.Sketch.{Sketch}
@@ -35,12 +35,20 @@ module _ {T : Type 0} (eq : T → T → Bool) where
     pub stands : frequent.StandsFor eq s h
     pub budget : frequent.KeepsTailBudget eq s h
 
-  -- the sketch is one that may be, and one of this history
+  -- the sketch is one that may be
+  abbrev pub IsSketch : Sketch T → Type 0
+  IsSketch (Frequent s) = IsState eq s
+  IsSketch (CountI64 s) = IsCountState greatest_signed s
+  IsSketch (CountU64 s) = IsCountState greatest_unsigned s
+  IsSketch (Bloom s) = IsFilterState s
+
+  -- the sketch is one that may be, and one of this history; of a stranger's no more is known
   abbrev pub StandsFor : Sketch T → History T → Type 0
   StandsFor (Frequent s) (OfFrequent h) = KeepsPromise s h
   StandsFor (CountI64 s) (OfCountI64 h) = KeepsCounts greatest_signed s h
   StandsFor (CountU64 s) (OfCountU64 h) = KeepsCounts greatest_unsigned s h
   StandsFor (Bloom s) (OfBloom h) = KeepsPositions s h
+  StandsFor sketch OfStranger = IsSketch sketch
   StandsFor _ _ = ⊥
 
   -- whatever the sketch stood for, it now stands for what the command made of it

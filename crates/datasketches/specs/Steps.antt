@@ -9,7 +9,7 @@ use Rattle.datasketches.specs.Actions.{action_of}
 use Rattle.datasketches.specs.Answering.{Tells, Lists, status_of}
 use Rattle.datasketches.specs.Changing.{Changes}
 use Rattle.datasketches.specs.Histories.{begun, changed, joined}
-use Rattle.datasketches.specs.Images.{bytes_of, IsWriteRefusal, IsReadRefusal, IsWrittenBy, IsReadFrom, GivesBack}
+use Rattle.datasketches.specs.Images.{bytes_of, image_of, IsWriteRefusal, IsReadRefusal, IsLoadRefusal, IsWrittenBy, IsReadFrom, GivesBack, TakesWithin}
 use Rattle.datasketches.specs.Joining.{Joins}
 use Rattle.datasketches.specs.Names.{at_name, Puts, AreSame}
 use Rattle.datasketches.specs.Replies.{refused}
@@ -144,12 +144,36 @@ module _ {T C : Type 0} (eq : T → T → Bool) (codec : Codec C) (content : T �
       MakesFrom (at_name image old.images) (at_name name old.sketches) (λ found. Reads found name old reply new)
       old reply new
 
+module _ {T C : Type 0} (slot : ℕ) (eq : T → T → Bool) (codec : Codec C) (content : T → C) where
+  -- a sketch read from the image is within the limit, and stands for what the image stands for
+  pub record IsLoaded (image : Image) (most_bytes : ℕ) (sketch : Sketch T) : Type 0 where
+    pub read : IsReadFrom codec content image sketch
+    pub stands : GivesBack eq codec content image sketch
+    pub within : TakesWithin slot most_bytes sketch
+
+  -- it has the name now; or the call refused
+  pub record Brings (image : Image) (most_bytes : ℕ) (name : List ℕ) (old : SessionState T) (reply : Reply T)
+      (new : SessionState T) : Type 0 where
+    pub images : AreSame old.images new.images
+    pub outcome :
+        ((sketch : Sketch T) × (reply ≡ Done) × IsLoaded image most_bytes sketch × Puts name sketch old.sketches new.sketches)
+        ⊎ ((e : ErrorValue) × IsLoadRefusal slot codec most_bytes image e
+        × Refuses (refused e) old.sketches reply new.sketches)
+
+  -- an image from anywhere is read, where the sketch's name is free
+  abbrev pub Loads : Image → ℕ → List ℕ → SessionState T → Reply T → SessionState T → Type 0
+  Loads image most_bytes name old reply new =
+      MatchOption (at_name name old.sketches)
+      (Brings image most_bytes name old reply new)
+      (λ _. IsUnchanged old new × (reply ≡ Refused NameTaken))
+
 module _ {T : Type 0} (eq : T → T → Bool) (input : T → List (List ℕ)) where
   -- the sketch of the name is changed
   abbrev pub ChangesNamed : Change T → List ℕ → List (List ℕ × Sketch T) → Reply T → List (List ℕ × Sketch T) → Type 0
   ChangesNamed change name = OnSketch (Does eq (Changes eq input change) (changed input change)) name
 
-module _ {T C : Type 0} (eq : T → T → Bool) (input : T → List (List ℕ)) (codec : Codec C) (content : T → C) where
+module _ {T C : Type 0} (slot : ℕ) (eq : T → T → Bool) (input : T → List (List ℕ)) (codec : Codec C)
+    (content : T → C) where
   -- one action
   abbrev pub Performs : SessionState T → Action T → Reply T → SessionState T → Type 0
   Performs old (action.Create name shape) reply new = OnSketches (Creates eq shape (string_bytes name)) old reply new
@@ -161,6 +185,8 @@ module _ {T C : Type 0} (eq : T → T → Bool) (input : T → List (List ℕ)) 
       Saves codec content (string_bytes name) (string_bytes image) old reply new
   Performs old (action.Restore image name) reply new =
       Restores eq codec content (string_bytes image) (string_bytes name) old reply new
+  Performs old (action.Load name kind image most_bytes) reply new =
+      Loads slot eq codec content (image_of kind image) most_bytes (string_bytes name) old reply new
   Performs old (action.ShowImage image) reply new = ShowsImage (string_bytes image) old reply new
   Performs old (action.Ask name item) reply new = Answers (Tells eq input item) (string_bytes name) old reply new
   Performs old (action.GetStatus name) reply new =

@@ -1,6 +1,7 @@
 //! What a session does, a command sorted by it.
 use crate::change::Change;
 use crate::command::Command;
+use crate::image_kind::ImageKind;
 use crate::join::Join;
 use crate::shape::Shape;
 use sketch_frequencies::ErrorType;
@@ -46,6 +47,13 @@ pub enum Action<T> {
     Restore {
         image: String,
         name: String,
+    },
+    /// Makes a sketch from the bytes of an image, which may come from anywhere, where it takes at most so many bytes.
+    Load {
+        name: String,
+        kind: ImageKind,
+        image: Vec<u8>,
+        most_bytes: usize,
     },
     /// Asks for the bytes of an image.
     ShowImage {
@@ -186,6 +194,17 @@ impl<T> From<Command<T>> for Action<T> {
             },
             Command::Save { name, image } => Action::Save { name, image },
             Command::Restore { image, name } => Action::Restore { image, name },
+            Command::Load {
+                name,
+                kind,
+                image,
+                most_bytes,
+            } => Action::Load {
+                name,
+                kind,
+                image,
+                most_bytes,
+            },
             Command::ShowImage { image } => Action::ShowImage { image },
             Command::Ask { name, item } => Action::Ask { name, item },
             Command::GetStatus { name } => Action::GetStatus { name },

@@ -1,6 +1,7 @@
 //! What a session does.
 ghost use Rattle.std.specs.Prelude.{◌≡◌, None};
 
+use crate::image_kind::ImageKind;
 use sketch_frequencies::ErrorType;
 
 /// A command on named sketches and images. Sketches and images have names of their own.
@@ -115,6 +116,13 @@ pub enum Command<T> {
     Restore {
         image: String,
         name: String,
+    },
+    /// Makes a sketch from the bytes of an image, which may come from anywhere, where it takes at most so many bytes.
+    Load {
+        name: String,
+        kind: ImageKind,
+        image: Vec<u8>,
+        most_bytes: usize,
     },
     /// Asks for the bytes of an image.
     ShowImage {

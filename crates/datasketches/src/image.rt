@@ -1,8 +1,9 @@
 //! Saved sketches.
 ghost use Rattle.std.specs.Prelude.{◌≡◌, IfOk, IfErr};
 ghost use Rattle.sketch_base.specs.Errors.{no_memory};
-ghost use Rattle.datasketches.specs.Images.{bytes_of};
+ghost use Rattle.datasketches.specs.Images.{bytes_of, image_of};
 
+use crate::image_kind::ImageKind;
 use sketch_base::Error;
 use std::alloc::Global;
 
@@ -16,6 +17,18 @@ pub enum Image {
 }
 
 impl Image {
+    /// The image of these bytes.
+    pub fn new(kind: ImageKind, bytes: Vec<u8>) -> Self
+        ensures { result ≡ image_of kind bytes }
+    {
+        match kind {
+            ImageKind::Frequent => Image::Frequent(bytes),
+            ImageKind::CountI64 { seed } => Image::CountI64 { seed, bytes },
+            ImageKind::CountU64 { seed } => Image::CountU64 { seed, bytes },
+            ImageKind::Bloom => Image::Bloom(bytes),
+        }
+    }
+
     /// A copy of the bytes.
     ///
     /// # Errors

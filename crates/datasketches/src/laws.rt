@@ -4,7 +4,9 @@
 //! A new session stands for the assignment with no name, and [`run`](crate::Session::run) leaves a session that stands
 //! for what its commands and replies made of the assignment. So the laws hold of each sketch of a session after any
 //! list of commands.
-ghost use Rattle.datasketches.specs.Laws.{FrequentIsState, KeptWithinTotal, HoldsFew, EnclosesWeights, ExactOfFew, WithinTailBudget, SamplesItsOwn, SampleBoundsError, SmallSketchErrsLittle, LargeSketchErrsLittle, FilterIsState, HoldsWhatIsDenoted, EmptyContainsNothing, ContainsWhatIsDenoted, CountIsState, TotalIsWeight, EmptyCountsNothing, LeastCellEncloses, CellsAreShares, LeastCellIsRaisedByOthers, StepKeepsFit};
+ghost use Rattle.counter_table.specs.Bytes.{option_bytes};
+ghost use Rattle.datasketches.specs.Clusters.{LoadKeepsShown, StrangersAreSketches, ProcessStandsForHistories, EnclosesAllStreams, KeepsBudgetOfAllStreams, CellsAreSharesOfAllStreams, ContainsWhatAnyContains};
+ghost use Rattle.datasketches.specs.Laws.{FrequentIsState, KeptWithinTotal, HoldsFew, EnclosesWeights, ExactOfFew, WithinTailBudget, SamplesItsOwn, SampleBoundsError, SmallSketchErrsLittle, LargeSketchErrsLittle, FilterIsState, HoldsWhatIsDenoted, EmptyContainsNothing, ContainsWhatIsDenoted, CountIsState, TotalIsWeight, EmptyCountsNothing, LeastCellEncloses, CellsAreShares, LeastCellIsRaisedByOthers, StepKeepsFit, StepKeepsTold};
 
 use sketch_bloom::laws as bloom;
 use sketch_countmin::laws as countmin;
@@ -68,5 +70,27 @@ pub fn what_filters_say<T: FrequentItemValue>()
 /// What a session stood for it stands for after a step, with what the command and its reply made of it. So the promise holds
 /// wherever such steps are proved, as of the lines that a program serves.
 pub fn what_a_step_keeps<T: FrequentItemValue>()
-    ensures { StepKeepsFit T.eq T.hash_input T.codec T.content }
+    ensures { StepKeepsFit (option_bytes T.row) T.eq T.hash_input T.codec T.content }
+{}
+
+/// What loads bring. Bytes that are loaded, from wherever they came, bring a sketch that stands for whatever history they
+/// are truly said to be of. What one session shows of an image, another that loads these bytes under the image's kind
+/// stands for. Of a stranger's bytes no history is known: what they bring is still a sketch that may be, whose counts and
+/// error together are at most its total, and every later call keeps that.
+pub fn what_loads_bring<T: FrequentItemValue>()
+    ensures told { StepKeepsTold (option_bytes T.row) T.eq T.hash_input T.codec T.content }
+    ensures shown { LoadKeepsShown (option_bytes T.row) T.eq T.hash_input T.codec T.content }
+    ensures strangers { StrangersAreSketches T.eq T.codec T.content }
+{}
+
+/// What holds of many sessions, each with a stream of its own, which load what others show, and merge it, in any order
+/// and any tree. Each stands for its histories. So, of a sketch into which sketches of many streams came: each true weight
+/// over all streams together lies between its bounds; the tail budget is that of all, by the least sample size; each cell
+/// of a Count-Min sketch is its bucket's share of all; and a filter contains what a filter of any of them contains.
+pub fn what_a_cluster_keeps<T: FrequentItemValue>()
+    ensures fits { ProcessStandsForHistories (option_bytes T.row) T.eq T.hash_input T.codec T.content }
+    ensures encloses { EnclosesAllStreams T.eq T.codec T.content }
+    ensures budget { KeepsBudgetOfAllStreams T.eq T.codec T.content }
+    ensures cells { CellsAreSharesOfAllStreams T.eq T.codec T.content }
+    ensures contains { ContainsWhatAnyContains T.eq T.codec T.content }
 {}

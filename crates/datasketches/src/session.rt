@@ -1,13 +1,15 @@
 //! Named sketches and images.
-ghost use Rattle.std.specs.Prelude.{◌≡◌, [], true, None, Some, IfOk, IfErr, OnErr, IsTrue, string_bytes};
+ghost use Rattle.std.specs.Prelude.{◌≡◌, List, [], true, None, Some, IfOk, IfErr, OnErr, IsTrue, string_bytes};
 ghost use Rattle.sketch_base.specs.Errors.{no_memory};
+ghost use Rattle.counter_table.specs.Bytes.{option_bytes};
 ghost use Rattle.datasketches.specs.Answering.{Tells, Lists, status_of};
 ghost use Rattle.datasketches.specs.SessionStandsFor.{SessionStandsFor};
-ghost use Rattle.datasketches.specs.Histories.{Assignment, nothing_named, after_action, after_one, after};
+ghost use Rattle.datasketches.specs.Histories.{Assignment, History, nothing_named, after_action, after_action_told, after_one, after_one_told, after, after_told};
+ghost use Rattle.datasketches.specs.Loading.{IsActionTold, IsTold, AreTold};
 ghost use Rattle.datasketches.specs.Names.{at_name};
 ghost use Rattle.datasketches.specs.Replies.{told, is_refused};
 ghost use Rattle.datasketches.specs.State.{SessionState, IsUnchanged};
-ghost use Rattle.datasketches.specs.Steps.{OnSketches, Creates, ChangesNamed, JoinsNamed, Answers, Saves, Restores, ShowsImage, Performs, Step, Run};
+ghost use Rattle.datasketches.specs.Steps.{OnSketches, Creates, ChangesNamed, JoinsNamed, Answers, Saves, Restores, Loads, ShowsImage, Performs, Step, Run};
 
 use crate::action::Action;
 use crate::change::Change;
@@ -103,9 +105,12 @@ impl<T: FrequentItemValue + Clone + Drop> Session<T> {
     /// A refused command changes nothing.
     pub fn apply(&mut self, command: Command<T>) -> Reply<T>
         requires clones { (x y : T) → T.is_clone x y → IsTrue (T.eq x y) }
-        ensures step { Step T.eq T.hash_input T.codec T.content self.old command result self.new }
+        ensures step { Step (option_bytes T.row) T.eq T.hash_input T.codec T.content self.old command result self.new }
         ensures fits { (a : Assignment T) → SessionStandsFor T.eq T.codec T.content self.old a
             → SessionStandsFor T.eq T.codec T.content self.new (after_one T.hash_input a command result) }
+        ensures told { (a : Assignment T) (loaded : History T) → SessionStandsFor T.eq T.codec T.content self.old a
+            → IsTold T.eq T.codec T.content command loaded
+            → SessionStandsFor T.eq T.codec T.content self.new (after_one_told T.hash_input a command loaded result) }
         ensures refused { is_refused result ≡ true → IsUnchanged self.old self.new }
     {
         let mut recycled = Recycled::new();
@@ -118,9 +123,12 @@ impl<T: FrequentItemValue + Clone + Drop> Session<T> {
     #[inline(always)]
     pub fn apply_recycling(&mut self, command: Command<T>, recycled: &mut Recycled<T>) -> Reply<T>
         requires clones { (x y : T) → T.is_clone x y → IsTrue (T.eq x y) }
-        ensures step { Step T.eq T.hash_input T.codec T.content self.old command result self.new }
+        ensures step { Step (option_bytes T.row) T.eq T.hash_input T.codec T.content self.old command result self.new }
         ensures fits { (a : Assignment T) → SessionStandsFor T.eq T.codec T.content self.old a
             → SessionStandsFor T.eq T.codec T.content self.new (after_one T.hash_input a command result) }
+        ensures told { (a : Assignment T) (loaded : History T) → SessionStandsFor T.eq T.codec T.content self.old a
+            → IsTold T.eq T.codec T.content command loaded
+            → SessionStandsFor T.eq T.codec T.content self.new (after_one_told T.hash_input a command loaded result) }
         ensures refused { is_refused result ≡ true → IsUnchanged self.old self.new }
     {
         self.perform_recycling(Action::from(command), recycled)
@@ -129,9 +137,12 @@ impl<T: FrequentItemValue + Clone + Drop> Session<T> {
     /// Does one action. [`Session::apply`] does the action of its command.
     pub fn perform(&mut self, action: Action<T>) -> Reply<T>
         requires clones { (x y : T) → T.is_clone x y → IsTrue (T.eq x y) }
-        ensures step { Performs T.eq T.hash_input T.codec T.content self.old action result self.new }
+        ensures step { Performs (option_bytes T.row) T.eq T.hash_input T.codec T.content self.old action result self.new }
         ensures fits { (a : Assignment T) → SessionStandsFor T.eq T.codec T.content self.old a
             → SessionStandsFor T.eq T.codec T.content self.new (after_action T.hash_input a action result) }
+        ensures told { (a : Assignment T) (loaded : History T) → SessionStandsFor T.eq T.codec T.content self.old a
+            → IsActionTold T.eq T.codec T.content action loaded
+            → SessionStandsFor T.eq T.codec T.content self.new (after_action_told T.hash_input a action loaded result) }
         ensures refused { is_refused result ≡ true → IsUnchanged self.old self.new }
     {
         let mut recycled = Recycled::new();
@@ -142,9 +153,12 @@ impl<T: FrequentItemValue + Clone + Drop> Session<T> {
     #[inline(always)]
     pub fn perform_recycling(&mut self, action: Action<T>, recycled: &mut Recycled<T>) -> Reply<T>
         requires clones { (x y : T) → T.is_clone x y → IsTrue (T.eq x y) }
-        ensures step { Performs T.eq T.hash_input T.codec T.content self.old action result self.new }
+        ensures step { Performs (option_bytes T.row) T.eq T.hash_input T.codec T.content self.old action result self.new }
         ensures fits { (a : Assignment T) → SessionStandsFor T.eq T.codec T.content self.old a
             → SessionStandsFor T.eq T.codec T.content self.new (after_action T.hash_input a action result) }
+        ensures told { (a : Assignment T) (loaded : History T) → SessionStandsFor T.eq T.codec T.content self.old a
+            → IsActionTold T.eq T.codec T.content action loaded
+            → SessionStandsFor T.eq T.codec T.content self.new (after_action_told T.hash_input a action loaded result) }
         ensures refused { is_refused result ≡ true → IsUnchanged self.old self.new }
     {
         match self.answer(action, recycled) {
@@ -160,9 +174,12 @@ impl<T: FrequentItemValue + Clone + Drop> Session<T> {
     /// `NoMemory` where there is no memory for the replies. No command is done then.
     pub fn run(&mut self, commands: Vec<Command<T>>) -> Result<Vec<Reply<T>>, Error>
         requires clones { (x y : T) → T.is_clone x y → IsTrue (T.eq x y) }
-        ensures run { IfOk result (λ replies. Run T.eq T.hash_input T.codec T.content self.old commands.items replies.items self.new) }
+        ensures run { IfOk result (λ replies. Run (option_bytes T.row) T.eq T.hash_input T.codec T.content self.old commands.items replies.items self.new) }
         ensures fits { IfOk result (λ replies. (a : Assignment T) → SessionStandsFor T.eq T.codec T.content self.old a
             → SessionStandsFor T.eq T.codec T.content self.new (after T.hash_input a commands.items replies.items)) }
+        ensures told { IfOk result (λ replies. (a : Assignment T) (loaded : List (History T))
+            → SessionStandsFor T.eq T.codec T.content self.old a → AreTold T.eq T.codec T.content commands.items loaded
+            → SessionStandsFor T.eq T.codec T.content self.new (after_told T.hash_input a commands.items loaded replies.items)) }
         ensures err { OnErr result (self.new ≡ self.old) }
         ensures memory { IfErr result (λ e. e ≡ no_memory) }
     {
@@ -178,7 +195,7 @@ impl<T: FrequentItemValue + Clone + Drop> Session<T> {
     #[inline(always)]
     fn answer(&mut self, action: Action<T>, recycled: &mut Recycled<T>) -> Result<Reply<T>, Refusal>
         requires clones { (x y : T) → T.is_clone x y → IsTrue (T.eq x y) }
-        ensures { Performs T.eq T.hash_input T.codec T.content self.old action (told result) self.new }
+        ensures { Performs (option_bytes T.row) T.eq T.hash_input T.codec T.content self.old action (told result) self.new }
     {
         match action {
             Action::Create { name, shape } => self.create(name, shape),
@@ -190,6 +207,12 @@ impl<T: FrequentItemValue + Clone + Drop> Session<T> {
             Action::Join { into, other, join } => self.join(into.as_str(), other.as_str(), join),
             Action::Save { name, image } => self.save(name.as_str(), image),
             Action::Restore { image, name } => self.restore(image.as_str(), name),
+            Action::Load {
+                name,
+                kind,
+                image,
+                most_bytes,
+            } => self.load(name, Image::new(kind, image), most_bytes),
             Action::ShowImage { image } => self.show_image(image.as_str()),
             Action::Ask { name, item } => {
                 let told = self.ask(name.as_str(), &item);
@@ -261,6 +284,17 @@ impl<T: FrequentItemValue + Clone + Drop> Session<T> {
         }
         let sketch = Sketch::restore(self.alloc, saved)?;
         self.sketches.insert(name, sketch)?;
+        Ok(Reply::Done)
+    }
+
+    fn load(&mut self, new_name: String, image: Image, most_bytes: usize) -> Result<Reply<T>, Refusal>
+        ensures { Loads (option_bytes T.row) T.eq T.codec T.content image most_bytes (string_bytes new_name) self.old (told result) self.new }
+    {
+        if self.sketches.get(new_name.as_str()).is_some() {
+            return Err(Refusal::NameTaken);
+        }
+        let sketch = Sketch::load(self.alloc, &image, most_bytes)?;
+        self.sketches.insert(new_name, sketch)?;
         Ok(Reply::Done)
     }
 

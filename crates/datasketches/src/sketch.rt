@@ -1,10 +1,11 @@
 //! A sketch of one of four kinds, and what each kind does on a command.
 ghost use Rattle.std.specs.Prelude.{◌≡◌, ◌≢◌, None, IfOk, IfErr, IsOk, OnOk, OnErr, IsTrue, pos};
 ghost use Rattle.sketch_base.specs.Errors.{refusal_of};
+ghost use Rattle.counter_table.specs.Bytes.{option_bytes};
 ghost use Rattle.datasketches.specs.Answering.{Tells, Lists, status_of};
 ghost use Rattle.datasketches.specs.Changing.{Changes, Adds, AddsSigned, Inserts, Resets, Halves, Decays};
 ghost use Rattle.datasketches.specs.Histories.{begun, changed, joined};
-ghost use Rattle.datasketches.specs.Images.{IsWrittenBy, IsReadFrom, IsWriteRefusal, IsReadRefusal, GivesBack};
+ghost use Rattle.datasketches.specs.Images.{IsWrittenBy, IsReadFrom, IsWriteRefusal, IsReadRefusal, IsLoadRefusal, TakesWithin, GivesBack};
 ghost use Rattle.datasketches.specs.Joining.{Joins, Merges};
 ghost use Rattle.datasketches.specs.Replies.{done_or, told};
 ghost use Rattle.datasketches.specs.Shapes.{empty_sketch, fault_of};
@@ -329,6 +330,44 @@ impl<T: FrequentItemValue + Drop> Sketch<T> {
             Image::Bloom(bytes) => {
                 bloom::what_images_say();
                 Ok(Sketch::Bloom(BloomFilter::deserialize(alloc, bytes)?))
+            }
+        }
+    }
+
+    /// The sketch of an image that may come from anywhere, where it takes at most so many bytes.
+    ///
+    /// # Errors
+    ///
+    /// The image's first fault, `TableTooLarge` where the sketch would take more, and `NoMemory` where there is no memory
+    /// for it.
+    pub fn load(alloc: Global, image: &Image, most_bytes: usize) -> Result<Self, Error>
+        ensures read { IfOk result (IsReadFrom T.codec T.content image.now) }
+        ensures stands { IfOk result (GivesBack T.eq T.codec T.content image.now) }
+        ensures within { IfOk result (TakesWithin (option_bytes T.row) most_bytes) }
+        ensures refused { IfErr result (IsLoadRefusal (option_bytes T.row) T.codec most_bytes image.now) }
+    {
+        match image {
+            Image::Frequent(bytes) => {
+                frequencies::what_images_say::<T>();
+                Ok(Sketch::Frequent(FrequentItemsSketch::deserialize_with_limit(
+                    alloc, bytes, most_bytes,
+                )?))
+            }
+            Image::CountI64 { seed, bytes } => {
+                countmin::what_images_say::<i64>();
+                Ok(Sketch::CountI64(CountMinSketch::deserialize_with_seed_and_limit(
+                    alloc, bytes, *seed, most_bytes,
+                )?))
+            }
+            Image::CountU64 { seed, bytes } => {
+                countmin::what_images_say::<u64>();
+                Ok(Sketch::CountU64(CountMinSketch::deserialize_with_seed_and_limit(
+                    alloc, bytes, *seed, most_bytes,
+                )?))
+            }
+            Image::Bloom(bytes) => {
+                bloom::what_images_say();
+                Ok(Sketch::Bloom(BloomFilter::deserialize_with_limit(alloc, bytes, most_bytes)?))
             }
         }
     }

@@ -1,7 +1,7 @@
 //! Commands on named sketches.
 use datasketches::error::Error;
 use datasketches::{
-    Action, Change, Command, Join, Recycled, Refusal, Reply, Session, Shape, Status,
+    Action, Change, Command, ImageKind, Join, Recycled, Refusal, Reply, Session, Shape, Status,
 };
 use std::alloc::Global;
 
@@ -99,4 +99,15 @@ pub fn recycles(session: &mut Session<u64>, name: String, item: u64) -> bool {
     let mut recycled = Recycled::new();
     session.apply_recycling(Command::Insert { name, item }, &mut recycled);
     recycled.name.is_some()
+}
+
+/// Takes a filter's image into a session, where it takes at most a mebibyte.
+pub fn takes_filter(session: &mut Session<u64>, name: String, image: Vec<u8>) -> bool {
+    let told = session.apply(Command::Load {
+        name,
+        kind: ImageKind::Bloom,
+        image,
+        most_bytes: 1 << 20,
+    });
+    matches!(told, Reply::Done)
 }

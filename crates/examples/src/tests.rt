@@ -16,8 +16,8 @@ use crate::frequent_items::{
 };
 use crate::images::sent;
 use crate::session::{
-    has_seen_seven, insertion, made_shape, most_slots, recycles, refusal_of_an_unknown_name, union,
-    visits_by_seven, word_for,
+    has_seen_seven, insertion, made_shape, most_slots, recycles, refusal_of_an_unknown_name,
+    takes_filter, union, visits_by_seven, word_for,
 };
 use crate::windows::{load_of_a_customer, weight_of_the_first};
 use counter_table::ReversePurgeItemHashMap;
@@ -224,6 +224,23 @@ fn recycles_a_name(alloc: Global) -> Result<bool, Error> {
     Ok(recycles(&mut session, String::from_str(alloc, "a")?, 7))
 }
 
+/// Whether an empty filter's image is taken under a name, and not once more under the same.
+fn takes_a_filter_once(alloc: Global) -> Result<bool, Error> {
+    let mut session = Session::new(alloc);
+    let filter = BloomFilterBuilder::with_size(64, 1).build(alloc)?;
+    let taken = takes_filter(
+        &mut session,
+        String::from_str(alloc, "a")?,
+        filter.serialize()?,
+    );
+    let again = takes_filter(
+        &mut session,
+        String::from_str(alloc, "a")?,
+        filter.serialize()?,
+    );
+    Ok(taken && !again)
+}
+
 #[test]
 fn types_are_as_their_docs_say(rt: HostRuntime) -> Result<(), Fail> {
     let status = Status::CountU64 {
@@ -235,6 +252,7 @@ fn types_are_as_their_docs_say(rt: HostRuntime) -> Result<(), Fail> {
     assert!(rt; half_of_sixteen(rt.alloc())? == 8);
     assert!(rt; makes_actions(rt.alloc())?);
     assert!(rt; recycles_a_name(rt.alloc())?);
+    assert!(rt; takes_a_filter_once(rt.alloc())?);
     assert!(rt; most_slots(status) == None);
     assert!(rt; word_for(Refusal::NameTaken) == "NameTaken");
     assert!(rt; reason(&Error::invalid_data(Fault::BadFamily)) == "wrong family");

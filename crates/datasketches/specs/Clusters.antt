@@ -1,0 +1,166 @@
+-- Many sessions: what they send one another, and what holds of all their streams together.
+use Rattle.std.specs.Prelude.{◌≡◌, ℕ, ◌+◌, ◌-◌, ◌*◌, ◌/◌, ◌<◌, ◌≤◌, ℤ, pos, ◌+ℤ◌, Bool, true, List, [], ◌∷◌, ◌++◌, length, Option, Some, None, sum_by}
+use Rattle.std.specs.List.{Contains}
+use Rattle.std.specs.Global.{Global}
+use Rattle.std.specs.String.{string_bytes}
+use Rattle.std.specs.declared.vec.Vec.{Vec}
+use Rattle.counter_table.specs.Tables.{count_of, sum_outside}
+use Rattle.sketch_bloom.specs.History as bloom
+use Rattle.sketch_bloom.specs.History.{BloomHistory}
+use Rattle.sketch_bloom.specs.State.{FilterState, IsCompatible, contains_item}
+use Rattle.sketch_countmin.specs.History as count
+use Rattle.sketch_countmin.specs.History.{CountHistory, cell_share}
+use Rattle.sketch_countmin.specs.Rows.{cell_at}
+use Rattle.sketch_countmin.specs.State.{CountState}
+use Rattle.sketch_frequencies.specs.History as frequent
+use Rattle.sketch_frequencies.specs.History.{FrequentHistory, true_weight, weight_outside, least_sample}
+use Rattle.sketch_frequencies.specs.Items.{Codec}
+use Rattle.sketch_frequencies.specs.State.{FrequentState}
+use Rattle.datasketches.specs.Histories.{History, Assignment, nothing_named, after_one, after_one_told}
+use Rattle.datasketches.specs.Histories.History.{OfFrequent, OfCountI64, OfCountU64, OfBloom, OfStranger}
+use Rattle.datasketches.specs.Laws.{IsNamed, IsCounted}
+use Rattle.datasketches.specs.Names.{Name}
+use Rattle.datasketches.specs.SessionStandsFor.{SessionStandsFor}
+use Rattle.datasketches.specs.Stands.{IsSketch}
+use Rattle.datasketches.specs.State.{SessionState}
+use Rattle.datasketches.specs.Steps.{Step}
+use Rattle.datasketches.specs.declared.command.Command.{Command}
+use Rattle.datasketches.specs.declared.command.Command.TheVariants.{Load, ShowImage}
+use Rattle.datasketches.specs.declared.image_kind.ImageKind.{ImageKind}
+use Rattle.datasketches.specs.declared.image_kind.ImageKind.TheVariants as kind
+use Rattle.datasketches.specs.declared.reply.Reply.{Reply}
+use Rattle.datasketches.specs.declared.reply.Reply.TheVariants.{Image as Shown}
+use Rattle.datasketches.specs.declared.sketch.Sketch.{Sketch}
+use Rattle.datasketches.specs.declared.sketch.Sketch.TheVariants.{Frequent, CountI64, CountU64, Bloom}
+
+-- ---- from one session to another
+
+module _ {T : Type 0} where
+  -- an image of a sketch of this history is one of this kind, and is read under the sketch's seed
+  abbrev pub IsKindOf : ImageKind → History T → Type 0
+  IsKindOf kind.Frequent (OfFrequent h) = Unit {0}
+  IsKindOf (kind.CountI64 seed) (OfCountI64 h) = seed ≡ count.seed_of h
+  IsKindOf (kind.CountU64 seed) (OfCountU64 h) = seed ≡ count.seed_of h
+  IsKindOf kind.Bloom (OfBloom h) = Unit {0}
+  IsKindOf kind OfStranger = Unit {0}
+  IsKindOf _ _ = ⊥
+
+  -- no name yet
+  abbrev pub empty_session : SessionState T
+  empty_session = record { sketches = []; images = [] }
+
+  -- the history that an image was saved of, or a stranger's
+  abbrev pub or_stranger : Option (History T) → History T
+  or_stranger None = OfStranger
+  or_stranger (Some h) = h
+
+-- how a session came about, among others: it began with no name, it did a command, or it loaded what another one showed
+pub data Process (T : Type 0) : Type 0 where
+  Began : Process T
+  Did : Process T → Command T → Reply T → SessionState T → Process T
+  Took : Process T → (from : Process T) → (image : Name) → (shown : Vec ℕ Global) → Command T → Reply T → SessionState T
+      → Process T
+
+module _ {T : Type 0} where
+  -- the session as it is now
+  abbrev pub session_of : Process T → SessionState T
+  session_of Began = empty_session
+  session_of (Did p command reply now) = now
+  session_of (Took p from image shown command reply now) = now
+
+module _ {T C : Type 0} (slot : ℕ) (eq : T → T → Bool) (input : T → List (List ℕ)) (codec : Codec C) (content : T → C) where
+  -- what its names stand for: what it did itself, and for what it took, what the other one saved
+  abbrev pub histories_of : Process T → Assignment T
+  histories_of Began = nothing_named
+  histories_of (Did p command reply now) = after_one input (histories_of p) command reply
+  histories_of (Took p from image shown command reply now) =
+      after_one_told input (histories_of p) command (or_stranger ((histories_of from).images (string_bytes image))) reply
+
+  -- the command loads the bytes as an image of this history's kind
+  abbrev pub LoadsShown : Vec ℕ Global → History T → Command T → Type 0
+  LoadsShown shown h (Load name kind bytes most_bytes) = IsKindOf kind h × (bytes.items ≡ shown.items)
+  LoadsShown shown h _ = ⊥
+
+  -- the session shows these bytes for the image
+  abbrev pub Shows : SessionState T → Name → Vec ℕ Global → Type 0
+  Shows session image shown = Step slot eq input codec content session (ShowImage image) (Shown shown) session
+
+  -- each command was done as it was replied to, and what was taken is what the other session showed
+  abbrev pub IsProcess : Process T → Type 0
+  IsProcess Began = Unit {0}
+  IsProcess (Did p command reply now) = IsProcess p × Step slot eq input codec content (session_of p) command reply now
+  IsProcess (Took p from image shown command reply now) =
+      IsProcess p × IsProcess from × Shows (session_of from) image shown
+      × LoadsShown shown (or_stranger ((histories_of from).images (string_bytes image))) command
+      × Step slot eq input codec content (session_of p) command reply now
+
+  -- the law of two sessions: what one showed of an image, another that loads these bytes stands for
+  abbrev pub LoadKeepsShown : Type 0
+  LoadKeepsShown = (from old new : SessionState T) (a b : Assignment T) (h : History T) (image name : Name)
+      (shown bytes : Vec ℕ Global) (kind : ImageKind) (most_bytes : ℕ) (reply : Reply T)
+      → SessionStandsFor eq codec content from a → a.images (string_bytes image) ≡ Some h → Shows from image shown
+      → SessionStandsFor eq codec content old b → IsKindOf kind h → bytes.items ≡ shown.items
+      → Step slot eq input codec content old (Load name kind bytes most_bytes) reply new
+      → SessionStandsFor eq codec content new (after_one_told input b (Load name kind bytes most_bytes) h reply)
+
+  -- the law of many: each session stands for its histories
+  abbrev pub ProcessStandsForHistories : Type 0
+  ProcessStandsForHistories = (p : Process T) → IsProcess p → SessionStandsFor eq codec content (session_of p) (histories_of p)
+
+-- ---- the streams that came together in a sketch
+
+-- those that were merged, each as it was before any merge
+module _ {T : Type 0} where
+  abbrev pub frequent_streams : FrequentHistory T → List (FrequentHistory T)
+  frequent_streams (frequent.Merge g h) = frequent_streams g ++ frequent_streams h
+  frequent_streams (frequent.Restored h) = frequent_streams h
+  frequent_streams h = h ∷ []
+
+abbrev pub count_streams : CountHistory → List CountHistory
+count_streams (count.Merge g h) = count_streams g ++ count_streams h
+count_streams (count.Restored h) = count_streams h
+count_streams h = h ∷ []
+
+-- those that were united
+abbrev pub bloom_streams : BloomHistory → List BloomHistory
+bloom_streams (bloom.Union g h) = bloom_streams g ++ bloom_streams h
+bloom_streams (bloom.Restored h) = bloom_streams h
+bloom_streams h = h ∷ []
+
+-- the sum of some numbers with signs
+abbrev pub signed_sum_by : {X : Type 0} → (X → ℤ) → List X → ℤ
+signed_sum_by f [] = pos 0
+signed_sum_by f (x ∷ xs) = f x +ℤ signed_sum_by f xs
+
+module _ {T C : Type 0} (eq : T → T → Bool) (codec : Codec C) (content : T → C) where
+  -- each true weight over all streams together lies between the item's count and that count plus the error
+  abbrev pub EnclosesAllStreams : Type 0
+  EnclosesAllStreams = (s : FrequentState T) (h : FrequentHistory T)
+      → IsNamed eq codec content (Frequent s) (OfFrequent h) → (x : T)
+      → (count_of eq s.counters x ≤ sum_by (λ g. true_weight eq g x) (frequent_streams h))
+      × (sum_by (λ g. true_weight eq g x) (frequent_streams h) ≤ count_of eq s.counters x + s.error)
+
+  -- the tail budget is that of all streams together, by any number of counters that the purges of each of them sample
+  abbrev pub KeepsBudgetOfAllStreams : Type 0
+  KeepsBudgetOfAllStreams = (s : FrequentState T) (h : FrequentHistory T)
+      → IsNamed eq codec content (Frequent s) (OfFrequent h)
+      → (sampled : ℕ) → ((g : FrequentHistory T) → Contains (frequent_streams h) g → sampled ≤ least_sample g)
+      → (set : List T) → length set ≤ sampled / 2
+      → sum_outside eq set s.counters + (sampled / 2 - length set) * s.error ≤ sum_by (weight_outside eq set) (frequent_streams h)
+
+  -- each cell is its bucket's share of all streams
+  abbrev pub CellsAreSharesOfAllStreams : Type 0
+  CellsAreSharesOfAllStreams = (s : CountState) (h : CountHistory) → IsCounted eq codec content s h
+      → (r : ℕ) → r < s.hashes → (b : ℕ) → b < s.buckets
+      → cell_at s.rows r b ≡ signed_sum_by (λ g. cell_share s.buckets s.seed g r b) (count_streams h)
+
+  -- a filter contains what a filter of any of the streams contains
+  abbrev pub ContainsWhatAnyContains : Type 0
+  ContainsWhatAnyContains = (s part : FilterState) (h g : BloomHistory)
+      → IsNamed eq codec content (Bloom s) (OfBloom h) → IsNamed eq codec content (Bloom part) (OfBloom g)
+      → Contains (bloom_streams h) g → IsCompatible s part
+      → (bytes : List ℕ) → contains_item part bytes ≡ true → contains_item s bytes ≡ true
+
+  -- of what came from a stranger: it is a sketch that may be, so that counts and error are at most the total
+  abbrev pub StrangersAreSketches : Type 0
+  StrangersAreSketches = (sketch : Sketch T) → IsNamed eq codec content sketch OfStranger → IsSketch eq sketch
