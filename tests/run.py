@@ -12,7 +12,9 @@ import sys
 import tempfile
 import threading
 
+import cluster
 import examples
+import loads
 import sessions
 import streams
 import trials
@@ -85,7 +87,7 @@ hadd 2 9 a
 hturn 1
 hreport 1 fn 0
 hreport 3 fp 0
-""".encode()
+""".encode() + sessions.text(loads.IN_TURN)
 
 
 def mixed():
@@ -259,6 +261,37 @@ class Tests:
             self.plays(f"line ends of {lines}", lines, replies, status)
         self.plays("thousands of items", *streams.thousands_of_items(), 0)
         self.plays("a long line", *streams.long_line(), 0)
+
+    def loads(self):
+        """Images that are loaded: worked rows, what is no line, images that are altered and cut, and one of a mebibyte."""
+        shown = self.answers(loads.SHOWN)[-1].split()[-1]
+        bits = int(shown[-16:], 16)
+        self.check("the image of an item", shown[:-16] == loads.OF_ONE_BIT and bits.bit_count() == 1, shown)
+        rows = [(line, "ok") for line in loads.SHOWN[:-1]] + [(loads.SHOWN[-1], f"image {shown}")] + loads.worked(shown)
+        self.plays("loads", *sessions.texts_of(rows), 1)
+        for line in loads.NO_LOADS:
+            self.plays(f"no load {line}", b"frequent s 8\n" + line + b"\nstatus s\n", b"ok\nbad line 2\n", 1)
+        for how, image in loads.CUT:
+            self.plays(f"cuts of {how} {image}", *sessions.texts_of(loads.cut(how, image)), 0)
+        for how, image, alterations in loads.ALTERED:
+            for place, digits, answer in alterations:
+                name = f"{how} with {digits} at {place}"
+                changed = loads.altered(image, place, digits)
+                self.plays(name, *sessions.texts_of(loads.of_altered(how, changed, answer)), 0)
+                if " " in answer:
+                    told = self.answers(loads.questions(how, changed))
+                    again = self.answers(loads.questions(how, told[-1].split()[-1]))
+                    self.check(f"{name}, in another run", told == again, (told, again))
+        large = self.answers(loads.large_filter())[-1]
+        again = self.answers([loads.load("g", "bloom 1048576", large.split()[-1]), "save g p", "image p"])
+        self.check("an image of a mebibyte", again == ["ok", "ok", large] and len(large) > 2**21, again[0])
+
+    def answers(self, lines):
+        """The replies to some lines, each of which is one."""
+        status, out, said, _ = self.run(sessions.text(lines))
+        replies = out.decode().splitlines()
+        self.check(f"replies to {lines[0][:60]}", (status, said, len(replies)) == (0, b"", len(lines)), (status, said))
+        return replies
 
     def plays(self, name, lines, replies, status):
         ended, out, said, _ = self.run(lines)
@@ -480,6 +513,8 @@ def main():
         tests.purges()
         tests.tail_budget()
         tests.lines()
+        tests.loads()
+        cluster.check(tests, tests.answers)
         tests.streams_that_move_a_little()
         tests.replies_before_reads()
         tests.streams_that_fail()

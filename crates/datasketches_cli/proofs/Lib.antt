@@ -1,5 +1,6 @@
 pub mod Answered
 pub mod Asking
+pub mod Digits
 pub mod LineReading
 pub mod Lines
 pub mod Numbers

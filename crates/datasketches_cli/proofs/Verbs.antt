@@ -10,12 +10,14 @@ use Rattle.datasketches.specs.declared.action.Action.{Action}
 use Rattle.datasketches.specs.declared.action.Action.TheVariants as action
 use Rattle.datasketches.specs.declared.change.Change.{Change}
 use Rattle.datasketches.specs.declared.change.Change.TheVariants as change
+use Rattle.datasketches.specs.declared.image_kind.ImageKind.{ImageKind}
+use Rattle.datasketches.specs.declared.image_kind.ImageKind.TheVariants as kind
 use Rattle.datasketches.specs.declared.join.Join.{Join}
 use Rattle.datasketches.specs.declared.join.Join.TheVariants as join
 use Rattle.datasketches.specs.declared.shape.Shape.{Shape}
 use Rattle.datasketches.specs.declared.shape.Shape.TheVariants as shape
 use Rattle.datasketches_cli.specs.Texts.{Text}
-use Rattle.datasketches_cli.specs.Grammar.{words_of, join_word, Make, MakeShape, MakeChange, AreCounts}
+use Rattle.datasketches_cli.specs.Grammar.{words_of, join_word, Make, MakeShape, MakeChange, MakeLoad, AreCounts}
 use Rattle.datasketches_cli.specs.Asking.{Ask, Says}
 use Rattle.datasketches_cli.specs.declared.request.Request.{Request}
 use Rattle.datasketches_cli.specs.declared.request.Request.TheVariants as request
@@ -40,20 +42,28 @@ short_change v words change.Reset (w, e) = omega (arith, ap length e)
 short_change v words change.Halve (w, e) = omega (arith, ap length e)
 short_change v words (change.Decay numerator denominator) (n, d, w, e, x, y) = omega (arith, ap length e)
 
--- two to five words make an action
-words_made : (words : List (List ℕ)) (a : Action Text) → Make words a → (2 ≤ length words) × (length words ≤ 5)
+-- at most four words follow the verb and the name of a load
+short_load : (words : List (List ℕ)) (k : ImageKind) (most : ℕ) (digits : List ℕ) → MakeLoad words k most digits → length words ≤ 4
+short_load words kind.Frequent most digits (m, e, x) = omega (arith, ap length e)
+short_load words kind.Bloom most digits (m, e, x) = omega (arith, ap length e)
+short_load words (kind.CountI64 seed) most digits (m, s, e, x, y) = omega (arith, ap length e)
+short_load words (kind.CountU64 seed) most digits (m, s, e, x, y) = omega (arith, ap length e)
+
+-- two to six words make an action
+words_made : (words : List (List ℕ)) (a : Action Text) → Make words a → (2 ≤ length words) × (length words ≤ 6)
 words_made words (action.Create name s) (v, rest, e, m) = (omega (arith, ap length e), omega (arith, ap length e, short_shape v rest s m))
 words_made words (action.Change name c) (v, rest, e, m) = (omega (arith, ap length e), omega (arith, ap length e, short_change v rest c m))
 words_made words (action.Join into other j) e = (omega (arith, ap length e), omega (arith, ap length e))
 words_made words (action.Save name image) e = (omega (arith, ap length e), omega (arith, ap length e))
 words_made words (action.Restore image name) e = (omega (arith, ap length e), omega (arith, ap length e))
+words_made words (action.Load name k image most) (rest, digits, e, m, b) = (omega (arith, ap length e), omega (arith, ap length e, short_load rest k most digits m))
 words_made words (action.ShowImage image) e = (omega (arith, ap length e), omega (arith, ap length e))
 words_made words (action.Ask name item) e = (omega (arith, ap length e), omega (arith, ap length e))
 words_made words (action.GetStatus name) e = (omega (arith, ap length e), omega (arith, ap length e))
 words_made words (action.ListRows name error_type threshold) (n, e, x) = (omega (arith, ap length e), omega (arith, ap length e))
 
--- at most five words make a request
-short_asked : (words : List (List ℕ)) (asked : Request) → Ask words asked → length words ≤ 5
+-- at most six words make a request
+short_asked : (words : List (List ℕ)) (asked : Request) → Ask words asked → length words ≤ 6
 short_asked words (request.Action a) (inl made) = (words_made words a made).1
 short_asked words (request.Windows windows max) (inr (n, m, e, x, y)) = omega (arith, ap length e)
 short_asked words (request.Add tenant weight item) (inr (t, w, e, x, y)) = omega (arith, ap length e)
@@ -63,14 +73,14 @@ short_asked _ _ (inl made) = absurd made
 short_asked _ _ (inr made) = absurd made
 
 -- the first words of a line are all of them, where they make a request
-first_are_all : (words : List (List ℕ)) (asked : Request) → Ask (take 6 words) asked → take 6 words ≡ words
-first_are_all words asked asks = take_all 6 words (omega (arith, length-take 6 words, short_asked (take 6 words) asked asks))
+first_are_all : (words : List (List ℕ)) (asked : Request) → Ask (take 7 words) asked → take 7 words ≡ words
+first_are_all words asked asks = take_all 7 words (omega (arith, length-take 7 words, short_asked (take 7 words) asked asks))
 
 -- a line whose first words make a request says it
-pub says_this : (line text : List ℕ) (words : List (Bor (List ℕ))) (asked : Request) → text ≡ line → IsUtf8 line → texts_of words ≡ take 6 (words_of text) → Ask (texts_of words) asked → Says line asked
+pub says_this : (line text : List ℕ) (words : List (Bor (List ℕ))) (asked : Request) → text ≡ line → IsUtf8 line → texts_of words ≡ take 7 (words_of text) → Ask (texts_of words) asked → Says line asked
 says_this line text words asked same utf8 told asks =
-    let here : texts_of words ≡ take 6 (words_of line) = told ∙ ap (λ (l : List ℕ). take 6 (words_of l)) same in
-    let asks_first : Ask (take 6 (words_of line)) asked = subst (λ (l : List (List ℕ)). Ask l asked) here asks in
+    let here : texts_of words ≡ take 7 (words_of line) = told ∙ ap (λ (l : List ℕ). take 7 (words_of l)) same in
+    let asks_first : Ask (take 7 (words_of line)) asked = subst (λ (l : List (List ℕ)). Ask l asked) here asks in
     (utf8, subst (λ (l : List (List ℕ)). Ask l asked) (first_are_all (words_of line) asked asks_first) asks_first)
 
 -- all verbs, each with the number of what it asks for
@@ -80,10 +90,10 @@ verbs =
     ∷ (codes "add", 1) ∷ (codes "adds", 1) ∷ (codes "insert", 1) ∷ (codes "reset", 1) ∷ (codes "halve", 1) ∷ (codes "decay", 1)
     ∷ (codes "merge", 2) ∷ (codes "union", 2) ∷ (codes "intersect", 2) ∷ (codes "difference", 2)
     ∷ (codes "save", 3) ∷ (codes "restore", 4) ∷ (codes "image", 5) ∷ (codes "ask", 6) ∷ (codes "status", 7)
-    ∷ (codes "rows", 8) ∷ []
+    ∷ (codes "rows", 8) ∷ (codes "load", 9) ∷ []
 
 abbrev pub number_of_verb : List ℕ → ℕ
-number_of_verb word = (get_or (filter (λ v. bytes_eq word v.0) verbs) 0 ([], 9)).1
+number_of_verb word = (get_or (filter (λ v. bytes_eq word v.0) verbs) 0 ([], 10)).1
 
 abbrev number_of_action : Action Text → ℕ
 number_of_action (action.Create name s) = 0
@@ -95,6 +105,7 @@ number_of_action (action.ShowImage image) = 5
 number_of_action (action.Ask name item) = 6
 number_of_action (action.GetStatus name) = 7
 number_of_action (action.ListRows name error_type threshold) = 8
+number_of_action (action.Load name k image most) = 9
 
 number_of_shape : (v : List ℕ) (words : List (List ℕ)) (s : Shape) → MakeShape v words s → number_of_verb v ≡ 0
 number_of_shape v words (shape.Frequent max) (m, w, e, n) = ap number_of_verb w
@@ -128,6 +139,7 @@ number_made v name rest (action.ShowImage image) e = ap (λ (l : List (List ℕ)
 number_made v name rest (action.Ask n item) e = ap (λ (l : List (List ℕ)). number_of_verb (get_or l 0 [])) e
 number_made v name rest (action.GetStatus n) e = ap (λ (l : List (List ℕ)). number_of_verb (get_or l 0 [])) e
 number_made v name rest (action.ListRows n error_type threshold) (w, e, x) = ap (λ (l : List (List ℕ)). number_of_verb (get_or l 0 [])) e
+number_made v name rest (action.Load n k image most) (r, digits, e, m, b) = ap (λ (l : List (List ℕ)). number_of_verb (get_or l 0 [])) e
 
 same_verb : (v w name name' : List ℕ) (xs ys : List (List ℕ)) → v ∷ name ∷ xs ≡ w ∷ name' ∷ ys → w ≡ v
 same_verb v w name name' xs ys e = sym (ap (λ (l : List (List ℕ)). get_or l 0 []) e)

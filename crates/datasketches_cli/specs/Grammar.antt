@@ -1,15 +1,19 @@
 -- The words of a line, and the actions that they make.
 use Rattle.std.specs.Prelude.{◌≡◌, ℕ, ◌+◌, ◌^◌, nat_lt, ◌==◌, ◌&&◌, List, [], ◌∷◌, length, filter, drop, slice_index, Option, Some, None, option_map, if◌then◌else◌, codes, ℤ, pos, neg_ℤ}
 use Rattle.std.specs.List.{slice_split}
-use Rattle.std.specs.Str.{IsUtf8, all_ascii_digits}
+use Rattle.std.specs.Result.{result_ok}
+use Rattle.std.specs.Str.{IsUtf8, all_ascii_digits, bytes_eq}
 use Rattle.std.specs.Str.Parse.{digits_value}
 use Rattle.std.specs.String.{string_bytes}
+use Rattle.hex.specs.Hex.{decode_of}
 use Rattle.datasketches.specs.ErrorType.{ErrorType}
 use Rattle.datasketches.specs.ErrorType.TheVariants.{NoFalseNegatives, NoFalsePositives}
 use Rattle.datasketches.specs.declared.action.Action.{Action}
 use Rattle.datasketches.specs.declared.action.Action.TheVariants as action
 use Rattle.datasketches.specs.declared.change.Change.{Change}
 use Rattle.datasketches.specs.declared.change.Change.TheVariants as change
+use Rattle.datasketches.specs.declared.image_kind.ImageKind.{ImageKind}
+use Rattle.datasketches.specs.declared.image_kind.ImageKind.TheVariants as kind
 use Rattle.datasketches.specs.declared.join.Join.{Join}
 use Rattle.datasketches.specs.declared.join.Join.TheVariants as join
 use Rattle.datasketches.specs.declared.shape.Shape.{Shape}
@@ -31,6 +35,10 @@ unfoldable pub signed_number : List ℕ → Option ℤ
 signed_number word =
     if slice_index word 0 == 45 then option_map (λ n. neg_ℤ (pos n)) (number_below (2 ^ 63 + 1) (drop 1 word))
     else option_map pos (number_below (2 ^ 63) word)
+
+-- the bytes that the hexadecimal digits of a word make, two a byte and of either case; the word `-` makes none
+abbrev pub bytes_of_digits : List ℕ → Option (List ℕ)
+bytes_of_digits word = if bytes_eq word (codes "-") then Some [] else result_ok (decode_of word)
 
 -- the word for a kind of report
 abbrev pub report_word : ErrorType → List ℕ
@@ -78,6 +86,20 @@ join_word join.Union = codes "union"
 join_word join.Intersect = codes "intersect"
 join_word join.Difference = codes "difference"
 
+-- the words behind the name of the sketch make what an image is read as and what it may take at most, and the last is
+-- that of its digits
+abbrev pub MakeLoad : List (List ℕ) → ImageKind → ℕ → List ℕ → Type 0
+MakeLoad words kind.Frequent most_bytes digits =
+    (most : List ℕ) × (words ≡ codes "frequent" ∷ most ∷ digits ∷ []) × (number_below (2 ^ 64) most ≡ Some most_bytes)
+MakeLoad words kind.Bloom most_bytes digits =
+    (most : List ℕ) × (words ≡ codes "bloom" ∷ most ∷ digits ∷ []) × (number_below (2 ^ 64) most ≡ Some most_bytes)
+MakeLoad words (kind.CountI64 seed) most_bytes digits =
+    (most s : List ℕ) × (words ≡ codes "counti" ∷ most ∷ s ∷ digits ∷ []) × (number_below (2 ^ 64) most ≡ Some most_bytes)
+    × (number_below (2 ^ 64) s ≡ Some seed)
+MakeLoad words (kind.CountU64 seed) most_bytes digits =
+    (most s : List ℕ) × (words ≡ codes "countu" ∷ most ∷ s ∷ digits ∷ []) × (number_below (2 ^ 64) most ≡ Some most_bytes)
+    × (number_below (2 ^ 64) s ≡ Some seed)
+
 -- the words make the action
 abbrev pub Make : List (List ℕ) → Action Text → Type 0
 Make words (action.Create name shape) =
@@ -87,6 +109,9 @@ Make words (action.Change name change) =
 Make words (action.Join into other join) = words ≡ join_word join ∷ string_bytes into ∷ string_bytes other ∷ []
 Make words (action.Save name image) = words ≡ codes "save" ∷ string_bytes name ∷ string_bytes image ∷ []
 Make words (action.Restore image name) = words ≡ codes "restore" ∷ string_bytes image ∷ string_bytes name ∷ []
+Make words (action.Load name kind image most_bytes) =
+    (rest : List (List ℕ)) × (digits : List ℕ) × (words ≡ codes "load" ∷ string_bytes name ∷ rest)
+    × MakeLoad rest kind most_bytes digits × (bytes_of_digits digits ≡ Some image.items)
 Make words (action.ShowImage image) = words ≡ codes "image" ∷ string_bytes image ∷ []
 Make words (action.Ask name item) = words ≡ codes "ask" ∷ string_bytes name ∷ string_bytes item ∷ []
 Make words (action.GetStatus name) = words ≡ codes "status" ∷ string_bytes name ∷ []

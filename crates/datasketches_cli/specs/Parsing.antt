@@ -4,12 +4,14 @@ use Rattle.std.specs.Borrow.{Bor}
 use Rattle.datasketches.specs.ErrorType.{ErrorType}
 use Rattle.datasketches.specs.declared.action.Action.{Action}
 use Rattle.datasketches.specs.declared.change.Change.{Change}
+use Rattle.datasketches.specs.declared.image_kind.ImageKind.{ImageKind}
 use Rattle.datasketches.specs.declared.join.Join.{Join}
 use Rattle.datasketches.specs.declared.shape.Shape.{Shape}
 use Rattle.datasketches_cli.specs.Texts.{Text}
+use Rattle.datasketches_cli.specs.declared.parse.load.Loading.{Loading}
 use Rattle.datasketches_cli.specs.declared.request.Request.{Request}
 use Rattle.datasketches_cli.specs.Asking.{AskOnWindows}
-use Rattle.datasketches_cli.specs.Grammar.{report_word, join_word, MakeShape, MakeChange, Make}
+use Rattle.datasketches_cli.specs.Grammar.{report_word, join_word, MakeShape, MakeChange, MakeLoad, Make}
 
 -- the texts of some words
 abbrev pub texts_of : List (Bor (List ℕ)) → List (List ℕ)
@@ -39,6 +41,13 @@ IsShapeOf verb words found = MatchOption found ((shape : Shape) → ¬ MakeShape
 abbrev pub IsChangeOf : List ℕ → List (List ℕ) → Option (Change Text) → Type 0
 IsChangeOf verb words found =
     MatchOption found ((change : Change Text) → ¬ MakeChange verb words change) (MakeChange verb words)
+
+-- what is to be loaded, likewise
+abbrev pub IsLoadingOf : List (List ℕ) → Option Loading → Type 0
+IsLoadingOf words found =
+    MatchOption found
+    ((kind : ImageKind) (most_bytes : ℕ) (digits : List ℕ) → ¬ MakeLoad words kind most_bytes digits)
+    (λ loading. MakeLoad words loading.kind loading.most_bytes loading.digits.now)
 
 -- the way to join sketches
 abbrev pub IsJoinOf : List ℕ → Option Join → Type 0

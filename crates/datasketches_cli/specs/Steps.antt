@@ -16,7 +16,7 @@ use Rattle.datasketches_cli.specs.declared.request.Answer.TheVariants as answer
 use Rattle.datasketches_cli.specs.declared.request.Request.{Request}
 use Rattle.datasketches_cli.specs.declared.request.Request.TheVariants as request
 use Rattle.datasketches_cli.specs.declared.state.State.{State}
-use Rattle.datasketches_cli.specs.Texts.{Text, text_codec, text_input}
+use Rattle.datasketches_cli.specs.Texts.{Text, text_codec, text_input, text_slot}
 
 -- windows of tenants, if there are any
 abbrev pub Windows : Type 0
@@ -75,7 +75,7 @@ OfWindows Does old given new =
 -- what a request does: an action is a step of the session; the others are calls on the windows
 abbrev pub ServingStep : State → Request → Answer → State → Type 0
 ServingStep old (request.Action action) given new =
-    (reply : Reply Text) × Performs string_eq text_input text_codec string_bytes old.session action reply new.session
+    (reply : Reply Text) × Performs text_slot string_eq text_input text_codec string_bytes old.session action reply new.session
     × (given ≡ answer.Reply reply) × (new.windows ≡ old.windows)
 ServingStep old (request.Windows windows max_map_size) given new = OfWindows (Opens windows max_map_size) old given new
 ServingStep old (request.Add tenant weight item) given new = OfWindows (AddsTo tenant weight item) old given new

@@ -17,3 +17,7 @@ text_codec = record { same = bytes_eq; encoding = text_encoding; reading = text_
 -- what a text feeds to a hash: its bytes, and then 255
 abbrev pub text_input : Text → List (List ℕ)
 text_input item = fed.str (string_bytes item)
+
+-- the bytes of an `Option` of a text, by which the table of a sketch is measured where its bytes are limited
+abbrev pub text_slot : ℕ
+text_slot = 32

@@ -9,6 +9,7 @@
 #![tactic(auto)]
 
 mod counted;
+mod laws;
 mod line_reader;
 mod parse;
 mod reply;

@@ -4,6 +4,7 @@ ghost use Rattle.datasketches_cli.specs.Grammar.{join_word};
 ghost use Rattle.datasketches_cli.specs.Parsing.{IsActionOf, IsJoinOf, texts_of};
 
 pub mod change;
+mod load;
 mod number;
 mod shape;
 pub mod windows;
@@ -11,6 +12,7 @@ pub mod words;
 
 use change::change_of;
 use datasketches::{Action, Join, Recycled};
+use load::load;
 use number::number_of;
 use shape::shape_of;
 use std::alloc::{AllocError, Global};
@@ -36,6 +38,7 @@ pub fn action_of(
         "ask" => ask(alloc, name, words, recycled),
         "status" => status(alloc, name, words),
         "rows" => rows(alloc, name, words),
+        "load" => load(alloc, name, words),
         _ => {
             if let Some(change) = change_of(alloc, verb, words, &mut recycled.item)? {
                 let name = copied(alloc, name, &mut recycled.name)?;

@@ -8,7 +8,7 @@ use datasketches::frequencies::ErrorType;
 use std::alloc::{AllocError, Global};
 
 /// How many words of a line are looked at: one more than the longest command has.
-pub const MOST_WORDS: usize = 6;
+pub const MOST_WORDS: usize = 7;
 
 /// Puts the first words of a text, which stand between spaces, into an array. Answers how many there are.
 pub fn first_words<'a>(text: &'a str, words: &mut [&'a str; MOST_WORDS]) -> usize
