@@ -19,7 +19,7 @@ use Rattle.datasketches.specs.Replies.{is_refused, refused}
 use Rattle.datasketches.specs.Running.{Midst}
 use Rattle.datasketches.specs.Stands.{StandsFor}
 use Rattle.datasketches.specs.State.{SessionState, IsUnchanged}
-use Rattle.datasketches.specs.Steps.{Refuses, MakesFrom, Writes, Reads, Saves, Restores, IsLoaded, Brings, Loads, Performs, Step, Run}
+use Rattle.datasketches.specs.Steps.{Refuses, MakesFrom, Writes, Reads, Saves, Restores, IsLoaded, Loads, Performs, Step, Run}
 use Rattle.datasketches.specs.declared.action.Action.{Action}
 use Rattle.datasketches.specs.declared.action.Action.TheVariants as action
 use Rattle.datasketches.specs.declared.command.Command.{Command}

@@ -1,5 +1,5 @@
 -- What one session takes from another, and what holds of many.
-use Rattle.std.proofs.Common.{◌≡◌, ℕ, ◌+◌, List, [], ◌∷◌, ◌++◌, Option, Some, None, inl, inr, refl, sym, ◌∙◌, ap, subst, Bool}
+use Rattle.std.proofs.Common.{◌≡◌, ℕ, List, [], Option, Some, None, inl, inr, refl, sym, ◌∙◌, ap, subst, Bool}
 use Rattle.std.specs.Prelude.{ℤ, MatchOption}
 use Rattle.std.proofs.lemmas.Bool.{false≢true}
 use Rattle.std.specs.Global.{Global}
@@ -9,17 +9,16 @@ use Rattle.sketch_countmin.specs.History.{CountHistory, seed_of}
 use Rattle.sketch_frequencies.specs.Items.{Codec}
 use Rattle.datasketches.specs.Clusters.{IsKindOf, or_stranger, Process, session_of, histories_of, LoadsShown, Shows, IsProcess, LoadKeepsShown}
 use Rattle.datasketches.specs.Clusters.Process.{Began, Did, Took}
-use Rattle.datasketches.specs.Histories.{History, Assignment, after_one, after_one_told}
+use Rattle.datasketches.specs.Histories.{History, Assignment, after_one_told}
 use Rattle.datasketches.specs.Histories.History.{OfFrequent, OfCountI64, OfCountU64, OfBloom, OfStranger}
-use Rattle.datasketches.specs.Images.{bytes_of, image_of, IsImageOf, IsFrequentImage, IsCountImage, IsFilterImage}
-use Rattle.datasketches.specs.Loading.{IsTold}
+use Rattle.datasketches.specs.Images.{bytes_of, image_of, IsImageOf, IsCountImage}
 use Rattle.datasketches.specs.Names.{Name, at_name}
-use Rattle.datasketches.specs.Replies.{refused, is_refused}
+use Rattle.datasketches.specs.Replies.{is_refused}
 use Rattle.datasketches.specs.SessionStandsFor.{SessionStandsFor, Paired}
 use Rattle.datasketches.specs.State.{SessionState}
 use Rattle.datasketches.specs.Steps.{ShowsBytes, Step}
 use Rattle.datasketches.specs.declared.command.Command.{Command}
-use Rattle.datasketches.specs.declared.command.Command.TheVariants.{Load, ShowImage}
+use Rattle.datasketches.specs.declared.command.Command.TheVariants.{Load}
 use Rattle.datasketches.specs.declared.image.Image.{Image}
 use Rattle.datasketches.specs.declared.image.Image.TheVariants as image
 use Rattle.datasketches.specs.declared.image_kind.ImageKind.{ImageKind}
@@ -78,14 +77,14 @@ module _ {T C : Type 0} (slot : ℕ) (eq : T → T → Bool) (input : T → List
   shown_image : (from : SessionState T) (a : Assignment T) (image : Name) (shown : Vec ℕ Global) → SessionStandsFor eq codec content from a → Shows slot eq input codec content from image shown →
       (saved : Image) × IsImageOf eq codec content saved (or_stranger (a.images (string_bytes image))) × (shown.items ≡ bytes_of saved)
   shown_image from a image shown fits shows =
-      let found = shown_case (at_name (string_bytes image) from.images) shown (Shown shown) refl shows.1 in
+      let found = shown_case (at_name (string_bytes image) from.images) shown (Shown shown) refl shows.1.1 in
       let pair = subst (λ (o : Option Image). Paired (IsImageOf eq codec content) o (a.images (string_bytes image))) found.1 (fits.images (string_bytes image)) in
       (found.0, pair_case eq codec content found.0 (a.images (string_bytes image)) pair, found.2)
 
   -- so another that loads these bytes stands for it
   took : (from old new : SessionState T) (a b : Assignment T) (image : Name) (shown : Vec ℕ Global) (command : Command T) (reply : Reply T) →
       SessionStandsFor eq codec content from a → Shows slot eq input codec content from image shown → SessionStandsFor eq codec content old b →
-      LoadsShown slot eq input codec content shown (or_stranger (a.images (string_bytes image))) command → Step slot eq input codec content old command reply new →
+      LoadsShown shown (or_stranger (a.images (string_bytes image))) command → Step slot eq input codec content old command reply new →
       SessionStandsFor eq codec content new (after_one_told input b command (or_stranger (a.images (string_bytes image))) reply)
   took from old new a b image shown (Load name kind bytes most_bytes) reply stands shows fits loads step =
       let found = shown_image from a image shown stands shows in
@@ -101,9 +100,9 @@ module _ {T C : Type 0} (slot : ℕ) (eq : T → T → Bool) (input : T → List
       (took from old new a b image shown (Load name kind bytes most_bytes) reply stands shows fits (subst (λ (g : History T). IsKindOf kind g) (sym e) k, same) step)
 
   -- each session of many stands for its histories
-  pub process_stands : (p : Process T) → IsProcess slot eq input codec content p → SessionStandsFor eq codec content (session_of p) (histories_of slot eq input codec content p)
+  pub process_stands : (p : Process T) → IsProcess slot eq input codec content p → SessionStandsFor eq codec content (session_of p) (histories_of input p)
   process_stands Began is = record { sketches = λ name. tt; images = λ name. tt }
-  process_stands (Did p command reply now) is = step_fits slot eq input codec content command reply (session_of p) now (histories_of slot eq input codec content p) (process_stands p is.0) is.1
+  process_stands (Did p command reply now) is = step_fits slot eq input codec content command reply (session_of p) now (histories_of input p) (process_stands p is.0) is.1
   process_stands (Took p from image shown command reply now) is =
-      took (session_of from) (session_of p) now (histories_of slot eq input codec content from) (histories_of slot eq input codec content p) image shown command reply
+      took (session_of from) (session_of p) now (histories_of input from) (histories_of input p) image shown command reply
       (process_stands from is.1) is.2 (process_stands p is.0) is.3 is.4

@@ -31,7 +31,7 @@ use Rattle.datasketches.specs.declared.image_kind.ImageKind.TheVariants as kind
 use Rattle.datasketches.specs.declared.reply.Reply.{Reply}
 use Rattle.datasketches.specs.declared.reply.Reply.TheVariants.{Image as Shown}
 use Rattle.datasketches.specs.declared.sketch.Sketch.{Sketch}
-use Rattle.datasketches.specs.declared.sketch.Sketch.TheVariants.{Frequent, CountI64, CountU64, Bloom}
+use Rattle.datasketches.specs.declared.sketch.Sketch.TheVariants.{Frequent, Bloom}
 
 -- ---- from one session to another
 
@@ -68,7 +68,12 @@ module _ {T : Type 0} where
   session_of (Did p command reply now) = now
   session_of (Took p from image shown command reply now) = now
 
-module _ {T C : Type 0} (slot : ℕ) (eq : T → T → Bool) (input : T → List (List ℕ)) (codec : Codec C) (content : T → C) where
+  -- the command loads the bytes as an image of this history's kind
+  abbrev pub LoadsShown : Vec ℕ Global → History T → Command T → Type 0
+  LoadsShown shown h (Load name kind bytes most_bytes) = IsKindOf kind h × (bytes.items ≡ shown.items)
+  LoadsShown shown h _ = ⊥
+
+module _ {T : Type 0} (input : T → List (List ℕ)) where
   -- what its names stand for: what it did itself, and for what it took, what the other one saved
   abbrev pub histories_of : Process T → Assignment T
   histories_of Began = nothing_named
@@ -76,14 +81,11 @@ module _ {T C : Type 0} (slot : ℕ) (eq : T → T → Bool) (input : T → List
   histories_of (Took p from image shown command reply now) =
       after_one_told input (histories_of p) command (or_stranger ((histories_of from).images (string_bytes image))) reply
 
-  -- the command loads the bytes as an image of this history's kind
-  abbrev pub LoadsShown : Vec ℕ Global → History T → Command T → Type 0
-  LoadsShown shown h (Load name kind bytes most_bytes) = IsKindOf kind h × (bytes.items ≡ shown.items)
-  LoadsShown shown h _ = ⊥
-
+module _ {T C : Type 0} (slot : ℕ) (eq : T → T → Bool) (input : T → List (List ℕ)) (codec : Codec C) (content : T → C) where
   -- the session shows these bytes for the image
   abbrev pub Shows : SessionState T → Name → Vec ℕ Global → Type 0
-  Shows session image shown = Step slot eq input codec content session (ShowImage image) (Shown shown) session
+  Shows session image shown =
+      (after : SessionState T) × Step slot eq input codec content session (ShowImage image) (Shown shown) after
 
   -- each command was done as it was replied to, and what was taken is what the other session showed
   abbrev pub IsProcess : Process T → Type 0
@@ -91,7 +93,7 @@ module _ {T C : Type 0} (slot : ℕ) (eq : T → T → Bool) (input : T → List
   IsProcess (Did p command reply now) = IsProcess p × Step slot eq input codec content (session_of p) command reply now
   IsProcess (Took p from image shown command reply now) =
       IsProcess p × IsProcess from × Shows (session_of from) image shown
-      × LoadsShown shown (or_stranger ((histories_of from).images (string_bytes image))) command
+      × LoadsShown shown (or_stranger ((histories_of input from).images (string_bytes image))) command
       × Step slot eq input codec content (session_of p) command reply now
 
   -- the law of two sessions: what one showed of an image, another that loads these bytes stands for
@@ -105,7 +107,7 @@ module _ {T C : Type 0} (slot : ℕ) (eq : T → T → Bool) (input : T → List
 
   -- the law of many: each session stands for its histories
   abbrev pub ProcessStandsForHistories : Type 0
-  ProcessStandsForHistories = (p : Process T) → IsProcess p → SessionStandsFor eq codec content (session_of p) (histories_of p)
+  ProcessStandsForHistories = (p : Process T) → IsProcess p → SessionStandsFor eq codec content (session_of p) (histories_of input p)
 
 -- ---- the streams that came together in a sketch
 

@@ -1,5 +1,5 @@
 -- What is said of bytes that are loaded.
-use Rattle.std.specs.Prelude.{Bool, List, [], ◌∷◌}
+use Rattle.std.specs.Prelude.{Bool, List, ◌∷◌}
 use Rattle.sketch_frequencies.specs.Items.{Codec}
 use Rattle.datasketches.specs.Actions.{action_of}
 use Rattle.datasketches.specs.Histories.{History}

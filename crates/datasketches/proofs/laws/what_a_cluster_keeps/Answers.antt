@@ -1,4 +1,4 @@
-use Rattle.std.proofs.Common.{ℕ, ◌+◌, ◌≤◌, ◌∙◌, subst, arith}
+use Rattle.std.proofs.Common.{ℕ, ◌+◌, ◌≤◌, ◌∙◌, subst}
 use Rattle.counter_table.specs.Tables.{count_of}
 use Rattle.datasketches.proofs.Promised.{named_stands, counted_stands}
 use Rattle.datasketches.proofs.Streams.{true_weight-streams, budget-streams, value_over-streams, contains-streams}
