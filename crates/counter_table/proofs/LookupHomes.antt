@@ -1,12 +1,12 @@
 -- The home of an item, the place after a place, and where a look-up stands.
-use Rattle.std.proofs.Common.{◌≡◌, ℕ, ◌+◌, ◌-◌, ◌%◌, ◌^◌, ◌<◌, ap, sym, ◌∙◌, arith, List, bit_and}
+use Rattle.std.proofs.Common.{◌≡◌, ℕ, ◌+◌, ◌-◌, ◌%◌, ◌<◌, ap, sym, ◌∙◌, arith, List, bit_and}
 use Rattle.std.proofs.Math.Nat.{mod-lt}
-use Rattle.std.proofs.lemmas.Nat.{and_mask}
 use Rattle.sketch_base.specs.Hashes.{fed_bytes}
 use Rattle.sketch_base.specs.Murmur3.{murmur3_x64_128}
+use Rattle.sketch_base.specs.PowersOfTwo.{masked_remainder}
 use Rattle.counter_table.specs.Homes.{home_in, home_of, ahead}
 use Rattle.counter_table.specs.Slots.{IsTableSize}
-use Rattle.counter_table.proofs.ArithmeticPowers.{power_of, power_positive}
+use Rattle.counter_table.proofs.ArithmeticPowers.{power_positive}
 use Rattle.counter_table.proofs.ArithmeticRing.{ahead_is}
 
 pub some_size : (n : ℕ) → IsTableSize n → 0 < n
@@ -14,10 +14,7 @@ some_size n size = power_positive n size.power
 
 -- a mask takes the remainder
 masked : (x n : ℕ) → IsTableSize n → bit_and x (n - 1) ≡ x % n
-masked x n size =
-    let k = power_of n size.power in
-    let e : n - 1 ≡ 2 ^ k.0 - 1 = ap (λ m. m - 1) k.1 in
-    ap (bit_and x) e ∙ and_mask x k.0 ∙ ap (λ m. x % m) (sym k.1)
+masked x n size = masked_remainder x n size.power
 
 pub home_masked : (bytes : List ℕ) (hash n : ℕ) → hash ≡ (murmur3_x64_128 bytes 9001).0 → IsTableSize n → bit_and hash (n - 1) ≡ home_of bytes n
 unfolding home_of

@@ -9,9 +9,9 @@ use Rattle.std.proofs.lemmas.List.{drop_more, drop_all}
 use Rattle.std.proofs.lemmas.List.Elements.{filter_map-append}
 use Rattle.std.proofs.lemmas.List.FromFn.{map-range_with_len_more, length-map-range_with_len}
 use Rattle.std.proofs.Math.Nat.{mod-add-mod, zero-mod}
+use Rattle.sketch_base.specs.PowersOfTwo.{power_of}
 use Rattle.counter_table.specs.Slots.{IsTableSize}
 use Rattle.counter_table.proofs.LookupHomes.{stride_masked}
-use Rattle.counter_table.proofs.ArithmeticPowers.{power_of}
 use Rattle.counter_table.specs.Places.{place_at, places, found_in, given_before, rest_from, IsCursor}
 use Rattle.counter_table.proofs.WalkStride.{strided}
 

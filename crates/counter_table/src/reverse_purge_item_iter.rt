@@ -10,6 +10,24 @@ use std::iter::FusedIterator;
 use std::marker::Model;
 
 /// An iterator over the entries of a table: each once, in an order that is left open, and then `None` for good.
+///
+/// # Examples
+///
+/// ```
+/// use counter_table::ReversePurgeItemHashMap;
+///
+/// fn most_visited(visits: &ReversePurgeItemHashMap<u64>) -> Option<u64> {
+///     let mut most = None;
+///     let mut greatest = 0;
+///     for (page, count) in visits.iter() {
+///         if count > greatest {
+///             greatest = count;
+///             most = Some(*page);
+///         }
+///     }
+///     most
+/// }
+/// ```
 #[derive(Debug, Drop)]
 pub struct ReversePurgeItemIter<'a, T> {
     slots: &'a [Slot<T>],

@@ -4,6 +4,22 @@
 ///
 /// The drift is the distance from the item's home and 1: how many slots a look-up of the item looks at. It stands in
 /// front, so that a slot of an item of 8 bytes takes 24.
+///
+/// # Examples
+///
+/// ```
+/// use counter_table::{ReversePurgeItemHashMap, Slot};
+///
+/// fn longest_look_up(visits: &ReversePurgeItemHashMap<u64>) -> u32 {
+///     let mut longest = 0;
+///     for slot in visits.slots() {
+///         if let Slot::Taken { drift, .. } = slot {
+///             longest = longest.max(*drift);
+///         }
+///     }
+///     longest
+/// }
+/// ```
 #[derive(Debug, Drop)]
 pub enum Slot<T> {
     Free,

@@ -1,5 +1,5 @@
 //! The items that weigh most.
-use counter_table::ReversePurgeItemHashMap;
+use counter_table::{ReversePurgeItemHashMap, Slot};
 use sketch_base::SketchBytes;
 use sketch_frequencies::{Error, ErrorType, FrequentItemValue, FrequentItemsSketch, Row};
 use std::alloc::Global;
@@ -86,4 +86,28 @@ pub fn visits_of_four(visits: &ReversePurgeItemHashMap<u64>, pages: &[u64; 4]) -
     let mut counts = [0; 4];
     visits.get_all(pages, &mut counts);
     counts
+}
+
+/// How many slots the longest look-up of a page looks at.
+pub fn longest_look_up(visits: &ReversePurgeItemHashMap<u64>) -> u32 {
+    let mut longest = 0;
+    for slot in visits.slots() {
+        if let Slot::Taken { drift, .. } = slot {
+            longest = longest.max(*drift);
+        }
+    }
+    longest
+}
+
+/// The page that was visited most.
+pub fn most_visited(visits: &ReversePurgeItemHashMap<u64>) -> Option<u64> {
+    let mut most = None;
+    let mut greatest = 0;
+    for (page, count) in visits.iter() {
+        if count > greatest {
+            greatest = count;
+            most = Some(*page);
+        }
+    }
+    most
 }

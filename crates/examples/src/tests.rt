@@ -11,8 +11,9 @@ use crate::filters::{
     filter_of_visitors, is_first_visit, known_of_four, orders_to_join, seen_by_both, still_refused,
 };
 use crate::frequent_items::{
-    apples_of_both_shops, bytes_of, counts_visit, heavier_pages, heaviest, sent_pages,
-    sketch_of_visitors, surely_weighs_more, visits_of_four, weights_of_four,
+    apples_of_both_shops, bytes_of, counts_visit, heavier_pages, heaviest, longest_look_up,
+    most_visited, sent_pages, sketch_of_visitors, surely_weighs_more, visits_of_four,
+    weights_of_four,
 };
 use crate::images::sent;
 use crate::session::{
@@ -148,6 +149,17 @@ fn visits_of_pages(alloc: Global, size: usize) -> Result<[u64; 4], Error> {
     Ok(visits_of_four(&visits, &[7, 8, 7, 9]))
 }
 
+/// The page visited most, and the slots of the longest look-up, in a table of so many slots, a power of two, where only page 7 was
+/// visited.
+fn most_visited_of_one(alloc: Global, size: usize) -> Result<(Option<u64>, u32), Error> {
+    if !size.is_power_of_two() || size > 8 {
+        return Ok((None, 0));
+    }
+    let mut visits = ReversePurgeItemHashMap::new(alloc, size)?;
+    counts_visit(&mut visits, 7);
+    Ok((most_visited(&visits), longest_look_up(&visits)))
+}
+
 /// The weights of four pages, of which two visitors came.
 fn weights_of_pages(alloc: Global) -> Result<[u64; 4], Error> {
     Ok(weights_of_four(&sketch_of_visitors(alloc, &[7, 8, 7])?, &[7, 8, 9, 7]))
@@ -159,6 +171,7 @@ fn frequent_items_are_as_the_docs_say(rt: HostRuntime) -> Result<(), Fail> {
     assert!(rt; is_above_itself(rt.alloc())? == Some(false));
     assert!(rt; visits_of_a_page(rt.alloc(), 8)? == (true, 1));
     assert!(rt; visits_of_pages(rt.alloc(), 8)? == [1, 0, 1, 0]);
+    assert!(rt; most_visited_of_one(rt.alloc(), 8)? == (Some(7), 1));
     assert!(rt; weights_of_pages(rt.alloc())? == [2, 1, 0, 2]);
     assert!(rt; bytes_of(rt.alloc(), &1u64)?.as_slice() == [1u8, 0, 0, 0, 0, 0, 0, 0].as_slice());
     Ok(())

@@ -1,3 +1,4 @@
+pub mod Batches
 pub mod Buffer
 pub mod Checks
 pub mod Errors

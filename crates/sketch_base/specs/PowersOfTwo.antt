@@ -6,7 +6,8 @@ use Rattle.std.proofs.lemmas.Nat.{zero_from_ones, and_mask}
 use Rattle.std.specs.Int.{is_power_of_two, IsPowerOfTwo}
 use lib.Count.{ones_step, ones-le}
 
-pow_twice : (k : ℕ) → 2 ^ (suc k) ≡ 2 * 2 ^ k
+-- a power of two is twice the one below it
+pub pow_twice : (k : ℕ) → 2 ^ (suc k) ≡ 2 * 2 ^ k
 pow_twice k = grind arith
 
 -- a number has fewer bits than it counts

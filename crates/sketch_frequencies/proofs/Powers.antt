@@ -5,10 +5,8 @@ use Rattle.std.proofs.lemmas.Bool.{cases_lt, eqb-true}
 use Rattle.std.proofs.lemmas.Nat.{zero_from_ones}
 use Rattle.std.specs.Int.{is_power_of_two}
 use lib.Count.{ones, ones_in, ones_step}
+use Rattle.sketch_base.specs.PowersOfTwo.{pow_twice}
 use Rattle.sketch_frequencies.proofs.Cases.{by_cases}
-
-pub pow_twice : (k : ℕ) → 2 ^ (suc k) ≡ 2 * 2 ^ k
-pow_twice k = grind arith
 
 -- from 2 on a power of two is twice another
 pub halves : (n : ℕ) → IsTrue (is_power_of_two n) → 2 ≤ n → (n ≡ 2 * (n / 2)) × IsTrue (is_power_of_two (n / 2))

@@ -14,13 +14,13 @@ use Rattle.std.proofs.lemmas.Map.Keys.{IsDistinct-IsPermutation}
 use Rattle.std.proofs.lemmas.Nat.{from_le_bytes-to_le_bytes_4, from_le_bytes-to_le_bytes_8, pow_pos}
 use Rattle.sketch_base.specs.Checks.{first_failing}
 use Rattle.sketch_base.specs.Fields.{le_at, words_in}
+use Rattle.sketch_base.specs.PowersOfTwo.{pow_twice}
 use Rattle.sketch_frequencies.specs.Image.{AreEncoded, IsImage, IsSpelled, IsWritten, IsWrittenEmpty, items_in, items_at, weights_at, weight_of, encoded_weights, header, preamble, header_checks, count_checks, active_at, total_at, error_at}
 use Rattle.sketch_frequencies.specs.Items.{Codec, IsLawful}
 use Rattle.sketch_frequencies.specs.State.{FrequentState, IsState, capacity}
 use Rattle.counter_table.specs.Tables.{count_of, sum_of}
 use Rattle.sketch_frequencies.proofs.Cases.{by_cases}
 use Rattle.sketch_frequencies.proofs.Permutations.{count_is_sum, count_of-permutation, share}
-use Rattle.sketch_frequencies.proofs.Powers.{pow_twice}
 use Rattle.sketch_frequencies.proofs.UpdateStates.{length_le_sum}
 use Rattle.sketch_frequencies.proofs.ImageWeights.{weights_pass}
 

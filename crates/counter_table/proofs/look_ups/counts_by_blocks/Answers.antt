@@ -1,7 +1,7 @@
 use Rattle.std.proofs.Common.{◌+◌, ◌-◌, ◌*◌, ℕ, refl, arith}
+use Rattle.sketch_base.specs.Batches.{written_block, written_all}
 use Rattle.counter_table.specs.Slots.{entries_of}
 use Rattle.counter_table.specs.Tables.{count_of}
-use Rattle.counter_table.proofs.LookupBlocks.{written_block, written_all}
 use Rattle.counter_table.proofs.look_ups.counts_by_blocks.Goals as goal
 
 pub each-init : goal.each-init

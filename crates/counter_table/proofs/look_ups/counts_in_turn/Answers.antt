@@ -1,7 +1,7 @@
 use Rattle.std.proofs.Common.{◌≡◌, ◌+◌, ℕ, take, get_or, set, refl, ap, ◌∙◌, arith}
+use Rattle.sketch_base.specs.Batches.{written_more, written_all}
 use Rattle.counter_table.specs.Slots.{entries_of}
 use Rattle.counter_table.specs.Tables.{count_of}
-use Rattle.counter_table.proofs.LookupBlocks.{written_more, written_all}
 use Rattle.counter_table.proofs.look_ups.counts_in_turn.Goals as goal
 
 pub each-init : goal.each-init

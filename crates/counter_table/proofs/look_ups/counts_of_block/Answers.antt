@@ -1,9 +1,10 @@
 use Rattle.std.proofs.Common.{◌≡◌, ◌+◌, ◌<◌, ℕ, List, map, length, take, get_or, set, refl, sym, ap, ◌∙◌, subst, arith}
 use Rattle.std.proofs.lemmas.List.{length-map, get_or-map, get_or-set_other}
+use Rattle.sketch_base.specs.Batches.{written_more, written_all}
 use Rattle.counter_table.specs.Homes.{home_in}
 use Rattle.counter_table.specs.Slots.{entries_of}
 use Rattle.counter_table.specs.Tables.{count_of}
-use Rattle.counter_table.proofs.LookupBlocks.{mark_of, homes_within, written_more, written_all}
+use Rattle.counter_table.proofs.LookupBlocks.{mark_of, homes_within}
 use Rattle.counter_table.proofs.look_ups.counts_of_block.Goals as goal
 
 pub marks-init : goal.marks-init

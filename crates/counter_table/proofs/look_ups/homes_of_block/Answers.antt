@@ -1,7 +1,7 @@
 use Rattle.std.proofs.Common.{◌≡◌, ◌+◌, ℕ, map, length, take, get_or, set, refl, sym, ap, ◌∙◌, arith}
 use Rattle.std.proofs.lemmas.List.{length-set, take_all}
+use Rattle.sketch_base.specs.Batches.{written_more}
 use Rattle.counter_table.specs.Homes.{home_in}
-use Rattle.counter_table.proofs.LookupBlocks.{written_more}
 use Rattle.counter_table.proofs.look_ups.homes_of_block.Goals as goal
 
 pub homes-init : goal.homes-init

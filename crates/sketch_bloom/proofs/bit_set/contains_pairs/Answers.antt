@@ -1,8 +1,8 @@
 use Rattle.std.proofs.Common.{◌≡◌, ◌+◌, ℕ, List, Bool, false, map, take, get_or, set, refl, ap, ◌∙◌, arith}
 use Rattle.std.proofs.lemmas.List.{get_or-map, get_or-set_other}
+use Rattle.sketch_base.specs.Batches.{written_more, written_all}
 use Rattle.sketch_bloom.specs.BitSet.{set_of}
 use Rattle.sketch_bloom.specs.Pairs.{contains_pair}
-use Rattle.sketch_bloom.proofs.Batches.{written_more, written_all}
 use Rattle.sketch_bloom.proofs.Pairs.{contains_first_of}
 use Rattle.sketch_bloom.proofs.bit_set.contains_pairs.Goals as goal
 

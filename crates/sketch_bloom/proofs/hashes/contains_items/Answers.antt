@@ -1,9 +1,9 @@
 use Rattle.std.proofs.Common.{◌+◌, ◌-◌, ◌*◌, ℕ, map, take, drop, refl, ap, ◌∙◌, arith}
 use Rattle.std.proofs.lemmas.Simd.{map-map}
+use Rattle.sketch_base.specs.Batches.{written_block, written_all}
 use Rattle.sketch_base.specs.Hashes.{fed_bytes}
 use Rattle.sketch_bloom.specs.BitSet.{set_of}
 use Rattle.sketch_bloom.specs.Pairs.{pair_of, contains_pair}
-use Rattle.sketch_bloom.proofs.Batches.{written_block, written_all}
 use Rattle.sketch_bloom.proofs.hashes.contains_items.Goals as goal
 
 pub each-init : goal.each-init

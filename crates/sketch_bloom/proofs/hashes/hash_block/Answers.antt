@@ -1,8 +1,8 @@
 use Rattle.std.proofs.Common.{◌≡◌, ◌+◌, ℕ, take, get_or, set, refl, ap, ◌∙◌, arith}
+use Rattle.sketch_base.specs.Batches.{written_more, written_all}
 use Rattle.sketch_base.specs.Hashes.{fed_bytes}
 use Rattle.sketch_base.specs.Xxh64.{xxh64}
 use Rattle.sketch_bloom.specs.Pairs.{pair_of}
-use Rattle.sketch_bloom.proofs.Batches.{written_more, written_all}
 use Rattle.sketch_bloom.proofs.hashes.hash_block.Goals as goal
 
 pub hashes-init : goal.hashes-init
