@@ -1,5 +1,6 @@
 //! Remainders by a divisor that is known before, without a division.
-ghost use Rattle.std.specs.Prelude.{◌≡◌, ◌%◌, ◌<◌};
+ghost use Rattle.std.specs.Prelude.{◌≡◌, ◌%◌, ◌<◌, IsTrue};
+ghost use Rattle.std.specs.Int.{is_power_of_two};
 ghost use Rattle.sketch_base.specs.Reciprocal.{reciprocal};
 
 use std::marker::Model;
@@ -69,11 +70,38 @@ impl Divisor {
         ensures value { result ≡ a % self }
         ensures below { result < self }
     {
-        if self.divisor.is_power_of_two() {
-            a & self.divisor - 1
+        if self.is_power_of_two() {
+            self.rem_by_mask(a)
         } else {
-            direct_remainder(a, self.multiplier, self.divisor)
+            self.rem_by_products(a)
         }
+    }
+
+    /// Whether it is a power of two. Who takes many remainders asks it once, and then takes the one that fits.
+    #[inline(always)]
+    pub fn is_power_of_two(self) -> bool
+        ensures { result ≡ is_power_of_two self }
+    {
+        self.divisor.is_power_of_two()
+    }
+
+    /// The remainder of `a` by a power of two.
+    #[inline(always)]
+    pub fn rem_by_mask(self, a: u64) -> u64
+        requires { IsTrue (is_power_of_two self) }
+        ensures value { result ≡ a % self }
+        ensures below { result < self }
+    {
+        a & self.divisor - 1
+    }
+
+    /// The remainder of `a`, by two products for each divisor.
+    #[inline(always)]
+    pub fn rem_by_products(self, a: u64) -> u64
+        ensures value { result ≡ a % self }
+        ensures below { result < self }
+    {
+        direct_remainder(a, self.multiplier, self.divisor)
     }
 }
 

@@ -1,7 +1,7 @@
 //! The layer under the sketches: hash functions, byte cursors, families and refusals.
 //!
 //! - [`XxHash64`] and [`MurmurHash3X64128`] hash bytes that come piece by piece, [`xxh64_of`], [`murmur3_of`] and
-//!   [`murmur3_of_u64`] whole items and numbers, [`SeedlessItem`] an item under several seeds, and
+//!   [`murmur3_of_u64`] whole items and numbers, [`SeedlessItem`] an item under several seeds, whose [`ShortBytes`] are kept, and
 //!   [`compute_seed_hash`] seeds. A contract sees each answer as the hash of one whole list of bytes, however they came.
 //! - [`SketchSlice`] reads numbers from bytes, and [`SketchBytes`] writes them. A contract sees the bytes that are
 //!   still unread, and those that were written.
@@ -36,6 +36,7 @@ pub use item_hash::{murmur3_of, murmur3_of_u64, xxh64_of};
 pub use murmurhash::{DEFAULT_UPDATE_SEED, MurmurHash3X64128};
 pub use seed_hash::{check_seed_hash, compute_seed_hash};
 pub use seedless_item::SeedlessItem;
+pub use short_bytes::ShortBytes;
 pub use sketch_bytes::SketchBytes;
 pub use sketch_slice::SketchSlice;
 pub use xxhash::XxHash64;

@@ -1,5 +1,5 @@
 //! An item that is hashed under several seeds.
-ghost use Rattle.std.specs.Prelude.{◌≡◌};
+ghost use Rattle.std.specs.Prelude.{◌≡◌, ◌<◌, IfSome, length};
 ghost use Rattle.sketch_base.specs.Hashes.{fed_bytes};
 ghost use Rattle.sketch_base.specs.Murmur3.{murmur3_x64_128};
 
@@ -50,6 +50,19 @@ impl<'a, T: Hash> SeedlessItem<'a, T> {
         let mut short = ShortBytes::new();
         item.hash(&mut short);
         SeedlessItem { item, short }
+    }
+
+    /// Its bytes, where they are fewer than 16: each hash is then the finalization alone.
+    #[inline(always)]
+    pub fn short(&self) -> Option<&ShortBytes>
+        ensures bytes { IfSome result (λ bytes. bytes.now ≡ self.now) }
+        ensures few { IfSome result (λ bytes. length bytes.now < 16) }
+    {
+        if self.short.len() < 16 {
+            Some(&self.short)
+        } else {
+            None
+        }
     }
 
     /// Both halves of MurmurHash3 x64 128 of all bytes that the item's `Hash` feeds, under a seed.

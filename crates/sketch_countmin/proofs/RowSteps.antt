@@ -74,6 +74,19 @@ rows_added_here d w bucket n old mid new h k in_row place fits e =
     let after : set mid (n * d + bucket n) (get_or mid (n * d + bucket n) (pos 0) +ℤ w) ≡ new = ap (λ (j : ℕ). set mid j (get_or mid j (pos 0) +ℤ w)) (sym place) ∙ sym e in
     subst (λ (cells : List ℤ). RowsAdded d w bucket (n + 1) old cells) after (rows_more d w bucket n old mid h in_row (omega arith))
 
+-- the row n, whose number has two spellings
+pub rows_added_next : (d : ℕ) (w : ℤ) (bucket : ℕ → ℕ) (n m : ℕ) (old mid new : List ℤ) → RowsAdded d w bucket n old mid → m ≡ n + 1
+    → (k : ℕ) → bucket n < d → k ≡ n * d + bucket n → k < length mid → new ≡ set mid k (get_or mid k (pos 0) +ℤ w)
+    → RowsAdded d w bucket m old new
+rows_added_next d w bucket n m old mid new h next k in_row place fits e =
+    subst (λ (l : ℕ). RowsAdded d w bucket l old new) (sym next) (rows_added_here d w bucket n old mid new h k in_row place fits e)
+
+-- cells behind the row n stay
+pub rest_stays : (d n b k j : ℕ) (mid new : List ℤ) (w : ℤ) → k ≡ n * d + b → b < d → (n + 1) * d ≤ j → new ≡ set mid k w → get_or new j (pos 0) ≡ get_or mid j (pos 0)
+rest_stays d n b k j mid new w place in_row le e =
+    let ne : j ≢ k = omega (arith, place) in
+    ap (λ (l : List ℤ). get_or l j (pos 0)) e ∙ get_or-set_other mid k j w (pos 0) ne
+
 -- ---- the least cell
 
 -- what the lesser of two values is

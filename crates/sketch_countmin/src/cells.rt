@@ -2,7 +2,7 @@
 ghost use Rattle.std.specs.Prelude.{◌≡◌, ℕ, ◌+◌, ◌*◌, ◌<◌, ◌≤◌, [], map, length, slice_index, slice_index_or, slice_set, pos, ◌+ℤ◌, unsigned_abs, replicate, vec_len, IfOk, IsTrue, ◌↔◌};
 ghost use Rattle.sketch_base.specs.Hashes.{fed_bytes};
 ghost use Rattle.sketch_countmin.specs.Values.{scaled, halved};
-ghost use Rattle.sketch_countmin.specs.Cells.{cell_in, flat_at, RowsAdded, RowCounted, RowsCounted, IsLeastOf, IsLesser};
+ghost use Rattle.sketch_countmin.specs.Cells.{cell_in, flat_at, RowCounted, RowsCounted, IsLeastOf, IsLesser};
 ghost use Rattle.sketch_countmin.specs.Buckets.{row_seed, bucket_by, buckets_by};
 
 use crate::count_min_value::CountMinValue;
@@ -37,7 +37,7 @@ pub fn zeros<T: CountMinValue>(alloc: Global, size: usize) -> Result<Vec<T>, All
 
 /// Adds the weight to the cell at a place.
 #[inline(always)]
-fn add_at<T: CountMinValue>(counts: &mut [T], place: usize, weight: T)
+pub(crate) fn add_at<T: CountMinValue>(counts: &mut [T], place: usize, weight: T)
     requires bounds { place < length counts.old }
     requires room { unsigned_abs (cell_in (map T.number counts.old) place +ℤ T.number weight) ≤ T.greatest }
     ensures { let cells = map T.number counts.old in
@@ -45,29 +45,6 @@ fn add_at<T: CountMinValue>(counts: &mut [T], place: usize, weight: T)
 {
     let sum = counts[place].to_number() + weight.to_number();
     counts[place] = T::from_number_in_range(sum);
-}
-
-/// Adds the weight at the item's bucket of each row.
-#[inline]
-pub fn add_to_rows<T: CountMinValue, I: Hash>(
-    counts: &mut [T],
-    buckets: Divisor,
-    row_seeds: &[u64],
-    item: &I,
-    weight: T,
-)
-    requires shape { length counts.old ≡ length row_seeds.now * buckets }
-    requires room { (k : ℕ) → unsigned_abs (cell_in (map T.number counts.old) k +ℤ T.number weight) ≤ T.greatest }
-    ensures { RowsAdded buckets (T.number weight)
-        (buckets_by buckets row_seeds.now (fed_bytes I.hash_input item.now))
-        (length row_seeds.now) (map T.number counts.old) (map T.number counts.new) }
-{
-    let columns = buckets.divisor() as usize;
-    let hashed = SeedlessItem::new(item);
-    for (row, seed) in row_seeds.iter().enumerate() {
-        let place = row * columns + buckets.rem(hashed.murmur3(*seed).0) as usize;
-        add_at(counts, place, weight);
-    }
 }
 
 /// Adds 1 at each item's bucket of each row, row after row: the cells of one row stay in a cache for all items.

@@ -12,11 +12,12 @@ ghost use Rattle.sketch_countmin.specs.State.{IsCountState, SameShape, Counts, C
 mod images;
 
 use crate::cells::{
-    add_all, add_to_rows, count_in_rows, halve_all, least_cell, least_cells, row_seeds, same_cells,
-    scale_all, zeros,
+    add_all, count_in_rows, halve_all, least_cell, least_cells, row_seeds, same_cells, scale_all,
+    zeros,
 };
 use crate::count_min_value::CountMinValue;
 use crate::limits::{MAX_TABLE_ENTRIES, MIN_NUM_BUCKETS};
+use crate::rows::add_to_rows;
 use crate::unsigned_count_min_value::UnsignedCountMinValue;
 use sketch_base::{DEFAULT_UPDATE_SEED, Divisor, Error, ErrorKind, Fault, compute_seed_hash};
 use std::alloc::{AllocError, Global};
@@ -182,7 +183,7 @@ impl<T: CountMinValue> CountMinSketch<T> {
     }
 
     /// Counts the item with a weight of 1. As [`update_with_weight`](Self::update_with_weight).
-    #[inline]
+    #[inline(always)]
     pub fn update<I: Hash + Drop>(&mut self, item: I) -> Result<(), Error>
         ensures counted { OnOk result (Counts self.old (fed_bytes I.hash_input item) (pos 1) self.new) }
         ensures state { IsCountState T.greatest self.new }
@@ -201,7 +202,7 @@ impl<T: CountMinValue> CountMinSketch<T> {
     ///
     /// `WeightOverflow` where the distance from zero is not in the type, or the total would pass the type's greatest
     /// value. The sketch is then as it was.
-    #[inline]
+    #[inline(always)]
     pub fn update_with_weight<I: Hash + Drop>(&mut self, item: I, weight: T) -> Result<(), Error>
         ensures zero { T.number weight ≡ pos 0 → IsOk result × (self.new ≡ self.old) }
         ensures counted { OnOk result (Counts self.old (fed_bytes I.hash_input item) (T.number weight) self.new) }

@@ -13,6 +13,7 @@ mod image;
 pub mod laws;
 mod limits;
 mod number_types;
+mod rows;
 mod unsigned_count_min_value;
 
 pub use count_min_sketch::CountMinSketch;

@@ -1,9 +1,9 @@
-use Rattle.std.proofs.Common.{arith, ap, subst, sym, ◌∙◌, ◌≡◌, ℕ, ◌+◌, ◌*◌, ◌<◌, ◌≤◌, map, length, slice_index, ℤ, ◌+ℤ◌, unsigned_abs}
+use Rattle.std.proofs.Common.{arith, refl, ap, subst, sym, ◌∙◌, ◌≡◌, ℕ, ◌+◌, ◌*◌, ◌<◌, ◌≤◌, map, length, slice_index, ℤ, ◌+ℤ◌, unsigned_abs}
 use Rattle.sketch_base.specs.Hashes.{fed_bytes}
 use Rattle.std.proofs.lemmas.List.{length-map}
 use Rattle.sketch_countmin.specs.Buckets.{bucket_by}
 use Rattle.sketch_countmin.proofs.RowSteps.{bucket_found, rows_added_here, inside}
-use Rattle.sketch_countmin.proofs.cells.add_to_rows.Goals as goal
+use Rattle.sketch_countmin.proofs.rows.add_long.Goals as goal
 
 pub add_at-requires-clause-room : goal.add_at-requires-clause-room
 add_at-requires-clause-room g c =
@@ -22,11 +22,10 @@ loop-row-preserved g c =
     let bucket = λ (r : ℕ). bucket_by d (slice_index c.args.row_seeds.now r) (fed_bytes g.I.Hash.hash_input c.args.item.now) in
     let place : ℕ = n * c.divisor-columns.result + c.rem.result in
     let row : n * c.divisor-columns.result ≡ n * d = ap (λ (k : ℕ). n * k) c.divisor-columns.ensures.value in
-    let at : c.rem.result ≡ bucket n = bucket_found d (slice_index c.args.row_seeds.now n) c.rem.result c.murmur3.result _ _ c.rem.ensures.value c.murmur3.ensures c.loop-row.invariant.hashed in
+    let at : c.rem.result ≡ bucket n = bucket_found d (slice_index c.args.row_seeds.now n) c.rem.result c.murmur3_of.result _ _ c.rem.ensures.value c.murmur3_of.ensures refl in
     let in_row : bucket n < d = omega (arith, c.divisor-columns.ensures.above_one, c.divisor-columns.ensures.value) in
     record {
       added = rows_added_here d (num c.args.weight) bucket n (map num c.args.counts.now) (map num c.loop-row.counts) (map num c.add_at.new.counts) c.loop-row.invariant.added place in_row (omega (arith, row, at))
           (subst (λ (l : ℕ). place < l) (sym (length-map c.loop-row.counts num)) (omega (arith, row, at, inside d (length c.args.row_seeds.now) n (bucket n) (length c.loop-row.counts) (c.loop-row.auto.counts ∙ c.requires.shape) c.loop-row-test.true in_row))) c.add_at.ensures;
       columns = c.divisor-columns.ensures.value;
-      hashed = c.new-hashed.ensures;
     }

@@ -1,0 +1,191 @@
+//! The cells of one item, one in each row.
+//!
+//! What a row costs does not wait for the rows before it. So the rows of a short item are taken four at a time: four places
+//! are found before the first cell is touched. Whether there is a power of two of buckets is asked once, outside all
+//! loops.
+ghost use Rattle.std.specs.Prelude.{◌≡◌, ℕ, ◌+◌, ◌*◌, ◌/◌, ◌^◌, ◌<◌, ◌≤◌, map, length, List, ℤ, ◌+ℤ◌, unsigned_abs, IsTrue};
+ghost use Rattle.std.specs.Int.{is_power_of_two};
+ghost use Rattle.sketch_base.specs.Hashes.{fed_bytes};
+ghost use Rattle.sketch_countmin.specs.Cells.{cell_in, RowsAdded};
+ghost use Rattle.sketch_countmin.specs.Buckets.{buckets_by};
+
+use crate::cells::add_at;
+use crate::count_min_value::CountMinValue;
+use sketch_base::{Divisor, SeedlessItem, ShortBytes, murmur3_of};
+use std::hash::Hash;
+
+/// Adds the weight at the item's bucket of each row.
+#[inline(always)]
+pub fn add_to_rows<T: CountMinValue, I: Hash>(
+    counts: &mut [T],
+    buckets: Divisor,
+    row_seeds: &[u64],
+    item: &I,
+    weight: T,
+)
+    requires shape { length counts.old ≡ length row_seeds.now * buckets }
+    requires room { (k : ℕ) → unsigned_abs (cell_in (map T.number counts.old) k +ℤ T.number weight) ≤ T.greatest }
+    ensures { RowsAdded buckets (T.number weight)
+        (buckets_by buckets row_seeds.now (fed_bytes I.hash_input item.now))
+        (length row_seeds.now) (map T.number counts.old) (map T.number counts.new) }
+{
+    let hashed = SeedlessItem::new(item);
+    if buckets.is_power_of_two()
+        && let Some(bytes) = hashed.short()
+    {
+        add_short(counts, buckets, true, row_seeds, bytes, weight);
+        return;
+    }
+    add_any(counts, buckets, row_seeds, item, weight);
+}
+
+/// The same, out of line, so that what stands at a caller is the loop for few bytes and a power of two of buckets.
+#[inline(never)]
+fn add_any<T: CountMinValue, I: Hash>(
+    counts: &mut [T],
+    buckets: Divisor,
+    row_seeds: &[u64],
+    item: &I,
+    weight: T,
+)
+    requires shape { length counts.old ≡ length row_seeds.now * buckets }
+    requires room { (k : ℕ) → unsigned_abs (cell_in (map T.number counts.old) k +ℤ T.number weight) ≤ T.greatest }
+    ensures { RowsAdded buckets (T.number weight)
+        (buckets_by buckets row_seeds.now (fed_bytes I.hash_input item.now))
+        (length row_seeds.now) (map T.number counts.old) (map T.number counts.new) }
+{
+    let hashed = SeedlessItem::new(item);
+    match hashed.short() {
+        Some(bytes) => add_short(counts, buckets, false, row_seeds, bytes, weight),
+        None => add_long(counts, buckets, row_seeds, item, weight),
+    }
+}
+
+/// The same for an item that is hashed anew for each row.
+#[inline(always)]
+fn add_long<T: CountMinValue, I: Hash>(
+    counts: &mut [T],
+    buckets: Divisor,
+    row_seeds: &[u64],
+    item: &I,
+    weight: T,
+)
+    requires shape { length counts.old ≡ length row_seeds.now * buckets }
+    requires room { (k : ℕ) → unsigned_abs (cell_in (map T.number counts.old) k +ℤ T.number weight) ≤ T.greatest }
+    ensures { RowsAdded buckets (T.number weight)
+        (buckets_by buckets row_seeds.now (fed_bytes I.hash_input item.now))
+        (length row_seeds.now) (map T.number counts.old) (map T.number counts.new) }
+{
+    let columns = buckets.divisor() as usize;
+    for (row, seed) in row_seeds.iter().enumerate() {
+        let place = row * columns + buckets.rem(murmur3_of(item, *seed).0) as usize;
+        add_at(counts, place, weight);
+    }
+}
+
+/// Where the cell of few bytes lies in a row: by a mask where that is said, and then there is a power of two of buckets.
+#[inline(always)]
+fn place_in(
+    buckets: Divisor,
+    masked: bool,
+    row_seeds: &[u64],
+    bytes: &ShortBytes,
+    row: usize,
+) -> usize
+    requires masked { IsTrue masked → IsTrue (is_power_of_two buckets) }
+    requires short { length bytes.now < 16 }
+    requires row { row < length row_seeds.now }
+    requires fits { length row_seeds.now * buckets < 2 ^ 64 }
+    ensures place { result ≡ row * buckets + buckets_by buckets row_seeds.now bytes.now row }
+    ensures bucket { buckets_by buckets row_seeds.now bytes.now row < buckets }
+    ensures inside { result < length row_seeds.now * buckets }
+{
+    let hash = bytes.murmur3(row_seeds[row]).0;
+    let bucket = if masked {
+        buckets.rem_by_mask(hash)
+    } else {
+        buckets.rem_by_products(hash)
+    };
+    row * buckets.divisor() as usize + bucket as usize
+}
+
+/// Adds the weight at the bucket of few bytes of each row.
+#[inline(always)]
+fn add_short<T: CountMinValue>(
+    counts: &mut [T],
+    buckets: Divisor,
+    masked: bool,
+    row_seeds: &[u64],
+    bytes: &ShortBytes,
+    weight: T,
+)
+    requires masked { IsTrue masked → IsTrue (is_power_of_two buckets) }
+    requires short { length bytes.now < 16 }
+    requires shape { length counts.old ≡ length row_seeds.now * buckets }
+    requires room { (k : ℕ) → unsigned_abs (cell_in (map T.number counts.old) k +ℤ T.number weight) ≤ T.greatest }
+    ensures { RowsAdded buckets (T.number weight) (buckets_by buckets row_seeds.now bytes.now)
+        (length row_seeds.now) (map T.number counts.old) (map T.number counts.new) }
+{
+    add_to_fours(counts, buckets, masked, row_seeds, bytes, weight);
+    let done = 4 * (row_seeds.len() / 4);
+    add_to_rest(counts, buckets, masked, row_seeds, bytes, weight, done);
+}
+
+/// Adds the weight at the bucket of few bytes of each row, of as many fours of rows as there are.
+#[inline(always)]
+fn add_to_fours<T: CountMinValue>(
+    counts: &mut [T],
+    buckets: Divisor,
+    masked: bool,
+    row_seeds: &[u64],
+    bytes: &ShortBytes,
+    weight: T,
+)
+    requires masked { IsTrue masked → IsTrue (is_power_of_two buckets) }
+    requires short { length bytes.now < 16 }
+    requires shape { length counts.old ≡ length row_seeds.now * buckets }
+    requires room { (k : ℕ) → unsigned_abs (cell_in (map T.number counts.old) k +ℤ T.number weight) ≤ T.greatest }
+    ensures { RowsAdded buckets (T.number weight) (buckets_by buckets row_seeds.now bytes.now)
+        (4 * (length row_seeds.now / 4)) (map T.number counts.old) (map T.number counts.new) }
+{
+    for four in 0..row_seeds.len() / 4 {
+        let row = 4 * four;
+        let first = place_in(buckets, masked, row_seeds, bytes, row);
+        let second = place_in(buckets, masked, row_seeds, bytes, row + 1);
+        let third = place_in(buckets, masked, row_seeds, bytes, row + 2);
+        let fourth = place_in(buckets, masked, row_seeds, bytes, row + 3);
+        add_at(counts, first, weight);
+        add_at(counts, second, weight);
+        add_at(counts, third, weight);
+        add_at(counts, fourth, weight);
+    }
+}
+
+/// Adds the weight at the bucket of few bytes of each row from one on.
+#[inline(always)]
+fn add_to_rest<T: CountMinValue>(
+    counts: &mut [T],
+    buckets: Divisor,
+    masked: bool,
+    row_seeds: &[u64],
+    bytes: &ShortBytes,
+    weight: T,
+    from: usize,
+)
+    requires masked { IsTrue masked → IsTrue (is_power_of_two buckets) }
+    requires short { length bytes.now < 16 }
+    requires shape { length counts.old ≡ length row_seeds.now * buckets }
+    requires from { from ≤ length row_seeds.now }
+    requires room { (k : ℕ) → from * buckets ≤ k
+        → unsigned_abs (cell_in (map T.number counts.old) k +ℤ T.number weight) ≤ T.greatest }
+    ensures { (before : List ℤ)
+        → RowsAdded buckets (T.number weight) (buckets_by buckets row_seeds.now bytes.now)
+        from before (map T.number counts.old)
+        → RowsAdded buckets (T.number weight) (buckets_by buckets row_seeds.now bytes.now)
+        (length row_seeds.now) before (map T.number counts.new) }
+{
+    for row in from..row_seeds.len() {
+        let place = place_in(buckets, masked, row_seeds, bytes, row);
+        add_at(counts, place, weight);
+    }
+}
