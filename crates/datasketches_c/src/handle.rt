@@ -1,0 +1,89 @@
+//! What C holds of a sketch.
+ghost use Rattle.std.specs.Prelude.{◌≡◌, Option, None, Some, MatchOption};
+ghost use Rattle.std.specs.Coded.{coded_option};
+ghost use Rattle.datasketches_c.specs.contracts.any_sketch.AnySketch as any_sketch;
+ghost use Rattle.datasketches_c.specs.declared.any_sketch.AnySketch as sketch;
+
+use crate::any_sketch::AnySketch;
+use crate::raw_box::RawBox;
+use std::alloc::Global;
+use std::marker::Model;
+
+/// A sketch on the heap, or none where the pointer is null.
+#[repr(C)]
+pub struct SketchHandle {
+    pub(crate) pointer: *mut u8,
+    pub(crate) alloc: Global,
+    pub(crate) ghost value: { Option sketch.AnySketch } by { coded_option any_sketch.the_row.coded },
+}
+
+impl Model for SketchHandle {
+    ghost use Rattle.std.specs.contracts.impls.GlobalAllocator.TheImpl.{ghosts};
+    ghost use Rattle.datasketches_c.specs.contracts.any_sketch.AnySketch as any_sketch;
+    ghost use Rattle.datasketches_c.specs.Holding.{holds};
+
+    ghost also_owns = { λ handle.
+        holds (ghosts.dealloc_token handle.alloc) any_sketch.the_row handle.pointer handle.value };
+}
+
+impl SketchHandle {
+    /// The handle of no sketch.
+    pub(crate) fn none(alloc: Global) -> SketchHandle
+        ensures { result.value ≡ None }
+    {
+        SketchHandle {
+            pointer: std::ptr::null_mut(),
+            alloc,
+        }
+    }
+
+    fn from_raw_box(raw: RawBox<AnySketch, Global>) -> SketchHandle
+        ensures { result.value ≡ Some raw.value }
+    {
+        let RawBox { pointer, alloc } = raw;
+        SketchHandle {
+            pointer: pointer as *mut u8,
+            alloc,
+        }
+    }
+
+    fn into_raw_box(self) -> Option<RawBox<AnySketch, Global>>
+        ensures { MatchOption result (self.value ≡ None) (λ raw. self.value ≡ Some raw.value) }
+    {
+        let SketchHandle { pointer, alloc } = self;
+        if pointer.is_null() {
+            return None;
+        }
+        Some(RawBox {
+            pointer: pointer as *mut AnySketch,
+            alloc,
+        })
+    }
+
+    /// The handle of a sketch.
+    pub(crate) fn of(sketch: Box<AnySketch>) -> SketchHandle
+        ensures { result.value ≡ Some sketch.value }
+    {
+        SketchHandle::from_raw_box(RawBox::of(sketch))
+    }
+
+    /// The sketch of a handle.
+    pub(crate) fn into_box(self) -> Option<Box<AnySketch>>
+        ensures { MatchOption result (self.value ≡ None) (λ boxed. self.value ≡ Some boxed.value) }
+    {
+        match self.into_raw_box() {
+            None => None,
+            Some(raw) => Some(raw.into_box()),
+        }
+    }
+}
+
+/// Gives the sketch's memory back, where there is a sketch.
+impl Drop for SketchHandle {
+    fn drop(self) {
+        drop(self.into_box());
+    }
+}
+
+// A thread may hand a handle to another: it owns its sketch alone. The law is proved.
+unsafe impl Send for SketchHandle {}

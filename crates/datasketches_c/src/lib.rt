@@ -1,0 +1,6 @@
+//! Sketches for C: each behind one pointer, with calls whose contracts are those of the libraries.
+#![tactic(auto)]
+
+pub mod any_sketch;
+mod handle;
+mod raw_box;
