@@ -1,11 +1,14 @@
 //! What C holds of a sketch.
 ghost use Rattle.std.specs.Prelude.{◌≡◌, Option, None, Some, MatchOption};
 ghost use Rattle.std.specs.Coded.{coded_option};
+ghost use Rattle.datasketches_c.specs.Numbers.{OnDone, OnRefused, ok, refusal_number};
 ghost use Rattle.datasketches_c.specs.contracts.any_sketch.AnySketch as any_sketch;
 ghost use Rattle.datasketches_c.specs.declared.any_sketch.AnySketch as sketch;
 
 use crate::any_sketch::AnySketch;
 use crate::raw_box::RawBox;
+use crate::status_code::{OK, refusal_number};
+use sketch_base::Fault;
 use std::alloc::Global;
 use std::marker::Model;
 
@@ -74,6 +77,21 @@ impl SketchHandle {
         match self.into_raw_box() {
             None => None,
             Some(raw) => Some(raw.into_box()),
+        }
+    }
+
+    /// Puts a sketch in place of what the handle has, which is freed.
+    pub(crate) fn put(&mut self, alloc: Global, sketch: AnySketch) -> i32
+        ensures done { OnDone result ((result ≡ ok) × (self.new.value ≡ Some sketch)) }
+        ensures refused { OnRefused result
+            ((result ≡ refusal_number Fault.NoMemory) × (self.new.value ≡ self.old.value)) }
+    {
+        match Box::new(alloc, sketch) {
+            Ok(boxed) => {
+                *self = SketchHandle::of(boxed);
+                OK
+            }
+            Err(_) => refusal_number(Fault::NoMemory),
         }
     }
 }

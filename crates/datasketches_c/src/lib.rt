@@ -2,5 +2,7 @@
 #![tactic(auto)]
 
 pub mod any_sketch;
+mod filter;
 mod handle;
 mod raw_box;
+pub mod status_code;

@@ -1,0 +1,68 @@
+//! The numbers that calls answer.
+ghost use Rattle.std.specs.Prelude.{◌≡◌};
+ghost use Rattle.datasketches_c.specs.Numbers.{refusal_number};
+
+use sketch_base::Fault;
+
+/// The call was done.
+pub const OK: i32 = 0;
+
+/// No, as the answer to a question.
+pub const NO: i32 = 0;
+
+/// Yes, as the answer to a question.
+pub const YES: i32 = 1;
+
+/// The handle has no sketch.
+pub const NO_SKETCH: i32 = -1;
+
+/// The handle's sketch is of a kind that does not know the call.
+pub const WRONG_KIND: i32 = -2;
+
+/// A buffer of the caller's has not the length that the call needs.
+pub const NO_ROOM: i32 = -3;
+
+/// A fraction is not above 0 and at most 1.
+pub const BAD_FRACTION: i32 = -4;
+
+/// The number of a refusal for this fault: from -11 on.
+pub(crate) fn refusal_number(fault: Fault) -> i32
+    ensures { result ≡ refusal_number fault }
+{
+    match fault {
+        Fault::BadNumBits => -11,
+        Fault::BadNumHashes => -12,
+        Fault::BadNumBuckets => -13,
+        Fault::TableTooLarge => -14,
+        Fault::ZeroSeedHash => -15,
+        Fault::Mismatch => -16,
+        Fault::WeightOverflow => -17,
+        Fault::MapSizeNotPowerOfTwo => -18,
+        Fault::MapSizeTooSmall => -19,
+        Fault::MapSizeTooLarge => -20,
+        Fault::ItemTooLong => -21,
+        Fault::InsufficientData => -22,
+        Fault::BadFamily => -23,
+        Fault::BadVersion => -24,
+        Fault::BadPreamble => -25,
+        Fault::BadNumWords => -26,
+        Fault::BadBitCount => -27,
+        Fault::SeedHashMismatch => -28,
+        Fault::ValueOutOfRange => -29,
+        Fault::NegativeTotal => -30,
+        Fault::CellAboveTotal => -31,
+        Fault::LgCurTooSmall => -32,
+        Fault::LgMaxTooLarge => -33,
+        Fault::LgCurAboveMax => -34,
+        Fault::EmptyFlagMismatch => -35,
+        Fault::TooManyActive => -36,
+        Fault::ZeroTotal => -37,
+        Fault::WeightsExceedTotal => -38,
+        Fault::ErrorExceedsTotal => -39,
+        Fault::InvalidUtf8 => -40,
+        Fault::BadItem => -41,
+        Fault::NoMemory => -42,
+        Fault::BadSampleSize => -43,
+        Fault::BadWindows => -44,
+    }
+}
