@@ -1,3 +1,4 @@
 pub mod Holding
+pub mod Joining
 pub mod Kinds
 pub mod Numbers

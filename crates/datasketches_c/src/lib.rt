@@ -3,6 +3,7 @@
 
 pub mod any_sketch;
 mod filter;
+mod filter_sets;
 mod handle;
 mod raw_box;
 pub mod status_code;
