@@ -1,2 +1,3 @@
-pub mod Words
 pub mod Handles
+pub mod Reading
+pub mod Words

@@ -1,12 +1,42 @@
 -- What a call for one kind of sketch says of a handle that may hold any.
 use Rattle.std.specs.Prelude.{◌≡◌, Option, Some, None, ℤ}
 use Rattle.sketch_bloom.specs.State.{FilterState}
+use Rattle.sketch_countmin.specs.State.{CountState}
 use Rattle.datasketches_c.specs.Numbers.{no_sketch, wrong_kind}
 use Rattle.datasketches_c.specs.declared.any_sketch.AnySketch.{AnySketch}
-use Rattle.datasketches_c.specs.declared.any_sketch.AnySketch.TheVariants.{Filter}
+use Rattle.datasketches_c.specs.declared.any_sketch.AnySketch.TheVariants.{Filter, CountI64, CountU64}
 
--- of a filter what is said, and else that the call was refused and left the handle as it was
+-- the call was refused for want of a sketch of its kind, and left the handle as it was
+abbrev pub IsOfNoUse : (old new : Option AnySketch) → ℤ → Type 0
+IsOfNoUse None new result = (result ≡ no_sketch) × (new ≡ None)
+IsOfNoUse old new result = (result ≡ wrong_kind) × (new ≡ old)
+
+-- of a filter what is said, and else that the call was refused
 abbrev pub OnFilter : (old new : Option AnySketch) → ℤ → (FilterState → Type 0) → Type 0
 OnFilter (Some (Filter s)) new result said = said s
-OnFilter None new result said = (result ≡ no_sketch) × (new ≡ None)
-OnFilter old new result said = (result ≡ wrong_kind) × (new ≡ old)
+OnFilter old new result said = IsOfNoUse old new result
+
+-- the same of a Count-Min sketch in `i64`
+abbrev pub OnCountI64 : (old new : Option AnySketch) → ℤ → (CountState → Type 0) → Type 0
+OnCountI64 (Some (CountI64 s)) new result said = said s
+OnCountI64 old new result said = IsOfNoUse old new result
+
+-- the same of a Count-Min sketch in `u64`
+abbrev pub OnCountU64 : (old new : Option AnySketch) → ℤ → (CountState → Type 0) → Type 0
+OnCountU64 (Some (CountU64 s)) new result said = said s
+OnCountU64 old new result said = IsOfNoUse old new result
+
+-- there is a filter, of which this holds
+abbrev pub HoldsFilter : Option AnySketch → (FilterState → Type 0) → Type 0
+HoldsFilter (Some (Filter s)) said = said s
+HoldsFilter held said = ⊥
+
+-- there is a Count-Min sketch in `i64`, of which this holds
+abbrev pub HoldsCountI64 : Option AnySketch → (CountState → Type 0) → Type 0
+HoldsCountI64 (Some (CountI64 s)) said = said s
+HoldsCountI64 held said = ⊥
+
+-- there is a Count-Min sketch in `u64`, of which this holds
+abbrev pub HoldsCountU64 : Option AnySketch → (CountState → Type 0) → Type 0
+HoldsCountU64 (Some (CountU64 s)) said = said s
+HoldsCountU64 held said = ⊥

@@ -4,6 +4,8 @@
 pub mod any_sketch;
 mod filter;
 mod filter_sets;
+mod filter_state;
 mod handle;
+mod images;
 mod raw_box;
 pub mod status_code;
