@@ -136,32 +136,6 @@ fn scale_by<T: UnsignedCountMinValue>(value: T, fraction: &Fraction) -> T
     T::from_number_in_range(scaled as i128)
 }
 
-/// The least of the item's cells.
-#[inline]
-pub fn least_cell<T: CountMinValue, I: Hash>(
-    counts: &[T],
-    buckets: Divisor,
-    row_seeds: &[u64],
-    item: &I,
-) -> T
-    requires shape { length counts.now ≡ length row_seeds.now * buckets }
-    requires rows { 0 < length row_seeds.now }
-    ensures { IsLeastOf buckets (map T.number counts.now)
-        (buckets_by buckets row_seeds.now (fed_bytes I.hash_input item.now))
-        (length row_seeds.now) (T.number result) }
-{
-    let columns = buckets.divisor() as usize;
-    let hashed = SeedlessItem::new(item);
-    let first = buckets.rem(hashed.murmur3(row_seeds[0]).0) as usize;
-    let mut least = counts[first];
-    for row in 1..row_seeds.len() {
-        let place = row * columns + buckets.rem(hashed.murmur3(row_seeds[row]).0) as usize;
-        let cell = counts[place];
-        least = least.min(cell);
-    }
-    least
-}
-
 /// Writes down the least of each item's cells, row after row: the cells of one row stay in a cache for all items.
 #[inline]
 pub fn least_cells<T: CountMinValue, I: Hash>(

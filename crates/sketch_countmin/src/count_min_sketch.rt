@@ -12,12 +12,11 @@ ghost use Rattle.sketch_countmin.specs.State.{IsCountState, SameShape, Counts, C
 mod images;
 
 use crate::cells::{
-    add_all, count_in_rows, halve_all, least_cell, least_cells, row_seeds, same_cells, scale_all,
-    zeros,
+    add_all, count_in_rows, halve_all, least_cells, row_seeds, same_cells, scale_all, zeros,
 };
 use crate::count_min_value::CountMinValue;
 use crate::limits::{MAX_TABLE_ENTRIES, MIN_NUM_BUCKETS};
-use crate::rows::add_to_rows;
+use crate::rows::{add_to_rows, least_cell};
 use crate::unsigned_count_min_value::UnsignedCountMinValue;
 use sketch_base::{DEFAULT_UPDATE_SEED, Divisor, Error, ErrorKind, Fault, compute_seed_hash};
 use std::alloc::{AllocError, Global};

@@ -6,7 +6,7 @@
 ghost use Rattle.std.specs.Prelude.{◌≡◌, ℕ, ◌+◌, ◌*◌, ◌/◌, ◌^◌, ◌<◌, ◌≤◌, map, length, List, ℤ, ◌+ℤ◌, unsigned_abs, IsTrue};
 ghost use Rattle.std.specs.Int.{is_power_of_two};
 ghost use Rattle.sketch_base.specs.Hashes.{fed_bytes};
-ghost use Rattle.sketch_countmin.specs.Cells.{cell_in, RowsAdded};
+ghost use Rattle.sketch_countmin.specs.Cells.{cell_in, RowsAdded, IsLeastOf, IsLeastFrom};
 ghost use Rattle.sketch_countmin.specs.Buckets.{buckets_by};
 
 use crate::cells::add_at;
@@ -188,4 +188,109 @@ fn add_to_rest<T: CountMinValue>(
         let place = place_in(buckets, masked, row_seeds, bytes, row);
         add_at(counts, place, weight);
     }
+}
+
+/// The least of the item's cells.
+#[inline]
+pub fn least_cell<T: CountMinValue, I: Hash>(
+    counts: &[T],
+    buckets: Divisor,
+    row_seeds: &[u64],
+    item: &I,
+) -> T
+    requires shape { length counts.now ≡ length row_seeds.now * buckets }
+    requires rows { 0 < length row_seeds.now }
+    ensures { IsLeastOf buckets (map T.number counts.now)
+        (buckets_by buckets row_seeds.now (fed_bytes I.hash_input item.now))
+        (length row_seeds.now) (T.number result) }
+{
+    let hashed = SeedlessItem::new(item);
+    if row_seeds.len() >= 4
+        && buckets.is_power_of_two()
+        && let Some(bytes) = hashed.short()
+    {
+        return least_short(counts, buckets, true, row_seeds, bytes);
+    }
+    least_any(counts, buckets, row_seeds, item)
+}
+
+/// The same, row by row.
+#[inline]
+fn least_any<T: CountMinValue, I: Hash>(
+    counts: &[T],
+    buckets: Divisor,
+    row_seeds: &[u64],
+    item: &I,
+) -> T
+    requires shape { length counts.now ≡ length row_seeds.now * buckets }
+    requires rows { 0 < length row_seeds.now }
+    ensures { IsLeastOf buckets (map T.number counts.now)
+        (buckets_by buckets row_seeds.now (fed_bytes I.hash_input item.now))
+        (length row_seeds.now) (T.number result) }
+{
+    let columns = buckets.divisor() as usize;
+    let hashed = SeedlessItem::new(item);
+    let first = buckets.rem(hashed.murmur3(row_seeds[0]).0) as usize;
+    let mut least = counts[first];
+    for row in 1..row_seeds.len() {
+        let place = row * columns + buckets.rem(hashed.murmur3(row_seeds[row]).0) as usize;
+        let cell = counts[place];
+        least = least.min(cell);
+    }
+    least
+}
+
+/// The least of the cells of few bytes, in four rows or more.
+#[inline(always)]
+fn least_short<T: CountMinValue>(
+    counts: &[T],
+    buckets: Divisor,
+    masked: bool,
+    row_seeds: &[u64],
+    bytes: &ShortBytes,
+) -> T
+    requires masked { IsTrue masked → IsTrue (is_power_of_two buckets) }
+    requires short { length bytes.now < 16 }
+    requires shape { length counts.now ≡ length row_seeds.now * buckets }
+    requires rows { 4 ≤ length row_seeds.now }
+    ensures { IsLeastOf buckets (map T.number counts.now) (buckets_by buckets row_seeds.now bytes.now)
+        (length row_seeds.now) (T.number result) }
+{
+    let mut least = least_of_four(counts, buckets, masked, row_seeds, bytes, 0);
+    for four in 1..row_seeds.len() / 4 {
+        let more = least_of_four(counts, buckets, masked, row_seeds, bytes, 4 * four);
+        least = least.min(more);
+    }
+    for row in 4 * (row_seeds.len() / 4)..row_seeds.len() {
+        let cell = counts[place_in(buckets, masked, row_seeds, bytes, row)];
+        least = least.min(cell);
+    }
+    least
+}
+
+/// The least of the cells of few bytes in four rows from one on.
+#[inline(always)]
+fn least_of_four<T: CountMinValue>(
+    counts: &[T],
+    buckets: Divisor,
+    masked: bool,
+    row_seeds: &[u64],
+    bytes: &ShortBytes,
+    row: usize,
+) -> T
+    requires masked { IsTrue masked → IsTrue (is_power_of_two buckets) }
+    requires short { length bytes.now < 16 }
+    requires shape { length counts.now ≡ length row_seeds.now * buckets }
+    requires rows { row + 4 ≤ length row_seeds.now }
+    ensures { IsLeastFrom buckets (map T.number counts.now) (buckets_by buckets row_seeds.now bytes.now)
+        row (row + 4) (T.number result) }
+{
+    let first = place_in(buckets, masked, row_seeds, bytes, row);
+    let second = place_in(buckets, masked, row_seeds, bytes, row + 1);
+    let third = place_in(buckets, masked, row_seeds, bytes, row + 2);
+    let fourth = place_in(buckets, masked, row_seeds, bytes, row + 3);
+    let one = counts[first];
+    let two = one.min(counts[second]);
+    let three = two.min(counts[third]);
+    three.min(counts[fourth])
 }

@@ -2,7 +2,7 @@ use Rattle.std.proofs.Common.{◌≡◌, map, slice_index}
 use Rattle.sketch_base.specs.Hashes.{fed_bytes}
 use Rattle.sketch_countmin.specs.Buckets.{bucket_by}
 use Rattle.sketch_countmin.specs.Cells.{IsLeastOf}
-use Rattle.sketch_countmin.proofs.cells.least_cell.Given as goal
+use Rattle.sketch_countmin.proofs.rows.least_any.Given as goal
 
 abbrev pub invariant-loop-row : goal.invariant-loop-row
 invariant-loop-row g l = record {

@@ -2,7 +2,7 @@ use Rattle.std.proofs.Common.{arith, ap, ◌≡◌, ℕ, ◌+◌, ◌*◌, ◌<�
 use Rattle.sketch_base.specs.Hashes.{fed_bytes}
 use Rattle.sketch_countmin.specs.Buckets.{bucket_by}
 use Rattle.sketch_countmin.proofs.RowSteps.{bucket_found, inside, least_first, least_more}
-use Rattle.sketch_countmin.proofs.cells.least_cell.Goals as goal
+use Rattle.sketch_countmin.proofs.rows.least_any.Goals as goal
 
 pub loop-row-init : goal.loop-row-init
 loop-row-init g c =
