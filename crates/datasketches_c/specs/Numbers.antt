@@ -1,5 +1,5 @@
 -- The numbers that calls answer. Below 0 stands a refusal.
-use Rattle.std.specs.Prelude.{ℤ, pos, negsuc}
+use Rattle.std.specs.Prelude.{ℕ, ℤ, pos, negsuc}
 use Rattle.sketch_base.specs.declared.fault.Fault.{Fault}
 use Rattle.sketch_base.specs.declared.fault.Fault.TheVariants as fault
 
@@ -77,3 +77,10 @@ refusal_number fault.BadItem = negsuc 40
 refusal_number fault.NoMemory = negsuc 41
 refusal_number fault.BadSampleSize = negsuc 42
 refusal_number fault.BadWindows = negsuc 43
+
+-- the greatest numbers of the two types
+abbrev pub greatest_i64 : ℕ
+greatest_i64 = 9223372036854775807
+
+abbrev pub greatest_u64 : ℕ
+greatest_u64 = 18446744073709551615

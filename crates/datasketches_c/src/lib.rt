@@ -2,6 +2,7 @@
 #![tactic(auto)]
 
 pub mod any_sketch;
+mod count_u64;
 mod filter;
 mod filter_sets;
 mod filter_state;
