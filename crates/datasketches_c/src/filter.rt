@@ -16,6 +16,7 @@ use crate::status_code::{NO, NO_ROOM, NO_SKETCH, OK, WRONG_KIND, YES, refusal_nu
 use sketch_base::Fault;
 use sketch_bloom::BloomFilterBuilder;
 use std::alloc::Global;
+use std::hash::Hash;
 use std::mem::replace;
 
 /// Makes a filter of at least so many bits in place of what the handle has, which is freed.
@@ -110,15 +111,11 @@ pub extern "C" fn ds_filter_insert_text(
     answer
 }
 
-/// Inserts many numbers of this type, as one after another, and faster.
-#[unsafe(no_mangle)]
-pub extern "C" fn ds_filter_insert_all_u64(
-    alloc: Global,
-    handle: &mut SketchHandle,
-    items: &[u64],
-) -> i32
+/// Inserts many items, for the calls below.
+#[inline]
+fn insert_all<I: Hash>(alloc: Global, handle: &mut SketchHandle, items: &[I]) -> i32
     ensures { OnFilter handle.old.value handle.new.value result (λ s.
-        (result ≡ ok) × (handle.new.value ≡ Some (Filter (all_inserted s (map (fed_bytes fed.u64) items.now))))) }
+        (result ≡ ok) × (handle.new.value ≡ Some (Filter (all_inserted s (map (fed_bytes I.hash_input) items.now))))) }
 {
     let Some(mut sketch) = replace(handle, SketchHandle::none(alloc)).into_box() else {
         return NO_SKETCH;
@@ -136,6 +133,19 @@ pub extern "C" fn ds_filter_insert_all_u64(
 
 /// Inserts many numbers of this type, as one after another, and faster.
 #[unsafe(no_mangle)]
+pub extern "C" fn ds_filter_insert_all_u64(
+    alloc: Global,
+    handle: &mut SketchHandle,
+    items: &[u64],
+) -> i32
+    ensures { OnFilter handle.old.value handle.new.value result (λ s.
+        (result ≡ ok) × (handle.new.value ≡ Some (Filter (all_inserted s (map (fed_bytes fed.u64) items.now))))) }
+{
+    insert_all(alloc, handle, items)
+}
+
+/// Inserts many numbers of this type, as one after another, and faster.
+#[unsafe(no_mangle)]
 pub extern "C" fn ds_filter_insert_all_i64(
     alloc: Global,
     handle: &mut SketchHandle,
@@ -144,18 +154,7 @@ pub extern "C" fn ds_filter_insert_all_i64(
     ensures { OnFilter handle.old.value handle.new.value result (λ s.
         (result ≡ ok) × (handle.new.value ≡ Some (Filter (all_inserted s (map (fed_bytes fed.i64) items.now))))) }
 {
-    let Some(mut sketch) = replace(handle, SketchHandle::none(alloc)).into_box() else {
-        return NO_SKETCH;
-    };
-    let answer = match &mut *sketch {
-        AnySketch::Filter(filter) => {
-            filter.insert_all(items);
-            OK
-        }
-        _ => WRONG_KIND,
-    };
-    *handle = SketchHandle::of(sketch);
-    answer
+    insert_all(alloc, handle, items)
 }
 
 /// Whether the filter contains a number: 1 or 0.
