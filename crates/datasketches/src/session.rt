@@ -287,7 +287,12 @@ impl<T: FrequentItemValue + Clone + Drop> Session<T> {
         Ok(Reply::Done)
     }
 
-    fn load(&mut self, new_name: String, image: Image, most_bytes: usize) -> Result<Reply<T>, Refusal>
+    fn load(
+        &mut self,
+        new_name: String,
+        image: Image,
+        most_bytes: usize,
+    ) -> Result<Reply<T>, Refusal>
         ensures { Loads (option_bytes T.row) T.eq T.codec T.content image most_bytes (string_bytes new_name) self.old (told result) self.new }
     {
         if self.sketches.get(new_name.as_str()).is_some() {
