@@ -1,3 +1,4 @@
 pub mod Handles
 pub mod Reading
+pub mod ReadingCounts
 pub mod Words

@@ -1,16 +1,23 @@
--- Images that are read.
-use Rattle.std.proofs.Common.{◌≡◌, ℕ, ◌*◌, ◌≤◌, Bool, List, Option, Some, None, ℤ, pos, negsuc, cond, ap, subst, inl}
+-- Images that are read, and refusals to write one.
+use Rattle.std.proofs.Common.{◌≡◌, ℕ, ◌*◌, ◌≤◌, Bool, List, Option, Some, None, ℤ, pos, negsuc, cond, ap, subst, inl, inr, refl}
 use Rattle.std.proofs.lemmas.Bool.{le-ltb}
-use Rattle.sketch_base.specs.Checks.{or_else}
+use Rattle.sketch_base.specs.Checks.{or_else, IsImageRefusal}
+use Rattle.sketch_base.specs.Errors.{ErrorValue}
 use Rattle.sketch_base.specs.declared.fault.Fault.{Fault}
 use Rattle.sketch_base.specs.declared.fault.Fault.TheVariants.{NoMemory, TableTooLarge}
+use Rattle.counter_table.specs.Bytes.{table_bytes}
 use Rattle.sketch_bloom.specs.Image.{IsImage, early_fault, early_fault_within, limit_fault, num_words_at}
 use Rattle.sketch_bloom.specs.State.{FilterState}
+use Rattle.sketch_frequencies.specs.Image as frequent
+use Rattle.sketch_frequencies.specs.Items.{Codec}
+use Rattle.sketch_frequencies.specs.State.{FrequentState}
+use denote.RattleType.{RattleType}
+use Rattle.datasketches_c.specs.FrequentImages.{WritesFrequent}
 use Rattle.datasketches_c.specs.Images.{IsRefusedImage}
 use Rattle.datasketches_c.specs.Numbers.{OnRefused, refusal_number}
 
 -- where neither an image nor the limit has a fault, none comes before memory
-none_before : (early limit late : Option Fault) → or_else early late ≡ None → limit ≡ None → or_else early limit ≡ None
+pub none_before : (early limit late : Option Fault) → or_else early late ≡ None → limit ≡ None → or_else early limit ≡ None
 none_before None limit late e h = h
 none_before (Some fault) limit late e h = cc
 
@@ -22,8 +29,29 @@ no_early_fault most_bytes image s is within =
     none_before (early_fault image) (limit_fault most_bytes image) _ is.no_fault
     (ap (λ (t : Bool). cond t (Some TableTooLarge) None) (le-ltb most_bytes (8 * num_words_at image) in_image))
 
+-- the same of an image of frequent items
+pub no_early_fault_of_items : {T C : Type 0} (item : RattleType) (codec : Codec C) (content : T → C) (most_bytes : ℕ) (image : List ℕ) (s : FrequentState T)
+    → frequent.IsImageOf codec content image s → table_bytes item s.size ≤ most_bytes
+    → frequent.early_fault_within item most_bytes image ≡ None
+no_early_fault_of_items item codec content most_bytes image s is within =
+    let in_image : table_bytes item (frequent.restored_size image) ≤ most_bytes = subst (λ (n : ℕ). table_bytes item n ≤ most_bytes) is.size within in
+    none_before (frequent.early_fault image) (frequent.limit_fault item most_bytes image) _ is.no_fault
+    (ap (λ (t : Bool). cond t (Some TableTooLarge) None) (le-ltb most_bytes (table_bytes item (frequent.restored_size image)) in_image))
+
 -- where memory alone was refused, that is what an image without an early fault is refused for
 pub refused_for_memory : (result : ℤ) (Kept : Type 0) (before whole : Option Fault) → before ≡ None
     → OnRefused result ((result ≡ refusal_number NoMemory) × Kept) → OnRefused result (Kept × IsRefusedImage before whole result)
 refused_for_memory (pos n) Kept before whole none said = tt
 refused_for_memory (negsuc n) Kept before whole none said = (said.1, inl (said.0, none))
+
+-- a refusal to write an image, by its number
+pub refused_to_write : {T C : Type 0} (codec : Codec C) (content : T → C) (s : FrequentState T) (old new : List ℕ) (written : ℕ) (e : ErrorValue)
+    → frequent.IsImageWritingRefusal codec content s.counters e → WritesFrequent codec content s old new written (refusal_number e.fault)
+refused_to_write codec content s old new written e (inl is) = inl (inr (inr (ap (λ (x : ErrorValue). refusal_number x.fault) is)))
+refused_to_write codec content s old new written e (inr is) = inr (e.fault, refl, is.1)
+
+-- a refusal to read one
+pub refused_to_read : (before whole : Option Fault) (e : ErrorValue) → IsImageRefusal before whole e
+    → IsRefusedImage before whole (refusal_number e.fault)
+refused_to_read before whole e (inl is) = inl (ap (λ (x : ErrorValue). refusal_number x.fault) is.0, is.1)
+refused_to_read before whole e (inr is) = inr (e.fault, is.1, refl)

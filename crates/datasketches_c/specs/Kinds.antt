@@ -1,10 +1,13 @@
 -- What a call for one kind of sketch says of a handle that may hold any.
-use Rattle.std.specs.Prelude.{◌≡◌, Option, Some, None, ℤ}
+use Rattle.std.specs.Prelude.{◌≡◌, ℕ, ℤ, Option, Some, None}
+use Rattle.std.specs.Global.{Global}
+use Rattle.std.specs.declared.string.String.{String}
 use Rattle.sketch_bloom.specs.State.{FilterState}
 use Rattle.sketch_countmin.specs.State.{CountState}
+use Rattle.sketch_frequencies.specs.State.{FrequentState}
 use Rattle.datasketches_c.specs.Numbers.{no_sketch, wrong_kind}
 use Rattle.datasketches_c.specs.declared.any_sketch.AnySketch.{AnySketch}
-use Rattle.datasketches_c.specs.declared.any_sketch.AnySketch.TheVariants.{Filter, CountI64, CountU64}
+use Rattle.datasketches_c.specs.declared.any_sketch.AnySketch.TheVariants.{Filter, CountI64, CountU64, FrequentI64, FrequentTexts, FrequentU64}
 
 -- the call was refused for want of a sketch of its kind, and left the handle as it was
 abbrev pub IsOfNoUse : (old new : Option AnySketch) → ℤ → Type 0
@@ -40,3 +43,33 @@ HoldsCountI64 held said = ⊥
 abbrev pub HoldsCountU64 : Option AnySketch → (CountState → Type 0) → Type 0
 HoldsCountU64 (Some (CountU64 s)) said = said s
 HoldsCountU64 held said = ⊥
+
+-- of a frequent-items sketch of items of type `i64` what is said, and else that the call was refused
+abbrev pub OnFrequentI64 : (old new : Option AnySketch) → ℤ → (FrequentState ℤ → Type 0) → Type 0
+OnFrequentI64 (Some (FrequentI64 s)) new result said = said s
+OnFrequentI64 old new result said = IsOfNoUse old new result
+
+-- the same of items of type `u64`
+abbrev pub OnFrequentU64 : (old new : Option AnySketch) → ℤ → (FrequentState ℕ → Type 0) → Type 0
+OnFrequentU64 (Some (FrequentU64 s)) new result said = said s
+OnFrequentU64 old new result said = IsOfNoUse old new result
+
+-- the same of texts
+abbrev pub OnFrequentTexts : (old new : Option AnySketch) → ℤ → (FrequentState (String Global) → Type 0) → Type 0
+OnFrequentTexts (Some (FrequentTexts s)) new result said = said s
+OnFrequentTexts old new result said = IsOfNoUse old new result
+
+-- there is a frequent-items sketch of items of type `i64`, of which this holds
+abbrev pub HoldsFrequentI64 : Option AnySketch → (FrequentState ℤ → Type 0) → Type 0
+HoldsFrequentI64 (Some (FrequentI64 s)) said = said s
+HoldsFrequentI64 held said = ⊥
+
+-- there is a frequent-items sketch of items of type `u64`, of which this holds
+abbrev pub HoldsFrequentU64 : Option AnySketch → (FrequentState ℕ → Type 0) → Type 0
+HoldsFrequentU64 (Some (FrequentU64 s)) said = said s
+HoldsFrequentU64 held said = ⊥
+
+-- there is a frequent-items sketch of texts, of which this holds
+abbrev pub HoldsFrequentTexts : Option AnySketch → (FrequentState (String Global) → Type 0) → Type 0
+HoldsFrequentTexts (Some (FrequentTexts s)) said = said s
+HoldsFrequentTexts held said = ⊥

@@ -1,3 +1,10 @@
+pub mod Copies
+pub mod Estimates
+pub mod FrequentCalls
+pub mod FrequentImages
+pub mod FrequentRows
+pub mod FrequentTextImages
+pub mod FrequentTexts
 pub mod Holding
 pub mod Images
 pub mod Joining

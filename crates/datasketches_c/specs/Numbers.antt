@@ -84,3 +84,7 @@ greatest_i64 = 9223372036854775807
 
 abbrev pub greatest_u64 : ℕ
 greatest_u64 = 18446744073709551615
+
+-- the least number of the type with a sign
+abbrev pub least_i64 : ℤ
+least_i64 = negsuc 9223372036854775807

@@ -1,36 +1,23 @@
 //! Count-Min sketches: made, filled, asked, merged, halved and decayed.
-ghost use Rattle.std.specs.Prelude.{◌≡◌, ℤ, ◌+◌, ◌-◌, ◌<◌, ◌≤◌, pos, None, Some, length, map, take};
+ghost use Rattle.std.specs.Prelude.{◌≡◌, ◌≢◌, ℤ, ◌+◌, ◌-◌, ◌<◌, ◌≤◌, pos, None, Some, length, map, take};
 ghost use Rattle.std.specs.Hash as fed;
 ghost use Rattle.sketch_base.specs.Errors.{refusal_of};
 ghost use Rattle.sketch_base.specs.Hashes.{fed_bytes};
 ghost use Rattle.sketch_countmin.specs.Shapes.{shape_fault};
 ghost use Rattle.sketch_countmin.specs.State.{Counts, CountsAll, Joins, IsLeastCell, SameShape, empty_state, halved_state, decayed_state, upper_bound_of};
+ghost use Rattle.datasketches_c.specs.Estimates.{AreLeastCells};
 ghost use Rattle.datasketches_c.specs.Kinds.{OnCountU64, HoldsCountU64};
-ghost use Rattle.datasketches_c.specs.Numbers.{OnDone, OnRefused, ok, bad_fraction, greatest_u64, refusal_number};
+ghost use Rattle.datasketches_c.specs.Numbers.{OnDone, OnRefused, ok, bad_fraction, no_room, greatest_u64, refusal_number};
 ghost use Rattle.datasketches_c.specs.declared.any_sketch.AnySketch.TheVariants.{CountU64};
 
 use crate::any_sketch::AnySketch;
+use crate::count_u64_items::{estimate_all, update, update_all, upper_bound};
 use crate::handle::SketchHandle;
 use crate::status_code::{BAD_FRACTION, NO_SKETCH, OK, WRONG_KIND, refusal_number};
 use sketch_base::Fault;
 use sketch_countmin::CountMinSketch;
 use std::alloc::Global;
-use std::hash::Hash;
 use std::mem::replace;
-
-/// Adds a weight to an item's, and answers the call's number.
-#[inline(always)]
-fn count<I: Hash + Drop>(sketch: &mut CountMinSketch<u64>, item: I, weight: u64) -> i32
-    ensures counted { sketch.old.total + weight ≤ greatest_u64
-        → (result ≡ ok) × Counts sketch.old (fed_bytes I.hash_input item) (pos weight) sketch.new }
-    ensures overflow { greatest_u64 < sketch.old.total + weight → result ≡ refusal_number Fault.WeightOverflow }
-    ensures refused { OnRefused result (sketch.new ≡ sketch.old) }
-{
-    match sketch.update_with_weight(item, weight) {
-        Ok(()) => OK,
-        Err(error) => refusal_number(error.fault()),
-    }
-}
 
 /// Adds the other sketch's cells and total, and answers the call's number.
 fn join(sketch: &mut CountMinSketch<u64>, other: &CountMinSketch<u64>) -> i32
@@ -47,7 +34,11 @@ fn join(sketch: &mut CountMinSketch<u64>, other: &CountMinSketch<u64>) -> i32
     }
 }
 
-/// Makes a Count-Min sketch in `u64` in place of what the handle has, which is freed.
+/// Makes a Count-Min sketch in `u64` of so many rows, one for each hash, and cells in each row, in place of what the
+/// handle has, which is freed.
+///
+/// Refusals, in this order: `BadNumHashes` for 0 hashes, `BadNumBuckets` below 3 buckets, `TableTooLarge` for 2^30 cells
+/// or more, `ZeroSeedHash`, and `NoMemory`. The handle then has what it had.
 #[unsafe(no_mangle)]
 pub extern "C" fn ds_count_u64_new(
     alloc: Global,
@@ -68,7 +59,8 @@ pub extern "C" fn ds_count_u64_new(
     }
 }
 
-/// Adds a weight to a number's.
+/// Adds a weight to a number's. It is refused with `WeightOverflow` where the total would pass the greatest `u64`, and
+/// the sketch is then as it was.
 #[unsafe(no_mangle)]
 pub extern "C" fn ds_count_u64_update_u64(
     alloc: Global,
@@ -82,18 +74,11 @@ pub extern "C" fn ds_count_u64_update_u64(
         × (greatest_u64 < s.total + weight → result ≡ refusal_number Fault.WeightOverflow)) }
     ensures refused { OnRefused result (handle.new.value ≡ handle.old.value) }
 {
-    let Some(mut sketch) = replace(handle, SketchHandle::none(alloc)).into_box() else {
-        return NO_SKETCH;
-    };
-    let answer = match &mut *sketch {
-        AnySketch::CountU64(sketch) => count(sketch, item, weight),
-        _ => WRONG_KIND,
-    };
-    *handle = SketchHandle::of(sketch);
-    answer
+    update(alloc, handle, item, weight)
 }
 
-/// Adds 1 to the weight of each number, as far as the total has room: the numbers that come first are counted.
+/// Adds 1 to the weight of each number, as far as the total has room: the numbers that come first are counted,
+/// and where there are more, the answer is `WeightOverflow`.
 #[unsafe(no_mangle)]
 pub extern "C" fn ds_count_u64_update_all_u64(
     alloc: Global,
@@ -105,21 +90,10 @@ pub extern "C" fn ds_count_u64_update_all_u64(
         × (s.total + length items.now ≤ greatest_u64 → result ≡ ok)
         × (greatest_u64 < s.total + length items.now → result ≡ refusal_number Fault.WeightOverflow)) }
 {
-    let Some(mut sketch) = replace(handle, SketchHandle::none(alloc)).into_box() else {
-        return NO_SKETCH;
-    };
-    let answer = match &mut *sketch {
-        AnySketch::CountU64(sketch) => match sketch.update_all(items) {
-            Ok(()) => OK,
-            Err(error) => refusal_number(error.fault()),
-        },
-        _ => WRONG_KIND,
-    };
-    *handle = SketchHandle::of(sketch);
-    answer
+    update_all(alloc, handle, items)
 }
 
-/// Writes down the estimate of a number's weight.
+/// Writes down the estimate of a number's weight: the least of its cells. A refusal leaves `estimate` as it was.
 #[unsafe(no_mangle)]
 pub extern "C" fn ds_count_u64_estimate_u64(
     alloc: Global,
@@ -132,21 +106,11 @@ pub extern "C" fn ds_count_u64_estimate_u64(
         (result ≡ ok) × IsLeastCell s (fed_bytes fed.u64 item) (pos estimate.new)) }
     ensures untouched { OnRefused result (estimate.new ≡ estimate.old) }
 {
-    let Some(sketch) = replace(handle, SketchHandle::none(alloc)).into_box() else {
-        return NO_SKETCH;
-    };
-    let answer = match &*sketch {
-        AnySketch::CountU64(sketch) => {
-            *estimate = sketch.estimate(item);
-            OK
-        }
-        _ => WRONG_KIND,
-    };
-    *handle = SketchHandle::of(sketch);
-    answer
+    crate::count_u64_items::estimate(alloc, handle, item, estimate)
 }
 
-/// Writes down an upper bound of a number's weight: the estimate and the margin.
+/// Writes down an upper bound of a number's weight: the estimate and the margin, or the greatest `u64` where that would
+/// pass it. A refusal leaves `bound` as it was.
 #[unsafe(no_mangle)]
 pub extern "C" fn ds_count_u64_upper_bound_u64(
     alloc: Global,
@@ -160,21 +124,11 @@ pub extern "C" fn ds_count_u64_upper_bound_u64(
         → pos bound.new ≡ upper_bound_of greatest_u64 s estimate)) }
     ensures untouched { OnRefused result (bound.new ≡ bound.old) }
 {
-    let Some(sketch) = replace(handle, SketchHandle::none(alloc)).into_box() else {
-        return NO_SKETCH;
-    };
-    let answer = match &*sketch {
-        AnySketch::CountU64(sketch) => {
-            *bound = sketch.upper_bound(item);
-            OK
-        }
-        _ => WRONG_KIND,
-    };
-    *handle = SketchHandle::of(sketch);
-    answer
+    upper_bound(alloc, handle, item, bound)
 }
 
-/// Adds a weight to a number's.
+/// Adds a weight to a number's. It is refused with `WeightOverflow` where the total would pass the greatest `u64`, and
+/// the sketch is then as it was.
 #[unsafe(no_mangle)]
 pub extern "C" fn ds_count_u64_update_i64(
     alloc: Global,
@@ -188,18 +142,11 @@ pub extern "C" fn ds_count_u64_update_i64(
         × (greatest_u64 < s.total + weight → result ≡ refusal_number Fault.WeightOverflow)) }
     ensures refused { OnRefused result (handle.new.value ≡ handle.old.value) }
 {
-    let Some(mut sketch) = replace(handle, SketchHandle::none(alloc)).into_box() else {
-        return NO_SKETCH;
-    };
-    let answer = match &mut *sketch {
-        AnySketch::CountU64(sketch) => count(sketch, item, weight),
-        _ => WRONG_KIND,
-    };
-    *handle = SketchHandle::of(sketch);
-    answer
+    update(alloc, handle, item, weight)
 }
 
-/// Adds 1 to the weight of each number, as far as the total has room: the numbers that come first are counted.
+/// Adds 1 to the weight of each number, as far as the total has room: the numbers that come first are counted,
+/// and where there are more, the answer is `WeightOverflow`.
 #[unsafe(no_mangle)]
 pub extern "C" fn ds_count_u64_update_all_i64(
     alloc: Global,
@@ -211,21 +158,10 @@ pub extern "C" fn ds_count_u64_update_all_i64(
         × (s.total + length items.now ≤ greatest_u64 → result ≡ ok)
         × (greatest_u64 < s.total + length items.now → result ≡ refusal_number Fault.WeightOverflow)) }
 {
-    let Some(mut sketch) = replace(handle, SketchHandle::none(alloc)).into_box() else {
-        return NO_SKETCH;
-    };
-    let answer = match &mut *sketch {
-        AnySketch::CountU64(sketch) => match sketch.update_all(items) {
-            Ok(()) => OK,
-            Err(error) => refusal_number(error.fault()),
-        },
-        _ => WRONG_KIND,
-    };
-    *handle = SketchHandle::of(sketch);
-    answer
+    update_all(alloc, handle, items)
 }
 
-/// Writes down the estimate of a number's weight.
+/// Writes down the estimate of a number's weight: the least of its cells. A refusal leaves `estimate` as it was.
 #[unsafe(no_mangle)]
 pub extern "C" fn ds_count_u64_estimate_i64(
     alloc: Global,
@@ -238,21 +174,11 @@ pub extern "C" fn ds_count_u64_estimate_i64(
         (result ≡ ok) × IsLeastCell s (fed_bytes fed.i64 item) (pos estimate.new)) }
     ensures untouched { OnRefused result (estimate.new ≡ estimate.old) }
 {
-    let Some(sketch) = replace(handle, SketchHandle::none(alloc)).into_box() else {
-        return NO_SKETCH;
-    };
-    let answer = match &*sketch {
-        AnySketch::CountU64(sketch) => {
-            *estimate = sketch.estimate(item);
-            OK
-        }
-        _ => WRONG_KIND,
-    };
-    *handle = SketchHandle::of(sketch);
-    answer
+    crate::count_u64_items::estimate(alloc, handle, item, estimate)
 }
 
-/// Writes down an upper bound of a number's weight: the estimate and the margin.
+/// Writes down an upper bound of a number's weight: the estimate and the margin, or the greatest `u64` where that would
+/// pass it. A refusal leaves `bound` as it was.
 #[unsafe(no_mangle)]
 pub extern "C" fn ds_count_u64_upper_bound_i64(
     alloc: Global,
@@ -266,21 +192,55 @@ pub extern "C" fn ds_count_u64_upper_bound_i64(
         → pos bound.new ≡ upper_bound_of greatest_u64 s estimate)) }
     ensures untouched { OnRefused result (bound.new ≡ bound.old) }
 {
-    let Some(sketch) = replace(handle, SketchHandle::none(alloc)).into_box() else {
-        return NO_SKETCH;
-    };
-    let answer = match &*sketch {
-        AnySketch::CountU64(sketch) => {
-            *bound = sketch.upper_bound(item);
-            OK
-        }
-        _ => WRONG_KIND,
-    };
-    *handle = SketchHandle::of(sketch);
-    answer
+    upper_bound(alloc, handle, item, bound)
+}
+
+/// Writes down the estimate of each number's weight. There are as many estimates as numbers, else `NO_ROOM`. A refusal
+/// leaves `estimates` as it was.
+#[unsafe(no_mangle)]
+pub extern "C" fn ds_count_u64_estimate_all_u64(
+    alloc: Global,
+    handle: &mut SketchHandle,
+    items: &[u64],
+    estimates: &mut [u64],
+) -> i32
+    ensures kept { handle.new.value ≡ handle.old.value }
+    ensures length { length estimates.new ≡ length estimates.old }
+    ensures no_room { length estimates.old ≢ length items.now
+        → (result ≡ no_room) × (estimates.new ≡ estimates.old) }
+    ensures estimates { length estimates.old ≡ length items.now
+        → OnCountU64 handle.old.value handle.new.value result (λ s. (result ≡ ok)
+        × AreLeastCells s (fed_bytes fed.u64) items.now (map pos estimates.new)) }
+    ensures untouched { OnRefused result (estimates.new ≡ estimates.old) }
+{
+    estimate_all(alloc, handle, items, estimates)
+}
+
+/// Writes down the estimate of each number's weight. There are as many estimates as numbers, else `NO_ROOM`. A refusal
+/// leaves `estimates` as it was.
+#[unsafe(no_mangle)]
+pub extern "C" fn ds_count_u64_estimate_all_i64(
+    alloc: Global,
+    handle: &mut SketchHandle,
+    items: &[i64],
+    estimates: &mut [u64],
+) -> i32
+    ensures kept { handle.new.value ≡ handle.old.value }
+    ensures length { length estimates.new ≡ length estimates.old }
+    ensures no_room { length estimates.old ≢ length items.now
+        → (result ≡ no_room) × (estimates.new ≡ estimates.old) }
+    ensures estimates { length estimates.old ≡ length items.now
+        → OnCountU64 handle.old.value handle.new.value result (λ s. (result ≡ ok)
+        × AreLeastCells s (fed_bytes fed.i64) items.now (map pos estimates.new)) }
+    ensures untouched { OnRefused result (estimates.new ≡ estimates.old) }
+{
+    estimate_all(alloc, handle, items, estimates)
 }
 
 /// Adds the other sketch's cells and total. The other sketch stays.
+///
+/// It is refused with `Mismatch` where hashes, buckets or seeds differ, and with `WeightOverflow` where the totals
+/// together pass the greatest `u64`. The sketch is then as it was.
 #[unsafe(no_mangle)]
 pub extern "C" fn ds_count_u64_merge(
     alloc: Global,
@@ -339,7 +299,8 @@ pub extern "C" fn ds_count_u64_halve(alloc: Global, handle: &mut SketchHandle) -
     answer
 }
 
-/// Multiplies each cell and the total by a fraction above 0 and at most 1, rounded down.
+/// Multiplies each cell and the total by a fraction above 0 and at most 1, rounded down. Another fraction is refused with
+/// `BAD_FRACTION`, and leaves the sketch as it was.
 #[unsafe(no_mangle)]
 pub extern "C" fn ds_count_u64_decay(
     alloc: Global,

@@ -2,10 +2,25 @@
 #![tactic(auto)]
 
 pub mod any_sketch;
+mod copies;
+mod count_i64;
+mod count_i64_items;
+mod count_i64_state;
+mod count_i64_texts;
 mod count_u64;
+mod count_u64_items;
+mod count_u64_state;
+mod count_u64_texts;
 mod filter;
 mod filter_sets;
 mod filter_state;
+mod frequent;
+mod frequent_i64;
+mod frequent_rows;
+mod frequent_text;
+mod frequent_text_images;
+mod frequent_text_state;
+mod frequent_u64;
 mod handle;
 mod images;
 mod raw_box;

@@ -1,0 +1,81 @@
+-- What calls on frequent-items sketches do to the sketch and answer, whatever the items. Items are told apart by `eq` alone.
+use Rattle.std.specs.Prelude.{◌≡◌, ℕ, ℤ, ◌+◌, ◌<◌, Bool, false, List, length}
+use Rattle.sketch_base.specs.Errors.{ErrorValue}
+use Rattle.sketch_base.specs.declared.fault.Fault.TheVariants.{NoMemory, WeightOverflow}
+use Rattle.counter_table.specs.Tables.{count_of}
+use Rattle.sketch_frequencies.specs.Batches.{UpdatesAll, StopsAt}
+use Rattle.sketch_frequencies.specs.History.{FrequentHistory}
+use Rattle.sketch_frequencies.specs.History.FrequentHistory.{Update, Merge, Reset}
+use Rattle.sketch_frequencies.specs.Stands.{Extends, ExtendsBudget, ExtendsBoth, ExtendsBothBudgets, KeepsTailBudget, IsLowerBound, IsUpperBound, IsExactOfFew}
+use Rattle.sketch_frequencies.specs.State.{FrequentState, Overflows, TotalHasRoom, capacity, empty_state, estimate_of, must_double}
+use Rattle.sketch_frequencies.specs.Steps.{Steps, JoinsEqual}
+use Rattle.datasketches_c.specs.Numbers.{OnDone, OnRefused, ok, refusal_number}
+use Rattle.datasketches_c.specs.declared.frequent.FrequentBounds.{FrequentBounds}
+use Rattle.datasketches_c.specs.declared.frequent.FrequentStatus.{FrequentStatus}
+
+-- these are the sketch's numbers
+pub record AreNumbers {T : Type 0} (s : FrequentState T) (status : FrequentStatus) : Type 0 where
+  pub total_weight : status.total_weight ≡ s.total
+  pub maximum_error : status.maximum_error ≡ s.error
+  pub num_active_items : status.num_active_items ≡ length s.counters
+  pub maximum_map_capacity : status.maximum_map_capacity ≡ capacity s.max_size
+  pub current_map_capacity : status.current_map_capacity ≡ capacity s.size
+  pub max_map_size : status.max_map_size ≡ s.max_size
+  pub sample_size : status.sample_size ≡ s.sample_size
+
+module _ {T : Type 0} (eq : T → T → Bool) where
+  -- new is old after a weight above 0 was added at the item, and stands for the history with that update
+  pub record Weighs (old : FrequentState T) (item : T) (weight : ℕ) (new : FrequentState T) : Type 0 where
+    pub step : Steps eq old item weight new
+    pub stands : Extends eq old new (λ h. Update h item weight)
+    pub budget : ExtendsBudget eq old new (λ h. Update h item weight)
+
+  -- what an update answers, and what it leaves
+  pub record Updates (old : FrequentState T) (item : T) (weight : ℕ) (new : FrequentState T) (result : ℤ) : Type 0 where
+    pub zero : weight ≡ 0 → (result ≡ ok) × (new ≡ old)
+    pub done : OnDone result ((result ≡ ok) × (0 < weight → Weighs old item weight new))
+    pub refused : OnRefused result (new ≡ old)
+    pub overflow : Overflows old weight → result ≡ refusal_number WeightOverflow
+    -- memory is refused only where the table must double
+    pub memory : TotalHasRoom old weight → OnRefused result (result ≡ refusal_number NoMemory)
+    pub succeeds : TotalHasRoom old weight → must_double eq old item ≡ false → result ≡ ok
+
+  -- new is old after the other was merged into it, and stands for both histories
+  pub record Merges (old other new : FrequentState T) : Type 0 where
+    pub join : JoinsEqual eq old other new
+    pub stands : ExtendsBoth eq old other new Merge
+    pub budget : ExtendsBothBudgets eq old other new Merge
+
+  -- what a merge answers, and what it leaves
+  pub record MergesInto (old other new : FrequentState T) (result : ℤ) : Type 0 where
+    pub nothing : other.total ≡ 0 → (result ≡ ok) × (new ≡ old)
+    pub done : OnDone result ((result ≡ ok) × Merges old other new)
+    pub refused : OnRefused result (new ≡ old)
+    pub overflow : Overflows old other.total → result ≡ refusal_number WeightOverflow
+    pub memory : TotalHasRoom old other.total → OnRefused result (result ≡ refusal_number NoMemory)
+
+  -- these are the sketch's numbers for the item, and what they say of each history for which the sketch stands
+  pub record AreBounds (s : FrequentState T) (item : T) (bounds : FrequentBounds) : Type 0 where
+    pub lower : bounds.lower_bound ≡ count_of eq s.counters item
+    pub estimate : bounds.estimate ≡ estimate_of eq s item
+    pub upper : bounds.upper_bound ≡ count_of eq s.counters item + s.error
+    pub at_least : IsLowerBound eq s item bounds.lower_bound
+    pub at_most : IsUpperBound eq s item bounds.upper_bound
+    pub exact : IsExactOfFew eq s item bounds.estimate
+
+  -- the items before one were added, and that one was refused with an error of this number, as a call of its own refuses it
+  pub record StopsShort (old : FrequentState T) (items : List T) (new : FrequentState T) (result : ℤ) : Type 0 where
+    pub error : ErrorValue
+    pub number : result ≡ refusal_number error.fault
+    pub stops : StopsAt eq old items error new
+
+  -- what many updates of weight 1 answer, and what they leave
+  pub record UpdatesMany (old : FrequentState T) (items : List T) (new : FrequentState T) (result : ℤ) : Type 0 where
+    pub done : OnDone result ((result ≡ ok) × UpdatesAll eq old items new)
+    pub stopped : OnRefused result (StopsShort old items new result)
+
+  -- new is the empty sketch of old's sizes, and stands for what old stood for, forgotten
+  pub record Empties (old new : FrequentState T) : Type 0 where
+    pub empty : new ≡ empty_state old.max_size old.sample_size
+    pub stands : Extends eq old new Reset
+    pub budget : (h : FrequentHistory T) → KeepsTailBudget eq new (Reset h)

@@ -1,0 +1,54 @@
+-- What a report on a frequent-items sketch writes into the caller's buffers.
+use Rattle.std.specs.Prelude.{◌≡◌, ◌⊎◌, ℕ, ℤ, ◌<◌, ◌≤◌, Bool, List, length, map, take, drop, if◌then◌else◌}
+use Rattle.sketch_base.specs.declared.fault.Fault.TheVariants.{NoMemory}
+use Rattle.sketch_frequencies.specs.RowValue.{RowValue}
+use Rattle.sketch_frequencies.specs.Rows.{ShowsExactly, Descends, MissesNone, ShowsNoneBelow}
+use Rattle.sketch_frequencies.specs.State.{FrequentState}
+use Rattle.sketch_frequencies.specs.declared.error_type.ErrorType.{ErrorType}
+use Rattle.sketch_frequencies.specs.declared.error_type.ErrorType.TheVariants.{NoFalseNegatives, NoFalsePositives}
+use Rattle.datasketches_c.specs.Numbers.{ok, no_room, refusal_number}
+use Rattle.datasketches_c.specs.declared.frequent.FrequentBounds.{FrequentBounds}
+
+-- which mistakes a report may make
+abbrev pub error_type : Bool → ErrorType
+error_type no_false_negatives = if no_false_negatives then NoFalseNegatives else NoFalsePositives
+
+-- the numbers of a row
+abbrev pub bounds_in : {T : Type 0} → RowValue T → FrequentBounds
+bounds_in row = record { lower_bound = row.lower_bound; estimate = row.estimate; upper_bound = row.upper_bound }
+
+-- the rows stand at the front of both buffers, and what stands behind them is as it was
+pub record StandAtFront
+    {T : Type 0} (rows : List (RowValue T)) (items_old items_new : List T) (bounds_old bounds_new : List FrequentBounds)
+    : Type 0 where
+  pub items : take (length rows) items_new ≡ map (λ row. row.item) rows
+  pub behind_items : drop (length rows) items_new ≡ drop (length rows) items_old
+  pub bounds : take (length rows) bounds_new ≡ map bounds_in rows
+  pub behind_bounds : drop (length rows) bounds_new ≡ drop (length rows) bounds_old
+
+module _ {T : Type 0} (eq : T → T → Bool) (kind : ErrorType) (threshold : ℕ) (s : FrequentState T) where
+  -- the rows that the report shows: those of the tracked items whose bound is above the threshold and the error
+  pub record AreRows (rows : List (RowValue T)) : Type 0 where
+    pub exact : ShowsExactly eq kind threshold s rows
+    pub descending : Descends rows
+    pub none_missing : kind ≡ NoFalseNegatives → MissesNone eq threshold s rows
+    pub none_below : kind ≡ NoFalsePositives → ShowsNoneBelow eq threshold s rows
+
+  -- the report's rows were counted, and written where both buffers have room for them
+  pub record Reports
+      (items_old items_new : List T) (bounds_old bounds_new : List FrequentBounds) (count : ℕ) (result : ℤ)
+      : Type 0 where
+    pub rows : List (RowValue T)
+    pub are : AreRows rows
+    pub counted : count ≡ length rows
+    pub written :
+        count ≤ length items_old → count ≤ length bounds_old →
+        (result ≡ ok) × StandAtFront rows items_old items_new bounds_old bounds_new
+    pub few_items : length items_old < count → result ≡ no_room
+    pub few_bounds : length bounds_old < count → result ≡ no_room
+
+  -- a report was made, or there was no memory for it
+  abbrev pub WritesRows :
+      (items_old items_new : List T) (bounds_old bounds_new : List FrequentBounds) (count : ℕ) (result : ℤ) → Type 0
+  WritesRows items_old items_new bounds_old bounds_new count result =
+      Reports items_old items_new bounds_old bounds_new count result ⊎ (result ≡ refusal_number NoMemory)

@@ -1,0 +1,302 @@
+//! Sketches of frequent items of type `i64`: made, filled, asked, merged, reported, described, written and read.
+ghost use Rattle.std.specs.Prelude.{◌≡◌, None, Some};
+ghost use Rattle.std.specs.Ordering.{int_eq};
+ghost use Rattle.sketch_base.specs.Errors.{refusal_of};
+ghost use Rattle.sketch_frequencies.specs.History.FrequentHistory.{New};
+ghost use Rattle.sketch_frequencies.specs.Image.{early_fault_within, first_fault_within};
+ghost use Rattle.sketch_frequencies.specs.Sizes.{sizes_fault};
+ghost use Rattle.sketch_frequencies.specs.Stands.{StandsFor, KeepsTailBudget};
+ghost use Rattle.sketch_frequencies.specs.State.{empty_state};
+ghost use Rattle.datasketches_c.specs.FrequentCalls.{Updates, UpdatesMany, MergesInto, Empties, AreBounds, AreNumbers};
+ghost use Rattle.datasketches_c.specs.FrequentImages.{WritesFrequent, IsRestored, i64_codec, i64_row};
+ghost use Rattle.datasketches_c.specs.FrequentRows.{WritesRows, error_type};
+ghost use Rattle.datasketches_c.specs.Images.{IsRefusedImage};
+ghost use Rattle.datasketches_c.specs.Kinds.{OnFrequentI64, HoldsFrequentI64};
+ghost use Rattle.datasketches_c.specs.Numbers.{OnDone, OnRefused, ok, refusal_number};
+ghost use Rattle.datasketches_c.specs.declared.any_sketch.AnySketch.TheVariants.{FrequentI64};
+
+use crate::any_sketch::AnySketch;
+use crate::frequent::{
+    FrequentBounds, FrequentStatus, bounds_of, merge, read_image, reset, status_of, update,
+    update_all, write_image,
+};
+use crate::frequent_rows::write_rows;
+use crate::handle::SketchHandle;
+use crate::status_code::{NO_SKETCH, OK, WRONG_KIND, refusal_number};
+use sketch_frequencies::FrequentItemsSketch;
+use std::alloc::Global;
+use std::mem::replace;
+
+/// Makes a sketch of frequent numbers in place of what the handle has, which is freed. Its table may grow to
+/// `max_map_size` slots, a power of two from 8 to 2^30, and its purges sample `sample_size` counters, an even number from
+/// 2 to three quarters of `max_map_size`, at most 1024.
+///
+/// Refused for `MapSizeNotPowerOfTwo`, `MapSizeTooSmall`, `MapSizeTooLarge`, `BadSampleSize` and `NoMemory`; what the
+/// handle has then stays.
+#[unsafe(no_mangle)]
+pub extern "C" fn ds_frequent_i64_new(
+    alloc: Global,
+    handle: &mut SketchHandle,
+    max_map_size: usize,
+    sample_size: usize,
+) -> i32
+    ensures done { OnDone result ((result ≡ ok)
+        × (handle.new.value ≡ Some (FrequentI64 (empty_state max_map_size sample_size)))) }
+    ensures stands { OnDone result (StandsFor int_eq (empty_state max_map_size sample_size) (New max_map_size sample_size)) }
+    ensures budget { OnDone result (KeepsTailBudget int_eq (empty_state max_map_size sample_size) (New max_map_size sample_size)) }
+    ensures accepted { OnDone result (sizes_fault max_map_size sample_size ≡ None) }
+    ensures refused { OnRefused result ((handle.new.value ≡ handle.old.value)
+        × (result ≡ refusal_number (refusal_of (sizes_fault max_map_size sample_size)).fault)) }
+{
+    match FrequentItemsSketch::with_sample_size(alloc, max_map_size, sample_size) {
+        Ok(sketch) => handle.put(alloc, AnySketch::FrequentI64(sketch)),
+        Err(error) => refusal_number(error.fault()),
+    }
+}
+
+/// Adds a weight to a number's. A weight of 0 changes nothing.
+///
+/// Refused for `WeightOverflow` where the weight of all numbers would pass the greatest `u64`, and for `NoMemory` where
+/// the table must double and there is no memory for that. The sketch is then as it was.
+#[unsafe(no_mangle)]
+pub extern "C" fn ds_frequent_i64_update(
+    alloc: Global,
+    handle: &mut SketchHandle,
+    item: i64,
+    weight: u64,
+) -> i32
+    ensures call { OnFrequentI64 handle.old.value handle.new.value result (λ s.
+        HoldsFrequentI64 handle.new.value (λ t. Updates int_eq s item weight t result)) }
+    ensures refused { OnRefused result (handle.new.value ≡ handle.old.value) }
+{
+    let Some(mut sketch) = replace(handle, SketchHandle::none(alloc)).into_box() else {
+        return NO_SKETCH;
+    };
+    let answer = match &mut *sketch {
+        AnySketch::FrequentI64(sketch) => update(sketch, item, weight),
+        _ => WRONG_KIND,
+    };
+    *handle = SketchHandle::of(sketch);
+    answer
+}
+
+/// Adds 1 to the weight of each number, one after another.
+///
+/// Refused as `ds_frequent_i64_update` at the first number that it refuses. The numbers before it are added then, and
+/// neither it nor those behind it are.
+#[unsafe(no_mangle)]
+pub extern "C" fn ds_frequent_i64_update_all(
+    alloc: Global,
+    handle: &mut SketchHandle,
+    items: &[i64],
+) -> i32
+    ensures { OnFrequentI64 handle.old.value handle.new.value result (λ s.
+        HoldsFrequentI64 handle.new.value (λ t. UpdatesMany int_eq s items.now t result)) }
+{
+    let Some(mut sketch) = replace(handle, SketchHandle::none(alloc)).into_box() else {
+        return NO_SKETCH;
+    };
+    let answer = match &mut *sketch {
+        AnySketch::FrequentI64(sketch) => update_all(sketch, items),
+        _ => WRONG_KIND,
+    };
+    *handle = SketchHandle::of(sketch);
+    answer
+}
+
+/// Writes down the bounds and the estimate of a number's weight.
+#[unsafe(no_mangle)]
+pub extern "C" fn ds_frequent_i64_bounds(
+    alloc: Global,
+    handle: &mut SketchHandle,
+    item: i64,
+    bounds: &mut FrequentBounds,
+) -> i32
+    ensures kept { handle.new.value ≡ handle.old.value }
+    ensures bounds { OnFrequentI64 handle.old.value handle.new.value result (λ s.
+        (result ≡ ok) × AreBounds int_eq s item bounds.new) }
+    ensures untouched { OnRefused result (bounds.new ≡ bounds.old) }
+{
+    let Some(sketch) = replace(handle, SketchHandle::none(alloc)).into_box() else {
+        return NO_SKETCH;
+    };
+    let answer = match &*sketch {
+        AnySketch::FrequentI64(sketch) => {
+            *bounds = bounds_of(sketch, &item);
+            OK
+        }
+        _ => WRONG_KIND,
+    };
+    *handle = SketchHandle::of(sketch);
+    answer
+}
+
+/// Merges the other sketch into this one, which then stands for both streams and keeps its own sizes. The other sketch
+/// stays.
+///
+/// Refused for `WeightOverflow` where the weight of both together would pass the greatest `u64`, and for `NoMemory` where
+/// there is no memory for the result. This sketch is then as it was.
+#[unsafe(no_mangle)]
+pub extern "C" fn ds_frequent_i64_merge(
+    alloc: Global,
+    handle: &mut SketchHandle,
+    other: &mut SketchHandle,
+) -> i32
+    ensures other { other.new.value ≡ other.old.value }
+    ensures refused { OnRefused result (handle.new.value ≡ handle.old.value) }
+    ensures call { OnFrequentI64 handle.old.value handle.new.value result (λ a.
+        OnFrequentI64 other.old.value other.new.value result (λ b.
+        HoldsFrequentI64 handle.new.value (λ t. MergesInto int_eq a b t result))) }
+{
+    let Some(mut sketch) = replace(handle, SketchHandle::none(alloc)).into_box() else {
+        return NO_SKETCH;
+    };
+    let Some(second) = replace(other, SketchHandle::none(alloc)).into_box() else {
+        let answer = match &*sketch {
+            AnySketch::FrequentI64(_) => NO_SKETCH,
+            _ => WRONG_KIND,
+        };
+        *handle = SketchHandle::of(sketch);
+        return answer;
+    };
+    let answer = match &mut *sketch {
+        AnySketch::FrequentI64(sketch) => match &*second {
+            AnySketch::FrequentI64(second) => merge(sketch, second),
+            _ => WRONG_KIND,
+        },
+        _ => WRONG_KIND,
+    };
+    *handle = SketchHandle::of(sketch);
+    *other = SketchHandle::of(second);
+    answer
+}
+
+/// Writes down the tracked numbers whose bound is above both the threshold and the error, in rows that descend by
+/// estimate: a number and its bounds for each, at the front of both buffers. With `no_false_negatives` it is the upper bound
+/// that counts, and else the lower one. `count` is how many rows there are, also where there is no room.
+///
+/// Refused with no room where a buffer is shorter than that, and for `NoMemory`. Both buffers are then as they were.
+#[unsafe(no_mangle)]
+pub extern "C" fn ds_frequent_i64_rows(
+    alloc: Global,
+    handle: &mut SketchHandle,
+    no_false_negatives: bool,
+    threshold: u64,
+    items: &mut [i64],
+    bounds: &mut [FrequentBounds],
+    count: &mut usize,
+) -> i32
+    ensures kept { handle.new.value ≡ handle.old.value }
+    ensures untouched { OnRefused result ((items.new ≡ items.old) × (bounds.new ≡ bounds.old)) }
+    ensures rows { OnFrequentI64 handle.old.value handle.new.value result (λ s.
+        WritesRows int_eq (error_type no_false_negatives) threshold s items.old items.new bounds.old bounds.new count.new
+        result) }
+{
+    let Some(sketch) = replace(handle, SketchHandle::none(alloc)).into_box() else {
+        return NO_SKETCH;
+    };
+    let answer = match &*sketch {
+        AnySketch::FrequentI64(sketch) => {
+            write_rows(sketch, no_false_negatives, threshold, items, bounds, count)
+        }
+        _ => WRONG_KIND,
+    };
+    *handle = SketchHandle::of(sketch);
+    answer
+}
+
+/// Forgets everything but the greatest size and the sample size.
+#[unsafe(no_mangle)]
+pub extern "C" fn ds_frequent_i64_reset(alloc: Global, handle: &mut SketchHandle) -> i32
+    ensures { OnFrequentI64 handle.old.value handle.new.value result (λ s.
+        (result ≡ ok) × HoldsFrequentI64 handle.new.value (Empties int_eq s)) }
+{
+    let Some(mut sketch) = replace(handle, SketchHandle::none(alloc)).into_box() else {
+        return NO_SKETCH;
+    };
+    let answer = match &mut *sketch {
+        AnySketch::FrequentI64(sketch) => {
+            reset(sketch);
+            OK
+        }
+        _ => WRONG_KIND,
+    };
+    *handle = SketchHandle::of(sketch);
+    answer
+}
+
+/// Writes down the sketch's numbers. Sizes are in slots, and capacities in counters.
+#[unsafe(no_mangle)]
+pub extern "C" fn ds_frequent_i64_status(
+    alloc: Global,
+    handle: &mut SketchHandle,
+    status: &mut FrequentStatus,
+) -> i32
+    ensures kept { handle.new.value ≡ handle.old.value }
+    ensures numbers { OnFrequentI64 handle.old.value handle.new.value result (λ s.
+        (result ≡ ok) × AreNumbers s status.new) }
+    ensures untouched { OnRefused result (status.new ≡ status.old) }
+{
+    let Some(sketch) = replace(handle, SketchHandle::none(alloc)).into_box() else {
+        return NO_SKETCH;
+    };
+    let answer = match &*sketch {
+        AnySketch::FrequentI64(sketch) => {
+            *status = status_of(sketch);
+            OK
+        }
+        _ => WRONG_KIND,
+    };
+    *handle = SketchHandle::of(sketch);
+    answer
+}
+
+/// Writes the sketch's image to the front of the caller's buffer, and says how many bytes long it is, also where there is
+/// no room. The sample size is not in it.
+///
+/// Refused with no room where the buffer is shorter than the image, and for `NoMemory`. The buffer is then as it was.
+#[unsafe(no_mangle)]
+pub extern "C" fn ds_frequent_i64_to_bytes(
+    alloc: Global,
+    handle: &mut SketchHandle,
+    out: &mut [u8],
+    written: &mut usize,
+) -> i32
+    ensures kept { handle.new.value ≡ handle.old.value }
+    ensures untouched { OnRefused result (out.new ≡ out.old) }
+    ensures image { OnFrequentI64 handle.old.value handle.new.value result (λ s.
+        WritesFrequent i64_codec (λ n. n) s out.old out.new written.new result) }
+{
+    let Some(sketch) = replace(handle, SketchHandle::none(alloc)).into_box() else {
+        return NO_SKETCH;
+    };
+    let answer = match &*sketch {
+        AnySketch::FrequentI64(sketch) => write_image(sketch, out, written),
+        _ => WRONG_KIND,
+    };
+    *handle = SketchHandle::of(sketch);
+    answer
+}
+
+/// Makes the sketch of an image, whose table takes at most so many bytes, in place of what the handle has, which is freed.
+/// Its purges sample as many counters as they may: three quarters of its greatest size, at most 1024.
+///
+/// Refused for the image's first fault, for `TableTooLarge` above the limit, and for `NoMemory`; what the handle has then
+/// stays.
+#[unsafe(no_mangle)]
+pub extern "C" fn ds_frequent_i64_from_bytes(
+    alloc: Global,
+    handle: &mut SketchHandle,
+    image: &[u8],
+    most_bytes: usize,
+) -> i32
+    ensures done { OnDone result ((result ≡ ok) × HoldsFrequentI64 handle.new.value
+        (IsRestored i64_row int_eq i64_codec (λ n. n) image.now most_bytes)) }
+    ensures refused { OnRefused result ((handle.new.value ≡ handle.old.value) × IsRefusedImage
+        (early_fault_within i64_row most_bytes image.now) (first_fault_within i64_row most_bytes i64_codec image.now) result) }
+{
+    match read_image(alloc, image, most_bytes) {
+        Ok(sketch) => handle.put(alloc, AnySketch::FrequentI64(sketch)),
+        Err(error) => refusal_number(error.fault()),
+    }
+}
