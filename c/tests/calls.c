@@ -1,0 +1,411 @@
+/* Calls each function of the library for C, and exits with 1 behind the checks that failed. */
+#include <datasketches.h>
+#include <pthread.h>
+#include <stdio.h>
+#include <string.h>
+
+static int checks, failures;
+
+#define CHECK(holds) \
+    do { \
+        checks++; \
+        if (!(holds)) { \
+            failures++; \
+            printf("%s:%d: %s\n", __FILE__, __LINE__, #holds); \
+        } \
+    } while (0)
+
+/* The image of a filter of one word and one hash under the seed 9001 with the bits 0 and 1. */
+static const uint8_t TWO_BITS[40] = {4, 1, 21, 0, 1, 0, 0, 0, 0x29, 0x23, 0, 0, 0, 0, 0, 0, 1, 0, 0, 0,
+                                     0, 0, 0, 0, 2, 0, 0, 0, 0,    0,    0, 0, 3, 0, 0, 0, 0, 0, 0, 0};
+
+/* What a byte is altered to, how long the image is and its limit, and the answer. */
+struct alteration {
+    size_t place;
+    uint8_t byte;
+    size_t length, most_bytes;
+    int32_t answer;
+};
+
+static const struct alteration ALTERATIONS[] = {
+    {0, 4, 40, 8, DS_OK},
+    {0, 3, 40, 8, DS_OK},
+    {0, 4, 3, 8, DS_INSUFFICIENT_DATA},
+    {2, 10, 40, 8, DS_BAD_FAMILY},
+    {1, 2, 40, 8, DS_BAD_VERSION},
+    {0, 2, 40, 8, DS_BAD_PREAMBLE},
+    {0, 4, 5, 8, DS_INSUFFICIENT_DATA},
+    {4, 0, 40, 8, DS_BAD_NUM_HASHES},
+    {0, 4, 23, 8, DS_INSUFFICIENT_DATA},
+    {16, 0, 40, 8, DS_BAD_NUM_WORDS},
+    {0, 4, 39, 8, DS_INSUFFICIENT_DATA},
+    {0, 4, 40, 7, DS_TABLE_TOO_LARGE},
+    {24, 3, 40, 8, DS_BAD_BIT_COUNT},
+};
+
+static void damaged_images(void)
+{
+    ds_sketch filter = DS_NONE;
+    ds_filter_numbers numbers;
+    for (size_t i = 0; i < sizeof ALTERATIONS / sizeof *ALTERATIONS; i++) {
+        const struct alteration *it = &ALTERATIONS[i];
+        uint8_t image[40];
+        memcpy(image, TWO_BITS, sizeof image);
+        image[it->place] = it->byte;
+        CHECK(ds_filter_from_bytes(&filter, image, it->length, it->most_bytes) == it->answer);
+        /* a refusal leaves the filter that was there */
+        CHECK(ds_filter_status(&filter, &numbers) == DS_OK && numbers.bits_used == 2 && numbers.capacity == 64);
+    }
+    CHECK(ds_filter_from_bytes(&filter, NULL, 0, 8) == DS_INSUFFICIENT_DATA);
+    CHECK(ds_filter_from_bytes(&filter, NULL, 1, 8) == DS_BAD_ARGUMENT);
+    ds_free(&filter);
+}
+
+static void filters(void)
+{
+    ds_sketch a = DS_NONE, b = DS_NONE, other = DS_NONE;
+    ds_filter_numbers numbers;
+    uint64_t items[100], far[2] = {1, UINT64_MAX};
+    int64_t same[100], below[2] = {-1, 7};
+    bool answers[100];
+    uint8_t one[1 << 10], two[1 << 10];
+    size_t length, again;
+
+    for (int i = 0; i < 100; i++) same[i] = (int64_t)(items[i] = (uint64_t)i * 1000003u);
+    CHECK(ds_filter_insert_u64(&a, 1) == DS_NO_SKETCH && ds_filter_union(&a, &b) == DS_NO_SKETCH);
+    CHECK(ds_filter_new(&a, 0, 7, 9001) == DS_BAD_NUM_BITS && !a.sketch);
+    CHECK(ds_filter_new(&a, 959, 0, 9001) == DS_BAD_NUM_HASHES && !a.sketch);
+    CHECK(ds_filter_new(&a, 959, 7, 9001) == DS_OK && ds_filter_new(&b, 959, 7, 9001) == DS_OK);
+    CHECK(ds_filter_status(&a, &numbers) == DS_OK && numbers.bits_used == 0 && numbers.capacity == 960);
+    CHECK(numbers.seed == 9001 && numbers.num_hashes == 7);
+    CHECK(ds_filter_insert_all_u64(&a, items, 100) == DS_OK);
+    for (int i = 0; i < 100; i++) CHECK(ds_filter_insert_i64(&b, same[i]) == DS_OK);
+    CHECK(ds_filter_to_bytes(&a, one, sizeof one, &length) == DS_OK && length == 32 + 120);
+    CHECK(ds_filter_to_bytes(&b, two, sizeof two, &again) == DS_OK && again == length);
+    /* one by one or at once, with a sign or without, numbers that are the same are one item */
+    CHECK(memcmp(one, two, length) == 0);
+    CHECK(ds_filter_to_bytes(&a, two, length - 1, &again) == DS_NO_ROOM && again == length);
+    CHECK(ds_filter_contains_all_u64(&a, items, 100, answers, 100) == DS_OK);
+    for (int i = 0; i < 100; i++) CHECK(answers[i] && ds_filter_contains_u64(&a, items[i]) == DS_YES);
+    CHECK(ds_filter_contains_all_i64(&a, same, 100, answers, 99) == DS_NO_ROOM);
+    CHECK(ds_filter_contains_all_i64(&a, same, 100, answers, 100) == DS_OK && answers[99]);
+    CHECK(ds_filter_contains_all_u64(&a, NULL, 0, NULL, 0) == DS_OK);
+    CHECK(ds_filter_contains_all_u64(&a, NULL, 1, answers, 1) == DS_BAD_ARGUMENT);
+    CHECK(ds_filter_insert_all_u64(&a, NULL, 0) == DS_OK && ds_filter_insert_all_u64(&a, NULL, 1) == DS_BAD_ARGUMENT);
+
+    CHECK(ds_filter_reset(&b) == DS_OK && ds_filter_contains_i64(&b, same[3]) == DS_NO);
+    CHECK(ds_filter_insert_all_i64(&b, below, 2) == DS_OK && ds_filter_contains_i64(&b, -1) == DS_YES);
+    /* -1 and 2^64 - 1 have the same eight bytes */
+    CHECK(ds_filter_contains_u64(&b, far[1]) == DS_YES);
+    CHECK(ds_filter_insert_text(&b, (const uint8_t *)"apple", 5) == DS_OK);
+    CHECK(ds_filter_contains_text(&b, (const uint8_t *)"apple", 5) == DS_YES);
+    CHECK(ds_filter_contains_text(&b, (const uint8_t *)"\xff", 1) == DS_INVALID_UTF8);
+    CHECK(ds_filter_insert_text(&b, (const uint8_t *)"\xc0\x80", 2) == DS_INVALID_UTF8);
+    CHECK(ds_clone(&other, &b) == DS_OK && ds_clone(&other, &other) == DS_BAD_ARGUMENT);
+    CHECK(ds_filter_contains_i64(&other, 7) == DS_YES && ds_filter_contains_i64(&b, 7) == DS_YES);
+    CHECK(ds_filter_union(&a, &b) == DS_OK && ds_filter_contains_i64(&a, 7) == DS_YES);
+    CHECK(ds_filter_contains_text(&b, (const uint8_t *)"apple", 5) == DS_YES);
+    CHECK(ds_filter_intersect(&a, &b) == DS_OK && ds_filter_to_bytes(&a, one, sizeof one, &length) == DS_OK);
+    CHECK(ds_filter_to_bytes(&b, two, sizeof two, &again) == DS_OK && memcmp(one, two, length) == 0);
+    CHECK(ds_filter_difference(&a, &b) == DS_OK && ds_filter_status(&a, &numbers) == DS_OK && numbers.bits_used == 0);
+    CHECK(ds_filter_union(&a, &a) == DS_BAD_ARGUMENT && ds_filter_intersect(&a, &a) == DS_BAD_ARGUMENT);
+    CHECK(ds_filter_new(&other, 959, 7, 1) == DS_OK && ds_filter_union(&a, &other) == DS_MISMATCH);
+    CHECK(ds_count_u64_halve(&other) == DS_WRONG_KIND && ds_count_u64_update_u64(&other, 1, 1) == DS_WRONG_KIND);
+    /* a filter of another shape in its place */
+    CHECK(ds_filter_new(&other, 64, 1, 9001) == DS_OK && ds_filter_status(&other, &numbers) == DS_OK);
+    CHECK(numbers.capacity == 64);
+    ds_free(&a);
+    ds_free(&a);
+    ds_free(&b);
+    ds_free(&other);
+    CHECK(!a.sketch && ds_filter_contains_u64(&a, 1) == DS_NO_SKETCH);
+}
+
+static void counts(void)
+{
+    ds_sketch a = DS_NONE, b = DS_NONE, filter = DS_NONE;
+    uint64_t estimate = 0, bound = 0, items[3] = {5, 5, 5};
+    int64_t with_sign[2] = {5, 5};
+
+    CHECK(ds_count_u64_new(&a, 0, 128, 9001) == DS_BAD_NUM_HASHES && ds_count_u64_new(&a, 4, 2, 9001) == DS_BAD_NUM_BUCKETS);
+    CHECK(ds_count_u64_new(&a, 255, UINT32_MAX, 9001) == DS_TABLE_TOO_LARGE);
+    CHECK(ds_count_u64_new(&a, 4, 128, 50541) == DS_ZERO_SEED_HASH);
+    CHECK(ds_count_u64_new(&a, 4, 128, 9001) == DS_OK && ds_count_u64_new(&b, 4, 128, 9001) == DS_OK);
+    CHECK(ds_count_u64_update_u64(&a, 9, 100) == DS_OK && ds_count_u64_decay(&a, 99, 100) == DS_OK);
+    CHECK(ds_count_u64_estimate_u64(&a, 9, &estimate) == DS_OK && estimate == 99);
+    /* the margin is e * 99 / 128, rounded down */
+    CHECK(ds_count_u64_upper_bound_i64(&a, 9, &bound) == DS_OK && bound == 101);
+    CHECK(ds_count_u64_halve(&a) == DS_OK && ds_count_u64_estimate_i64(&a, 9, &estimate) == DS_OK && estimate == 49);
+    CHECK(ds_count_u64_decay(&a, 0, 1) == DS_BAD_FRACTION && ds_count_u64_decay(&a, 2, 1) == DS_BAD_FRACTION);
+    CHECK(ds_count_u64_update_all_u64(&b, items, 3) == DS_OK && ds_count_u64_update_all_i64(&b, with_sign, 2) == DS_OK);
+    CHECK(ds_count_u64_update_i64(&b, -3, 2) == DS_OK && ds_count_u64_estimate_i64(&b, -3, &estimate) == DS_OK);
+    CHECK(estimate >= 2 && ds_count_u64_merge(&a, &b) == DS_OK);
+    CHECK(ds_count_u64_estimate_u64(&a, 5, &estimate) == DS_OK && estimate >= 5 && estimate <= 56);
+    CHECK(ds_count_u64_upper_bound_u64(&b, 5, &bound) == DS_OK && bound >= 5 && bound <= 7);
+    CHECK(ds_count_u64_merge(&a, &a) == DS_BAD_ARGUMENT);
+    CHECK(ds_count_u64_update_u64(&b, 1, UINT64_MAX - 8) == DS_OK);
+    /* room for one more */
+    CHECK(ds_count_u64_update_all_u64(&b, items, 3) == DS_WEIGHT_OVERFLOW);
+    CHECK(ds_count_u64_update_u64(&b, 1, 1) == DS_WEIGHT_OVERFLOW && ds_count_u64_merge(&a, &b) == DS_WEIGHT_OVERFLOW);
+    CHECK(ds_count_u64_new(&b, 3, 128, 9001) == DS_OK && ds_count_u64_merge(&a, &b) == DS_MISMATCH);
+    CHECK(ds_filter_new(&filter, 64, 1, 9001) == DS_OK && ds_count_u64_merge(&a, &filter) == DS_WRONG_KIND);
+    CHECK(ds_filter_union(&filter, &a) == DS_WRONG_KIND);
+    estimate = 11;
+    CHECK(ds_count_u64_estimate_u64(&filter, 5, &estimate) == DS_WRONG_KIND && estimate == 11);
+    ds_free(&a);
+    ds_free(&b);
+    ds_free(&filter);
+}
+
+/* One hash and three buckets under the seed 9001: the total 5, and the cells 5, 0 and 5. */
+static const uint8_t FIVE[48] = {2, 1, 18, 0, 0, 0, 0, 0, 3, 0, 0, 0, 1, 0xcc, 0x93, 0, 5, 0, 0, 0, 0, 0, 0, 0,
+                                 5, 0, 0,  0, 0, 0, 0, 0, 0, 0, 0, 0, 0, 0,    0,    0, 5, 0, 0, 0, 0, 0, 0, 0};
+
+static const struct alteration COUNTS_ALTERED[] = {
+    {0, 2, 48, 32, DS_OK},
+    {0, 2, 7, 32, DS_INSUFFICIENT_DATA},
+    {2, 21, 48, 32, DS_BAD_FAMILY},
+    {1, 2, 48, 32, DS_BAD_VERSION},
+    {0, 3, 48, 32, DS_BAD_PREAMBLE},
+    {12, 0, 48, 32, DS_BAD_NUM_HASHES},
+    {8, 2, 48, 32, DS_BAD_NUM_BUCKETS},
+    {13, 0, 48, 32, DS_SEED_HASH_MISMATCH},
+    {0, 2, 47, 32, DS_INSUFFICIENT_DATA},
+    {0, 2, 48, 31, DS_TABLE_TOO_LARGE},
+    {24, 6, 48, 32, DS_CELL_ABOVE_TOTAL},
+};
+
+static void images_of_counts(void)
+{
+    ds_sketch count = DS_NONE;
+    ds_count_numbers numbers;
+    uint8_t image[48];
+    size_t length;
+    for (size_t i = 0; i < sizeof COUNTS_ALTERED / sizeof *COUNTS_ALTERED; i++) {
+        const struct alteration *it = &COUNTS_ALTERED[i];
+        memcpy(image, FIVE, sizeof image);
+        image[it->place] = it->byte;
+        CHECK(ds_count_u64_from_bytes(&count, image, it->length, 9001, it->most_bytes) == it->answer);
+        CHECK(ds_count_u64_status(&count, &numbers) == DS_OK && numbers.total_weight == 5 && numbers.num_buckets == 3);
+    }
+    CHECK(ds_count_u64_from_bytes(&count, FIVE, 48, 1, 32) == DS_SEED_HASH_MISMATCH);
+    CHECK(numbers.seed == 9001 && numbers.num_hashes == 1);
+    CHECK(ds_count_u64_to_bytes(&count, NULL, 0, &length) == DS_NO_ROOM && length == 48);
+    CHECK(ds_count_u64_to_bytes(&count, image, 48, &length) == DS_OK && length == 48 && memcmp(image, FIVE, 48) == 0);
+    ds_free(&count);
+}
+
+/* Counts of weights with a sign, and the estimates of texts and of many numbers of either kind. */
+static void more_counts(void)
+{
+    ds_sketch a = DS_NONE, b = DS_NONE;
+    ds_count_numbers numbers;
+    const uint8_t *apple = (const uint8_t *)"apple";
+    uint64_t items[2] = {3, 4}, estimates[2] = {0, 0}, bound;
+    int64_t same[2] = {3, 4}, with_sign[2] = {0, 0}, estimate = 0;
+    uint8_t image[1 << 13];
+    size_t length;
+
+    CHECK(ds_count_u64_new(&a, 4, 128, 9001) == DS_OK && ds_count_u64_update_text(&a, apple, 5, 90) == DS_OK);
+    CHECK(ds_count_u64_estimate_text(&a, apple, 5, &estimates[0]) == DS_OK && estimates[0] == 90);
+    CHECK(ds_count_u64_upper_bound_text(&a, apple, 5, &bound) == DS_OK && bound == 91);
+    CHECK(ds_count_u64_update_text(&a, (const uint8_t *)"\xff", 1, 1) == DS_INVALID_UTF8);
+    CHECK(ds_count_u64_new(&a, 4, 128, 9001) == DS_OK && ds_count_u64_update_u64(&a, 4, 7) == DS_OK);
+    CHECK(ds_count_u64_estimate_all_u64(&a, items, 2, estimates, 2) == DS_OK && estimates[1] == 7);
+    estimates[1] = 0;
+    CHECK(ds_count_u64_estimate_all_i64(&a, same, 2, estimates, 2) == DS_OK && estimates[1] == 7);
+    CHECK(ds_count_u64_estimate_all_i64(&a, same, 2, estimates, 1) == DS_NO_ROOM);
+
+    CHECK(ds_count_i64_new(&b, 4, 128, 9001) == DS_OK && ds_count_i64_update_u64(&b, 4, -7) == DS_OK);
+    CHECK(ds_count_i64_update_i64(&b, 4, 2) == DS_OK && ds_count_i64_estimate_i64(&b, 4, &estimate) == DS_OK);
+    CHECK(estimate == -5 && ds_count_i64_estimate_u64(&b, 4, &estimate) == DS_OK && estimate == -5);
+    CHECK(ds_count_i64_status(&b, &numbers) == DS_OK && numbers.total_weight == 9 && numbers.num_buckets == 128);
+    CHECK(ds_count_i64_estimate_all_u64(&b, items, 2, with_sign, 2) == DS_OK && with_sign[1] == -5);
+    CHECK(ds_count_i64_estimate_all_i64(&b, same, 2, with_sign, 2) == DS_OK && with_sign[1] == -5);
+    CHECK(ds_count_i64_update_all_u64(&b, items, 2) == DS_OK && ds_count_i64_update_all_i64(&b, same, 2) == DS_OK);
+    CHECK(ds_count_i64_upper_bound_u64(&b, 4, &estimate) == DS_OK && estimate == -3);
+    CHECK(ds_count_i64_upper_bound_i64(&b, 4, &estimate) == DS_OK && estimate == -3);
+    CHECK(ds_count_i64_update_text(&b, apple, 5, INT64_MAX) == DS_WEIGHT_OVERFLOW);
+    CHECK(ds_count_i64_merge(&b, &a) == DS_WRONG_KIND && ds_count_u64_merge(&a, &b) == DS_WRONG_KIND);
+    CHECK(ds_count_i64_to_bytes(&b, image, sizeof image, &length) == DS_OK && length == 24 + 8 * 512);
+    ds_free(&a);
+    CHECK(ds_count_i64_from_bytes(&a, image, length, 9001, 1 << 14) == DS_OK && ds_count_i64_merge(&b, &a) == DS_OK);
+    CHECK(ds_count_i64_estimate_u64(&b, 4, &estimate) == DS_OK && estimate == -6);
+    ds_free(&b);
+    CHECK(ds_count_i64_new(&b, 4, 128, 9001) == DS_OK && ds_count_i64_update_text(&b, apple, 5, -90) == DS_OK);
+    CHECK(ds_count_i64_estimate_text(&b, apple, 5, &estimate) == DS_OK && estimate == -90);
+    CHECK(ds_count_i64_upper_bound_text(&b, apple, 5, &estimate) == DS_OK && estimate == -89);
+    ds_free(&a);
+    ds_free(&b);
+}
+
+/* The image of a sketch of frequent items with no weight that may grow to 64 slots, and of weight 5 of the number 7. */
+static const uint8_t NOTHING[8] = {1, 1, 10, 6, 3, 5, 0, 0};
+static const uint8_t OF_SEVEN[48] = {4, 1, 10, 6, 3, 0, 0, 0, 1, 0, 0, 0, 0, 0, 0, 0, 5, 0, 0, 0, 0, 0, 0, 0,
+                                     0, 0, 0,  0, 0, 0, 0, 0, 5, 0, 0, 0, 0, 0, 0, 0, 7, 0, 0, 0, 0, 0, 0, 0};
+
+static const struct alteration FREQUENT_ALTERED[] = {
+    {0, 4, 48, 1 << 20, DS_OK},
+    {0, 4, 7, 1 << 20, DS_INSUFFICIENT_DATA},
+    {2, 18, 48, 1 << 20, DS_BAD_FAMILY},
+    {1, 2, 48, 1 << 20, DS_BAD_VERSION},
+    {0, 2, 48, 1 << 20, DS_BAD_PREAMBLE},
+    {3, 31, 48, 1 << 20, DS_LG_MAX_TOO_LARGE},
+    {4, 2, 48, 1 << 20, DS_LG_CUR_TOO_SMALL},
+    {4, 7, 48, 1 << 20, DS_LG_CUR_ABOVE_MAX},
+    {5, 5, 48, 1 << 20, DS_EMPTY_FLAG_MISMATCH},
+    {8, 7, 48, 1 << 20, DS_TOO_MANY_ACTIVE},
+    {0, 4, 47, 1 << 20, DS_INSUFFICIENT_DATA},
+    {0, 4, 48, 100, DS_TABLE_TOO_LARGE},
+    {16, 0, 48, 1 << 20, DS_ZERO_TOTAL},
+    {32, 6, 48, 1 << 20, DS_WEIGHTS_EXCEED_TOTAL},
+    {24, 1, 48, 1 << 20, DS_ERROR_EXCEEDS_TOTAL},
+};
+
+#define FREQUENT_IMAGES(function, type, prefix) \
+    static void function##_images(ds_sketch *a) \
+    { \
+        ds_frequent_numbers numbers; \
+        ds_frequent_bounds bounds = {0, 0, 0}; \
+        ds_frequent_bounds rows[3]; \
+        const type items[3] = {7, 7, 8}; \
+        type found[2]; \
+        uint8_t image[48]; \
+        size_t length; \
+        CHECK(prefix##_from_bytes(a, NOTHING, 8, 1 << 20) == DS_OK && prefix##_status(a, &numbers) == DS_OK); \
+        CHECK(numbers.max_map_size == 64 && numbers.sample_size == 48 && numbers.maximum_map_capacity == 48); \
+        CHECK(numbers.current_map_capacity == 6 && numbers.total_weight == 0 && numbers.maximum_error == 0); \
+        CHECK(prefix##_update_all(a, items, 3) == DS_OK && prefix##_bounds(a, 7, &bounds) == DS_OK && bounds.estimate == 2); \
+        CHECK(prefix##_status(a, &numbers) == DS_OK && numbers.num_active_items == 2 && numbers.total_weight == 3); \
+        CHECK(prefix##_update(a, 8, 6) == DS_OK && prefix##_rows(a, true, 0, NULL, 0, NULL, 0, &length) == DS_NO_ROOM); \
+        CHECK(length == 2 && prefix##_rows(a, true, 0, found, 2, rows, 3, &length) == DS_OK && length == 2); \
+        CHECK(found[0] == 8 && rows[0].estimate == 7 && found[1] == 7 && rows[1].lower_bound == 2); \
+        CHECK(prefix##_rows(a, false, 2, found, 2, rows, 3, &length) == DS_OK && length == 1 && found[0] == 8); \
+        CHECK(prefix##_reset(a) == DS_OK && prefix##_update(a, 7, 5) == DS_OK); \
+        CHECK(prefix##_to_bytes(a, NULL, 0, &length) == DS_NO_ROOM && length == 48); \
+        CHECK(prefix##_to_bytes(a, image, 48, &length) == DS_OK && memcmp(image, OF_SEVEN, 48) == 0); \
+        for (size_t i = 0; i < sizeof FREQUENT_ALTERED / sizeof *FREQUENT_ALTERED; i++) { \
+            const struct alteration *it = &FREQUENT_ALTERED[i]; \
+            memcpy(image, OF_SEVEN, sizeof image); \
+            image[it->place] = it->byte; \
+            CHECK(prefix##_from_bytes(a, image, it->length, it->most_bytes) == it->answer); \
+            CHECK(prefix##_bounds(a, 7, &bounds) == DS_OK && bounds.lower_bound == 5 && bounds.upper_bound == 5); \
+        } \
+    }
+
+FREQUENT_IMAGES(frequent_numbers, uint64_t, ds_frequent_u64)
+FREQUENT_IMAGES(frequent_signed_numbers, int64_t, ds_frequent_i64)
+
+/* Frequent items of a type: seven items of weight 1 in a sketch of eight slots are purged once, which leaves no choice. */
+#define FREQUENT(function, type, prefix) \
+    static void function(void) \
+    { \
+        ds_sketch a = DS_NONE, b = DS_NONE; \
+        ds_frequent_bounds bounds = {0, 0, 0}; \
+        CHECK(prefix##_new(&a, 9, 2) == DS_MAP_SIZE_NOT_POWER_OF_TWO && prefix##_new(&a, 4, 2) == DS_MAP_SIZE_TOO_SMALL); \
+        CHECK(prefix##_new(&a, (size_t)1 << 31, 2) == DS_MAP_SIZE_TOO_LARGE && prefix##_new(&a, 8, 5) == DS_BAD_SAMPLE_SIZE); \
+        CHECK(prefix##_update(&a, 1, 1) == DS_NO_SKETCH); \
+        CHECK(prefix##_new(&a, 8, ds_greatest_sample(8)) == DS_OK && prefix##_new(&b, 64, 48) == DS_OK); \
+        for (type item = 0; item < 7; item++) CHECK(prefix##_update(&a, item, 1) == DS_OK); \
+        CHECK(prefix##_bounds(&a, 3, &bounds) == DS_OK && bounds.lower_bound == 0 && bounds.upper_bound == 1); \
+        CHECK(prefix##_update(&b, 5, 5) == DS_OK && prefix##_update(&b, 5, 0) == DS_OK); \
+        CHECK(prefix##_bounds(&b, 5, &bounds) == DS_OK && bounds.lower_bound == 5 && bounds.upper_bound == 5); \
+        CHECK(prefix##_merge(&a, &b) == DS_OK && prefix##_bounds(&a, 5, &bounds) == DS_OK); \
+        CHECK(bounds.lower_bound == 5 && bounds.estimate == 6 && bounds.upper_bound == 6); \
+        CHECK(prefix##_merge(&a, &a) == DS_BAD_ARGUMENT); \
+        CHECK(prefix##_update(&a, 1, UINT64_MAX) == DS_WEIGHT_OVERFLOW); \
+        CHECK(ds_filter_new(&b, 64, 1, 9001) == DS_OK && prefix##_merge(&a, &b) == DS_WRONG_KIND); \
+        CHECK(prefix##_bounds(&b, 5, &bounds) == DS_WRONG_KIND && bounds.estimate == 6); \
+        ds_free(&b); \
+        CHECK(prefix##_merge(&a, &b) == DS_NO_SKETCH); \
+        function##_images(&a); \
+        ds_free(&a); \
+    }
+
+FREQUENT(frequent_numbers, uint64_t, ds_frequent_u64)
+FREQUENT(frequent_signed_numbers, int64_t, ds_frequent_i64)
+
+/* Frequent texts: the same purge, and what a text is. */
+static void frequent_texts(void)
+{
+    static const char *const words[7] = {"a", "b", "c", "d", "e", "f", "g"};
+    ds_sketch a = DS_NONE, b = DS_NONE, copy = DS_NONE;
+    ds_frequent_bounds bounds = {0, 0, 0};
+    ds_frequent_numbers numbers;
+    uint8_t image[256];
+    size_t length;
+    CHECK(ds_frequent_text_new(&a, 8, 6) == DS_OK && ds_frequent_text_new(&b, 64, 48) == DS_OK);
+    for (int i = 0; i < 7; i++) CHECK(ds_frequent_text_update(&a, (const uint8_t *)words[i], 1, 1) == DS_OK);
+    CHECK(ds_frequent_text_bounds(&a, (const uint8_t *)"c", 1, &bounds) == DS_OK && bounds.lower_bound == 0);
+    CHECK(bounds.upper_bound == 1 && ds_frequent_text_update(&b, (const uint8_t *)"a", 1, 5) == DS_OK);
+    CHECK(ds_frequent_text_merge(&a, &b) == DS_OK && ds_clone(&copy, &a) == DS_OK);
+    CHECK(ds_frequent_text_bounds(&copy, (const uint8_t *)"a", 1, &bounds) == DS_OK && bounds.lower_bound == 5);
+    CHECK(bounds.estimate == 6 && bounds.upper_bound == 6);
+    CHECK(ds_frequent_text_update(&a, (const uint8_t *)"\xff", 1, 1) == DS_INVALID_UTF8);
+    CHECK(ds_frequent_text_bounds(&a, (const uint8_t *)"\xff", 1, &bounds) == DS_INVALID_UTF8 && bounds.estimate == 6);
+    CHECK(ds_frequent_text_update(&a, NULL, 0, 2) == DS_OK && ds_frequent_text_update(&a, NULL, 1, 2) == DS_BAD_ARGUMENT);
+    CHECK(ds_frequent_u64_update(&a, 1, 1) == DS_WRONG_KIND && ds_frequent_text_merge(&a, &a) == DS_BAD_ARGUMENT);
+    CHECK(ds_frequent_text_to_bytes(&copy, image, sizeof image, &length) == DS_OK && length == 32 + 8 + 5);
+    CHECK(ds_frequent_text_from_bytes(&b, image, length - 1, 1 << 20) == DS_INSUFFICIENT_DATA);
+    image[length - 1] = 0xff;
+    CHECK(ds_frequent_text_from_bytes(&b, image, length, 1 << 20) == DS_INVALID_UTF8);
+    image[length - 1] = 'z';
+    CHECK(ds_frequent_text_from_bytes(&b, image, length, 1 << 20) == DS_OK);
+    CHECK(ds_frequent_text_bounds(&b, (const uint8_t *)"z", 1, &bounds) == DS_OK && bounds.lower_bound == 5);
+    CHECK(ds_frequent_text_status(&a, &numbers) == DS_OK && numbers.total_weight == 14 && numbers.maximum_error == 1);
+    CHECK(numbers.max_map_size == 8 && numbers.sample_size == 6 && ds_frequent_text_reset(&a) == DS_OK);
+    CHECK(ds_frequent_text_status(&a, &numbers) == DS_OK && numbers.total_weight == 0 && numbers.sample_size == 6);
+    ds_free(&a);
+    ds_free(&b);
+    ds_free(&copy);
+}
+
+static void *fill(void *argument)
+{
+    ds_sketch *handle = argument;
+    for (uint64_t i = 0; i < 20000; i++)
+        if (ds_filter_insert_u64(handle, i) != DS_OK) return handle;
+    return NULL;
+}
+
+/* Each of four threads fills a filter of its own, and this one goes on with them. */
+static void threads(void)
+{
+    enum { THREADS = 4 };
+    ds_sketch handles[THREADS] = {DS_NONE};
+    pthread_t ids[THREADS];
+    for (int i = 0; i < THREADS; i++) {
+        CHECK(ds_filter_new(&handles[i], 1 << 18, 7, 9001) == DS_OK);
+        CHECK(pthread_create(&ids[i], NULL, fill, &handles[i]) == 0);
+    }
+    for (int i = 0; i < THREADS; i++) {
+        void *failed;
+        CHECK(pthread_join(ids[i], &failed) == 0 && !failed);
+        CHECK(ds_filter_contains_u64(&handles[i], 19999) == DS_YES);
+    }
+    for (int i = 1; i < THREADS; i++) CHECK(ds_filter_union(&handles[0], &handles[i]) == DS_OK);
+    for (int i = 0; i < THREADS; i++) ds_free(&handles[i]);
+}
+
+static void names(void)
+{
+    CHECK(strcmp(ds_answer_name(DS_MISMATCH), "Mismatch") == 0);
+    CHECK(strcmp(ds_answer_text(DS_MISMATCH), "shapes or seeds differ") == 0);
+    CHECK(strcmp(ds_answer_name(DS_YES), "Ok") == 0 && strcmp(ds_answer_name(-99), "Unknown") == 0);
+}
+
+int main(void)
+{
+    damaged_images();
+    filters();
+    counts();
+    images_of_counts();
+    more_counts();
+    frequent_numbers();
+    frequent_signed_numbers();
+    frequent_texts();
+    threads();
+    names();
+    printf("%d of %d checks hold\n", checks - failures, checks);
+    return failures != 0;
+}

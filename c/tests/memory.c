@@ -1,0 +1,90 @@
+/* A list of calls of the library for C, of which some ask for memory. The list asks for none itself. Where memory is refused
+ * to a call the sketch is as it was, and the call, made again, is done. It exits with 1 where that does not hold. */
+#include <datasketches.h>
+#include <stdlib.h>
+#include <string.h>
+
+static uint8_t before[1 << 12], after[1 << 12];
+
+/* The weight of all items of a sketch of frequent items, else 0. */
+static uint64_t weight_of(ds_sketch *handle)
+{
+    ds_frequent_numbers numbers;
+    if (ds_frequent_u64_status(handle, &numbers) == DS_OK) return numbers.total_weight;
+    return ds_frequent_i64_status(handle, &numbers) == DS_OK ? numbers.total_weight : 0;
+}
+
+/* Whether an answer is due: done, or refused for want of memory, which must have left the sketch as it was. */
+static int is_due(int32_t answer, ds_sketch *handle, uint64_t weight)
+{
+    size_t length;
+    if (answer >= 0) return 1;
+    if (answer != DS_NO_MEMORY || weight_of(handle) != weight) return 0;
+    answer = ds_filter_to_bytes(handle, after, sizeof after, &length);
+    return answer == DS_OK ? memcmp(before, after, length) == 0 : answer == DS_NO_SKETCH || answer == DS_WRONG_KIND;
+}
+
+/* Keeps the filter's image, to compare it with. */
+static void keep(ds_sketch *filter)
+{
+    size_t length;
+    int32_t answer = ds_filter_to_bytes(filter, before, sizeof before, &length);
+    if (answer == DS_NO_MEMORY) answer = ds_filter_to_bytes(filter, before, sizeof before, &length);
+    if (answer != DS_OK) exit(1);
+}
+
+/* Makes a call, and makes it again where memory was refused to it. */
+#define DONE(handle, call) \
+    do { \
+        uint64_t weight = weight_of(handle); \
+        int32_t answer = call; \
+        if (!is_due(answer, handle, weight)) return 1; \
+        if (answer < 0 && (call) < 0) return 1; \
+    } while (0)
+
+int main(void)
+{
+    ds_sketch filter = DS_NONE, other = DS_NONE, count = DS_NONE, second = DS_NONE;
+    ds_sketch frequent = DS_NONE, many = DS_NONE, copy = DS_NONE;
+    ds_frequent_numbers numbers;
+    uint8_t image[1 << 12];
+    size_t length = 0;
+    uint64_t items[64], estimate = 0;
+    for (uint64_t i = 0; i < 64; i++) items[i] = i;
+
+    DONE(&filter, ds_filter_new(&filter, 959, 7, 9001));
+    DONE(&other, ds_filter_new(&other, 959, 7, 9001));
+    DONE(&filter, ds_filter_insert_all_u64(&filter, items, 64));
+    DONE(&other, ds_filter_insert_text(&other, (const uint8_t *)"apple", 5));
+    DONE(&filter, ds_filter_union(&filter, &other));
+    keep(&filter);
+    DONE(&filter, ds_filter_to_bytes(&filter, image, sizeof image, &length));
+    DONE(&filter, ds_filter_from_bytes(&filter, image, length, 1 << 12));
+    if (ds_filter_contains_u64(&filter, 63) != DS_YES) return 1;
+    keep(&filter);
+    DONE(&filter, ds_filter_new(&filter, 64, 1, 9001));
+    DONE(&count, ds_count_u64_new(&count, 4, 128, 9001));
+    DONE(&second, ds_count_u64_new(&second, 4, 128, 9001));
+    DONE(&count, ds_count_u64_update_all_u64(&count, items, 64));
+    DONE(&second, ds_count_u64_merge(&second, &count));
+    if (ds_count_u64_estimate_u64(&second, 5, &estimate) != DS_OK || !estimate) return 1;
+    DONE(&frequent, ds_frequent_u64_new(&frequent, 64, 48));
+    DONE(&many, ds_frequent_i64_new(&many, 8, 6));
+    /* the table doubles three times; where memory is refused to that, the items before are added */
+    for (uint64_t i = 0; i < 64; i++) DONE(&frequent, ds_frequent_u64_update(&frequent, i, i + 1));
+    for (int64_t i = 0; i < 64; i++) DONE(&many, ds_frequent_i64_update(&many, i, 1));
+    DONE(&frequent, ds_frequent_u64_to_bytes(&frequent, image, sizeof image, &length));
+    DONE(&copy, ds_clone(&copy, &frequent));
+    DONE(&frequent, ds_frequent_u64_merge(&frequent, &copy));
+    DONE(&copy, ds_frequent_u64_from_bytes(&copy, image, length, 1 << 14));
+    if (ds_frequent_u64_status(&frequent, &numbers) != DS_OK || numbers.total_weight != 2 * 2080) return 1;
+    if (ds_frequent_u64_status(&copy, &numbers) != DS_OK || numbers.total_weight != 2080) return 1;
+    ds_free(&frequent);
+    ds_free(&many);
+    ds_free(&copy);
+    ds_free(&filter);
+    ds_free(&other);
+    ds_free(&count);
+    ds_free(&second);
+    return 0;
+}

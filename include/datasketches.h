@@ -1,0 +1,554 @@
+/* datasketches.h: sketches of long streams, proved to meet their contracts.
+ *
+ * A handle is a `ds_sketch`: one word that C keeps and the library fills. Every call answers a number: 0 or more where it
+ * was done, and below 0 a refusal, which leaves every sketch as it was, unless the call says otherwise. `ds_answer_name`
+ * and `ds_answer_text` tell it in words. Numbers are hashed as their type: 8 bytes, lowest first, so that a number from 0
+ * to 2^63 - 1 is the same item as `uint64_t` and as `int64_t`. A text is bytes that must be UTF-8, without an end mark.
+ *
+ * What the library's proofs take for granted of C:
+ *
+ *  1. A handle is made as `DS_NONE`, is changed by these calls alone, and is not copied. What it holds belongs to the
+ *     library: `ds_free` gives it back, and a call that puts a sketch into a handle frees what was there.
+ *  2. Pointers are not null and aligned for their type, they point to as many values as their count says, which a caller
+ *     may read, or write where there is no `const`, and no two arguments of a call overlap.
+ *  3. One call at a time uses a handle. Another thread may go on with it, where a lock, a thread's start or a join lies
+ *     between. Two handles may be used by two threads at once.
+ *  4. No call is made from a signal handler, nor by the child of a `fork` made while a call ran.
+ *  5. The program has one `malloc`, `realloc` and `free`, which the library calls.
+ *  6. A `bool` that the library reads is 0 or 1.
+ *
+ * Of the second, two things are looked at here, as they cost next to nothing: the same handle twice, and a null pointer
+ * with a count above 0, are answered by `DS_BAD_ARGUMENT`, and a null pointer with the count 0 is no values. These checks
+ * are macros of the calls' names; `(ds_filter_union)(a, b)`, in brackets, is the call without them.
+ */
+#ifndef DATASKETCHES_H
+#define DATASKETCHES_H
+
+#include <stdbool.h>
+#include <stddef.h>
+#include <stdint.h>
+
+#ifdef __cplusplus
+extern "C" {
+#endif
+
+/* A sketch of some kind, or none where `sketch` is null. Never read or write the pointer. */
+typedef struct ds_sketch {
+    void *sketch;
+} ds_sketch;
+
+/* The handle of no sketch: `ds_sketch filter = DS_NONE;` */
+#define DS_NONE {0}
+
+/* What calls answer beside a sketch's own refusals. */
+enum {
+    DS_OK = 0,             /* the call was done */
+    DS_NO = 0,             /* no, as the answer to a question */
+    DS_YES = 1,            /* yes */
+    DS_NO_SKETCH = -1,     /* the handle has no sketch */
+    DS_WRONG_KIND = -2,    /* the sketch is of a kind that does not know the call */
+    DS_NO_ROOM = -3,       /* a buffer of the caller's has not the length that the call needs */
+    DS_BAD_FRACTION = -4,  /* a fraction is not above 0 and at most 1 */
+    DS_BAD_ARGUMENT = -5   /* from this header alone: the same handle twice, or null with a count above 0 */
+};
+
+/* The refusals of the sketches: number, constant, name and text of each. */
+#define DS_REFUSALS(X) \
+    X(-11, DS_BAD_NUM_BITS, "BadNumBits", "num_bits out of range") \
+    X(-12, DS_BAD_NUM_HASHES, "BadNumHashes", "num_hashes out of range") \
+    X(-13, DS_BAD_NUM_BUCKETS, "BadNumBuckets", "num_buckets below 3") \
+    X(-14, DS_TABLE_TOO_LARGE, "TableTooLarge", "table too large") \
+    X(-15, DS_ZERO_SEED_HASH, "ZeroSeedHash", "seed hash is zero") \
+    X(-16, DS_MISMATCH, "Mismatch", "shapes or seeds differ") \
+    X(-17, DS_WEIGHT_OVERFLOW, "WeightOverflow", "total weight overflow") \
+    X(-18, DS_MAP_SIZE_NOT_POWER_OF_TWO, "MapSizeNotPowerOfTwo", "map size is not a power of two") \
+    X(-19, DS_MAP_SIZE_TOO_SMALL, "MapSizeTooSmall", "map size below 8") \
+    X(-20, DS_MAP_SIZE_TOO_LARGE, "MapSizeTooLarge", "map size above 2^30") \
+    X(-21, DS_ITEM_TOO_LONG, "ItemTooLong", "item too long") \
+    X(-22, DS_INSUFFICIENT_DATA, "InsufficientData", "insufficient data") \
+    X(-23, DS_BAD_FAMILY, "BadFamily", "wrong family") \
+    X(-24, DS_BAD_VERSION, "BadVersion", "wrong serial version") \
+    X(-25, DS_BAD_PREAMBLE, "BadPreamble", "wrong preamble longs") \
+    X(-26, DS_BAD_NUM_WORDS, "BadNumWords", "number of words below 1") \
+    X(-27, DS_BAD_BIT_COUNT, "BadBitCount", "wrong number of set bits") \
+    X(-28, DS_SEED_HASH_MISMATCH, "SeedHashMismatch", "seed hashes differ") \
+    X(-29, DS_VALUE_OUT_OF_RANGE, "ValueOutOfRange", "value out of range") \
+    X(-30, DS_NEGATIVE_TOTAL, "NegativeTotal", "total weight is negative") \
+    X(-31, DS_CELL_ABOVE_TOTAL, "CellAboveTotal", "counter exceeds total weight") \
+    X(-32, DS_LG_CUR_TOO_SMALL, "LgCurTooSmall", "current map size below 8") \
+    X(-33, DS_LG_MAX_TOO_LARGE, "LgMaxTooLarge", "greatest map size above 2^30") \
+    X(-34, DS_LG_CUR_ABOVE_MAX, "LgCurAboveMax", "current map size above greatest") \
+    X(-35, DS_EMPTY_FLAG_MISMATCH, "EmptyFlagMismatch", "empty flag does not match preamble") \
+    X(-36, DS_TOO_MANY_ACTIVE, "TooManyActive", "too many active items") \
+    X(-37, DS_ZERO_TOTAL, "ZeroTotal", "total weight is zero") \
+    X(-38, DS_WEIGHTS_EXCEED_TOTAL, "WeightsExceedTotal", "weights exceed total weight") \
+    X(-39, DS_ERROR_EXCEEDS_TOTAL, "ErrorExceedsTotal", "weights and error exceed total weight") \
+    X(-40, DS_INVALID_UTF8, "InvalidUtf8", "invalid UTF-8") \
+    X(-41, DS_BAD_ITEM, "BadItem", "bad item") \
+    X(-42, DS_NO_MEMORY, "NoMemory", "out of memory") \
+    X(-43, DS_BAD_SAMPLE_SIZE, "BadSampleSize", "sample size out of range") \
+    X(-44, DS_BAD_WINDOWS, "BadWindows", "windows out of range")
+
+#define DS_AS_CONSTANT(number, constant, name, text) constant = number,
+enum { DS_REFUSALS(DS_AS_CONSTANT) DS_LEAST_ANSWER = -44 };
+#undef DS_AS_CONSTANT
+
+/* The name of an answer, as "Mismatch". Never null. */
+static inline const char *ds_answer_name(int32_t answer)
+{
+#define DS_AS_NAME(number, constant, name, text) case number: return name;
+    switch (answer) {
+    case DS_NO_SKETCH: return "NoSketch";
+    case DS_WRONG_KIND: return "WrongKind";
+    case DS_NO_ROOM: return "NoRoom";
+    case DS_BAD_FRACTION: return "BadFraction";
+    case DS_BAD_ARGUMENT: return "BadArgument";
+    DS_REFUSALS(DS_AS_NAME)
+    default: return answer < 0 ? "Unknown" : "Ok";
+    }
+#undef DS_AS_NAME
+}
+
+/* What an answer says, as "shapes or seeds differ". Never null. */
+static inline const char *ds_answer_text(int32_t answer)
+{
+#define DS_AS_TEXT(number, constant, name, text) case number: return text;
+    switch (answer) {
+    case DS_NO_SKETCH: return "the handle has no sketch";
+    case DS_WRONG_KIND: return "the sketch is of another kind";
+    case DS_NO_ROOM: return "the buffer has not the length that is needed";
+    case DS_BAD_FRACTION: return "the fraction is not above 0 and at most 1";
+    case DS_BAD_ARGUMENT: return "the same handle twice, or null with a count above 0";
+    DS_REFUSALS(DS_AS_TEXT)
+    default: return answer < 0 ? "unknown" : "ok";
+    }
+#undef DS_AS_TEXT
+}
+
+/* Frees the handle's sketch, of any kind, if it has one; twice does no harm. The handle is then DS_NONE. */
+void ds_free(ds_sketch *handle);
+
+/* Puts a copy of the other handle's sketch into this handle. The other keeps its own. Refused: DS_NO_SKETCH
+ * where the other has none, and DS_NO_MEMORY. */
+int32_t ds_clone(ds_sketch *handle, ds_sketch *other);
+
+/* --- Filters: sets of items; an item that was inserted is never missed, while nothing is taken away --- */
+
+/* A filter's numbers: bits that are set, bits in all, the seed, and positions an item. */
+typedef struct ds_filter_numbers {
+    uint64_t bits_used;
+    uint64_t capacity;
+    uint64_t seed;
+    uint16_t num_hashes;
+} ds_filter_numbers;
+
+/* Puts an empty filter of at least `num_bits` bits, 1 to 137438953152, into the handle, with 1 to 32767 positions an item.
+ * The library's own seed is 9001. Refused: DS_BAD_NUM_BITS, DS_BAD_NUM_HASHES, DS_NO_MEMORY. */
+int32_t ds_filter_new(ds_sketch *handle, uint64_t num_bits, uint16_t num_hashes, uint64_t seed);
+
+/* Inserts an item. Refused: DS_NO_SKETCH, DS_WRONG_KIND, as in all calls for filters, and a text that is not UTF-8 by
+ * DS_INVALID_UTF8. */
+int32_t ds_filter_insert_u64(ds_sketch *handle, uint64_t item);
+int32_t ds_filter_insert_i64(ds_sketch *handle, int64_t item);
+int32_t ds_filter_insert_text(ds_sketch *handle, const uint8_t *item, size_t length);
+
+/* Inserts many numbers, as one after another, and faster. */
+int32_t ds_filter_insert_all_u64(ds_sketch *handle, const uint64_t *items, size_t count);
+int32_t ds_filter_insert_all_i64(ds_sketch *handle, const int64_t *items, size_t count);
+
+/* Whether the filter contains an item: DS_YES or DS_NO. */
+int32_t ds_filter_contains_u64(ds_sketch *handle, uint64_t item);
+int32_t ds_filter_contains_i64(ds_sketch *handle, int64_t item);
+int32_t ds_filter_contains_text(ds_sketch *handle, const uint8_t *item, size_t length);
+
+/* Writes down for each number whether the filter contains it. Refused by DS_NO_ROOM where there are not as many answers
+ * as items; a refusal leaves the answers as they were. */
+int32_t ds_filter_contains_all_u64(ds_sketch *handle, const uint64_t *items, size_t count, bool *answers, size_t room);
+int32_t ds_filter_contains_all_i64(ds_sketch *handle, const int64_t *items, size_t count, bool *answers, size_t room);
+
+/* Adds the other filter's positions, keeps those that both have, or takes the other's away. The other filter stays as it
+ * was. Refused by DS_MISMATCH where bits, hashes or seeds differ. */
+int32_t ds_filter_union(ds_sketch *handle, ds_sketch *other);
+int32_t ds_filter_intersect(ds_sketch *handle, ds_sketch *other);
+int32_t ds_filter_difference(ds_sketch *handle, ds_sketch *other);
+
+/* Takes all positions away. */
+int32_t ds_filter_reset(ds_sketch *handle);
+
+/* Writes down the filter's numbers. */
+int32_t ds_filter_status(ds_sketch *handle, ds_filter_numbers *status);
+
+/* Writes the filter's image to the front of `out`, and how many bytes it has to `written`. Refused by DS_NO_ROOM where
+ * `capacity` is less than that, which `written` then tells, and by DS_NO_MEMORY. */
+int32_t ds_filter_to_bytes(ds_sketch *handle, uint8_t *out, size_t capacity, size_t *written);
+
+/* Puts the filter of an image into the handle, where its words take at most `most_bytes` bytes. Refused by the fault of
+ * the image's first check that fails. */
+int32_t ds_filter_from_bytes(ds_sketch *handle, const uint8_t *image, size_t length, size_t most_bytes);
+
+/* --- Count-Min sketches in uint64_t: an estimate is never below what came of the item --- */
+
+/* Puts an empty sketch of 1 to 255 rows, a hash each, of 3 or more buckets, fewer than 2^30 cells in all, into the
+ * handle. The library's own seed is 9001. Refused: DS_BAD_NUM_HASHES, DS_BAD_NUM_BUCKETS, DS_TABLE_TOO_LARGE,
+ * DS_ZERO_SEED_HASH, DS_NO_MEMORY. */
+int32_t ds_count_u64_new(ds_sketch *handle, uint8_t num_hashes, uint32_t num_buckets, uint64_t seed);
+
+/* Adds a weight to an item's. Refused by DS_WEIGHT_OVERFLOW where the total weight would pass 2^64 - 1, and in all calls
+ * for counts by DS_NO_SKETCH and DS_WRONG_KIND, and a text that is not UTF-8 by DS_INVALID_UTF8. */
+int32_t ds_count_u64_update_u64(ds_sketch *handle, uint64_t item, uint64_t weight);
+int32_t ds_count_u64_update_i64(ds_sketch *handle, int64_t item, uint64_t weight);
+int32_t ds_count_u64_update_text(ds_sketch *handle, const uint8_t *item, size_t length, uint64_t weight);
+
+/* Adds 1 to the weight of each item, in order. Refused by DS_WEIGHT_OVERFLOW where the total has no room for all: then
+ * the first items are counted, as many as there was room for. */
+int32_t ds_count_u64_update_all_u64(ds_sketch *handle, const uint64_t *items, size_t count);
+int32_t ds_count_u64_update_all_i64(ds_sketch *handle, const int64_t *items, size_t count);
+
+/* Writes down the estimate of an item's weight: its least cell. */
+int32_t ds_count_u64_estimate_u64(ds_sketch *handle, uint64_t item, uint64_t *estimate);
+int32_t ds_count_u64_estimate_i64(ds_sketch *handle, int64_t item, uint64_t *estimate);
+int32_t ds_count_u64_estimate_text(ds_sketch *handle, const uint8_t *item, size_t length, uint64_t *estimate);
+
+/* Writes down the estimate of each number. Refused by DS_NO_ROOM where there are not as many estimates as items. */
+int32_t ds_count_u64_estimate_all_u64(ds_sketch *handle, const uint64_t *items, size_t count, uint64_t *estimates, size_t room);
+int32_t ds_count_u64_estimate_all_i64(ds_sketch *handle, const int64_t *items, size_t count, uint64_t *estimates, size_t room);
+
+/* Writes down the estimate and the margin, e times the total over the buckets, as an upper bound. */
+int32_t ds_count_u64_upper_bound_u64(ds_sketch *handle, uint64_t item, uint64_t *bound);
+int32_t ds_count_u64_upper_bound_i64(ds_sketch *handle, int64_t item, uint64_t *bound);
+int32_t ds_count_u64_upper_bound_text(ds_sketch *handle, const uint8_t *item, size_t length, uint64_t *bound);
+
+/* Adds the other sketch's cells and total. The other sketch stays as it was. Refused by DS_MISMATCH where hashes, buckets
+ * or seeds differ, and by DS_WEIGHT_OVERFLOW. */
+int32_t ds_count_u64_merge(ds_sketch *handle, ds_sketch *other);
+
+/* Halves each cell and the total, rounded down. */
+int32_t ds_count_u64_halve(ds_sketch *handle);
+
+/* Multiplies each cell and the total by a fraction, rounded down. Refused by DS_BAD_FRACTION where it is not above 0 and
+ * at most 1. */
+int32_t ds_count_u64_decay(ds_sketch *handle, uint64_t numerator, uint64_t denominator);
+
+/* A Count-Min sketch's numbers: the weight of all items, the seed, cells in a row, and rows. */
+typedef struct ds_count_numbers {
+    uint64_t total_weight;
+    uint64_t seed;
+    uint32_t num_buckets;
+    uint8_t num_hashes;
+} ds_count_numbers;
+
+/* Writes down the sketch's numbers. */
+int32_t ds_count_u64_status(ds_sketch *handle, ds_count_numbers *status);
+
+/* Writes the sketch's image to the front of `out`, and how many bytes it has to `written`. Refused by DS_NO_ROOM where
+ * `capacity` is less than that, which `written` then tells, and by DS_NO_MEMORY. */
+int32_t ds_count_u64_to_bytes(ds_sketch *handle, uint8_t *out, size_t capacity, size_t *written);
+
+/* Puts the sketch of an image, which is read under a seed, into the handle, where it takes at most `most_bytes` bytes: 8 a
+ * cell and 8 a row. Refused by the fault of the image's first check that fails. */
+int32_t ds_count_u64_from_bytes(ds_sketch *handle, const uint8_t *image, size_t length, uint64_t seed, size_t most_bytes);
+
+/* --- Count-Min sketches in int64_t: weights may be below 0 --- */
+
+/* As the calls in uint64_t, with weights, estimates and bounds that have a sign. The total is that of the weights without
+ * their signs, and a call is refused by DS_WEIGHT_OVERFLOW where it would pass 2^63 - 1. Where weights below 0 came an
+ * estimate may be below what came of the item. There is no halving and no decay. */
+int32_t ds_count_i64_new(ds_sketch *handle, uint8_t num_hashes, uint32_t num_buckets, uint64_t seed);
+int32_t ds_count_i64_update_u64(ds_sketch *handle, uint64_t item, int64_t weight);
+int32_t ds_count_i64_update_i64(ds_sketch *handle, int64_t item, int64_t weight);
+int32_t ds_count_i64_update_text(ds_sketch *handle, const uint8_t *item, size_t length, int64_t weight);
+int32_t ds_count_i64_update_all_u64(ds_sketch *handle, const uint64_t *items, size_t count);
+int32_t ds_count_i64_update_all_i64(ds_sketch *handle, const int64_t *items, size_t count);
+int32_t ds_count_i64_estimate_u64(ds_sketch *handle, uint64_t item, int64_t *estimate);
+int32_t ds_count_i64_estimate_i64(ds_sketch *handle, int64_t item, int64_t *estimate);
+int32_t ds_count_i64_estimate_text(ds_sketch *handle, const uint8_t *item, size_t length, int64_t *estimate);
+int32_t ds_count_i64_estimate_all_u64(ds_sketch *handle, const uint64_t *items, size_t count, int64_t *estimates, size_t room);
+int32_t ds_count_i64_estimate_all_i64(ds_sketch *handle, const int64_t *items, size_t count, int64_t *estimates, size_t room);
+int32_t ds_count_i64_upper_bound_u64(ds_sketch *handle, uint64_t item, int64_t *bound);
+int32_t ds_count_i64_upper_bound_i64(ds_sketch *handle, int64_t item, int64_t *bound);
+int32_t ds_count_i64_upper_bound_text(ds_sketch *handle, const uint8_t *item, size_t length, int64_t *bound);
+int32_t ds_count_i64_merge(ds_sketch *handle, ds_sketch *other);
+int32_t ds_count_i64_status(ds_sketch *handle, ds_count_numbers *status);
+int32_t ds_count_i64_to_bytes(ds_sketch *handle, uint8_t *out, size_t capacity, size_t *written);
+int32_t ds_count_i64_from_bytes(ds_sketch *handle, const uint8_t *image, size_t length, uint64_t seed, size_t most_bytes);
+
+/* --- Frequent items: the items that weigh most, in at most three quarters of `max_map_size` counters --- */
+
+/* An item's bounds: its true weight lies between the first and the last, which are the sketch's error apart. */
+typedef struct ds_frequent_bounds {
+    uint64_t lower_bound;
+    uint64_t estimate;
+    uint64_t upper_bound;
+} ds_frequent_bounds;
+
+/* Puts an empty sketch into the handle, whose table may grow to `max_map_size` slots, a power of two from 8 to 2^30, and
+ * whose purges sample `sample_size` counters, an even number from 2 to three quarters of that, at most 1024. The greatest
+ * sample is the most exact: see `ds_greatest_sample`. Refused: DS_MAP_SIZE_NOT_POWER_OF_TWO, DS_MAP_SIZE_TOO_SMALL,
+ * DS_MAP_SIZE_TOO_LARGE, DS_BAD_SAMPLE_SIZE, DS_NO_MEMORY. */
+int32_t ds_frequent_u64_new(ds_sketch *handle, size_t max_map_size, size_t sample_size);
+int32_t ds_frequent_i64_new(ds_sketch *handle, size_t max_map_size, size_t sample_size);
+int32_t ds_frequent_text_new(ds_sketch *handle, size_t max_map_size, size_t sample_size);
+
+/* The greatest sample size of a greatest map size. */
+static inline size_t ds_greatest_sample(size_t max_map_size)
+{
+    return max_map_size / 4 * 3 < 1024 ? max_map_size / 4 * 3 : 1024;
+}
+
+/* Adds a weight to an item's; 0 changes nothing. Refused by DS_WEIGHT_OVERFLOW where the weight of all items would pass
+ * 2^64 - 1, by DS_NO_MEMORY, and a text that is not UTF-8 by DS_INVALID_UTF8. */
+int32_t ds_frequent_u64_update(ds_sketch *handle, uint64_t item, uint64_t weight);
+int32_t ds_frequent_i64_update(ds_sketch *handle, int64_t item, uint64_t weight);
+int32_t ds_frequent_text_update(ds_sketch *handle, const uint8_t *item, size_t length, uint64_t weight);
+
+/* Writes down an item's bounds. */
+int32_t ds_frequent_u64_bounds(ds_sketch *handle, uint64_t item, ds_frequent_bounds *bounds);
+int32_t ds_frequent_i64_bounds(ds_sketch *handle, int64_t item, ds_frequent_bounds *bounds);
+int32_t ds_frequent_text_bounds(ds_sketch *handle, const uint8_t *item, size_t length, ds_frequent_bounds *bounds);
+
+/* Merges the other sketch into this one, which then stands for both streams. The other sketch stays as it was. Refused by
+ * DS_WEIGHT_OVERFLOW and DS_NO_MEMORY. */
+int32_t ds_frequent_u64_merge(ds_sketch *handle, ds_sketch *other);
+int32_t ds_frequent_i64_merge(ds_sketch *handle, ds_sketch *other);
+int32_t ds_frequent_text_merge(ds_sketch *handle, ds_sketch *other);
+
+/* Adds 1 to the weight of each item, in order. Refused as the update of the first item that is refused: then the items
+ * before it are added, and neither it nor those behind it. */
+int32_t ds_frequent_u64_update_all(ds_sketch *handle, const uint64_t *items, size_t count);
+int32_t ds_frequent_i64_update_all(ds_sketch *handle, const int64_t *items, size_t count);
+
+/* Forgets everything but the greatest size and the sample size. */
+int32_t ds_frequent_u64_reset(ds_sketch *handle);
+int32_t ds_frequent_i64_reset(ds_sketch *handle);
+int32_t ds_frequent_text_reset(ds_sketch *handle);
+
+/* A sketch's numbers: the weight of all items, by how much an upper bound is above its lower bound, counters, how many may
+ * be held before a purge at the greatest size and at the current one, the greatest size and the sample size. */
+typedef struct ds_frequent_numbers {
+    uint64_t total_weight;
+    uint64_t maximum_error;
+    uint64_t num_active_items;
+    uint64_t maximum_map_capacity;
+    uint64_t current_map_capacity;
+    uint64_t max_map_size;
+    uint64_t sample_size;
+} ds_frequent_numbers;
+
+/* Writes down the sketch's numbers. */
+int32_t ds_frequent_u64_status(ds_sketch *handle, ds_frequent_numbers *status);
+int32_t ds_frequent_i64_status(ds_sketch *handle, ds_frequent_numbers *status);
+int32_t ds_frequent_text_status(ds_sketch *handle, ds_frequent_numbers *status);
+
+/* Writes the sketch's image to the front of `out`, and how many bytes it has to `written`. Refused by DS_NO_ROOM where
+ * `capacity` is less than that, which `written` then tells, and by DS_NO_MEMORY. */
+int32_t ds_frequent_u64_to_bytes(ds_sketch *handle, uint8_t *out, size_t capacity, size_t *written);
+int32_t ds_frequent_i64_to_bytes(ds_sketch *handle, uint8_t *out, size_t capacity, size_t *written);
+int32_t ds_frequent_text_to_bytes(ds_sketch *handle, uint8_t *out, size_t capacity, size_t *written);
+
+/* Puts the sketch of an image into the handle, where its table takes at most `most_bytes` bytes. It samples the most, since
+ * an image does not say the sample size. Refused by the fault of the image's first check that fails. */
+int32_t ds_frequent_u64_from_bytes(ds_sketch *handle, const uint8_t *image, size_t length, size_t most_bytes);
+int32_t ds_frequent_i64_from_bytes(ds_sketch *handle, const uint8_t *image, size_t length, size_t most_bytes);
+int32_t ds_frequent_text_from_bytes(ds_sketch *handle, const uint8_t *image, size_t length, size_t most_bytes);
+
+/* Writes down the items whose bound is above both the threshold and the sketch's error, in rows that descend by estimate:
+ * an item and its bounds for each, at the front of both buffers. With `no_false_negatives` the upper bound counts, so that
+ * no item above the threshold is missing; without it the lower one, so that no item below is there. `count` is how many
+ * rows there are, also where a buffer is shorter than that: then the call is refused by DS_NO_ROOM. And by DS_NO_MEMORY. */
+int32_t ds_frequent_u64_rows(ds_sketch *handle, bool no_false_negatives, uint64_t threshold, uint64_t *items,
+                             size_t num_items, ds_frequent_bounds *bounds, size_t num_bounds, size_t *count);
+int32_t ds_frequent_i64_rows(ds_sketch *handle, bool no_false_negatives, uint64_t threshold, int64_t *items,
+                             size_t num_items, ds_frequent_bounds *bounds, size_t num_bounds, size_t *count);
+
+/* --- The checks of arguments --- */
+
+/* What is given in place of null where the count is 0. */
+static inline void *ds_no_values(void)
+{
+    static uint64_t none;
+    return &none;
+}
+
+#define DS_JOINS(call) \
+    static inline int32_t call##_checked(ds_sketch *handle, ds_sketch *other) \
+    { \
+        return handle == other ? DS_BAD_ARGUMENT : call(handle, other); \
+    }
+#define DS_READS(call, type) \
+    static inline int32_t call##_checked(ds_sketch *handle, const type *items, size_t count) \
+    { \
+        if (!items && count) return DS_BAD_ARGUMENT; \
+        return call(handle, items ? items : (const type *)ds_no_values(), count); \
+    }
+#define DS_READS_AND(call, type, other) \
+    static inline int32_t call##_checked(ds_sketch *handle, const type *items, size_t count, other last) \
+    { \
+        if (!items && count) return DS_BAD_ARGUMENT; \
+        return call(handle, items ? items : (const type *)ds_no_values(), count, last); \
+    }
+#define DS_READS_UNDER(call) \
+    static inline int32_t call##_checked(ds_sketch *handle, const uint8_t *image, size_t length, uint64_t seed, \
+                                         size_t most_bytes) \
+    { \
+        if (!image && length) return DS_BAD_ARGUMENT; \
+        return call(handle, image ? image : (const uint8_t *)ds_no_values(), length, seed, most_bytes); \
+    }
+#define DS_ANSWERS(call, type, answer) \
+    static inline int32_t call##_checked(ds_sketch *handle, const type *items, size_t count, answer *answers, \
+                                         size_t num_answers) \
+    { \
+        if ((!items && count) || (!answers && num_answers)) return DS_BAD_ARGUMENT; \
+        return call(handle, items ? items : (const type *)ds_no_values(), count, \
+                    answers ? answers : (answer *)ds_no_values(), num_answers); \
+    }
+#define DS_WRITES(call) \
+    static inline int32_t call##_checked(ds_sketch *handle, uint8_t *out, size_t capacity, size_t *written) \
+    { \
+        if (!out && capacity) return DS_BAD_ARGUMENT; \
+        return call(handle, out ? out : (uint8_t *)ds_no_values(), capacity, written); \
+    }
+#define DS_ROWS(call, type) \
+    static inline int32_t call##_checked(ds_sketch *handle, bool no_false_negatives, uint64_t threshold, type *items, \
+                                         size_t num_items, ds_frequent_bounds *bounds, size_t num_bounds, size_t *count) \
+    { \
+        if ((!items && num_items) || (!bounds && num_bounds)) return DS_BAD_ARGUMENT; \
+        return call(handle, no_false_negatives, threshold, items ? items : (type *)ds_no_values(), num_items, \
+                    bounds ? bounds : (ds_frequent_bounds *)ds_no_values(), num_bounds, count); \
+    }
+
+DS_JOINS(ds_clone)
+DS_READS(ds_filter_insert_text, uint8_t)
+DS_READS(ds_filter_insert_all_u64, uint64_t)
+DS_READS(ds_filter_insert_all_i64, int64_t)
+DS_READS(ds_filter_contains_text, uint8_t)
+DS_ANSWERS(ds_filter_contains_all_u64, uint64_t, bool)
+DS_ANSWERS(ds_filter_contains_all_i64, int64_t, bool)
+DS_JOINS(ds_filter_union)
+DS_JOINS(ds_filter_intersect)
+DS_JOINS(ds_filter_difference)
+DS_WRITES(ds_filter_to_bytes)
+DS_READS_AND(ds_filter_from_bytes, uint8_t, size_t)
+DS_READS_AND(ds_count_u64_update_text, uint8_t, uint64_t)
+DS_READS(ds_count_u64_update_all_u64, uint64_t)
+DS_READS(ds_count_u64_update_all_i64, int64_t)
+DS_READS_AND(ds_count_u64_estimate_text, uint8_t, uint64_t *)
+DS_ANSWERS(ds_count_u64_estimate_all_u64, uint64_t, uint64_t)
+DS_ANSWERS(ds_count_u64_estimate_all_i64, int64_t, uint64_t)
+DS_READS_AND(ds_count_u64_upper_bound_text, uint8_t, uint64_t *)
+DS_JOINS(ds_count_u64_merge)
+DS_WRITES(ds_count_u64_to_bytes)
+DS_READS_UNDER(ds_count_u64_from_bytes)
+DS_READS_AND(ds_count_i64_update_text, uint8_t, int64_t)
+DS_READS(ds_count_i64_update_all_u64, uint64_t)
+DS_READS(ds_count_i64_update_all_i64, int64_t)
+DS_READS_AND(ds_count_i64_estimate_text, uint8_t, int64_t *)
+DS_ANSWERS(ds_count_i64_estimate_all_u64, uint64_t, int64_t)
+DS_ANSWERS(ds_count_i64_estimate_all_i64, int64_t, int64_t)
+DS_READS_AND(ds_count_i64_upper_bound_text, uint8_t, int64_t *)
+DS_JOINS(ds_count_i64_merge)
+DS_WRITES(ds_count_i64_to_bytes)
+DS_READS_UNDER(ds_count_i64_from_bytes)
+DS_READS_AND(ds_frequent_text_update, uint8_t, uint64_t)
+DS_READS_AND(ds_frequent_text_bounds, uint8_t, ds_frequent_bounds *)
+DS_JOINS(ds_frequent_u64_merge)
+DS_JOINS(ds_frequent_i64_merge)
+DS_JOINS(ds_frequent_text_merge)
+DS_READS(ds_frequent_u64_update_all, uint64_t)
+DS_READS(ds_frequent_i64_update_all, int64_t)
+DS_WRITES(ds_frequent_u64_to_bytes)
+DS_WRITES(ds_frequent_i64_to_bytes)
+DS_WRITES(ds_frequent_text_to_bytes)
+DS_READS_AND(ds_frequent_u64_from_bytes, uint8_t, size_t)
+DS_READS_AND(ds_frequent_i64_from_bytes, uint8_t, size_t)
+DS_READS_AND(ds_frequent_text_from_bytes, uint8_t, size_t)
+DS_ROWS(ds_frequent_u64_rows, uint64_t)
+DS_ROWS(ds_frequent_i64_rows, int64_t)
+
+#define ds_clone(handle, other) ds_clone_checked(handle, other)
+#define ds_filter_insert_text(handle, item, length) ds_filter_insert_text_checked(handle, item, length)
+#define ds_filter_insert_all_u64(handle, items, count) ds_filter_insert_all_u64_checked(handle, items, count)
+#define ds_filter_insert_all_i64(handle, items, count) ds_filter_insert_all_i64_checked(handle, items, count)
+#define ds_filter_contains_text(handle, item, length) ds_filter_contains_text_checked(handle, item, length)
+#define ds_filter_contains_all_u64(handle, items, count, answers, room) \
+    ds_filter_contains_all_u64_checked(handle, items, count, answers, room)
+#define ds_filter_contains_all_i64(handle, items, count, answers, room) \
+    ds_filter_contains_all_i64_checked(handle, items, count, answers, room)
+#define ds_filter_union(handle, other) ds_filter_union_checked(handle, other)
+#define ds_filter_intersect(handle, other) ds_filter_intersect_checked(handle, other)
+#define ds_filter_difference(handle, other) ds_filter_difference_checked(handle, other)
+#define ds_filter_to_bytes(handle, out, capacity, written) ds_filter_to_bytes_checked(handle, out, capacity, written)
+#define ds_filter_from_bytes(handle, image, length, most_bytes) \
+    ds_filter_from_bytes_checked(handle, image, length, most_bytes)
+#define ds_count_u64_update_text(handle, item, length, weight) \
+    ds_count_u64_update_text_checked(handle, item, length, weight)
+#define ds_count_u64_update_all_u64(handle, items, count) ds_count_u64_update_all_u64_checked(handle, items, count)
+#define ds_count_u64_update_all_i64(handle, items, count) ds_count_u64_update_all_i64_checked(handle, items, count)
+#define ds_count_u64_estimate_text(handle, item, length, estimate) \
+    ds_count_u64_estimate_text_checked(handle, item, length, estimate)
+#define ds_count_u64_estimate_all_u64(handle, items, count, estimates, room) \
+    ds_count_u64_estimate_all_u64_checked(handle, items, count, estimates, room)
+#define ds_count_u64_estimate_all_i64(handle, items, count, estimates, room) \
+    ds_count_u64_estimate_all_i64_checked(handle, items, count, estimates, room)
+#define ds_count_u64_upper_bound_text(handle, item, length, bound) \
+    ds_count_u64_upper_bound_text_checked(handle, item, length, bound)
+#define ds_count_u64_merge(handle, other) ds_count_u64_merge_checked(handle, other)
+#define ds_count_u64_to_bytes(handle, out, capacity, written) \
+    ds_count_u64_to_bytes_checked(handle, out, capacity, written)
+#define ds_count_u64_from_bytes(handle, image, length, seed, most_bytes) \
+    ds_count_u64_from_bytes_checked(handle, image, length, seed, most_bytes)
+#define ds_count_i64_update_text(handle, item, length, weight) \
+    ds_count_i64_update_text_checked(handle, item, length, weight)
+#define ds_count_i64_update_all_u64(handle, items, count) ds_count_i64_update_all_u64_checked(handle, items, count)
+#define ds_count_i64_update_all_i64(handle, items, count) ds_count_i64_update_all_i64_checked(handle, items, count)
+#define ds_count_i64_estimate_text(handle, item, length, estimate) \
+    ds_count_i64_estimate_text_checked(handle, item, length, estimate)
+#define ds_count_i64_estimate_all_u64(handle, items, count, estimates, room) \
+    ds_count_i64_estimate_all_u64_checked(handle, items, count, estimates, room)
+#define ds_count_i64_estimate_all_i64(handle, items, count, estimates, room) \
+    ds_count_i64_estimate_all_i64_checked(handle, items, count, estimates, room)
+#define ds_count_i64_upper_bound_text(handle, item, length, bound) \
+    ds_count_i64_upper_bound_text_checked(handle, item, length, bound)
+#define ds_count_i64_merge(handle, other) ds_count_i64_merge_checked(handle, other)
+#define ds_count_i64_to_bytes(handle, out, capacity, written) \
+    ds_count_i64_to_bytes_checked(handle, out, capacity, written)
+#define ds_count_i64_from_bytes(handle, image, length, seed, most_bytes) \
+    ds_count_i64_from_bytes_checked(handle, image, length, seed, most_bytes)
+#define ds_frequent_text_update(handle, item, length, weight) \
+    ds_frequent_text_update_checked(handle, item, length, weight)
+#define ds_frequent_text_bounds(handle, item, length, bounds) \
+    ds_frequent_text_bounds_checked(handle, item, length, bounds)
+#define ds_frequent_u64_merge(handle, other) ds_frequent_u64_merge_checked(handle, other)
+#define ds_frequent_i64_merge(handle, other) ds_frequent_i64_merge_checked(handle, other)
+#define ds_frequent_text_merge(handle, other) ds_frequent_text_merge_checked(handle, other)
+#define ds_frequent_u64_update_all(handle, items, count) ds_frequent_u64_update_all_checked(handle, items, count)
+#define ds_frequent_i64_update_all(handle, items, count) ds_frequent_i64_update_all_checked(handle, items, count)
+#define ds_frequent_u64_to_bytes(handle, out, capacity, written) \
+    ds_frequent_u64_to_bytes_checked(handle, out, capacity, written)
+#define ds_frequent_i64_to_bytes(handle, out, capacity, written) \
+    ds_frequent_i64_to_bytes_checked(handle, out, capacity, written)
+#define ds_frequent_text_to_bytes(handle, out, capacity, written) \
+    ds_frequent_text_to_bytes_checked(handle, out, capacity, written)
+#define ds_frequent_u64_from_bytes(handle, image, length, most_bytes) \
+    ds_frequent_u64_from_bytes_checked(handle, image, length, most_bytes)
+#define ds_frequent_i64_from_bytes(handle, image, length, most_bytes) \
+    ds_frequent_i64_from_bytes_checked(handle, image, length, most_bytes)
+#define ds_frequent_text_from_bytes(handle, image, length, most_bytes) \
+    ds_frequent_text_from_bytes_checked(handle, image, length, most_bytes)
+#define ds_frequent_u64_rows(handle, no_false_negatives, threshold, items, num_items, bounds, num_bounds, count) \
+    ds_frequent_u64_rows_checked(handle, no_false_negatives, threshold, items, num_items, bounds, num_bounds, count)
+#define ds_frequent_i64_rows(handle, no_false_negatives, threshold, items, num_items, bounds, num_bounds, count) \
+    ds_frequent_i64_rows_checked(handle, no_false_negatives, threshold, items, num_items, bounds, num_bounds, count)
+
+#undef DS_JOINS
+#undef DS_READS
+#undef DS_READS_AND
+#undef DS_READS_UNDER
+#undef DS_ANSWERS
+#undef DS_WRITES
+#undef DS_ROWS
+
+#ifdef __cplusplus
+}
+#endif
+
+#endif
