@@ -1,0 +1,268 @@
+/* CountMin: estimates of weights, as numbers of 64 bits without a sign. */
+#include "sketches.h"
+
+static PyObject *count_new(PyTypeObject *type, PyObject *args, PyObject *keywords)
+{
+    static char *names[] = {"hashes", "buckets", "seed", NULL};
+    PyObject *hashes_object, *buckets_object, *seed_object = NULL;
+    uint64_t hashes, buckets, seed = DEFAULT_SEED;
+    if (!PyArg_ParseTupleAndKeywords(args, keywords, "OO|O:CountMin", names, &hashes_object, &buckets_object, &seed_object))
+        return NULL;
+    if (!natural_of(hashes_object, "hashes", &hashes) || !natural_of(buckets_object, "buckets", &buckets) ||
+        (seed_object != NULL && !natural_of(seed_object, "seed", &seed)))
+        return NULL;
+    Sketch *self = sketch_alloc(type);
+    if (self == NULL)
+        return NULL;
+    /* What is past a type is given as a number that the library refuses for the same reason. */
+    self->hashes = hashes > UINT8_MAX ? 0 : (uint8_t)hashes;
+    self->buckets = buckets > UINT32_MAX ? UINT32_MAX : (uint32_t)buckets;
+    self->seed = seed;
+    int32_t answer = ds_count_u64_new(&self->handle, self->hashes, self->buckets, seed);
+    if (answer >= 0)
+        return (PyObject *)self;
+    Py_DECREF(self);
+    return refuse(answer);
+}
+
+PyDoc_STRVAR(halve_doc,
+"halve($self, /)\n--\n\n"
+"Halve all weights, rounded down.\n\n"
+">>> import datasketches_rattle as ds\n"
+">>> load = ds.CountMin(hashes=4, buckets=128)\n"
+">>> load.update(7, 99)\n"
+">>> load.halve()\n"
+">>> load[7]\n"
+"49\n");
+
+static PyObject *count_halve(PyObject *object, PyObject *Py_UNUSED(unused))
+{
+    Sketch *self = (Sketch *)object;
+    if (!sketch_lock(self))
+        return NULL;
+    int32_t answer = ds_count_u64_halve(&self->handle);
+    sketch_unlock(self);
+    if (answer < 0)
+        return refuse(answer);
+    Py_RETURN_NONE;
+}
+
+PyDoc_STRVAR(decay_doc,
+"decay($self, numerator, denominator, /)\n--\n\n"
+"Multiply all weights by a fraction above 0 and at most 1, rounded down. Else 'BadFraction' is raised.\n\n"
+">>> import datasketches_rattle as ds\n"
+">>> load = ds.CountMin(hashes=4, buckets=128)\n"
+">>> load.update(7, 100)\n"
+">>> load.decay(99, 100)\n"
+">>> load[7]\n"
+"99\n");
+
+static PyObject *count_decay(PyObject *object, PyObject *const *args, Py_ssize_t count)
+{
+    Sketch *self = (Sketch *)object;
+    uint64_t numerator, denominator;
+    if (count != 2)
+        return PyErr_Format(PyExc_TypeError, "decay takes a numerator and a denominator, not %zd arguments", count);
+    if (!natural_of(args[0], "numerator", &numerator) || !natural_of(args[1], "denominator", &denominator) ||
+        !sketch_lock(self))
+        return NULL;
+    int32_t answer = ds_count_u64_decay(&self->handle, numerator, denominator);
+    sketch_unlock(self);
+    if (answer < 0)
+        return refuse(answer);
+    Py_RETURN_NONE;
+}
+
+static PyObject *count_copy(PyObject *object, PyObject *Py_UNUSED(memo))
+{
+    return (PyObject *)sketch_copy((Sketch *)object);
+}
+
+static PyObject *count_add_into(PyObject *first, PyObject *second)
+{
+    if (!PyObject_TypeCheck(first, &count_type) || !PyObject_TypeCheck(second, &count_type))
+        Py_RETURN_NOTIMPLEMENTED;
+    PyObject *other = first == second ? count_copy(second, NULL) : Py_NewRef(second);
+    if (other == NULL || !sketch_lock_both((Sketch *)first, (Sketch *)other)) {
+        Py_XDECREF(other);
+        return NULL;
+    }
+    int32_t answer = ds_count_u64_merge(&((Sketch *)first)->handle, &((Sketch *)other)->handle);
+    sketch_unlock((Sketch *)first);
+    sketch_unlock((Sketch *)other);
+    Py_DECREF(other);
+    return answer < 0 ? refuse(answer) : Py_NewRef(first);
+}
+
+static PyObject *count_add(PyObject *first, PyObject *second)
+{
+    if (!PyObject_TypeCheck(first, &count_type) || !PyObject_TypeCheck(second, &count_type))
+        Py_RETURN_NOTIMPLEMENTED;
+    PyObject *copy = count_copy(first, NULL);
+    PyObject *result = copy != NULL ? count_add_into(copy, second) : NULL;
+    Py_XDECREF(copy);
+    return result;
+}
+
+static PyObject *count_repr(PyObject *object)
+{
+    Sketch *self = (Sketch *)object;
+    if (!sketch_lock(self)) {
+        PyErr_Clear();
+        return PyUnicode_FromString("<CountMin, closed>");
+    }
+    sketch_unlock(self);
+    return PyUnicode_FromFormat("<CountMin hashes=%d buckets=%llu seed=%llu>", (int)self->hashes,
+                                (unsigned long long)self->buckets, (unsigned long long)self->seed);
+}
+
+static PyObject *count_number(PyObject *object, void *which)
+{
+    Sketch *self = (Sketch *)object;
+    if (!sketch_lock(self))
+        return NULL;
+    sketch_unlock(self);
+    uint64_t fields[] = {self->hashes, self->buckets, self->seed};
+    return PyLong_FromUnsignedLongLong(fields[(uintptr_t)which]);
+}
+
+static bool count_numbers_of(Sketch *self, ds_count_numbers *numbers)
+{
+    if (!sketch_lock(self))
+        return false;
+    int32_t answer = ds_count_u64_status(&self->handle, numbers);
+    sketch_unlock(self);
+    return answer >= 0 || refuse(answer) != NULL;
+}
+
+PyDoc_STRVAR(count_to_bytes_doc,
+"to_bytes($self, /)\n--\n\n"
+"The sketch's image, as `bytes(load)`.\n\n"
+">>> import datasketches_rattle as ds\n"
+">>> len(ds.CountMin(hashes=4, buckets=128).to_bytes())\n"
+"16\n");
+
+static PyObject *count_to_bytes(PyObject *object, PyObject *Py_UNUSED(unused))
+{
+    ds_count_numbers numbers;
+    if (!count_numbers_of((Sketch *)object, &numbers))
+        return NULL;
+    size_t cells = (size_t)numbers.num_hashes * numbers.num_buckets;
+    return sketch_image((Sketch *)object, (ds_count_u64_to_bytes), numbers.total_weight == 0 ? 16 : 24 + 8 * cells);
+}
+
+PyDoc_STRVAR(count_from_bytes_doc,
+"from_bytes($type, image, seed=9001, limit=1073741824)\n--\n\n"
+"The sketch of an image, which may come from anywhere, read under the seed of the sketch that was written.\n\n"
+"An image whose sketch would take more than `limit` bytes is refused by 'TableTooLarge'; None is no limit.\n\n"
+">>> import datasketches_rattle as ds\n"
+">>> load = ds.CountMin(hashes=4, buckets=128)\n"
+">>> load.update(7, 30)\n"
+">>> ds.CountMin.from_bytes(bytes(load))[7]\n"
+"30\n");
+
+static PyObject *count_from_bytes(PyObject *type, PyObject *args, PyObject *keywords)
+{
+    static char *names[] = {"image", "seed", "limit", NULL};
+    Py_buffer image;
+    PyObject *limit_object = NULL, *seed_object = NULL;
+    uint64_t seed = DEFAULT_SEED;
+    size_t limit = DEFAULT_LIMIT;
+    if (!PyArg_ParseTupleAndKeywords(args, keywords, "y*|OO:from_bytes", names, &image, &seed_object, &limit_object))
+        return NULL;
+    Sketch *self = NULL;
+    if ((seed_object == NULL || natural_of(seed_object, "seed", &seed)) && limit_of(limit_object, &limit))
+        self = sketch_alloc((PyTypeObject *)type);
+    ds_count_numbers numbers;
+    int32_t answer = DS_OK;
+    if (self != NULL)
+        answer = ds_count_u64_from_bytes(&self->handle, image.buf, (size_t)image.len, seed, limit);
+    PyBuffer_Release(&image);
+    if (self != NULL && answer >= 0)
+        answer = ds_count_u64_status(&self->handle, &numbers);
+    if (self != NULL && answer >= 0) {
+        self->hashes = numbers.num_hashes;
+        self->buckets = numbers.num_buckets;
+        self->seed = numbers.seed;
+    }
+    if (answer >= 0)
+        return (PyObject *)self;
+    Py_DECREF(self);
+    return refuse_image(answer);
+}
+
+static PyObject *count_reduce(PyObject *object, PyObject *Py_UNUSED(unused))
+{
+    PyObject *image = count_to_bytes(object, NULL);
+    if (image == NULL)
+        return NULL;
+    return reduce_to(object, Py_BuildValue("NKO", image, (unsigned long long)((Sketch *)object)->seed, Py_None));
+}
+
+/* Equal are two sketches with one seed and one image. */
+static PyObject *count_compare(PyObject *first, PyObject *second, int operation)
+{
+    if ((operation != Py_EQ && operation != Py_NE) || !PyObject_TypeCheck(second, &count_type))
+        Py_RETURN_NOTIMPLEMENTED;
+    if (((Sketch *)first)->seed != ((Sketch *)second)->seed)
+        return PyBool_FromLong(operation == Py_NE);
+    return compare_images(count_to_bytes(first, NULL), count_to_bytes(second, NULL), operation);
+}
+
+static PyObject *count_total(PyObject *object, void *Py_UNUSED(unused))
+{
+    ds_count_numbers numbers;
+    return count_numbers_of((Sketch *)object, &numbers) ? PyLong_FromUnsignedLongLong(numbers.total_weight) : NULL;
+}
+
+static PyGetSetDef count_fields[] = {
+    {"hashes", count_number, NULL, "How many rows there are, a hash each.", (void *)0},
+    {"buckets", count_number, NULL, "How many cells a row has.", (void *)1},
+    {"seed", count_number, NULL, "The seed of the hashes.", (void *)2},
+    {"total", count_total, NULL, "The weight of all items.", NULL},
+    {NULL, NULL, NULL, NULL, NULL},
+};
+
+#define FAST(function) (PyCFunction)(void (*)(void))(function)
+
+static PyMethodDef count_methods[] = {
+    {"update", FAST(count_update), METH_FASTCALL, count_update_doc},
+    {"estimate", count_estimate, METH_O, count_estimate_doc},
+    {"upper_bound", count_upper_bound, METH_O, count_upper_bound_doc},
+    {"halve", count_halve, METH_NOARGS, halve_doc},
+    {"decay", FAST(count_decay), METH_FASTCALL, decay_doc},
+    {"to_bytes", count_to_bytes, METH_NOARGS, count_to_bytes_doc},
+    {"from_bytes", FAST(count_from_bytes), METH_CLASS | METH_VARARGS | METH_KEYWORDS, count_from_bytes_doc},
+    {"__bytes__", count_to_bytes, METH_NOARGS, NULL},
+    {"__reduce__", count_reduce, METH_NOARGS, NULL},
+    {"close", sketch_close, METH_NOARGS, "close($self, /)\n--\n\nGive the memory back. The sketch is of no use then."},
+    {"__copy__", count_copy, METH_NOARGS, NULL},
+    {"__deepcopy__", count_copy, METH_O, NULL},
+    {"__enter__", sketch_enter, METH_NOARGS, NULL},
+    {"__exit__", sketch_exit, METH_VARARGS, NULL},
+    {NULL, NULL, 0, NULL},
+};
+
+static PyNumberMethods count_as_number = {.nb_add = count_add, .nb_inplace_add = count_add_into};
+static PyMappingMethods count_as_mapping = {.mp_subscript = count_at};
+
+PyDoc_STRVAR(count_doc,
+"CountMin(hashes, buckets, seed=9001)\n--\n\n"
+"Weights of items in a table of fixed size: `load[item]` is never too low, and rarely much too high.\n\n"
+"`hashes` is from 1 to 255, `buckets` 3 or more, with fewer than 2**30 cells in all. `+` merges two of one shape.\n\n"
+">>> import datasketches_rattle as ds\n"
+">>> load = ds.CountMin(hashes=4, buckets=1 << 16)\n"
+">>> load.update(7, 30)\n"
+">>> (load + load)[7]\n"
+"60\n"
+">>> load\n"
+"<CountMin hashes=4 buckets=65536 seed=9001>\n");
+
+PyTypeObject count_type = {
+    PyVarObject_HEAD_INIT(NULL, 0)
+    .tp_name = "datasketches_rattle.CountMin", .tp_basicsize = sizeof(Sketch), .tp_doc = count_doc,
+    .tp_flags = Py_TPFLAGS_DEFAULT | Py_TPFLAGS_BASETYPE, .tp_new = count_new, .tp_dealloc = sketch_dealloc,
+    .tp_repr = count_repr, .tp_methods = count_methods, .tp_getset = count_fields, .tp_as_number = &count_as_number,
+    .tp_as_mapping = &count_as_mapping,
+    .tp_richcompare = count_compare, .tp_hash = PyObject_HashNotImplemented,
+};

@@ -1,0 +1,140 @@
+/* What the files of the extension module share. */
+#ifndef SKETCHES_H
+#define SKETCHES_H
+
+#define PY_SSIZE_T_CLEAN
+#include <Python.h>
+#include <pythread.h>
+
+#include "datasketches.h"
+
+#define DEFAULT_SEED 9001
+#define DEFAULT_LIMIT ((size_t)1 << 30)
+
+/* A sketch of any kind. The lock is held in each call of the library; no Python code runs while it is held. */
+typedef struct {
+    PyObject_HEAD
+    ds_sketch handle;
+    PyThread_type_lock lock;
+    uint64_t seed;
+    uint32_t buckets;
+    uint8_t hashes;
+    bool with_sign; /* of FrequentItems: whether its items have a sign */
+    bool with_texts; /* of FrequentItems: whether its items are texts */
+    uint64_t sample_size; /* of FrequentItems of texts */
+} Sketch;
+
+extern PyObject *sketch_error;
+
+/* --- sketches.c --- */
+
+/* An object of this type with no sketch yet, or NULL. */
+Sketch *sketch_alloc(PyTypeObject *type);
+void sketch_dealloc(PyObject *self);
+
+/* Takes the lock. Answers false, with an error set and no lock held, where the sketch is closed. */
+bool sketch_lock(Sketch *self);
+bool sketch_lock_both(Sketch *self, Sketch *other);
+void sketch_unlock(Sketch *self);
+
+/* A copy of a sketch of any kind, or NULL. */
+Sketch *sketch_copy(Sketch *self);
+
+/* Sets the Python error of a refusal, and answers NULL. */
+PyObject *refuse(int32_t answer);
+PyObject *refuse_image(int32_t answer);
+
+/* The image that a call writes, as bytes. */
+typedef int32_t (*image_writer)(ds_sketch *, uint8_t *, size_t, size_t *);
+PyObject *sketch_image(Sketch *self, image_writer write, size_t guess);
+
+/* Whether two images are equal, as rich comparison asks. */
+PyObject *compare_images(PyObject *first, PyObject *second, int operation);
+
+/* What pickle is told: the class's from_bytes and its arguments, which this takes. */
+PyObject *reduce_to(PyObject *self, PyObject *arguments);
+
+PyObject *sketch_close(PyObject *self, PyObject *unused);
+PyObject *sketch_enter(PyObject *self, PyObject *unused);
+PyObject *sketch_exit(PyObject *self, PyObject *unused);
+
+/* --- items.c --- */
+
+/* An item: a text, or a number by its eight bytes. */
+typedef struct {
+    const char *text;
+    uint64_t value; /* of a text its length in bytes */
+    bool negative;
+} Item;
+
+/* Many items: a buffer's numbers, or those of a tuple. */
+typedef struct {
+    size_t count;
+    bool with_texts;
+    bool with_sign;
+    Item *items;
+    PyObject *tuple;
+    Py_buffer view;
+} Items;
+
+#define CHUNK 1024
+
+bool is_single(PyObject *object);
+bool item_of(PyObject *object, Item *item);
+bool items_of(PyObject *object, Items *items);
+void items_release(Items *items);
+
+/* Copies the numbers from `first` on, at most CHUNK, and answers how many. They are the caller's alone. */
+size_t items_chunk(const Items *items, size_t first, uint64_t *chunk);
+
+/* Answers to many items are given as an array where the items were one. `kind` is numpy's name of the values' type. */
+bool is_numpy_array(PyObject *object);
+PyObject *numpy_array(const void *values, size_t size, const char *kind);
+
+/* A number of 64 bits that is 0 or more; `what` is said in its error. */
+bool natural_of(PyObject *object, const char *what, uint64_t *number);
+
+/* The bytes that a call may read. */
+bool limit_of(PyObject *object, size_t *limit);
+
+/* --- filter_items.c --- */
+
+extern const char filter_insert_doc[];
+extern const char filter_contains_doc[];
+PyObject *filter_insert(PyObject *object, PyObject *given);
+PyObject *filter_contains(PyObject *object, PyObject *given);
+int filter_has(PyObject *object, PyObject *given);
+
+/* --- count_items.c --- */
+
+extern const char count_update_doc[];
+extern const char count_estimate_doc[];
+extern const char count_upper_bound_doc[];
+PyObject *count_update(PyObject *object, PyObject *const *args, Py_ssize_t count);
+PyObject *count_at(PyObject *object, PyObject *item);
+PyObject *count_estimate(PyObject *object, PyObject *given);
+PyObject *count_upper_bound(PyObject *object, PyObject *item);
+
+/* --- frequent_items.c --- */
+
+extern const char frequent_update_doc[];
+extern const char frequent_bounds_doc[];
+extern const char frequent_estimate_doc[];
+PyObject *frequent_update(PyObject *object, PyObject *const *args, Py_ssize_t count);
+PyObject *frequent_bounds(PyObject *object, PyObject *item);
+PyObject *frequent_estimate(PyObject *object, PyObject *item);
+
+/* --- frequent_texts.c --- */
+
+/* The image of a sketch of texts, and its numbers but for the capacities. NULL with an error set. */
+PyObject *texts_image(Sketch *self, ds_frequent_numbers *numbers);
+
+/* The lock is held. What is refused leaves the sketch as it was. */
+int32_t texts_reset(Sketch *self, const ds_frequent_numbers *numbers);
+PyObject *texts_rows(Sketch *self, bool no_false_negatives, uint64_t threshold);
+
+extern PyTypeObject filter_type;
+extern PyTypeObject count_type;
+extern PyTypeObject frequent_type;
+
+#endif

@@ -1,0 +1,246 @@
+"""CountMin: weights, merges, decay, refusals."""
+import array
+import copy
+import pickle
+import unittest
+
+import datasketches_rattle as ds
+
+GREATEST = 2**64 - 1
+
+
+class Weights(unittest.TestCase):
+    def test_singles(self):
+        load = ds.CountMin(hashes=4, buckets=1 << 12)
+        self.assertIsNone(load.update(7))
+        load.update(7, 30)
+        load.update(-9, 5)
+        load.update(2**64 - 1, 0)
+        self.assertEqual([load[7], load[-9], load[8], load[2**63]], [31, 5, 0, 0])
+        self.assertEqual(load.estimate(7), 31)
+        self.assertGreaterEqual(load.upper_bound(7), 31)
+
+    def test_many(self):
+        whole = ds.CountMin(4, 1 << 12)
+        for number in range(-2000, 2000):
+            whole.update(number)
+        for given in (list(range(-2000, 2000)), array.array("q", range(-2000, 2000)), iter(range(-2000, 2000)),
+                      memoryview(array.array("q", range(1999, -2001, -1)))[::-1]):
+            load = ds.CountMin(4, 1 << 12)
+            load.update(given)
+            self.assertEqual([load[n] for n in range(-2000, 2000)], [whole[n] for n in range(-2000, 2000)])
+
+    def test_many_with_a_weight(self):
+        load = ds.CountMin(4, 1 << 12)
+        load.update([1, 2, 3], 5)
+        load.update(array.array("Q", [1, 2**64 - 1]), 10)
+        self.assertEqual([load[1], load[2], load[-1]], [15, 5, 10])
+
+    def test_estimates_are_never_too_low(self):
+        load = ds.CountMin(3, 16)
+        for number in range(200):
+            load.update(number, number)
+        for number in range(200):
+            self.assertGreaterEqual(load[number], number)
+            self.assertGreaterEqual(load.upper_bound(number), load[number])
+
+    def test_halve_and_decay(self):
+        load = ds.CountMin(4, 128)
+        load.update(7, 100)
+        load.decay(99, 100)
+        self.assertEqual((load[7], load.upper_bound(7)), (99, 101))
+        load.halve()
+        self.assertEqual((load[7], load.upper_bound(7)), (49, 50))
+        load.decay(1, 1)
+        self.assertEqual(load[7], 49)
+
+    def test_texts(self):
+        load = ds.CountMin(4, 1 << 12)
+        load.update("Grüße", 3)
+        load.update(["Grüße", "b", 7])
+        self.assertEqual([load["Grüße"], load["b"], load["c"], load[7]], [4, 1, 0, 1])
+        self.assertGreaterEqual(load.upper_bound("b"), 1)
+
+    def test_many_estimates(self):
+        load = ds.CountMin(4, 1 << 12)
+        asked = array.array("q", range(-2000, 2000))
+        load.update(asked)
+        load.update("a", 2)
+        self.assertEqual(load.estimate(asked), [load[n] for n in asked])
+        self.assertEqual(load.estimate(list(asked)), [load[n] for n in asked])
+        self.assertEqual(load.estimate(["a", 7, "b"]), [load["a"], load[7], load["b"]])
+        self.assertEqual(load.estimate([]), [])
+        with self.assertRaises(TypeError):
+            load.estimate([1.0])
+
+    def test_numpy(self):
+        try:
+            import numpy
+        except ImportError:
+            self.skipTest("no numpy here")
+        load = ds.CountMin(4, 1 << 12)
+        numbers = numpy.arange(-5, 5)
+        load.update(numbers)
+        estimates = load.estimate(numbers)
+        self.assertEqual((estimates.dtype, list(estimates)), (numpy.uint64, [load[int(n)] for n in numbers]))
+        self.assertEqual(len(load.estimate(numbers[:0])), 0)
+
+
+class Merges(unittest.TestCase):
+    def test_merge(self):
+        a, b = ds.CountMin(4, 1 << 12), ds.CountMin(4, 1 << 12)
+        a.update(7, 10)
+        b.update(7, 5)
+        total = a + b
+        self.assertEqual((total[7], a[7], b[7]), (15, 10, 5))
+        same = a
+        a += b
+        self.assertIs(a, same)
+        self.assertEqual(a[7], 15)
+        a += a
+        self.assertEqual((a[7], (a + a)[7]), (30, 60))
+
+    def test_copies(self):
+        a = ds.CountMin(4, 1 << 12, seed=5)
+        a.update(7, 10)
+        for twin in (copy.copy(a), copy.deepcopy(a)):
+            twin.update(7)
+            self.assertEqual((twin[7], a[7], repr(twin)), (11, 10, repr(a)))
+
+    def test_mismatch(self):
+        a = ds.CountMin(4, 128)
+        for b in (ds.CountMin(3, 128), ds.CountMin(4, 127), ds.CountMin(4, 128, seed=1)):
+            with self.assertRaises(ds.SketchError) as refused:
+                a += b
+            self.assertEqual((refused.exception.kind, refused.exception.fault), ("InvalidArgument", "Mismatch"))
+        for wrong in (1, None, ds.BloomFilter(64, 1)):
+            with self.assertRaises(TypeError):
+                a + wrong
+
+
+class Refusals(unittest.TestCase):
+    def refused(self, fault, call, *arguments):
+        with self.assertRaises(ds.SketchError) as refused:
+            call(*arguments)
+        self.assertEqual(refused.exception.fault, fault)
+
+    def test_shapes(self):
+        for hashes, buckets, fault in [(0, 3, "BadNumHashes"), (256, 3, "BadNumHashes"), (257, 3, "BadNumHashes"),
+                                       (1, 2, "BadNumBuckets"), (1, 2**30, "TableTooLarge"), (1, 2**32, "TableTooLarge"),
+                                       (1, 2**32 + 5, "TableTooLarge"), (255, 2**63, "TableTooLarge")]:
+            self.refused(fault, ds.CountMin, hashes, buckets)
+        for wrong in [(-1, 3), (1, -3), (1, 3, -1), (2**64, 3)]:
+            with self.assertRaises(ValueError):
+                ds.CountMin(*wrong)
+        for wrong in [(1.0, 3), (True, 3), (1,), (1, "3")]:
+            with self.assertRaises(TypeError):
+                ds.CountMin(*wrong)
+
+    def test_weights(self):
+        load = ds.CountMin(4, 128)
+        for weight in (-1, 2**64):
+            with self.assertRaises(ValueError):
+                load.update(7, weight)
+        for weight in (1.0, True, None, "1"):
+            with self.assertRaises(TypeError):
+                load.update(7, weight)
+        for arguments in ((), (1, 2, 3)):
+            with self.assertRaises(TypeError):
+                load.update(*arguments)
+        load.update(7, GREATEST)
+        self.assertEqual((load[7], load.upper_bound(7)), (GREATEST, GREATEST))
+        self.refused("WeightOverflow", load.update, 8)
+        self.refused("WeightOverflow", lambda: load + load)
+        load.update(8, 0)
+        self.assertEqual(load[7], GREATEST)
+
+    def test_a_refused_batch_counts_its_first_items(self):
+        load = ds.CountMin(4, 1 << 16)
+        load.update(-1, GREATEST - 1500)
+        self.refused("WeightOverflow", load.update, array.array("Q", range(3000)))
+        self.assertEqual([load[0], load[1499], load[1500], load[2999]], [1, 1, 0, 0])
+
+    def test_fractions(self):
+        load = ds.CountMin(4, 128)
+        for numerator, denominator in ((0, 5), (2, 1), (0, 0), (1, 0)):
+            self.refused("BadFraction", load.decay, numerator, denominator)
+        for wrong in ((1,), (1, 2, 3), (0.5, 1)):
+            with self.assertRaises(TypeError):
+                load.decay(*wrong)
+        with self.assertRaises(ValueError):
+            load.decay(-1, 2)
+
+    def test_items(self):
+        load = ds.CountMin(4, 128)
+        for bad in (1.5, None, True, b"ab", [1, 2.0], array.array("d", [1.0])):
+            with self.assertRaises(TypeError, msg=repr(bad)):
+                load.update(bad)
+        for bad in (1.5, None, True, b"ab", [1]):
+            with self.assertRaises(TypeError, msg=repr(bad)):
+                load[bad]
+        with self.assertRaises(OverflowError):
+            load.update(2**64)
+        with self.assertRaises(TypeError):
+            load[7] = 3
+
+
+class Ends(unittest.TestCase):
+    def test_close(self):
+        with ds.CountMin(4, 128) as load:
+            load.update(7)
+        for call in (lambda: load.update(7), lambda: load.update([7]), lambda: load[7], load.halve, lambda: load.decay(1, 2),
+                     lambda: load + ds.CountMin(4, 128), lambda: ds.CountMin(4, 128) + load, lambda: copy.copy(load),
+                     lambda: load.hashes):
+            with self.assertRaises(ValueError):
+                call()
+        self.assertEqual(repr(load), "<CountMin, closed>")
+
+    def test_fields(self):
+        load = ds.CountMin(4, 128, seed=3)
+        self.assertEqual((load.hashes, load.buckets, load.seed), (4, 128, 3))
+        with self.assertRaises(AttributeError):
+            load.seed = 4
+
+
+class Images(unittest.TestCase):
+    def test_there_and_back(self):
+        for seed in (9001, 3):
+            load = ds.CountMin(4, 128, seed=seed)
+            self.assertEqual(len(bytes(load)), 16)
+            load.update(range(1000))
+            self.assertEqual(len(bytes(load)), 24 + 8 * 4 * 128)
+            twins = (ds.CountMin.from_bytes(bytes(load), seed=seed), pickle.loads(pickle.dumps(load)), copy.copy(load))
+            for twin in twins:
+                self.assertEqual(twin, load)
+                self.assertEqual((repr(twin), twin.total), (repr(load), 1000))
+                twin.update(7)
+                self.assertNotEqual(twin, load)
+
+    def test_refused_images(self):
+        load = ds.CountMin(4, 128)
+        load.update(range(1000))
+        image = bytes(load)
+        for place, fault in ((0, "BadPreamble"), (1, "BadVersion"), (2, "BadFamily"), (13, "SeedHashMismatch")):
+            altered = bytearray(image)
+            altered[place] ^= 0xFF
+            with self.assertRaises(ds.SketchError) as refused:
+                ds.CountMin.from_bytes(altered)
+            self.assertEqual((refused.exception.kind, refused.exception.fault), ("InvalidData", fault))
+        for length in range(len(image)):
+            with self.assertRaises(ds.SketchError):
+                ds.CountMin.from_bytes(image[:length])
+        with self.assertRaises(ds.SketchError) as refused:
+            ds.CountMin.from_bytes(image, limit=4 * 128 * 8 + 8 * 4 - 1)
+        self.assertEqual(refused.exception.fault, "TableTooLarge")
+        ds.CountMin.from_bytes(image, limit=4 * 128 * 8 + 8 * 4)
+        with self.assertRaises(ds.SketchError):
+            ds.CountMin.from_bytes(image, seed=3)
+
+    def test_comparing(self):
+        self.assertEqual(ds.CountMin(4, 128), ds.CountMin(4, 128))
+        self.assertNotEqual(ds.CountMin(4, 128), ds.CountMin(4, 128, seed=3))
+        self.assertNotEqual(ds.CountMin(4, 128), 7)
+
+
+if __name__ == "__main__":
+    unittest.main()
