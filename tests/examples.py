@@ -1,11 +1,12 @@
-"""That each Rust block of a README, and each example in the docs of a library, is a function of `crates/examples`, which the
-gate proves and runs."""
+"""That each Rust block of a README and of the page for callers, and each example in the docs of a library, is a function of
+`crates/examples`, which the gate proves and runs; and that the words which that page lists stand in the definitions."""
 import glob
 import os
 import re
 import textwrap
 
 TOP = os.path.dirname(os.path.dirname(os.path.abspath(__file__)))
+CALLING = f"{TOP}/docs/CALLING.md"
 USE = re.compile(r"^use ([^;]*);\n?", re.MULTILINE)
 
 
@@ -30,8 +31,8 @@ def functions(text):
 
 
 def blocks():
-    """The blocks of the READMEs and of the docs, each with the file where it stands."""
-    for path in [f"{TOP}/README.md", *sorted(glob.glob(f"{TOP}/crates/*/README.md"))]:
+    """The blocks of the READMEs, of the page for callers and of the docs, each with the file where it stands."""
+    for path in [f"{TOP}/README.md", CALLING, *sorted(glob.glob(f"{TOP}/crates/*/README.md"))]:
         for block in re.findall(r"^```rust\n(.*?)^```$", read(path), re.DOTALL | re.MULTILINE):
             yield path, block
     for path in sorted(glob.glob(f"{TOP}/crates/*/src/**/*.rt", recursive=True)):
@@ -40,8 +41,22 @@ def blocks():
             yield path, textwrap.dedent(block)
 
 
+def words():
+    """The words that the page for callers lists, each with its crate and its file of `specs/`."""
+    for crate, listed in re.findall(r"^\| `(\w+)` \| (.*) \|$", read(CALLING), re.MULTILINE):
+        for module, several, one in re.findall(r"`(\w+)\.(?:\{([^}]*)\}|(\w+))`", listed):
+            for word in (several or one).split(", "):
+                yield crate, module, word
+
+
 def check(tests):
-    """Compares the blocks, of which there are some, with the files."""
+    """Compares the blocks and the words, of which there are some, with the files."""
+    listed = list(words())
+    for crate, module, word in listed:
+        path = f"{TOP}/crates/{crate}/specs/{module}.antt"
+        stands = re.search(rf"\bpub (?:data |record |rec )?{word}\b", read(path)) if os.path.exists(path) else None
+        tests.check(f"{word} stands in {module} of {crate}, as docs/CALLING.md says", stands)
+    tests.check("there are words to be cited", len(listed) > 50)
     texts = [read(it) for it in glob.glob(f"{TOP}/crates/examples/src/*.rt")]
     proved = [(functions(it), imports(it)) for it in texts]
     shown = list(blocks())

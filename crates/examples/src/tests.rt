@@ -3,6 +3,7 @@ use crate::bytes::{
     bucket, halves_of, hash_of_both, hashes_of_both_rows, is_cut_short, is_of_a_filter, reason,
     there_and_back, version_and_seed,
 };
+use crate::callers::{aged_estimate, is_in_union, surely_weighs};
 use crate::counts::{
     age, apples_in_store, apples_of_both_days, bytes_of_apple, count_batch, halve, sent_counts,
     visits_of, weight_of_all,
@@ -269,5 +270,13 @@ fn types_are_as_their_docs_say(rt: HostRuntime) -> Result<(), Fail> {
     assert!(rt; most_slots(status) == None);
     assert!(rt; word_for(Refusal::NameTaken) == "NameTaken");
     assert!(rt; reason(&Error::invalid_data(Fault::BadFamily)) == "wrong family");
+    Ok(())
+}
+
+#[test]
+fn callers_are_as_their_page_says(rt: HostRuntime) -> Result<(), Fail> {
+    assert!(rt; surely_weighs(rt.alloc(), 7, 8, 7)? == 3);
+    assert!(rt; is_in_union(rt.alloc(), 7, 8)?);
+    assert!(rt; aged_estimate(rt.alloc(), 7, 9)? == 4);
     Ok(())
 }

@@ -1,5 +1,5 @@
 -- The laws of set algebra and of equality.
-use Rattle.std.proofs.Common.{◌≡◌, ℕ, ◌*◌, true, false, ◌&&◌, not, List, refl, sym, ap, ◌∙◌, arith}
+use Rattle.std.proofs.Common.{◌≡◌, ℕ, ◌*◌, true, false, ◌&&◌, ◌||◌, not, List, refl, sym, ap, subst, ◌∙◌, arith}
 use Rattle.std.specs.FinSet as set
 use Rattle.sketch_base.specs.Xxh64.{xxh64}
 use Rattle.sketch_bloom.specs.Positions.{position, positions}
@@ -21,6 +21,14 @@ union_associates a b c = same_states (united (united a b) c) (united a (united b
 -- a union with itself
 pub union_is_idempotent : (a : FilterState) → united a a ≡ a
 union_is_idempotent a = same_states (united a a) a refl refl refl (union-self a.set)
+
+-- a union contains what the first contains
+pub union_keeps : (a b : FilterState) (bytes : List ℕ) → contains_item a bytes ≡ true → contains_item (united a b) bytes ≡ true
+union_keeps a b bytes has = subset_by_members (item_positions a bytes) (set.union a.set b.set) (λ q m. contains-union a.set b.set q ∙ ap (λ t. t || set.contains b.set q) (member_of_subset (item_positions a bytes) a.set has q m))
+
+-- and what the second does
+pub union_brings : (a b : FilterState) (bytes : List ℕ) → IsCompatible a b → contains_item b bytes ≡ true → contains_item (united a b) bytes ≡ true
+union_brings a b bytes c has = subst (λ (s : FilterState). contains_item s bytes ≡ true) (sym (union_commutes a b c)) (union_keeps b a bytes has)
 
 -- what was inserted is contained
 pub inserted_is_contained : (a : FilterState) (bytes : List ℕ) → contains_item (inserted a bytes) bytes ≡ true

@@ -16,6 +16,15 @@ UnionAssociates = (a b c : FilterState) → united (united a b) c ≡ united a (
 abbrev pub UnionIsIdempotent : Type 0
 UnionIsIdempotent = (a : FilterState) → united a a ≡ a
 
+-- what a filter contains it contains when it is united with another
+abbrev pub UnionKeeps : Type 0
+UnionKeeps = (a b : FilterState) (bytes : List ℕ) → contains_item a bytes ≡ true → contains_item (united a b) bytes ≡ true
+
+-- and what the other contains comes in
+abbrev pub UnionBrings : Type 0
+UnionBrings = (a b : FilterState) (bytes : List ℕ) → IsCompatible a b → contains_item b bytes ≡ true
+    → contains_item (united a b) bytes ≡ true
+
 -- a filter with nothing in its set contains nothing
 abbrev pub EmptyContainsNothing : Type 0
 EmptyContainsNothing = (a : FilterState) (bytes : List ℕ) → IsFilterState a → a.set ≡ set.empty

@@ -5,17 +5,20 @@
 //! name them.
 ghost use Rattle.std.specs.Prelude.{◌≡◌, IfOk, IfErr};
 ghost use Rattle.sketch_base.specs.Errors.{no_memory};
-ghost use Rattle.sketch_bloom.specs.Laws.{SpelledIsImage, ImageIsOfOne, ImageIsOfSome, UnionCommutes, UnionAssociates, UnionIsIdempotent, EmptyContainsNothing, InsertedIsContained, DifferenceTakesAway, DifferenceAddsNothing, DifferenceLeaves, EqualByParts, EqualityIsReflexive, EqualityIsSymmetric, EqualityIsTransitive};
+ghost use Rattle.sketch_bloom.specs.Laws.{SpelledIsImage, ImageIsOfOne, ImageIsOfSome, UnionCommutes, UnionAssociates, UnionIsIdempotent, UnionKeeps, UnionBrings, EmptyContainsNothing, InsertedIsContained, DifferenceTakesAway, DifferenceAddsNothing, DifferenceLeaves, EqualByParts, EqualityIsReflexive, EqualityIsSymmetric, EqualityIsTransitive};
 
 use crate::bloom_filter::BloomFilter;
 use sketch_base::Error;
 use std::alloc::Global;
 
-/// A union of compatible filters does not depend on their order, and a filter united with itself is as it was.
+/// A union of compatible filters does not depend on their order, and a filter united with itself is as it was. It contains
+/// what either of the two contains.
 pub fn union_is_set_union()
     ensures commutes { UnionCommutes }
     ensures associates { UnionAssociates }
     ensures idempotent { UnionIsIdempotent }
+    ensures keeps { UnionKeeps }
+    ensures brings { UnionBrings }
 {}
 
 /// An empty filter contains nothing, and an item that was inserted is contained.
