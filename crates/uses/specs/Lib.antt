@@ -1,0 +1,2 @@
+pub mod Prefilters
+pub mod Groups

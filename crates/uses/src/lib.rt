@@ -1,0 +1,9 @@
+//! What the sketches are good for: four small callers, each with a promise of its own that is proved from the public
+//! contracts of the sketches alone.
+#![tactic(auto)]
+
+pub mod group_by;
+pub mod join_prefilter;
+
+pub use sketch_base::{Error, ErrorKind, Fault};
+pub use sketch_frequencies::Row;
