@@ -1,2 +1,3 @@
 pub mod Prefilters
 pub mod Groups
+pub mod Admissions

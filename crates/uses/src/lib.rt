@@ -2,6 +2,7 @@
 //! contracts of the sketches alone.
 #![tactic(auto)]
 
+pub mod admission;
 pub mod group_by;
 pub mod join_prefilter;
 
