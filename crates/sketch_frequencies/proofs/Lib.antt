@@ -27,6 +27,7 @@ pub mod SameStates
 pub mod SampleSizes
 pub mod SlotEntries
 pub mod Spellings
+pub mod SuggestedSizes
 pub mod Tail
 pub mod Texts
 pub mod UpdateParts

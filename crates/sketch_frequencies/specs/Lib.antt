@@ -13,4 +13,5 @@ pub mod Sizes
 pub mod Stands
 pub mod State
 pub mod Steps
+pub mod SuggestedSizes
 pub mod Writing

@@ -2,12 +2,13 @@
 //!
 //! The laws speak of the states that the calls of [`FrequentItemsSketch`] leave, as their contracts name them, with
 //! what an item says in place of the item.
-ghost use Rattle.std.specs.Prelude.{◌≡◌, ◌*◌, ◌<◌, ◌≤◌, IfOk, IfErr};
-ghost use Rattle.sketch_frequencies.specs.History.{FrequentHistory, least_size, least_sample, total_weight, HasUsualSamples};
+ghost use Rattle.std.specs.Prelude.{◌≡◌, ℕ, ◌*◌, ◌<◌, ◌≤◌, IfOk, IfErr};
+ghost use Rattle.sketch_frequencies.specs.History.{FrequentHistory, budget_size, least_size, least_sample, total_weight, HasUsualSamples};
 ghost use Rattle.sketch_frequencies.specs.Image.{IsImageWritingRefusal};
 ghost use Rattle.sketch_frequencies.specs.Laws.{SpelledIsImage, ImageIsOfOne, ImageIsOfSome, ImageIsWithinTotal};
 ghost use Rattle.sketch_frequencies.specs.Stands.{Encloses, KeepsTailBudget};
 ghost use Rattle.sketch_frequencies.specs.State.{FrequentState, greatest_sample_size};
+ghost use Rattle.sketch_frequencies.specs.SuggestedSizes.{usual_budget};
 ghost use Rattle.sketch_frequencies.specs.Steps.{HoldsSame};
 
 use crate::frequent_item_value::FrequentItemValue;
@@ -35,6 +36,17 @@ pub fn what_the_error_costs<T: Eq>()
         → HasUsualSamples h → least_size h ≤ 1024 → 3 * least_size h * s.error ≤ 8 * total_weight h }
     ensures large { (s : FrequentState T) (h : FrequentHistory T) → Encloses T.eq s h → KeepsTailBudget T.eq s h
         → HasUsualSamples h → 1024 < least_size h → 512 * s.error ≤ total_weight h }
+{}
+
+/// What a greatest size buys. Where the tail budget may set n items aside, n times the error is at most the weight of all
+/// items (`budget`). So it is where all sketches that took part were made by `new`, and none has a greatest size below one
+/// whose tail budget is n or more (`usual`), as the size that
+/// [`suggest_max_map_size`](crate::suggest_max_map_size) answers for n.
+pub fn what_a_greatest_size_buys<T: Eq>()
+    ensures budget { (s : FrequentState T) (h : FrequentHistory T) (n : ℕ) → Encloses T.eq s h → KeepsTailBudget T.eq s h
+        → n ≤ budget_size h → n * s.error ≤ total_weight h }
+    ensures usual { (s : FrequentState T) (h : FrequentHistory T) (m n : ℕ) → Encloses T.eq s h → KeepsTailBudget T.eq s h
+        → HasUsualSamples h → m ≤ least_size h → n ≤ usual_budget m → n * s.error ≤ total_weight h }
 {}
 
 /// Writes an image of the sketch and reads it again: the sketch that comes back has the same counters, up to which of

@@ -27,6 +27,6 @@ pub use frequent_item_value::FrequentItemValue;
 pub use frequent_items_sketch::FrequentItemsSketch;
 pub use image::{EMPTY_FLAG_MASK, PREAMBLE_LONGS_EMPTY, PREAMBLE_LONGS_NONEMPTY};
 pub use row::Row;
-pub use sizes::check_map_size;
+pub use sizes::{check_map_size, suggest_max_map_size};
 pub use sketch_base::image::SERIAL_VERSION;
 pub use sketch_base::{Error, ErrorKind, Fault, SketchBytes, SketchSlice};

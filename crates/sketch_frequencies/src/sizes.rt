@@ -1,8 +1,9 @@
 //! Which sizes a sketch may have.
-ghost use Rattle.std.specs.Prelude.{◌≡◌, ◌↔◌, None, IfErr, IsOk};
-ghost use Rattle.sketch_base.specs.Errors.{refusal_of};
+ghost use Rattle.std.specs.Prelude.{◌≡◌, ◌↔◌, ℕ, ◌<◌, ◌≤◌, None, IfOk, IfErr, IsOk};
+ghost use Rattle.sketch_base.specs.Errors.{invalid_argument, refusal_of};
 ghost use Rattle.sketch_frequencies.specs.Sizes.{size_fault};
 ghost use Rattle.sketch_frequencies.specs.State.{greatest_sample_size};
+ghost use Rattle.sketch_frequencies.specs.SuggestedSizes.{usual_budget};
 
 use counter_table::{MAX_SAMPLE_SIZE, capacity_of};
 use sketch_base::{Error, Fault};
@@ -42,4 +43,40 @@ pub fn check_map_size(max_map_size: usize) -> Result<(), Error>
         return Err(Error::invalid_argument(Fault::MapSizeTooLarge));
     }
     Ok(())
+}
+
+/// The least greatest size that promises an error of at most the weight of all items over `parts`, for every stream.
+///
+/// It is for [`new`](crate::FrequentItemsSketch::new), which chooses the greatest sample size: half of that is at least
+/// `parts` with this greatest size, and with no smaller one. So it is a theorem that `parts` times the error is at most
+/// the weight of all items, in whatever order they come, and whatever sketches by `new` of this size or above are merged
+/// ([`what_a_greatest_size_buys`](crate::laws::what_a_greatest_size_buys)). For 0 parts it is the least size, 8.
+///
+/// # Errors
+///
+/// `MapSizeTooLarge` above 512 parts: no greatest size promises so much, since a purge samples at most 1024 counters.
+///
+/// # Examples
+///
+/// ```
+/// use sketch_frequencies::{Error, FrequentItemsSketch, suggest_max_map_size};
+/// use std::alloc::Global;
+///
+/// fn visits_within_a_percent(alloc: Global) -> Result<FrequentItemsSketch<u64>, Error> {
+///     FrequentItemsSketch::new(alloc, suggest_max_map_size(100)?)
+/// }
+/// ```
+pub fn suggest_max_map_size(parts: usize) -> Result<usize, Error>
+    ensures enough { IfOk result (λ size. parts ≤ usual_budget size) }
+    ensures least { IfOk result (λ size. (m : ℕ) → size_fault m ≡ None → parts ≤ usual_budget m → size ≤ m) }
+    ensures allowed { IfOk result (λ size. size_fault size ≡ None) }
+    ensures refused { IfErr result (λ e.
+        (e ≡ invalid_argument Fault.MapSizeTooLarge) × ((m : ℕ) → usual_budget m < parts)) }
+{
+    if parts > MAX_SAMPLE_SIZE / 2 {
+        return Err(Error::invalid_argument(Fault::MapSizeTooLarge));
+    }
+    // eight slots set three items aside, and twice the slots twice as many
+    let eighth = parts.div_ceil(3).next_power_of_two();
+    Ok(8 * eighth)
 }
