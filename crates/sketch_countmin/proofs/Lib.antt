@@ -17,3 +17,6 @@ pub mod Standing
 pub mod Fractions
 pub mod Histories
 pub mod States
+pub mod SeriesOfE
+pub mod SuggestedBuckets
+pub mod SuggestedHashes

@@ -8,6 +8,7 @@ pub mod Laws
 pub mod Preamble
 pub mod Rows
 pub mod Shapes
+pub mod Sizes
 pub mod Stands
 pub mod State
 pub mod Table

@@ -14,9 +14,11 @@ pub mod laws;
 mod limits;
 mod number_types;
 mod rows;
+mod sizes;
 mod unsigned_count_min_value;
 
 pub use count_min_sketch::CountMinSketch;
 pub use count_min_value::CountMinValue;
+pub use sizes::{suggest_num_buckets, suggest_num_hashes};
 pub use sketch_base::{Error, ErrorKind, Fault};
 pub use unsigned_count_min_value::UnsignedCountMinValue;

@@ -1,0 +1,136 @@
+//! How many buckets and hashes to choose: the published formulas in whole numbers.
+//!
+//! That the numbers are exactly those of the formulas is proved, of e by its series. What they buy is no theorem here,
+//! since it rests on ideal hashes: where no weight is below zero, an estimate passes the item's own weight by more than
+//! the total over `parts` for at most one question in `questions`.
+ghost use Rattle.std.specs.Prelude.{◌≡◌, ℕ, ◌<◌, ◌≤◌, IfOk, IfErr, IsOk, IsErrOf};
+ghost use Rattle.sketch_base.specs.Errors.{invalid_argument};
+ghost use Rattle.sketch_countmin.specs.Sizes.{IsETimesWithin, IsWithinPowerOfE};
+
+use crate::limits::{MAX_TABLE_ENTRIES, MIN_NUM_BUCKETS};
+use sketch_base::{Error, Fault};
+
+/// The greatest number that e times stays below the cells that a sketch stays below.
+const GREATEST_PARTS: u64 = 395_007_541;
+
+/// What is divided in a fraction just above e. Its products with numbers up to the greatest, rounded up, are those of e.
+const ABOVE_E_NUMERATOR: u64 = 438_351_041;
+
+/// What it is divided by.
+const ABOVE_E_DENOMINATOR: u64 = 161_260_336;
+
+/// The powers of e from 0 up to 44, rounded down.
+const POWERS_OF_E: [u64; 45] = [
+    1,
+    2,
+    7,
+    20,
+    54,
+    148,
+    403,
+    1_096,
+    2_980,
+    8_103,
+    22_026,
+    59_874,
+    162_754,
+    442_413,
+    1_202_604,
+    3_269_017,
+    8_886_110,
+    24_154_952,
+    65_659_969,
+    178_482_300,
+    485_165_195,
+    1_318_815_734,
+    3_584_912_846,
+    9_744_803_446,
+    26_489_122_129,
+    72_004_899_337,
+    195_729_609_428,
+    532_048_240_601,
+    1_446_257_064_291,
+    3_931_334_297_144,
+    10_686_474_581_524,
+    29_048_849_665_247,
+    78_962_960_182_680,
+    214_643_579_785_916,
+    583_461_742_527_454,
+    1_586_013_452_313_430,
+    4_311_231_547_115_195,
+    11_719_142_372_802_611,
+    31_855_931_757_113_756,
+    86_593_400_423_993_746,
+    235_385_266_837_019_985,
+    639_843_493_530_054_949,
+    1_739_274_941_520_501_047,
+    4_727_839_468_229_346_561,
+    12_851_600_114_359_308_275,
+];
+
+/// How many buckets the published formula asks for, so that an estimate is at most the total over `parts` above the item's
+/// own weight: e times `parts`, rounded up.
+///
+/// It is proved that this is the least whole number that e times `parts` does not pass. That few estimates are further
+/// above is no theorem here: how few is said at [`suggest_num_hashes`].
+///
+/// # Errors
+///
+/// `BadNumBuckets` for 0 parts, and `TableTooLarge` where one row of so many buckets has 2^30 cells or more, which is
+/// above 395007541 parts. A sketch of several rows may have fewer buckets: it is refused when it is made.
+///
+/// # Examples
+///
+/// ```
+/// use sketch_base::Error;
+/// use sketch_countmin::{CountMinSketch, suggest_num_buckets, suggest_num_hashes};
+/// use std::alloc::Global;
+///
+/// fn bytes_within_a_thousandth(alloc: Global) -> Result<CountMinSketch<u64>, Error> {
+///     CountMinSketch::new(alloc, suggest_num_hashes(50)?, suggest_num_buckets(1000)?)
+/// }
+/// ```
+pub fn suggest_num_buckets(parts: u64) -> Result<u32, Error>
+    ensures enough { IfOk result (λ buckets. IsETimesWithin parts buckets) }
+    ensures least { IfOk result (λ buckets. (m : ℕ) → IsETimesWithin parts m → buckets ≤ m) }
+    ensures allowed { IfOk result (λ buckets. (MIN_NUM_BUCKETS ≤ buckets) × (buckets < MAX_TABLE_ENTRIES)) }
+    ensures none { parts ≡ 0 → IsErrOf result (invalid_argument Fault.BadNumBuckets) }
+    ensures too_many { 0 < parts → IfErr result (λ e. (e ≡ invalid_argument Fault.TableTooLarge)
+        × ((m : ℕ) → IsETimesWithin parts m → MAX_TABLE_ENTRIES ≤ m)) }
+{
+    if parts == 0 {
+        return Err(Error::invalid_argument(Fault::BadNumBuckets));
+    }
+    if parts > GREATEST_PARTS {
+        return Err(Error::invalid_argument(Fault::TableTooLarge));
+    }
+    Ok((parts * ABOVE_E_NUMERATOR).div_ceil(ABOVE_E_DENOMINATOR) as u32)
+}
+
+/// How many hashes the published formula asks for, so that at most one estimate in `questions` is further above the item's
+/// own weight than the buckets were chosen for: the natural logarithm of `questions`, rounded up.
+///
+/// It is proved that e to the power of this number, and of no lesser whole number, is at least `questions`. That so many
+/// rows make estimates so good, with the buckets of [`suggest_num_buckets`], is no theorem here: it is so under ideal
+/// hashes, where no weight is below zero.
+///
+/// # Errors
+///
+/// `BadNumHashes` for 0 and 1 question, where no hash is asked for.
+pub fn suggest_num_hashes(questions: u64) -> Result<u8, Error>
+    ensures enough { IfOk result (λ hashes. IsWithinPowerOfE questions hashes) }
+    ensures least { IfOk result (λ hashes. (m : ℕ) → IsWithinPowerOfE questions m → hashes ≤ m) }
+    ensures allowed { IfOk result (λ hashes. 1 ≤ hashes) }
+    ensures none { questions ≤ 1 → IsErrOf result (invalid_argument Fault.BadNumHashes) }
+    ensures some { 1 < questions → IsOk result }
+{
+    if questions <= 1 {
+        return Err(Error::invalid_argument(Fault::BadNumHashes));
+    }
+    for num_hashes in 0..45 {
+        if questions <= POWERS_OF_E[num_hashes as usize] {
+            return Ok(num_hashes);
+        }
+    }
+    Ok(45)
+}
