@@ -12,3 +12,7 @@ pub mod States
 pub mod Batches
 pub mod Inserting
 pub mod Pairs
+pub mod SeriesOfLn2
+pub mod SuggestedHashes
+pub mod Logarithms
+pub mod SuggestedBits

@@ -11,3 +11,4 @@ pub mod Image
 pub mod Preamble
 pub mod Laws
 pub mod Equality
+pub mod Sizes

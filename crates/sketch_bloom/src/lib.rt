@@ -13,7 +13,9 @@ mod image;
 pub mod laws;
 mod limits;
 mod set_operation;
+mod sizes;
 
 pub use bloom_filter::BloomFilter;
 pub use bloom_filter_builder::BloomFilterBuilder;
+pub use sizes::{suggest_num_bits, suggest_num_hashes};
 pub use sketch_base::{Error, ErrorKind, Fault};
