@@ -2,3 +2,4 @@ pub mod Sets
 pub mod Prefilters
 pub mod Groups
 pub mod Admissions
+pub mod Takedowns

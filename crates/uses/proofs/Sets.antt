@@ -6,11 +6,11 @@ use Rattle.sketch_bloom.specs.BitSet.{Numbers}
 use Rattle.sketch_bloom.specs.Positions.{positions_of}
 use Rattle.sketch_bloom.specs.State.{FilterState, IsCompatible, item_positions, contains_item, inserted, united}
 
-or_left : (a b : Bool) → a ≡ true → (a || b) ≡ true
+pub or_left : (a b : Bool) → a ≡ true → (a || b) ≡ true
 or_left true b e = refl
 or_left false b e = absurd (cc e)
 
-or_right : (a b : Bool) → b ≡ true → (a || b) ≡ true
+pub or_right : (a b : Bool) → b ≡ true → (a || b) ≡ true
 or_right true b e = refl
 or_right false b e = e
 

@@ -1,3 +1,4 @@
 pub mod Prefilters
 pub mod Groups
 pub mod Admissions
+pub mod Takedowns

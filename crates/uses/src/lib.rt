@@ -5,6 +5,7 @@
 pub mod admission;
 pub mod group_by;
 pub mod join_prefilter;
+pub mod takedown;
 
 pub use sketch_base::{Error, ErrorKind, Fault};
 pub use sketch_frequencies::Row;
