@@ -1,12 +1,19 @@
-/* CountMin: estimates of weights, as numbers of 64 bits without a sign. */
+/* CountMin: estimates of weights, as numbers of 64 bits without a sign or with one. */
 #include "sketches.h"
+
+/* A call by the kind of the sketch's weights. */
+#define BY_SIGN(self, call, ...) \
+    ((self)->with_sign ? ds_count_i64_##call(&(self)->handle, __VA_ARGS__) \
+                       : ds_count_u64_##call(&(self)->handle, __VA_ARGS__))
 
 static PyObject *count_new(PyTypeObject *type, PyObject *args, PyObject *keywords)
 {
-    static char *names[] = {"hashes", "buckets", "seed", NULL};
+    static char *names[] = {"hashes", "buckets", "seed", "signed", NULL};
     PyObject *hashes_object, *buckets_object, *seed_object = NULL;
     uint64_t hashes, buckets, seed = DEFAULT_SEED;
-    if (!PyArg_ParseTupleAndKeywords(args, keywords, "OO|O:CountMin", names, &hashes_object, &buckets_object, &seed_object))
+    int with_sign = false;
+    if (!PyArg_ParseTupleAndKeywords(args, keywords, "OO|Op:CountMin", names, &hashes_object, &buckets_object, &seed_object,
+                                     &with_sign))
         return NULL;
     if (!natural_of(hashes_object, "hashes", &hashes) || !natural_of(buckets_object, "buckets", &buckets) ||
         (seed_object != NULL && !natural_of(seed_object, "seed", &seed)))
@@ -18,7 +25,8 @@ static PyObject *count_new(PyTypeObject *type, PyObject *args, PyObject *keyword
     self->hashes = hashes > UINT8_MAX ? 0 : (uint8_t)hashes;
     self->buckets = buckets > UINT32_MAX ? UINT32_MAX : (uint32_t)buckets;
     self->seed = seed;
-    int32_t answer = ds_count_u64_new(&self->handle, self->hashes, self->buckets, seed);
+    self->with_sign = with_sign != 0;
+    int32_t answer = BY_SIGN(self, new, self->hashes, self->buckets, seed);
     if (answer >= 0)
         return (PyObject *)self;
     Py_DECREF(self);
@@ -27,7 +35,7 @@ static PyObject *count_new(PyTypeObject *type, PyObject *args, PyObject *keyword
 
 PyDoc_STRVAR(halve_doc,
 "halve($self, /)\n--\n\n"
-"Halve all weights, rounded down.\n\n"
+"Halve all weights, rounded down. A signed sketch raises TypeError.\n\n"
 ">>> import datasketches_rattle as ds\n"
 ">>> load = ds.CountMin(hashes=4, buckets=128)\n"
 ">>> load.update(7, 99)\n"
@@ -35,10 +43,18 @@ PyDoc_STRVAR(halve_doc,
 ">>> load[7]\n"
 "49\n");
 
+/* Signed weights do not age: the library has no call for them. */
+static bool ages(const Sketch *self)
+{
+    if (self->with_sign)
+        PyErr_SetString(PyExc_TypeError, "a sketch of signed weights is not halved or decayed");
+    return !self->with_sign;
+}
+
 static PyObject *count_halve(PyObject *object, PyObject *Py_UNUSED(unused))
 {
     Sketch *self = (Sketch *)object;
-    if (!sketch_lock(self))
+    if (!ages(self) || !sketch_lock(self))
         return NULL;
     int32_t answer = ds_count_u64_halve(&self->handle);
     sketch_unlock(self);
@@ -49,7 +65,8 @@ static PyObject *count_halve(PyObject *object, PyObject *Py_UNUSED(unused))
 
 PyDoc_STRVAR(decay_doc,
 "decay($self, numerator, denominator, /)\n--\n\n"
-"Multiply all weights by a fraction above 0 and at most 1, rounded down. Else 'BadFraction' is raised.\n\n"
+"Multiply all weights by a fraction above 0 and at most 1, rounded down. Else 'BadFraction' is raised.\n"
+"A signed sketch raises TypeError.\n\n"
 ">>> import datasketches_rattle as ds\n"
 ">>> load = ds.CountMin(hashes=4, buckets=128)\n"
 ">>> load.update(7, 100)\n"
@@ -63,7 +80,7 @@ static PyObject *count_decay(PyObject *object, PyObject *const *args, Py_ssize_t
     uint64_t numerator, denominator;
     if (count != 2)
         return PyErr_Format(PyExc_TypeError, "decay takes a numerator and a denominator, not %zd arguments", count);
-    if (!natural_of(args[0], "numerator", &numerator) || !natural_of(args[1], "denominator", &denominator) ||
+    if (!ages(self) || !natural_of(args[0], "numerator", &numerator) || !natural_of(args[1], "denominator", &denominator) ||
         !sketch_lock(self))
         return NULL;
     int32_t answer = ds_count_u64_decay(&self->handle, numerator, denominator);
@@ -82,12 +99,16 @@ static PyObject *count_add_into(PyObject *first, PyObject *second)
 {
     if (!PyObject_TypeCheck(first, &count_type) || !PyObject_TypeCheck(second, &count_type))
         Py_RETURN_NOTIMPLEMENTED;
+    if (((Sketch *)first)->with_sign != ((Sketch *)second)->with_sign) {
+        PyErr_SetString(PyExc_ValueError, "one sketch has signed weights, and the other has not");
+        return NULL;
+    }
     PyObject *other = first == second ? count_copy(second, NULL) : Py_NewRef(second);
     if (other == NULL || !sketch_lock_both((Sketch *)first, (Sketch *)other)) {
         Py_XDECREF(other);
         return NULL;
     }
-    int32_t answer = ds_count_u64_merge(&((Sketch *)first)->handle, &((Sketch *)other)->handle);
+    int32_t answer = BY_SIGN((Sketch *)first, merge, &((Sketch *)other)->handle);
     sketch_unlock((Sketch *)first);
     sketch_unlock((Sketch *)other);
     Py_DECREF(other);
@@ -112,8 +133,9 @@ static PyObject *count_repr(PyObject *object)
         return PyUnicode_FromString("<CountMin, closed>");
     }
     sketch_unlock(self);
-    return PyUnicode_FromFormat("<CountMin hashes=%d buckets=%llu seed=%llu>", (int)self->hashes,
-                                (unsigned long long)self->buckets, (unsigned long long)self->seed);
+    return PyUnicode_FromFormat("<CountMin hashes=%d buckets=%llu seed=%llu%s>", (int)self->hashes,
+                                (unsigned long long)self->buckets, (unsigned long long)self->seed,
+                                self->with_sign ? " signed=True" : "");
 }
 
 static PyObject *count_number(PyObject *object, void *which)
@@ -126,11 +148,16 @@ static PyObject *count_number(PyObject *object, void *which)
     return PyLong_FromUnsignedLongLong(fields[(uintptr_t)which]);
 }
 
+static PyObject *count_signed(PyObject *object, void *Py_UNUSED(unused))
+{
+    return PyBool_FromLong(((Sketch *)object)->with_sign);
+}
+
 static bool count_numbers_of(Sketch *self, ds_count_numbers *numbers)
 {
     if (!sketch_lock(self))
         return false;
-    int32_t answer = ds_count_u64_status(&self->handle, numbers);
+    int32_t answer = BY_SIGN(self, status, numbers);
     sketch_unlock(self);
     return answer >= 0 || refuse(answer) != NULL;
 }
@@ -148,12 +175,14 @@ static PyObject *count_to_bytes(PyObject *object, PyObject *Py_UNUSED(unused))
     if (!count_numbers_of((Sketch *)object, &numbers))
         return NULL;
     size_t cells = (size_t)numbers.num_hashes * numbers.num_buckets;
-    return sketch_image((Sketch *)object, (ds_count_u64_to_bytes), numbers.total_weight == 0 ? 16 : 24 + 8 * cells);
+    return sketch_image((Sketch *)object, ((Sketch *)object)->with_sign ? (ds_count_i64_to_bytes) : (ds_count_u64_to_bytes),
+                        numbers.total_weight == 0 ? 16 : 24 + 8 * cells);
 }
 
 PyDoc_STRVAR(count_from_bytes_doc,
-"from_bytes($type, image, seed=9001, limit=1073741824)\n--\n\n"
-"The sketch of an image, which may come from anywhere, read under the seed of the sketch that was written.\n\n"
+"from_bytes($type, image, seed=9001, limit=1073741824, signed=False)\n--\n\n"
+"The sketch of an image, which may come from anywhere, read under the seed of the sketch that was written, and with\n"
+"signed weights where that had them: an image does not say it.\n\n"
 "An image whose sketch would take more than `limit` bytes is refused by 'TableTooLarge'; None is no limit.\n\n"
 ">>> import datasketches_rattle as ds\n"
 ">>> load = ds.CountMin(hashes=4, buckets=128)\n"
@@ -163,23 +192,27 @@ PyDoc_STRVAR(count_from_bytes_doc,
 
 static PyObject *count_from_bytes(PyObject *type, PyObject *args, PyObject *keywords)
 {
-    static char *names[] = {"image", "seed", "limit", NULL};
+    static char *names[] = {"image", "seed", "limit", "signed", NULL};
     Py_buffer image;
     PyObject *limit_object = NULL, *seed_object = NULL;
     uint64_t seed = DEFAULT_SEED;
     size_t limit = DEFAULT_LIMIT;
-    if (!PyArg_ParseTupleAndKeywords(args, keywords, "y*|OO:from_bytes", names, &image, &seed_object, &limit_object))
+    int with_sign = false;
+    if (!PyArg_ParseTupleAndKeywords(args, keywords, "y*|OOp:from_bytes", names, &image, &seed_object, &limit_object,
+                                     &with_sign))
         return NULL;
     Sketch *self = NULL;
     if ((seed_object == NULL || natural_of(seed_object, "seed", &seed)) && limit_of(limit_object, &limit))
         self = sketch_alloc((PyTypeObject *)type);
     ds_count_numbers numbers;
     int32_t answer = DS_OK;
-    if (self != NULL)
-        answer = ds_count_u64_from_bytes(&self->handle, image.buf, (size_t)image.len, seed, limit);
+    if (self != NULL) {
+        self->with_sign = with_sign != 0;
+        answer = BY_SIGN(self, from_bytes, image.buf, (size_t)image.len, seed, limit);
+    }
     PyBuffer_Release(&image);
     if (self != NULL && answer >= 0)
-        answer = ds_count_u64_status(&self->handle, &numbers);
+        answer = BY_SIGN(self, status, &numbers);
     if (self != NULL && answer >= 0) {
         self->hashes = numbers.num_hashes;
         self->buckets = numbers.num_buckets;
@@ -196,15 +229,17 @@ static PyObject *count_reduce(PyObject *object, PyObject *Py_UNUSED(unused))
     PyObject *image = count_to_bytes(object, NULL);
     if (image == NULL)
         return NULL;
-    return reduce_to(object, Py_BuildValue("NKO", image, (unsigned long long)((Sketch *)object)->seed, Py_None));
+    Sketch *self = (Sketch *)object;
+    PyObject *with_sign = self->with_sign ? Py_True : Py_False;
+    return reduce_to(object, Py_BuildValue("NKOO", image, (unsigned long long)self->seed, Py_None, with_sign));
 }
 
-/* Equal are two sketches with one seed and one image. */
+/* Equal are two sketches with one seed and one image, and weights of one type. */
 static PyObject *count_compare(PyObject *first, PyObject *second, int operation)
 {
     if ((operation != Py_EQ && operation != Py_NE) || !PyObject_TypeCheck(second, &count_type))
         Py_RETURN_NOTIMPLEMENTED;
-    if (((Sketch *)first)->seed != ((Sketch *)second)->seed)
+    if (((Sketch *)first)->seed != ((Sketch *)second)->seed || ((Sketch *)first)->with_sign != ((Sketch *)second)->with_sign)
         return PyBool_FromLong(operation == Py_NE);
     return compare_images(count_to_bytes(first, NULL), count_to_bytes(second, NULL), operation);
 }
@@ -219,7 +254,8 @@ static PyGetSetDef count_fields[] = {
     {"hashes", count_number, NULL, "How many rows there are, a hash each.", (void *)0},
     {"buckets", count_number, NULL, "How many cells a row has.", (void *)1},
     {"seed", count_number, NULL, "The seed of the hashes.", (void *)2},
-    {"total", count_total, NULL, "The weight of all items.", NULL},
+    {"signed", count_signed, NULL, "Whether weights may be below 0.", NULL},
+    {"total", count_total, NULL, "The weight of all items, of each without its sign.", NULL},
     {NULL, NULL, NULL, NULL, NULL},
 };
 
@@ -247,16 +283,22 @@ static PyNumberMethods count_as_number = {.nb_add = count_add, .nb_inplace_add =
 static PyMappingMethods count_as_mapping = {.mp_subscript = count_at};
 
 PyDoc_STRVAR(count_doc,
-"CountMin(hashes, buckets, seed=9001)\n--\n\n"
+"CountMin(hashes, buckets, seed=9001, signed=False)\n--\n\n"
 "Weights of items in a table of fixed size: `load[item]` is never too low, and rarely much too high.\n\n"
-"`hashes` is from 1 to 255, `buckets` 3 or more, with fewer than 2**30 cells in all. `+` merges two of one shape.\n\n"
+"`hashes` is from 1 to 255, `buckets` 3 or more, with fewer than 2**30 cells in all. `+` merges two of one shape. Where\n"
+"the sketch is signed, weights and estimates are from -2**63 to 2**63 - 1, and an estimate may be too low, too.\n\n"
 ">>> import datasketches_rattle as ds\n"
 ">>> load = ds.CountMin(hashes=4, buckets=1 << 16)\n"
 ">>> load.update(7, 30)\n"
 ">>> (load + load)[7]\n"
 "60\n"
 ">>> load\n"
-"<CountMin hashes=4 buckets=65536 seed=9001>\n");
+"<CountMin hashes=4 buckets=65536 seed=9001>\n"
+">>> stock = ds.CountMin(hashes=4, buckets=1 << 16, signed=True)\n"
+">>> stock.update(['apple', 'pear'], [10, 5])\n"
+">>> stock.update('apple', -3)\n"
+">>> stock['apple'], stock.total\n"
+"(7, 18)\n");
 
 PyTypeObject count_type = {
     PyVarObject_HEAD_INIT(NULL, 0)

@@ -1,97 +1,136 @@
 /* What a CountMin is given, and what it is asked. */
 #include "sketches.h"
 
-static int32_t update_one(ds_sketch *handle, const Item *item, uint64_t weight)
+static int32_t update_one(Sketch *self, const Item *item, uint64_t weight)
 {
-    if (item->text != NULL)
-        return ds_count_u64_update_text(handle, (const uint8_t *)item->text, item->value, weight);
-    return item->negative ? ds_count_u64_update_i64(handle, (int64_t)item->value, weight)
-                          : ds_count_u64_update_u64(handle, item->value, weight);
+    const uint8_t *text = (const uint8_t *)item->text;
+    ds_sketch *handle = &self->handle;
+    if (self->with_sign)
+        return text != NULL     ? ds_count_i64_update_text(handle, text, item->value, (int64_t)weight)
+               : item->negative ? ds_count_i64_update_i64(handle, (int64_t)item->value, (int64_t)weight)
+                                : ds_count_i64_update_u64(handle, item->value, (int64_t)weight);
+    return text != NULL     ? ds_count_u64_update_text(handle, text, item->value, weight)
+           : item->negative ? ds_count_u64_update_i64(handle, (int64_t)item->value, weight)
+                            : ds_count_u64_update_u64(handle, item->value, weight);
 }
 
-static int32_t estimate_one(ds_sketch *handle, const Item *item, uint64_t *number)
+static int32_t estimate_one(Sketch *self, const Item *item, uint64_t *number)
 {
-    if (item->text != NULL)
-        return ds_count_u64_estimate_text(handle, (const uint8_t *)item->text, item->value, number);
-    return item->negative ? ds_count_u64_estimate_i64(handle, (int64_t)item->value, number)
-                          : ds_count_u64_estimate_u64(handle, item->value, number);
+    const uint8_t *text = (const uint8_t *)item->text;
+    ds_sketch *handle = &self->handle;
+    if (self->with_sign)
+        return text != NULL     ? ds_count_i64_estimate_text(handle, text, item->value, (int64_t *)number)
+               : item->negative ? ds_count_i64_estimate_i64(handle, (int64_t)item->value, (int64_t *)number)
+                                : ds_count_i64_estimate_u64(handle, item->value, (int64_t *)number);
+    return text != NULL     ? ds_count_u64_estimate_text(handle, text, item->value, number)
+           : item->negative ? ds_count_u64_estimate_i64(handle, (int64_t)item->value, number)
+                            : ds_count_u64_estimate_u64(handle, item->value, number);
 }
 
-static int32_t upper_bound_one(ds_sketch *handle, const Item *item, uint64_t *number)
+static int32_t upper_bound_one(Sketch *self, const Item *item, uint64_t *number)
 {
-    if (item->text != NULL)
-        return ds_count_u64_upper_bound_text(handle, (const uint8_t *)item->text, item->value, number);
-    return item->negative ? ds_count_u64_upper_bound_i64(handle, (int64_t)item->value, number)
-                          : ds_count_u64_upper_bound_u64(handle, item->value, number);
+    const uint8_t *text = (const uint8_t *)item->text;
+    ds_sketch *handle = &self->handle;
+    if (self->with_sign)
+        return text != NULL     ? ds_count_i64_upper_bound_text(handle, text, item->value, (int64_t *)number)
+               : item->negative ? ds_count_i64_upper_bound_i64(handle, (int64_t)item->value, (int64_t *)number)
+                                : ds_count_i64_upper_bound_u64(handle, item->value, (int64_t *)number);
+    return text != NULL     ? ds_count_u64_upper_bound_text(handle, text, item->value, number)
+           : item->negative ? ds_count_u64_upper_bound_i64(handle, (int64_t)item->value, number)
+                            : ds_count_u64_upper_bound_u64(handle, item->value, number);
 }
 
-static int32_t update_many(ds_sketch *handle, const Items *items, uint64_t weight)
+/* Adds 1 to each number's weight. */
+static int32_t update_numbers(Sketch *self, bool with_sign, const uint64_t *numbers, size_t count)
 {
-    uint64_t chunk[CHUNK];
-    size_t count = 1;
+    if (self->with_sign)
+        return with_sign ? ds_count_i64_update_all_i64(&self->handle, (const int64_t *)numbers, count)
+                         : ds_count_i64_update_all_u64(&self->handle, numbers, count);
+    return with_sign ? ds_count_u64_update_all_i64(&self->handle, (const int64_t *)numbers, count)
+                     : ds_count_u64_update_all_u64(&self->handle, numbers, count);
+}
+
+static int32_t update_many(Sketch *self, const Items *items, const Weights *weights)
+{
+    uint64_t numbers[CHUNK], chunk[CHUNK];
+    size_t count = 0;
     int32_t answer = DS_OK;
     for (size_t i = 0; i < items->count && answer >= 0; i += count) {
-        if (items->with_texts) {
-            answer = update_one(handle, &items->items[i], weight);
+        count = items_chunk(items, i, numbers);
+        if (!items->with_texts && !weights->each && weights->same == 1) {
+            answer = update_numbers(self, items->with_sign, numbers, count);
             continue;
         }
-        count = items_chunk(items, i, chunk);
-        if (weight == 1)
-            answer = items->with_sign ? ds_count_u64_update_all_i64(handle, (const int64_t *)chunk, count)
-                                      : ds_count_u64_update_all_u64(handle, chunk, count);
-        else
-            for (size_t j = 0; j < count && answer >= 0; j++)
-                answer = ds_count_u64_update_u64(handle, chunk[j], weight);
+        weights_chunk(weights, i, count, chunk);
+        for (size_t j = 0; j < count && answer >= 0; j++) {
+            Item number = {.value = numbers[j]};
+            answer = update_one(self, items->with_texts ? &items->items[i + j] : &number, chunk[j]);
+        }
     }
     return answer;
 }
 
 const char count_update_doc[] = PyDoc_STR(
 "update($self, items, weight=1, /)\n--\n\n"
-"Add a weight, 0 to 2**64 - 1, to an item's, or to that of each of many: an iterable, or a buffer of 64-bit integers.\n\n"
-"Where the total weight would pass 2**64 - 1, 'WeightOverflow' is raised; the first of many items are then counted.\n\n"
+"Add a weight to an item's, or to those of many: an iterable, or a buffer of 64-bit integers.\n\n"
+"The weight is from 0 to 2**64 - 1, or where the sketch is signed from -2**63 to 2**63 - 1. Many items have one weight\n"
+"each, or as many weights as there are items: an iterable or a buffer too. Where the total weight would pass the\n"
+"greatest, 'WeightOverflow' is raised; the first of many items are then counted.\n\n"
 ">>> import datasketches_rattle as ds\n"
 ">>> load = ds.CountMin(hashes=4, buckets=1 << 10)\n"
 ">>> load.update(7, 30)\n"
 ">>> load.update([7, 8, -9, 'nine'])\n"
+">>> load.update([7, 'nine'], [100, 200])\n"
 ">>> load[7], load[8], load[-9], load['nine'], load[10]\n"
-"(31, 1, 1, 1, 0)\n");
+"(131, 1, 1, 201, 0)\n");
 
 PyObject *count_update(PyObject *object, PyObject *const *args, Py_ssize_t count)
 {
     Sketch *self = (Sketch *)object;
-    uint64_t weight = 1;
+    PyObject *given = count == 2 ? args[1] : NULL;
     int32_t answer;
     if (count < 1 || count > 2)
         return PyErr_Format(PyExc_TypeError, "update takes items and a weight, not %zd arguments", count);
-    if (count == 2 && !natural_of(args[1], "weight", &weight))
-        return NULL;
     if (is_single(args[0])) {
         Item item;
-        if (!item_of(args[0], &item) || !sketch_lock(self))
+        uint64_t weight = 1;
+        if ((given != NULL && !number_of_kind(given, "weight", self->with_sign, &weight)) || !item_of(args[0], &item) ||
+            !sketch_lock(self))
             return NULL;
-        answer = update_one(&self->handle, &item, weight);
+        answer = update_one(self, &item, weight);
         sketch_unlock(self);
     } else {
         Items items;
+        Weights weights;
         if (!items_of(args[0], &items))
             return NULL;
-        if (!sketch_lock(self)) {
+        if (!weights_of(given, self->with_sign, &items, &weights)) {
             items_release(&items);
             return NULL;
         }
-        Py_BEGIN_ALLOW_THREADS
-        answer = update_many(&self->handle, &items, weight);
-        Py_END_ALLOW_THREADS
-        sketch_unlock(self);
+        bool there = sketch_lock(self);
+        if (there) {
+            Py_BEGIN_ALLOW_THREADS
+            answer = update_many(self, &items, &weights);
+            Py_END_ALLOW_THREADS
+            sketch_unlock(self);
+        }
+        items_release(&weights.items);
         items_release(&items);
+        if (!there)
+            return NULL;
     }
     if (answer < 0)
         return refuse(answer);
     Py_RETURN_NONE;
 }
 
-typedef int32_t (*question)(ds_sketch *, const Item *, uint64_t *);
+static PyObject *number_for(const Sketch *self, uint64_t number)
+{
+    return self->with_sign ? PyLong_FromLongLong((int64_t)number) : PyLong_FromUnsignedLongLong(number);
+}
+
+typedef int32_t (*question)(Sketch *, const Item *, uint64_t *);
 
 static PyObject *asked(PyObject *object, PyObject *given, question ask)
 {
@@ -100,9 +139,9 @@ static PyObject *asked(PyObject *object, PyObject *given, question ask)
     uint64_t number = 0;
     if (!item_of(given, &item) || !sketch_lock(self))
         return NULL;
-    int32_t answer = ask(&self->handle, &item, &number);
+    int32_t answer = ask(self, &item, &number);
     sketch_unlock(self);
-    return answer < 0 ? refuse(answer) : PyLong_FromUnsignedLongLong(number);
+    return answer < 0 ? refuse(answer) : number_for(self, number);
 }
 
 /* The estimate of one item. */
@@ -111,37 +150,29 @@ PyObject *count_at(PyObject *object, PyObject *item)
     return asked(object, item, estimate_one);
 }
 
-static int32_t estimate_many(ds_sketch *handle, const Items *items, uint64_t *numbers)
+static int32_t estimate_numbers(Sketch *self, bool with_sign, const uint64_t *items, size_t count, uint64_t *numbers)
+{
+    if (self->with_sign)
+        return with_sign ? ds_count_i64_estimate_all_i64(&self->handle, (const int64_t *)items, count, (int64_t *)numbers, count)
+                         : ds_count_i64_estimate_all_u64(&self->handle, items, count, (int64_t *)numbers, count);
+    return with_sign ? ds_count_u64_estimate_all_i64(&self->handle, (const int64_t *)items, count, numbers, count)
+                     : ds_count_u64_estimate_all_u64(&self->handle, items, count, numbers, count);
+}
+
+static int32_t estimate_many(Sketch *self, const Items *items, uint64_t *numbers)
 {
     uint64_t chunk[CHUNK];
     size_t count = 1;
     int32_t answer = DS_OK;
     for (size_t i = 0; i < items->count && answer >= 0; i += count) {
         if (items->with_texts) {
-            answer = estimate_one(handle, &items->items[i], &numbers[i]);
+            answer = estimate_one(self, &items->items[i], &numbers[i]);
             continue;
         }
         count = items_chunk(items, i, chunk);
-        answer = items->with_sign
-                     ? ds_count_u64_estimate_all_i64(handle, (const int64_t *)chunk, count, numbers + i, count)
-                     : ds_count_u64_estimate_all_u64(handle, chunk, count, numbers + i, count);
+        answer = estimate_numbers(self, items->with_sign, chunk, count, numbers + i);
     }
     return answer;
-}
-
-static PyObject *numbers_for(PyObject *given, const uint64_t *numbers, size_t count)
-{
-    if (is_numpy_array(given))
-        return numpy_array(numbers, count * sizeof *numbers, "u8");
-    PyObject *list = PyList_New((Py_ssize_t)count);
-    for (size_t i = 0; list != NULL && i < count; i++) {
-        PyObject *number = PyLong_FromUnsignedLongLong(numbers[i]);
-        if (number == NULL)
-            Py_CLEAR(list);
-        else
-            PyList_SET_ITEM(list, (Py_ssize_t)i, number);
-    }
-    return list;
 }
 
 const char count_estimate_doc[] = PyDoc_STR(
@@ -154,27 +185,40 @@ const char count_estimate_doc[] = PyDoc_STR(
 ">>> load.estimate(7), load.estimate([7, 'seven'])\n"
 "(30, [30, 0])\n");
 
+static PyObject *list_for(const Sketch *self, const uint64_t *numbers, size_t count)
+{
+    PyObject *list = PyList_New((Py_ssize_t)count);
+    for (size_t i = 0; list != NULL && i < count; i++) {
+        PyObject *number = number_for(self, numbers[i]);
+        if (number == NULL)
+            Py_CLEAR(list);
+        else
+            PyList_SET_ITEM(list, (Py_ssize_t)i, number);
+    }
+    return list;
+}
+
 PyObject *count_estimate(PyObject *object, PyObject *given)
 {
     Sketch *self = (Sketch *)object;
     Items items;
+    Room room;
     PyObject *result = NULL;
     if (is_single(given))
         return count_at(object, given);
     if (!items_of(given, &items))
         return NULL;
-    uint64_t *numbers = PyMem_New(uint64_t, items.count);
-    if (numbers == NULL) {
-        PyErr_NoMemory();
-    } else if (sketch_lock(self)) {
+    if (room_for(given, items.count, self->with_sign ? "i8" : "u8", sizeof(uint64_t), &room) && sketch_lock(self)) {
         int32_t answer;
         Py_BEGIN_ALLOW_THREADS
-        answer = estimate_many(&self->handle, &items, numbers);
+        answer = estimate_many(self, &items, room.values);
         Py_END_ALLOW_THREADS
         sketch_unlock(self);
-        result = answer < 0 ? refuse(answer) : numbers_for(given, numbers, items.count);
+        result = answer < 0           ? refuse(answer)
+                 : room.array != NULL ? Py_NewRef(room.array)
+                                      : list_for(self, room.values, items.count);
     }
-    PyMem_Free(numbers);
+    room_release(&room);
     items_release(&items);
     return result;
 }

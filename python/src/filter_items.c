@@ -105,11 +105,8 @@ int filter_has(PyObject *object, PyObject *given)
     return answer < 0 ? -1 : answer;
 }
 
-/* The answers as an array of numpy where `given` is one, else as a list. */
-static PyObject *answers_for(PyObject *given, const bool *answers, size_t count)
+static PyObject *list_for(const bool *answers, size_t count)
 {
-    if (is_numpy_array(given))
-        return numpy_array(answers, count, "?");
     PyObject *list = PyList_New((Py_ssize_t)count);
     for (size_t i = 0; list != NULL && i < count; i++)
         PyList_SET_ITEM(list, (Py_ssize_t)i, Py_NewRef(answers[i] ? Py_True : Py_False));
@@ -132,6 +129,7 @@ PyObject *filter_contains(PyObject *object, PyObject *given)
 {
     Sketch *self = (Sketch *)object;
     Items items;
+    Room room;
     PyObject *result = NULL;
     if (is_single(given)) {
         int answer = filter_has(object, given);
@@ -139,18 +137,17 @@ PyObject *filter_contains(PyObject *object, PyObject *given)
     }
     if (!items_of(given, &items))
         return NULL;
-    bool *answers = PyMem_New(bool, items.count);
-    if (answers == NULL) {
-        PyErr_NoMemory();
-    } else if (sketch_lock(self)) {
+    if (room_for(given, items.count, "?", sizeof(bool), &room) && sketch_lock(self)) {
         int32_t answer;
         Py_BEGIN_ALLOW_THREADS
-        answer = contains_many(&self->handle, &items, answers);
+        answer = contains_many(&self->handle, &items, room.values);
         Py_END_ALLOW_THREADS
         sketch_unlock(self);
-        result = answer < 0 ? refuse(answer) : answers_for(given, answers, items.count);
+        result = answer < 0           ? refuse(answer)
+                 : room.array != NULL ? Py_NewRef(room.array)
+                                      : list_for(room.values, items.count);
     }
-    PyMem_Free(answers);
+    room_release(&room);
     items_release(&items);
     return result;
 }

@@ -38,7 +38,6 @@ static PyObject *frequent_new(PyTypeObject *type, PyObject *args, PyObject *keyw
         return NULL;
     self->with_sign = with_sign;
     self->with_texts = with_texts;
-    self->sample_size = sample;
     int32_t answer = with_texts  ? ds_frequent_text_new(&self->handle, size, sample)
                      : with_sign ? ds_frequent_i64_new(&self->handle, size, sample)
                                  : ds_frequent_u64_new(&self->handle, size, sample);
@@ -86,15 +85,11 @@ static PyObject *frequent_add(PyObject *first, PyObject *second)
 static bool numbers_of(PyObject *object, ds_frequent_numbers *numbers)
 {
     Sketch *self = (Sketch *)object;
-    if (self->with_texts) {
-        PyObject *image = texts_image(self, numbers);
-        Py_XDECREF(image);
-        return image != NULL;
-    }
     if (!sketch_lock(self))
         return false;
-    int32_t answer = self->with_sign ? ds_frequent_i64_status(&self->handle, numbers)
-                                     : ds_frequent_u64_status(&self->handle, numbers);
+    int32_t answer = self->with_texts  ? ds_frequent_text_status(&self->handle, numbers)
+                     : self->with_sign ? ds_frequent_i64_status(&self->handle, numbers)
+                                       : ds_frequent_u64_status(&self->handle, numbers);
     sketch_unlock(self);
     return answer >= 0 || refuse(answer) != NULL;
 }
@@ -112,10 +107,9 @@ PyDoc_STRVAR(reset_doc,
 static PyObject *frequent_reset(PyObject *object, PyObject *Py_UNUSED(unused))
 {
     Sketch *self = (Sketch *)object;
-    ds_frequent_numbers numbers;
-    if ((self->with_texts && !numbers_of(object, &numbers)) || !sketch_lock(self))
+    if (!sketch_lock(self))
         return NULL;
-    int32_t answer = self->with_texts  ? texts_reset(self, &numbers)
+    int32_t answer = self->with_texts  ? ds_frequent_text_reset(&self->handle)
                      : self->with_sign ? ds_frequent_i64_reset(&self->handle)
                                        : ds_frequent_u64_reset(&self->handle);
     sketch_unlock(self);
@@ -136,7 +130,7 @@ static PyObject *frequent_to_bytes(PyObject *object, PyObject *Py_UNUSED(unused)
     Sketch *self = (Sketch *)object;
     ds_frequent_numbers numbers;
     if (self->with_texts)
-        return texts_image(self, &numbers);
+        return sketch_image(self, (ds_frequent_text_to_bytes), TEXTS_GUESS);
     if (!numbers_of(object, &numbers))
         return NULL;
     size_t guess = numbers.total_weight == 0 ? 8 : 32 + 16 * (size_t)numbers.num_active_items;
@@ -172,14 +166,6 @@ static PyObject *frequent_from_bytes(PyObject *type, PyObject *args, PyObject *k
         answer = with_texts  ? ds_frequent_text_from_bytes(&self->handle, image.buf, (size_t)image.len, limit)
                  : with_sign ? ds_frequent_i64_from_bytes(&self->handle, image.buf, (size_t)image.len, limit)
                              : ds_frequent_u64_from_bytes(&self->handle, image.buf, (size_t)image.len, limit);
-    }
-    /* A reader samples the most. The size is looked for in the sketch, since other threads may change the image. */
-    ds_frequent_numbers numbers;
-    if (self != NULL && answer >= 0 && with_texts) {
-        if (numbers_of((PyObject *)self, &numbers))
-            self->sample_size = ds_greatest_sample(numbers.max_map_size);
-        else
-            Py_CLEAR(self);
     }
     PyBuffer_Release(&image);
     if (answer >= 0)

@@ -40,8 +40,9 @@ static bool counts_all(const Sketch *self, const Items *items)
 
 const char frequent_update_doc[] = PyDoc_STR(
 "update($self, items, weight=1, /)\n--\n\n"
-"Add a weight, 0 to 2**64 - 1, to an item's, or to that of each of many: an iterable, or a buffer of 64-bit integers.\n\n"
-"Where the total weight would pass 2**64 - 1, 'WeightOverflow' is raised; the first of many items are then counted.\n\n"
+"Add a weight, 0 to 2**64 - 1, to an item's, or to those of many: an iterable, or a buffer of 64-bit integers.\n\n"
+"Many items have one weight each, or as many weights as there are items: an iterable or a buffer too. Where the total\n"
+"weight would pass 2**64 - 1, 'WeightOverflow' is raised; the first of many items are then counted.\n\n"
 ">>> import datasketches_rattle as ds\n"
 ">>> heavy = ds.FrequentItems(64)\n"
 ">>> heavy.update(7, 30)\n"
@@ -51,8 +52,9 @@ const char frequent_update_doc[] = PyDoc_STR(
 ">>> words = ds.FrequentItems(64, item=str)\n"
 ">>> words.update('to be or not to be'.split())\n"
 ">>> words.update('apple', 3)\n"
-">>> words['be'], words['apple']\n"
-"(2, 3)\n");
+">>> words.update(['apple', 'pear'], [10, 20])\n"
+">>> words['be'], words['apple'], words['pear']\n"
+"(2, 13, 20)\n");
 
 static int32_t update_one(Sketch *self, const Item *item, uint64_t weight)
 {
@@ -61,21 +63,28 @@ static int32_t update_one(Sketch *self, const Item *item, uint64_t weight)
     return BY_SIGN(self, update, &self->handle, item->value, weight);
 }
 
-static int32_t update_many(Sketch *self, const Items *items, uint64_t weight)
+/* Adds 1 to each number's weight. */
+static int32_t update_numbers(Sketch *self, const uint64_t *numbers, size_t count)
 {
-    uint64_t chunk[CHUNK];
+    return self->with_sign ? ds_frequent_i64_update_all(&self->handle, (const int64_t *)numbers, count)
+                           : ds_frequent_u64_update_all(&self->handle, numbers, count);
+}
+
+static int32_t update_many(Sketch *self, const Items *items, const Weights *weights)
+{
+    uint64_t numbers[CHUNK], chunk[CHUNK];
+    size_t count = 0;
     int32_t answer = DS_OK;
-    for (size_t i = 0; self->with_texts && i < items->count && answer >= 0; i++)
-        answer = update_one(self, &items->items[i], weight);
-    for (size_t i = 0; !self->with_texts && i < items->count && answer >= 0; i += CHUNK) {
-        size_t count = items_chunk(items, i, chunk);
-        if (weight == 1) {
-            answer = self->with_sign ? ds_frequent_i64_update_all(&self->handle, (const int64_t *)chunk, count)
-                                     : ds_frequent_u64_update_all(&self->handle, chunk, count);
+    for (size_t i = 0; i < items->count && answer >= 0; i += count) {
+        count = items_chunk(items, i, numbers);
+        if (!self->with_texts && !weights->each && weights->same == 1) {
+            answer = update_numbers(self, numbers, count);
             continue;
         }
+        weights_chunk(weights, i, count, chunk);
         for (size_t j = 0; j < count && answer >= 0; j++)
-            answer = BY_SIGN(self, update, &self->handle, chunk[j], weight);
+            answer = self->with_texts ? update_one(self, &items->items[i + j], chunk[j])
+                                      : BY_SIGN(self, update, &self->handle, numbers[j], chunk[j]);
     }
     return answer;
 }
@@ -83,31 +92,38 @@ static int32_t update_many(Sketch *self, const Items *items, uint64_t weight)
 PyObject *frequent_update(PyObject *object, PyObject *const *args, Py_ssize_t count)
 {
     Sketch *self = (Sketch *)object;
-    uint64_t weight = 1;
+    PyObject *given = count == 2 ? args[1] : NULL;
     int32_t answer;
     if (count < 1 || count > 2)
         return PyErr_Format(PyExc_TypeError, "update takes items and a weight, not %zd arguments", count);
-    if (count == 2 && !natural_of(args[1], "weight", &weight))
-        return NULL;
     if (is_single(args[0])) {
         Item item;
-        if (!item_of(args[0], &item) || !counts(self, item.text != NULL, item.value, item.negative) || !sketch_lock(self))
+        uint64_t weight = 1;
+        if ((given != NULL && !natural_of(given, "weight", &weight)) || !item_of(args[0], &item) ||
+            !counts(self, item.text != NULL, item.value, item.negative) || !sketch_lock(self))
             return NULL;
         answer = update_one(self, &item, weight);
         sketch_unlock(self);
     } else {
         Items items;
+        Weights weights;
         if (!items_of(args[0], &items))
             return NULL;
-        if (!counts_all(self, &items) || !sketch_lock(self)) {
+        if (!counts_all(self, &items) || !weights_of(given, false, &items, &weights)) {
             items_release(&items);
             return NULL;
         }
-        Py_BEGIN_ALLOW_THREADS
-        answer = update_many(self, &items, weight);
-        Py_END_ALLOW_THREADS
-        sketch_unlock(self);
+        bool there = sketch_lock(self);
+        if (there) {
+            Py_BEGIN_ALLOW_THREADS
+            answer = update_many(self, &items, &weights);
+            Py_END_ALLOW_THREADS
+            sketch_unlock(self);
+        }
+        items_release(&weights.items);
         items_release(&items);
+        if (!there)
+            return NULL;
     }
     if (answer < 0)
         return refuse(answer);

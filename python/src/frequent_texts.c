@@ -1,4 +1,4 @@
-/* What the library has no call for yet: numbers and rows of a FrequentItems of texts, read from the image it writes. */
+/* What the library has no call for yet: rows of a FrequentItems of texts, read from the image that it writes. */
 #include "sketches.h"
 
 #include <stdlib.h>
@@ -12,35 +12,6 @@ static uint64_t number_at(const uint8_t *bytes, size_t size)
     for (size_t i = size; i > 0; i--)
         number = number << 8 | bytes[i - 1];
     return number;
-}
-
-/* An image is 8 bytes long where the total is 0. */
-PyObject *texts_image(Sketch *self, ds_frequent_numbers *numbers)
-{
-    PyObject *image = sketch_image(self, (ds_frequent_text_to_bytes), 1 << 12);
-    if (image == NULL)
-        return NULL;
-    const uint8_t *bytes = (const uint8_t *)PyBytes_AS_STRING(image);
-    bool empty = PyBytes_GET_SIZE(image) < HEAD;
-    *numbers = (ds_frequent_numbers){0};
-    numbers->max_map_size = (uint64_t)1 << bytes[3];
-    numbers->sample_size = self->sample_size;
-    if (!empty) {
-        numbers->num_active_items = number_at(bytes + 8, 4);
-        numbers->total_weight = number_at(bytes + 16, 8);
-        numbers->maximum_error = number_at(bytes + 24, 8);
-    }
-    return image;
-}
-
-int32_t texts_reset(Sketch *self, const ds_frequent_numbers *numbers)
-{
-    ds_sketch fresh = DS_NONE;
-    int32_t answer = ds_frequent_text_new(&fresh, numbers->max_map_size, numbers->sample_size);
-    if (answer >= 0)
-        answer = ds_clone(&self->handle, &fresh);
-    ds_free(&fresh);
-    return answer;
 }
 
 typedef struct {
@@ -68,14 +39,16 @@ static PyObject *row_of(const TextRow *row, uint64_t error)
     return Py_BuildValue("NKKK", text, low, high, high);
 }
 
+/* An image is 8 bytes long where the total is 0, and else has a head of its numbers, the weights and the items. */
 PyObject *texts_rows(Sketch *self, bool no_false_negatives, uint64_t threshold)
 {
-    ds_frequent_numbers numbers;
-    PyObject *image = texts_image(self, &numbers);
+    PyObject *image = sketch_image(self, (ds_frequent_text_to_bytes), TEXTS_GUESS);
     if (image == NULL)
         return NULL;
-    size_t count = (size_t)numbers.num_active_items, kept = 0;
-    uint64_t error = numbers.maximum_error, least = threshold > error ? threshold : error;
+    const uint8_t *head = (const uint8_t *)PyBytes_AS_STRING(image);
+    bool empty = PyBytes_GET_SIZE(image) < HEAD;
+    size_t count = empty ? 0 : (size_t)number_at(head + 8, 4), kept = 0;
+    uint64_t error = empty ? 0 : number_at(head + 24, 8), least = threshold > error ? threshold : error;
     const char *weights = PyBytes_AS_STRING(image) + HEAD, *item = weights + 8 * count;
     TextRow *rows = PyMem_New(TextRow, count);
     PyObject *list = NULL;

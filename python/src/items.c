@@ -157,6 +157,93 @@ bool natural_of(PyObject *object, const char *what, uint64_t *number)
     return true;
 }
 
+/* Whether a number of a kind that reads its top bit as `negative` says is one of the kind that is asked for. */
+static bool fits(const char *what, bool with_sign, uint64_t value, bool negative)
+{
+    if (with_sign ? !negative && value > INT64_MAX : negative)
+        PyErr_Format(PyExc_ValueError, with_sign ? "%s is above 2**63 - 1" : "%s is below 0", what);
+    else
+        return true;
+    return false;
+}
+
+bool number_of_kind(PyObject *object, const char *what, bool with_sign, uint64_t *number)
+{
+    if (!with_sign)
+        return natural_of(object, what, number);
+    if (!is_number(object)) {
+        PyErr_Format(PyExc_TypeError, "%s is an int, not %.200s", what, Py_TYPE(object)->tp_name);
+        return false;
+    }
+    Item item = {0};
+    if (!number_of(object, &item)) {
+        if (PyErr_ExceptionMatches(PyExc_OverflowError))
+            PyErr_Format(PyExc_ValueError, "%s is from -2**63 to 2**63 - 1", what);
+        return false;
+    }
+    *number = item.value;
+    return fits(what, true, item.value, item.negative);
+}
+
+static bool each_fits(bool with_sign, const Items *weights)
+{
+    uint64_t chunk[CHUNK];
+    if (weights->with_texts)
+        PyErr_SetString(PyExc_TypeError, "a weight is an int, not str");
+    for (size_t i = 0; weights->items != NULL && !weights->with_texts && i < weights->count; i++)
+        if (!fits("a weight", with_sign, weights->items[i].value, weights->items[i].negative))
+            return false;
+    if (weights->items != NULL || weights->with_sign == with_sign)
+        return !weights->with_texts;
+    for (size_t i = 0; i < weights->count; i += CHUNK) {
+        size_t count = items_chunk(weights, i, chunk);
+        for (size_t j = 0; j < count; j++)
+            if (!fits("a weight", with_sign, chunk[j], weights->with_sign && chunk[j] > INT64_MAX))
+                return false;
+    }
+    return true;
+}
+
+static bool many_weights_of(PyObject *object, Items *weights)
+{
+    if (items_of(object, weights))
+        return true;
+    if (PyErr_ExceptionMatches(PyExc_TypeError))
+        PyErr_SetString(PyExc_TypeError, "weights are an int, an iterable of int, or a buffer of integers of 64 bits");
+    else if (PyErr_ExceptionMatches(PyExc_OverflowError))
+        PyErr_SetString(PyExc_ValueError, "a weight has more than 64 bits");
+    return false;
+}
+
+/* All weights are looked at before the first is used. */
+bool weights_of(PyObject *object, bool with_sign, const Items *items, Weights *weights)
+{
+    *weights = (Weights){.same = 1};
+    if (object == NULL)
+        return true;
+    weights->each = !is_single(object) &&
+                    (PyObject_CheckBuffer(object) || Py_TYPE(object)->tp_iter != NULL || PySequence_Check(object));
+    if (!weights->each)
+        return number_of_kind(object, "weight", with_sign, &weights->same);
+    if (!many_weights_of(object, &weights->items))
+        return false;
+    if (weights->items.count != items->count)
+        PyErr_Format(PyExc_ValueError, "there are %zu items and %zu weights", items->count, weights->items.count);
+    else if (each_fits(with_sign, &weights->items))
+        return true;
+    items_release(&weights->items);
+    return false;
+}
+
+void weights_chunk(const Weights *weights, size_t first, size_t count, uint64_t *chunk)
+{
+    if (weights->each)
+        items_chunk(&weights->items, first, chunk);
+    else
+        for (size_t i = 0; i < count; i++)
+            chunk[i] = weights->same;
+}
+
 bool limit_of(PyObject *object, size_t *limit)
 {
     if (object == NULL)
@@ -182,15 +269,29 @@ bool is_numpy_array(PyObject *object)
     return answer > 0;
 }
 
-PyObject *numpy_array(const void *values, size_t size, const char *kind)
+bool room_for(PyObject *given, size_t count, const char *kind, size_t size, Room *room)
 {
+    *room = (Room){0};
+    if (!is_numpy_array(given)) {
+        room->values = count <= PY_SSIZE_T_MAX / size ? PyMem_Malloc(count * size) : NULL;
+        if (room->values == NULL)
+            PyErr_NoMemory();
+        return room->values != NULL;
+    }
     PyObject *numpy = PyImport_ImportModule("numpy");
-    PyObject *bytes = numpy != NULL ? PyByteArray_FromStringAndSize(values, (Py_ssize_t)size) : NULL;
-    PyObject *array = NULL;
-    if (bytes != NULL)
-        array = size == 0 ? PyObject_CallMethod(numpy, "zeros", "is", 0, kind)
-                          : PyObject_CallMethod(numpy, "frombuffer", "Os", bytes, kind);
-    Py_XDECREF(bytes);
+    room->array = numpy != NULL ? PyObject_CallMethod(numpy, "empty", "ns", (Py_ssize_t)count, kind) : NULL;
     Py_XDECREF(numpy);
-    return array;
+    if (room->array == NULL || PyObject_GetBuffer(room->array, &room->view, PyBUF_CONTIG) < 0)
+        return false;
+    room->values = room->view.buf;
+    return true;
+}
+
+void room_release(Room *room)
+{
+    if (room->array == NULL)
+        PyMem_Free(room->values);
+    else if (room->view.obj != NULL)
+        PyBuffer_Release(&room->view);
+    Py_CLEAR(room->array);
 }

@@ -130,7 +130,6 @@ Sketch *sketch_copy(Sketch *self)
     copy->hashes = self->hashes;
     copy->with_sign = self->with_sign;
     copy->with_texts = self->with_texts;
-    copy->sample_size = self->sample_size;
     int32_t answer = ds_clone(&copy->handle, &self->handle);
     sketch_unlock(self);
     if (answer >= 0)

@@ -19,9 +19,8 @@ typedef struct {
     uint64_t seed;
     uint32_t buckets;
     uint8_t hashes;
-    bool with_sign; /* of FrequentItems: whether its items have a sign */
+    bool with_sign; /* of CountMin whether its weights have a sign, of FrequentItems whether its items have one */
     bool with_texts; /* of FrequentItems: whether its items are texts */
-    uint64_t sample_size; /* of FrequentItems of texts */
 } Sketch;
 
 extern PyObject *sketch_error;
@@ -87,12 +86,33 @@ void items_release(Items *items);
 /* Copies the numbers from `first` on, at most CHUNK, and answers how many. They are the caller's alone. */
 size_t items_chunk(const Items *items, size_t first, uint64_t *chunk);
 
-/* Answers to many items are given as an array where the items were one. `kind` is numpy's name of the values' type. */
-bool is_numpy_array(PyObject *object);
-PyObject *numpy_array(const void *values, size_t size, const char *kind);
+/* Room for the answers to many items: an array of numpy where the items are one, and else only values. */
+typedef struct {
+    void *values;
+    PyObject *array;
+    Py_buffer view;
+} Room;
 
-/* A number of 64 bits that is 0 or more; `what` is said in its error. */
+/* Room for so many answers, of this many bytes each; `kind` is numpy's name of their type. */
+bool room_for(PyObject *given, size_t count, const char *kind, size_t size, Room *room);
+void room_release(Room *room);
+
+/* A number of 64 bits that is 0 or more, or with a sign; `what` is said in its error. */
 bool natural_of(PyObject *object, const char *what, uint64_t *number);
+bool number_of_kind(PyObject *object, const char *what, bool with_sign, uint64_t *number);
+
+/* The weights of items: the same for all, or as many as there are items. */
+typedef struct {
+    uint64_t same;
+    bool each;
+    Items items;
+} Weights;
+
+/* What the second argument of an update says. Each weight has a sign or is 0 or more. */
+bool weights_of(PyObject *object, bool with_sign, const Items *items, Weights *weights);
+
+/* The weights from `first` on of so many items, at most CHUNK. */
+void weights_chunk(const Weights *weights, size_t first, size_t count, uint64_t *chunk);
 
 /* The bytes that a call may read. */
 bool limit_of(PyObject *object, size_t *limit);
@@ -126,11 +146,9 @@ PyObject *frequent_estimate(PyObject *object, PyObject *item);
 
 /* --- frequent_texts.c --- */
 
-/* The image of a sketch of texts, and its numbers but for the capacities. NULL with an error set. */
-PyObject *texts_image(Sketch *self, ds_frequent_numbers *numbers);
+/* How many bytes an image of texts is first thought to have. */
+#define TEXTS_GUESS 4096
 
-/* The lock is held. What is refused leaves the sketch as it was. */
-int32_t texts_reset(Sketch *self, const ds_frequent_numbers *numbers);
 PyObject *texts_rows(Sketch *self, bool no_false_negatives, uint64_t threshold);
 
 extern PyTypeObject filter_type;

@@ -9,6 +9,14 @@ import datasketches_rattle as ds
 GREATEST = 2**64 - 1
 
 
+def refusal(call):
+    """The fault that a call is refused by."""
+    try:
+        call()
+    except ds.SketchError as error:
+        return error.fault
+
+
 class Weights(unittest.TestCase):
     def test_singles(self):
         load = ds.CountMin(hashes=4, buckets=1 << 12)
@@ -35,6 +43,40 @@ class Weights(unittest.TestCase):
         load.update([1, 2, 3], 5)
         load.update(array.array("Q", [1, 2**64 - 1]), 10)
         self.assertEqual([load[1], load[2], load[-1]], [15, 5, 10])
+
+    def test_many_with_weights_of_their_own(self):
+        items, weights = [7, -9, 7, 2**63], [5, 2**40, 6, 0]
+        buffers = array.array("Q", weights), array.array("q", weights), memoryview(array.array("q", weights[::-1]))[::-1]
+        for given in (weights, tuple(weights), iter(weights), *buffers):
+            load = ds.CountMin(4, 1 << 12)
+            load.update(items, given)
+            self.assertEqual(([load[item] for item in items], load.total), ([11, 2**40, 11, 0], 11 + 2**40))
+        load = ds.CountMin(4, 1 << 12)
+        load.update(["a", 7, "a", "b"], weights)
+        load.update(array.array("Q", [7, 8]), array.array("q", [1, 2]))
+        self.assertEqual([load[item] for item in ("a", 7, "b", 8)], [11, 2**40 + 1, 0, 2])
+        many = array.array("Q", range(5000))
+        load = ds.CountMin(4, 1 << 16)
+        load.update(many, many)
+        self.assertEqual(load.estimate([1, 1023, 1024, 4999]), [1, 1023, 1024, 4999])
+        load.update((), ())
+        load.update(iter(()), array.array("q"))
+        self.assertEqual(load.total, sum(range(5000)))
+
+    def test_weights_that_are_refused(self):
+        load = ds.CountMin(4, 1 << 12)
+        for weights in ([1], [1, 2, 3], array.array("q", [1]), [1, -1], [-(2**70), 1], [1, 2**64], array.array("q", [1, -1])):
+            with self.assertRaises(ValueError, msg=repr(weights)):
+                load.update([7, 8], weights)
+        for weights in ([1, 2.0], [1, None], [1, True], ["1", "2"], "12", b"ab", array.array("d", [1, 2]), None, {1.5: 2}):
+            with self.assertRaises(TypeError, msg=repr(weights)):
+                load.update([7, 8], weights)
+        for weights in ([1], array.array("q", [1])):
+            with self.assertRaises(TypeError, msg=repr(weights)):
+                load.update(7, weights)
+        self.assertEqual((load.total, load[7]), (0, 0), "what is refused counts nothing")
+        self.assertEqual(refusal(lambda: load.update([7, 8, 9], [5, GREATEST, 5])), "WeightOverflow")
+        self.assertEqual((load.total, load.estimate([7, 8, 9])), (5, [5, 0, 0]))
 
     def test_estimates_are_never_too_low(self):
         load = ds.CountMin(3, 16)
@@ -84,6 +126,83 @@ class Weights(unittest.TestCase):
         estimates = load.estimate(numbers)
         self.assertEqual((estimates.dtype, list(estimates)), (numpy.uint64, [load[int(n)] for n in numbers]))
         self.assertEqual(len(load.estimate(numbers[:0])), 0)
+
+
+class Signed(unittest.TestCase):
+    def test_weights(self):
+        stock = ds.CountMin(4, 1 << 12, signed=True)
+        stock.update("apple", 10)
+        stock.update("apple", -3)
+        stock.update(-7, -5)
+        stock.update(2**64 - 1, 2)
+        stock.update(["pear", 7, "apple"], [-1, 2**40, 1])
+        stock.update([8, 9], -6)
+        stock.update(array.array("Q", [10, 11]))
+        stock.update(array.array("q", [-10, 11]), array.array("q", [-8, 9]))
+        items = ["apple", -7, -1, "pear", 7, 8, 9, 10, 11, -10, "none"]
+        exact = [8, -5, 2, -1, 2**40, -6, -6, 1, 10, -8, 0]
+        self.assertEqual([stock[item] for item in items], exact)
+        self.assertEqual(stock.estimate(items), exact)
+        self.assertEqual(stock.estimate(array.array("q", [-7, 8])), [-5, -6])
+        self.assertEqual((stock.total, stock.signed, ds.CountMin(4, 8).signed), (10 + 3 + 5 + 2 + 2 + 2**40 + 12 + 2 + 17, True, False))
+        margin = int(2.718281828459045 * stock.total / (1 << 12))
+        self.assertLessEqual(abs(stock.upper_bound(8) - (margin - 6)), 1)
+        self.assertEqual(repr(stock), "<CountMin hashes=4 buckets=4096 seed=9001 signed=True>")
+
+    def test_refused(self):
+        stock = ds.CountMin(4, 128, signed=True)
+        for weight in (2**63, -(2**63) - 1, 2**64, -(2**64)):
+            for items, weights in ((7, weight), ([7, 8], [1, weight]), ([7], weight)):
+                with self.assertRaises(ValueError):
+                    stock.update(items, weights)
+        with self.assertRaises(ValueError):
+            stock.update([7], array.array("Q", [2**63]))
+        for call in (stock.halve, lambda: stock.decay(1, 2)):
+            with self.assertRaises(TypeError):
+                call()
+        for call in (lambda: stock + ds.CountMin(4, 128), lambda: ds.CountMin(4, 128) + stock):
+            with self.assertRaises(ValueError):
+                call()
+        stock.update(7, -(2**63) + 1)
+        for weight in (1, -1, -(2**63)):
+            self.assertEqual(refusal(lambda: stock.update(8, weight)), "WeightOverflow")
+        self.assertEqual(refusal(lambda: stock + stock), "WeightOverflow")
+        self.assertEqual((stock[7], stock.total), (-(2**63) + 1, 2**63 - 1))
+        self.assertEqual(refusal(lambda: ds.CountMin(1, 2, signed=True)), "BadNumBuckets")
+
+    def test_merges_copies_and_images(self):
+        a, b = ds.CountMin(4, 128, seed=3, signed=True), ds.CountMin(4, 128, seed=3, signed=True)
+        a.update([7, 8], [10, -20])
+        b.update(7, -4)
+        both = a + b
+        self.assertEqual((both[7], both[8], both.total, a[7]), (6, -20, 34, 10))
+        a += a
+        self.assertEqual((a[7], a.total), (20, 60))
+        twins = (ds.CountMin.from_bytes(bytes(a), seed=3, signed=True), pickle.loads(pickle.dumps(a)), copy.copy(a))
+        for twin in twins:
+            self.assertEqual((twin, repr(twin), twin.total, twin[8]), (a, repr(a), 60, -40))
+            twin.update(7, -1)
+            self.assertNotEqual(twin, a)
+        self.assertEqual(refusal(lambda: ds.CountMin.from_bytes(bytes(a), seed=3)), "CellAboveTotal")
+        self.assertNotEqual(ds.CountMin(4, 128), ds.CountMin(4, 128, signed=True))
+
+    def test_numpy(self):
+        try:
+            import numpy
+        except ImportError:
+            self.skipTest("no numpy here")
+        stock = ds.CountMin(4, 1 << 12, signed=True)
+        items = numpy.arange(-5, 5)
+        stock.update(items, items * 3)
+        estimates = stock.estimate(items)
+        self.assertEqual((estimates.dtype, list(estimates)), (numpy.int64, list(items * 3)))
+        stock.update(items[::2], numpy.ones(5, dtype="u8"))
+        stock.update(items[:2], numpy.int64(-100))
+        self.assertEqual([stock[int(n)] for n in items[:3]], [-114, -112, -8])
+        self.assertEqual(stock.estimate(items[:0]).dtype, numpy.int64)
+        for wrong in (numpy.ones(10), numpy.ones(10, dtype="i4"), numpy.ones((10, 1), dtype="i8")):
+            with self.assertRaises((TypeError, ValueError)):
+                stock.update(items, wrong)
 
 
 class Merges(unittest.TestCase):

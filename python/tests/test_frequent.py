@@ -43,6 +43,22 @@ class Weights(unittest.TestCase):
         # an item that a purge dropped has the estimate 0, and gets one that counts the error when it comes again
         self.assertEqual(two.bounds(5)[0], one.bounds(5)[0] + 20)
 
+    def test_weights_of_their_own(self):
+        for kind, items in ((int, [-5, 2**62, -5, 8]), ("u64", [5, 2**64 - 1, 5, 8])):
+            for weights in ([1, 2**40, 3, 0], array.array("Q", [1, 2**40, 3, 0]), array.array("q", [1, 2**40, 3, 0])):
+                for given in (items, iter(items), array.array("q" if kind is int else "Q", items)):
+                    heavy = ds.FrequentItems(64, item=kind)
+                    heavy.update(given, weights)
+                    self.assertEqual([heavy[item] for item in items], [4, 2**40, 4, 0])
+            for weights in ([1], [1, 2, 3, -4], array.array("q", [1, 2, 3, -4]), array.array("q", [1] * 5)):
+                with self.assertRaises(ValueError):
+                    heavy.update(items, weights)
+            self.assertEqual(heavy.total, 2**40 + 4, "what is refused counts nothing")
+        many = array.array("q", range(3000))
+        heavy = ds.FrequentItems(4096)
+        heavy.update(many, many)
+        self.assertEqual([heavy[n] for n in (0, 1, 1024, 2999)], [0, 1, 1024, 2999])
+
 
 class Rows(unittest.TestCase):
     def test_rows_are_those_of_the_bounds(self):

@@ -72,6 +72,23 @@ class Weights(unittest.TestCase):
                 estimates = [row[2] for row in rows]
                 self.assertEqual(estimates, sorted(estimates, reverse=True))
 
+    def test_weights_of_their_own(self):
+        words, weights = ["apple", "pear", "apple", ""], [3, 2**40, 4, 0]
+        for given in (weights, iter(weights), array.array("Q", weights), array.array("q", weights)):
+            heavy = ds.FrequentItems(64, item=str)
+            heavy.update(words, given)
+            self.assertEqual(([heavy[word] for word in words], heavy.total), ([7, 2**40, 7, 0], 7 + 2**40))
+        for given in ([1], [1, 2, 3, -4], [1, 2, 3, 2**64]):
+            with self.assertRaises(ValueError):
+                heavy.update(words, given)
+        for given in ([1, 2, 3, 4.0], ["1"] * 4, array.array("d", [1] * 4)):
+            with self.assertRaises(TypeError):
+                heavy.update(words, given)
+        for given in ([1], array.array("q", [1])):
+            with self.assertRaises(TypeError):
+                heavy.update("apple", given)
+        self.assertEqual(heavy.total, 7 + 2**40)
+
     def test_reset(self):
         heavy = sketch(map(str, range(200)), sample_size=4)
         heavy.reset()

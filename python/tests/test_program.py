@@ -2,6 +2,7 @@
 
 `DATASKETCHES_CLI` says where the built program is, else it is looked for in its crate. Without it, this is skipped.
 """
+import functools
 import os
 import random
 import subprocess
@@ -55,27 +56,29 @@ def script(chance, length):
     return lines, replies
 
 
-def script_of_counts(chance, length):
+def script_of_counts(chance, length, signed=False):
     """The same of counts."""
-    counts = {name: ds.CountMin(3, 64, seed=chance.choice((1, 1, 1, 2))) for name in NAMES}
-    lines = [f"countu {name} 3 64 {each.seed}" for name, each in counts.items()]
+    counts = {name: ds.CountMin(3, 64, seed=chance.choice((1, 1, 1, 2)), signed=signed) for name in NAMES}
+    make, add = ("counti", "adds") if signed else ("countu", "add")
+    weights = (0, 1, -1, -(10**12), 2**62, -(2**62), 2**63 - 1, -(2**63)) if signed else (0, 1, 2**60, 2**64 - 1)
+    lines = [f"{make} {name} 3 64 {each.seed}" for name, each in counts.items()]
     replies = ["ok"] * len(lines)
     for _ in range(length):
         name, other = chance.sample(NAMES, 2)
         item = chance.choice(("apple", "Grüße", "7", "-7")) + str(chance.randrange(30))
-        kind = chance.choice(("add",) * 6 + ("ask",) * 4 + ("status", "merge", "halve", "decay", "image"))
+        kind = chance.choice(("add",) * 6 + ("ask",) * 4 + ("status", "merge", "image") + ((), ("halve", "decay"))[not signed])
         each, reply = counts[name], "ok"
         try:
             if kind == "add":
-                weight = chance.choice((0, 1, chance.randrange(1000), 2**60, 2**64 - 1))
-                lines.append(f"add {name} {weight} {item}")
+                weight = chance.choice((*weights, *(chance.randrange(-1000 if signed else 0, 1000) for _ in weights)))
+                lines.append(f"{add} {name} {weight} {item}")
                 each.update(item, weight)
             elif kind == "ask":
                 lines.append(f"ask {name} {item}")
                 reply = f"estimate {each[item]} lower {each[item]} upper {each.upper_bound(item)}"
             elif kind == "status":
                 lines.append(f"status {name}")
-                reply = f"countu total {each.total} hashes {each.hashes} buckets {each.buckets} seed {each.seed}"
+                reply = f"{make} total {each.total} hashes {each.hashes} buckets {each.buckets} seed {each.seed}"
             elif kind == "merge":
                 lines.append(f"merge {name} {other}")
                 each += counts[other]
@@ -160,6 +163,9 @@ class Program(unittest.TestCase):
 
     def test_random_scripts_of_counts(self):
         self.play(script_of_counts)
+
+    def test_random_scripts_of_signed_counts(self):
+        self.play(functools.partial(script_of_counts, signed=True))
 
     def test_random_scripts_of_texts(self):
         self.play(script_of_texts)
