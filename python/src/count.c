@@ -271,6 +271,8 @@ static PyMethodDef count_methods[] = {
     {"from_bytes", FAST(count_from_bytes), METH_CLASS | METH_VARARGS | METH_KEYWORDS, count_from_bytes_doc},
     {"__bytes__", count_to_bytes, METH_NOARGS, NULL},
     {"__reduce__", count_reduce, METH_NOARGS, NULL},
+    SUGGESTS("suggest_buckets", count_suggest_buckets),
+    SUGGESTS("suggest_hashes", count_suggest_hashes),
     {"close", sketch_close, METH_NOARGS, "close($self, /)\n--\n\nGive the memory back. The sketch is of no use then."},
     {"__copy__", count_copy, METH_NOARGS, NULL},
     {"__deepcopy__", count_copy, METH_O, NULL},

@@ -188,6 +188,8 @@ static PyMethodDef filter_methods[] = {
     {"reset", filter_reset, METH_NOARGS, reset_doc},
     {"to_bytes", filter_to_bytes, METH_NOARGS, to_bytes_doc},
     {"from_bytes", (PyCFunction)(void (*)(void))filter_from_bytes, METH_CLASS | METH_VARARGS | METH_KEYWORDS, from_bytes_doc},
+    SUGGESTS("suggest_bits", filter_suggest_bits),
+    SUGGESTS("suggest_hashes", filter_suggest_hashes),
     {"close", sketch_close, METH_NOARGS, "close($self, /)\n--\n\nGive the memory back. The filter is of no use then."},
     {"__bytes__", filter_to_bytes, METH_NOARGS, NULL},
     {"__copy__", filter_copy, METH_NOARGS, NULL},

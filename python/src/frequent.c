@@ -19,6 +19,27 @@ static bool kind_of(PyObject *kind, bool *with_sign, bool *with_texts)
     return true;
 }
 
+static int32_t make(const Sketch *self, ds_sketch *handle, uint64_t size, uint64_t sample)
+{
+    return self->with_texts  ? ds_frequent_text_new(handle, size, sample)
+           : self->with_sign ? ds_frequent_i64_new(handle, size, sample)
+                             : ds_frequent_u64_new(handle, size, sample);
+}
+
+static int32_t merge(const Sketch *self, ds_sketch *handle, ds_sketch *other)
+{
+    return self->with_texts  ? ds_frequent_text_merge(handle, other)
+           : self->with_sign ? ds_frequent_i64_merge(handle, other)
+                             : ds_frequent_u64_merge(handle, other);
+}
+
+static int32_t status(Sketch *self, ds_frequent_numbers *numbers)
+{
+    return self->with_texts  ? ds_frequent_text_status(&self->handle, numbers)
+           : self->with_sign ? ds_frequent_i64_status(&self->handle, numbers)
+                             : ds_frequent_u64_status(&self->handle, numbers);
+}
+
 static PyObject *frequent_new(PyTypeObject *type, PyObject *args, PyObject *keywords)
 {
     static char *names[] = {"max_map_size", "item", "sample_size", NULL};
@@ -38,9 +59,7 @@ static PyObject *frequent_new(PyTypeObject *type, PyObject *args, PyObject *keyw
         return NULL;
     self->with_sign = with_sign;
     self->with_texts = with_texts;
-    int32_t answer = with_texts  ? ds_frequent_text_new(&self->handle, size, sample)
-                     : with_sign ? ds_frequent_i64_new(&self->handle, size, sample)
-                                 : ds_frequent_u64_new(&self->handle, size, sample);
+    int32_t answer = make(self, &self->handle, size, sample);
     if (answer >= 0)
         return (PyObject *)self;
     Py_DECREF(self);
@@ -59,9 +78,7 @@ static PyObject *frequent_merge(PyObject *first, PyObject *second)
     }
     if (!sketch_lock_both(self, other))
         return NULL;
-    int32_t answer = self->with_texts  ? ds_frequent_text_merge(&self->handle, &other->handle)
-                     : self->with_sign ? ds_frequent_i64_merge(&self->handle, &other->handle)
-                                       : ds_frequent_u64_merge(&self->handle, &other->handle);
+    int32_t answer = merge(self, &self->handle, &other->handle);
     sketch_unlock(self);
     sketch_unlock(other);
     return answer < 0 ? refuse(answer) : Py_NewRef(first);
@@ -87,9 +104,7 @@ static bool numbers_of(PyObject *object, ds_frequent_numbers *numbers)
     Sketch *self = (Sketch *)object;
     if (!sketch_lock(self))
         return false;
-    int32_t answer = self->with_texts  ? ds_frequent_text_status(&self->handle, numbers)
-                     : self->with_sign ? ds_frequent_i64_status(&self->handle, numbers)
-                                       : ds_frequent_u64_status(&self->handle, numbers);
+    int32_t answer = status(self, numbers);
     sketch_unlock(self);
     return answer >= 0 || refuse(answer) != NULL;
 }
@@ -138,8 +153,9 @@ static PyObject *frequent_to_bytes(PyObject *object, PyObject *Py_UNUSED(unused)
 }
 
 PyDoc_STRVAR(from_bytes_doc,
-"from_bytes($type, image, item=int, limit=1073741824)\n--\n\n"
-"The sketch of an image, which may come from anywhere, with items of this type. It samples the most.\n\n"
+"from_bytes($type, image, item=int, limit=1073741824, sample_size=None)\n--\n\n"
+"The sketch of an image, which may come from anywhere, with items of this type. It samples the most where no other\n"
+"`sample_size` is given, since an image does not have that.\n\n"
 "An image whose table would take more than `limit` bytes is refused by 'TableTooLarge'; None is no limit.\n\n"
 ">>> import datasketches_rattle as ds\n"
 ">>> heavy = ds.FrequentItems(64)\n"
@@ -147,17 +163,40 @@ PyDoc_STRVAR(from_bytes_doc,
 ">>> ds.FrequentItems.from_bytes(bytes(heavy))[7]\n"
 "30\n");
 
+/* Gives a sketch that no one else has yet a sample size: a new sketch with that takes in what it has. */
+static int32_t take_sample_size(Sketch *self, uint64_t sample)
+{
+    ds_frequent_numbers numbers;
+    ds_sketch own = {0};
+    int32_t answer = status(self, &numbers);
+    if (answer >= 0 && numbers.sample_size == sample)
+        return answer;
+    if (answer >= 0)
+        answer = make(self, &own, numbers.max_map_size, sample);
+    if (answer >= 0)
+        answer = merge(self, &own, &self->handle);
+    if (answer >= 0) {
+        ds_sketch read = self->handle;
+        self->handle = own;
+        own = read;
+    }
+    ds_free(&own);
+    return answer;
+}
+
 static PyObject *frequent_from_bytes(PyObject *type, PyObject *args, PyObject *keywords)
 {
-    static char *names[] = {"image", "item", "limit", NULL};
+    static char *names[] = {"image", "item", "limit", "sample_size", NULL};
     Py_buffer image;
-    PyObject *kind = NULL, *limit_object = NULL;
+    PyObject *kind = NULL, *limit_object = NULL, *sample_object = Py_None;
     size_t limit = DEFAULT_LIMIT;
+    uint64_t sample = 0;
     bool with_sign, with_texts;
-    if (!PyArg_ParseTupleAndKeywords(args, keywords, "y*|OO:from_bytes", names, &image, &kind, &limit_object))
+    if (!PyArg_ParseTupleAndKeywords(args, keywords, "y*|OOO:from_bytes", names, &image, &kind, &limit_object, &sample_object))
         return NULL;
     Sketch *self = NULL;
-    if (kind_of(kind, &with_sign, &with_texts) && limit_of(limit_object, &limit))
+    if (kind_of(kind, &with_sign, &with_texts) && limit_of(limit_object, &limit) &&
+        (sample_object == Py_None || natural_of(sample_object, "sample_size", &sample)))
         self = sketch_alloc((PyTypeObject *)type);
     int32_t answer = DS_OK;
     if (self != NULL) {
@@ -168,27 +207,31 @@ static PyObject *frequent_from_bytes(PyObject *type, PyObject *args, PyObject *k
                              : ds_frequent_u64_from_bytes(&self->handle, image.buf, (size_t)image.len, limit);
     }
     PyBuffer_Release(&image);
+    if (self == NULL)
+        return NULL;
+    if (answer < 0) {
+        Py_DECREF(self);
+        return refuse_image(answer);
+    }
+    if (sample_object != Py_None)
+        answer = take_sample_size(self, sample);
     if (answer >= 0)
         return (PyObject *)self;
     Py_DECREF(self);
-    return refuse_image(answer);
+    return refuse(answer);
 }
 
 static PyObject *frequent_reduce(PyObject *object, PyObject *Py_UNUSED(unused))
 {
+    Sketch *self = (Sketch *)object;
     ds_frequent_numbers numbers;
-    if (!numbers_of(object, &numbers))
-        return NULL;
-    if (numbers.sample_size != ds_greatest_sample(numbers.max_map_size)) {
-        PyErr_SetString(PyExc_TypeError, "a sketch with a sample size of its own is not pickled: its image does not have that");
-        return NULL;
-    }
-    PyObject *image = frequent_to_bytes(object, NULL);
+    PyObject *image = numbers_of(object, &numbers) ? frequent_to_bytes(object, NULL) : NULL;
     if (image == NULL)
         return NULL;
-    if (((Sketch *)object)->with_texts)
-        return reduce_to(object, Py_BuildValue("NOO", image, (PyObject *)&PyUnicode_Type, Py_None));
-    return reduce_to(object, Py_BuildValue("NsO", image, ((Sketch *)object)->with_sign ? "i64" : "u64", Py_None));
+    unsigned long long sample = numbers.sample_size;
+    if (self->with_texts)
+        return reduce_to(object, Py_BuildValue("NOOK", image, (PyObject *)&PyUnicode_Type, Py_None, sample));
+    return reduce_to(object, Py_BuildValue("NsOK", image, self->with_sign ? "i64" : "u64", Py_None, sample));
 }
 
 /* Room for rows: their items, and behind these their bounds. */
@@ -314,6 +357,7 @@ static PyMethodDef frequent_methods[] = {
      from_bytes_doc},
     {"__bytes__", frequent_to_bytes, METH_NOARGS, NULL},
     {"__reduce__", frequent_reduce, METH_NOARGS, NULL},
+    SUGGESTS("suggest_max_map_size", frequent_suggest_max_map_size),
     {"close", sketch_close, METH_NOARGS, "close($self, /)\n--\n\nGive the memory back. The sketch is of no use then."},
     {"__copy__", frequent_copy, METH_NOARGS, NULL},
     {"__deepcopy__", frequent_copy, METH_O, NULL},

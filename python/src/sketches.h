@@ -151,6 +151,23 @@ PyObject *frequent_estimate(PyObject *object, PyObject *item);
 
 PyObject *texts_rows(Sketch *self, bool no_false_negatives, uint64_t threshold);
 
+/* --- sizes.c --- */
+
+extern const char filter_suggest_bits_doc[];
+extern const char filter_suggest_hashes_doc[];
+extern const char count_suggest_buckets_doc[];
+extern const char count_suggest_hashes_doc[];
+extern const char frequent_suggest_max_map_size_doc[];
+PyObject *filter_suggest_bits(PyObject *type, PyObject *args, PyObject *keywords);
+PyObject *filter_suggest_hashes(PyObject *type, PyObject *args, PyObject *keywords);
+PyObject *count_suggest_buckets(PyObject *type, PyObject *args, PyObject *keywords);
+PyObject *count_suggest_hashes(PyObject *type, PyObject *args, PyObject *keywords);
+PyObject *frequent_suggest_max_map_size(PyObject *type, PyObject *args, PyObject *keywords);
+
+/* A method of a class, which takes keywords. */
+#define SUGGESTS(name, function) \
+    {name, (PyCFunction)(void (*)(void))function, METH_CLASS | METH_VARARGS | METH_KEYWORDS, function##_doc}
+
 extern PyTypeObject filter_type;
 extern PyTypeObject count_type;
 extern PyTypeObject frequent_type;

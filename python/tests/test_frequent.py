@@ -201,14 +201,24 @@ class Images(unittest.TestCase):
                 twin.update(numbers[0], 5)
                 self.assertNotEqual(twin.total, heavy.total)
 
-    def test_a_sample_size_is_not_lost_by_chance(self):
-        heavy = ds.FrequentItems(64, sample_size=4)
-        for kind in (int, "u64", str):
+    def test_a_sample_size_is_kept(self):
+        for kind, items in ((int, range(-200, 200)), ("u64", range(400)), (str, [f"item {number}" for number in range(400)])):
             own = ds.FrequentItems(64, item=kind, sample_size=4)
-            with self.assertRaises(TypeError):
-                pickle.dumps(own)
-            self.assertEqual([call(own).sample_size for call in (copy.copy, copy.deepcopy)], [4, 4])
-        self.assertEqual(ds.FrequentItems.from_bytes(bytes(heavy)).sample_size, 48)
+            for number, item in enumerate(items):
+                own.update(item, number % 31)
+            image = bytes(own)
+            twins = (copy.copy(own), copy.deepcopy(own), pickle.loads(pickle.dumps(own)),
+                     ds.FrequentItems.from_bytes(image, item=kind, sample_size=4))
+            for twin in twins:
+                self.assertEqual((twin.sample_size, twin.max_map_size, twin.total), (4, 64, own.total))
+                self.assertEqual((twin.active_items, twin.maximum_error), (own.active_items, own.maximum_error))
+                self.assertEqual([twin.bounds(item) for item in items], [own.bounds(item) for item in items])
+            self.assertEqual(ds.FrequentItems.from_bytes(image, item=kind).sample_size, 48)
+            for wrong in (0, 3, 50):
+                with self.assertRaises(ds.SketchError) as refused:
+                    ds.FrequentItems.from_bytes(image, item=kind, sample_size=wrong)
+                self.assertEqual((refused.exception.kind, refused.exception.fault), ("InvalidArgument", "BadSampleSize"))
+            self.assertRaises(ValueError, ds.FrequentItems.from_bytes, image, sample_size=-2)
 
     def test_refused_images(self):
         heavy = ds.FrequentItems(64)
