@@ -16,3 +16,5 @@ mod countmin;
 mod frequencies;
 #[cfg(test)]
 mod sessions;
+#[cfg(test)]
+mod sizes;
