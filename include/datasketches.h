@@ -547,6 +547,30 @@ DS_ROWS(ds_frequent_i64_rows, int64_t)
 #undef DS_WRITES
 #undef DS_ROWS
 
+/* --- Sizes to choose from what one can bear: each call writes a number where it answers DS_OK, and else leaves it --- */
+
+/* The least greatest size, for `ds_frequent_*_new`, that promises an error of at most the weight of all items over `parts`,
+ * for every stream: a theorem, where no sample size is chosen. Refused: DS_MAP_SIZE_TOO_LARGE above 512 parts. */
+int32_t ds_frequent_map_size_for(size_t parts, size_t *max_map_size);
+
+/* The buckets of Count-Min by the published formula, e times `parts`, rounded up. Under ideal hashes, and where no weight is
+ * below zero, an estimate is above the item's own weight by more than the total over `parts` for at most one question in
+ * `questions`, with the hashes of the next call. Refused: DS_BAD_NUM_BUCKETS for 0, DS_TABLE_TOO_LARGE from 2^30 buckets on. */
+int32_t ds_count_buckets_for(uint64_t parts, uint32_t *num_buckets);
+
+/* The hashes of Count-Min by the published formula, the natural logarithm of `questions`, rounded up. Refused:
+ * DS_BAD_NUM_HASHES for 0 and 1. */
+int32_t ds_count_hashes_for(uint64_t questions, uint8_t *num_hashes);
+
+/* The bits of a filter by the published formula, items times ln `questions` over the square of ln 2, with the binary logarithm
+ * of `questions` rounded up to 64ths: never fewer than the formula asks for. Under ideal hashes about one question in
+ * `questions` is answered by yes wrongly. Refused: DS_BAD_NUM_BITS for 0 items, 0 and 1 question, and above 137438953152 bits. */
+int32_t ds_filter_bits_for(uint64_t num_items, uint64_t questions, uint64_t *num_bits);
+
+/* The hashes of a filter by the published formula, bits over items times ln 2, rounded up. Refused: DS_BAD_NUM_BITS unless
+ * there are 1 to 137438953152 bits, DS_BAD_NUM_HASHES for 0 items and above 32767 hashes. */
+int32_t ds_filter_hashes_for(uint64_t num_bits, uint64_t num_items, uint16_t *num_hashes);
+
 #ifdef __cplusplus
 }
 #endif

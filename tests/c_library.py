@@ -124,6 +124,11 @@ class Tests:
             ran = self.run(command)
             self.check(f"calls, {name}", ran.returncode == 0 and b"checks hold" in ran.stdout, ran)
 
+    def sizes(self):
+        checked = self.compile(f"{TOP}/c/tests/sizes.c", "-g", "-O1", "-fsanitize=address,undefined", "-fno-sanitize-recover=all")
+        ran = self.run([checked])
+        self.check("sizes", ran.returncode == 0 and b"checks hold" in ran.stdout, ran)
+
     def refused_in_turn(self):
         """Each request for memory refused in a run of its own, until a run meets no refusal."""
         library = os.path.join(self.work, "refused_memory.so")
@@ -244,6 +249,7 @@ def main():
         tests = Tests(os.path.abspath(words[0]), words[1:], work)
         tests.header()
         tests.calls()
+        tests.sizes()
         requests = tests.refused_in_turn()
         tests.beside_the_program()
         tests.installed()

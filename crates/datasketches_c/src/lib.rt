@@ -24,4 +24,5 @@ mod frequent_u64;
 mod handle;
 mod images;
 mod raw_box;
+mod sizes;
 pub mod status_code;

@@ -1,0 +1,125 @@
+//! Sizes to choose from what one can bear.
+ghost use Rattle.std.specs.Prelude.{◌≡◌, ℕ, ◌*◌, ◌<◌, ◌≤◌, None};
+ghost use Rattle.sketch_bloom.specs.Sizes.{IsLn2TimesWithin, AreEnoughBits, AreEnoughBitsRounded};
+ghost use Rattle.sketch_countmin.specs.Sizes.{IsETimesWithin, IsWithinPowerOfE};
+ghost use Rattle.sketch_frequencies.specs.Sizes.{size_fault};
+ghost use Rattle.sketch_frequencies.specs.SuggestedSizes.{usual_budget};
+ghost use Rattle.datasketches_c.specs.Numbers.{OnDone, OnRefused, ok, refusal_number};
+
+use crate::status_code::{OK, refusal_number};
+use sketch_base::Fault;
+use sketch_frequencies::suggest_max_map_size;
+
+/// Writes down the least greatest size of a sketch of frequent items that promises an error of at most the weight of all
+/// items over `parts`, for every stream.
+///
+/// It is refused with `MapSizeTooLarge` above 512 parts.
+#[unsafe(no_mangle)]
+pub extern "C" fn ds_frequent_map_size_for(parts: usize, max_map_size: &mut usize) -> i32
+    ensures done { OnDone result ((result ≡ ok) × (parts ≤ usual_budget max_map_size.new)
+        × (size_fault max_map_size.new ≡ None)
+        × ((m : ℕ) → size_fault m ≡ None → parts ≤ usual_budget m → max_map_size.new ≤ m)) }
+    ensures refused { OnRefused result ((max_map_size.new ≡ max_map_size.old)
+        × (result ≡ refusal_number Fault.MapSizeTooLarge) × ((m : ℕ) → usual_budget m < parts)) }
+{
+    match suggest_max_map_size(parts) {
+        Ok(found) => {
+            *max_map_size = found;
+            OK
+        }
+        Err(error) => refusal_number(error.fault()),
+    }
+}
+
+/// Writes down how many buckets the published formula of Count-Min asks for, so that an estimate is at most the total over
+/// `parts` above the item's own weight: e times `parts`, rounded up.
+///
+/// It is refused with `BadNumBuckets` for 0 parts, and with `TableTooLarge` where that is 2^30 or more.
+#[unsafe(no_mangle)]
+pub extern "C" fn ds_count_buckets_for(parts: u64, num_buckets: &mut u32) -> i32
+    ensures done { OnDone result ((result ≡ ok) × IsETimesWithin parts num_buckets.new
+        × ((m : ℕ) → IsETimesWithin parts m → num_buckets.new ≤ m)) }
+    ensures none { parts ≡ 0 → result ≡ refusal_number Fault.BadNumBuckets }
+    ensures too_many { 0 < parts → OnRefused result ((result ≡ refusal_number Fault.TableTooLarge)
+        × ((m : ℕ) → IsETimesWithin parts m → 1073741824 ≤ m)) }
+    ensures refused { OnRefused result (num_buckets.new ≡ num_buckets.old) }
+{
+    match sketch_countmin::suggest_num_buckets(parts) {
+        Ok(found) => {
+            *num_buckets = found;
+            OK
+        }
+        Err(error) => refusal_number(error.fault()),
+    }
+}
+
+/// Writes down how many hashes the published formula of Count-Min asks for, so that at most one estimate in `questions` is
+/// further above: the natural logarithm of `questions`, rounded up.
+///
+/// It is refused with `BadNumHashes` for 0 and 1 question.
+#[unsafe(no_mangle)]
+pub extern "C" fn ds_count_hashes_for(questions: u64, num_hashes: &mut u8) -> i32
+    ensures done { OnDone result ((result ≡ ok) × IsWithinPowerOfE questions num_hashes.new
+        × ((m : ℕ) → IsWithinPowerOfE questions m → num_hashes.new ≤ m)) }
+    ensures none { questions ≤ 1 → result ≡ refusal_number Fault.BadNumHashes }
+    ensures some { 1 < questions → result ≡ ok }
+    ensures refused { OnRefused result (num_hashes.new ≡ num_hashes.old) }
+{
+    match sketch_countmin::suggest_num_hashes(questions) {
+        Ok(found) => {
+            *num_hashes = found;
+            OK
+        }
+        Err(error) => refusal_number(error.fault()),
+    }
+}
+
+/// Writes down how many bits the published formula of filters asks for, so that a filter of so many items answers yes wrongly
+/// to about one question in `questions`, with the binary logarithm of `questions` rounded up to 64ths: never fewer than the
+/// formula asks for.
+///
+/// It is refused with `BadNumBits` for no items, for 0 and 1 question, and above 137438953152 bits.
+#[unsafe(no_mangle)]
+pub extern "C" fn ds_filter_bits_for(num_items: u64, questions: u64, num_bits: &mut u64) -> i32
+    ensures done { OnDone result ((result ≡ ok) × AreEnoughBits num_items questions num_bits.new
+        × AreEnoughBitsRounded num_items questions num_bits.new
+        × ((m : ℕ) → AreEnoughBitsRounded num_items questions m → num_bits.new ≤ m)) }
+    ensures no_items { num_items ≡ 0 → result ≡ refusal_number Fault.BadNumBits }
+    ensures no_questions { questions ≤ 1 → result ≡ refusal_number Fault.BadNumBits }
+    ensures too_many { 0 < num_items → 1 < questions → OnRefused result ((result ≡ refusal_number Fault.BadNumBits)
+        × ((m : ℕ) → AreEnoughBitsRounded num_items questions m → 137438953152 < m)) }
+    ensures refused { OnRefused result (num_bits.new ≡ num_bits.old) }
+{
+    match sketch_bloom::suggest_num_bits(num_items, questions) {
+        Ok(found) => {
+            *num_bits = found;
+            OK
+        }
+        Err(error) => refusal_number(error.fault()),
+    }
+}
+
+/// Writes down how many hashes the published formula of filters asks for: bits over items times the natural logarithm of 2,
+/// rounded up.
+///
+/// It is refused with `BadNumBits` unless there are 1 to 137438953152 bits, and with `BadNumHashes` for no items and above
+/// 32767 hashes, in this order.
+#[unsafe(no_mangle)]
+pub extern "C" fn ds_filter_hashes_for(num_bits: u64, num_items: u64, num_hashes: &mut u16) -> i32
+    ensures done { OnDone result ((result ≡ ok) × IsLn2TimesWithin num_bits (num_hashes.new * num_items)
+        × ((m : ℕ) → IsLn2TimesWithin num_bits (m * num_items) → num_hashes.new ≤ m)) }
+    ensures no_bits { num_bits ≡ 0 → result ≡ refusal_number Fault.BadNumBits }
+    ensures many_bits { 137438953152 < num_bits → result ≡ refusal_number Fault.BadNumBits }
+    ensures too_many { 0 < num_bits → num_bits ≤ 137438953152 → OnRefused result (
+        (result ≡ refusal_number Fault.BadNumHashes)
+        × ((m : ℕ) → IsLn2TimesWithin num_bits (m * num_items) → 32767 < m)) }
+    ensures refused { OnRefused result (num_hashes.new ≡ num_hashes.old) }
+{
+    match sketch_bloom::suggest_num_hashes(num_bits, num_items) {
+        Ok(found) => {
+            *num_hashes = found;
+            OK
+        }
+        Err(error) => refusal_number(error.fault()),
+    }
+}
