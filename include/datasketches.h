@@ -5,6 +5,13 @@
  * and `ds_answer_text` tell it in words. Numbers are hashed as their type: 8 bytes, lowest first, so that a number from 0
  * to 2^63 - 1 is the same item as `uint64_t` and as `int64_t`. A text is bytes that must be UTF-8, without an end mark.
  *
+ * Many texts are one buffer of bytes with offsets, as Arrow's `large_utf8` has them: text i is the bytes from offset i up
+ * to offset i + 1, so that n texts have n + 1 offsets, of which the first may be above 0. Offsets of 32 bits are widened
+ * first; offsets in `int64_t` are given as they are, by a cast of the pointer. Calls that take them are refused by
+ * DS_BAD_OFFSETS where there is no offset, one is below the one before it, or one passes the end of the bytes, and by
+ * DS_INVALID_UTF8 where some text is not UTF-8: both before anything is changed. The library keeps neither bytes nor
+ * offsets.
+ *
  * What the library's proofs take for granted of C:
  *
  *  1. A handle is made as `DS_NONE`, is changed by these calls alone, and is not copied. What it holds belongs to the
@@ -49,7 +56,8 @@ enum {
     DS_WRONG_KIND = -2,    /* the sketch is of a kind that does not know the call */
     DS_NO_ROOM = -3,       /* a buffer of the caller's has not the length that the call needs */
     DS_BAD_FRACTION = -4,  /* a fraction is not above 0 and at most 1 */
-    DS_BAD_ARGUMENT = -5   /* from this header alone: the same handle twice, or null with a count above 0 */
+    DS_BAD_ARGUMENT = -5,  /* from this header alone: the same handle twice, or null with a count above 0 */
+    DS_BAD_OFFSETS = -6    /* there is no offset, one is below the one before it, or one passes the end of the bytes */
 };
 
 /* The refusals of the sketches: number, constant, name and text of each. */
@@ -103,6 +111,7 @@ static inline const char *ds_answer_name(int32_t answer)
     case DS_NO_ROOM: return "NoRoom";
     case DS_BAD_FRACTION: return "BadFraction";
     case DS_BAD_ARGUMENT: return "BadArgument";
+    case DS_BAD_OFFSETS: return "BadOffsets";
     DS_REFUSALS(DS_AS_NAME)
     default: return answer < 0 ? "Unknown" : "Ok";
     }
@@ -119,6 +128,7 @@ static inline const char *ds_answer_text(int32_t answer)
     case DS_NO_ROOM: return "the buffer has not the length that is needed";
     case DS_BAD_FRACTION: return "the fraction is not above 0 and at most 1";
     case DS_BAD_ARGUMENT: return "the same handle twice, or null with a count above 0";
+    case DS_BAD_OFFSETS: return "offsets are none, or descend, or pass the end of the bytes";
     DS_REFUSALS(DS_AS_TEXT)
     default: return answer < 0 ? "unknown" : "ok";
     }
@@ -156,15 +166,21 @@ int32_t ds_filter_insert_text(ds_sketch *handle, const uint8_t *item, size_t len
 int32_t ds_filter_insert_all_u64(ds_sketch *handle, const uint64_t *items, size_t count);
 int32_t ds_filter_insert_all_i64(ds_sketch *handle, const int64_t *items, size_t count);
 
+/* Inserts many texts, as one after another. */
+int32_t ds_filter_insert_all_text(ds_sketch *handle, const uint8_t *bytes, size_t num_bytes, const uint64_t *offsets,
+                                  size_t num_offsets);
+
 /* Whether the filter contains an item: DS_YES or DS_NO. */
 int32_t ds_filter_contains_u64(ds_sketch *handle, uint64_t item);
 int32_t ds_filter_contains_i64(ds_sketch *handle, int64_t item);
 int32_t ds_filter_contains_text(ds_sketch *handle, const uint8_t *item, size_t length);
 
-/* Writes down for each number whether the filter contains it. Refused by DS_NO_ROOM where there are not as many answers
+/* Writes down for each item whether the filter contains it. Refused by DS_NO_ROOM where there are not as many answers
  * as items; a refusal leaves the answers as they were. */
 int32_t ds_filter_contains_all_u64(ds_sketch *handle, const uint64_t *items, size_t count, bool *answers, size_t room);
 int32_t ds_filter_contains_all_i64(ds_sketch *handle, const int64_t *items, size_t count, bool *answers, size_t room);
+int32_t ds_filter_contains_all_text(ds_sketch *handle, const uint8_t *bytes, size_t num_bytes, const uint64_t *offsets,
+                                    size_t num_offsets, bool *answers, size_t room);
 
 /* Adds the other filter's positions, keeps those that both have, or takes the other's away. The other filter stays as it
  * was. Refused by DS_MISMATCH where bits, hashes or seeds differ. */
@@ -179,7 +195,8 @@ int32_t ds_filter_reset(ds_sketch *handle);
 int32_t ds_filter_status(ds_sketch *handle, ds_filter_numbers *status);
 
 /* Writes the filter's image to the front of `out`, and how many bytes it has to `written`. Refused by DS_NO_ROOM where
- * `capacity` is less than that, which `written` then tells, and by DS_NO_MEMORY. */
+ * `capacity` is less than that, which `written` then tells, and by DS_NO_MEMORY. Refusals but DS_NO_ROOM leave `written`
+ * as it was. What stands behind the image in `out` stays. */
 int32_t ds_filter_to_bytes(ds_sketch *handle, uint8_t *out, size_t capacity, size_t *written);
 
 /* Puts the filter of an image into the handle, where its words take at most `most_bytes` bytes. Refused by the fault of
@@ -203,15 +220,19 @@ int32_t ds_count_u64_update_text(ds_sketch *handle, const uint8_t *item, size_t 
  * the first items are counted, as many as there was room for. */
 int32_t ds_count_u64_update_all_u64(ds_sketch *handle, const uint64_t *items, size_t count);
 int32_t ds_count_u64_update_all_i64(ds_sketch *handle, const int64_t *items, size_t count);
+int32_t ds_count_u64_update_all_text(ds_sketch *handle, const uint8_t *bytes, size_t num_bytes, const uint64_t *offsets,
+                                     size_t num_offsets);
 
 /* Writes down the estimate of an item's weight: its least cell. */
 int32_t ds_count_u64_estimate_u64(ds_sketch *handle, uint64_t item, uint64_t *estimate);
 int32_t ds_count_u64_estimate_i64(ds_sketch *handle, int64_t item, uint64_t *estimate);
 int32_t ds_count_u64_estimate_text(ds_sketch *handle, const uint8_t *item, size_t length, uint64_t *estimate);
 
-/* Writes down the estimate of each number. Refused by DS_NO_ROOM where there are not as many estimates as items. */
+/* Writes down the estimate of each item. Refused by DS_NO_ROOM where there are not as many estimates as items. */
 int32_t ds_count_u64_estimate_all_u64(ds_sketch *handle, const uint64_t *items, size_t count, uint64_t *estimates, size_t room);
 int32_t ds_count_u64_estimate_all_i64(ds_sketch *handle, const int64_t *items, size_t count, uint64_t *estimates, size_t room);
+int32_t ds_count_u64_estimate_all_text(ds_sketch *handle, const uint8_t *bytes, size_t num_bytes, const uint64_t *offsets,
+                                       size_t num_offsets, uint64_t *estimates, size_t room);
 
 /* Writes down the estimate and the margin, e times the total over the buckets, as an upper bound. */
 int32_t ds_count_u64_upper_bound_u64(ds_sketch *handle, uint64_t item, uint64_t *bound);
@@ -241,7 +262,8 @@ typedef struct ds_count_numbers {
 int32_t ds_count_u64_status(ds_sketch *handle, ds_count_numbers *status);
 
 /* Writes the sketch's image to the front of `out`, and how many bytes it has to `written`. Refused by DS_NO_ROOM where
- * `capacity` is less than that, which `written` then tells, and by DS_NO_MEMORY. */
+ * `capacity` is less than that, which `written` then tells, and by DS_NO_MEMORY. Refusals but DS_NO_ROOM leave `written`
+ * as it was. What stands behind the image in `out` stays. */
 int32_t ds_count_u64_to_bytes(ds_sketch *handle, uint8_t *out, size_t capacity, size_t *written);
 
 /* Puts the sketch of an image, which is read under a seed, into the handle, where it takes at most `most_bytes` bytes: 8 a
@@ -259,11 +281,15 @@ int32_t ds_count_i64_update_i64(ds_sketch *handle, int64_t item, int64_t weight)
 int32_t ds_count_i64_update_text(ds_sketch *handle, const uint8_t *item, size_t length, int64_t weight);
 int32_t ds_count_i64_update_all_u64(ds_sketch *handle, const uint64_t *items, size_t count);
 int32_t ds_count_i64_update_all_i64(ds_sketch *handle, const int64_t *items, size_t count);
+int32_t ds_count_i64_update_all_text(ds_sketch *handle, const uint8_t *bytes, size_t num_bytes, const uint64_t *offsets,
+                                     size_t num_offsets);
 int32_t ds_count_i64_estimate_u64(ds_sketch *handle, uint64_t item, int64_t *estimate);
 int32_t ds_count_i64_estimate_i64(ds_sketch *handle, int64_t item, int64_t *estimate);
 int32_t ds_count_i64_estimate_text(ds_sketch *handle, const uint8_t *item, size_t length, int64_t *estimate);
 int32_t ds_count_i64_estimate_all_u64(ds_sketch *handle, const uint64_t *items, size_t count, int64_t *estimates, size_t room);
 int32_t ds_count_i64_estimate_all_i64(ds_sketch *handle, const int64_t *items, size_t count, int64_t *estimates, size_t room);
+int32_t ds_count_i64_estimate_all_text(ds_sketch *handle, const uint8_t *bytes, size_t num_bytes, const uint64_t *offsets,
+                                       size_t num_offsets, int64_t *estimates, size_t room);
 int32_t ds_count_i64_upper_bound_u64(ds_sketch *handle, uint64_t item, int64_t *bound);
 int32_t ds_count_i64_upper_bound_i64(ds_sketch *handle, int64_t item, int64_t *bound);
 int32_t ds_count_i64_upper_bound_text(ds_sketch *handle, const uint8_t *item, size_t length, int64_t *bound);
@@ -316,6 +342,8 @@ int32_t ds_frequent_text_merge(ds_sketch *handle, ds_sketch *other);
  * before it are added, and neither it nor those behind it. */
 int32_t ds_frequent_u64_update_all(ds_sketch *handle, const uint64_t *items, size_t count);
 int32_t ds_frequent_i64_update_all(ds_sketch *handle, const int64_t *items, size_t count);
+int32_t ds_frequent_text_update_all(ds_sketch *handle, const uint8_t *bytes, size_t num_bytes, const uint64_t *offsets,
+                                    size_t num_offsets);
 
 /* Forgets everything but the greatest size and the sample size. */
 int32_t ds_frequent_u64_reset(ds_sketch *handle);
@@ -340,7 +368,8 @@ int32_t ds_frequent_i64_status(ds_sketch *handle, ds_frequent_numbers *status);
 int32_t ds_frequent_text_status(ds_sketch *handle, ds_frequent_numbers *status);
 
 /* Writes the sketch's image to the front of `out`, and how many bytes it has to `written`. Refused by DS_NO_ROOM where
- * `capacity` is less than that, which `written` then tells, and by DS_NO_MEMORY. */
+ * `capacity` is less than that, which `written` then tells, and by DS_NO_MEMORY. Refusals but DS_NO_ROOM leave `written`
+ * as it was. What stands behind the image in `out` stays. */
 int32_t ds_frequent_u64_to_bytes(ds_sketch *handle, uint8_t *out, size_t capacity, size_t *written);
 int32_t ds_frequent_i64_to_bytes(ds_sketch *handle, uint8_t *out, size_t capacity, size_t *written);
 int32_t ds_frequent_text_to_bytes(ds_sketch *handle, uint8_t *out, size_t capacity, size_t *written);
@@ -354,7 +383,8 @@ int32_t ds_frequent_text_from_bytes(ds_sketch *handle, const uint8_t *image, siz
 /* Writes down the items whose bound is above both the threshold and the sketch's error, in rows that descend by estimate:
  * an item and its bounds for each, at the front of both buffers. With `no_false_negatives` the upper bound counts, so that
  * no item above the threshold is missing; without it the lower one, so that no item below is there. `count` is how many
- * rows there are, also where a buffer is shorter than that: then the call is refused by DS_NO_ROOM. And by DS_NO_MEMORY. */
+ * rows there are, also where a buffer is shorter than that: then the call is refused by DS_NO_ROOM. And by DS_NO_MEMORY.
+ * Refusals but DS_NO_ROOM leave `count` as it was. What stands behind the rows in the buffers stays. */
 int32_t ds_frequent_u64_rows(ds_sketch *handle, bool no_false_negatives, uint64_t threshold, uint64_t *items,
                              size_t num_items, ds_frequent_bounds *bounds, size_t num_bounds, size_t *count);
 int32_t ds_frequent_i64_rows(ds_sketch *handle, bool no_false_negatives, uint64_t threshold, int64_t *items,
@@ -401,6 +431,23 @@ static inline void *ds_no_values(void)
         return call(handle, items ? items : (const type *)ds_no_values(), count, \
                     answers ? answers : (answer *)ds_no_values(), num_answers); \
     }
+#define DS_READS_TEXTS(call) \
+    static inline int32_t call##_checked(ds_sketch *handle, const uint8_t *bytes, size_t num_bytes, \
+                                         const uint64_t *offsets, size_t num_offsets) \
+    { \
+        if ((!bytes && num_bytes) || (!offsets && num_offsets)) return DS_BAD_ARGUMENT; \
+        return call(handle, bytes ? bytes : (const uint8_t *)ds_no_values(), num_bytes, \
+                    offsets ? offsets : (const uint64_t *)ds_no_values(), num_offsets); \
+    }
+#define DS_ANSWERS_TEXTS(call, answer) \
+    static inline int32_t call##_checked(ds_sketch *handle, const uint8_t *bytes, size_t num_bytes, \
+                                         const uint64_t *offsets, size_t num_offsets, answer *answers, size_t num_answers) \
+    { \
+        if ((!bytes && num_bytes) || (!offsets && num_offsets) || (!answers && num_answers)) return DS_BAD_ARGUMENT; \
+        return call(handle, bytes ? bytes : (const uint8_t *)ds_no_values(), num_bytes, \
+                    offsets ? offsets : (const uint64_t *)ds_no_values(), num_offsets, \
+                    answers ? answers : (answer *)ds_no_values(), num_answers); \
+    }
 #define DS_WRITES(call) \
     static inline int32_t call##_checked(ds_sketch *handle, uint8_t *out, size_t capacity, size_t *written) \
     { \
@@ -420,9 +467,11 @@ DS_JOINS(ds_clone)
 DS_READS(ds_filter_insert_text, uint8_t)
 DS_READS(ds_filter_insert_all_u64, uint64_t)
 DS_READS(ds_filter_insert_all_i64, int64_t)
+DS_READS_TEXTS(ds_filter_insert_all_text)
 DS_READS(ds_filter_contains_text, uint8_t)
 DS_ANSWERS(ds_filter_contains_all_u64, uint64_t, bool)
 DS_ANSWERS(ds_filter_contains_all_i64, int64_t, bool)
+DS_ANSWERS_TEXTS(ds_filter_contains_all_text, bool)
 DS_JOINS(ds_filter_union)
 DS_JOINS(ds_filter_intersect)
 DS_JOINS(ds_filter_difference)
@@ -431,9 +480,11 @@ DS_READS_AND(ds_filter_from_bytes, uint8_t, size_t)
 DS_READS_AND(ds_count_u64_update_text, uint8_t, uint64_t)
 DS_READS(ds_count_u64_update_all_u64, uint64_t)
 DS_READS(ds_count_u64_update_all_i64, int64_t)
+DS_READS_TEXTS(ds_count_u64_update_all_text)
 DS_READS_AND(ds_count_u64_estimate_text, uint8_t, uint64_t *)
 DS_ANSWERS(ds_count_u64_estimate_all_u64, uint64_t, uint64_t)
 DS_ANSWERS(ds_count_u64_estimate_all_i64, int64_t, uint64_t)
+DS_ANSWERS_TEXTS(ds_count_u64_estimate_all_text, uint64_t)
 DS_READS_AND(ds_count_u64_upper_bound_text, uint8_t, uint64_t *)
 DS_JOINS(ds_count_u64_merge)
 DS_WRITES(ds_count_u64_to_bytes)
@@ -441,9 +492,11 @@ DS_READS_UNDER(ds_count_u64_from_bytes)
 DS_READS_AND(ds_count_i64_update_text, uint8_t, int64_t)
 DS_READS(ds_count_i64_update_all_u64, uint64_t)
 DS_READS(ds_count_i64_update_all_i64, int64_t)
+DS_READS_TEXTS(ds_count_i64_update_all_text)
 DS_READS_AND(ds_count_i64_estimate_text, uint8_t, int64_t *)
 DS_ANSWERS(ds_count_i64_estimate_all_u64, uint64_t, int64_t)
 DS_ANSWERS(ds_count_i64_estimate_all_i64, int64_t, int64_t)
+DS_ANSWERS_TEXTS(ds_count_i64_estimate_all_text, int64_t)
 DS_READS_AND(ds_count_i64_upper_bound_text, uint8_t, int64_t *)
 DS_JOINS(ds_count_i64_merge)
 DS_WRITES(ds_count_i64_to_bytes)
@@ -455,6 +508,7 @@ DS_JOINS(ds_frequent_i64_merge)
 DS_JOINS(ds_frequent_text_merge)
 DS_READS(ds_frequent_u64_update_all, uint64_t)
 DS_READS(ds_frequent_i64_update_all, int64_t)
+DS_READS_TEXTS(ds_frequent_text_update_all)
 DS_WRITES(ds_frequent_u64_to_bytes)
 DS_WRITES(ds_frequent_i64_to_bytes)
 DS_WRITES(ds_frequent_text_to_bytes)
@@ -468,11 +522,15 @@ DS_ROWS(ds_frequent_i64_rows, int64_t)
 #define ds_filter_insert_text(handle, item, length) ds_filter_insert_text_checked(handle, item, length)
 #define ds_filter_insert_all_u64(handle, items, count) ds_filter_insert_all_u64_checked(handle, items, count)
 #define ds_filter_insert_all_i64(handle, items, count) ds_filter_insert_all_i64_checked(handle, items, count)
+#define ds_filter_insert_all_text(handle, bytes, num_bytes, offsets, num_offsets) \
+    ds_filter_insert_all_text_checked(handle, bytes, num_bytes, offsets, num_offsets)
 #define ds_filter_contains_text(handle, item, length) ds_filter_contains_text_checked(handle, item, length)
 #define ds_filter_contains_all_u64(handle, items, count, answers, room) \
     ds_filter_contains_all_u64_checked(handle, items, count, answers, room)
 #define ds_filter_contains_all_i64(handle, items, count, answers, room) \
     ds_filter_contains_all_i64_checked(handle, items, count, answers, room)
+#define ds_filter_contains_all_text(handle, bytes, num_bytes, offsets, num_offsets, answers, room) \
+    ds_filter_contains_all_text_checked(handle, bytes, num_bytes, offsets, num_offsets, answers, room)
 #define ds_filter_union(handle, other) ds_filter_union_checked(handle, other)
 #define ds_filter_intersect(handle, other) ds_filter_intersect_checked(handle, other)
 #define ds_filter_difference(handle, other) ds_filter_difference_checked(handle, other)
@@ -483,12 +541,16 @@ DS_ROWS(ds_frequent_i64_rows, int64_t)
     ds_count_u64_update_text_checked(handle, item, length, weight)
 #define ds_count_u64_update_all_u64(handle, items, count) ds_count_u64_update_all_u64_checked(handle, items, count)
 #define ds_count_u64_update_all_i64(handle, items, count) ds_count_u64_update_all_i64_checked(handle, items, count)
+#define ds_count_u64_update_all_text(handle, bytes, num_bytes, offsets, num_offsets) \
+    ds_count_u64_update_all_text_checked(handle, bytes, num_bytes, offsets, num_offsets)
 #define ds_count_u64_estimate_text(handle, item, length, estimate) \
     ds_count_u64_estimate_text_checked(handle, item, length, estimate)
 #define ds_count_u64_estimate_all_u64(handle, items, count, estimates, room) \
     ds_count_u64_estimate_all_u64_checked(handle, items, count, estimates, room)
 #define ds_count_u64_estimate_all_i64(handle, items, count, estimates, room) \
     ds_count_u64_estimate_all_i64_checked(handle, items, count, estimates, room)
+#define ds_count_u64_estimate_all_text(handle, bytes, num_bytes, offsets, num_offsets, estimates, room) \
+    ds_count_u64_estimate_all_text_checked(handle, bytes, num_bytes, offsets, num_offsets, estimates, room)
 #define ds_count_u64_upper_bound_text(handle, item, length, bound) \
     ds_count_u64_upper_bound_text_checked(handle, item, length, bound)
 #define ds_count_u64_merge(handle, other) ds_count_u64_merge_checked(handle, other)
@@ -500,12 +562,16 @@ DS_ROWS(ds_frequent_i64_rows, int64_t)
     ds_count_i64_update_text_checked(handle, item, length, weight)
 #define ds_count_i64_update_all_u64(handle, items, count) ds_count_i64_update_all_u64_checked(handle, items, count)
 #define ds_count_i64_update_all_i64(handle, items, count) ds_count_i64_update_all_i64_checked(handle, items, count)
+#define ds_count_i64_update_all_text(handle, bytes, num_bytes, offsets, num_offsets) \
+    ds_count_i64_update_all_text_checked(handle, bytes, num_bytes, offsets, num_offsets)
 #define ds_count_i64_estimate_text(handle, item, length, estimate) \
     ds_count_i64_estimate_text_checked(handle, item, length, estimate)
 #define ds_count_i64_estimate_all_u64(handle, items, count, estimates, room) \
     ds_count_i64_estimate_all_u64_checked(handle, items, count, estimates, room)
 #define ds_count_i64_estimate_all_i64(handle, items, count, estimates, room) \
     ds_count_i64_estimate_all_i64_checked(handle, items, count, estimates, room)
+#define ds_count_i64_estimate_all_text(handle, bytes, num_bytes, offsets, num_offsets, estimates, room) \
+    ds_count_i64_estimate_all_text_checked(handle, bytes, num_bytes, offsets, num_offsets, estimates, room)
 #define ds_count_i64_upper_bound_text(handle, item, length, bound) \
     ds_count_i64_upper_bound_text_checked(handle, item, length, bound)
 #define ds_count_i64_merge(handle, other) ds_count_i64_merge_checked(handle, other)
@@ -522,6 +588,8 @@ DS_ROWS(ds_frequent_i64_rows, int64_t)
 #define ds_frequent_text_merge(handle, other) ds_frequent_text_merge_checked(handle, other)
 #define ds_frequent_u64_update_all(handle, items, count) ds_frequent_u64_update_all_checked(handle, items, count)
 #define ds_frequent_i64_update_all(handle, items, count) ds_frequent_i64_update_all_checked(handle, items, count)
+#define ds_frequent_text_update_all(handle, bytes, num_bytes, offsets, num_offsets) \
+    ds_frequent_text_update_all_checked(handle, bytes, num_bytes, offsets, num_offsets)
 #define ds_frequent_u64_to_bytes(handle, out, capacity, written) \
     ds_frequent_u64_to_bytes_checked(handle, out, capacity, written)
 #define ds_frequent_i64_to_bytes(handle, out, capacity, written) \
@@ -543,7 +611,9 @@ DS_ROWS(ds_frequent_i64_rows, int64_t)
 #undef DS_READS
 #undef DS_READS_AND
 #undef DS_READS_UNDER
+#undef DS_READS_TEXTS
 #undef DS_ANSWERS
+#undef DS_ANSWERS_TEXTS
 #undef DS_WRITES
 #undef DS_ROWS
 

@@ -162,6 +162,16 @@ class Tests:
         for word in [b"yes", b"no", b"estimate", b"countu", b"bloom", b"image"]:
             self.check(f"some line gets {word.decode()}", any(reply.startswith(word) for reply in wanted))
 
+    def many_at_once(self):
+        """Runs of lines on one sketch, whose texts go in by one call, beside the program's replies to each line."""
+        batches = self.compile(f"{TOP}/c/tests/batches.c", "-g", "-O1", "-fsanitize=address,undefined", "-fno-sanitize-recover=all")
+        lines = "".join(f"{line}\n" for line in runs_by_chance(6_000)).encode()
+        wanted, got = (self.run([it], lines).stdout.splitlines() for it in [self.program, batches])
+        unlike = next((it for it in zip(wanted, got) if it[0] != it[1]), "")
+        self.check("six thousand lines in runs", len(wanted) >= 6_000 and wanted == got, (len(wanted), len(got), unlike))
+        for word in [b"yes", b"no", b"estimate"]:
+            self.check(f"some line in a run gets {word.decode()}", any(reply.startswith(word) for reply in wanted))
+
     def installed(self):
         """The example of the page, over what `install.sh` put in place, by what the file for pkg-config says."""
         prefix = os.path.join(self.work, "prefix")
@@ -239,6 +249,20 @@ def by_chance(count, shown):
     return lines[:count]
 
 
+def runs_by_chance(count):
+    """Runs of lines that begin alike, with texts of one to four bytes a character."""
+    chance = random.Random(28)
+    lines = ["bloom f 6400 5 9001", "bloom g 640 3 1", "countu c 4 64 9001", "countu d 3 16 7", "frequent s 64", "frequent t 8"]
+    texts = [chance.choice("aéα€😀") * chance.randrange(1, 4) + str(number) for number in range(200)]
+    while len(lines) < count:
+        name = chance.choice("fgcdst")
+        verb = "ask" if chance.random() < 0.4 else "insert" if name in "fg" else "add"
+        for _ in range(chance.choice([1, 2, 17, 200])):
+            text = chance.choice(texts)
+            lines.append(f"add {name} 1 {text}" if verb == "add" else f"{verb} {name} {text}")
+    return lines
+
+
 def main():
     words = sys.argv[1:]
     before = (0, 0)
@@ -252,6 +276,7 @@ def main():
         tests.sizes()
         requests = tests.refused_in_turn()
         tests.beside_the_program()
+        tests.many_at_once()
         tests.installed()
         print(f"the library for C: {requests} requests for memory refused in turn")
         print(f"{before[0] + tests.passed} passed, {before[1] + tests.failed} failed")

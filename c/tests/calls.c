@@ -360,6 +360,102 @@ static void frequent_texts(void)
     ds_free(&copy);
 }
 
+/* Four texts in one buffer, behind a byte that is in none: a word, a letter with a mark, nothing, and two signs. */
+static const uint8_t MANY[] = "-applea\xcc\x88\xe2\x82\xac!";
+static const uint64_t ENDS[5] = {1, 6, 9, 9, 13};
+
+/* Offsets that are refused: none, one below the one before it, and one that passes the bytes. */
+static const struct {
+    uint64_t offsets[3];
+    size_t count;
+} BAD_ENDS[] = {{{0}, 0}, {{2, 1, 3}, 3}, {{0, 13, 14}, 3}, {{14}, 1}, {{1, UINT64_MAX, 3}, 3}, {{0, 3, 2}, 3}};
+
+/* Makes each call for many texts with these, and checks that all are refused with one number and change nothing. */
+static void refused_texts(ds_sketch *filter, ds_sketch *count, ds_sketch *signs, ds_sketch *frequent, const uint8_t *bytes,
+                          size_t length, const uint64_t *offsets, size_t num_offsets, int32_t answer)
+{
+    bool answers[2] = {true, true};
+    uint64_t estimates[2] = {7, 7};
+    int64_t with_sign[2] = {7, 7};
+    ds_filter_numbers numbers;
+    ds_count_numbers counted;
+    ds_frequent_numbers weighed;
+    CHECK(ds_filter_insert_all_text(filter, bytes, length, offsets, num_offsets) == answer);
+    CHECK(ds_filter_contains_all_text(filter, bytes, length, offsets, num_offsets, answers, 2) == answer);
+    CHECK(ds_count_u64_update_all_text(count, bytes, length, offsets, num_offsets) == answer);
+    CHECK(ds_count_u64_estimate_all_text(count, bytes, length, offsets, num_offsets, estimates, 2) == answer);
+    CHECK(ds_count_i64_update_all_text(signs, bytes, length, offsets, num_offsets) == answer);
+    CHECK(ds_count_i64_estimate_all_text(signs, bytes, length, offsets, num_offsets, with_sign, 2) == answer);
+    CHECK(ds_frequent_text_update_all(frequent, bytes, length, offsets, num_offsets) == answer);
+    CHECK(answers[0] && answers[1] && estimates[0] == 7 && estimates[1] == 7 && with_sign[0] == 7 && with_sign[1] == 7);
+    CHECK(ds_filter_status(filter, &numbers) == DS_OK && numbers.bits_used == 0);
+    CHECK(ds_count_u64_status(count, &counted) == DS_OK && counted.total_weight == 0);
+    CHECK(ds_count_i64_status(signs, &counted) == DS_OK && counted.total_weight == 0);
+    CHECK(ds_frequent_text_status(frequent, &weighed) == DS_OK && weighed.total_weight == 0);
+}
+
+static void many_texts(void)
+{
+    ds_sketch filter = DS_NONE, one = DS_NONE, count = DS_NONE, signs = DS_NONE, frequent = DS_NONE;
+    ds_frequent_bounds bounds;
+    bool answers[4];
+    uint64_t estimates[4], halves[3] = {6, 8, 9};
+    int64_t with_sign[4];
+    uint8_t first[256], second[256];
+    size_t length, again;
+    const size_t bytes = sizeof MANY - 1;
+
+    CHECK(ds_filter_insert_all_text(&filter, MANY, bytes, ENDS, 5) == DS_NO_SKETCH);
+    CHECK(ds_filter_new(&filter, 959, 7, 9001) == DS_OK && ds_filter_new(&one, 959, 7, 9001) == DS_OK);
+    CHECK(ds_count_u64_new(&count, 4, 128, 9001) == DS_OK && ds_count_i64_new(&signs, 4, 128, 9001) == DS_OK);
+    CHECK(ds_frequent_text_new(&frequent, 64, 48) == DS_OK);
+    for (size_t i = 0; i < sizeof BAD_ENDS / sizeof *BAD_ENDS; i++)
+        refused_texts(&filter, &count, &signs, &frequent, MANY, bytes, BAD_ENDS[i].offsets, BAD_ENDS[i].count, DS_BAD_OFFSETS);
+    /* the bytes are UTF-8 as a whole, but no text ends within a letter */
+    refused_texts(&filter, &count, &signs, &frequent, MANY, bytes, halves, 3, DS_INVALID_UTF8);
+    CHECK(ds_filter_insert_all_text(&filter, NULL, 1, ENDS, 5) == DS_BAD_ARGUMENT);
+    CHECK(ds_filter_insert_all_text(&filter, MANY, bytes, NULL, 5) == DS_BAD_ARGUMENT);
+    CHECK(ds_filter_insert_all_text(&filter, NULL, 0, NULL, 0) == DS_BAD_OFFSETS);
+    CHECK(ds_filter_insert_all_text(&count, MANY, bytes, ENDS, 5) == DS_WRONG_KIND);
+    CHECK(ds_filter_contains_all_text(&filter, MANY, bytes, ENDS, 5, answers, 3) == DS_NO_ROOM);
+    CHECK(ds_count_u64_estimate_all_text(&count, MANY, bytes, ENDS, 5, estimates, 5) == DS_NO_ROOM);
+    CHECK(ds_count_i64_estimate_all_text(&signs, MANY, bytes, ENDS, 5, with_sign, 5) == DS_NO_ROOM);
+    CHECK(ds_filter_insert_all_text(&filter, MANY, bytes, ENDS, 1) == DS_OK);
+
+    CHECK(ds_filter_insert_all_text(&filter, MANY, bytes, ENDS, 5) == DS_OK);
+    for (int i = 0; i < 4; i++) CHECK(ds_filter_insert_text(&one, MANY + ENDS[i], (size_t)(ENDS[i + 1] - ENDS[i])) == DS_OK);
+    CHECK(ds_filter_to_bytes(&filter, first, sizeof first, &length) == DS_OK);
+    CHECK(ds_filter_to_bytes(&one, second, sizeof second, &again) == DS_OK && length == again);
+    CHECK(memcmp(first, second, length) == 0);
+    CHECK(ds_filter_contains_all_text(&filter, MANY, bytes, ENDS, 5, answers, 4) == DS_OK);
+    for (int i = 0; i < 4; i++) CHECK(answers[i]);
+    CHECK(ds_filter_reset(&filter) == DS_OK && ds_filter_insert_text(&filter, (const uint8_t *)"apple", 5) == DS_OK);
+    CHECK(ds_filter_contains_all_text(&filter, MANY, bytes, ENDS, 5, answers, 4) == DS_OK && answers[0] && !answers[1]);
+
+    CHECK(ds_count_u64_update_text(&count, (const uint8_t *)"apple", 5, 89) == DS_OK);
+    CHECK(ds_count_u64_update_all_text(&count, MANY, bytes, ENDS, 5) == DS_OK);
+    CHECK(ds_count_u64_estimate_all_text(&count, MANY, bytes, ENDS, 5, estimates, 4) == DS_OK && estimates[0] == 90);
+    CHECK(estimates[1] == 1 && estimates[2] == 1 && estimates[3] == 1);
+    CHECK(ds_count_i64_update_text(&signs, (const uint8_t *)"apple", 5, -9) == DS_OK);
+    CHECK(ds_count_i64_update_all_text(&signs, MANY, bytes, ENDS, 5) == DS_OK);
+    CHECK(ds_count_i64_estimate_all_text(&signs, MANY, bytes, ENDS, 5, with_sign, 4) == DS_OK && with_sign[0] == -8);
+    /* room for two more */
+    CHECK(ds_count_u64_update_u64(&count, 1, UINT64_MAX - 95) == DS_OK);
+    CHECK(ds_count_u64_update_all_text(&count, MANY, bytes, ENDS, 5) == DS_WEIGHT_OVERFLOW);
+    CHECK(ds_count_u64_estimate_all_text(&count, MANY, bytes, ENDS, 5, estimates, 4) == DS_OK);
+    CHECK(estimates[0] == 91 && estimates[1] == 2 && estimates[2] == 1 && estimates[3] == 1);
+
+    CHECK(ds_frequent_text_update_all(&frequent, MANY, bytes, ENDS, 5) == DS_OK);
+    CHECK(ds_frequent_text_update_all(&frequent, MANY, bytes, ENDS, 2) == DS_OK);
+    CHECK(ds_frequent_text_bounds(&frequent, (const uint8_t *)"apple", 5, &bounds) == DS_OK && bounds.estimate == 2);
+    CHECK(ds_frequent_text_bounds(&frequent, NULL, 0, &bounds) == DS_OK && bounds.estimate == 1);
+    ds_free(&filter);
+    ds_free(&one);
+    ds_free(&count);
+    ds_free(&signs);
+    ds_free(&frequent);
+}
+
 static void *fill(void *argument)
 {
     ds_sketch *handle = argument;
@@ -404,6 +500,7 @@ int main(void)
     frequent_numbers();
     frequent_signed_numbers();
     frequent_texts();
+    many_texts();
     threads();
     names();
     printf("%d of %d checks hold\n", checks - failures, checks);

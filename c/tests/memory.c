@@ -11,6 +11,7 @@ static uint64_t weight_of(ds_sketch *handle)
 {
     ds_frequent_numbers numbers;
     if (ds_frequent_u64_status(handle, &numbers) == DS_OK) return numbers.total_weight;
+    if (ds_frequent_text_status(handle, &numbers) == DS_OK) return numbers.total_weight;
     return ds_frequent_i64_status(handle, &numbers) == DS_OK ? numbers.total_weight : 0;
 }
 
@@ -41,6 +42,31 @@ static void keep(ds_sketch *filter)
         if (!is_due(answer, handle, weight)) return 1; \
         if (answer < 0 && (call) < 0) return 1; \
     } while (0)
+
+/* 64 texts of two letters each, one behind the other. */
+static uint8_t letters[128];
+static uint64_t ends[65];
+
+static void write_texts(void)
+{
+    for (size_t i = 0; i < 64; i++) {
+        letters[2 * i] = (uint8_t)('a' + i / 8);
+        letters[2 * i + 1] = (uint8_t)('a' + i % 8);
+        ends[i + 1] = 2 * i + 2;
+    }
+}
+
+/* Whether all texts are added: where memory is refused to one, those before it are, and the call goes on with it. */
+static int adds_texts(ds_sketch *handle)
+{
+    uint64_t before_all = weight_of(handle);
+    int32_t answer = ds_frequent_text_update_all(handle, letters, sizeof letters, ends, 65);
+    if (answer == DS_NO_MEMORY) {
+        uint64_t added = weight_of(handle) - before_all;
+        answer = added < 64 ? ds_frequent_text_update_all(handle, letters, sizeof letters, ends + added, (size_t)(65 - added)) : DS_BAD_OFFSETS;
+    }
+    return answer == DS_OK && weight_of(handle) == before_all + 64;
+}
 
 int main(void)
 {
@@ -79,6 +105,11 @@ int main(void)
     DONE(&copy, ds_frequent_u64_from_bytes(&copy, image, length, 1 << 14));
     if (ds_frequent_u64_status(&frequent, &numbers) != DS_OK || numbers.total_weight != 2 * 2080) return 1;
     if (ds_frequent_u64_status(&copy, &numbers) != DS_OK || numbers.total_weight != 2080) return 1;
+    write_texts();
+    DONE(&frequent, ds_frequent_text_new(&frequent, 64, 48));
+    if (!adds_texts(&frequent) || !adds_texts(&frequent)) return 1;
+    DONE(&filter, ds_filter_insert_all_text(&filter, letters, sizeof letters, ends, 65));
+    DONE(&count, ds_count_u64_update_all_text(&count, letters, sizeof letters, ends, 65));
     ds_free(&frequent);
     ds_free(&many);
     ds_free(&copy);

@@ -1,13 +1,14 @@
 -- What calls for images answer.
-use Rattle.std.specs.Prelude.{◌≡◌, ◌<◌, ◌≤◌, ◌⊎◌, ℕ, ℤ, List, length, take, Option, Some, None}
+use Rattle.std.specs.Prelude.{◌≡◌, ◌<◌, ◌≤◌, ◌⊎◌, ℕ, ℤ, List, length, take, drop, Option, Some, None}
 use Rattle.sketch_base.specs.declared.fault.Fault.{Fault}
 use Rattle.sketch_base.specs.declared.fault.Fault.TheVariants.{NoMemory}
 use Rattle.datasketches_c.specs.Numbers.{ok, no_room, refusal_number}
 
--- the front of the buffer is the image, or the image is longer than the buffer, or there was no memory
+-- the front of the buffer is the image, and what stands behind it is as it was, or the image is longer than the buffer, or
+-- there was no memory
 abbrev pub WritesImage : (List ℕ → Type 0) → (old new : List ℕ) → ℕ → ℤ → Type 0
 WritesImage IsImage old new written result =
-    ((result ≡ ok) × (written ≤ length old) × IsImage (take written new))
+    ((result ≡ ok) × (written ≤ length old) × IsImage (take written new) × (drop written new ≡ drop written old))
     ⊎ (((result ≡ no_room) × (length old < written) × ((image : List ℕ) × IsImage image × (length image ≡ written)))
     ⊎ (result ≡ refusal_number NoMemory))
 

@@ -7,6 +7,8 @@ pub mod FrequentTextImages
 pub mod FrequentTexts
 pub mod Holding
 pub mod Images
+pub mod InTurn
 pub mod Joining
 pub mod Kinds
 pub mod Numbers
+pub mod Texts

@@ -41,6 +41,10 @@ no_room = negsuc 2
 abbrev pub bad_fraction : ℤ
 bad_fraction = negsuc 3
 
+-- offsets into a buffer are none, or descend, or pass its end: -6, as the header for C has -5
+abbrev pub bad_offsets : ℤ
+bad_offsets = negsuc 5
+
 -- a refusal for a fault: from -11 on
 abbrev pub refusal_number : Fault → ℤ
 refusal_number fault.BadNumBits = negsuc 10

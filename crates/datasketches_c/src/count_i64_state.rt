@@ -1,14 +1,14 @@
 //! Count-Min sketches in `i64`: described, written and read.
-ghost use Rattle.std.specs.Prelude.{◌≡◌, ◌+◌, ◌*◌, ◌≤◌};
+ghost use Rattle.std.specs.Prelude.{◌≡◌, ◌+◌, ◌*◌, ◌≤◌, ◌≢◌};
 ghost use Rattle.sketch_countmin.specs.Image.{IsImage, IsSpelled, early_fault_within, first_fault_within};
 ghost use Rattle.datasketches_c.specs.Images.{WritesImage, IsRefusedImage};
 ghost use Rattle.datasketches_c.specs.Kinds.{OnCountI64, HoldsCountI64};
-ghost use Rattle.datasketches_c.specs.Numbers.{OnDone, OnRefused, ok, greatest_i64, least_i64};
+ghost use Rattle.datasketches_c.specs.Numbers.{OnDone, OnRefused, ok, greatest_i64, least_i64, no_room};
 
 use crate::any_sketch::AnySketch;
+use crate::count_images::write_counts;
 use crate::count_u64_state::CountStatus;
 use crate::handle::SketchHandle;
-use crate::images::copy_out;
 use crate::status_code::{NO_SKETCH, OK, WRONG_KIND, refusal_number};
 use sketch_countmin::CountMinSketch;
 use std::alloc::Global;
@@ -58,6 +58,7 @@ pub extern "C" fn ds_count_i64_to_bytes(
 ) -> i32
     ensures kept { handle.new.value ≡ handle.old.value }
     ensures untouched { OnRefused result (out.new ≡ out.old) }
+    ensures uncounted { result ≢ ok → result ≢ no_room → written.new ≡ written.old }
     ensures image { OnCountI64 handle.old.value handle.new.value result (λ s.
         WritesImage (λ image. IsSpelled least_i64 greatest_i64 image s) out.old out.new written.new result) }
 {
@@ -65,10 +66,7 @@ pub extern "C" fn ds_count_i64_to_bytes(
         return NO_SKETCH;
     };
     let answer = match &*sketch {
-        AnySketch::CountI64(sketch) => match sketch.serialize() {
-            Ok(image) => copy_out(&image, out, written),
-            Err(error) => refusal_number(error.fault()),
-        },
+        AnySketch::CountI64(sketch) => write_counts(sketch, out, written),
         _ => WRONG_KIND,
     };
     *handle = SketchHandle::of(sketch);

@@ -1,13 +1,13 @@
 //! Count-Min sketches in `u64`: described, written and read.
-ghost use Rattle.std.specs.Prelude.{◌≡◌, ◌+◌, ◌*◌, ◌≤◌, pos};
+ghost use Rattle.std.specs.Prelude.{◌≡◌, ◌+◌, ◌*◌, ◌≤◌, pos, ◌≢◌};
 ghost use Rattle.sketch_countmin.specs.Image.{IsImage, IsSpelled, early_fault_within, first_fault_within};
 ghost use Rattle.datasketches_c.specs.Images.{WritesImage, IsRefusedImage};
 ghost use Rattle.datasketches_c.specs.Kinds.{OnCountU64, HoldsCountU64};
-ghost use Rattle.datasketches_c.specs.Numbers.{OnDone, OnRefused, ok, greatest_u64};
+ghost use Rattle.datasketches_c.specs.Numbers.{OnDone, OnRefused, ok, greatest_u64, no_room};
 
 use crate::any_sketch::AnySketch;
+use crate::count_images::write_counts;
 use crate::handle::SketchHandle;
-use crate::images::copy_out;
 use crate::status_code::{NO_SKETCH, OK, WRONG_KIND, refusal_number};
 use sketch_countmin::CountMinSketch;
 use std::alloc::Global;
@@ -67,6 +67,7 @@ pub extern "C" fn ds_count_u64_to_bytes(
 ) -> i32
     ensures kept { handle.new.value ≡ handle.old.value }
     ensures untouched { OnRefused result (out.new ≡ out.old) }
+    ensures uncounted { result ≢ ok → result ≢ no_room → written.new ≡ written.old }
     ensures image { OnCountU64 handle.old.value handle.new.value result (λ s.
         WritesImage (λ image. IsSpelled (pos 0) greatest_u64 image s) out.old out.new written.new result) }
 {
@@ -74,10 +75,7 @@ pub extern "C" fn ds_count_u64_to_bytes(
         return NO_SKETCH;
     };
     let answer = match &*sketch {
-        AnySketch::CountU64(sketch) => match sketch.serialize() {
-            Ok(image) => copy_out(&image, out, written),
-            Err(error) => refusal_number(error.fault()),
-        },
+        AnySketch::CountU64(sketch) => write_counts(sketch, out, written),
         _ => WRONG_KIND,
     };
     *handle = SketchHandle::of(sketch);

@@ -1,17 +1,23 @@
 //! Count-Min sketches in `u64`: texts.
-ghost use Rattle.std.specs.Prelude.{◌≡◌, ℤ, ◌+◌, ◌<◌, ◌≤◌, pos};
+ghost use Rattle.std.specs.Prelude.{◌≡◌, ◌≢◌, ℤ, ◌+◌, ◌-◌, ◌<◌, ◌≤◌, pos, length, map, take, All};
 ghost use Rattle.std.specs.Hash as fed;
 ghost use Rattle.std.specs.Str.{IsUtf8};
 ghost use Rattle.sketch_base.specs.Hashes.{fed_bytes};
-ghost use Rattle.sketch_countmin.specs.State.{Counts, IsLeastCell, upper_bound_of};
+ghost use Rattle.sketch_countmin.specs.State.{Counts, CountsAll, IsLeastCell, upper_bound_of};
+ghost use Rattle.datasketches_c.specs.Estimates.{AreLeastCells};
 ghost use Rattle.datasketches_c.specs.Kinds.{OnCountU64, HoldsCountU64};
-ghost use Rattle.datasketches_c.specs.Numbers.{OnRefused, ok, greatest_u64, refusal_number};
+ghost use Rattle.datasketches_c.specs.Numbers.{OnRefused, ok, no_room, bad_offsets, greatest_u64, refusal_number};
+ghost use Rattle.datasketches_c.specs.Texts.{AreOffsets, AreTexts, texts_of};
 
+use crate::any_sketch::AnySketch;
+use crate::count_texts::{count_texts, estimate_texts};
 use crate::count_u64_items::{update, upper_bound};
 use crate::handle::SketchHandle;
-use crate::status_code::refusal_number;
+use crate::status_code::{BAD_OFFSETS, NO_ROOM, NO_SKETCH, OK, WRONG_KIND, refusal_number};
+use crate::texts::{are_offsets, are_utf8};
 use sketch_base::Fault;
 use std::alloc::Global;
+use std::mem::replace;
 
 /// Adds a weight to a text's. Bytes that are no text are refused with `InvalidUtf8`, and a total that would pass the
 /// greatest number with `WeightOverflow`; the sketch is then as it was.
@@ -76,4 +82,92 @@ pub extern "C" fn ds_count_u64_upper_bound_text(
         return refusal_number(Fault::InvalidUtf8);
     };
     upper_bound(alloc, handle, item, bound)
+}
+
+/// Adds 1 to the weight of each text, as far as the total has room: the texts that come first are counted, and where
+/// there are more, the answer is `WeightOverflow`. The texts are the bytes between each of the offsets and the next.
+///
+/// Refused with `BAD_OFFSETS` where there is no offset, one is below the one before it, or one passes the end of the
+/// bytes, and with `InvalidUtf8` where some text is not UTF-8. Then no text is counted.
+#[unsafe(no_mangle)]
+pub extern "C" fn ds_count_u64_update_all_text(
+    alloc: Global,
+    handle: &mut SketchHandle,
+    bytes: &[u8],
+    offsets: &[u64],
+) -> i32
+    ensures texts { AreTexts bytes.now offsets.now → OnCountU64 handle.old.value handle.new.value result (λ s.
+        HoldsCountU64 handle.new.value
+        (CountsAll s (take (greatest_u64 - s.total) (map (fed_bytes fed.str) (texts_of bytes.now offsets.now))))
+        × (s.total + length (texts_of bytes.now offsets.now) ≤ greatest_u64 → result ≡ ok)
+        × (greatest_u64 < s.total + length (texts_of bytes.now offsets.now)
+        → result ≡ refusal_number Fault.WeightOverflow)) }
+    ensures bad_offsets { ¬ AreOffsets bytes.now offsets.now
+        → (result ≡ bad_offsets) × (handle.new.value ≡ handle.old.value) }
+    ensures no_text { AreOffsets bytes.now offsets.now → ¬ All IsUtf8 (texts_of bytes.now offsets.now)
+        → (result ≡ refusal_number Fault.InvalidUtf8) × (handle.new.value ≡ handle.old.value) }
+{
+    if !are_offsets(bytes, offsets) {
+        return BAD_OFFSETS;
+    }
+    if !are_utf8(bytes, offsets) {
+        return refusal_number(Fault::InvalidUtf8);
+    }
+    let Some(mut sketch) = replace(handle, SketchHandle::none(alloc)).into_box() else {
+        return NO_SKETCH;
+    };
+    let answer = match &mut *sketch {
+        AnySketch::CountU64(sketch) => count_texts(sketch, bytes, offsets),
+        _ => WRONG_KIND,
+    };
+    *handle = SketchHandle::of(sketch);
+    answer
+}
+
+/// Writes down the estimate of each text's weight. The texts are the bytes between each of the offsets and the next, and
+/// there are as many estimates as texts.
+///
+/// Refused with `BAD_OFFSETS` where there is no offset, one is below the one before it, or one passes the end of the
+/// bytes, then with `NO_ROOM` where there are more or fewer estimates than texts, then with `InvalidUtf8` where some
+/// text is not UTF-8. The estimates are then as they were.
+#[unsafe(no_mangle)]
+pub extern "C" fn ds_count_u64_estimate_all_text(
+    alloc: Global,
+    handle: &mut SketchHandle,
+    bytes: &[u8],
+    offsets: &[u64],
+    estimates: &mut [u64],
+) -> i32
+    ensures kept { handle.new.value ≡ handle.old.value }
+    ensures length { length estimates.new ≡ length estimates.old }
+    ensures bad_offsets { ¬ AreOffsets bytes.now offsets.now → result ≡ bad_offsets }
+    ensures no_room { AreOffsets bytes.now offsets.now → length estimates.old + 1 ≢ length offsets.now → result ≡ no_room }
+    ensures no_text { AreOffsets bytes.now offsets.now → length estimates.old + 1 ≡ length offsets.now
+        → ¬ All IsUtf8 (texts_of bytes.now offsets.now) → result ≡ refusal_number Fault.InvalidUtf8 }
+    ensures estimates { AreTexts bytes.now offsets.now → length estimates.old + 1 ≡ length offsets.now
+        → OnCountU64 handle.old.value handle.new.value result (λ s. (result ≡ ok)
+        × AreLeastCells s (fed_bytes fed.str) (texts_of bytes.now offsets.now) (map pos estimates.new)) }
+    ensures untouched { OnRefused result (estimates.new ≡ estimates.old) }
+{
+    if !are_offsets(bytes, offsets) {
+        return BAD_OFFSETS;
+    }
+    if estimates.len() != offsets.len() - 1 {
+        return NO_ROOM;
+    }
+    if !are_utf8(bytes, offsets) {
+        return refusal_number(Fault::InvalidUtf8);
+    }
+    let Some(sketch) = replace(handle, SketchHandle::none(alloc)).into_box() else {
+        return NO_SKETCH;
+    };
+    let answer = match &*sketch {
+        AnySketch::CountU64(sketch) => {
+            estimate_texts(sketch, bytes, offsets, estimates);
+            OK
+        }
+        _ => WRONG_KIND,
+    };
+    *handle = SketchHandle::of(sketch);
+    answer
 }

@@ -1,11 +1,11 @@
 //! Filters: emptied, described, written and read.
-ghost use Rattle.std.specs.Prelude.{◌≡◌, ◌*◌, ◌≤◌, Some, None};
+ghost use Rattle.std.specs.Prelude.{◌≡◌, ◌*◌, ◌≤◌, Some, None, ◌≢◌};
 ghost use Rattle.std.specs.FinSet as set;
 ghost use Rattle.sketch_bloom.specs.Image.{IsImage, IsSpelled, early_fault_within, first_fault_within};
 ghost use Rattle.sketch_bloom.specs.State.{capacity_of, cleared};
 ghost use Rattle.datasketches_c.specs.Images.{WritesImage, IsRefusedImage};
 ghost use Rattle.datasketches_c.specs.Kinds.{OnFilter, HoldsFilter};
-ghost use Rattle.datasketches_c.specs.Numbers.{OnDone, OnRefused, ok, refusal_number};
+ghost use Rattle.datasketches_c.specs.Numbers.{OnDone, OnRefused, ok, refusal_number, no_room};
 ghost use Rattle.datasketches_c.specs.declared.any_sketch.AnySketch.TheVariants.{Filter};
 
 use crate::any_sketch::AnySketch;
@@ -96,6 +96,7 @@ pub extern "C" fn ds_filter_to_bytes(
 ) -> i32
     ensures kept { handle.new.value ≡ handle.old.value }
     ensures untouched { OnRefused result (out.new ≡ out.old) }
+    ensures uncounted { result ≢ ok → result ≢ no_room → written.new ≡ written.old }
     ensures image { OnFilter handle.old.value handle.new.value result (λ s.
         WritesImage (λ image. IsSpelled image s) out.old out.new written.new result) }
 {

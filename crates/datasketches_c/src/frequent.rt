@@ -1,10 +1,10 @@
 //! Frequent-items sketches, whatever the items: the library's calls, with their answers as numbers.
-ghost use Rattle.std.specs.Prelude.{◌≡◌, None, IfOk, IfErr, IsTrue};
+ghost use Rattle.std.specs.Prelude.{◌≡◌, None, IfOk, IfErr, IsTrue, ◌≢◌};
 ghost use Rattle.sketch_base.specs.Checks.{IsImageRefusal};
 ghost use Rattle.sketch_frequencies.specs.Image.{early_fault_within, first_fault_within};
 ghost use Rattle.datasketches_c.specs.FrequentCalls.{Updates, UpdatesMany, MergesInto, Empties, AreBounds, AreNumbers};
 ghost use Rattle.datasketches_c.specs.FrequentImages.{WritesFrequent, IsRestored};
-ghost use Rattle.datasketches_c.specs.Numbers.{OnRefused};
+ghost use Rattle.datasketches_c.specs.Numbers.{OnRefused, ok, no_room};
 
 use crate::images::copy_out;
 use crate::status_code::{OK, refusal_number};
@@ -122,6 +122,7 @@ pub(crate) fn write_image<T: FrequentItemValue + Drop>(
 ) -> i32
     ensures image { WritesFrequent T.codec T.content sketch.now out.old out.new written.new result }
     ensures untouched { OnRefused result (out.new ≡ out.old) }
+    ensures uncounted { result ≢ ok → result ≢ no_room → written.new ≡ written.old }
 {
     match sketch.serialize() {
         Ok(image) => copy_out(&image, out, written),

@@ -1,5 +1,5 @@
 //! The rows of reports in the caller's buffers.
-ghost use Rattle.std.specs.Prelude.{◌≡◌, ◌<◌, ◌≤◌, length, map, IsTrue};
+ghost use Rattle.std.specs.Prelude.{◌≡◌, ◌<◌, ◌≤◌, length, map, IsTrue, ◌≢◌};
 ghost use Rattle.datasketches_c.specs.FrequentRows.{StandAtFront, WritesRows, bounds_in, error_type};
 ghost use Rattle.datasketches_c.specs.Numbers.{OnRefused, ok, no_room};
 
@@ -21,6 +21,7 @@ pub(crate) fn write_rows<T: Eq + Hash + Clone + Copy + Drop>(
     ensures rows { WritesRows T.eq (error_type no_false_negatives) threshold sketch.now items.old items.new
         bounds.old bounds.new count.new result }
     ensures untouched { OnRefused result ((items.new ≡ items.old) × (bounds.new ≡ bounds.old)) }
+    ensures uncounted { result ≢ ok → result ≢ no_room → count.new ≡ count.old }
 {
     match sketch.frequent_items_with_threshold(error_type_of(no_false_negatives), threshold) {
         Ok(rows) => copy_rows(&rows, items, bounds, count),
@@ -52,6 +53,7 @@ fn copy_rows<T: Copy>(
     ensures few_items { length items.old < length rows.now → result ≡ no_room }
     ensures few_bounds { length bounds.old < length rows.now → result ≡ no_room }
     ensures untouched { OnRefused result ((items.new ≡ items.old) × (bounds.new ≡ bounds.old)) }
+    ensures uncounted { result ≢ ok → result ≢ no_room → count.new ≡ count.old }
 {
     let needed = rows.len();
     *count = needed;

@@ -22,13 +22,14 @@ use std::alloc::Global;
 use std::mem::replace;
 
 /// Adds a weight to a text's.
-fn update_text(
+pub(crate) fn update_text(
     alloc: Global,
     sketch: &mut FrequentItemsSketch<String>,
     item: &str,
     weight: u64,
 ) -> i32
     ensures updates { UpdatesText sketch.old item.now weight sketch.new result }
+    ensures done { OnDone result (result ≡ ok) }
     ensures refused { OnRefused result (sketch.new ≡ sketch.old) }
 {
     match String::from_str(alloc, item) {

@@ -1,5 +1,5 @@
 //! Sketches of frequent texts: written and read.
-ghost use Rattle.std.specs.Prelude.{◌≡◌};
+ghost use Rattle.std.specs.Prelude.{◌≡◌, ◌≢◌};
 ghost use Rattle.std.specs.String.{string_bytes};
 ghost use Rattle.sketch_frequencies.specs.Image.{early_fault_within, first_fault_within};
 ghost use Rattle.sketch_frequencies.specs.Items.{text_codec};
@@ -8,7 +8,7 @@ ghost use Rattle.datasketches_c.specs.FrequentTextImages.{text_row};
 ghost use Rattle.datasketches_c.specs.FrequentTexts.{text_eq};
 ghost use Rattle.datasketches_c.specs.Images.{IsRefusedImage};
 ghost use Rattle.datasketches_c.specs.Kinds.{OnFrequentTexts, HoldsFrequentTexts};
-ghost use Rattle.datasketches_c.specs.Numbers.{OnDone, OnRefused, ok};
+ghost use Rattle.datasketches_c.specs.Numbers.{OnDone, OnRefused, ok, no_room};
 
 use crate::any_sketch::AnySketch;
 use crate::frequent::{read_image, write_image};
@@ -31,6 +31,7 @@ pub extern "C" fn ds_frequent_text_to_bytes(
 ) -> i32
     ensures kept { handle.new.value ≡ handle.old.value }
     ensures untouched { OnRefused result (out.new ≡ out.old) }
+    ensures uncounted { result ≢ ok → result ≢ no_room → written.new ≡ written.old }
     ensures image { OnFrequentTexts handle.old.value handle.new.value result (λ s.
         WritesFrequent text_codec (λ text. string_bytes text) s out.old out.new written.new result) }
 {

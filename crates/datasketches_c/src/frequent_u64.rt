@@ -1,5 +1,5 @@
 //! Sketches of frequent items of type `u64`: made, filled, asked, merged, reported, described, written and read.
-ghost use Rattle.std.specs.Prelude.{◌≡◌, None, Some, nat_eq};
+ghost use Rattle.std.specs.Prelude.{◌≡◌, None, Some, nat_eq, ◌≢◌};
 ghost use Rattle.sketch_base.specs.Errors.{refusal_of};
 ghost use Rattle.sketch_frequencies.specs.History.FrequentHistory.{New};
 ghost use Rattle.sketch_frequencies.specs.Image.{early_fault_within, first_fault_within};
@@ -11,7 +11,7 @@ ghost use Rattle.datasketches_c.specs.FrequentImages.{WritesFrequent, IsRestored
 ghost use Rattle.datasketches_c.specs.FrequentRows.{WritesRows, error_type};
 ghost use Rattle.datasketches_c.specs.Images.{IsRefusedImage};
 ghost use Rattle.datasketches_c.specs.Kinds.{OnFrequentU64, HoldsFrequentU64};
-ghost use Rattle.datasketches_c.specs.Numbers.{OnDone, OnRefused, ok, refusal_number};
+ghost use Rattle.datasketches_c.specs.Numbers.{OnDone, OnRefused, ok, refusal_number, no_room};
 ghost use Rattle.datasketches_c.specs.declared.any_sketch.AnySketch.TheVariants.{FrequentU64};
 
 use crate::any_sketch::AnySketch;
@@ -187,6 +187,7 @@ pub extern "C" fn ds_frequent_u64_rows(
 ) -> i32
     ensures kept { handle.new.value ≡ handle.old.value }
     ensures untouched { OnRefused result ((items.new ≡ items.old) × (bounds.new ≡ bounds.old)) }
+    ensures uncounted { result ≢ ok → result ≢ no_room → count.new ≡ count.old }
     ensures rows { OnFrequentU64 handle.old.value handle.new.value result (λ s.
         WritesRows nat_eq (error_type no_false_negatives) threshold s items.old items.new bounds.old bounds.new count.new
         result) }
@@ -263,6 +264,7 @@ pub extern "C" fn ds_frequent_u64_to_bytes(
 ) -> i32
     ensures kept { handle.new.value ≡ handle.old.value }
     ensures untouched { OnRefused result (out.new ≡ out.old) }
+    ensures uncounted { result ≢ ok → result ≢ no_room → written.new ≡ written.old }
     ensures image { OnFrequentU64 handle.old.value handle.new.value result (λ s.
         WritesFrequent u64_codec (λ n. n) s out.old out.new written.new result) }
 {

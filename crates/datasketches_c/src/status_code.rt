@@ -25,6 +25,9 @@ pub const NO_ROOM: i32 = -3;
 /// A fraction is not above 0 and at most 1.
 pub const BAD_FRACTION: i32 = -4;
 
+/// Offsets into a buffer are none, or descend, or pass its end. The header for C has -5.
+pub const BAD_OFFSETS: i32 = -6;
+
 /// The number of a refusal for this fault: from -11 on.
 pub(crate) fn refusal_number(fault: Fault) -> i32
     ensures { result ≡ refusal_number fault }

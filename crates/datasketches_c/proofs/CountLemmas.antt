@@ -1,0 +1,93 @@
+-- Items that are counted one after another.
+use Rattle.std.proofs.Common.{◌≡◌, ℕ, ◌+◌, ◌-◌, ◌<◌, ◌≤◌, Bool, map, take, get_or, set, inl, inr, get_or-set_same, get_or-set_other, true, false, cond, List, [], ◌∷◌, ◌++◌, length, ℤ, pos, ◌+ℤ◌, refl, sym, ap, ◌∙◌, subst, arith}
+use Rattle.std.specs.Prelude.{◌==◌, count_by}
+use Rattle.std.proofs.lemmas.Int.{ints}
+use Rattle.std.proofs.lemmas.Bool.{cases_eq}
+use Rattle.std.proofs.lemmas.List.{length_push, length-map, length-take-le, take-map, take_all, map_more, map-set, get_or-map}
+use Rattle.std.proofs.lemmas.List.Sums.{sum_by_push}
+use Rattle.sketch_countmin.specs.Buckets.{bucket_of}
+use Rattle.sketch_countmin.specs.Rows.{cell_at}
+use Rattle.sketch_countmin.specs.State.{CountState, Counts, CountsAll, IsLeastCell}
+
+-- nothing was counted yet
+pub counts_none : (s : CountState) → CountsAll s [] s
+counts_none s = record {
+  shape = record { hashes = refl; buckets = refl; seed = refl };
+  total = omega arith;
+  cells = λ r lr b lb. omega (arith, ints);
+}
+
+by_test : (t : Bool) (z : ℤ) (n : ℕ) → (z +ℤ pos n) +ℤ cond t (pos 1) (pos 0) ≡ z +ℤ pos (n + cond t 1 0)
+by_test true z n = omega (arith, ints)
+by_test false z n = omega (arith, ints)
+
+-- one more was
+pub counts_more : (old mid new : CountState) (items : List (List ℕ)) (bytes : List ℕ) → CountsAll old items mid → Counts mid bytes (pos 1) new
+    → CountsAll old (items ++ bytes ∷ []) new
+counts_more old mid new items bytes all one = record {
+  shape = record {
+    hashes = one.shape.hashes ∙ all.shape.hashes;
+    buckets = one.shape.buckets ∙ all.shape.buckets;
+    seed = one.shape.seed ∙ all.shape.seed;
+  };
+  total = omega (arith, one.total, all.total, length_push items bytes);
+  cells = λ r lr b lb.
+      let row : r < mid.hashes = omega (arith, lr, all.shape.hashes) in
+      let place : b < mid.buckets = omega (arith, lb, all.shape.buckets) in
+      let test : List ℕ → Bool = λ other. bucket_of old.buckets old.seed r other == b in
+      let same : (bucket_of mid.buckets mid.seed r bytes == b) ≡ test bytes =
+      ap (λ (n : ℕ). bucket_of n mid.seed r bytes == b) all.shape.buckets ∙ ap (λ (n : ℕ). bucket_of old.buckets n r bytes == b) all.shape.seed in
+      one.cells r row b place
+      ∙ (ap (λ (z : ℤ). z +ℤ cond (bucket_of mid.buckets mid.seed r bytes == b) (pos 1) (pos 0)) (all.cells r lr b lb)
+      ∙ (ap (λ (t : Bool). (cell_at old.rows r b +ℤ pos (count_by test items)) +ℤ cond t (pos 1) (pos 0)) same
+      ∙ (by_test (test bytes) (cell_at old.rows r b) (count_by test items)
+      ∙ ap (λ (n : ℕ). cell_at old.rows r b +ℤ pos n) (sym (sum_by_push (λ other. cond (test other) 1 0) items bytes)))));
+}
+
+-- one more of the items
+pub counts_next : {I : Type 0} (bytes_of : I → List ℕ) (items : List I) (i : ℕ) (d : I) (old mid new : CountState) (item : I) → i < length items → item ≡ get_or items i d
+    → CountsAll old (map bytes_of (take i items)) mid → Counts mid (bytes_of item) (pos 1) new → CountsAll old (map bytes_of (take (i + 1) items)) new
+counts_next bytes_of items i d old mid new item there is all one =
+    let more : map bytes_of (take (i + 1) items) ≡ map bytes_of (take i items) ++ bytes_of item ∷ [] =
+    map_more bytes_of items i d there ∙ ap (λ x. map bytes_of (take i items) ++ bytes_of x ∷ []) (sym is) in
+    subst (λ xs. CountsAll old xs new) (sym more) (counts_more old mid new (map bytes_of (take i items)) (bytes_of item) all one)
+
+-- where there is no room for one more, the items so far are as many as there was room for
+pub counts_stop : {I : Type 0} (bytes_of : I → List ℕ) (items : List I) (i greatest : ℕ) (old mid : CountState) → i ≤ length items
+    → CountsAll old (map bytes_of (take i items)) mid → mid.total ≤ greatest → greatest < mid.total + 1
+    → CountsAll old (take (greatest - old.total) (map bytes_of items)) mid
+counts_stop bytes_of items i greatest old mid there all fits over =
+    let so_many : length (map bytes_of (take i items)) ≡ i = length-map (take i items) bytes_of ∙ length-take-le i items there in
+    let room : greatest - old.total ≡ i = omega (arith, all.total) in
+    subst (λ xs. CountsAll old xs mid) (sym (ap (λ (n : ℕ). take n (map bytes_of items)) room ∙ take-map bytes_of i items)) all
+
+-- where there was room for all, all were counted
+pub counts_whole : {I : Type 0} (bytes_of : I → List ℕ) (items : List I) (i greatest : ℕ) (old new : CountState) → i ≡ length items
+    → CountsAll old (map bytes_of (take i items)) new → new.total ≤ greatest
+    → CountsAll old (take (greatest - old.total) (map bytes_of items)) new
+counts_whole bytes_of items i greatest old new here all fits =
+    let within : length items ≤ i = omega arith in
+    let whole : map bytes_of (take i items) ≡ map bytes_of items = ap (map bytes_of) (take_all i items within) in
+    let counted : CountsAll old (map bytes_of items) new = subst (λ xs. CountsAll old xs new) whole all in
+    let room : length (map bytes_of items) ≤ greatest - old.total = omega (arith, counted.total) in
+    subst (λ xs. CountsAll old xs new) (sym (take_all (greatest - old.total) (map bytes_of items) room)) counted
+
+-- the estimates so far, and one more
+pub estimates_more : {I V : Type 0} (number : V → ℤ) (s : CountState) (bytes_of : I → List ℕ) (items : List I) (estimates : List V) (i : ℕ) (d item : I) (v : V)
+    → i < length items → i < length estimates → item ≡ get_or items i d
+    → ((k : ℕ) → k < i → IsLeastCell s (get_or (map bytes_of items) k []) (get_or (map number estimates) k (pos 0)))
+    → IsLeastCell s (bytes_of item) (number v)
+    → (k : ℕ) → k < i + 1 → IsLeastCell s (get_or (map bytes_of items) k []) (get_or (map number (set estimates i v)) k (pos 0))
+estimates_more number s bytes_of items estimates i d item v there room is so_far one k lt =
+    subst (λ (zs : List ℤ). IsLeastCell s (get_or (map bytes_of items) k []) (get_or zs k (pos 0))) (sym (map-set number estimates i v))
+    (elim (cases_eq k i) as (λ _. IsLeastCell s (get_or (map bytes_of items) k []) (get_or (set (map number estimates) i (number v)) k (pos 0))) [
+      | inl same ↦
+          let wide : i < length (map number estimates) = omega (arith, length-map estimates number) in
+          let here : get_or (map bytes_of items) k [] ≡ bytes_of item = ap (λ (n : ℕ). get_or (map bytes_of items) n []) same ∙ (get_or-map bytes_of items i d [] there ∙ ap bytes_of (sym is)) in
+          let written : get_or (set (map number estimates) i (number v)) k (pos 0) ≡ number v = ap (λ (n : ℕ). get_or (set (map number estimates) i (number v)) n (pos 0)) same ∙ get_or-set_same (map number estimates) i (number v) (pos 0) wide in
+          subst (λ (bytes : List ℕ). IsLeastCell s bytes (get_or (set (map number estimates) i (number v)) k (pos 0))) (sym here)
+          (subst (λ (z : ℤ). IsLeastCell s (bytes_of item) z) (sym written) one)
+      | inr other ↦
+          let before : k < i = omega arith in
+          subst (λ (z : ℤ). IsLeastCell s (get_or (map bytes_of items) k []) z) (sym (get_or-set_other (map number estimates) i k (number v) (pos 0) other)) (so_far k before)
+    ])

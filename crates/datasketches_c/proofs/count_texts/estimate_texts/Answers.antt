@@ -1,0 +1,14 @@
+use Rattle.std.proofs.Common.{◌<◌, [], length, arith}
+use Rattle.std.specs.Hash as fed
+use Rattle.sketch_base.specs.Hashes.{fed_bytes}
+use Rattle.datasketches_c.specs.Texts.{texts_of}
+use Rattle.datasketches_c.proofs.CountLemmas.{estimates_more}
+use Rattle.datasketches_c.proofs.count_texts.estimate_texts.Goals as goal
+
+pub each-preserved : goal.each-preserved
+each-preserved g c =
+    let texts = texts_of c.args.bytes.now c.args.offsets.now in
+    let there : c.each.i < length texts = omega arith in
+    let room : c.each.i < length c.each.estimates = omega arith in
+    estimates_more g.T.CountMinValue.number c.args.sketch.now (fed_bytes fed.str) texts c.each.estimates c.each.i [] c.text_at.result.now c.estimate.result there room c.text_at.ensures
+    c.each.invariant c.estimate.ensures.least

@@ -1,0 +1,19 @@
+-- Many texts as one buffer of bytes with offsets: each text goes from an offset to the next one.
+use Rattle.std.specs.Prelude.{ℕ, ◌+◌, ◌<◌, ◌≤◌, List, length, map, drop, slice_index, All, EachIndex}
+use Rattle.std.specs.List.{slice_range, zip}
+use Rattle.std.specs.Str.{IsUtf8}
+
+-- the texts of a buffer, one fewer than its offsets
+unfoldable pub texts_of : (bytes offsets : List ℕ) → List (List ℕ)
+texts_of bytes offsets = map (λ ends. slice_range bytes ends.0 ends.1) (zip offsets (drop 1 offsets))
+
+-- there is an offset, none is below the one before it, and none passes the end of the buffer
+pub record AreOffsets (bytes offsets : List ℕ) : Type 0 where
+  pub some : 0 < length offsets
+  pub ascending : (k : ℕ) → k + 1 < length offsets → slice_index offsets k ≤ slice_index offsets (k + 1)
+  pub within : EachIndex offsets (λ k. slice_index offsets k ≤ length bytes)
+
+-- and what lies between each offset and the next is UTF-8
+pub record AreTexts (bytes offsets : List ℕ) : Type 0 where
+  pub ends : AreOffsets bytes offsets
+  pub utf8 : All IsUtf8 (texts_of bytes offsets)

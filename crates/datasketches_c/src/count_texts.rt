@@ -1,0 +1,55 @@
+//! Count-Min sketches: many texts, whatever the type of the weights.
+ghost use Rattle.std.specs.Prelude.{◌≡◌, ◌+◌, ◌-◌, ◌<◌, ◌≤◌, length, map, take};
+ghost use Rattle.std.specs.Hash as fed;
+ghost use Rattle.sketch_base.specs.Hashes.{fed_bytes};
+ghost use Rattle.sketch_countmin.specs.State.{CountsAll};
+ghost use Rattle.datasketches_c.specs.Estimates.{AreLeastCells};
+ghost use Rattle.datasketches_c.specs.Numbers.{ok, refusal_number};
+ghost use Rattle.datasketches_c.specs.Texts.{AreTexts, texts_of};
+
+use crate::status_code::{OK, refusal_number};
+use crate::texts::{num_texts, text_at};
+use sketch_base::Fault;
+use sketch_countmin::{CountMinSketch, CountMinValue};
+
+/// Adds 1 to the weight of each text of a buffer, as far as the total has room, and answers the call's number.
+pub(crate) fn count_texts<T: CountMinValue>(
+    sketch: &mut CountMinSketch<T>,
+    bytes: &[u8],
+    offsets: &[u64],
+) -> i32
+    requires { AreTexts bytes.now offsets.now }
+    ensures counted { CountsAll sketch.old
+        (take (T.greatest - sketch.old.total) (map (fed_bytes fed.str) (texts_of bytes.now offsets.now))) sketch.new }
+    ensures done { sketch.old.total + length (texts_of bytes.now offsets.now) ≤ T.greatest → result ≡ ok }
+    ensures overflow { T.greatest < sketch.old.total + length (texts_of bytes.now offsets.now)
+        → result ≡ refusal_number Fault.WeightOverflow }
+{
+    // for the prover: it brings in what holds of every sketch
+    let _ = sketch.num_hashes();
+    let count = num_texts(bytes, offsets);
+    'each: for i in 0..count {
+        let Ok(()) = sketch.update(text_at(bytes, offsets, i)) else {
+            return refusal_number(Fault::WeightOverflow);
+        };
+    }
+    OK
+}
+
+/// Writes down the estimate of the weight of each text of a buffer.
+pub(crate) fn estimate_texts<T: CountMinValue>(
+    sketch: &CountMinSketch<T>,
+    bytes: &[u8],
+    offsets: &[u64],
+    estimates: &mut [T],
+)
+    requires texts { AreTexts bytes.now offsets.now }
+    requires same { length estimates.old + 1 ≡ length offsets.now }
+    ensures length { length estimates.new ≡ length estimates.old }
+    ensures estimates { AreLeastCells sketch.now (fed_bytes fed.str) (texts_of bytes.now offsets.now) (map T.number estimates.new) }
+{
+    let count = num_texts(bytes, offsets);
+    'each: for i in 0..count {
+        estimates[i] = sketch.estimate(text_at(bytes, offsets, i));
+    }
+}

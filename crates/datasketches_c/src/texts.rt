@@ -1,0 +1,65 @@
+//! Many texts as one buffer of bytes with offsets.
+//!
+//! n texts have n + 1 offsets, of 64 bits each, as in Arrow's `large_utf8`: a buffer may then be longer than 2^31 bytes, and a caller
+//! who has 32-bit offsets widens them.
+ghost use Rattle.std.specs.Prelude.{◌≡◌, ◌+◌, ◌<◌, ◌↔◌, [], length, slice_index_or, All, IsTrue};
+ghost use Rattle.std.specs.Str.{IsUtf8};
+ghost use Rattle.datasketches_c.specs.Texts.{AreOffsets, AreTexts, texts_of};
+
+/// Whether there is an offset, none is below the one before it, and none passes the end of the buffer.
+pub(crate) fn are_offsets(bytes: &[u8], offsets: &[u64]) -> bool
+    ensures { IsTrue result ↔ AreOffsets bytes.now offsets.now }
+{
+    let end = bytes.len() as u64;
+    'each: for i in 0..offsets.len() {
+        if offsets[i] > end {
+            return false;
+        }
+        if i > 0 && offsets[i] < offsets[i - 1] {
+            return false;
+        }
+    }
+    !offsets.is_empty()
+}
+
+/// How many texts the buffer has.
+pub(crate) fn num_texts(bytes: &[u8], offsets: &[u64]) -> usize
+    requires { AreOffsets bytes.now offsets.now }
+    ensures texts { result ≡ length (texts_of bytes.now offsets.now) }
+    ensures offsets { result + 1 ≡ length offsets.now }
+{
+    offsets.len() - 1
+}
+
+/// The bytes of a text.
+fn bytes_at<'a>(bytes: &'a [u8], offsets: &[u64], i: usize) -> &'a [u8]
+    requires offsets { AreOffsets bytes.now offsets.now }
+    requires there { i + 1 < length offsets.now }
+    ensures { result.now ≡ slice_index_or (texts_of bytes.now offsets.now) i [] }
+{
+    &bytes[offsets[i] as usize..offsets[i + 1] as usize]
+}
+
+/// Whether what lies between each offset and the next is UTF-8.
+pub(crate) fn are_utf8(bytes: &[u8], offsets: &[u64]) -> bool
+    requires { AreOffsets bytes.now offsets.now }
+    ensures { IsTrue result ↔ All IsUtf8 (texts_of bytes.now offsets.now) }
+{
+    let count = num_texts(bytes, offsets);
+    'each: for i in 0..count {
+        let Ok(_) = str::from_utf8(bytes_at(bytes, offsets, i)) else {
+            return false;
+        };
+    }
+    true
+}
+
+/// A text.
+#[inline]
+pub(crate) fn text_at<'a>(bytes: &'a [u8], offsets: &[u64], i: usize) -> &'a str
+    requires texts { AreTexts bytes.now offsets.now }
+    requires there { i + 1 < length offsets.now }
+    ensures { result.now ≡ slice_index_or (texts_of bytes.now offsets.now) i [] }
+{
+    unsafe { str::from_utf8_unchecked(bytes_at(bytes, offsets, i)) }
+}
