@@ -1,9 +1,9 @@
 -- Uses as they age, in a history and as plain numbers.
-use Rattle.std.proofs.Common.{◌≡◌, ℕ, ◌+◌, ◌/◌, ◌≤◌, ◌==◌, Bool, true, false, cond, List, [], ◌∷◌, ◌++◌, fold, refl, sym, ap, subst, ◌∙◌, arith}
-use Rattle.std.specs.Prelude.{ℤ, pos, unsigned_abs, ◌+ℤ◌, ◌≤ℤ◌, if◌then◌else◌}
+use Rattle.std.proofs.Common.{◌≡◌, ℕ, ◌+◌, ◌/◌, ◌<◌, ◌≤◌, ◌==◌, Bool, true, false, cond, List, [], ◌∷◌, ◌++◌, fold, refl, sym, ap, subst, ◌∙◌, arith}
+use Rattle.std.specs.Prelude.{ℤ, pos, unsigned_abs, ◌+ℤ◌, ◌≤ℤ◌, ◌↔◌, IsTrue, nat_lt, if◌then◌else◌}
 use Rattle.std.specs.Str.{bytes_eq}
 use Rattle.std.proofs.Common.{eq-eqb}
-use Rattle.std.proofs.lemmas.Bool.{ne_eqb}
+use Rattle.std.proofs.lemmas.Bool.{ne_eqb, ltb-true, lt-ltb}
 use Rattle.std.proofs.lemmas.Int.{ints}
 use Rattle.std.proofs.lemmas.List.Sums.{fold_push}
 use Rattle.std.proofs.lemmas.List.Folds.{fold_along}
@@ -11,7 +11,7 @@ use Rattle.sketch_countmin.specs.Buckets.{bucket_of}
 use Rattle.sketch_countmin.specs.History.{CountHistory, absolute_weight, own_value, IsNonnegative}
 use Rattle.sketch_countmin.specs.History.CountHistory.{New, Update, Halve}
 use Rattle.sketch_countmin.specs.Stands.{StandsFor, Extends}
-use Rattle.sketch_countmin.specs.State.{CountState, SameShape, Counts, IsLeastCell, IsCountState, halved_state}
+use Rattle.sketch_countmin.specs.State.{CountState, IsCountState, SameShape, Counts, IsLeast, IsLeastCell, item_cell, halved_state}
 use Rattle.sketch_countmin.specs.Values.{halved}
 use Rattle.uses.specs.Admissions.{AdmissionState, Aged, aged_by, aged, aged_share, after_use, HasSeen, Touches}
 
@@ -130,3 +130,18 @@ seen_more recent counted window used same more room uses seen =
     ∙ ap (λ (b : Bool). if b then Halve (Update h used (pos 1)) else Update h used (pos 1)) test in
     seen_shape counted recent window (uses ++ used ∷ []) same
     (subst (λ (g : CountHistory). StandsFor counted g) (sym after) stands)
+
+-- there is one least number
+least_below : (n : ℕ) (f : ℕ → ℤ) (x y : ℤ) → IsLeast n f x → IsLeast n f y → x ≤ℤ y
+least_below n f x y p q = subst (λ (z : ℤ). x ≤ℤ z) (sym q.reached.2) (p.below q.reached.0 q.reached.1)
+
+least_same : (n : ℕ) (f : ℕ → ℤ) (x y : ℕ) → IsLeast n f (pos x) → IsLeast n f (pos y) → x ≡ y
+least_same n f x y p q = omega (arith, ints, least_below n f (pos x) (pos y) p q, least_below n f (pos y) (pos x) q p)
+
+-- so a comparison of two estimates is that of the least cells
+pub admits_so : (s : CountState) (newcomer victim : List ℕ) (a b : ℕ) → IsLeastCell s newcomer (pos a) → IsLeastCell s victim (pos b)
+    → (n v : ℕ) → IsLeastCell s newcomer (pos n) → IsLeastCell s victim (pos v) → IsTrue (nat_lt b a) ↔ (v < n)
+admits_so s newcomer victim a b p q n v p' q' =
+    let e : a ≡ n = least_same s.hashes (item_cell s newcomer) a n p p' in
+    let f : b ≡ v = least_same s.hashes (item_cell s victim) b v q q' in
+    (λ more. let lt : b < a = ltb-true b a more in omega arith, λ lt. lt-ltb b a (omega arith))

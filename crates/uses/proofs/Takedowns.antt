@@ -10,7 +10,7 @@ use Rattle.std.specs.Str.{bytes_eq}
 use Rattle.sketch_bloom.specs.BitSet.{Numbers}
 use Rattle.sketch_bloom.specs.History.{BloomHistory, words_of, hashes_of, seed_of, all_inserted_after, denoted_set}
 use Rattle.sketch_bloom.specs.History.BloomHistory.{New, Insert, Difference}
-use Rattle.sketch_bloom.specs.Laws.{InsertedIsContained, DifferenceTakesAway}
+use Rattle.sketch_bloom.specs.Laws.{InsertedIsContained, DifferenceTakesAway, DifferenceAddsNothing}
 use Rattle.sketch_bloom.specs.Positions.{positions_of}
 use Rattle.sketch_bloom.specs.Stands.{StandsFor, Extends, ExtendsBoth}
 use Rattle.sketch_bloom.specs.State.{FilterState, IsFilterState, IsCompatible, contains_item, item_positions, inserted, all_inserted, cleared, subtracted}
@@ -148,3 +148,9 @@ pub follows_either : {E : Type 0} (old cleared' batch new : FilterState) (items 
     → OnOk r ((entries : List Entry) → Follows old entries → Follows new (entries ++ TakenBack items ∷ []))
 follows_either old cleared' batch new items (Ok x) e inserts differs is = follows_without old cleared' batch new items e inserts differs is
 follows_either old cleared' batch new items (Err x) e inserts differs is = tt
+
+-- nothing is contained that was not
+pub no_more_either : {E : Type 0} → DifferenceAddsNothing → (s batch new : FilterState) (r : Result (Unit {0}) E) → OnOk r (new ≡ subtracted s batch)
+    → OnOk r ((item : List ℕ) → contains_item new item ≡ true → contains_item s item ≡ true)
+no_more_either law s batch new (Ok x) is = λ item has. law s batch item (subst (λ (t : FilterState). contains_item t item ≡ true) is has)
+no_more_either law s batch new (Err e) is = tt

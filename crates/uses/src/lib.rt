@@ -8,4 +8,5 @@ pub mod join_prefilter;
 pub mod takedown;
 
 pub use sketch_base::{Error, ErrorKind, Fault};
+pub use sketch_bloom::BloomFilterBuilder;
 pub use sketch_frequencies::Row;

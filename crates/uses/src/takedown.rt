@@ -74,6 +74,8 @@ impl TakedownList {
         ensures gone { OnOk result ((item : List ℕ)
             → list_any (bytes_eq item) (map (fed_bytes T.hash_input) items.now) ≡ true
             → contains_item self.new item ≡ false) }
+        ensures no_more { OnOk result ((item : List ℕ) → contains_item self.new item ≡ true
+            → contains_item self.old item ≡ true) }
         ensures err { OnErr result (self.new ≡ self.old) }
         ensures memory { IfErr result (λ e. e ≡ no_memory) }
     {
