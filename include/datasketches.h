@@ -223,6 +223,16 @@ int32_t ds_count_u64_update_all_i64(ds_sketch *handle, const int64_t *items, siz
 int32_t ds_count_u64_update_all_text(ds_sketch *handle, const uint8_t *bytes, size_t num_bytes, const uint64_t *offsets,
                                      size_t num_offsets);
 
+/* Adds a weight to that of each item, one after another: as many weights as items, else refused by DS_NO_ROOM. Refused by
+ * DS_WEIGHT_OVERFLOW where the total has no room for all weights: then, as at every refusal, none is added. */
+int32_t ds_count_u64_update_all_weighted_u64(ds_sketch *handle, const uint64_t *items, size_t count, const uint64_t *weights,
+                                             size_t num_weights);
+int32_t ds_count_u64_update_all_weighted_i64(ds_sketch *handle, const int64_t *items, size_t count, const uint64_t *weights,
+                                             size_t num_weights);
+int32_t ds_count_u64_update_all_weighted_text(ds_sketch *handle, const uint8_t *bytes, size_t num_bytes,
+                                              const uint64_t *offsets, size_t num_offsets, const uint64_t *weights,
+                                              size_t num_weights);
+
 /* Writes down the estimate of an item's weight: its least cell. */
 int32_t ds_count_u64_estimate_u64(ds_sketch *handle, uint64_t item, uint64_t *estimate);
 int32_t ds_count_u64_estimate_i64(ds_sketch *handle, int64_t item, uint64_t *estimate);
@@ -283,6 +293,13 @@ int32_t ds_count_i64_update_all_u64(ds_sketch *handle, const uint64_t *items, si
 int32_t ds_count_i64_update_all_i64(ds_sketch *handle, const int64_t *items, size_t count);
 int32_t ds_count_i64_update_all_text(ds_sketch *handle, const uint8_t *bytes, size_t num_bytes, const uint64_t *offsets,
                                      size_t num_offsets);
+int32_t ds_count_i64_update_all_weighted_u64(ds_sketch *handle, const uint64_t *items, size_t count, const int64_t *weights,
+                                             size_t num_weights);
+int32_t ds_count_i64_update_all_weighted_i64(ds_sketch *handle, const int64_t *items, size_t count, const int64_t *weights,
+                                             size_t num_weights);
+int32_t ds_count_i64_update_all_weighted_text(ds_sketch *handle, const uint8_t *bytes, size_t num_bytes,
+                                              const uint64_t *offsets, size_t num_offsets, const int64_t *weights,
+                                              size_t num_weights);
 int32_t ds_count_i64_estimate_u64(ds_sketch *handle, uint64_t item, int64_t *estimate);
 int32_t ds_count_i64_estimate_i64(ds_sketch *handle, int64_t item, int64_t *estimate);
 int32_t ds_count_i64_estimate_text(ds_sketch *handle, const uint8_t *item, size_t length, int64_t *estimate);
@@ -344,6 +361,17 @@ int32_t ds_frequent_u64_update_all(ds_sketch *handle, const uint64_t *items, siz
 int32_t ds_frequent_i64_update_all(ds_sketch *handle, const int64_t *items, size_t count);
 int32_t ds_frequent_text_update_all(ds_sketch *handle, const uint8_t *bytes, size_t num_bytes, const uint64_t *offsets,
                                     size_t num_offsets);
+
+/* Adds a weight to that of each item, one after another: as many weights as items, else refused by DS_NO_ROOM. Refused by
+ * DS_WEIGHT_OVERFLOW where the weight of all items would pass 2^64 - 1: then none is added. Refused by DS_NO_MEMORY at the
+ * first item for which there is no memory: then the items before it are added, and neither it nor those behind it. */
+int32_t ds_frequent_u64_update_all_weighted(ds_sketch *handle, const uint64_t *items, size_t count, const uint64_t *weights,
+                                            size_t num_weights);
+int32_t ds_frequent_i64_update_all_weighted(ds_sketch *handle, const int64_t *items, size_t count, const uint64_t *weights,
+                                            size_t num_weights);
+int32_t ds_frequent_text_update_all_weighted(ds_sketch *handle, const uint8_t *bytes, size_t num_bytes,
+                                             const uint64_t *offsets, size_t num_offsets, const uint64_t *weights,
+                                             size_t num_weights);
 
 /* Forgets everything but the greatest size and the sample size. */
 int32_t ds_frequent_u64_reset(ds_sketch *handle);
@@ -481,6 +509,9 @@ DS_READS_AND(ds_count_u64_update_text, uint8_t, uint64_t)
 DS_READS(ds_count_u64_update_all_u64, uint64_t)
 DS_READS(ds_count_u64_update_all_i64, int64_t)
 DS_READS_TEXTS(ds_count_u64_update_all_text)
+DS_ANSWERS(ds_count_u64_update_all_weighted_u64, uint64_t, const uint64_t)
+DS_ANSWERS(ds_count_u64_update_all_weighted_i64, int64_t, const uint64_t)
+DS_ANSWERS_TEXTS(ds_count_u64_update_all_weighted_text, const uint64_t)
 DS_READS_AND(ds_count_u64_estimate_text, uint8_t, uint64_t *)
 DS_ANSWERS(ds_count_u64_estimate_all_u64, uint64_t, uint64_t)
 DS_ANSWERS(ds_count_u64_estimate_all_i64, int64_t, uint64_t)
@@ -493,6 +524,9 @@ DS_READS_AND(ds_count_i64_update_text, uint8_t, int64_t)
 DS_READS(ds_count_i64_update_all_u64, uint64_t)
 DS_READS(ds_count_i64_update_all_i64, int64_t)
 DS_READS_TEXTS(ds_count_i64_update_all_text)
+DS_ANSWERS(ds_count_i64_update_all_weighted_u64, uint64_t, const int64_t)
+DS_ANSWERS(ds_count_i64_update_all_weighted_i64, int64_t, const int64_t)
+DS_ANSWERS_TEXTS(ds_count_i64_update_all_weighted_text, const int64_t)
 DS_READS_AND(ds_count_i64_estimate_text, uint8_t, int64_t *)
 DS_ANSWERS(ds_count_i64_estimate_all_u64, uint64_t, int64_t)
 DS_ANSWERS(ds_count_i64_estimate_all_i64, int64_t, int64_t)
@@ -509,6 +543,9 @@ DS_JOINS(ds_frequent_text_merge)
 DS_READS(ds_frequent_u64_update_all, uint64_t)
 DS_READS(ds_frequent_i64_update_all, int64_t)
 DS_READS_TEXTS(ds_frequent_text_update_all)
+DS_ANSWERS(ds_frequent_u64_update_all_weighted, uint64_t, const uint64_t)
+DS_ANSWERS(ds_frequent_i64_update_all_weighted, int64_t, const uint64_t)
+DS_ANSWERS_TEXTS(ds_frequent_text_update_all_weighted, const uint64_t)
 DS_WRITES(ds_frequent_u64_to_bytes)
 DS_WRITES(ds_frequent_i64_to_bytes)
 DS_WRITES(ds_frequent_text_to_bytes)
@@ -543,6 +580,12 @@ DS_ROWS(ds_frequent_i64_rows, int64_t)
 #define ds_count_u64_update_all_i64(handle, items, count) ds_count_u64_update_all_i64_checked(handle, items, count)
 #define ds_count_u64_update_all_text(handle, bytes, num_bytes, offsets, num_offsets) \
     ds_count_u64_update_all_text_checked(handle, bytes, num_bytes, offsets, num_offsets)
+#define ds_count_u64_update_all_weighted_u64(handle, items, count, weights, num_weights) \
+    ds_count_u64_update_all_weighted_u64_checked(handle, items, count, weights, num_weights)
+#define ds_count_u64_update_all_weighted_i64(handle, items, count, weights, num_weights) \
+    ds_count_u64_update_all_weighted_i64_checked(handle, items, count, weights, num_weights)
+#define ds_count_u64_update_all_weighted_text(handle, bytes, num_bytes, offsets, num_offsets, weights, num_weights) \
+    ds_count_u64_update_all_weighted_text_checked(handle, bytes, num_bytes, offsets, num_offsets, weights, num_weights)
 #define ds_count_u64_estimate_text(handle, item, length, estimate) \
     ds_count_u64_estimate_text_checked(handle, item, length, estimate)
 #define ds_count_u64_estimate_all_u64(handle, items, count, estimates, room) \
@@ -564,6 +607,12 @@ DS_ROWS(ds_frequent_i64_rows, int64_t)
 #define ds_count_i64_update_all_i64(handle, items, count) ds_count_i64_update_all_i64_checked(handle, items, count)
 #define ds_count_i64_update_all_text(handle, bytes, num_bytes, offsets, num_offsets) \
     ds_count_i64_update_all_text_checked(handle, bytes, num_bytes, offsets, num_offsets)
+#define ds_count_i64_update_all_weighted_u64(handle, items, count, weights, num_weights) \
+    ds_count_i64_update_all_weighted_u64_checked(handle, items, count, weights, num_weights)
+#define ds_count_i64_update_all_weighted_i64(handle, items, count, weights, num_weights) \
+    ds_count_i64_update_all_weighted_i64_checked(handle, items, count, weights, num_weights)
+#define ds_count_i64_update_all_weighted_text(handle, bytes, num_bytes, offsets, num_offsets, weights, num_weights) \
+    ds_count_i64_update_all_weighted_text_checked(handle, bytes, num_bytes, offsets, num_offsets, weights, num_weights)
 #define ds_count_i64_estimate_text(handle, item, length, estimate) \
     ds_count_i64_estimate_text_checked(handle, item, length, estimate)
 #define ds_count_i64_estimate_all_u64(handle, items, count, estimates, room) \
@@ -590,6 +639,12 @@ DS_ROWS(ds_frequent_i64_rows, int64_t)
 #define ds_frequent_i64_update_all(handle, items, count) ds_frequent_i64_update_all_checked(handle, items, count)
 #define ds_frequent_text_update_all(handle, bytes, num_bytes, offsets, num_offsets) \
     ds_frequent_text_update_all_checked(handle, bytes, num_bytes, offsets, num_offsets)
+#define ds_frequent_u64_update_all_weighted(handle, items, count, weights, num_weights) \
+    ds_frequent_u64_update_all_weighted_checked(handle, items, count, weights, num_weights)
+#define ds_frequent_i64_update_all_weighted(handle, items, count, weights, num_weights) \
+    ds_frequent_i64_update_all_weighted_checked(handle, items, count, weights, num_weights)
+#define ds_frequent_text_update_all_weighted(handle, bytes, num_bytes, offsets, num_offsets, weights, num_weights) \
+    ds_frequent_text_update_all_weighted_checked(handle, bytes, num_bytes, offsets, num_offsets, weights, num_weights)
 #define ds_frequent_u64_to_bytes(handle, out, capacity, written) \
     ds_frequent_u64_to_bytes_checked(handle, out, capacity, written)
 #define ds_frequent_i64_to_bytes(handle, out, capacity, written) \

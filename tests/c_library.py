@@ -257,9 +257,10 @@ def runs_by_chance(count):
     while len(lines) < count:
         name = chance.choice("fgcdst")
         verb = "ask" if chance.random() < 0.4 else "insert" if name in "fg" else "add"
+        weights = [1] if chance.random() < 0.5 else [0, 1, 7, 1 << 40]
         for _ in range(chance.choice([1, 2, 17, 200])):
             text = chance.choice(texts)
-            lines.append(f"add {name} 1 {text}" if verb == "add" else f"{verb} {name} {text}")
+            lines.append(f"add {name} {chance.choice(weights)} {text}" if verb == "add" else f"{verb} {name} {text}")
     return lines
 
 

@@ -64,11 +64,33 @@ static void insert(ds_sketch *handle, struct texts *all)
     for (size_t i = 0; i < all->count; i++) puts("ok");
 }
 
-static void add(ds_sketch *handle, struct texts *all)
+/* Whether all weights are 1. */
+static int are_ones(const struct texts *all)
+{
+    for (size_t i = 0; i < all->count; i++)
+        if (all->weights[i] != 1) return 0;
+    return 1;
+}
+
+static int32_t add_ones(ds_sketch *handle, struct texts *all)
 {
     int32_t answer = ds_count_u64_update_all_text(handle, all->bytes, all->length, all->offsets, all->count + 1);
-    if (answer == DS_WRONG_KIND) answer = ds_frequent_text_update_all(handle, all->bytes, all->length, all->offsets, all->count + 1);
-    if (answer != DS_OK) abort();
+    if (answer != DS_WRONG_KIND) return answer;
+    return ds_frequent_text_update_all(handle, all->bytes, all->length, all->offsets, all->count + 1);
+}
+
+static int32_t add_weights(ds_sketch *handle, struct texts *all)
+{
+    size_t count = all->count;
+    int32_t answer =
+        ds_count_u64_update_all_weighted_text(handle, all->bytes, all->length, all->offsets, count + 1, all->weights, count);
+    if (answer != DS_WRONG_KIND) return answer;
+    return ds_frequent_text_update_all_weighted(handle, all->bytes, all->length, all->offsets, count + 1, all->weights, count);
+}
+
+static void add(ds_sketch *handle, struct texts *all)
+{
+    if ((are_ones(all) ? add_ones : add_weights)(handle, all) != DS_OK) abort();
     for (size_t i = 0; i < all->count; i++) puts("ok");
 }
 

@@ -456,6 +456,81 @@ static void many_texts(void)
     ds_free(&frequent);
 }
 
+/* Many items, each with a weight. */
+static void weights(void)
+{
+    ds_sketch count = DS_NONE, signs = DS_NONE, numbers = DS_NONE, below = DS_NONE, texts = DS_NONE;
+    ds_count_numbers counted;
+    ds_frequent_numbers weighed;
+    ds_frequent_bounds bounds;
+    const uint64_t items[3] = {3, 4, 3}, some[3] = {5, 0, 2}, most[3] = {1, UINT64_MAX - 15, 1};
+    const int64_t same[3] = {3, -4, 3}, with_sign[3] = {5, -7, 0}, least[3] = {0, INT64_MIN, 0};
+    const uint64_t of_four[4] = {1, 2, 0, 9};
+    const int64_t signs_of_four[4] = {-1, 2, 0, 9};
+    uint64_t estimates[4];
+    int64_t estimate;
+    const size_t bytes = sizeof MANY - 1;
+
+    CHECK(ds_count_u64_update_all_weighted_u64(&count, items, 3, some, 3) == DS_NO_SKETCH);
+    CHECK(ds_count_u64_new(&count, 4, 128, 9001) == DS_OK && ds_count_i64_new(&signs, 4, 128, 9001) == DS_OK);
+    CHECK(ds_count_u64_update_all_weighted_u64(&count, items, 3, some, 3) == DS_OK);
+    CHECK(ds_count_u64_estimate_all_u64(&count, items, 3, estimates, 3) == DS_OK && estimates[0] == 7 && estimates[1] == 0);
+    CHECK(ds_count_u64_update_all_weighted_i64(&count, same, 3, some, 3) == DS_OK);
+    CHECK(ds_count_u64_estimate_i64(&count, 3, estimates) == DS_OK && estimates[0] == 14);
+    CHECK(ds_count_u64_update_all_weighted_i64(&count, same, 3, some, 2) == DS_NO_ROOM);
+    CHECK(ds_count_u64_update_all_weighted_u64(&count, NULL, 0, NULL, 0) == DS_OK);
+    CHECK(ds_count_u64_update_all_weighted_u64(&count, items, 1, NULL, 1) == DS_BAD_ARGUMENT);
+    /* the last weight has no room, so none is added */
+    CHECK(ds_count_u64_update_all_weighted_u64(&count, items, 3, most, 3) == DS_WEIGHT_OVERFLOW);
+    CHECK(ds_count_u64_status(&count, &counted) == DS_OK && counted.total_weight == 14);
+    CHECK(ds_count_u64_update_all_weighted_u64(&count, items, 2, most, 2) == DS_OK);
+    CHECK(ds_count_u64_status(&count, &counted) == DS_OK && counted.total_weight == UINT64_MAX);
+    CHECK(ds_count_i64_update_all_weighted_i64(&signs, same, 3, with_sign, 3) == DS_OK);
+    CHECK(ds_count_i64_estimate_i64(&signs, -4, &estimate) == DS_OK && estimate == -7);
+    CHECK(ds_count_i64_status(&signs, &counted) == DS_OK && counted.total_weight == 12);
+    CHECK(ds_count_i64_update_all_weighted_u64(&signs, items, 3, least, 3) == DS_WEIGHT_OVERFLOW);
+    CHECK(ds_count_i64_update_all_weighted_u64(&signs, items, 3, with_sign, 4) == DS_NO_ROOM);
+    CHECK(ds_count_i64_update_all_weighted_u64(&signs, items, 3, with_sign, 3) == DS_OK);
+    CHECK(ds_count_i64_estimate_u64(&signs, 3, &estimate) == DS_OK && estimate == 10);
+    CHECK(ds_count_u64_update_all_weighted_u64(&signs, items, 3, some, 3) == DS_WRONG_KIND);
+
+    CHECK(ds_count_u64_new(&count, 4, 128, 9001) == DS_OK && ds_count_i64_new(&signs, 4, 128, 9001) == DS_OK);
+    CHECK(ds_count_u64_update_all_weighted_text(&count, MANY, bytes, ENDS, 5, of_four, 4) == DS_OK);
+    CHECK(ds_count_u64_estimate_all_text(&count, MANY, bytes, ENDS, 5, estimates, 4) == DS_OK);
+    CHECK(estimates[0] == 1 && estimates[1] == 2 && estimates[2] == 0 && estimates[3] == 9);
+    CHECK(ds_count_u64_update_all_weighted_text(&count, MANY, bytes, ENDS, 5, of_four, 5) == DS_NO_ROOM);
+    CHECK(ds_count_u64_update_all_weighted_text(&count, MANY, bytes - 1, ENDS, 5, of_four, 4) == DS_BAD_OFFSETS);
+    CHECK(ds_count_u64_update_all_weighted_text(&count, MANY, bytes, BAD_ENDS[0].offsets, 0, of_four, 0) == DS_BAD_OFFSETS);
+    CHECK(ds_count_i64_update_all_weighted_text(&signs, MANY, bytes, ENDS, 5, signs_of_four, 4) == DS_OK);
+    CHECK(ds_count_i64_estimate_text(&signs, MANY + 1, 5, &estimate) == DS_OK && estimate == -1);
+
+    CHECK(ds_frequent_u64_new(&numbers, 64, 48) == DS_OK && ds_frequent_i64_new(&below, 64, 48) == DS_OK);
+    CHECK(ds_frequent_text_new(&texts, 64, 48) == DS_OK);
+    CHECK(ds_frequent_u64_update_all_weighted(&numbers, items, 3, some, 3) == DS_OK);
+    CHECK(ds_frequent_u64_bounds(&numbers, 3, &bounds) == DS_OK && bounds.lower_bound == 7 && bounds.upper_bound == 7);
+    CHECK(ds_frequent_u64_status(&numbers, &weighed) == DS_OK && weighed.num_active_items == 1 && weighed.total_weight == 7);
+    CHECK(ds_frequent_u64_update_all_weighted(&numbers, items, 3, some, 2) == DS_NO_ROOM);
+    CHECK(ds_frequent_u64_update_all_weighted(&numbers, items, 3, most, 3) == DS_OK);
+    CHECK(ds_frequent_u64_update_all_weighted(&numbers, items, 3, some, 3) == DS_WEIGHT_OVERFLOW);
+    CHECK(ds_frequent_u64_status(&numbers, &weighed) == DS_OK && weighed.total_weight == UINT64_MAX - 6);
+    CHECK(ds_frequent_i64_update_all_weighted(&below, same, 3, some, 3) == DS_OK);
+    CHECK(ds_frequent_i64_bounds(&below, 3, &bounds) == DS_OK && bounds.estimate == 7);
+    CHECK(ds_frequent_text_update_all_weighted(&texts, MANY, bytes, ENDS, 5, of_four, 4) == DS_OK);
+    CHECK(ds_frequent_text_bounds(&texts, MANY + 9, 4, &bounds) == DS_OK && bounds.estimate == 9);
+    CHECK(ds_frequent_text_status(&texts, &weighed) == DS_OK && weighed.num_active_items == 3 && weighed.total_weight == 12);
+    CHECK(ds_frequent_text_update_all_weighted(&texts, MANY, bytes, ENDS, 5, of_four, 3) == DS_NO_ROOM);
+    CHECK(ds_frequent_text_update_all_weighted(&texts, MANY, bytes - 1, ENDS, 5, of_four, 4) == DS_BAD_OFFSETS);
+    CHECK(ds_frequent_text_update_all_weighted(&texts, MANY, bytes, ENDS, 4, most, 3) == DS_OK);
+    CHECK(ds_frequent_text_update_all_weighted(&texts, MANY, bytes, ENDS, 4, most, 3) == DS_WEIGHT_OVERFLOW);
+    CHECK(ds_frequent_text_status(&texts, &weighed) == DS_OK && weighed.total_weight == UINT64_MAX - 1);
+    CHECK(ds_frequent_text_update_all_weighted(&numbers, MANY, bytes, ENDS, 5, of_four, 4) == DS_WRONG_KIND);
+    ds_free(&count);
+    ds_free(&signs);
+    ds_free(&numbers);
+    ds_free(&below);
+    ds_free(&texts);
+}
+
 static void *fill(void *argument)
 {
     ds_sketch *handle = argument;
@@ -501,6 +576,7 @@ int main(void)
     frequent_signed_numbers();
     frequent_texts();
     many_texts();
+    weights();
     threads();
     names();
     printf("%d of %d checks hold\n", checks - failures, checks);

@@ -56,16 +56,25 @@ static void write_texts(void)
     }
 }
 
-/* Whether all texts are added: where memory is refused to one, those before it are, and the call goes on with it. */
-static int adds_texts(ds_sketch *handle)
+/* Adds the texts from one on: each with the weight 1, or with weights. */
+static int32_t add_texts(ds_sketch *handle, size_t from, const uint64_t *weights)
 {
-    uint64_t before_all = weight_of(handle);
-    int32_t answer = ds_frequent_text_update_all(handle, letters, sizeof letters, ends, 65);
+    size_t count = 64 - from;
+    if (!weights) return ds_frequent_text_update_all(handle, letters, sizeof letters, ends + from, count + 1);
+    return ds_frequent_text_update_all_weighted(handle, letters, sizeof letters, ends + from, count + 1, weights + from, count);
+}
+
+/* Whether all texts are added: where memory is refused to one, those before it are, and the call goes on with it. */
+static int adds_texts(ds_sketch *handle, const uint64_t *weights)
+{
+    uint64_t start = weight_of(handle), whole = weights ? 128 : 64;
+    int32_t answer = add_texts(handle, 0, weights);
     if (answer == DS_NO_MEMORY) {
-        uint64_t added = weight_of(handle) - before_all;
-        answer = added < 64 ? ds_frequent_text_update_all(handle, letters, sizeof letters, ends + added, (size_t)(65 - added)) : DS_BAD_OFFSETS;
+        uint64_t added = weight_of(handle) - start;
+        if (added >= whole || added % (whole / 64)) return 0;
+        answer = add_texts(handle, (size_t)(added / (whole / 64)), weights);
     }
-    return answer == DS_OK && weight_of(handle) == before_all + 64;
+    return answer == DS_OK && weight_of(handle) == start + whole;
 }
 
 int main(void)
@@ -107,7 +116,9 @@ int main(void)
     if (ds_frequent_u64_status(&copy, &numbers) != DS_OK || numbers.total_weight != 2080) return 1;
     write_texts();
     DONE(&frequent, ds_frequent_text_new(&frequent, 64, 48));
-    if (!adds_texts(&frequent) || !adds_texts(&frequent)) return 1;
+    if (!adds_texts(&frequent, NULL) || !adds_texts(&frequent, NULL)) return 1;
+    for (uint64_t i = 0; i < 64; i++) items[i] = 2;
+    if (!adds_texts(&frequent, items)) return 1;
     DONE(&filter, ds_filter_insert_all_text(&filter, letters, sizeof letters, ends, 65));
     DONE(&count, ds_count_u64_update_all_text(&count, letters, sizeof letters, ends, 65));
     ds_free(&frequent);

@@ -1,8 +1,8 @@
 -- Items that are counted one after another.
 use Rattle.std.proofs.Common.{◌≡◌, ℕ, ◌+◌, ◌-◌, ◌<◌, ◌≤◌, Bool, map, take, get_or, set, inl, inr, get_or-set_same, get_or-set_other, true, false, cond, List, [], ◌∷◌, ◌++◌, length, ℤ, pos, ◌+ℤ◌, refl, sym, ap, ◌∙◌, subst, arith}
-use Rattle.std.specs.Prelude.{◌==◌, count_by}
+use Rattle.std.specs.Prelude.{◌==◌, count_by, Result, Ok, Err, IsOk, OnOk}
 use Rattle.std.proofs.lemmas.Int.{ints}
-use Rattle.std.proofs.lemmas.Bool.{cases_eq}
+use Rattle.std.proofs.lemmas.Bool.{cases_eq, false≢true}
 use Rattle.std.proofs.lemmas.List.{length_push, length-map, length-take-le, take-map, take_all, map_more, map-set, get_or-map}
 use Rattle.std.proofs.lemmas.List.Sums.{sum_by_push}
 use Rattle.sketch_countmin.specs.Buckets.{bucket_of}
@@ -91,3 +91,8 @@ estimates_more number s bytes_of items estimates i d item v there room is so_far
           let before : k < i = omega arith in
           subst (λ (z : ℤ). IsLeastCell s (get_or (map bytes_of items) k []) z) (sym (get_or-set_other (map number estimates) i k (number v) (pos 0) other)) (so_far k before)
     ])
+
+-- what is said of a call that was done
+pub ok_said : {V E : Type 0} (r : Result V E) (P : Type 0) → IsOk r → OnOk r P → P
+ok_said (Ok x) P is said = said
+ok_said (Err e) P is said = absurd (false≢true is)

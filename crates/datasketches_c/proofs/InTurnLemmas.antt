@@ -64,7 +64,7 @@ from_refused (pos n) P done other p = absurd (other done)
 from_refused (negsuc n) P done other p = p
 
 -- an answer that was handed on
-same_answer : (answer : ℤ) → mag answer < 2147483648 → to_z w32 (of_z w32 answer) ≡ answer
+pub same_answer : (answer : ℤ) → mag answer < 2147483648 → to_z w32 (of_z w32 answer) ≡ answer
 same_answer answer small = to_z-of_z w32 answer (record { sfits = small })
 
 -- a loop's call that was refused
@@ -85,3 +85,7 @@ pub done_here : {S X : Type 0} (call : S → X → S → ℤ → Type 0) (old : 
 done_here call old items i d mid new answer small there all bits one =
     let is : answer ≡ ok = sym (same_answer answer small) ∙ ap (to_z w32) bits in
     calls_more (λ s x t. call s x t ok) old items i d mid new there all (subst (λ z. call mid (get_or items i d) new z) is one)
+
+-- an answer whose bits are none is that of a call that was done
+pub is_done : (answer : ℤ) → mag answer < 2147483648 → of_z w32 answer ≡ 0 → answer ≡ ok
+is_done answer small bits = sym (same_answer answer small) ∙ ap (to_z w32) bits

@@ -1,7 +1,9 @@
 pub mod CountLemmas
+pub mod FrequentLemmas
 pub mod Handles
 pub mod InTurnLemmas
 pub mod Reading
 pub mod ReadingCounts
 pub mod TextLemmas
+pub mod WeightLemmas
 pub mod Words

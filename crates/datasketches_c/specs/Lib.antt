@@ -12,3 +12,4 @@ pub mod Joining
 pub mod Kinds
 pub mod Numbers
 pub mod Texts
+pub mod Weights

@@ -1,0 +1,39 @@
+use Rattle.std.proofs.Common.{◌≡◌, ◌+◌, ◌<◌, ◌≤◌, ℕ, List, [], length, refl, arith}
+use Rattle.std.specs.Hash as fed
+use Rattle.std.specs.Prelude.{unsigned_abs, sum_by}
+use Rattle.sketch_base.specs.Hashes.{fed_bytes}
+use Rattle.sketch_countmin.specs.State.{CountState, Counts}
+use Rattle.datasketches_c.specs.Texts.{texts_of}
+use Rattle.datasketches_c.proofs.CountLemmas.{ok_said}
+use Rattle.datasketches_c.proofs.WeightLemmas.{one_fits, one_more, pair_more, pairs_all}
+use Rattle.datasketches_c.proofs.count_weighted.count_weighted_texts.Goals as goal
+
+pub each-preserved : goal.each-preserved
+each-preserved g c =
+    let number = g.T.CountMinValue.number in
+    let size : g.row.T.Denot → ℕ = λ weight. unsigned_abs (number weight) in
+    let step : CountState → List ℕ × g.row.T.Denot → CountState → Type 0 = λ s pair t. Counts s (fed_bytes fed.str pair.0) (number pair.1) t in
+    let texts = texts_of c.args.bytes.now c.args.offsets.now in
+    let weights = c.args.weights.now in
+    let i = c.each.i in
+    let x = c.text_at.result.now in
+    let w = c.index-weights-i.result in
+    let there : i < length texts = omega arith in
+    let other : i < length weights = omega arith in
+    let same : length weights ≡ length texts = omega arith in
+    let fits : c.args.sketch.now.total + sum_by size weights ≤ g.T.CountMinValue.greatest = c.if-not-weights_fit.ensures.0 refl in
+    let room = one_fits size weights i w w c.args.sketch.now.total c.each.sketch.total g.T.CountMinValue.greatest other c.index-weights-i.is fits c.each.invariant.total in
+    let one = ok_said c.update_with_weight.result _ (c.update_with_weight.ensures.succeeds room) c.update_with_weight.ensures.counted in
+    record {
+      counted = pair_more step texts weights i x [] w w c.args.sketch.now c.each.sketch c.update_with_weight.new.self same there c.text_at.ensures c.index-weights-i.is c.each.invariant.counted one;
+      total = one_more size weights i w w c.args.sketch.now.total c.each.sketch.total c.update_with_weight.new.self.total other c.index-weights-i.is one.total c.each.invariant.total;
+    }
+
+pub returns-clause-counted : goal.returns-clause-counted
+returns-clause-counted g c =
+    let number = g.T.CountMinValue.number in
+    let step : CountState → List ℕ × g.row.T.Denot → CountState → Type 0 = λ s pair t. Counts s (fed_bytes fed.str pair.0) (number pair.1) t in
+    let texts = texts_of c.args.bytes.now c.args.offsets.now in
+    let same : length c.args.weights.now ≡ length texts = omega arith in
+    let here : length texts ≤ c.each.i = omega arith in
+    λ fits. (refl, pairs_all step texts c.args.weights.now c.each.i c.args.sketch.now c.each.sketch same here c.each.invariant.counted)

@@ -1,0 +1,75 @@
+//! Count-Min sketches: many items, each with a weight, whatever the type of the weights.
+ghost use Rattle.std.specs.Prelude.{◌≡◌, ◌+◌, ◌<◌, ◌≤◌, ◌↔◌, length, sum_by, unsigned_abs, IsTrue};
+ghost use Rattle.std.specs.Hash as fed;
+ghost use Rattle.sketch_base.specs.Hashes.{fed_bytes};
+ghost use Rattle.datasketches_c.specs.Numbers.{ok, refusal_number};
+ghost use Rattle.datasketches_c.specs.Texts.{AreTexts, texts_of};
+ghost use Rattle.datasketches_c.specs.Weights.{CountsWeights};
+
+use crate::status_code::{OK, refusal_number};
+use crate::texts::{num_texts, text_at};
+use sketch_base::Fault;
+use sketch_countmin::{CountMinSketch, CountMinValue};
+use std::hash::Hash;
+
+/// Whether the total has room for all weights, each as its distance from 0.
+fn weights_fit<T: CountMinValue>(sketch: &CountMinSketch<T>, weights: &[T]) -> bool
+    ensures { IsTrue result
+        ↔ (sketch.now.total + sum_by (λ weight. unsigned_abs (T.number weight)) weights.now ≤ T.greatest) }
+{
+    let mut room = (T::MAX.to_number() - sketch.total_weight().to_number()) as u64;
+    'each: for i in 0..weights.len() {
+        let size = weights[i].to_number().unsigned_abs() as u64;
+        if size > room {
+            return false;
+        }
+        room -= size;
+    }
+    true
+}
+
+/// Adds a weight to that of each item, one after another, unless the total would pass the type's greatest number.
+pub(crate) fn count_weighted<T: CountMinValue, I: Hash + Copy>(
+    sketch: &mut CountMinSketch<T>,
+    items: &[I],
+    weights: &[T],
+) -> i32
+    requires { length weights.now ≡ length items.now }
+    ensures counted { sketch.old.total + sum_by (λ weight. unsigned_abs (T.number weight)) weights.now ≤ T.greatest
+        → (result ≡ ok) × CountsWeights (fed_bytes I.hash_input) T.number sketch.old items.now weights.now sketch.new }
+    ensures overflow { T.greatest < sketch.old.total + sum_by (λ weight. unsigned_abs (T.number weight)) weights.now
+        → (result ≡ refusal_number Fault.WeightOverflow) × (sketch.new ≡ sketch.old) }
+{
+    if !weights_fit(sketch, weights) {
+        return refusal_number(Fault::WeightOverflow);
+    }
+    'each: for i in 0..items.len() {
+        let _ = sketch.update_with_weight(items[i], weights[i]);
+    }
+    OK
+}
+
+/// The same for each text of a buffer.
+pub(crate) fn count_weighted_texts<T: CountMinValue>(
+    sketch: &mut CountMinSketch<T>,
+    bytes: &[u8],
+    offsets: &[u64],
+    weights: &[T],
+) -> i32
+    requires texts { AreTexts bytes.now offsets.now }
+    requires same { length weights.now + 1 ≡ length offsets.now }
+    ensures counted { sketch.old.total + sum_by (λ weight. unsigned_abs (T.number weight)) weights.now ≤ T.greatest
+        → (result ≡ ok) × CountsWeights (fed_bytes fed.str) T.number sketch.old (texts_of bytes.now offsets.now) weights.now
+        sketch.new }
+    ensures overflow { T.greatest < sketch.old.total + sum_by (λ weight. unsigned_abs (T.number weight)) weights.now
+        → (result ≡ refusal_number Fault.WeightOverflow) × (sketch.new ≡ sketch.old) }
+{
+    if !weights_fit(sketch, weights) {
+        return refusal_number(Fault::WeightOverflow);
+    }
+    let count = num_texts(bytes, offsets);
+    'each: for i in 0..count {
+        let _ = sketch.update_with_weight(text_at(bytes, offsets, i), weights[i]);
+    }
+    OK
+}
