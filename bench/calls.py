@@ -1,8 +1,9 @@
 """Times calls from Python beside calls from C in one run, and prints a table: nanoseconds an item, and the ratio.
 
-    /usr/bin/python3 bench/calls.py
+    /usr/bin/python3 bench/calls.py [ARCHIVE]
 
-It builds both libraries under bench/out/calls first. It needs what `.ci/needs` names.
+It builds both libraries under bench/out/calls first, from the archive that `.ci/archive` makes, if one is named, and else from
+crates that it proves. It needs what `.ci/needs` names.
 """
 import array
 import os
@@ -15,10 +16,10 @@ OUT = os.path.join(TOP, "bench", "out", "calls")
 ITEMS, ROUNDS = 1 << 20, 15
 
 
-def build():
+def build(archive):
     os.makedirs(OUT, exist_ok=True)
-    subprocess.run(["bash", f"{TOP}/c/build.sh", OUT], check=True)
-    subprocess.run(["bash", f"{TOP}/python/build.sh", OUT], check=True)
+    subprocess.run(["bash", f"{TOP}/c/build.sh", OUT, *archive], check=True)
+    subprocess.run(["bash", f"{TOP}/python/build.sh", OUT, *archive], check=True)
     compiler = [os.environ.get("CC", "cc"), "-std=gnu11", "-O2", f"-I{TOP}/include", f"{TOP}/bench/calls.c"]
     subprocess.run([*compiler, f"{OUT}/libdatasketches.a", "-o", f"{OUT}/calls"], check=True)
 
@@ -78,7 +79,7 @@ def rows(ds):
 
 
 def main():
-    build()
+    build(sys.argv[1:])
     sys.path.insert(0, OUT)
     import datasketches_rattle as ds
     ran = subprocess.run([f"{OUT}/calls"], check=True, capture_output=True, text=True)

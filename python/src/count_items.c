@@ -1,6 +1,29 @@
 /* What a CountMin is given, and what it is asked. */
 #include "sketches.h"
 
+/* A call for many numbers goes through the table row by row, and a row then stays in a near cache: many more than CHUNK are given
+ * to a call, where there is memory for a copy of them. */
+#define LONG_CHUNK ((size_t)1 << 20)
+
+/* Room for as many numbers as a call is given at most, of `count`: `few`, or memory that `chunk_release` gives back. */
+static uint64_t *chunk_for(size_t count, uint64_t *few, size_t *most)
+{
+    uint64_t *many = NULL;
+    *most = count < LONG_CHUNK ? count : LONG_CHUNK;
+    if (*most > CHUNK)
+        many = PyMem_RawMalloc(*most * sizeof *many);
+    if (many != NULL)
+        return many;
+    *most = CHUNK;
+    return few;
+}
+
+static void chunk_release(uint64_t *chunk, const uint64_t *few)
+{
+    if (chunk != few)
+        PyMem_RawFree(chunk);
+}
+
 static int32_t update_one(Sketch *self, const Item *item, uint64_t weight)
 {
     const uint8_t *text = (const uint8_t *)item->text;
@@ -40,7 +63,6 @@ static int32_t upper_bound_one(Sketch *self, const Item *item, uint64_t *number)
                             : ds_count_u64_upper_bound_u64(handle, item->value, number);
 }
 
-/* Adds 1 to each number's weight. */
 static int32_t update_numbers(Sketch *self, bool with_sign, const uint64_t *numbers, size_t count)
 {
     if (self->with_sign)
@@ -50,17 +72,30 @@ static int32_t update_numbers(Sketch *self, bool with_sign, const uint64_t *numb
                      : ds_count_u64_update_all_u64(&self->handle, numbers, count);
 }
 
+/* Adds 1 to each number's weight. */
+static int32_t update_by_one(Sketch *self, const Items *items)
+{
+    uint64_t few[CHUNK];
+    size_t most, count = 0;
+    uint64_t *chunk = chunk_for(items->count, few, &most);
+    int32_t answer = DS_OK;
+    for (size_t i = 0; i < items->count && answer >= 0; i += count) {
+        count = items_chunk(items, i, most, chunk);
+        answer = update_numbers(self, items->with_sign, chunk, count);
+    }
+    chunk_release(chunk, few);
+    return answer;
+}
+
 static int32_t update_many(Sketch *self, const Items *items, const Weights *weights)
 {
     uint64_t numbers[CHUNK], chunk[CHUNK];
     size_t count = 0;
     int32_t answer = DS_OK;
+    if (!items->with_texts && !weights->each && weights->same == 1)
+        return update_by_one(self, items);
     for (size_t i = 0; i < items->count && answer >= 0; i += count) {
-        count = items_chunk(items, i, numbers);
-        if (!items->with_texts && !weights->each && weights->same == 1) {
-            answer = update_numbers(self, items->with_sign, numbers, count);
-            continue;
-        }
+        count = items_chunk(items, i, CHUNK, numbers);
         weights_chunk(weights, i, count, chunk);
         for (size_t j = 0; j < count && answer >= 0; j++) {
             Item number = {.value = numbers[j]};
@@ -161,17 +196,19 @@ static int32_t estimate_numbers(Sketch *self, bool with_sign, const uint64_t *it
 
 static int32_t estimate_many(Sketch *self, const Items *items, uint64_t *numbers)
 {
-    uint64_t chunk[CHUNK];
-    size_t count = 1;
+    uint64_t few[CHUNK];
+    size_t most, count = 0;
     int32_t answer = DS_OK;
+    for (size_t i = 0; items->with_texts && i < items->count && answer >= 0; i++)
+        answer = estimate_one(self, &items->items[i], &numbers[i]);
+    if (items->with_texts)
+        return answer;
+    uint64_t *chunk = chunk_for(items->count, few, &most);
     for (size_t i = 0; i < items->count && answer >= 0; i += count) {
-        if (items->with_texts) {
-            answer = estimate_one(self, &items->items[i], &numbers[i]);
-            continue;
-        }
-        count = items_chunk(items, i, chunk);
+        count = items_chunk(items, i, most, chunk);
         answer = estimate_numbers(self, items->with_sign, chunk, count, numbers + i);
     }
+    chunk_release(chunk, few);
     return answer;
 }
 

@@ -26,7 +26,7 @@ static int32_t insert_many(ds_sketch *handle, const Items *items)
             answer = insert_one(handle, &items->items[i]);
             continue;
         }
-        count = items_chunk(items, i, chunk);
+        count = items_chunk(items, i, CHUNK, chunk);
         answer = items->with_sign ? ds_filter_insert_all_i64(handle, (const int64_t *)chunk, count)
                                   : ds_filter_insert_all_u64(handle, chunk, count);
     }
@@ -44,7 +44,7 @@ static int32_t contains_many(ds_sketch *handle, const Items *items, bool *answer
             answers[i] = answer == DS_YES;
             continue;
         }
-        count = items_chunk(items, i, chunk);
+        count = items_chunk(items, i, CHUNK, chunk);
         answer = items->with_sign
                      ? ds_filter_contains_all_i64(handle, (const int64_t *)chunk, count, answers + i, count)
                      : ds_filter_contains_all_u64(handle, chunk, count, answers + i, count);

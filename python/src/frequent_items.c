@@ -30,7 +30,7 @@ static bool counts_all(const Sketch *self, const Items *items)
     if (items->items != NULL || items->count == 0 || (items->with_sign == self->with_sign && !self->with_texts))
         return true;
     for (size_t i = 0; i < items->count; i += CHUNK) {
-        size_t count = items_chunk(items, i, chunk);
+        size_t count = items_chunk(items, i, CHUNK, chunk);
         for (size_t j = 0; j < count; j++)
             if (!counts(self, false, chunk[j], items->with_sign && chunk[j] > INT64_MAX))
                 return false;
@@ -76,7 +76,7 @@ static int32_t update_many(Sketch *self, const Items *items, const Weights *weig
     size_t count = 0;
     int32_t answer = DS_OK;
     for (size_t i = 0; i < items->count && answer >= 0; i += count) {
-        count = items_chunk(items, i, numbers);
+        count = items_chunk(items, i, CHUNK, numbers);
         if (!self->with_texts && !weights->each && weights->same == 1) {
             answer = update_numbers(self, numbers, count);
             continue;

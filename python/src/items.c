@@ -118,9 +118,9 @@ void items_release(Items *items)
     Py_CLEAR(items->tuple);
 }
 
-size_t items_chunk(const Items *items, size_t first, uint64_t *chunk)
+size_t items_chunk(const Items *items, size_t first, size_t most, uint64_t *chunk)
 {
-    size_t count = items->count - first < CHUNK ? items->count - first : CHUNK;
+    size_t count = items->count - first < most ? items->count - first : most;
     if (items->items != NULL) {
         for (size_t i = 0; i < count; i++)
             chunk[i] = items->items[first + i].value;
@@ -196,7 +196,7 @@ static bool each_fits(bool with_sign, const Items *weights)
     if (weights->items != NULL || weights->with_sign == with_sign)
         return !weights->with_texts;
     for (size_t i = 0; i < weights->count; i += CHUNK) {
-        size_t count = items_chunk(weights, i, chunk);
+        size_t count = items_chunk(weights, i, CHUNK, chunk);
         for (size_t j = 0; j < count; j++)
             if (!fits("a weight", with_sign, chunk[j], weights->with_sign && chunk[j] > INT64_MAX))
                 return false;
@@ -238,7 +238,7 @@ bool weights_of(PyObject *object, bool with_sign, const Items *items, Weights *w
 void weights_chunk(const Weights *weights, size_t first, size_t count, uint64_t *chunk)
 {
     if (weights->each)
-        items_chunk(&weights->items, first, chunk);
+        items_chunk(&weights->items, first, count, chunk);
     else
         for (size_t i = 0; i < count; i++)
             chunk[i] = weights->same;

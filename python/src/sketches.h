@@ -83,8 +83,8 @@ bool item_of(PyObject *object, Item *item);
 bool items_of(PyObject *object, Items *items);
 void items_release(Items *items);
 
-/* Copies the numbers from `first` on, at most CHUNK, and answers how many. They are the caller's alone. */
-size_t items_chunk(const Items *items, size_t first, uint64_t *chunk);
+/* Copies the numbers from `first` on, at most so many, and answers how many. They are the caller's alone. */
+size_t items_chunk(const Items *items, size_t first, size_t most, uint64_t *chunk);
 
 /* Room for the answers to many items: an array of numpy where the items are one, and else only values. */
 typedef struct {
@@ -111,7 +111,7 @@ typedef struct {
 /* What the second argument of an update says. Each weight has a sign or is 0 or more. */
 bool weights_of(PyObject *object, bool with_sign, const Items *items, Weights *weights);
 
-/* The weights from `first` on of so many items, at most CHUNK. */
+/* So many weights from `first` on. */
 void weights_chunk(const Weights *weights, size_t first, size_t count, uint64_t *chunk);
 
 /* The bytes that a call may read. */

@@ -96,6 +96,17 @@ class Weights(unittest.TestCase):
         load.decay(1, 1)
         self.assertEqual(load[7], 49)
 
+    def test_more_than_one_call_takes(self):
+        many = array.array("Q", range((1 << 20) + 7))
+        load = ds.CountMin(1, 1 << 22)
+        load.update(many)
+        load.update(many[-3:])
+        self.assertEqual(load.total, len(many) + 3)
+        estimates = load.estimate(many)
+        self.assertEqual((len(estimates), estimates[-10:]), (len(many), [load[n] for n in many[-10:]]))
+        load.update(1, GREATEST - load.total - (1 << 20) - 2)
+        self.assertEqual((refusal(lambda: load.update(many)), load.total), ("WeightOverflow", GREATEST))
+
     def test_texts(self):
         load = ds.CountMin(4, 1 << 12)
         load.update("Grüße", 3)

@@ -31,8 +31,11 @@ print("a" in kept, "b" in kept)
 """
 
 GIVEN_BACK = """
-import copy, pickle, resource
+import array, copy, pickle, resource
 import datasketches_rattle as ds
+many, few = array.array("q", bytes(1 << 21)), array.array("q", bytes(80))
+minus = array.array("q", bytes((1 << 21) - 8) + b"\\xff" * 8)
+listed = list(minus)
 resource.setrlimit(resource.RLIMIT_AS, (1 << 28, 1 << 28))
 for round in range(60):
     seen = ds.BloomFilter(1 << 26, 3)
@@ -41,6 +44,13 @@ for round in range(60):
     load = ds.CountMin(4, 1 << 18)
     load.update(range(10))
     load = ds.CountMin.from_bytes(bytes(load + load))
+    load.update(many, many)
+    load.estimate(many)
+    for weights in (few, minus, listed, array.array("d", bytes(1 << 21))):
+        try:
+            load.update(many, weights)
+        except (TypeError, ValueError):
+            pass
     heavy = ds.FrequentItems(1 << 16)
     heavy.update(range(100))
     heavy = pickle.loads(pickle.dumps(heavy))
