@@ -1,0 +1,105 @@
+//! How often what is used is in a cache, with admission and without.
+use anyhow::{Result, bail, ensure};
+use lru::LruCache;
+use std::alloc::{AllocError, Global};
+use std::fmt::Write;
+use std::num::NonZeroUsize;
+use uses::admission::Admission;
+
+/// Two caches of one size, in each of which the item that was used longest ago goes first: one takes each item that is
+/// used, the other only those that are admitted.
+#[derive(Drop)]
+struct Trial {
+    admission: Admission,
+    choosy: LruCache<u64, ()>,
+    plain: LruCache<u64, ()>,
+    uses: u64,
+    choosy_hits: u64,
+    plain_hits: u64,
+}
+
+/// Uses the items of the lines, and reports how often each cache had them.
+pub fn run(alloc: Global, numbers: &[u64], text: &str, report: &mut String) -> Result<()> {
+    let mut trial = trial_of(alloc, numbers)?;
+    trial.touch_each(text)?;
+    let hits = trial.choosy_hits;
+    let plain_hits = trial.plain_hits;
+    writeln!(
+        report,
+        "uses {} hits {hits} without {plain_hits}",
+        trial.uses
+    )?;
+    Ok(())
+}
+
+/// A trial with these numbers of hashes and buckets, this window and caches of this size.
+fn trial_of(alloc: Global, numbers: &[u64]) -> Result<Trial> {
+    let [hashes, buckets, window, capacity] = numbers else {
+        bail!("admission HASHES BUCKETS WINDOW CAPACITY");
+    };
+    let window = u32::try_from(*window)?;
+    ensure!(window > 0, "an empty window");
+    let Some(capacity) = NonZeroUsize::new(usize::try_from(*capacity)?) else {
+        bail!("an empty cache");
+    };
+    let hashes = u8::try_from(*hashes)?;
+    let buckets = u32::try_from(*buckets)?;
+    let admission = Admission::new(alloc, hashes, buckets, window)?;
+    Ok(Trial::new(alloc, admission, capacity)?)
+}
+
+impl Trial {
+    /// Empty caches of this size.
+    fn new(
+        alloc: Global,
+        admission: Admission,
+        capacity: NonZeroUsize,
+    ) -> Result<Self, AllocError> {
+        let choosy = LruCache::sparse(alloc, capacity)?;
+        let plain = LruCache::sparse(alloc, capacity)?;
+        Ok(Trial {
+            admission,
+            choosy,
+            plain,
+            uses: 0,
+            choosy_hits: 0,
+            plain_hits: 0,
+        })
+    }
+
+    /// Uses the item of each line.
+    fn touch_each(&mut self, text: &str) -> Result<()> {
+        for line in text.lines() {
+            self.touch(line.trim().parse::<u64>()?)?;
+        }
+        Ok(())
+    }
+
+    /// Uses an item.
+    fn touch(&mut self, item: u64) -> Result<(), AllocError> {
+        self.uses = self.uses.saturating_add(1);
+        self.admission.touch(item);
+        if self.plain.promote(&item) {
+            self.plain_hits = self.plain_hits.saturating_add(1);
+        } else {
+            self.plain.put(item, ())?;
+        }
+        if self.choosy.promote(&item) {
+            self.choosy_hits = self.choosy_hits.saturating_add(1);
+        } else if self.may_enter(item) {
+            self.choosy.put(item, ())?;
+        }
+        Ok(())
+    }
+
+    /// Whether an item that is not in the choosy cache goes in.
+    fn may_enter(&self, item: u64) -> bool {
+        if self.choosy.len() < self.choosy.cap().get() {
+            return true;
+        }
+        match self.choosy.peek_lru() {
+            Some((victim, _)) => self.admission.admits(item, *victim),
+            None => true,
+        }
+    }
+}

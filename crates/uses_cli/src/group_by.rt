@@ -1,0 +1,116 @@
+//! The heavy groups of many shards.
+use crate::words::{next_number, next_place};
+use anyhow::{Context, Result, bail};
+use std::alloc::{AllocError, Global};
+use std::fmt::Write;
+use uses::group_by::GroupSums;
+use uses::{Error, Row};
+
+/// The most shards that lines may name.
+const MOST_SHARDS: usize = 1024;
+
+/// How long the bar of the heaviest group may be.
+const LONGEST_BAR: u64 = 40;
+
+/// Sums the rows of each shard up, merges the sums, and reports the heavy groups.
+pub fn run(alloc: Global, numbers: &[u64], text: &str, report: &mut String) -> Result<()> {
+    let [size, threshold] = numbers else {
+        bail!("group-by SIZE THRESHOLD");
+    };
+    let all = sums_of(alloc, usize::try_from(*size)?, text)?;
+    write_report(&all, *threshold, report)
+}
+
+/// The sums of all rows.
+fn sums_of(alloc: Global, size: usize, text: &str) -> Result<GroupSums<String>> {
+    let mut shards = Vec::new(alloc);
+    add_rows(alloc, size, &mut shards, text)?;
+    Ok(merged(alloc, size, &shards)?)
+}
+
+/// Adds each line `SHARD WEIGHT GROUP`.
+fn add_rows(
+    alloc: Global,
+    size: usize,
+    shards: &mut Vec<GroupSums<String>>,
+    text: &str,
+) -> Result<()> {
+    for line in text.lines() {
+        add_row(alloc, size, shards, line)?;
+    }
+    Ok(())
+}
+
+fn add_row(
+    alloc: Global,
+    size: usize,
+    shards: &mut Vec<GroupSums<String>>,
+    line: &str,
+) -> Result<()> {
+    let mut words = line.split_whitespace();
+    let shard = next_place(&mut words, MOST_SHARDS)?;
+    let weight = next_number(&mut words)?;
+    let group = words.next().context("a short line")?;
+    make_shards(alloc, size, shards, shard)?;
+    if let Some(sums) = shards.get_mut(shard) {
+        sums.add(String::from_str(alloc, group)?, weight)?;
+    }
+    Ok(())
+}
+
+/// Makes shards up to one.
+fn make_shards(
+    alloc: Global,
+    size: usize,
+    shards: &mut Vec<GroupSums<String>>,
+    last: usize,
+) -> Result<(), Error> {
+    for _ in shards.len()..=last {
+        shards.push(GroupSums::new(alloc, size)?)?;
+    }
+    Ok(())
+}
+
+/// The sums of all shards.
+fn merged(
+    alloc: Global,
+    size: usize,
+    shards: &[GroupSums<String>],
+) -> Result<GroupSums<String>, Error> {
+    let mut all = GroupSums::new(alloc, size)?;
+    for shard in shards {
+        all.merge(shard)?;
+    }
+    Ok(all)
+}
+
+/// Reports the heavy groups, the heaviest first.
+fn write_report(all: &GroupSums<String>, threshold: u64, report: &mut String) -> Result<()> {
+    let rows = all.heavy_groups(threshold)?;
+    write_rows(&rows, report)?;
+    let error = all.maximum_error();
+    let total = all.total_weight();
+    writeln!(report, "groups {} error {error} total {total}", rows.len())?;
+    Ok(())
+}
+
+fn write_rows(rows: &[Row<String>], report: &mut String) -> Result<(), AllocError> {
+    let mut most = 0;
+    for row in rows {
+        most = row.upper_bound().max(most);
+        write_row(row, most, report)?;
+    }
+    Ok(())
+}
+
+/// Writes a group, its bounds and its bar, which is the longer the more it surely weighs of the most that one may weigh.
+fn write_row(row: &Row<String>, most: u64, report: &mut String) -> Result<(), AllocError> {
+    let lower_bound = row.lower_bound();
+    let upper_bound = row.upper_bound();
+    write!(report, "{} {lower_bound} {upper_bound} ", row.item())?;
+    for _ in 0..lower_bound / (most / LONGEST_BAR + 1) {
+        report.push('#')?;
+    }
+    report.push('\n')?;
+    Ok(())
+}
