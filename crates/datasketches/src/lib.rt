@@ -31,13 +31,17 @@ pub use shape::Shape;
 
 /// Bloom filters with exact set algebra.
 pub mod bloom {
-    pub use sketch_bloom::{BloomFilter, BloomFilterBuilder, Error, ErrorKind, Fault};
+    pub use sketch_bloom::{
+        BloomFilter, BloomFilterBuilder, Error, ErrorKind, Fault, suggest_num_bits,
+        suggest_num_hashes,
+    };
 }
 
 /// Count-Min sketches.
 pub mod countmin {
     pub use sketch_countmin::{
         CountMinSketch, CountMinValue, Error, ErrorKind, Fault, UnsignedCountMinValue,
+        suggest_num_buckets, suggest_num_hashes,
     };
 }
 
@@ -47,7 +51,7 @@ pub mod frequencies {
     pub use sketch_frequencies::{
         EMPTY_FLAG_MASK, Error, ErrorKind, ErrorType, Fault, FrequentItemValue,
         FrequentItemsSketch, PREAMBLE_LONGS_EMPTY, PREAMBLE_LONGS_NONEMPTY,
-        ReversePurgeItemHashMap, ReversePurgeItemIter, Row, SERIAL_VERSION,
+        ReversePurgeItemHashMap, ReversePurgeItemIter, Row, SERIAL_VERSION, suggest_max_map_size,
     };
 }
 
