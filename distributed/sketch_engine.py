@@ -20,7 +20,7 @@ import sketch_parts
 from sketch_parts import BadInput, Columns, Part, Shape, merge_images, sketch_part
 
 PART_BYTES = 1 << 24
-PATIENCE = 120
+PATIENCE = 60
 
 
 # --- What the commands share of their words ---
@@ -124,6 +124,7 @@ def find_columns(path: str, column: str, weight: str | None, no_header: bool, de
 @contextlib.contextmanager
 def connect(workers: int, scheduler: str | None) -> Iterator[distributed.Client]:
     """Workers on this machine, or those of a scheduler, which are given the file that they need."""
+    logging.getLogger("asyncio").setLevel(logging.CRITICAL)  # of what was under way when a client ends
     if scheduler is not None:
         with distributed.Client(scheduler, timeout=PATIENCE) as client:
             client.wait_for_workers(1, timeout=PATIENCE)
@@ -170,10 +171,8 @@ def run(name: str, job: Callable[[], dict[str, Any]], show: Callable[[dict[str, 
         found = job()
     except ds.SketchError as error:
         reason = f"{error.fault}: {error}"
-    except FileNotFoundError as error:
-        reason = f"{error.filename}: there is no such file"
     except OSError as error:
-        reason = str(error)
+        reason = str(error) if error.filename is None else f"{error.filename}: {error.strerror}"
     except (BadInput, ValueError) as error:
         reason = str(error)
     except distributed.KilledWorker as error:

@@ -2,6 +2,7 @@
 from __future__ import annotations
 
 import collections
+import contextlib
 import json
 import os
 import signal
@@ -37,11 +38,13 @@ def setUpModule():
     CLIENT = unittest.enterModuleContext(engine.connect(3, None))
 
 
-def slow_sketch(shape, part, log):
-    """A part's image, after a while; the log has a line for each time that one is begun."""
+def watched_sketch(shape, part, log, gate):
+    """A part's image, whose making the log tells. All but the first parts wait for a file to be there."""
     with open(log, "a", encoding="utf-8") as file:
         file.write(f"{part.begin}\n")
-    time.sleep(0.5)
+    until = time.monotonic() + PATIENCE
+    while part.begin > 100_000 and not os.path.exists(gate) and time.monotonic() < until:
+        time.sleep(0.05)
     return sketch_part(shape, part)
 
 
@@ -76,14 +79,14 @@ class Tests(unittest.TestCase):
     def found(self, command, *words):
         """The answer of a command."""
         status, out, errors = self.here(command, *words, "--json")
-        self.assertEqual((status, errors), (0, ""))
+        self.assertEqual(status, 0, errors)
         return json.loads(out)
 
     def refused(self, command, *words):
         """The complaint of a command that has no answer."""
         status, out, errors = self.here(command, *words)
         self.assertEqual((status, out), (1, ""))
-        return errors.strip()
+        return errors.rstrip().split("\n")[-1]
 
     def check(self, image):
         """All that is promised of frequent items, of the sketch of the whole stream."""
@@ -112,21 +115,44 @@ class Heaviest(Tests):
             self.check(image)
 
     def test_a_worker_that_dies_is_made_up_for(self):
-        shape, log = Heavy(SIZE), os.path.join(FOLDER, "begun")
-        slow = delayed(slow_sketch, pure=False)
-        images = [slow(shape, part, log) for part in engine.cut_files([STREAM], PARTS, words=True)]
-        ids = CLIENT.run(os.getpid)
-        future = CLIENT.compute(engine.merged(shape, images, 3))
+        shape, log, gate = Heavy(SIZE), os.path.join(FOLDER, "begun"), os.path.join(FOLDER, "gate")
+        watched = delayed(watched_sketch, pure=False)
+        images = [watched(shape, part, log, gate) for part in engine.cut_files([STREAM], PARTS, words=True)]
+        keys, ids = {image.key for image in images}, CLIENT.run(os.getpid)
+        future = CLIENT.compute(engine.merged(shape, images, PARTS))
         until = time.monotonic() + PATIENCE
-        while not (done := [worker for worker, keys in CLIENT.has_what().items() if keys]):
+        while not (held := [worker for worker, there in CLIENT.has_what().items() if keys & set(there)]):
             self.assertLess(time.monotonic(), until, "no worker has an image")
             time.sleep(0.02)
-        os.kill(ids[done[0]], signal.SIGKILL)
+        dead = min(held)
+        os.kill(ids[dead], signal.SIGKILL)
+        write(FOLDER, "gate", "")
         self.check(future.result(timeout=PATIENCE))
         with open(log, encoding="utf-8") as file:
-            self.assertGreater(len(file.readlines()), PARTS, "what the worker had is made again")
+            begun = collections.Counter(file.readlines())
+        self.assertEqual((len(begun), max(begun.values()) > 1), (PARTS, True), "what the worker had is made again")
         CLIENT.wait_for_workers(3, timeout=PATIENCE)
-        self.assertNotIn(ids[done[0]], CLIENT.run(os.getpid).values())
+        self.assertNotIn(ids[dead], CLIENT.run(os.getpid).values())
+
+    def test_a_scheduler_that_runs(self):
+        folder = os.path.join(FOLDER, "scheduler")
+        os.mkdir(folder)
+        told, env = os.path.join(folder, "file"), {**os.environ, "PYTHONPATH": os.path.dirname(os.path.dirname(ds.__file__))}
+        words = ["--scheduler-file", told, "--host", "127.0.0.1", "--dashboard-address", "127.0.0.1:0", "--no-dashboard"]
+        with contextlib.ExitStack() as stack:
+            for command in (["dask-scheduler", "--port", "0"], ["dask-worker", "--nthreads", "1", "--local-directory", folder]):
+                process = subprocess.Popen([*command, *words], cwd="/", env=env, stderr=subprocess.DEVNULL)
+                stack.callback(process.wait, timeout=PATIENCE)
+                stack.callback(process.terminate)
+                until = time.monotonic() + PATIENCE
+                while not os.path.exists(told):
+                    self.assertLess(time.monotonic(), until, "there is no scheduler")
+                    time.sleep(0.05)
+            with open(told, encoding="utf-8") as file:
+                address = json.load(file)["address"]
+            status, out, errors = said(heavy.main, "--words", STREAM, "--scheduler", address, "--json")
+        self.assertEqual(status, 0, errors)
+        self.assertEqual(json.loads(out)["total"], len(WORDS))
 
     def test_a_damaged_image_is_refused(self):
         sketches = engine.sketches
@@ -175,7 +201,7 @@ class Heaviest(Tests):
         self.assertEqual(self.refused(heavy.main, STREAM, bad), f"heavy.py: {bad}, line 3001: not UTF-8")
         self.assertEqual(self.refused(heavy.main, rows, "--column", "page", "--weight", "bytes"),
                          f"heavy.py: {rows}, line 5002: the weight 'many' is no whole number from 0 to 18446744073709551615")
-        self.assertEqual(self.refused(heavy.main, STREAM, none), f"heavy.py: {none}: there is no such file")
+        self.assertEqual(self.refused(heavy.main, STREAM, none), f"heavy.py: {none}: No such file or directory")
         self.assertIn("MapSizeNotPowerOfTwo", self.refused(heavy.main, STREAM, "--size", "65"))
         heaviest = write(FOLDER, "heavy.csv", f"page,bytes\na,{2**64 - 1}\nb,1\n")
         self.assertIn("WeightOverflow", self.refused(heavy.main, heaviest, "--column", "page", "--weight", "bytes"))
@@ -190,7 +216,7 @@ class Heaviest(Tests):
     def test_one_command_with_workers_of_its_own(self):
         done = subprocess.run([sys.executable, heavy.__file__, "--words", STREAM, "--workers", "2", "--top", "3"],
                               capture_output=True, text=True, timeout=2 * PATIENCE, cwd=FOLDER, check=False)
-        self.assertEqual((done.returncode, done.stderr), (0, ""))
+        self.assertEqual(done.returncode, 0, done.stderr)
         lines = done.stdout.split("\n")
         self.assertEqual(lines[0], f"a weight of {len(WORDS):,} in 1 part")
         self.assertEqual([line.split()[0] for line in lines[1:4]], [word for word, _ in WEIGHTS.most_common(3)])
@@ -256,7 +282,7 @@ class Kept(Tests):
         self.assertEqual([each["kept"] for each in self.found(*words)["files"]], [2, 0])
         status, out, _ = self.here(*words)
         self.assertEqual((status, "2 of 3 lines kept" in out, "0 of 0 lines kept" in out), (0, True, True))
-        self.assertIn("no such file", self.refused(seen.main, keys + ".not", lines))
+        self.assertEqual(self.refused(seen.main, keys + ".not", lines), f"seen.py: {keys}.not: No such file or directory")
 
 
 if __name__ == "__main__":
