@@ -418,6 +418,14 @@ int32_t ds_frequent_u64_rows(ds_sketch *handle, bool no_false_negatives, uint64_
 int32_t ds_frequent_i64_rows(ds_sketch *handle, bool no_false_negatives, uint64_t threshold, int64_t *items,
                              size_t num_items, ds_frequent_bounds *bounds, size_t num_bounds, size_t *count);
 
+/* The same of texts, which stand one behind the other at the front of `bytes`: text i from offset i up to offset i + 1, of
+ * which the first is 0, so that there is one offset more than rows. `count` is how many rows there are, and `num_bytes` how
+ * many bytes their texts have, also where a buffer is shorter than that: then the call is refused by DS_NO_ROOM. And by
+ * DS_NO_MEMORY. Refusals but DS_NO_ROOM leave both as they were. What stands behind the rows in the buffers stays. */
+int32_t ds_frequent_text_rows(ds_sketch *handle, bool no_false_negatives, uint64_t threshold, uint8_t *bytes,
+                              size_t room_for_bytes, uint64_t *offsets, size_t num_offsets, ds_frequent_bounds *bounds,
+                              size_t num_bounds, size_t *count, size_t *num_bytes);
+
 /* --- The checks of arguments --- */
 
 /* What is given in place of null where the count is 0. */
@@ -481,6 +489,17 @@ static inline void *ds_no_values(void)
     { \
         if (!out && capacity) return DS_BAD_ARGUMENT; \
         return call(handle, out ? out : (uint8_t *)ds_no_values(), capacity, written); \
+    }
+#define DS_ROWS_OF_TEXTS(call) \
+    static inline int32_t call##_checked(ds_sketch *handle, bool no_false_negatives, uint64_t threshold, uint8_t *bytes, \
+                                         size_t room_for_bytes, uint64_t *offsets, size_t num_offsets, \
+                                         ds_frequent_bounds *bounds, size_t num_bounds, size_t *count, size_t *num_bytes) \
+    { \
+        uint64_t *no_offsets = (uint64_t *)ds_no_values(); \
+        ds_frequent_bounds *no_bounds = (ds_frequent_bounds *)ds_no_values(); \
+        if ((!bytes && room_for_bytes) || (!offsets && num_offsets) || (!bounds && num_bounds)) return DS_BAD_ARGUMENT; \
+        return call(handle, no_false_negatives, threshold, bytes ? bytes : (uint8_t *)ds_no_values(), room_for_bytes, \
+                    offsets ? offsets : no_offsets, num_offsets, bounds ? bounds : no_bounds, num_bounds, count, num_bytes); \
     }
 #define DS_ROWS(call, type) \
     static inline int32_t call##_checked(ds_sketch *handle, bool no_false_negatives, uint64_t threshold, type *items, \
@@ -554,6 +573,7 @@ DS_READS_AND(ds_frequent_i64_from_bytes, uint8_t, size_t)
 DS_READS_AND(ds_frequent_text_from_bytes, uint8_t, size_t)
 DS_ROWS(ds_frequent_u64_rows, uint64_t)
 DS_ROWS(ds_frequent_i64_rows, int64_t)
+DS_ROWS_OF_TEXTS(ds_frequent_text_rows)
 
 #define ds_clone(handle, other) ds_clone_checked(handle, other)
 #define ds_filter_insert_text(handle, item, length) ds_filter_insert_text_checked(handle, item, length)
@@ -661,6 +681,10 @@ DS_ROWS(ds_frequent_i64_rows, int64_t)
     ds_frequent_u64_rows_checked(handle, no_false_negatives, threshold, items, num_items, bounds, num_bounds, count)
 #define ds_frequent_i64_rows(handle, no_false_negatives, threshold, items, num_items, bounds, num_bounds, count) \
     ds_frequent_i64_rows_checked(handle, no_false_negatives, threshold, items, num_items, bounds, num_bounds, count)
+#define ds_frequent_text_rows(handle, no_false_negatives, threshold, bytes, room_for_bytes, offsets, num_offsets, bounds, \
+                              num_bounds, count, num_bytes) \
+    ds_frequent_text_rows_checked(handle, no_false_negatives, threshold, bytes, room_for_bytes, offsets, num_offsets, bounds, \
+                                  num_bounds, count, num_bytes)
 
 #undef DS_JOINS
 #undef DS_READS
@@ -670,6 +694,7 @@ DS_ROWS(ds_frequent_i64_rows, int64_t)
 #undef DS_ANSWERS
 #undef DS_ANSWERS_TEXTS
 #undef DS_WRITES
+#undef DS_ROWS_OF_TEXTS
 #undef DS_ROWS
 
 /* --- Sizes to choose from what one can bear: each call writes a number where it answers DS_OK, and else leaves it --- */

@@ -531,6 +531,42 @@ static void weights(void)
     ds_free(&texts);
 }
 
+/* The rows of a report of texts, where there is room, and where there is too little of each. */
+static void rows_of_texts(void)
+{
+    ds_sketch texts = DS_NONE, other = DS_NONE;
+    const uint64_t of_four[4] = {5, 7, 1, 9};
+    uint8_t bytes[16], before[16];
+    uint64_t offsets[6] = {8, 8, 8, 8, 8, 8};
+    ds_frequent_bounds bounds[4] = {{0, 0, 0}, {0, 0, 0}, {0, 0, 0}, {3, 3, 3}};
+    size_t count = 77, length = 78;
+
+    memset(bytes, '.', sizeof bytes);
+    memset(before, '.', sizeof before);
+    CHECK(ds_frequent_text_rows(&texts, true, 0, bytes, 16, offsets, 6, bounds, 4, &count, &length) == DS_NO_SKETCH);
+    CHECK(ds_filter_new(&other, 64, 1, 9001) == DS_OK);
+    CHECK(ds_frequent_text_rows(&other, true, 0, bytes, 16, offsets, 6, bounds, 4, &count, &length) == DS_WRONG_KIND);
+    CHECK(count == 77 && length == 78);
+    CHECK(ds_frequent_text_new(&texts, 64, 48) == DS_OK);
+    CHECK(ds_frequent_text_rows(&texts, true, 0, bytes, 16, offsets, 1, bounds, 0, &count, &length) == DS_OK);
+    CHECK(count == 0 && length == 0 && offsets[0] == 0 && offsets[1] == 8);
+    CHECK(ds_frequent_text_update_all_weighted(&texts, MANY, sizeof MANY - 1, ENDS, 5, of_four, 4) == DS_OK);
+    CHECK(ds_frequent_text_rows(&texts, true, 1, NULL, 0, NULL, 0, NULL, 0, &count, &length) == DS_NO_ROOM);
+    CHECK(count == 3 && length == 12);
+    CHECK(ds_frequent_text_rows(&texts, true, 1, bytes, 11, offsets, 6, bounds, 4, &count, &length) == DS_NO_ROOM);
+    CHECK(ds_frequent_text_rows(&texts, true, 1, bytes, 12, offsets, 3, bounds, 4, &count, &length) == DS_NO_ROOM);
+    CHECK(ds_frequent_text_rows(&texts, true, 1, bytes, 12, offsets, 4, bounds, 2, &count, &length) == DS_NO_ROOM);
+    CHECK(ds_frequent_text_rows(&texts, true, 1, NULL, 1, offsets, 4, bounds, 3, &count, &length) == DS_BAD_ARGUMENT);
+    CHECK(memcmp(bytes, before, 16) == 0 && offsets[1] == 8 && bounds[0].estimate == 0);
+    CHECK(ds_frequent_text_rows(&texts, true, 1, bytes, 16, offsets, 6, bounds, 4, &count, &length) == DS_OK);
+    CHECK(count == 3 && length == 12 && memcmp(bytes, "\xe2\x82\xac!a\xcc\x88" "apple....", 16) == 0);
+    CHECK(offsets[0] == 0 && offsets[1] == 4 && offsets[2] == 7 && offsets[3] == 12 && offsets[4] == 8);
+    CHECK(bounds[0].estimate == 9 && bounds[1].lower_bound == 7 && bounds[2].upper_bound == 5 && bounds[3].estimate == 3);
+    CHECK(ds_frequent_text_rows(&texts, false, 6, bytes, 7, offsets, 3, bounds, 2, &count, &length) == DS_OK && count == 2);
+    ds_free(&texts);
+    ds_free(&other);
+}
+
 static void *fill(void *argument)
 {
     ds_sketch *handle = argument;
@@ -577,6 +613,7 @@ int main(void)
     frequent_texts();
     many_texts();
     weights();
+    rows_of_texts();
     threads();
     names();
     printf("%d of %d checks hold\n", checks - failures, checks);

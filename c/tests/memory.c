@@ -47,6 +47,11 @@ static void keep(ds_sketch *filter)
 static uint8_t letters[128];
 static uint64_t ends[65];
 
+/* Room for a report of them. */
+static uint8_t shown[128];
+static uint64_t starts[65];
+static ds_frequent_bounds bounds[64];
+
 static void write_texts(void)
 {
     for (size_t i = 0; i < 64; i++) {
@@ -119,6 +124,9 @@ int main(void)
     if (!adds_texts(&frequent, NULL) || !adds_texts(&frequent, NULL)) return 1;
     for (uint64_t i = 0; i < 64; i++) items[i] = 2;
     if (!adds_texts(&frequent, items)) return 1;
+    size_t rows = 0, num_bytes = 0;
+    DONE(&frequent, ds_frequent_text_rows(&frequent, true, 0, shown, sizeof shown, starts, 65, bounds, 64, &rows, &num_bytes));
+    if (num_bytes != 2 * rows || starts[rows] != num_bytes) return 1;
     DONE(&filter, ds_filter_insert_all_text(&filter, letters, sizeof letters, ends, 65));
     DONE(&count, ds_count_u64_update_all_text(&count, letters, sizeof letters, ends, 65));
     ds_free(&frequent);

@@ -5,5 +5,7 @@ pub mod InTurnLemmas
 pub mod Reading
 pub mod ReadingCounts
 pub mod TextLemmas
+pub mod TextReports
+pub mod TextRows
 pub mod WeightLemmas
 pub mod Words

@@ -4,6 +4,7 @@ pub mod FrequentCalls
 pub mod FrequentImages
 pub mod FrequentRows
 pub mod FrequentTextImages
+pub mod FrequentTextRows
 pub mod FrequentTexts
 pub mod Holding
 pub mod Images

@@ -1,5 +1,5 @@
 -- Many texts as one buffer of bytes with offsets: each text goes from an offset to the next one.
-use Rattle.std.specs.Prelude.{ℕ, ◌+◌, ◌<◌, ◌≤◌, List, length, map, drop, slice_index, All, EachIndex}
+use Rattle.std.specs.Prelude.{ℕ, ◌+◌, ◌<◌, ◌≤◌, List, [], ◌∷◌, length, map, drop, slice_index, All, EachIndex}
 use Rattle.std.specs.List.{slice_range, zip}
 use Rattle.std.specs.Str.{IsUtf8}
 
@@ -17,3 +17,8 @@ pub record AreOffsets (bytes offsets : List ℕ) : Type 0 where
 pub record AreTexts (bytes offsets : List ℕ) : Type 0 where
   pub ends : AreOffsets bytes offsets
   pub utf8 : All IsUtf8 (texts_of bytes offsets)
+
+-- the offsets of texts that stand one behind the other from an offset on
+abbrev pub offsets_from : ℕ → List (List ℕ) → List ℕ
+offsets_from start [] = start ∷ []
+offsets_from start (text ∷ texts) = start ∷ offsets_from (start + length text) texts

@@ -30,7 +30,7 @@ pub(crate) fn write_rows<T: Eq + Hash + Clone + Copy + Drop>(
 }
 
 /// Which mistakes a report may make.
-fn error_type_of(no_false_negatives: bool) -> ErrorType
+pub(crate) fn error_type_of(no_false_negatives: bool) -> ErrorType
     ensures { result ≡ error_type no_false_negatives }
 {
     if no_false_negatives {
@@ -76,7 +76,7 @@ fn copy_items<T: Copy>(rows: &[Row<T>], items: &mut [T])
 }
 
 /// Writes down the bounds of rows.
-fn copy_bounds<T>(rows: &[Row<T>], bounds: &mut [FrequentBounds])
+pub(crate) fn copy_bounds<T>(rows: &[Row<T>], bounds: &mut [FrequentBounds])
     requires same { length bounds.old ≡ length rows.now }
     ensures { bounds.new ≡ map bounds_in rows.now }
 {

@@ -26,6 +26,7 @@ mod frequent_rows;
 mod frequent_text;
 mod frequent_text_batches;
 mod frequent_text_images;
+mod frequent_text_rows;
 mod frequent_text_state;
 mod frequent_u64;
 mod frequent_weighted;

@@ -1,0 +1,51 @@
+-- Reports of texts in buffers.
+use Rattle.std.proofs.Common.{◌≡◌, ℕ, ◌+◌, ◌<◌, [], ◌++◌, List, length, map, take, drop, get_or, sym, ap, ◌∙◌}
+use Rattle.std.specs.Global.{Global}
+use Rattle.std.specs.List.{concat}
+use Rattle.std.specs.String.{string_bytes}
+use Rattle.std.specs.declared.string.String.{String}
+use Rattle.std.proofs.lemmas.List.{take_at, drop_at, length-map, get_or-map}
+use Rattle.sketch_frequencies.specs.RowValue.{RowValue}
+use Rattle.datasketches_c.specs.FrequentRows.{bounds_in}
+use Rattle.datasketches_c.specs.FrequentTextRows.{TextBuffers, TextsStandAtFront, row_texts}
+use Rattle.datasketches_c.specs.Texts.{texts_of, offsets_from}
+use Rattle.datasketches_c.specs.declared.frequent.FrequentBounds.{FrequentBounds}
+use Rattle.datasketches_c.proofs.TextRows.{length-offsets_from, read_front}
+
+-- there are as many texts as rows
+pub length-row_texts : (rows : List (RowValue (String Global))) → length (row_texts rows) ≡ length rows
+length-row_texts rows = length-map rows (λ (row : RowValue (String Global)). string_bytes row.item)
+
+-- the text of a row
+pub row_text_at : (rows : List (RowValue (String Global))) (i : ℕ) (row : RowValue (String Global)) → i < length rows → row ≡ get_or rows i row
+    → string_bytes row.item ≡ get_or (row_texts rows) i []
+row_text_at rows i row there is =
+    let text : RowValue (String Global) → List ℕ = λ r. string_bytes r.item in
+    ap text is ∙ sym (get_or-map text rows i row [] there)
+
+-- what was written at the front of the buffers stands there
+pub texts_stand : (rows : List (RowValue (String Global))) (old : TextBuffers) (bytes offsets : List ℕ) (bounds : List FrequentBounds) (n : ℕ)
+    → n ≡ length (concat (row_texts rows)) → bytes ≡ concat (row_texts rows) → offsets ≡ offsets_from 0 (row_texts rows) → bounds ≡ map bounds_in rows
+    → TextsStandAtFront rows old (record {
+      bytes = bytes ++ drop n old.bytes;
+      offsets = offsets ++ drop (length rows + 1) old.offsets;
+      bounds = bounds ++ drop (length rows) old.bounds;
+    })
+texts_stand rows old bytes offsets bounds n size is_bytes is_offsets is_bounds =
+    let texts = row_texts rows in
+    let whole : List ℕ = concat texts in
+    let long_bytes : length bytes ≡ length whole = ap length is_bytes in
+    let long_offsets : length offsets ≡ length rows + 1 = ap length is_offsets ∙ (length-offsets_from 0 texts ∙ ap (λ (k : ℕ). k + 1) (length-row_texts rows)) in
+    let long_bounds : length bounds ≡ length rows = ap length is_bounds ∙ length-map rows bounds_in in
+    let front_bytes : take (length whole) (bytes ++ drop n old.bytes) ≡ whole = take_at bytes (drop n old.bytes) (length whole) long_bytes ∙ is_bytes in
+    let front_offsets : take (length rows + 1) (offsets ++ drop (length rows + 1) old.offsets) ≡ offsets_from 0 texts =
+    take_at offsets (drop (length rows + 1) old.offsets) (length rows + 1) long_offsets ∙ is_offsets in
+    record {
+      bytes = front_bytes;
+      behind_bytes = drop_at bytes (drop n old.bytes) (length whole) long_bytes ∙ ap (λ (k : ℕ). drop k old.bytes) size;
+      offsets = front_offsets;
+      behind_offsets = drop_at offsets (drop (length rows + 1) old.offsets) (length rows + 1) long_offsets;
+      bounds = take_at bounds (drop (length rows) old.bounds) (length rows) long_bounds ∙ is_bounds;
+      behind_bounds = drop_at bounds (drop (length rows) old.bounds) (length rows) long_bounds;
+      read_back = ap (texts_of (bytes ++ drop n old.bytes)) front_offsets ∙ read_front (bytes ++ drop n old.bytes) texts front_bytes;
+    }

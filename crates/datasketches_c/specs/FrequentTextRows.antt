@@ -1,0 +1,56 @@
+-- What a report on a sketch of frequent texts writes into the caller's buffers.
+use Rattle.std.specs.Prelude.{◌≡◌, ◌⊎◌, ℕ, ℤ, ◌+◌, ◌<◌, ◌≤◌, List, length, map, take, drop}
+use Rattle.std.specs.List.{concat}
+use Rattle.std.specs.Global.{Global}
+use Rattle.std.specs.String.{string_bytes}
+use Rattle.std.specs.declared.string.String.{String}
+use Rattle.sketch_base.specs.declared.fault.Fault.TheVariants.{NoMemory}
+use Rattle.sketch_frequencies.specs.RowValue.{RowValue}
+use Rattle.sketch_frequencies.specs.State.{FrequentState}
+use Rattle.sketch_frequencies.specs.declared.error_type.ErrorType.{ErrorType}
+use Rattle.datasketches_c.specs.FrequentRows.{AreRows, bounds_in}
+use Rattle.datasketches_c.specs.FrequentTexts.{text_eq}
+use Rattle.datasketches_c.specs.Numbers.{ok, no_room, refusal_number}
+use Rattle.datasketches_c.specs.Texts.{texts_of, offsets_from}
+use Rattle.datasketches_c.specs.declared.frequent.FrequentBounds.{FrequentBounds}
+
+-- the texts of rows
+abbrev pub row_texts : List (RowValue (String Global)) → List (List ℕ)
+row_texts rows = map (λ row. string_bytes row.item) rows
+
+-- the buffers for a report of texts
+pub record TextBuffers : Type 0 where
+  pub bytes : List ℕ
+  pub offsets : List ℕ
+  pub bounds : List FrequentBounds
+
+-- the rows stand at the front of the buffers, the texts one behind the other from the first byte on, and what stands behind them
+-- is as it was
+pub record TextsStandAtFront (rows : List (RowValue (String Global))) (old new : TextBuffers) : Type 0 where
+  pub bytes : take (length (concat (row_texts rows))) new.bytes ≡ concat (row_texts rows)
+  pub behind_bytes : drop (length (concat (row_texts rows))) new.bytes ≡ drop (length (concat (row_texts rows))) old.bytes
+  pub offsets : take (length rows + 1) new.offsets ≡ offsets_from 0 (row_texts rows)
+  pub behind_offsets : drop (length rows + 1) new.offsets ≡ drop (length rows + 1) old.offsets
+  pub bounds : take (length rows) new.bounds ≡ map bounds_in rows
+  pub behind_bounds : drop (length rows) new.bounds ≡ drop (length rows) old.bounds
+  -- and so the texts are read back
+  pub read_back : texts_of new.bytes (take (length rows + 1) new.offsets) ≡ row_texts rows
+
+-- the rows were counted, and written where the buffers have room for all
+pub record ReportsTexts
+    (rows : List (RowValue (String Global))) (old new : TextBuffers) (count num_bytes : ℕ) (result : ℤ) : Type 0 where
+  pub counted : count ≡ length rows
+  pub measured : num_bytes ≡ length (concat (row_texts rows))
+  pub written :
+      num_bytes ≤ length old.bytes → count < length old.offsets → count ≤ length old.bounds →
+      (result ≡ ok) × TextsStandAtFront rows old new
+  pub few_bytes : length old.bytes < num_bytes → result ≡ no_room
+  pub few_offsets : length old.offsets ≤ count → result ≡ no_room
+  pub few_bounds : length old.bounds < count → result ≡ no_room
+
+-- a report was made, or there was no memory for it
+abbrev pub WritesTextRows :
+    ErrorType → ℕ → FrequentState (String Global) → (old new : TextBuffers) → (count num_bytes : ℕ) → ℤ → Type 0
+WritesTextRows kind threshold s old new count num_bytes result =
+    ((rows : List (RowValue (String Global))) × AreRows text_eq kind threshold s rows × ReportsTexts rows old new count num_bytes result)
+    ⊎ (result ≡ refusal_number NoMemory)
