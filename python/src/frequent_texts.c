@@ -1,78 +1,95 @@
-/* What the library has no call for yet: rows of a FrequentItems of texts, read from the image that it writes. */
+/* Rows of a FrequentItems of texts: the library writes their texts one behind the other, with offsets. */
 #include "sketches.h"
 
 #include <stdlib.h>
 #include <string.h>
 
-#define HEAD 32
-
-static uint64_t number_at(const uint8_t *bytes, size_t size)
-{
-    uint64_t number = 0;
-    for (size_t i = size; i > 0; i--)
-        number = number << 8 | bytes[i - 1];
-    return number;
-}
-
 typedef struct {
     const char *text;
-    uint32_t length;
-    uint64_t weight;
+    size_t length;
+    ds_frequent_bounds bounds;
 } TextRow;
+
+/* Room for rows: their texts, where these begin and end, and their bounds. */
+typedef struct {
+    uint8_t *bytes;
+    uint64_t *offsets;
+    ds_frequent_bounds *bounds;
+    TextRow *rows;
+} Room;
+
+static bool room_alloc(Room *room, size_t rows, size_t bytes)
+{
+    room->bytes = PyMem_New(uint8_t, bytes);
+    room->offsets = PyMem_New(uint64_t, rows + 1);
+    room->bounds = PyMem_New(ds_frequent_bounds, rows);
+    room->rows = PyMem_New(TextRow, rows);
+    if (room->bytes != NULL && room->offsets != NULL && room->bounds != NULL && room->rows != NULL)
+        return true;
+    PyErr_NoMemory();
+    return false;
+}
+
+static void room_free(Room *room)
+{
+    PyMem_Free(room->bytes);
+    PyMem_Free(room->offsets);
+    PyMem_Free(room->bounds);
+    PyMem_Free(room->rows);
+}
 
 /* Heavier ones first, and among equals by their bytes. */
 static int heavier(const void *first, const void *second)
 {
     const TextRow *a = first, *b = second;
-    if (a->weight != b->weight)
-        return a->weight > b->weight ? -1 : 1;
+    if (a->bounds.estimate != b->bounds.estimate)
+        return a->bounds.estimate > b->bounds.estimate ? -1 : 1;
     int order = memcmp(a->text, b->text, a->length < b->length ? a->length : b->length);
     return order != 0 ? order : (a->length > b->length) - (a->length < b->length);
 }
 
-static PyObject *row_of(const TextRow *row, uint64_t error)
+/* The library's rows descend by estimate already; equal ones may be in any order. */
+static PyObject *list_of(Room *room, size_t count)
 {
-    PyObject *text = PyUnicode_DecodeUTF8(row->text, (Py_ssize_t)row->length, NULL);
-    if (text == NULL)
-        return NULL;
-    unsigned long long low = row->weight, high = row->weight + error;
-    return Py_BuildValue("NKKK", text, low, high, high);
-}
-
-/* An image is 8 bytes long where the total is 0, and else has a head of its numbers, the weights and the items. */
-PyObject *texts_rows(Sketch *self, bool no_false_negatives, uint64_t threshold)
-{
-    PyObject *image = sketch_image(self, (ds_frequent_text_to_bytes), TEXTS_GUESS);
-    if (image == NULL)
-        return NULL;
-    const uint8_t *head = (const uint8_t *)PyBytes_AS_STRING(image);
-    bool empty = PyBytes_GET_SIZE(image) < HEAD;
-    size_t count = empty ? 0 : (size_t)number_at(head + 8, 4), kept = 0;
-    uint64_t error = empty ? 0 : number_at(head + 24, 8), least = threshold > error ? threshold : error;
-    const char *weights = PyBytes_AS_STRING(image) + HEAD, *item = weights + 8 * count;
-    TextRow *rows = PyMem_New(TextRow, count);
-    PyObject *list = NULL;
-    if (rows == NULL) {
-        Py_DECREF(image);
-        return PyErr_NoMemory();
-    }
-    for (size_t i = 0; i < count; i++) {
-        TextRow row = {item + 4, (uint32_t)number_at((const uint8_t *)item, 4),
-                       number_at((const uint8_t *)weights + 8 * i, 8)};
-        item = row.text + row.length;
-        if ((no_false_negatives ? row.weight + error : row.weight) > least)
-            rows[kept++] = row;
-    }
-    qsort(rows, kept, sizeof *rows, heavier);
-    list = PyList_New((Py_ssize_t)kept);
-    for (size_t i = 0; list != NULL && i < kept; i++) {
-        PyObject *each = row_of(&rows[i], error);
+    for (size_t i = 0; i < count; i++)
+        room->rows[i] = (TextRow){(const char *)room->bytes + room->offsets[i],
+                                  (size_t)(room->offsets[i + 1] - room->offsets[i]), room->bounds[i]};
+    qsort(room->rows, count, sizeof *room->rows, heavier);
+    PyObject *list = PyList_New((Py_ssize_t)count);
+    for (size_t i = 0; list != NULL && i < count; i++) {
+        const TextRow *row = &room->rows[i];
+        PyObject *text = PyUnicode_DecodeUTF8(row->text, (Py_ssize_t)row->length, NULL);
+        PyObject *each = text == NULL ? NULL
+                                      : Py_BuildValue("NKKK", text, (unsigned long long)row->bounds.lower_bound,
+                                                      (unsigned long long)row->bounds.estimate,
+                                                      (unsigned long long)row->bounds.upper_bound);
         if (each == NULL)
             Py_CLEAR(list);
         else
             PyList_SET_ITEM(list, (Py_ssize_t)i, each);
     }
-    PyMem_Free(rows);
-    Py_DECREF(image);
     return list;
+}
+
+PyObject *texts_rows(Sketch *self, bool no_false_negatives, uint64_t threshold)
+{
+    PyObject *list = NULL;
+    size_t rows = 64, bytes = 1024;
+    for (;;) {
+        Room room;
+        bool ready = room_alloc(&room, rows, bytes) && sketch_lock(self);
+        int32_t answer = DS_NO_SKETCH;
+        size_t count = 0, num_bytes = 0;
+        if (ready) {
+            answer = ds_frequent_text_rows(&self->handle, no_false_negatives, threshold, room.bytes, bytes, room.offsets,
+                                           rows + 1, room.bounds, rows, &count, &num_bytes);
+            sketch_unlock(self);
+            list = answer >= 0 ? list_of(&room, count) : answer == DS_NO_ROOM ? NULL : refuse(answer);
+        }
+        room_free(&room);
+        if (answer != DS_NO_ROOM)
+            return list;
+        rows = count;
+        bytes = num_bytes;
+    }
 }

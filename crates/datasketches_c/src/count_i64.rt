@@ -13,11 +13,11 @@ ghost use Rattle.datasketches_c.specs.declared.any_sketch.AnySketch.TheVariants.
 use crate::any_sketch::AnySketch;
 use crate::count_i64_items::{estimate_all, update, update_all, upper_bound};
 use crate::handle::SketchHandle;
-use crate::status_code::{NO_SKETCH, OK, WRONG_KIND, refusal_number};
+use crate::on_sketch::join;
+use crate::status_code::{OK, refusal_number};
 use sketch_base::Fault;
 use sketch_countmin::CountMinSketch;
 use std::alloc::Global;
-use std::mem::replace;
 
 /// Adds the other sketch's cells and total, and answers the call's number.
 fn join(sketch: &mut CountMinSketch<i64>, other: &CountMinSketch<i64>) -> i32
@@ -256,25 +256,5 @@ pub extern "C" fn ds_count_i64_merge(
         × (SameShape a b → greatest_i64 < a.total + b.total → result ≡ refusal_number Fault.WeightOverflow)
         × (¬ SameShape a b → result ≡ refusal_number Fault.Mismatch))) }
 {
-    let Some(mut sketch) = replace(handle, SketchHandle::none(alloc)).into_box() else {
-        return NO_SKETCH;
-    };
-    let Some(second) = replace(other, SketchHandle::none(alloc)).into_box() else {
-        let answer = match &*sketch {
-            AnySketch::CountI64(_) => NO_SKETCH,
-            _ => WRONG_KIND,
-        };
-        *handle = SketchHandle::of(sketch);
-        return answer;
-    };
-    let answer = match &mut *sketch {
-        AnySketch::CountI64(sketch) => match &*second {
-            AnySketch::CountI64(second) => join(sketch, second),
-            _ => WRONG_KIND,
-        },
-        _ => WRONG_KIND,
-    };
-    *handle = SketchHandle::of(sketch);
-    *other = SketchHandle::of(second);
-    answer
+    join!(alloc, handle, other, CountI64(sketch, second) => join(sketch, second))
 }

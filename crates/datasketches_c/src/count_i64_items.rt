@@ -6,14 +6,13 @@ ghost use Rattle.datasketches_c.specs.Estimates.{AreLeastCells};
 ghost use Rattle.datasketches_c.specs.Kinds.{OnCountI64, HoldsCountI64};
 ghost use Rattle.datasketches_c.specs.Numbers.{OnRefused, ok, no_room, greatest_i64, refusal_number};
 
-use crate::any_sketch::AnySketch;
 use crate::handle::SketchHandle;
-use crate::status_code::{NO_ROOM, NO_SKETCH, OK, WRONG_KIND, refusal_number};
+use crate::on_sketch::{ask, change};
+use crate::status_code::{NO_ROOM, OK, refusal_number};
 use sketch_base::Fault;
 use sketch_countmin::CountMinSketch;
 use std::alloc::Global;
 use std::hash::Hash;
-use std::mem::replace;
 
 /// Adds a weight to an item's and its distance from 0 to the total, and answers the call's number.
 #[inline(always)]
@@ -43,15 +42,7 @@ pub(crate) fn update<I: Hash + Drop>(
         × (greatest_i64 < s.total + unsigned_abs weight → result ≡ refusal_number Fault.WeightOverflow)) }
     ensures refused { OnRefused result (handle.new.value ≡ handle.old.value) }
 {
-    let Some(mut sketch) = replace(handle, SketchHandle::none(alloc)).into_box() else {
-        return NO_SKETCH;
-    };
-    let answer = match &mut *sketch {
-        AnySketch::CountI64(sketch) => count(sketch, item, weight),
-        _ => WRONG_KIND,
-    };
-    *handle = SketchHandle::of(sketch);
-    answer
+    change!(alloc, handle, CountI64(sketch) => count(sketch, item, weight))
 }
 
 /// Adds 1 to the weight of each item, as far as the total has room.
@@ -63,18 +54,10 @@ pub(crate) fn update_all<I: Hash>(alloc: Global, handle: &mut SketchHandle, item
         × (s.total + length items.now ≤ greatest_i64 → result ≡ ok)
         × (greatest_i64 < s.total + length items.now → result ≡ refusal_number Fault.WeightOverflow)) }
 {
-    let Some(mut sketch) = replace(handle, SketchHandle::none(alloc)).into_box() else {
-        return NO_SKETCH;
-    };
-    let answer = match &mut *sketch {
-        AnySketch::CountI64(sketch) => match sketch.update_all(items) {
-            Ok(()) => OK,
-            Err(error) => refusal_number(error.fault()),
-        },
-        _ => WRONG_KIND,
-    };
-    *handle = SketchHandle::of(sketch);
-    answer
+    change!(alloc, handle, CountI64(sketch) => match sketch.update_all(items) {
+        Ok(()) => OK,
+        Err(error) => refusal_number(error.fault()),
+    })
 }
 
 /// Writes down the estimate of an item's weight.
@@ -90,18 +73,10 @@ pub(crate) fn estimate<I: Hash + Drop>(
         (result ≡ ok) × IsLeastCell s (fed_bytes I.hash_input item) estimate.new) }
     ensures untouched { OnRefused result (estimate.new ≡ estimate.old) }
 {
-    let Some(sketch) = replace(handle, SketchHandle::none(alloc)).into_box() else {
-        return NO_SKETCH;
-    };
-    let answer = match &*sketch {
-        AnySketch::CountI64(sketch) => {
-            *estimate = sketch.estimate(item);
-            OK
-        }
-        _ => WRONG_KIND,
-    };
-    *handle = SketchHandle::of(sketch);
-    answer
+    ask!(alloc, handle, CountI64(sketch) => {
+        *estimate = sketch.estimate(item);
+        OK
+    })
 }
 
 /// Writes down an upper bound of an item's weight: the estimate and the margin.
@@ -118,18 +93,10 @@ pub(crate) fn upper_bound<I: Hash + Drop>(
         → bound.new ≡ upper_bound_of greatest_i64 s estimate)) }
     ensures untouched { OnRefused result (bound.new ≡ bound.old) }
 {
-    let Some(sketch) = replace(handle, SketchHandle::none(alloc)).into_box() else {
-        return NO_SKETCH;
-    };
-    let answer = match &*sketch {
-        AnySketch::CountI64(sketch) => {
-            *bound = sketch.upper_bound(item);
-            OK
-        }
-        _ => WRONG_KIND,
-    };
-    *handle = SketchHandle::of(sketch);
-    answer
+    ask!(alloc, handle, CountI64(sketch) => {
+        *bound = sketch.upper_bound(item);
+        OK
+    })
 }
 
 /// Writes down the estimate of each item's weight in a sketch, and answers the call's number.
@@ -164,13 +131,5 @@ pub(crate) fn estimate_all<I: Hash>(
     if estimates.len() != items.len() {
         return NO_ROOM;
     }
-    let Some(sketch) = replace(handle, SketchHandle::none(alloc)).into_box() else {
-        return NO_SKETCH;
-    };
-    let answer = match &*sketch {
-        AnySketch::CountI64(sketch) => estimates_of(sketch, items, estimates),
-        _ => WRONG_KIND,
-    };
-    *handle = SketchHandle::of(sketch);
-    answer
+    ask!(alloc, handle, CountI64(sketch) => estimates_of(sketch, items, estimates))
 }

@@ -9,10 +9,10 @@ use crate::any_sketch::AnySketch;
 use crate::count_images::write_counts;
 use crate::count_u64_state::CountStatus;
 use crate::handle::SketchHandle;
-use crate::status_code::{NO_SKETCH, OK, WRONG_KIND, refusal_number};
+use crate::on_sketch::ask;
+use crate::status_code::{OK, refusal_number};
 use sketch_countmin::CountMinSketch;
 use std::alloc::Global;
-use std::mem::replace;
 
 /// Writes down the sketch's numbers: the total weight, the seed, the buckets of a row and the hashes, which are as many
 /// as rows. A refusal leaves `status` as it was.
@@ -28,23 +28,15 @@ pub extern "C" fn ds_count_i64_status(
         × (status.new.total_weight ≡ s.total) × (status.new.seed ≡ s.seed)
         × (status.new.num_buckets ≡ s.buckets) × (status.new.num_hashes ≡ s.hashes)) }
 {
-    let Some(sketch) = replace(handle, SketchHandle::none(alloc)).into_box() else {
-        return NO_SKETCH;
-    };
-    let answer = match &*sketch {
-        AnySketch::CountI64(sketch) => {
-            *status = CountStatus {
-                total_weight: sketch.total_weight().unsigned_abs(),
-                seed: sketch.seed(),
-                num_buckets: sketch.num_buckets(),
-                num_hashes: sketch.num_hashes(),
-            };
-            OK
-        }
-        _ => WRONG_KIND,
-    };
-    *handle = SketchHandle::of(sketch);
-    answer
+    ask!(alloc, handle, CountI64(sketch) => {
+        *status = CountStatus {
+            total_weight: sketch.total_weight().unsigned_abs(),
+            seed: sketch.seed(),
+            num_buckets: sketch.num_buckets(),
+            num_hashes: sketch.num_hashes(),
+        };
+        OK
+    })
 }
 
 /// Writes the sketch's image to the front of the caller's buffer, and says how long it is in bytes, also where there is
@@ -62,15 +54,7 @@ pub extern "C" fn ds_count_i64_to_bytes(
     ensures image { OnCountI64 handle.old.value handle.new.value result (λ s.
         WritesImage (λ image. IsSpelled least_i64 greatest_i64 image s) out.old out.new written.new result) }
 {
-    let Some(sketch) = replace(handle, SketchHandle::none(alloc)).into_box() else {
-        return NO_SKETCH;
-    };
-    let answer = match &*sketch {
-        AnySketch::CountI64(sketch) => write_counts(sketch, out, written),
-        _ => WRONG_KIND,
-    };
-    *handle = SketchHandle::of(sketch);
-    answer
+    ask!(alloc, handle, CountI64(sketch) => write_counts(sketch, out, written))
 }
 
 /// Makes the sketch of an image that was written under this seed, in place of what the handle has, which is freed. The

@@ -13,11 +13,11 @@ ghost use Rattle.datasketches_c.specs.declared.any_sketch.AnySketch.TheVariants.
 use crate::any_sketch::AnySketch;
 use crate::count_u64_items::{estimate_all, update, update_all, upper_bound};
 use crate::handle::SketchHandle;
-use crate::status_code::{BAD_FRACTION, NO_SKETCH, OK, WRONG_KIND, refusal_number};
+use crate::on_sketch::{change, join};
+use crate::status_code::{BAD_FRACTION, OK, refusal_number};
 use sketch_base::Fault;
 use sketch_countmin::CountMinSketch;
 use std::alloc::Global;
-use std::mem::replace;
 
 /// Adds the other sketch's cells and total, and answers the call's number.
 fn join(sketch: &mut CountMinSketch<u64>, other: &CountMinSketch<u64>) -> i32
@@ -256,27 +256,7 @@ pub extern "C" fn ds_count_u64_merge(
         × (SameShape a b → greatest_u64 < a.total + b.total → result ≡ refusal_number Fault.WeightOverflow)
         × (¬ SameShape a b → result ≡ refusal_number Fault.Mismatch))) }
 {
-    let Some(mut sketch) = replace(handle, SketchHandle::none(alloc)).into_box() else {
-        return NO_SKETCH;
-    };
-    let Some(second) = replace(other, SketchHandle::none(alloc)).into_box() else {
-        let answer = match &*sketch {
-            AnySketch::CountU64(_) => NO_SKETCH,
-            _ => WRONG_KIND,
-        };
-        *handle = SketchHandle::of(sketch);
-        return answer;
-    };
-    let answer = match &mut *sketch {
-        AnySketch::CountU64(sketch) => match &*second {
-            AnySketch::CountU64(second) => join(sketch, second),
-            _ => WRONG_KIND,
-        },
-        _ => WRONG_KIND,
-    };
-    *handle = SketchHandle::of(sketch);
-    *other = SketchHandle::of(second);
-    answer
+    join!(alloc, handle, other, CountU64(sketch, second) => join(sketch, second))
 }
 
 /// Halves each cell and the total, rounded down.
@@ -285,18 +265,10 @@ pub extern "C" fn ds_count_u64_halve(alloc: Global, handle: &mut SketchHandle) -
     ensures { OnCountU64 handle.old.value handle.new.value result (λ s.
         (result ≡ ok) × (handle.new.value ≡ Some (CountU64 (halved_state s)))) }
 {
-    let Some(mut sketch) = replace(handle, SketchHandle::none(alloc)).into_box() else {
-        return NO_SKETCH;
-    };
-    let answer = match &mut *sketch {
-        AnySketch::CountU64(sketch) => {
-            sketch.halve();
-            OK
-        }
-        _ => WRONG_KIND,
-    };
-    *handle = SketchHandle::of(sketch);
-    answer
+    change!(alloc, handle, CountU64(sketch) => {
+        sketch.halve();
+        OK
+    })
 }
 
 /// Multiplies each cell and the total by a fraction above 0 and at most 1, rounded down. Another fraction is refused with
@@ -317,16 +289,8 @@ pub extern "C" fn ds_count_u64_decay(
     if numerator == 0 || numerator > denominator {
         return BAD_FRACTION;
     }
-    let Some(mut sketch) = replace(handle, SketchHandle::none(alloc)).into_box() else {
-        return NO_SKETCH;
-    };
-    let answer = match &mut *sketch {
-        AnySketch::CountU64(sketch) => {
-            sketch.decay(numerator, denominator);
-            OK
-        }
-        _ => WRONG_KIND,
-    };
-    *handle = SketchHandle::of(sketch);
-    answer
+    change!(alloc, handle, CountU64(sketch) => {
+        sketch.decay(numerator, denominator);
+        OK
+    })
 }

@@ -8,10 +8,10 @@ ghost use Rattle.datasketches_c.specs.Numbers.{OnDone, OnRefused, ok, greatest_u
 use crate::any_sketch::AnySketch;
 use crate::count_images::write_counts;
 use crate::handle::SketchHandle;
-use crate::status_code::{NO_SKETCH, OK, WRONG_KIND, refusal_number};
+use crate::on_sketch::ask;
+use crate::status_code::{OK, refusal_number};
 use sketch_countmin::CountMinSketch;
 use std::alloc::Global;
-use std::mem::replace;
 
 /// The numbers of a Count-Min sketch.
 #[repr(C)]
@@ -37,23 +37,15 @@ pub extern "C" fn ds_count_u64_status(
         × (status.new.total_weight ≡ s.total) × (status.new.seed ≡ s.seed)
         × (status.new.num_buckets ≡ s.buckets) × (status.new.num_hashes ≡ s.hashes)) }
 {
-    let Some(sketch) = replace(handle, SketchHandle::none(alloc)).into_box() else {
-        return NO_SKETCH;
-    };
-    let answer = match &*sketch {
-        AnySketch::CountU64(sketch) => {
-            *status = CountStatus {
-                total_weight: sketch.total_weight(),
-                seed: sketch.seed(),
-                num_buckets: sketch.num_buckets(),
-                num_hashes: sketch.num_hashes(),
-            };
-            OK
-        }
-        _ => WRONG_KIND,
-    };
-    *handle = SketchHandle::of(sketch);
-    answer
+    ask!(alloc, handle, CountU64(sketch) => {
+        *status = CountStatus {
+            total_weight: sketch.total_weight(),
+            seed: sketch.seed(),
+            num_buckets: sketch.num_buckets(),
+            num_hashes: sketch.num_hashes(),
+        };
+        OK
+    })
 }
 
 /// Writes the sketch's image to the front of the caller's buffer, and says how long it is in bytes, also where there is
@@ -71,15 +63,7 @@ pub extern "C" fn ds_count_u64_to_bytes(
     ensures image { OnCountU64 handle.old.value handle.new.value result (λ s.
         WritesImage (λ image. IsSpelled (pos 0) greatest_u64 image s) out.old out.new written.new result) }
 {
-    let Some(sketch) = replace(handle, SketchHandle::none(alloc)).into_box() else {
-        return NO_SKETCH;
-    };
-    let answer = match &*sketch {
-        AnySketch::CountU64(sketch) => write_counts(sketch, out, written),
-        _ => WRONG_KIND,
-    };
-    *handle = SketchHandle::of(sketch);
-    answer
+    ask!(alloc, handle, CountU64(sketch) => write_counts(sketch, out, written))
 }
 
 /// Makes the sketch of an image that was written under this seed, in place of what the handle has, which is freed. The

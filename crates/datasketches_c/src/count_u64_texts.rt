@@ -9,15 +9,14 @@ ghost use Rattle.datasketches_c.specs.Kinds.{OnCountU64, HoldsCountU64};
 ghost use Rattle.datasketches_c.specs.Numbers.{OnRefused, ok, no_room, bad_offsets, greatest_u64, refusal_number};
 ghost use Rattle.datasketches_c.specs.Texts.{AreOffsets, AreTexts, texts_of};
 
-use crate::any_sketch::AnySketch;
 use crate::count_texts::{count_texts, estimate_texts};
 use crate::count_u64_items::{update, upper_bound};
 use crate::handle::SketchHandle;
-use crate::status_code::{BAD_OFFSETS, NO_ROOM, NO_SKETCH, OK, WRONG_KIND, refusal_number};
+use crate::on_sketch::{ask, change};
+use crate::status_code::{BAD_OFFSETS, NO_ROOM, OK, refusal_number};
 use crate::texts::{are_offsets, are_utf8};
 use sketch_base::Fault;
 use std::alloc::Global;
-use std::mem::replace;
 
 /// Adds a weight to a text's. Bytes that are no text are refused with `InvalidUtf8`, and a total that would pass the
 /// greatest number with `WeightOverflow`; the sketch is then as it was.
@@ -113,15 +112,7 @@ pub extern "C" fn ds_count_u64_update_all_text(
     if !are_utf8(bytes, offsets) {
         return refusal_number(Fault::InvalidUtf8);
     }
-    let Some(mut sketch) = replace(handle, SketchHandle::none(alloc)).into_box() else {
-        return NO_SKETCH;
-    };
-    let answer = match &mut *sketch {
-        AnySketch::CountU64(sketch) => count_texts(sketch, bytes, offsets),
-        _ => WRONG_KIND,
-    };
-    *handle = SketchHandle::of(sketch);
-    answer
+    change!(alloc, handle, CountU64(sketch) => count_texts(sketch, bytes, offsets))
 }
 
 /// Writes down the estimate of each text's weight. The texts are the bytes between each of the offsets and the next, and
@@ -158,16 +149,8 @@ pub extern "C" fn ds_count_u64_estimate_all_text(
     if !are_utf8(bytes, offsets) {
         return refusal_number(Fault::InvalidUtf8);
     }
-    let Some(sketch) = replace(handle, SketchHandle::none(alloc)).into_box() else {
-        return NO_SKETCH;
-    };
-    let answer = match &*sketch {
-        AnySketch::CountU64(sketch) => {
-            estimate_texts(sketch, bytes, offsets, estimates);
-            OK
-        }
-        _ => WRONG_KIND,
-    };
-    *handle = SketchHandle::of(sketch);
-    answer
+    ask!(alloc, handle, CountU64(sketch) => {
+        estimate_texts(sketch, bytes, offsets, estimates);
+        OK
+    })
 }

@@ -8,15 +8,14 @@ ghost use Rattle.datasketches_c.specs.Numbers.{OnRefused, ok, no_room, bad_offse
 ghost use Rattle.datasketches_c.specs.Texts.{AreOffsets, AreTexts, texts_of};
 ghost use Rattle.datasketches_c.specs.Weights.{CountsWeights};
 
-use crate::any_sketch::AnySketch;
 use crate::count_weighted::{count_weighted, count_weighted_texts};
 use crate::handle::SketchHandle;
-use crate::status_code::{BAD_OFFSETS, NO_ROOM, NO_SKETCH, WRONG_KIND, refusal_number};
+use crate::on_sketch::change;
+use crate::status_code::{BAD_OFFSETS, NO_ROOM, refusal_number};
 use crate::texts::{are_offsets, are_utf8};
 use sketch_base::Fault;
 use std::alloc::Global;
 use std::hash::Hash;
-use std::mem::replace;
 
 /// Adds a weight to that of each item, for the calls below.
 #[inline]
@@ -36,15 +35,7 @@ fn update_all_weighted<I: Hash + Copy>(
     if weights.len() != items.len() {
         return NO_ROOM;
     }
-    let Some(mut sketch) = replace(handle, SketchHandle::none(alloc)).into_box() else {
-        return NO_SKETCH;
-    };
-    let answer = match &mut *sketch {
-        AnySketch::CountU64(sketch) => count_weighted(sketch, items, weights),
-        _ => WRONG_KIND,
-    };
-    *handle = SketchHandle::of(sketch);
-    answer
+    change!(alloc, handle, CountU64(sketch) => count_weighted(sketch, items, weights))
 }
 
 /// Adds a weight to that of each number, one after another.
@@ -123,13 +114,5 @@ pub extern "C" fn ds_count_u64_update_all_weighted_text(
     if !are_utf8(bytes, offsets) {
         return refusal_number(Fault::InvalidUtf8);
     }
-    let Some(mut sketch) = replace(handle, SketchHandle::none(alloc)).into_box() else {
-        return NO_SKETCH;
-    };
-    let answer = match &mut *sketch {
-        AnySketch::CountU64(sketch) => count_weighted_texts(sketch, bytes, offsets, weights),
-        _ => WRONG_KIND,
-    };
-    *handle = SketchHandle::of(sketch);
-    answer
+    change!(alloc, handle, CountU64(sketch) => count_weighted_texts(sketch, bytes, offsets, weights))
 }

@@ -12,12 +12,12 @@ ghost use Rattle.datasketches_c.specs.declared.any_sketch.AnySketch.TheVariants.
 
 use crate::any_sketch::AnySketch;
 use crate::handle::SketchHandle;
-use crate::status_code::{NO, NO_ROOM, NO_SKETCH, OK, WRONG_KIND, YES, refusal_number};
+use crate::on_sketch::{ask, change};
+use crate::status_code::{NO, NO_ROOM, OK, YES, refusal_number};
 use sketch_base::Fault;
 use sketch_bloom::BloomFilterBuilder;
 use std::alloc::Global;
 use std::hash::Hash;
-use std::mem::replace;
 
 /// Makes a filter of at least so many bits in place of what the handle has, which is freed.
 #[unsafe(no_mangle)]
@@ -48,18 +48,10 @@ pub extern "C" fn ds_filter_insert_u64(alloc: Global, handle: &mut SketchHandle,
     ensures { OnFilter handle.old.value handle.new.value result (λ s.
         (result ≡ ok) × (handle.new.value ≡ Some (Filter (inserted s (fed_bytes fed.u64 item))))) }
 {
-    let Some(mut sketch) = replace(handle, SketchHandle::none(alloc)).into_box() else {
-        return NO_SKETCH;
-    };
-    let answer = match &mut *sketch {
-        AnySketch::Filter(filter) => {
-            filter.insert(item);
-            OK
-        }
-        _ => WRONG_KIND,
-    };
-    *handle = SketchHandle::of(sketch);
-    answer
+    change!(alloc, handle, Filter(filter) => {
+        filter.insert(item);
+        OK
+    })
 }
 
 /// Inserts a number with a sign.
@@ -68,18 +60,10 @@ pub extern "C" fn ds_filter_insert_i64(alloc: Global, handle: &mut SketchHandle,
     ensures { OnFilter handle.old.value handle.new.value result (λ s.
         (result ≡ ok) × (handle.new.value ≡ Some (Filter (inserted s (fed_bytes fed.i64 item))))) }
 {
-    let Some(mut sketch) = replace(handle, SketchHandle::none(alloc)).into_box() else {
-        return NO_SKETCH;
-    };
-    let answer = match &mut *sketch {
-        AnySketch::Filter(filter) => {
-            filter.insert(item);
-            OK
-        }
-        _ => WRONG_KIND,
-    };
-    *handle = SketchHandle::of(sketch);
-    answer
+    change!(alloc, handle, Filter(filter) => {
+        filter.insert(item);
+        OK
+    })
 }
 
 /// Inserts a text.
@@ -97,18 +81,10 @@ pub extern "C" fn ds_filter_insert_text(
     let Ok(item) = str::from_utf8(item) else {
         return refusal_number(Fault::InvalidUtf8);
     };
-    let Some(mut sketch) = replace(handle, SketchHandle::none(alloc)).into_box() else {
-        return NO_SKETCH;
-    };
-    let answer = match &mut *sketch {
-        AnySketch::Filter(filter) => {
-            filter.insert(item);
-            OK
-        }
-        _ => WRONG_KIND,
-    };
-    *handle = SketchHandle::of(sketch);
-    answer
+    change!(alloc, handle, Filter(filter) => {
+        filter.insert(item);
+        OK
+    })
 }
 
 /// Inserts many items, for the calls below.
@@ -117,18 +93,10 @@ fn insert_all<I: Hash>(alloc: Global, handle: &mut SketchHandle, items: &[I]) ->
     ensures { OnFilter handle.old.value handle.new.value result (λ s.
         (result ≡ ok) × (handle.new.value ≡ Some (Filter (all_inserted s (map (fed_bytes I.hash_input) items.now))))) }
 {
-    let Some(mut sketch) = replace(handle, SketchHandle::none(alloc)).into_box() else {
-        return NO_SKETCH;
-    };
-    let answer = match &mut *sketch {
-        AnySketch::Filter(filter) => {
-            filter.insert_all(items);
-            OK
-        }
-        _ => WRONG_KIND,
-    };
-    *handle = SketchHandle::of(sketch);
-    answer
+    change!(alloc, handle, Filter(filter) => {
+        filter.insert_all(items);
+        OK
+    })
 }
 
 /// Inserts many numbers of this type, as one after another, and faster.
@@ -164,15 +132,7 @@ pub extern "C" fn ds_filter_contains_u64(alloc: Global, handle: &mut SketchHandl
     ensures answer { OnFilter handle.old.value handle.new.value result (λ s.
         result ≡ (if contains_item s (fed_bytes fed.u64 item) then yes else no)) }
 {
-    let Some(sketch) = replace(handle, SketchHandle::none(alloc)).into_box() else {
-        return NO_SKETCH;
-    };
-    let answer = match &*sketch {
-        AnySketch::Filter(filter) => { if filter.contains(&item) { YES } else { NO } }
-        _ => WRONG_KIND,
-    };
-    *handle = SketchHandle::of(sketch);
-    answer
+    ask!(alloc, handle, Filter(filter) => { if filter.contains(&item) { YES } else { NO } })
 }
 
 /// Whether the filter contains a number with a sign: 1 or 0.
@@ -182,15 +142,7 @@ pub extern "C" fn ds_filter_contains_i64(alloc: Global, handle: &mut SketchHandl
     ensures answer { OnFilter handle.old.value handle.new.value result (λ s.
         result ≡ (if contains_item s (fed_bytes fed.i64 item) then yes else no)) }
 {
-    let Some(sketch) = replace(handle, SketchHandle::none(alloc)).into_box() else {
-        return NO_SKETCH;
-    };
-    let answer = match &*sketch {
-        AnySketch::Filter(filter) => { if filter.contains(&item) { YES } else { NO } }
-        _ => WRONG_KIND,
-    };
-    *handle = SketchHandle::of(sketch);
-    answer
+    ask!(alloc, handle, Filter(filter) => { if filter.contains(&item) { YES } else { NO } })
 }
 
 /// Whether the filter contains a text: 1 or 0.
@@ -208,15 +160,7 @@ pub extern "C" fn ds_filter_contains_text(
     let Ok(item) = str::from_utf8(item) else {
         return refusal_number(Fault::InvalidUtf8);
     };
-    let Some(sketch) = replace(handle, SketchHandle::none(alloc)).into_box() else {
-        return NO_SKETCH;
-    };
-    let answer = match &*sketch {
-        AnySketch::Filter(filter) => { if filter.contains(&item) { YES } else { NO } }
-        _ => WRONG_KIND,
-    };
-    *handle = SketchHandle::of(sketch);
-    answer
+    ask!(alloc, handle, Filter(filter) => { if filter.contains(&item) { YES } else { NO } })
 }
 
 /// Writes down for each number whether the filter contains it. There are as many answers as numbers.
@@ -237,18 +181,10 @@ pub extern "C" fn ds_filter_contains_all_u64(
     if answers.len() != items.len() {
         return NO_ROOM;
     }
-    let Some(sketch) = replace(handle, SketchHandle::none(alloc)).into_box() else {
-        return NO_SKETCH;
-    };
-    let answer = match &*sketch {
-        AnySketch::Filter(filter) => {
-            filter.contains_all(items, answers);
-            OK
-        }
-        _ => WRONG_KIND,
-    };
-    *handle = SketchHandle::of(sketch);
-    answer
+    ask!(alloc, handle, Filter(filter) => {
+        filter.contains_all(items, answers);
+        OK
+    })
 }
 
 /// Writes down for each number whether the filter contains it. There are as many answers as numbers.
@@ -269,16 +205,8 @@ pub extern "C" fn ds_filter_contains_all_i64(
     if answers.len() != items.len() {
         return NO_ROOM;
     }
-    let Some(sketch) = replace(handle, SketchHandle::none(alloc)).into_box() else {
-        return NO_SKETCH;
-    };
-    let answer = match &*sketch {
-        AnySketch::Filter(filter) => {
-            filter.contains_all(items, answers);
-            OK
-        }
-        _ => WRONG_KIND,
-    };
-    *handle = SketchHandle::of(sketch);
-    answer
+    ask!(alloc, handle, Filter(filter) => {
+        filter.contains_all(items, answers);
+        OK
+    })
 }

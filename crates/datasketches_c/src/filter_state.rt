@@ -11,10 +11,10 @@ ghost use Rattle.datasketches_c.specs.declared.any_sketch.AnySketch.TheVariants.
 use crate::any_sketch::AnySketch;
 use crate::handle::SketchHandle;
 use crate::images::copy_out;
-use crate::status_code::{NO_SKETCH, OK, WRONG_KIND, refusal_number};
+use crate::on_sketch::{ask, change};
+use crate::status_code::{OK, refusal_number};
 use sketch_bloom::BloomFilter;
 use std::alloc::Global;
-use std::mem::replace;
 
 /// A filter's numbers.
 #[repr(C)]
@@ -40,18 +40,10 @@ pub extern "C" fn ds_filter_reset(alloc: Global, handle: &mut SketchHandle) -> i
     ensures { OnFilter handle.old.value handle.new.value result (λ s.
         (result ≡ ok) × (handle.new.value ≡ Some (Filter (cleared s)))) }
 {
-    let Some(mut sketch) = replace(handle, SketchHandle::none(alloc)).into_box() else {
-        return NO_SKETCH;
-    };
-    let answer = match &mut *sketch {
-        AnySketch::Filter(filter) => {
-            filter.reset();
-            OK
-        }
-        _ => WRONG_KIND,
-    };
-    *handle = SketchHandle::of(sketch);
-    answer
+    change!(alloc, handle, Filter(filter) => {
+        filter.reset();
+        OK
+    })
 }
 
 /// Writes down the filter's numbers.
@@ -67,23 +59,15 @@ pub extern "C" fn ds_filter_status(
         × (status.new.bits_used ≡ set.len s.set) × (status.new.capacity ≡ capacity_of s)
         × (status.new.seed ≡ s.seed) × (status.new.num_hashes ≡ s.num_hashes)) }
 {
-    let Some(sketch) = replace(handle, SketchHandle::none(alloc)).into_box() else {
-        return NO_SKETCH;
-    };
-    let answer = match &*sketch {
-        AnySketch::Filter(filter) => {
-            *status = FilterStatus {
-                bits_used: filter.bits_used(),
-                capacity: filter.capacity() as u64,
-                seed: filter.seed(),
-                num_hashes: filter.num_hashes(),
-            };
-            OK
-        }
-        _ => WRONG_KIND,
-    };
-    *handle = SketchHandle::of(sketch);
-    answer
+    ask!(alloc, handle, Filter(filter) => {
+        *status = FilterStatus {
+            bits_used: filter.bits_used(),
+            capacity: filter.capacity() as u64,
+            seed: filter.seed(),
+            num_hashes: filter.num_hashes(),
+        };
+        OK
+    })
 }
 
 /// Writes the filter's image to the front of the caller's buffer, and says how long it is, also where there is no room.
@@ -100,18 +84,10 @@ pub extern "C" fn ds_filter_to_bytes(
     ensures image { OnFilter handle.old.value handle.new.value result (λ s.
         WritesImage (λ image. IsSpelled image s) out.old out.new written.new result) }
 {
-    let Some(sketch) = replace(handle, SketchHandle::none(alloc)).into_box() else {
-        return NO_SKETCH;
-    };
-    let answer = match &*sketch {
-        AnySketch::Filter(filter) => match filter.serialize() {
-            Ok(image) => copy_out(&image, out, written),
-            Err(error) => refusal_number(error.fault()),
-        },
-        _ => WRONG_KIND,
-    };
-    *handle = SketchHandle::of(sketch);
-    answer
+    ask!(alloc, handle, Filter(filter) => match filter.serialize() {
+        Ok(image) => copy_out(&image, out, written),
+        Err(error) => refusal_number(error.fault()),
+    })
 }
 
 /// Makes the filter of an image, whose words take at most so many bytes, in place of what the handle has.

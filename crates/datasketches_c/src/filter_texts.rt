@@ -9,14 +9,13 @@ ghost use Rattle.datasketches_c.specs.Numbers.{OnRefused, ok, no_room, bad_offse
 ghost use Rattle.datasketches_c.specs.Texts.{AreOffsets, AreTexts, texts_of};
 ghost use Rattle.datasketches_c.specs.declared.any_sketch.AnySketch.TheVariants.{Filter};
 
-use crate::any_sketch::AnySketch;
 use crate::handle::SketchHandle;
-use crate::status_code::{BAD_OFFSETS, NO_ROOM, NO_SKETCH, OK, WRONG_KIND, refusal_number};
+use crate::on_sketch::{ask, change};
+use crate::status_code::{BAD_OFFSETS, NO_ROOM, OK, refusal_number};
 use crate::texts::{are_offsets, are_utf8, num_texts, text_at};
 use sketch_base::Fault;
 use sketch_bloom::BloomFilter;
 use std::alloc::Global;
-use std::mem::replace;
 
 /// Inserts each text of a buffer.
 fn insert_texts(filter: &mut BloomFilter, bytes: &[u8], offsets: &[u64])
@@ -68,18 +67,10 @@ pub extern "C" fn ds_filter_insert_all_text(
     if !are_utf8(bytes, offsets) {
         return refusal_number(Fault::InvalidUtf8);
     }
-    let Some(mut sketch) = replace(handle, SketchHandle::none(alloc)).into_box() else {
-        return NO_SKETCH;
-    };
-    let answer = match &mut *sketch {
-        AnySketch::Filter(filter) => {
-            insert_texts(filter, bytes, offsets);
-            OK
-        }
-        _ => WRONG_KIND,
-    };
-    *handle = SketchHandle::of(sketch);
-    answer
+    change!(alloc, handle, Filter(filter) => {
+        insert_texts(filter, bytes, offsets);
+        OK
+    })
 }
 
 /// Writes down for each text whether the filter contains it. The texts are the bytes between each of the offsets and
@@ -115,16 +106,8 @@ pub extern "C" fn ds_filter_contains_all_text(
     if !are_utf8(bytes, offsets) {
         return refusal_number(Fault::InvalidUtf8);
     }
-    let Some(sketch) = replace(handle, SketchHandle::none(alloc)).into_box() else {
-        return NO_SKETCH;
-    };
-    let answer = match &*sketch {
-        AnySketch::Filter(filter) => {
-            contains_texts(filter, bytes, offsets, answers);
-            OK
-        }
-        _ => WRONG_KIND,
-    };
-    *handle = SketchHandle::of(sketch);
-    answer
+    ask!(alloc, handle, Filter(filter) => {
+        contains_texts(filter, bytes, offsets, answers);
+        OK
+    })
 }

@@ -22,10 +22,10 @@ use crate::frequent::{
 };
 use crate::frequent_rows::write_rows;
 use crate::handle::SketchHandle;
-use crate::status_code::{NO_SKETCH, OK, WRONG_KIND, refusal_number};
+use crate::on_sketch::{ask, change, join};
+use crate::status_code::{OK, refusal_number};
 use sketch_frequencies::FrequentItemsSketch;
 use std::alloc::Global;
-use std::mem::replace;
 
 /// Makes a sketch of frequent numbers in place of what the handle has, which is freed. Its table may grow to
 /// `max_map_size` slots, a power of two from 8 to 2^30, and its purges sample `sample_size` counters, an even number from
@@ -69,15 +69,7 @@ pub extern "C" fn ds_frequent_i64_update(
         HoldsFrequentI64 handle.new.value (λ t. Updates int_eq s item weight t result)) }
     ensures refused { OnRefused result (handle.new.value ≡ handle.old.value) }
 {
-    let Some(mut sketch) = replace(handle, SketchHandle::none(alloc)).into_box() else {
-        return NO_SKETCH;
-    };
-    let answer = match &mut *sketch {
-        AnySketch::FrequentI64(sketch) => update(sketch, item, weight),
-        _ => WRONG_KIND,
-    };
-    *handle = SketchHandle::of(sketch);
-    answer
+    change!(alloc, handle, FrequentI64(sketch) => update(sketch, item, weight))
 }
 
 /// Adds 1 to the weight of each number, one after another.
@@ -93,15 +85,7 @@ pub extern "C" fn ds_frequent_i64_update_all(
     ensures { OnFrequentI64 handle.old.value handle.new.value result (λ s.
         HoldsFrequentI64 handle.new.value (λ t. UpdatesMany int_eq s items.now t result)) }
 {
-    let Some(mut sketch) = replace(handle, SketchHandle::none(alloc)).into_box() else {
-        return NO_SKETCH;
-    };
-    let answer = match &mut *sketch {
-        AnySketch::FrequentI64(sketch) => update_all(sketch, items),
-        _ => WRONG_KIND,
-    };
-    *handle = SketchHandle::of(sketch);
-    answer
+    change!(alloc, handle, FrequentI64(sketch) => update_all(sketch, items))
 }
 
 /// Writes down the bounds and the estimate of a number's weight.
@@ -117,18 +101,10 @@ pub extern "C" fn ds_frequent_i64_bounds(
         (result ≡ ok) × AreBounds int_eq s item bounds.new) }
     ensures untouched { OnRefused result (bounds.new ≡ bounds.old) }
 {
-    let Some(sketch) = replace(handle, SketchHandle::none(alloc)).into_box() else {
-        return NO_SKETCH;
-    };
-    let answer = match &*sketch {
-        AnySketch::FrequentI64(sketch) => {
-            *bounds = bounds_of(sketch, &item);
-            OK
-        }
-        _ => WRONG_KIND,
-    };
-    *handle = SketchHandle::of(sketch);
-    answer
+    ask!(alloc, handle, FrequentI64(sketch) => {
+        *bounds = bounds_of(sketch, &item);
+        OK
+    })
 }
 
 /// Merges the other sketch into this one, which then stands for both streams and keeps its own sizes. The other sketch
@@ -148,27 +124,7 @@ pub extern "C" fn ds_frequent_i64_merge(
         OnFrequentI64 other.old.value other.new.value result (λ b.
         HoldsFrequentI64 handle.new.value (λ t. MergesInto int_eq a b t result))) }
 {
-    let Some(mut sketch) = replace(handle, SketchHandle::none(alloc)).into_box() else {
-        return NO_SKETCH;
-    };
-    let Some(second) = replace(other, SketchHandle::none(alloc)).into_box() else {
-        let answer = match &*sketch {
-            AnySketch::FrequentI64(_) => NO_SKETCH,
-            _ => WRONG_KIND,
-        };
-        *handle = SketchHandle::of(sketch);
-        return answer;
-    };
-    let answer = match &mut *sketch {
-        AnySketch::FrequentI64(sketch) => match &*second {
-            AnySketch::FrequentI64(second) => merge(sketch, second),
-            _ => WRONG_KIND,
-        },
-        _ => WRONG_KIND,
-    };
-    *handle = SketchHandle::of(sketch);
-    *other = SketchHandle::of(second);
-    answer
+    join!(alloc, handle, other, FrequentI64(sketch, second) => merge(sketch, second))
 }
 
 /// Writes down the tracked numbers whose bound is above both the threshold and the error, in rows that descend by
@@ -193,17 +149,9 @@ pub extern "C" fn ds_frequent_i64_rows(
         WritesRows int_eq (error_type no_false_negatives) threshold s items.old items.new bounds.old bounds.new count.new
         result) }
 {
-    let Some(sketch) = replace(handle, SketchHandle::none(alloc)).into_box() else {
-        return NO_SKETCH;
-    };
-    let answer = match &*sketch {
-        AnySketch::FrequentI64(sketch) => {
-            write_rows(sketch, no_false_negatives, threshold, items, bounds, count)
-        }
-        _ => WRONG_KIND,
-    };
-    *handle = SketchHandle::of(sketch);
-    answer
+    ask!(alloc, handle, FrequentI64(sketch) => {
+        write_rows(sketch, no_false_negatives, threshold, items, bounds, count)
+    })
 }
 
 /// Forgets everything but the greatest size and the sample size.
@@ -212,18 +160,10 @@ pub extern "C" fn ds_frequent_i64_reset(alloc: Global, handle: &mut SketchHandle
     ensures { OnFrequentI64 handle.old.value handle.new.value result (λ s.
         (result ≡ ok) × HoldsFrequentI64 handle.new.value (Empties int_eq s)) }
 {
-    let Some(mut sketch) = replace(handle, SketchHandle::none(alloc)).into_box() else {
-        return NO_SKETCH;
-    };
-    let answer = match &mut *sketch {
-        AnySketch::FrequentI64(sketch) => {
-            reset(sketch);
-            OK
-        }
-        _ => WRONG_KIND,
-    };
-    *handle = SketchHandle::of(sketch);
-    answer
+    change!(alloc, handle, FrequentI64(sketch) => {
+        reset(sketch);
+        OK
+    })
 }
 
 /// Writes down the sketch's numbers. Sizes are in slots, and capacities in counters.
@@ -238,18 +178,10 @@ pub extern "C" fn ds_frequent_i64_status(
         (result ≡ ok) × AreNumbers s status.new) }
     ensures untouched { OnRefused result (status.new ≡ status.old) }
 {
-    let Some(sketch) = replace(handle, SketchHandle::none(alloc)).into_box() else {
-        return NO_SKETCH;
-    };
-    let answer = match &*sketch {
-        AnySketch::FrequentI64(sketch) => {
-            *status = status_of(sketch);
-            OK
-        }
-        _ => WRONG_KIND,
-    };
-    *handle = SketchHandle::of(sketch);
-    answer
+    ask!(alloc, handle, FrequentI64(sketch) => {
+        *status = status_of(sketch);
+        OK
+    })
 }
 
 /// Writes the sketch's image to the front of the caller's buffer, and says how many bytes long it is, also where there is
@@ -269,15 +201,7 @@ pub extern "C" fn ds_frequent_i64_to_bytes(
     ensures image { OnFrequentI64 handle.old.value handle.new.value result (λ s.
         WritesFrequent i64_codec (λ n. n) s out.old out.new written.new result) }
 {
-    let Some(sketch) = replace(handle, SketchHandle::none(alloc)).into_box() else {
-        return NO_SKETCH;
-    };
-    let answer = match &*sketch {
-        AnySketch::FrequentI64(sketch) => write_image(sketch, out, written),
-        _ => WRONG_KIND,
-    };
-    *handle = SketchHandle::of(sketch);
-    answer
+    ask!(alloc, handle, FrequentI64(sketch) => write_image(sketch, out, written))
 }
 
 /// Makes the sketch of an image, whose table takes at most so many bytes, in place of what the handle has, which is freed.

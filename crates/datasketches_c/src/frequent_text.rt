@@ -15,11 +15,11 @@ ghost use Rattle.datasketches_c.specs.declared.any_sketch.AnySketch.TheVariants.
 use crate::any_sketch::AnySketch;
 use crate::frequent::{FrequentBounds, bounds_of, merge, update};
 use crate::handle::SketchHandle;
-use crate::status_code::{NO_SKETCH, OK, WRONG_KIND, refusal_number};
+use crate::on_sketch::{ask, change, join};
+use crate::status_code::{OK, refusal_number};
 use sketch_base::Fault;
 use sketch_frequencies::FrequentItemsSketch;
 use std::alloc::Global;
-use std::mem::replace;
 
 /// Adds a weight to a text's.
 pub(crate) fn update_text(
@@ -63,15 +63,7 @@ fn update_str(alloc: Global, handle: &mut SketchHandle, item: &str, weight: u64)
         HoldsFrequentTexts handle.new.value (λ t. UpdatesText s item.now weight t result)) }
     ensures refused { OnRefused result (handle.new.value ≡ handle.old.value) }
 {
-    let Some(mut sketch) = replace(handle, SketchHandle::none(alloc)).into_box() else {
-        return NO_SKETCH;
-    };
-    let answer = match &mut *sketch {
-        AnySketch::FrequentTexts(sketch) => update_text(alloc, sketch, item, weight),
-        _ => WRONG_KIND,
-    };
-    *handle = SketchHandle::of(sketch);
-    answer
+    change!(alloc, handle, FrequentTexts(sketch) => update_text(alloc, sketch, item, weight))
 }
 
 /// Writes down what the sketch of a handle says of a text.
@@ -86,15 +78,7 @@ fn bounds_of_str(
         TellsOfText s item.now bounds.new result) }
     ensures untouched { OnRefused result (bounds.new ≡ bounds.old) }
 {
-    let Some(sketch) = replace(handle, SketchHandle::none(alloc)).into_box() else {
-        return NO_SKETCH;
-    };
-    let answer = match &*sketch {
-        AnySketch::FrequentTexts(sketch) => bounds_of_text(alloc, sketch, item, bounds),
-        _ => WRONG_KIND,
-    };
-    *handle = SketchHandle::of(sketch);
-    answer
+    ask!(alloc, handle, FrequentTexts(sketch) => bounds_of_text(alloc, sketch, item, bounds))
 }
 
 /// Makes a sketch of frequent texts in place of what the handle has, which is freed. Its table may grow to
@@ -187,25 +171,5 @@ pub extern "C" fn ds_frequent_text_merge(
         OnFrequentTexts other.old.value other.new.value result (λ b.
         HoldsFrequentTexts handle.new.value (λ t. MergesInto text_eq a b t result))) }
 {
-    let Some(mut sketch) = replace(handle, SketchHandle::none(alloc)).into_box() else {
-        return NO_SKETCH;
-    };
-    let Some(second) = replace(other, SketchHandle::none(alloc)).into_box() else {
-        let answer = match &*sketch {
-            AnySketch::FrequentTexts(_) => NO_SKETCH,
-            _ => WRONG_KIND,
-        };
-        *handle = SketchHandle::of(sketch);
-        return answer;
-    };
-    let answer = match &mut *sketch {
-        AnySketch::FrequentTexts(sketch) => match &*second {
-            AnySketch::FrequentTexts(second) => merge(sketch, second),
-            _ => WRONG_KIND,
-        },
-        _ => WRONG_KIND,
-    };
-    *handle = SketchHandle::of(sketch);
-    *other = SketchHandle::of(second);
-    answer
+    join!(alloc, handle, other, FrequentTexts(sketch, second) => merge(sketch, second))
 }

@@ -7,15 +7,14 @@ ghost use Rattle.datasketches_c.specs.Kinds.{OnFrequentTexts, HoldsFrequentTexts
 ghost use Rattle.datasketches_c.specs.Numbers.{bad_offsets, refusal_number};
 ghost use Rattle.datasketches_c.specs.Texts.{AreOffsets, AreTexts, texts_of};
 
-use crate::any_sketch::AnySketch;
 use crate::frequent_text::update_text;
 use crate::handle::SketchHandle;
-use crate::status_code::{BAD_OFFSETS, NO_SKETCH, OK, WRONG_KIND, refusal_number};
+use crate::on_sketch::change;
+use crate::status_code::{BAD_OFFSETS, OK, refusal_number};
 use crate::texts::{are_offsets, are_utf8, num_texts, text_at};
 use sketch_base::Fault;
 use sketch_frequencies::FrequentItemsSketch;
 use std::alloc::Global;
-use std::mem::replace;
 
 /// Adds 1 to the weight of each text of a buffer, one after another.
 fn update_texts(
@@ -65,13 +64,5 @@ pub extern "C" fn ds_frequent_text_update_all(
     if !are_utf8(bytes, offsets) {
         return refusal_number(Fault::InvalidUtf8);
     }
-    let Some(mut sketch) = replace(handle, SketchHandle::none(alloc)).into_box() else {
-        return NO_SKETCH;
-    };
-    let answer = match &mut *sketch {
-        AnySketch::FrequentTexts(sketch) => update_texts(alloc, sketch, bytes, offsets),
-        _ => WRONG_KIND,
-    };
-    *handle = SketchHandle::of(sketch);
-    answer
+    change!(alloc, handle, FrequentTexts(sketch) => update_texts(alloc, sketch, bytes, offsets))
 }

@@ -13,9 +13,9 @@ ghost use Rattle.datasketches_c.specs.Numbers.{OnDone, OnRefused, ok, no_room};
 use crate::any_sketch::AnySketch;
 use crate::frequent::{read_image, write_image};
 use crate::handle::SketchHandle;
-use crate::status_code::{NO_SKETCH, WRONG_KIND, refusal_number};
+use crate::on_sketch::ask;
+use crate::status_code::refusal_number;
 use std::alloc::Global;
-use std::mem::replace;
 
 /// Writes the sketch's image to the front of the caller's buffer, and says how many bytes long it is, also where there is
 /// no room. The sample size is not in it.
@@ -35,15 +35,7 @@ pub extern "C" fn ds_frequent_text_to_bytes(
     ensures image { OnFrequentTexts handle.old.value handle.new.value result (λ s.
         WritesFrequent text_codec (λ text. string_bytes text) s out.old out.new written.new result) }
 {
-    let Some(sketch) = replace(handle, SketchHandle::none(alloc)).into_box() else {
-        return NO_SKETCH;
-    };
-    let answer = match &*sketch {
-        AnySketch::FrequentTexts(sketch) => write_image(sketch, out, written),
-        _ => WRONG_KIND,
-    };
-    *handle = SketchHandle::of(sketch);
-    answer
+    ask!(alloc, handle, FrequentTexts(sketch) => write_image(sketch, out, written))
 }
 
 /// Makes the sketch of an image, whose table takes at most so many bytes, in place of what the handle has, which is freed.

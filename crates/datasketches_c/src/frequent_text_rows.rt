@@ -7,15 +7,14 @@ ghost use Rattle.datasketches_c.specs.Kinds.{OnFrequentTexts};
 ghost use Rattle.datasketches_c.specs.Numbers.{OnRefused, ok, no_room, refusal_number};
 ghost use Rattle.datasketches_c.specs.Texts.{offsets_from};
 
-use crate::any_sketch::AnySketch;
 use crate::frequent::FrequentBounds;
 use crate::frequent_rows::{copy_bounds, error_type_of};
 use crate::handle::SketchHandle;
-use crate::status_code::{NO_ROOM, NO_SKETCH, OK, WRONG_KIND, refusal_number};
+use crate::on_sketch::ask;
+use crate::status_code::{NO_ROOM, OK, refusal_number};
 use sketch_base::Fault;
 use sketch_frequencies::{FrequentItemsSketch, Row};
 use std::alloc::Global;
-use std::mem::replace;
 
 /// How many bytes the texts of rows have, where that is below 2^64.
 fn num_bytes_of(rows: &[Row<String>]) -> Option<usize>
@@ -136,22 +135,14 @@ pub extern "C" fn ds_frequent_text_rows(
         (record { bytes = bytes.old; offsets = offsets.old; bounds = bounds.old })
         (record { bytes = bytes.new; offsets = offsets.new; bounds = bounds.new }) count.new num_bytes.new result) }
 {
-    let Some(sketch) = replace(handle, SketchHandle::none(alloc)).into_box() else {
-        return NO_SKETCH;
-    };
-    let answer = match &*sketch {
-        AnySketch::FrequentTexts(sketch) => write_rows(
-            sketch,
-            no_false_negatives,
-            threshold,
-            bytes,
-            offsets,
-            bounds,
-            count,
-            num_bytes,
-        ),
-        _ => WRONG_KIND,
-    };
-    *handle = SketchHandle::of(sketch);
-    answer
+    ask!(alloc, handle, FrequentTexts(sketch) => write_rows(
+        sketch,
+        no_false_negatives,
+        threshold,
+        bytes,
+        offsets,
+        bounds,
+        count,
+        num_bytes,
+    ))
 }

@@ -5,12 +5,11 @@ ghost use Rattle.datasketches_c.specs.FrequentTexts.{text_eq};
 ghost use Rattle.datasketches_c.specs.Kinds.{OnFrequentTexts, HoldsFrequentTexts};
 ghost use Rattle.datasketches_c.specs.Numbers.{OnRefused, ok};
 
-use crate::any_sketch::AnySketch;
 use crate::frequent::{FrequentStatus, reset, status_of};
 use crate::handle::SketchHandle;
-use crate::status_code::{NO_SKETCH, OK, WRONG_KIND};
+use crate::on_sketch::{ask, change};
+use crate::status_code::OK;
 use std::alloc::Global;
-use std::mem::replace;
 
 /// Forgets everything but the greatest size and the sample size.
 #[unsafe(no_mangle)]
@@ -18,18 +17,10 @@ pub extern "C" fn ds_frequent_text_reset(alloc: Global, handle: &mut SketchHandl
     ensures { OnFrequentTexts handle.old.value handle.new.value result (λ s.
         (result ≡ ok) × HoldsFrequentTexts handle.new.value (Empties text_eq s)) }
 {
-    let Some(mut sketch) = replace(handle, SketchHandle::none(alloc)).into_box() else {
-        return NO_SKETCH;
-    };
-    let answer = match &mut *sketch {
-        AnySketch::FrequentTexts(sketch) => {
-            reset(sketch);
-            OK
-        }
-        _ => WRONG_KIND,
-    };
-    *handle = SketchHandle::of(sketch);
-    answer
+    change!(alloc, handle, FrequentTexts(sketch) => {
+        reset(sketch);
+        OK
+    })
 }
 
 /// Writes down the sketch's numbers. Sizes are in slots, and capacities in counters.
@@ -44,16 +35,8 @@ pub extern "C" fn ds_frequent_text_status(
         (result ≡ ok) × AreNumbers s status.new) }
     ensures untouched { OnRefused result (status.new ≡ status.old) }
 {
-    let Some(sketch) = replace(handle, SketchHandle::none(alloc)).into_box() else {
-        return NO_SKETCH;
-    };
-    let answer = match &*sketch {
-        AnySketch::FrequentTexts(sketch) => {
-            *status = status_of(sketch);
-            OK
-        }
-        _ => WRONG_KIND,
-    };
-    *handle = SketchHandle::of(sketch);
-    answer
+    ask!(alloc, handle, FrequentTexts(sketch) => {
+        *status = status_of(sketch);
+        OK
+    })
 }

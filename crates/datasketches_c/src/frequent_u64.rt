@@ -21,10 +21,10 @@ use crate::frequent::{
 };
 use crate::frequent_rows::write_rows;
 use crate::handle::SketchHandle;
-use crate::status_code::{NO_SKETCH, OK, WRONG_KIND, refusal_number};
+use crate::on_sketch::{ask, change, join};
+use crate::status_code::{OK, refusal_number};
 use sketch_frequencies::FrequentItemsSketch;
 use std::alloc::Global;
-use std::mem::replace;
 
 /// Makes a sketch of frequent numbers in place of what the handle has, which is freed. Its table may grow to
 /// `max_map_size` slots, a power of two from 8 to 2^30, and its purges sample `sample_size` counters, an even number from
@@ -68,15 +68,7 @@ pub extern "C" fn ds_frequent_u64_update(
         HoldsFrequentU64 handle.new.value (λ t. Updates nat_eq s item weight t result)) }
     ensures refused { OnRefused result (handle.new.value ≡ handle.old.value) }
 {
-    let Some(mut sketch) = replace(handle, SketchHandle::none(alloc)).into_box() else {
-        return NO_SKETCH;
-    };
-    let answer = match &mut *sketch {
-        AnySketch::FrequentU64(sketch) => update(sketch, item, weight),
-        _ => WRONG_KIND,
-    };
-    *handle = SketchHandle::of(sketch);
-    answer
+    change!(alloc, handle, FrequentU64(sketch) => update(sketch, item, weight))
 }
 
 /// Adds 1 to the weight of each number, one after another.
@@ -92,15 +84,7 @@ pub extern "C" fn ds_frequent_u64_update_all(
     ensures { OnFrequentU64 handle.old.value handle.new.value result (λ s.
         HoldsFrequentU64 handle.new.value (λ t. UpdatesMany nat_eq s items.now t result)) }
 {
-    let Some(mut sketch) = replace(handle, SketchHandle::none(alloc)).into_box() else {
-        return NO_SKETCH;
-    };
-    let answer = match &mut *sketch {
-        AnySketch::FrequentU64(sketch) => update_all(sketch, items),
-        _ => WRONG_KIND,
-    };
-    *handle = SketchHandle::of(sketch);
-    answer
+    change!(alloc, handle, FrequentU64(sketch) => update_all(sketch, items))
 }
 
 /// Writes down the bounds and the estimate of a number's weight.
@@ -116,18 +100,10 @@ pub extern "C" fn ds_frequent_u64_bounds(
         (result ≡ ok) × AreBounds nat_eq s item bounds.new) }
     ensures untouched { OnRefused result (bounds.new ≡ bounds.old) }
 {
-    let Some(sketch) = replace(handle, SketchHandle::none(alloc)).into_box() else {
-        return NO_SKETCH;
-    };
-    let answer = match &*sketch {
-        AnySketch::FrequentU64(sketch) => {
-            *bounds = bounds_of(sketch, &item);
-            OK
-        }
-        _ => WRONG_KIND,
-    };
-    *handle = SketchHandle::of(sketch);
-    answer
+    ask!(alloc, handle, FrequentU64(sketch) => {
+        *bounds = bounds_of(sketch, &item);
+        OK
+    })
 }
 
 /// Merges the other sketch into this one, which then stands for both streams and keeps its own sizes. The other sketch
@@ -147,27 +123,7 @@ pub extern "C" fn ds_frequent_u64_merge(
         OnFrequentU64 other.old.value other.new.value result (λ b.
         HoldsFrequentU64 handle.new.value (λ t. MergesInto nat_eq a b t result))) }
 {
-    let Some(mut sketch) = replace(handle, SketchHandle::none(alloc)).into_box() else {
-        return NO_SKETCH;
-    };
-    let Some(second) = replace(other, SketchHandle::none(alloc)).into_box() else {
-        let answer = match &*sketch {
-            AnySketch::FrequentU64(_) => NO_SKETCH,
-            _ => WRONG_KIND,
-        };
-        *handle = SketchHandle::of(sketch);
-        return answer;
-    };
-    let answer = match &mut *sketch {
-        AnySketch::FrequentU64(sketch) => match &*second {
-            AnySketch::FrequentU64(second) => merge(sketch, second),
-            _ => WRONG_KIND,
-        },
-        _ => WRONG_KIND,
-    };
-    *handle = SketchHandle::of(sketch);
-    *other = SketchHandle::of(second);
-    answer
+    join!(alloc, handle, other, FrequentU64(sketch, second) => merge(sketch, second))
 }
 
 /// Writes down the tracked numbers whose bound is above both the threshold and the error, in rows that descend by
@@ -192,17 +148,9 @@ pub extern "C" fn ds_frequent_u64_rows(
         WritesRows nat_eq (error_type no_false_negatives) threshold s items.old items.new bounds.old bounds.new count.new
         result) }
 {
-    let Some(sketch) = replace(handle, SketchHandle::none(alloc)).into_box() else {
-        return NO_SKETCH;
-    };
-    let answer = match &*sketch {
-        AnySketch::FrequentU64(sketch) => {
-            write_rows(sketch, no_false_negatives, threshold, items, bounds, count)
-        }
-        _ => WRONG_KIND,
-    };
-    *handle = SketchHandle::of(sketch);
-    answer
+    ask!(alloc, handle, FrequentU64(sketch) => {
+        write_rows(sketch, no_false_negatives, threshold, items, bounds, count)
+    })
 }
 
 /// Forgets everything but the greatest size and the sample size.
@@ -211,18 +159,10 @@ pub extern "C" fn ds_frequent_u64_reset(alloc: Global, handle: &mut SketchHandle
     ensures { OnFrequentU64 handle.old.value handle.new.value result (λ s.
         (result ≡ ok) × HoldsFrequentU64 handle.new.value (Empties nat_eq s)) }
 {
-    let Some(mut sketch) = replace(handle, SketchHandle::none(alloc)).into_box() else {
-        return NO_SKETCH;
-    };
-    let answer = match &mut *sketch {
-        AnySketch::FrequentU64(sketch) => {
-            reset(sketch);
-            OK
-        }
-        _ => WRONG_KIND,
-    };
-    *handle = SketchHandle::of(sketch);
-    answer
+    change!(alloc, handle, FrequentU64(sketch) => {
+        reset(sketch);
+        OK
+    })
 }
 
 /// Writes down the sketch's numbers. Sizes are in slots, and capacities in counters.
@@ -237,18 +177,10 @@ pub extern "C" fn ds_frequent_u64_status(
         (result ≡ ok) × AreNumbers s status.new) }
     ensures untouched { OnRefused result (status.new ≡ status.old) }
 {
-    let Some(sketch) = replace(handle, SketchHandle::none(alloc)).into_box() else {
-        return NO_SKETCH;
-    };
-    let answer = match &*sketch {
-        AnySketch::FrequentU64(sketch) => {
-            *status = status_of(sketch);
-            OK
-        }
-        _ => WRONG_KIND,
-    };
-    *handle = SketchHandle::of(sketch);
-    answer
+    ask!(alloc, handle, FrequentU64(sketch) => {
+        *status = status_of(sketch);
+        OK
+    })
 }
 
 /// Writes the sketch's image to the front of the caller's buffer, and says how many bytes long it is, also where there is
@@ -268,15 +200,7 @@ pub extern "C" fn ds_frequent_u64_to_bytes(
     ensures image { OnFrequentU64 handle.old.value handle.new.value result (λ s.
         WritesFrequent u64_codec (λ n. n) s out.old out.new written.new result) }
 {
-    let Some(sketch) = replace(handle, SketchHandle::none(alloc)).into_box() else {
-        return NO_SKETCH;
-    };
-    let answer = match &*sketch {
-        AnySketch::FrequentU64(sketch) => write_image(sketch, out, written),
-        _ => WRONG_KIND,
-    };
-    *handle = SketchHandle::of(sketch);
-    answer
+    ask!(alloc, handle, FrequentU64(sketch) => write_image(sketch, out, written))
 }
 
 /// Makes the sketch of an image, whose table takes at most so many bytes, in place of what the handle has, which is freed.

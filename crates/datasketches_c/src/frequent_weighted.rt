@@ -9,17 +9,16 @@ ghost use Rattle.datasketches_c.specs.Numbers.{no_room, bad_offsets, greatest_u6
 ghost use Rattle.datasketches_c.specs.Texts.{AreOffsets, AreTexts, texts_of};
 ghost use Rattle.datasketches_c.specs.Weights.{AddsWeights};
 
-use crate::any_sketch::AnySketch;
 use crate::frequent::update;
 use crate::frequent_text::update_text;
 use crate::handle::SketchHandle;
-use crate::status_code::{BAD_OFFSETS, NO_ROOM, NO_SKETCH, OK, WRONG_KIND, refusal_number};
+use crate::on_sketch::change;
+use crate::status_code::{BAD_OFFSETS, NO_ROOM, OK, refusal_number};
 use crate::texts::{are_offsets, are_utf8, num_texts, text_at};
 use sketch_base::Fault;
 use sketch_frequencies::FrequentItemsSketch;
 use std::alloc::Global;
 use std::hash::Hash;
-use std::mem::replace;
 
 /// Whether a total has room for all weights.
 fn weights_fit(total: u64, weights: &[u64]) -> bool
@@ -103,15 +102,7 @@ pub extern "C" fn ds_frequent_u64_update_all_weighted(
     if weights.len() != items.len() {
         return NO_ROOM;
     }
-    let Some(mut sketch) = replace(handle, SketchHandle::none(alloc)).into_box() else {
-        return NO_SKETCH;
-    };
-    let answer = match &mut *sketch {
-        AnySketch::FrequentU64(sketch) => update_items(sketch, items, weights),
-        _ => WRONG_KIND,
-    };
-    *handle = SketchHandle::of(sketch);
-    answer
+    change!(alloc, handle, FrequentU64(sketch) => update_items(sketch, items, weights))
 }
 
 /// Adds a weight to that of each number, one after another. A weight of 0 changes nothing.
@@ -136,15 +127,7 @@ pub extern "C" fn ds_frequent_i64_update_all_weighted(
     if weights.len() != items.len() {
         return NO_ROOM;
     }
-    let Some(mut sketch) = replace(handle, SketchHandle::none(alloc)).into_box() else {
-        return NO_SKETCH;
-    };
-    let answer = match &mut *sketch {
-        AnySketch::FrequentI64(sketch) => update_items(sketch, items, weights),
-        _ => WRONG_KIND,
-    };
-    *handle = SketchHandle::of(sketch);
-    answer
+    change!(alloc, handle, FrequentI64(sketch) => update_items(sketch, items, weights))
 }
 
 /// Adds a weight to that of each text, one after another. A weight of 0 changes nothing. The texts are the bytes between each
@@ -183,13 +166,5 @@ pub extern "C" fn ds_frequent_text_update_all_weighted(
     if !are_utf8(bytes, offsets) {
         return refusal_number(Fault::InvalidUtf8);
     }
-    let Some(mut sketch) = replace(handle, SketchHandle::none(alloc)).into_box() else {
-        return NO_SKETCH;
-    };
-    let answer = match &mut *sketch {
-        AnySketch::FrequentTexts(sketch) => update_texts(alloc, sketch, bytes, offsets, weights),
-        _ => WRONG_KIND,
-    };
-    *handle = SketchHandle::of(sketch);
-    answer
+    change!(alloc, handle, FrequentTexts(sketch) => update_texts(alloc, sketch, bytes, offsets, weights))
 }

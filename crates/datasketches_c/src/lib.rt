@@ -32,6 +32,7 @@ mod frequent_u64;
 mod frequent_weighted;
 mod handle;
 mod images;
+mod on_sketch;
 mod raw_box;
 mod sizes;
 pub mod status_code;
