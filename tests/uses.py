@@ -1,9 +1,8 @@
-"""The jobs of `crates/uses_cli` over data sets that are made here, beside exact answers.
+"""The jobs of `crates/uses` over data sets that are made here, beside exact answers.
 
-    python3 tests/uses.py [--after 'N passed, M failed'] crates/uses_cli/out/uses_cli
+    python3 tests/uses.py [--after 'N passed, M failed'] crates/uses/out/uses
 
-prints a line for each check that failed, and then how many passed, over those of a step before. With `--rates` it prints how often
-three caches have what is used, with admission and without.
+prints a line for each check that failed, and then how many passed, over those of a step before.
 """
 import collections
 import random
@@ -177,20 +176,8 @@ def simulated(stream, window, capacity):
     return hits, plain_hits
 
 
-def rates(program):
-    """Hit rates of three caches over 200000 uses of 20000 items, with a scan of 50000 others in their middle."""
-    stream = trace(random.Random(7), 20000, 200000)
-    for capacity in (100, 500, 2000):
-        _, report = Tests(program).run(["admission", 4, 1 << 16, 20 * capacity, capacity], stream)
-        _, uses, _, hits, _, plain = report[0].split()
-        print(f"| {capacity} | {100 * int(hits) / int(uses):.1f} | {100 * int(plain) / int(uses):.1f} |")
-
-
 def main():
     words = sys.argv[1:]
-    if words[0] == "--rates":
-        rates(words[1])
-        return
     before = (0, 0)
     if words[0] == "--after":
         before = tuple(int(number) for number in re.findall(r"\d+", words[1])[:2])

@@ -1,10 +1,10 @@
 //! How often what is used is in a cache, with admission and without.
+use crate::admission::Admission;
 use anyhow::{Result, bail, ensure};
 use lru::LruCache;
 use std::alloc::{AllocError, Global};
 use std::fmt::Write;
 use std::num::NonZeroUsize;
-use uses::admission::Admission;
 
 /// Two caches of one size, in each of which the item that was used longest ago goes first: one takes each item that is
 /// used, the other only those that are admitted.

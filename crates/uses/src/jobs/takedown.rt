@@ -1,8 +1,8 @@
 //! A list of what is refused.
+use crate::takedown::TakedownList;
 use anyhow::{Result, bail};
+use sketch_bloom::BloomFilterBuilder;
 use std::alloc::{AllocError, Global};
-use uses::BloomFilterBuilder;
-use uses::takedown::TakedownList;
 
 /// Keeps a list by lines, and answers the questions among them.
 pub fn run(alloc: Global, numbers: &[u64], text: &str, report: &mut String) -> Result<()> {

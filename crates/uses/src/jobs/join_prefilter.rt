@@ -1,10 +1,11 @@
 //! The rows of one side of a join that may have a row on the other.
-use crate::words::{next_number, next_place};
+use crate::jobs::words::{next_number, next_place};
+use crate::join_prefilter::{image_of_keys, prune_by_images};
 use anyhow::{Result, bail};
+use sketch_base::Error;
+use sketch_bloom::BloomFilterBuilder;
 use std::alloc::{AllocError, Global};
 use std::fmt::Write;
-use uses::join_prefilter::{image_of_keys, prune_by_images};
-use uses::{BloomFilterBuilder, Error};
 
 /// The most parts that lines may name.
 const MOST_PARTS: usize = 1024;

@@ -1,10 +1,11 @@
 //! The heavy groups of many shards.
-use crate::words::{next_number, next_place};
+use crate::group_by::GroupSums;
+use crate::jobs::words::{next_number, next_place};
 use anyhow::{Context, Result, bail};
+use sketch_base::Error;
+use sketch_frequencies::Row;
 use std::alloc::{AllocError, Global};
 use std::fmt::Write;
-use uses::group_by::GroupSums;
-use uses::{Error, Row};
 
 /// The most shards that lines may name.
 const MOST_SHARDS: usize = 1024;
