@@ -1,6 +1,8 @@
 //! Weights in a table of a fixed size.
 use sketch_base::Error;
-use sketch_countmin::{CountMinSketch, CountMinValue, UnsignedCountMinValue};
+use sketch_countmin::{
+    CountMinSketch, CountMinValue, UnsignedCountMinValue, suggest_num_buckets, suggest_num_hashes,
+};
 use std::alloc::Global;
 
 /// The weight of an apple, aged by a half.
@@ -9,6 +11,11 @@ pub fn bytes_of_apple(alloc: Global) -> Result<u64, Error> {
     traffic.update_with_weight("apple", 90)?;
     traffic.halve();
     Ok(traffic.estimate("apple"))
+}
+
+/// A sketch whose estimates are at most a thousandth of the total too high, but for one question in fifty.
+pub fn bytes_within_a_thousandth(alloc: Global) -> Result<CountMinSketch<u64>, Error> {
+    CountMinSketch::new(alloc, suggest_num_hashes(50)?, suggest_num_buckets(1000)?)
 }
 
 /// The bounds of what came on either of two days.

@@ -1,6 +1,6 @@
 //! Which items were seen.
 use sketch_base::Error;
-use sketch_bloom::{BloomFilter, BloomFilterBuilder};
+use sketch_bloom::{BloomFilter, BloomFilterBuilder, suggest_num_bits, suggest_num_hashes};
 use std::alloc::Global;
 
 /// Whether an apple was seen today and yesterday.
@@ -16,6 +16,13 @@ pub fn seen_by_both(alloc: Global) -> Result<bool, Error> {
 /// A filter of a seed of its own.
 pub fn filter_of_visitors(alloc: Global) -> Result<BloomFilter, Error> {
     BloomFilterBuilder::with_size(959, 7).seed(42).build(alloc)
+}
+
+/// A filter for so many visitors that answers yes wrongly to about one question in a hundred.
+pub fn filter_for(alloc: Global, visitors: u64) -> Result<BloomFilter, Error> {
+    let num_bits = suggest_num_bits(visitors, 100)?;
+    let num_hashes = suggest_num_hashes(num_bits, visitors)?;
+    BloomFilterBuilder::with_size(num_bits, num_hashes).build(alloc)
 }
 
 /// Whether someone comes for the first time.

@@ -1,7 +1,9 @@
 //! The items that weigh most.
 use counter_table::{ReversePurgeItemHashMap, Slot};
 use sketch_base::SketchBytes;
-use sketch_frequencies::{Error, ErrorType, FrequentItemValue, FrequentItemsSketch, Row};
+use sketch_frequencies::{
+    Error, ErrorType, FrequentItemValue, FrequentItemsSketch, Row, suggest_max_map_size,
+};
 use std::alloc::Global;
 
 /// The greatest estimate among the numbers.
@@ -22,6 +24,11 @@ pub fn sketch_of_visitors(
     let mut sketch = FrequentItemsSketch::new(alloc, 1024)?;
     sketch.update_all(visitors)?;
     Ok(sketch)
+}
+
+/// A sketch whose error is at most a hundredth of all visits.
+pub fn visits_within_a_percent(alloc: Global) -> Result<FrequentItemsSketch<u64>, Error> {
+    FrequentItemsSketch::new(alloc, suggest_max_map_size(100)?)
 }
 
 /// The weights of four pages, by one call.

@@ -5,16 +5,17 @@ use crate::bytes::{
 };
 use crate::callers::{aged_estimate, is_in_union, surely_weighs};
 use crate::counts::{
-    age, apples_in_store, apples_of_both_days, bytes_of_apple, count_batch, halve, sent_counts,
-    visits_of, weight_of_all,
+    age, apples_in_store, apples_of_both_days, bytes_of_apple, bytes_within_a_thousandth,
+    count_batch, halve, sent_counts, visits_of, weight_of_all,
 };
 use crate::filters::{
-    filter_of_visitors, is_first_visit, known_of_four, orders_to_join, seen_by_both, still_refused,
+    filter_for, filter_of_visitors, is_first_visit, known_of_four, orders_to_join, seen_by_both,
+    still_refused,
 };
 use crate::frequent_items::{
     apples_of_both_shops, bytes_of, counts_visit, heavier_pages, heaviest, longest_look_up,
     most_visited, sent_pages, sketch_of_visitors, surely_weighs_more, visits_of_four,
-    weights_of_four,
+    visits_within_a_percent, weights_of_four,
 };
 use crate::images::sent;
 use crate::session::{
@@ -111,6 +112,27 @@ fn sketches_are_as_the_docs_say(rt: HostRuntime) -> Result<(), Fail> {
     assert!(rt; counts_come_back(rt.alloc())? == (9, true));
     assert!(rt; apples_of_both_days(rt.alloc())? == (10, 10));
     assert!(rt; batch_of_visits(rt.alloc())? == [2, 1]);
+    Ok(())
+}
+
+/// The hashes and buckets of counts, the bits and hashes of a filter, and the greatest size of visits, as they were chosen.
+fn chosen_sizes(alloc: Global) -> Result<(u8, u32, usize, u16, usize), Error> {
+    let counts = bytes_within_a_thousandth(alloc)?;
+    let filter = filter_for(alloc, 1000)?;
+    let visits = visits_within_a_percent(alloc)?;
+    Ok((
+        counts.num_hashes(),
+        counts.num_buckets(),
+        filter.capacity(),
+        filter.num_hashes(),
+        visits.max_map_size(),
+    ))
+}
+
+// 9603 bits are asked for: 151 words.
+#[test]
+fn sizes_are_as_the_docs_say(rt: HostRuntime) -> Result<(), Fail> {
+    assert!(rt; chosen_sizes(rt.alloc())? == (4, 2719, 9664, 7, 512));
     Ok(())
 }
 

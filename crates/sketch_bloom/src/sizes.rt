@@ -112,9 +112,9 @@ fn log_in_64ths(n: u64) -> u32
 /// question in `questions`: items times ln `questions` over the square of ln 2, rounded up.
 ///
 /// It is proved that this is never fewer than the formula asks for (`formula`). The binary logarithm of `questions` is
-/// rounded up to 64ths first, and by it this is the least number of bits (`enough`, `least`): for 10 or 100 questions 0.2
-/// percent above the formula, and for a power of two the formula's own number. That wrong answers are so few is no theorem
-/// here: it is so under ideal hashes, with the hashes of [`suggest_num_hashes`].
+/// rounded up to 64ths first, and by it this is the least number of bits (`enough`, `least`): at most 0.6 percent above the
+/// formula, and for a power of two the formula's own number. That wrong answers are so few is no theorem here: it is so under
+/// ideal hashes, with the hashes of [`suggest_num_hashes`].
 ///
 /// # Errors
 ///
