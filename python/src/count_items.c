@@ -3,7 +3,7 @@
 
 /* A call for many numbers goes through the table row by row, and a row then stays in a near cache: many more than CHUNK are given
  * to a call, where there is memory for a copy of them. */
-#define LONG_CHUNK ((size_t)1 << 20)
+#define LONG_CHUNK ((size_t)1 << 19)
 
 /* Room for as many numbers as a call is given at most, of `count`: `few`, or memory that `chunk_release` gives back. */
 static uint64_t *chunk_for(size_t count, uint64_t *few, size_t *most)
