@@ -130,10 +130,9 @@ PyObject *count_update(PyObject *object, PyObject *const *args, Py_ssize_t count
         Item item;
         uint64_t weight = 1;
         if ((given != NULL && !number_of_kind(given, "weight", self->with_sign, &weight)) || !item_of(args[0], &item) ||
-            !sketch_lock(self))
+            !sketch_ready(self))
             return NULL;
         answer = update_one(self, &item, weight);
-        sketch_unlock(self);
     } else {
         Items items;
         Weights weights;
@@ -145,9 +144,9 @@ PyObject *count_update(PyObject *object, PyObject *const *args, Py_ssize_t count
         }
         bool there = sketch_lock(self);
         if (there) {
-            Py_BEGIN_ALLOW_THREADS
+            BATCH_BEGIN(self)
             answer = update_many(self, &items, &weights);
-            Py_END_ALLOW_THREADS
+            BATCH_END(self)
             sketch_unlock(self);
         }
         items_release(&weights.items);
@@ -172,10 +171,9 @@ static PyObject *asked(PyObject *object, PyObject *given, question ask)
     Sketch *self = (Sketch *)object;
     Item item;
     uint64_t number = 0;
-    if (!item_of(given, &item) || !sketch_lock(self))
+    if (!item_of(given, &item) || !sketch_ready(self))
         return NULL;
     int32_t answer = ask(self, &item, &number);
-    sketch_unlock(self);
     return answer < 0 ? refuse(answer) : number_for(self, number);
 }
 
@@ -247,9 +245,9 @@ PyObject *count_estimate(PyObject *object, PyObject *given)
         return NULL;
     if (room_for(given, items.count, self->with_sign ? "i8" : "u8", sizeof(uint64_t), &room) && sketch_lock(self)) {
         int32_t answer;
-        Py_BEGIN_ALLOW_THREADS
+        BATCH_BEGIN(self)
         answer = estimate_many(self, &items, room.values);
-        Py_END_ALLOW_THREADS
+        BATCH_END(self)
         sketch_unlock(self);
         result = answer < 0           ? refuse(answer)
                  : room.array != NULL ? Py_NewRef(room.array)

@@ -70,10 +70,9 @@ PyObject *filter_insert(PyObject *object, PyObject *given)
     Items items;
     int32_t answer;
     if (is_single(given)) {
-        if (!item_of(given, &item) || !sketch_lock(self))
+        if (!item_of(given, &item) || !sketch_ready(self))
             return NULL;
         answer = insert_one(&self->handle, &item);
-        sketch_unlock(self);
     } else {
         if (!items_of(given, &items))
             return NULL;
@@ -81,9 +80,9 @@ PyObject *filter_insert(PyObject *object, PyObject *given)
             items_release(&items);
             return NULL;
         }
-        Py_BEGIN_ALLOW_THREADS
+        BATCH_BEGIN(self)
         answer = insert_many(&self->handle, &items);
-        Py_END_ALLOW_THREADS
+        BATCH_END(self)
         sketch_unlock(self);
         items_release(&items);
     }
@@ -96,10 +95,9 @@ int filter_has(PyObject *object, PyObject *given)
 {
     Sketch *self = (Sketch *)object;
     Item item;
-    if (!item_of(given, &item) || !sketch_lock(self))
+    if (!item_of(given, &item) || !sketch_ready(self))
         return -1;
     int32_t answer = contains_one(&self->handle, &item);
-    sketch_unlock(self);
     if (answer < 0)
         refuse(answer);
     return answer < 0 ? -1 : answer;
@@ -139,9 +137,9 @@ PyObject *filter_contains(PyObject *object, PyObject *given)
         return NULL;
     if (room_for(given, items.count, "?", sizeof(bool), &room) && sketch_lock(self)) {
         int32_t answer;
-        Py_BEGIN_ALLOW_THREADS
+        BATCH_BEGIN(self)
         answer = contains_many(&self->handle, &items, room.values);
-        Py_END_ALLOW_THREADS
+        BATCH_END(self)
         sketch_unlock(self);
         result = answer < 0           ? refuse(answer)
                  : room.array != NULL ? Py_NewRef(room.array)

@@ -100,10 +100,9 @@ PyObject *frequent_update(PyObject *object, PyObject *const *args, Py_ssize_t co
         Item item;
         uint64_t weight = 1;
         if ((given != NULL && !natural_of(given, "weight", &weight)) || !item_of(args[0], &item) ||
-            !counts(self, item.text != NULL, item.value, item.negative) || !sketch_lock(self))
+            !counts(self, item.text != NULL, item.value, item.negative) || !sketch_ready(self))
             return NULL;
         answer = update_one(self, &item, weight);
-        sketch_unlock(self);
     } else {
         Items items;
         Weights weights;
@@ -115,9 +114,9 @@ PyObject *frequent_update(PyObject *object, PyObject *const *args, Py_ssize_t co
         }
         bool there = sketch_lock(self);
         if (there) {
-            Py_BEGIN_ALLOW_THREADS
+            BATCH_BEGIN(self)
             answer = update_many(self, &items, &weights);
-            Py_END_ALLOW_THREADS
+            BATCH_END(self)
             sketch_unlock(self);
         }
         items_release(&weights.items);
@@ -134,12 +133,11 @@ static bool bounds_of(PyObject *object, PyObject *given, ds_frequent_bounds *bou
 {
     Sketch *self = (Sketch *)object;
     Item item;
-    if (!item_of(given, &item) || !counts(self, item.text != NULL, item.value, item.negative) || !sketch_lock(self))
+    if (!item_of(given, &item) || !counts(self, item.text != NULL, item.value, item.negative) || !sketch_ready(self))
         return false;
     int32_t answer = self->with_texts
                          ? ds_frequent_text_bounds(&self->handle, (const uint8_t *)item.text, item.value, bounds)
                          : BY_SIGN(self, bounds, &self->handle, item.value, bounds);
-    sketch_unlock(self);
     return answer >= 0 || refuse(answer) != NULL;
 }
 

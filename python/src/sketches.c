@@ -40,6 +40,17 @@ void sketch_unlock(Sketch *self)
     PyThread_release_lock(self->lock);
 }
 
+bool sketch_ready(Sketch *self)
+{
+    if (self->busy) {
+        acquire(self);
+        sketch_unlock(self);
+    }
+    if (self->handle.sketch == NULL)
+        PyErr_SetString(PyExc_ValueError, "the sketch is closed");
+    return self->handle.sketch != NULL;
+}
+
 bool sketch_lock(Sketch *self)
 {
     acquire(self);

@@ -11,11 +11,14 @@
 #define DEFAULT_SEED 9001
 #define DEFAULT_LIMIT ((size_t)1 << 30)
 
-/* A sketch of any kind. The lock is held in each call of the library; no Python code runs while it is held. */
+/* A sketch of any kind. One call of the library at a time uses it: a call either keeps the interpreter's lock, and then `busy` is
+ * false, or it is a batch, which takes the sketch's lock, sets `busy` and lets other Python threads go on. What changes
+ * `busy` has both locks. No Python code runs in between. */
 typedef struct {
     PyObject_HEAD
     ds_sketch handle;
     PyThread_type_lock lock;
+    bool busy;
     uint64_t seed;
     uint32_t buckets;
     uint8_t hashes;
@@ -31,10 +34,22 @@ extern PyObject *sketch_error;
 Sketch *sketch_alloc(PyTypeObject *type);
 void sketch_dealloc(PyObject *self);
 
+/* Waits for a batch that runs, for a call that keeps the interpreter's lock. Answers false, with an error set, where the sketch is
+ * closed. It holds until the interpreter's lock is let go. */
+bool sketch_ready(Sketch *self);
+
 /* Takes the lock. Answers false, with an error set and no lock held, where the sketch is closed. */
 bool sketch_lock(Sketch *self);
 bool sketch_lock_both(Sketch *self, Sketch *other);
 void sketch_unlock(Sketch *self);
+
+/* Around the call of a batch, with the lock held. */
+#define BATCH_BEGIN(self) \
+    (self)->busy = true; \
+    Py_BEGIN_ALLOW_THREADS
+#define BATCH_END(self) \
+    Py_END_ALLOW_THREADS \
+    (self)->busy = false;
 
 /* A copy of a sketch of any kind, or NULL. */
 Sketch *sketch_copy(Sketch *self);

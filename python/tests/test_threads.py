@@ -56,6 +56,39 @@ class Threads(unittest.TestCase):
         self.assertEqual(run(*[fill] * 8), [])
         self.assertEqual((load[5], load[6]), (800, 400))
 
+    def test_singles_beside_batches(self):
+        load, heavy, seen = ds.CountMin(4, 1 << 10), ds.FrequentItems(64), ds.BloomFilter(1 << 12, 3)
+        many = array.array("q", [5]) * 20000
+
+        def batches():
+            for _ in range(30):
+                load.update(many)
+                heavy.update(many)
+                seen.insert(many)
+                load.estimate(many)
+                seen.contains(many)
+
+        def singles():
+            for _ in range(3000):
+                load.update(5)
+                heavy.update(5)
+                seen.insert(5)
+                self.assertTrue(5 in seen and heavy[5] > 0 and load[5] > 0)
+
+        self.assertEqual(run(batches, singles, batches, singles, singles), [])
+        self.assertEqual((load[5], load.total, heavy[5], heavy.total), (1_209_000,) * 4)
+
+    def test_closed_under_singles(self):
+        for _ in range(20):
+            load, numbers = ds.CountMin(4, 1 << 10), array.array("q", range(100000))
+
+            def singles():
+                for number in range(10000):
+                    load.update(number)
+
+            errors = run(lambda: load.update(numbers), singles, load.close, singles)
+            self.assertTrue(all(isinstance(error, ValueError) for error in errors), errors)
+
     def test_two_in_both_orders(self):
         a, b = ds.BloomFilter(1 << 16, 5), ds.BloomFilter(1 << 16, 5)
         numbers = array.array("q", range(50000))
