@@ -1,6 +1,6 @@
 -- The fraction 438351041/161260336 is above e by so little that its products with small numbers, rounded up, are those of e.
-use Rattle.std.proofs.Common.{◌≡◌, ℕ, ◌+◌, ◌*◌, ◌<◌, ◌≤◌, inl, inr, arith}
-use Rattle.std.proofs.Math.Nat.{le_of_mul-le-mul_right}
+use Rattle.std.proofs.Common.{◌≡◌, ℕ, ◌+◌, ◌*◌, ◌/◌, ◌<◌, ◌≤◌, inl, inr, ap, arith}
+use Rattle.std.proofs.Math.Nat.{le_of_mul-le-mul_right, div-mul-le_self}
 use Rattle.std.specs.Int.{div_ceil}
 use Rattle.std.proofs.lemmas.Bool.{cases_lt}
 use Rattle.std.proofs.lemmas.Nat.{mul-le}
@@ -44,3 +44,22 @@ buckets_least n b m some few e within =
 -- and a greater number asks for too many
 pub buckets_many : (n m : ℕ) → 395007541 < n → IsETimesWithin n m → 1073741824 ≤ m
 buckets_many n m many within = omega (arith, above_fraction n m within (omega (arith, many)), many)
+
+-- the fraction in upper bounds is below e, so that e times n being within the buckets bounds the margin
+pub margin_within : (total buckets n : ℕ) → IsETimesWithin n buckets → n * (total * 2718281828459045235 / (1000000000000000000 * buckets)) ≤ total
+margin_within total buckets n within =
+    let h : sum_to_e 25 * n ≤ buckets * factorial 25 = within 25 in
+    let below : 2718281828459045235 * n ≤ 1000000000000000000 * buckets = omega (arith, h, sum_at_25, factorial_of_25) in
+    let scale : ℕ = 1000000000000000000 * buckets in
+    let m : ℕ = total * 2718281828459045235 / scale in
+    let whole : m * scale ≤ total * 2718281828459045235 = div-mul-le_self (total * 2718281828459045235) scale in
+    let times : n * (m * scale) ≤ n * (total * 2718281828459045235) = mul-le n (m * scale) n (total * 2718281828459045235) (omega arith) whole in
+    let more : total * (2718281828459045235 * n) ≤ total * scale = mul-le total (2718281828459045235 * n) total scale (omega arith) below in
+    let all : n * m * scale ≤ total * scale = omega (arith, times, more) in
+    elim (cases_lt 0 buckets) [
+      | inl some ↦ le_of_mul-le-mul_right all (omega (arith, some))
+      | inr none ↦
+          let zero : n ≡ 0 = omega (arith, below, none) in
+          let nothing : n * m ≡ 0 * m = ap (λ (x : ℕ). x * m) zero in
+          omega (arith, nothing)
+    ]

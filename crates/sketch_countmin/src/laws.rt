@@ -1,11 +1,12 @@
 //! Laws that follow from the contracts of the calls.
-ghost use Rattle.std.specs.Prelude.{◌≡◌, ℕ, ℤ, pos, List, ◌+◌, ◌-ℤ◌, ◌<◌, ◌≤◌, ◌≤ℤ◌, ◌↔◌, IfOk, IfErr, OnOk, OnErr, IsOk, IsErrOf, IsTrue, IsOkAnd};
+ghost use Rattle.std.specs.Prelude.{◌≡◌, ℕ, ℤ, pos, List, ◌+◌, ◌*◌, ◌-ℤ◌, ◌<◌, ◌≤◌, ◌≤ℤ◌, ◌↔◌, IfOk, IfErr, OnOk, OnErr, IsOk, IsErrOf, IsTrue, IsOkAnd};
 ghost use Rattle.sketch_base.specs.Errors.{invalid_argument, no_memory};
 ghost use Rattle.sketch_countmin.specs.History.{CountHistory, IsExact, IsNonnegative, followed_by, own_value, others_share};
 ghost use Rattle.sketch_countmin.specs.Laws.{SpelledIsImage, ImageIsOfOne, ImageIsOfSome, ImageIsWithinLimits};
 ghost use Rattle.sketch_countmin.specs.Rows.{cell_at};
+ghost use Rattle.sketch_countmin.specs.Sizes.{IsETimesWithin};
 ghost use Rattle.sketch_countmin.specs.Stands.{StandsFor};
-ghost use Rattle.sketch_countmin.specs.State.{CountState, IsCountState, SameShape, Joins, IsLeast, IsLeastCell};
+ghost use Rattle.sketch_countmin.specs.State.{CountState, margin, IsCountState, SameShape, Joins, IsLeast, IsLeastCell};
 
 use crate::count_min_sketch::CountMinSketch;
 use crate::count_min_value::CountMinValue;
@@ -52,6 +53,15 @@ pub fn what_the_least_cell_says()
         → IsLeast s.hashes (others_share s.buckets s.seed h bytes) (least -ℤ own_value h bytes) }
     ensures empty { (greatest : ℕ) (s : CountState) → IsCountState greatest s → s.total ≡ 0
         → (r b : ℕ) → cell_at s.rows r b ≡ pos 0 }
+{}
+
+/// What so many buckets make of the upper bound. It does nothing.
+///
+/// Where e times n is at most the number of buckets, as it is where they are at least those that
+/// [`suggest_num_buckets`](crate::suggest_num_buckets) answers for n, the upper bound is above the estimate by at most the
+/// total over n. That few weights are above that bound is no theorem here.
+pub fn what_enough_buckets_say()
+    ensures { (s : CountState) (n : ℕ) → IsETimesWithin n s.buckets → n * margin s ≤ s.total }
 {}
 
 /// Writes a value as bytes and reads it back: it is the same number.

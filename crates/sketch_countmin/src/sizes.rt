@@ -72,7 +72,8 @@ const POWERS_OF_E: [u64; 45] = [
 /// own weight: e times `parts`, rounded up.
 ///
 /// It is proved that this is the least whole number that e times `parts` does not pass. That few estimates are further
-/// above is no theorem here: how few is said at [`suggest_num_hashes`].
+/// above is no theorem here: how few is said at [`suggest_num_hashes`]. That an upper bound is above its estimate by at most
+/// the total over `parts` is one ([`what_enough_buckets_say`](crate::laws::what_enough_buckets_say)).
 ///
 /// # Errors
 ///

@@ -1,5 +1,6 @@
 //! Sizes by the published formulas, worked out apart with eighty decimal places.
 use sketch_bloom::{suggest_num_bits, suggest_num_hashes as hashes_for_bits};
+use sketch_countmin::laws::what_enough_buckets_say;
 use sketch_countmin::{suggest_num_buckets, suggest_num_hashes};
 use sketch_frequencies::laws::what_a_greatest_size_buys;
 use sketch_frequencies::suggest_max_map_size;
@@ -52,6 +53,7 @@ fn answers_by_the_formulas(rt: HostRuntime) -> Result<(), Fail> {
     for (parts, size) in MAP_SIZES {
         assert!(rt; suggest_max_map_size(parts)? == size);
     }
+    what_enough_buckets_say();
     what_a_greatest_size_buys::<u64>();
     Ok(())
 }
