@@ -16,9 +16,9 @@ typedef struct {
     uint64_t *offsets;
     ds_frequent_bounds *bounds;
     TextRow *rows;
-} Room;
+} RowRoom;
 
-static bool room_alloc(Room *room, size_t rows, size_t bytes)
+static bool row_room_alloc(RowRoom *room, size_t rows, size_t bytes)
 {
     room->bytes = PyMem_New(uint8_t, bytes);
     room->offsets = PyMem_New(uint64_t, rows + 1);
@@ -30,7 +30,7 @@ static bool room_alloc(Room *room, size_t rows, size_t bytes)
     return false;
 }
 
-static void room_free(Room *room)
+static void row_room_free(RowRoom *room)
 {
     PyMem_Free(room->bytes);
     PyMem_Free(room->offsets);
@@ -49,7 +49,7 @@ static int heavier(const void *first, const void *second)
 }
 
 /* The library's rows descend by estimate already; equal ones may be in any order. */
-static PyObject *list_of(Room *room, size_t count)
+static PyObject *list_of(RowRoom *room, size_t count)
 {
     for (size_t i = 0; i < count; i++)
         room->rows[i] = (TextRow){(const char *)room->bytes + room->offsets[i],
@@ -76,8 +76,8 @@ PyObject *texts_rows(Sketch *self, bool no_false_negatives, uint64_t threshold)
     PyObject *list = NULL;
     size_t rows = 64, bytes = 1024;
     for (;;) {
-        Room room;
-        bool ready = room_alloc(&room, rows, bytes) && sketch_lock(self);
+        RowRoom room;
+        bool ready = row_room_alloc(&room, rows, bytes) && sketch_lock(self);
         int32_t answer = DS_NO_SKETCH;
         size_t count = 0, num_bytes = 0;
         if (ready) {
@@ -86,7 +86,7 @@ PyObject *texts_rows(Sketch *self, bool no_false_negatives, uint64_t threshold)
             sketch_unlock(self);
             list = answer >= 0 ? list_of(&room, count) : answer == DS_NO_ROOM ? NULL : refuse(answer);
         }
-        room_free(&room);
+        row_room_free(&room);
         if (answer != DS_NO_ROOM)
             return list;
         rows = count;
