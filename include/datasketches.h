@@ -349,6 +349,13 @@ int32_t ds_frequent_u64_bounds(ds_sketch *handle, uint64_t item, ds_frequent_bou
 int32_t ds_frequent_i64_bounds(ds_sketch *handle, int64_t item, ds_frequent_bounds *bounds);
 int32_t ds_frequent_text_bounds(ds_sketch *handle, const uint8_t *item, size_t length, ds_frequent_bounds *bounds);
 
+/* Writes down the bounds of each item. There is room for as many as items, or DS_NO_ROOM is answered. What is refused leaves the
+ * bounds as they were, but DS_NO_MEMORY at a text: then the texts before it have theirs, and those from it on are as they were. */
+int32_t ds_frequent_u64_bounds_all(ds_sketch *handle, const uint64_t *items, size_t count, ds_frequent_bounds *bounds, size_t room);
+int32_t ds_frequent_i64_bounds_all(ds_sketch *handle, const int64_t *items, size_t count, ds_frequent_bounds *bounds, size_t room);
+int32_t ds_frequent_text_bounds_all(ds_sketch *handle, const uint8_t *bytes, size_t num_bytes, const uint64_t *offsets,
+                                    size_t num_offsets, ds_frequent_bounds *bounds, size_t room);
+
 /* Merges the other sketch into this one, which then stands for both streams. The other sketch stays as it was. Refused by
  * DS_WEIGHT_OVERFLOW and DS_NO_MEMORY. */
 int32_t ds_frequent_u64_merge(ds_sketch *handle, ds_sketch *other);
@@ -556,6 +563,9 @@ DS_WRITES(ds_count_i64_to_bytes)
 DS_READS_UNDER(ds_count_i64_from_bytes)
 DS_READS_AND(ds_frequent_text_update, uint8_t, uint64_t)
 DS_READS_AND(ds_frequent_text_bounds, uint8_t, ds_frequent_bounds *)
+DS_ANSWERS(ds_frequent_u64_bounds_all, uint64_t, ds_frequent_bounds)
+DS_ANSWERS(ds_frequent_i64_bounds_all, int64_t, ds_frequent_bounds)
+DS_ANSWERS_TEXTS(ds_frequent_text_bounds_all, ds_frequent_bounds)
 DS_JOINS(ds_frequent_u64_merge)
 DS_JOINS(ds_frequent_i64_merge)
 DS_JOINS(ds_frequent_text_merge)
@@ -652,6 +662,12 @@ DS_ROWS_OF_TEXTS(ds_frequent_text_rows)
     ds_frequent_text_update_checked(handle, item, length, weight)
 #define ds_frequent_text_bounds(handle, item, length, bounds) \
     ds_frequent_text_bounds_checked(handle, item, length, bounds)
+#define ds_frequent_u64_bounds_all(handle, items, count, bounds, room) \
+    ds_frequent_u64_bounds_all_checked(handle, items, count, bounds, room)
+#define ds_frequent_i64_bounds_all(handle, items, count, bounds, room) \
+    ds_frequent_i64_bounds_all_checked(handle, items, count, bounds, room)
+#define ds_frequent_text_bounds_all(handle, bytes, num_bytes, offsets, num_offsets, bounds, room) \
+    ds_frequent_text_bounds_all_checked(handle, bytes, num_bytes, offsets, num_offsets, bounds, room)
 #define ds_frequent_u64_merge(handle, other) ds_frequent_u64_merge_checked(handle, other)
 #define ds_frequent_i64_merge(handle, other) ds_frequent_i64_merge_checked(handle, other)
 #define ds_frequent_text_merge(handle, other) ds_frequent_text_merge_checked(handle, other)

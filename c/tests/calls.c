@@ -280,6 +280,10 @@ static const struct alteration FREQUENT_ALTERED[] = {
         CHECK(prefix##_update(a, 8, 6) == DS_OK && prefix##_rows(a, true, 0, NULL, 0, NULL, 0, &length) == DS_NO_ROOM); \
         CHECK(length == 2 && prefix##_rows(a, true, 0, found, 2, rows, 3, &length) == DS_OK && length == 2); \
         CHECK(found[0] == 8 && rows[0].estimate == 7 && found[1] == 7 && rows[1].lower_bound == 2); \
+        CHECK(prefix##_bounds_all(a, items, 3, rows, 3) == DS_OK && rows[0].upper_bound == 2 && rows[2].lower_bound == 7); \
+        CHECK(prefix##_bounds_all(a, items, 3, &bounds, 1) == DS_NO_ROOM && bounds.estimate == 2); \
+        CHECK(prefix##_bounds_all(a, items, 3, NULL, 3) == DS_BAD_ARGUMENT); \
+        CHECK(prefix##_bounds_all(a, NULL, 0, NULL, 0) == DS_OK); \
         CHECK(prefix##_rows(a, false, 2, found, 2, rows, 3, &length) == DS_OK && length == 1 && found[0] == 8); \
         CHECK(prefix##_reset(a) == DS_OK && prefix##_update(a, 7, 5) == DS_OK); \
         CHECK(prefix##_to_bytes(a, NULL, 0, &length) == DS_NO_ROOM && length == 48); \
@@ -380,6 +384,7 @@ static void refused_texts(ds_sketch *filter, ds_sketch *count, ds_sketch *signs,
     ds_filter_numbers numbers;
     ds_count_numbers counted;
     ds_frequent_numbers weighed;
+    ds_frequent_bounds bounds[2] = {{7, 7, 7}, {7, 7, 7}};
     CHECK(ds_filter_insert_all_text(filter, bytes, length, offsets, num_offsets) == answer);
     CHECK(ds_filter_contains_all_text(filter, bytes, length, offsets, num_offsets, answers, 2) == answer);
     CHECK(ds_count_u64_update_all_text(count, bytes, length, offsets, num_offsets) == answer);
@@ -387,6 +392,8 @@ static void refused_texts(ds_sketch *filter, ds_sketch *count, ds_sketch *signs,
     CHECK(ds_count_i64_update_all_text(signs, bytes, length, offsets, num_offsets) == answer);
     CHECK(ds_count_i64_estimate_all_text(signs, bytes, length, offsets, num_offsets, with_sign, 2) == answer);
     CHECK(ds_frequent_text_update_all(frequent, bytes, length, offsets, num_offsets) == answer);
+    CHECK(ds_frequent_text_bounds_all(frequent, bytes, length, offsets, num_offsets, bounds, 2) == answer);
+    CHECK(bounds[0].estimate == 7 && bounds[1].upper_bound == 7);
     CHECK(answers[0] && answers[1] && estimates[0] == 7 && estimates[1] == 7 && with_sign[0] == 7 && with_sign[1] == 7);
     CHECK(ds_filter_status(filter, &numbers) == DS_OK && numbers.bits_used == 0);
     CHECK(ds_count_u64_status(count, &counted) == DS_OK && counted.total_weight == 0);
@@ -462,7 +469,7 @@ static void weights(void)
     ds_sketch count = DS_NONE, signs = DS_NONE, numbers = DS_NONE, below = DS_NONE, texts = DS_NONE;
     ds_count_numbers counted;
     ds_frequent_numbers weighed;
-    ds_frequent_bounds bounds;
+    ds_frequent_bounds bounds, all[4];
     const uint64_t items[3] = {3, 4, 3}, some[3] = {5, 0, 2}, most[3] = {1, UINT64_MAX - 15, 1};
     const int64_t same[3] = {3, -4, 3}, with_sign[3] = {5, -7, 0}, least[3] = {0, INT64_MIN, 0};
     const uint64_t of_four[4] = {1, 2, 0, 9};
@@ -517,6 +524,10 @@ static void weights(void)
     CHECK(ds_frequent_i64_bounds(&below, 3, &bounds) == DS_OK && bounds.estimate == 7);
     CHECK(ds_frequent_text_update_all_weighted(&texts, MANY, bytes, ENDS, 5, of_four, 4) == DS_OK);
     CHECK(ds_frequent_text_bounds(&texts, MANY + 9, 4, &bounds) == DS_OK && bounds.estimate == 9);
+    CHECK(ds_frequent_text_bounds_all(&texts, MANY, bytes, ENDS, 5, all, 4) == DS_OK && all[3].estimate == 9);
+    CHECK(all[0].lower_bound == 1 && all[1].upper_bound == 2 && all[2].estimate == 0);
+    CHECK(ds_frequent_text_bounds_all(&texts, MANY, bytes, ENDS, 5, all, 3) == DS_NO_ROOM);
+    CHECK(ds_frequent_text_bounds_all(&numbers, MANY, bytes, ENDS, 5, all, 4) == DS_WRONG_KIND && all[3].estimate == 9);
     CHECK(ds_frequent_text_status(&texts, &weighed) == DS_OK && weighed.num_active_items == 3 && weighed.total_weight == 12);
     CHECK(ds_frequent_text_update_all_weighted(&texts, MANY, bytes, ENDS, 5, of_four, 3) == DS_NO_ROOM);
     CHECK(ds_frequent_text_update_all_weighted(&texts, MANY, bytes - 1, ENDS, 5, of_four, 4) == DS_BAD_OFFSETS);

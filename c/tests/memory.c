@@ -82,6 +82,24 @@ static int adds_texts(ds_sketch *handle, const uint64_t *weights)
     return answer == DS_OK && weight_of(handle) == start + whole;
 }
 
+/* Whether all texts have their bounds: where memory is refused to one, those before it have, and the others are as they were. */
+static int tells_of_texts(ds_sketch *handle)
+{
+    const ds_frequent_bounds untold = {0, 1, 0};
+    for (size_t i = 0; i < 64; i++) bounds[i] = untold;
+    int32_t answer = ds_frequent_text_bounds_all(handle, letters, sizeof letters, ends, 65, bounds, 64);
+    if (answer == DS_NO_MEMORY) {
+        size_t told = 0;
+        while (told < 64 && memcmp(&bounds[told], &untold, sizeof untold) != 0) told++;
+        for (size_t i = told; i < 64; i++)
+            if (memcmp(&bounds[i], &untold, sizeof untold) != 0) return 0;
+        answer = ds_frequent_text_bounds_all(handle, letters, sizeof letters, ends, 65, bounds, 64);
+    }
+    for (size_t i = 0; i < 64; i++)
+        if (bounds[i].upper_bound < 4 || bounds[i].lower_bound > 4) return 0;
+    return answer == DS_OK;
+}
+
 int main(void)
 {
     ds_sketch filter = DS_NONE, other = DS_NONE, count = DS_NONE, second = DS_NONE;
@@ -124,6 +142,7 @@ int main(void)
     if (!adds_texts(&frequent, NULL) || !adds_texts(&frequent, NULL)) return 1;
     for (uint64_t i = 0; i < 64; i++) items[i] = 2;
     if (!adds_texts(&frequent, items)) return 1;
+    if (!tells_of_texts(&frequent)) return 1;
     size_t rows = 0, num_bytes = 0;
     DONE(&frequent, ds_frequent_text_rows(&frequent, true, 0, shown, sizeof shown, starts, 65, bounds, 64, &rows, &num_bytes));
     if (num_bytes != 2 * rows || starts[rows] != num_bytes) return 1;

@@ -1,3 +1,4 @@
+pub mod BoundsLemmas
 pub mod CountLemmas
 pub mod FrequentLemmas
 pub mod Handles

@@ -1,5 +1,6 @@
 pub mod Copies
 pub mod Estimates
+pub mod FrequentBatches
 pub mod FrequentCalls
 pub mod FrequentImages
 pub mod FrequentRows
