@@ -4,7 +4,7 @@
     figures.py --items 100000000 --workers 1 2 4
 
 For each number of workers: seconds from the first task to the answer, with the stream's making, and what its making takes alone;
-items a second; the most memory that a worker had, and in brackets what it has before the stream; what all workers got from
+items a second; seconds that the workers' processors were busy with it; the most memory that a worker had, and in brackets what it has before the stream; what all workers got from
 others; and how many bytes the image of a part's sketch and of the answer have. Every answer is compared with the
 exact weights of the heaviest items.
 """
@@ -57,6 +57,12 @@ def memory_of(dask_worker) -> int:
     return resource.getrusage(resource.RUSAGE_SELF).ru_maxrss * 1024
 
 
+def processor_of(dask_worker) -> float:
+    """How many seconds of a processor a worker took."""
+    used = resource.getrusage(resource.RUSAGE_SELF)
+    return used.ru_utime + used.ru_stime
+
+
 def received_by(dask_worker) -> int:
     """How many bytes of images a worker got from other workers."""
     return sum(each["total"] for each in dask_worker.transfer_incoming_log)
@@ -73,9 +79,11 @@ def measure(workers: int, items: int, parts: int, shape: Heavy) -> list[str]:
         making = time.monotonic() - begin
         make = delayed(sketch_made, pure=False)
         images = [make(shape, seed, count) for seed, count in enumerate(counts)]
+        busy = sum(client.run(processor_of).values())
         begin = time.monotonic()
         image = engine.answer(client, engine.merged(shape, images, 4))
         seconds = time.monotonic() - begin
+        busy = sum(client.run(processor_of).values()) - busy
         memory, received = max(client.run(memory_of).values()), sum(client.run(received_by).values())
         part = len(client.submit(sketch_made, shape, 0, counts[0]).result())
         exact = sum(client.gather(client.map(exact_made, range(parts), counts)))
@@ -85,7 +93,7 @@ def measure(workers: int, items: int, parts: int, shape: Heavy) -> list[str]:
         low, _, high = sketch.bounds(item)
         assert low <= exact[item] <= high, (item, low, exact[item], high)
     mega = 1 << 20
-    return [f"{workers}", f"{seconds:.1f}", f"{making:.1f}", f"{items / seconds / 1e6:.1f} million",
+    return [f"{workers}", f"{seconds:.1f}", f"{making:.1f}", f"{items / seconds / 1e6:.1f} million", f"{busy:.1f}",
             f"{memory / mega:.0f} MiB ({before / mega:.0f})", f"{received / mega:.2f} MiB", f"{part:,}", f"{len(image):,}",
             f"{sketch.maximum_error:,}"]
 
@@ -100,8 +108,8 @@ def main() -> None:
     words = parser.parse_args()
     print(f"{words.items:,} items in {words.parts} parts, {words.size} slots; load of the machine "
           f"{os.getloadavg()[0]:.1f} before, {os.cpu_count()} cores\n")
-    print("| workers | seconds | to make the stream | items a second | memory of a worker | got from others | a part | the answer "
-          "| error |\n|---|---|---|---|---|---|---|---|---|")
+    print("| workers | seconds | to make the stream | items a second | processor seconds | memory of a worker "
+          "| got from others | a part | the answer | error |\n|---|---|---|---|---|---|---|---|---|---|")
     for workers in words.workers:
         print("| " + " | ".join(measure(workers, words.items, words.parts, Heavy(words.size, "u64"))) + " |", flush=True)
 
