@@ -4,9 +4,9 @@
     figures.py --items 100000000 --workers 1 2 4
 
 For each number of workers: seconds from the first task to the answer, with the stream's making, and what its making takes alone;
-items a second; seconds that the workers' processors were busy with it; the most memory that a worker had, and in brackets what it has before the stream; what all workers got from
-others; and how many bytes the image of a part's sketch and of the answer have. Every answer is compared with the
-exact weights of the heaviest items.
+items a second; seconds that the workers' processors were busy with it; the most memory that a worker had, and in brackets what
+it has before the stream; what all workers got from others; and how many bytes the image of a part's sketch and of the answer
+have. Every answer is compared with the exact weights of the heaviest items.
 """
 from __future__ import annotations
 

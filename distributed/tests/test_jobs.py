@@ -55,8 +55,10 @@ def damaged(image):
 
 def listens_on(process):
     """The addresses, in hexadecimal, that a process listens on."""
-    sockets = {os.path.basename(os.readlink(f"/proc/{process}/fd/{each}")) for each in os.listdir(f"/proc/{process}/fd")
-               if os.path.lexists(f"/proc/{process}/fd/{each}")}
+    sockets = set()
+    for each in os.listdir(f"/proc/{process}/fd"):
+        with contextlib.suppress(OSError):
+            sockets.add(os.readlink(f"/proc/{process}/fd/{each}"))
     for table in ("tcp", "tcp6"):
         with open(f"/proc/{process}/net/{table}", encoding="ascii") as file:
             for words in map(str.split, file.readlines()[1:]):
@@ -142,6 +144,7 @@ class Heaviest(Tests):
         with contextlib.ExitStack() as stack:
             for command in (["dask-scheduler", "--port", "0"], ["dask-worker", "--nthreads", "1", "--local-directory", folder]):
                 process = subprocess.Popen([*command, *words], cwd="/", env=env, stderr=subprocess.DEVNULL)
+                stack.callback(process.kill)
                 stack.callback(process.wait, timeout=PATIENCE)
                 stack.callback(process.terminate)
                 until = time.monotonic() + PATIENCE
