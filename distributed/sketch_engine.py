@@ -81,8 +81,8 @@ def cut_files(paths: Sequence[str], parts: int | None, *, words: bool = False, c
         raise ValueError("a weight, or no header, needs a column")
     if column is not None and words:
         raise ValueError("items are words, or a column's texts")
-    if len(delimiter) != 1:
-        raise ValueError(f"what stands between columns is one character, not {delimiter!r}")
+    if len(delimiter) != 1 or delimiter in "\"\r\n":
+        raise ValueError(f"what stands between columns is one character, and no quote or line end, not {delimiter!r}")
     paths = [os.path.abspath(path) for path in paths]
     sizes = []
     for path in paths:
@@ -100,7 +100,7 @@ def cut_files(paths: Sequence[str], parts: int | None, *, words: bool = False, c
 
 
 def find_columns(path: str, column: str, weight: str | None, no_header: bool, delimiter: str) -> tuple[Columns, int]:
-    """The columns of these names, and the byte that the rows begin at."""
+    """The columns of these names, and the byte that the rows begin at. A file of no bytes has no rows, and needs no names."""
     if no_header:
         for name in (column, weight):
             if name is not None and not (name.isdecimal() and int(name) > 0):
@@ -109,6 +109,8 @@ def find_columns(path: str, column: str, weight: str | None, no_header: bool, de
         return Columns(places[0], places[1] if weight is not None else None, delimiter), 0
     with open(path, "rb") as file:
         head = file.readline(sketch_parts.LONGEST_LINE)
+    if not head:
+        return Columns(0, None, delimiter), 0
     lines = sketch_parts.lines_of(Part(path, 0, len(head)), 0, head)
     names = next(csv.reader(lines, delimiter=delimiter), [])
     for name in (column, weight):
@@ -177,6 +179,8 @@ def run(name: str, job: Callable[[], dict[str, Any]], show: Callable[[dict[str, 
         reason = str(error)
     except distributed.KilledWorker as error:
         reason = f"workers died one after another: {error}"
+    except MemoryError:
+        reason = "a worker has not the memory that a sketch needs"
     except ImportError as error:
         reason = f"a worker has not what it needs: {error}"
     else:

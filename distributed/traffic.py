@@ -12,7 +12,7 @@ import sys
 from typing import Any, Sequence
 
 import sketch_engine as engine
-from sketch_parts import Part, Traffic, batches
+from sketch_parts import Traffic, batches
 from sketch_report import Row, bars, number, plural
 
 

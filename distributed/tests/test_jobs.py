@@ -22,7 +22,7 @@ from common import said, weight_outside, write, zipf
 from dask.delayed import delayed
 from sketch_parts import Heavy, Traffic, sketch_part
 
-PARTS, SIZE, PATIENCE = 12, 64, 120
+WORKERS, PARTS, SIZE, PATIENCE = 3, 12, 64, 120
 WORDS = zipf(PARTS * 4000, 3000, 1)
 WEIGHTS = collections.Counter(WORDS)
 BUDGET = 24  # half of what a sketch of 64 slots samples
@@ -35,15 +35,18 @@ def setUpModule():
     unittest.addModuleCleanup(folder.cleanup)
     FOLDER = folder.name
     STREAM = write(FOLDER, "stream.txt", "".join(" ".join(WORDS[at : at + 5]) + "\n" for at in range(0, len(WORDS), 5)))
-    CLIENT = unittest.enterModuleContext(engine.connect(3, None))
+    CLIENT = unittest.enterModuleContext(engine.connect(WORKERS, None))
 
 
 def watched_sketch(shape, part, log, gate):
-    """A part's image, whose making the log tells. All but the first parts wait for a file to be there."""
-    with open(log, "a", encoding="utf-8") as file:
+    """A part's image, whose making the log tells. All but the first that are begun wait for a file to be there."""
+    with open(log, "a+", encoding="utf-8") as file:
         file.write(f"{part.begin}\n")
+        file.flush()
+        file.seek(0)
+        begun = len(file.readlines())
     until = time.monotonic() + PATIENCE
-    while part.begin > 100_000 and not os.path.exists(gate) and time.monotonic() < until:
+    while begun > WORKERS and not os.path.exists(gate) and time.monotonic() < until:
         time.sleep(0.05)
     return sketch_part(shape, part)
 
@@ -133,7 +136,7 @@ class Heaviest(Tests):
         with open(log, encoding="utf-8") as file:
             begun = collections.Counter(file.readlines())
         self.assertEqual((len(begun), max(begun.values()) > 1), (PARTS, True), "what the worker had is made again")
-        CLIENT.wait_for_workers(3, timeout=PATIENCE)
+        CLIENT.wait_for_workers(WORKERS, timeout=PATIENCE)
         self.assertNotIn(ids[dead], CLIENT.run(os.getpid).values())
 
     def test_a_scheduler_that_runs(self):

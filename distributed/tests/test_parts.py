@@ -63,6 +63,10 @@ class Parts(unittest.TestCase):
         for text in ("", "\n\r\n\n"):
             path = write(self.folder, "empty", text)
             self.assertEqual(list(items_of(engine.cut_files([path], 3))), [])
+        path = write(self.folder, "empty.csv", "")
+        self.assertEqual(list(items_of(engine.cut_files([path, path], 3, column="page", weight="bytes"))), [])
+        path = write(self.folder, "head.csv", "page,bytes")
+        self.assertEqual(list(items_of(engine.cut_files([path], 3, column="page", weight="bytes"))), [])
         path = write(self.folder, "long", "one\n" + "x" * 5000 + "\nlast")
         parts = engine.cut_files([path], 12)
         self.assertEqual(len([part for part in parts if not list(items_of([part]))]), 10)
@@ -92,8 +96,10 @@ class Parts(unittest.TestCase):
             with self.assertRaises(BadInput) as refused:
                 engine.cut_files([path], 1, column=name)
             self.assertEqual(refused.exception.args, (path, 1, reason))
-        for more in ({"weight": "host"}, {"no_header": True}, {"column": "x", "no_header": True}, {"column": "0", "no_header": True},
-                     {"column": "page", "words": True}, {"column": "page", "delimiter": ""}):
+        for more in ({"weight": "host"}, {"no_header": True},
+                     {"column": "x", "no_header": True}, {"column": "0", "no_header": True},
+                     {"column": "page", "words": True}, {"column": "page", "delimiter": ""},
+                     {"column": "page", "delimiter": "\n"}, {"column": "page", "delimiter": '"'}):
             with self.assertRaises(ValueError):
                 engine.cut_files([path], 1, **more)
         with self.assertRaises(FileNotFoundError) as refused:
