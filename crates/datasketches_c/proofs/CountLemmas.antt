@@ -1,21 +1,13 @@
 -- Items that are counted one after another.
-use Rattle.std.proofs.Common.{◌≡◌, ℕ, ◌+◌, ◌-◌, ◌<◌, ◌≤◌, Bool, map, take, get_or, set, inl, inr, get_or-set_same, get_or-set_other, true, false, cond, List, [], ◌∷◌, ◌++◌, length, ℤ, pos, ◌+ℤ◌, refl, sym, ap, ◌∙◌, subst, arith}
+use Rattle.std.proofs.Common.{◌≡◌, ℕ, ◌+◌, ◌-◌, ◌<◌, ◌≤◌, Bool, map, take, get_or, set, inl, inr, get_or-set_same, get_or-set_other, true, false, cond, List, [], ◌∷◌, ◌++◌, length, ℤ, pos, ◌+ℤ◌, sym, ap, ◌∙◌, subst, arith}
 use Rattle.std.specs.Prelude.{◌==◌, count_by, Result, Ok, Err, IsOk, OnOk}
 use Rattle.std.proofs.lemmas.Int.{ints}
 use Rattle.std.proofs.lemmas.Bool.{cases_eq, false≢true}
-use Rattle.std.proofs.lemmas.List.{length_push, length-map, length-take-le, take-map, take_all, map_more, map-set, get_or-map}
+use Rattle.std.proofs.lemmas.List.{length_push, length-map, length-take-le, take-map, map_more, map-set, get_or-map}
 use Rattle.std.proofs.lemmas.List.Sums.{sum_by_push}
 use Rattle.sketch_countmin.specs.Buckets.{bucket_of}
 use Rattle.sketch_countmin.specs.Rows.{cell_at}
 use Rattle.sketch_countmin.specs.State.{CountState, Counts, CountsAll, IsLeastCell}
-
--- nothing was counted yet
-pub counts_none : (s : CountState) → CountsAll s [] s
-counts_none s = record {
-  shape = record { hashes = refl; buckets = refl; seed = refl };
-  total = omega arith;
-  cells = λ r lr b lb. omega (arith, ints);
-}
 
 by_test : (t : Bool) (z : ℤ) (n : ℕ) → (z +ℤ pos n) +ℤ cond t (pos 1) (pos 0) ≡ z +ℤ pos (n + cond t 1 0)
 by_test true z n = omega (arith, ints)
@@ -60,17 +52,6 @@ counts_stop bytes_of items i greatest old mid there all fits over =
     let so_many : length (map bytes_of (take i items)) ≡ i = length-map (take i items) bytes_of ∙ length-take-le i items there in
     let room : greatest - old.total ≡ i = omega (arith, all.total) in
     subst (λ xs. CountsAll old xs mid) (sym (ap (λ (n : ℕ). take n (map bytes_of items)) room ∙ take-map bytes_of i items)) all
-
--- where there was room for all, all were counted
-pub counts_whole : {I : Type 0} (bytes_of : I → List ℕ) (items : List I) (i greatest : ℕ) (old new : CountState) → i ≡ length items
-    → CountsAll old (map bytes_of (take i items)) new → new.total ≤ greatest
-    → CountsAll old (take (greatest - old.total) (map bytes_of items)) new
-counts_whole bytes_of items i greatest old new here all fits =
-    let within : length items ≤ i = omega arith in
-    let whole : map bytes_of (take i items) ≡ map bytes_of items = ap (map bytes_of) (take_all i items within) in
-    let counted : CountsAll old (map bytes_of items) new = subst (λ xs. CountsAll old xs new) whole all in
-    let room : length (map bytes_of items) ≤ greatest - old.total = omega (arith, counted.total) in
-    subst (λ xs. CountsAll old xs new) (sym (take_all (greatest - old.total) (map bytes_of items) room)) counted
 
 -- the estimates so far, and one more
 pub estimates_more : {I V : Type 0} (number : V → ℤ) (s : CountState) (bytes_of : I → List ℕ) (items : List I) (estimates : List V) (i : ℕ) (d item : I) (v : V)

@@ -78,14 +78,14 @@ refused_here call old items i d mid new answer small there all done kept bits re
     let stops = stops_at call old items i d mid new answer there all same refusal in
     subst (λ z. CallsInTurn call old items new z) (sym (same_answer answer small)) (calls_stopped call old items new answer done other stops)
 
--- and one that was done
+-- an answer whose bits are none is that of a call that was done
+pub is_done : (answer : ℤ) → mag answer < 2147483648 → of_z w32 answer ≡ 0 → answer ≡ ok
+is_done answer small bits = sym (same_answer answer small) ∙ ap (to_z w32) bits
+
+-- a loop's call that was done
 pub done_here : {S X : Type 0} (call : S → X → S → ℤ → Type 0) (old : S) (items : List X) (i : ℕ) (d : X) (mid new : S) (answer : ℤ)
     → mag answer < 2147483648 → i < length items → InTurn (λ s x t. call s x t ok) old (take i items) mid → of_z w32 answer ≡ 0
     → call mid (get_or items i d) new answer → InTurn (λ s x t. call s x t ok) old (take (i + 1) items) new
 done_here call old items i d mid new answer small there all bits one =
-    let is : answer ≡ ok = sym (same_answer answer small) ∙ ap (to_z w32) bits in
+    let is : answer ≡ ok = is_done answer small bits in
     calls_more (λ s x t. call s x t ok) old items i d mid new there all (subst (λ z. call mid (get_or items i d) new z) is one)
-
--- an answer whose bits are none is that of a call that was done
-pub is_done : (answer : ℤ) → mag answer < 2147483648 → of_z w32 answer ≡ 0 → answer ≡ ok
-is_done answer small bits = sym (same_answer answer small) ∙ ap (to_z w32) bits

@@ -1,7 +1,7 @@
 -- The texts of a buffer, one by one.
-use Rattle.std.proofs.Common.{◌≡◌, ℕ, ◌+◌, ◌-◌, ◌<◌, ◌≤◌, [], ◌∷◌, ◌++◌, List, length, map, take, drop, get_or, sym, ap, ◌∙◌, arith, length-drop}
+use Rattle.std.proofs.Common.{◌≡◌, ℕ, ◌+◌, ◌-◌, ◌<◌, ◌≤◌, [], List, length, map, take, drop, get_or, sym, ap, ◌∙◌, arith, length-drop}
 use Rattle.std.specs.List.{slice_range, zip, fold}
-use Rattle.std.proofs.lemmas.List.{length-map, get_or-drop, get_or-map, map_more, take_all, take_more}
+use Rattle.std.proofs.lemmas.List.{length-map, get_or-drop, get_or-map, map_more, take_all}
 use Rattle.std.proofs.lemmas.List.Sums.{fold_push}
 use Rattle.std.proofs.lemmas.Slice.Zip.{length-zip, get_or-zip}
 use Rattle.datasketches_c.specs.Texts.{texts_of}
@@ -42,8 +42,3 @@ fold_more_texts step of start now after texts i text there is so_far one =
 pub fold_all_texts : {S : Type 0} (step : S → List ℕ → S) (of : List ℕ → List ℕ) (start now : S) (texts : List (List ℕ)) (i : ℕ)
     → length texts ≤ i → now ≡ fold step start (map of (take i texts)) → now ≡ fold step start (map of texts)
 fold_all_texts step of start now texts i all so_far = so_far ∙ ap (λ ts. fold step start (map of ts)) (take_all i texts all)
-
--- the texts so far, and one more
-pub take_more_texts : (texts : List (List ℕ)) (i : ℕ) (text : List ℕ) → i < length texts → text ≡ get_or texts i []
-    → take (i + 1) texts ≡ take i texts ++ text ∷ []
-take_more_texts texts i text there is = take_more texts i [] there ∙ ap (λ t. take i texts ++ t ∷ []) (sym is)

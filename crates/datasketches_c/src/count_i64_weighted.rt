@@ -80,8 +80,8 @@ pub extern "C" fn ds_count_i64_update_all_weighted_i64(
     update_all_weighted(alloc, handle, items, weights)
 }
 
-/// Adds a weight to that of each text, one after another. The total grows by the distance of each weight from 0. The texts are the bytes between each of the offsets and the
-/// next.
+/// Adds a weight to that of each text, one after another. The total grows by the distance of each weight from 0. The
+/// texts are the bytes between each of the offsets and the next.
 ///
 /// Refused with `BAD_OFFSETS` where there is no offset, one is below the one before it, or one passes the end of the
 /// bytes, then with `NO_ROOM` where there are more or fewer weights than texts, then with `InvalidUtf8` where some text
