@@ -1,4 +1,4 @@
-from typing import Any, Iterable, SupportsIndex, TypeVar, overload
+from typing import Any, Iterable, Literal, SupportsIndex, TypeVar, overload
 
 # An item is a str, an int, or what has __index__; many are an iterable of these, or a buffer of 64-bit integers.
 Item = str | SupportsIndex
@@ -110,7 +110,9 @@ class FrequentItems:
     def estimate(self, item: Item, /) -> int: ...
     @property
     def total(self) -> int: ...
-    def rows(self, threshold: SupportsIndex = 0, no_false_negatives: bool = True) -> list[tuple[Any, int, int, int]]: ...
+    def rows(
+        self, threshold: SupportsIndex = 0, no_false: Literal["negatives", "positives"] = "negatives"
+    ) -> list[tuple[Any, int, int, int]]: ...
     @property
     def maximum_error(self) -> int: ...
     @property

@@ -91,7 +91,13 @@ static int32_t update_many(Sketch *self, const Items *items, const Weights *weig
 {
     uint64_t numbers[CHUNK], chunk[CHUNK];
     size_t count = 0;
-    int32_t answer = DS_OK;
+    ds_count_numbers was;
+    int32_t answer = self->with_sign ? ds_count_i64_status(&self->handle, &was) : ds_count_u64_status(&self->handle, &was);
+    if (answer >= 0 && !weights_fit(weights, items->count, self->with_sign,
+                                    (self->with_sign ? INT64_MAX : UINT64_MAX) - was.total_weight))
+        answer = DS_WEIGHT_OVERFLOW;
+    if (answer < 0)
+        return answer;
     if (!items->with_texts && !weights->each && weights->same == 1)
         return update_by_one(self, items);
     for (size_t i = 0; i < items->count && answer >= 0; i += count) {
@@ -110,7 +116,7 @@ const char count_update_doc[] = PyDoc_STR(
 "Add a weight to an item's, or to those of many: an iterable, or a buffer of 64-bit integers.\n\n"
 "The weight is from 0 to 2**64 - 1, or where the sketch is signed from -2**63 to 2**63 - 1. Many items have one weight\n"
 "each, or as many weights as there are items: an iterable or a buffer too. Where the total weight would pass the\n"
-"greatest, 'WeightOverflow' is raised; the first of many items are then counted.\n\n"
+"greatest, 'WeightOverflow' is raised, and nothing is counted.\n\n"
 ">>> import datasketches_rattle as ds\n"
 ">>> load = ds.CountMin(hashes=4, buckets=1 << 10)\n"
 ">>> load.update(7, 30)\n"

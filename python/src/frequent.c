@@ -1,6 +1,8 @@
 /* FrequentItems: the items that weigh most, as int of 64 bits with a sign or without one, or as str. */
 #include "sketches.h"
 
+#include <string.h>
+
 /* What `item` asks for: int or 'i64' for numbers with a sign, 'u64' for those without, and str for texts. */
 static bool kind_of(PyObject *kind, bool *with_sign, bool *with_texts)
 {
@@ -256,10 +258,10 @@ static PyObject *row(const Sketch *self, uint64_t item, const ds_frequent_bounds
 }
 
 PyDoc_STRVAR(rows_doc,
-"rows($self, /, threshold=0, no_false_negatives=True)\n--\n\n"
+"rows($self, /, threshold=0, no_false='negatives')\n--\n\n"
 "The items that weigh more than a threshold, heaviest first: (item, lower bound, estimate, upper bound) of each.\n\n"
 "No item above the threshold is missing, nor above `maximum_error`, which counts where it is higher. With\n"
-"`no_false_negatives=False` no item below is there, and some above may be missing.\n\n"
+"`no_false='positives'` no item below is there, and some above may be missing.\n\n"
 ">>> import datasketches_rattle as ds\n"
 ">>> heavy = ds.FrequentItems(64)\n"
 ">>> heavy.update([7, 7, 7, 8, 8, -9])\n"
@@ -268,17 +270,22 @@ PyDoc_STRVAR(rows_doc,
 
 static PyObject *frequent_rows(PyObject *object, PyObject *args, PyObject *keywords)
 {
-    static char *names[] = {"threshold", "no_false_negatives", NULL};
+    static char *names[] = {"threshold", "no_false", NULL};
     Sketch *self = (Sketch *)object;
     ds_frequent_numbers numbers;
     PyObject *threshold_object = NULL;
-    int all = 1;
+    const char *no_false = "negatives";
     uint64_t threshold = 0;
-    if (!PyArg_ParseTupleAndKeywords(args, keywords, "|Op:rows", names, &threshold_object, &all) ||
+    if (!PyArg_ParseTupleAndKeywords(args, keywords, "|Os:rows", names, &threshold_object, &no_false) ||
         (threshold_object != NULL && !natural_of(threshold_object, "threshold", &threshold)))
         return NULL;
+    bool all = strcmp(no_false, "negatives") == 0;
+    if (!all && strcmp(no_false, "positives") != 0) {
+        PyErr_SetString(PyExc_ValueError, "no_false is 'negatives' or 'positives'");
+        return NULL;
+    }
     if (self->with_texts)
-        return texts_rows(self, all != 0, threshold);
+        return texts_rows(self, all, threshold);
     if (!numbers_of(object, &numbers))
         return NULL;
     Rows rows = {NULL, NULL};
@@ -292,7 +299,7 @@ static PyObject *frequent_rows(PyObject *object, PyObject *args, PyObject *keywo
         if (rows.items == NULL || rows.bounds == NULL) {
             answer = DS_NO_MEMORY;
         } else if (sketch_lock(self)) {
-            answer = rows_of(self, all != 0, threshold, &rows, room, &count);
+            answer = rows_of(self, all, threshold, &rows, room, &count);
             sketch_unlock(self);
             room = answer == DS_NO_ROOM ? count : room;
         } else {

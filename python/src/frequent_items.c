@@ -42,7 +42,7 @@ const char frequent_update_doc[] = PyDoc_STR(
 "update($self, items, weight=1, /)\n--\n\n"
 "Add a weight, 0 to 2**64 - 1, to an item's, or to those of many: an iterable, or a buffer of 64-bit integers.\n\n"
 "Many items have one weight each, or as many weights as there are items: an iterable or a buffer too. Where the total\n"
-"weight would pass 2**64 - 1, 'WeightOverflow' is raised; the first of many items are then counted.\n\n"
+"weight would pass 2**64 - 1, 'WeightOverflow' is raised, and nothing is counted.\n\n"
 ">>> import datasketches_rattle as ds\n"
 ">>> heavy = ds.FrequentItems(64)\n"
 ">>> heavy.update(7, 30)\n"
@@ -70,23 +70,50 @@ static int32_t update_numbers(Sketch *self, const uint64_t *numbers, size_t coun
                            : ds_frequent_u64_update_all(&self->handle, numbers, count);
 }
 
-static int32_t update_many(Sketch *self, const Items *items, const Weights *weights)
+static uint64_t total_of(Sketch *self)
+{
+    ds_frequent_numbers numbers = {0};
+    if (self->with_texts)
+        ds_frequent_text_status(&self->handle, &numbers);
+    else if (self->with_sign)
+        ds_frequent_i64_status(&self->handle, &numbers);
+    else
+        ds_frequent_u64_status(&self->handle, &numbers);
+    return numbers.total_weight;
+}
+
+/* Where memory ends, `done` is how many items were counted, and else as many as there are, or 0. */
+static int32_t update_many(Sketch *self, const Items *items, const Weights *weights, size_t *done)
 {
     uint64_t numbers[CHUNK], chunk[CHUNK];
     size_t count = 0;
     int32_t answer = DS_OK;
+    *done = 0;
+    if (!weights_fit(weights, items->count, false, UINT64_MAX - total_of(self)))
+        return DS_WEIGHT_OVERFLOW;
     for (size_t i = 0; i < items->count && answer >= 0; i += count) {
         count = items_chunk(items, i, CHUNK, numbers);
         if (!self->with_texts && !weights->each && weights->same == 1) {
+            uint64_t was = total_of(self);
             answer = update_numbers(self, numbers, count);
+            *done += (size_t)(total_of(self) - was);
             continue;
         }
         weights_chunk(weights, i, count, chunk);
-        for (size_t j = 0; j < count && answer >= 0; j++)
+        for (size_t j = 0; j < count && answer >= 0; j++) {
             answer = self->with_texts ? update_one(self, &items->items[i + j], chunk[j])
                                       : BY_SIGN(self, update, &self->handle, numbers[j], chunk[j]);
+            *done += answer >= 0;
+        }
     }
     return answer;
+}
+
+static PyObject *refuse_many(int32_t answer, size_t done, size_t count)
+{
+    if (answer != DS_NO_MEMORY)
+        return refuse(answer);
+    return PyErr_Format(PyExc_MemoryError, "memory ended when %zu of %zu items were counted", done, count);
 }
 
 PyObject *frequent_update(PyObject *object, PyObject *const *args, Py_ssize_t count)
@@ -106,6 +133,7 @@ PyObject *frequent_update(PyObject *object, PyObject *const *args, Py_ssize_t co
     } else {
         Items items;
         Weights weights;
+        size_t done;
         if (!items_of(args[0], &items))
             return NULL;
         if (!counts_all(self, &items) || !weights_of(given, false, &items, &weights)) {
@@ -115,14 +143,17 @@ PyObject *frequent_update(PyObject *object, PyObject *const *args, Py_ssize_t co
         bool there = sketch_lock(self);
         if (there) {
             BATCH_BEGIN(self)
-            answer = update_many(self, &items, &weights);
+            answer = update_many(self, &items, &weights, &done);
             BATCH_END(self)
             sketch_unlock(self);
         }
+        size_t count_of_items = items.count;
         items_release(&weights.items);
         items_release(&items);
         if (!there)
             return NULL;
+        if (answer < 0)
+            return refuse_many(answer, done, count_of_items);
     }
     if (answer < 0)
         return refuse(answer);

@@ -235,6 +235,28 @@ bool weights_of(PyObject *object, bool with_sign, const Items *items, Weights *w
     return false;
 }
 
+static uint64_t distance(uint64_t weight, bool with_sign)
+{
+    return with_sign && weight > INT64_MAX ? 0 - weight : weight;
+}
+
+bool weights_fit(const Weights *weights, size_t count, bool with_sign, uint64_t room)
+{
+    uint64_t chunk[CHUNK], same = distance(weights->same, with_sign);
+    if (!weights->each)
+        return same == 0 || count <= room / same;
+    for (size_t i = 0, some; i < count; i += some) {
+        some = items_chunk(&weights->items, i, CHUNK, chunk);
+        for (size_t j = 0; j < some; j++) {
+            uint64_t weight = distance(chunk[j], with_sign);
+            if (weight > room)
+                return false;
+            room -= weight;
+        }
+    }
+    return true;
+}
+
 void weights_chunk(const Weights *weights, size_t first, size_t count, uint64_t *chunk)
 {
     if (weights->each)

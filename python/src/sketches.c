@@ -193,7 +193,7 @@ PyObject *sketch_exit(PyObject *self, PyObject *Py_UNUSED(arguments))
 }
 
 PyDoc_STRVAR(error_doc,
-"A sketch refused a call, and is as it was (only a batch of weights may have counted its first items).\n\n"
+"A sketch refused a call, and is as it was.\n\n"
 "`kind` is 'InvalidArgument' or 'InvalidData', and `fault` says what was wrong.\n\n"
 ">>> import datasketches_rattle as ds\n"
 ">>> try:\n"

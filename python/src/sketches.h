@@ -126,6 +126,9 @@ typedef struct {
 /* What the second argument of an update says. Each weight has a sign or is 0 or more. */
 bool weights_of(PyObject *object, bool with_sign, const Items *items, Weights *weights);
 
+/* Whether there is so much room for the weights of so many items. Of weights with a sign their distance from 0 counts. */
+bool weights_fit(const Weights *weights, size_t count, bool with_sign, uint64_t room);
+
 /* So many weights from `first` on. */
 void weights_chunk(const Weights *weights, size_t first, size_t count, uint64_t *chunk);
 

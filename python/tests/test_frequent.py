@@ -69,7 +69,7 @@ class Rows(unittest.TestCase):
                 heavy.update(base + int(chance.paretovariate(0.5)) % 300, chance.randrange(4))
             for threshold in (0, 10, heavy.maximum_error, 500, GREATEST):
                 least = max(threshold, heavy.maximum_error)
-                for name, place in ((True, 2), (False, 0)):
+                for name, place in (("negatives", 2), ("positives", 0)):
                     rows = heavy.rows(threshold, name)
                     told = {item: tuple(bounds) for item, *bounds in rows}
                     for number in range(base, base + 301):
@@ -85,6 +85,9 @@ class Rows(unittest.TestCase):
         for wrong, error in ((-1, ValueError), (2**64, ValueError), (1.0, TypeError), (None, TypeError)):
             with self.assertRaises(error):
                 heavy.rows(wrong)
+        for wrong, error in (("both", ValueError), ("", ValueError), (True, TypeError), (None, TypeError)):
+            with self.assertRaises(error):
+                heavy.rows(no_false=wrong)
         heavy.close()
         with self.assertRaises(ValueError):
             heavy.rows()
@@ -160,7 +163,9 @@ class Refusals(unittest.TestCase):
         with self.assertRaises(ds.SketchError) as refused:
             heavy.update([1, 2, 3])
         self.assertEqual((refused.exception.kind, refused.exception.fault), ("InvalidArgument", "WeightOverflow"))
-        self.assertEqual([heavy[n] for n in (1, 2, 3, 7)], [1, 1, 0, GREATEST - 2])
+        self.assertEqual([heavy[n] for n in (1, 2, 3, 7)], [0, 0, 0, GREATEST - 2])
+        heavy.update([1, 2])
+        self.assertEqual(([heavy[n] for n in (1, 2, 3)], heavy.total), ([1, 1, 0], GREATEST))
         for weight, error in ((-1, ValueError), (2**64, ValueError), (1.0, TypeError), (True, TypeError)):
             with self.assertRaises(error):
                 heavy.update(7, weight)

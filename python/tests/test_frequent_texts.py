@@ -52,7 +52,7 @@ class Weights(unittest.TestCase):
                 least = max(threshold, heavy.maximum_error)
                 above = {word for word, weight in weights.items() if weight > least}
                 self.assertLessEqual(above, {row[0] for row in heavy.rows(threshold)})
-                self.assertGreaterEqual(above, {row[0] for row in heavy.rows(threshold, no_false_negatives=False)})
+                self.assertGreaterEqual(above, {row[0] for row in heavy.rows(threshold, no_false="positives")})
 
     def test_rows_are_those_of_the_bounds(self):
         chance = random.Random(2)
@@ -62,7 +62,7 @@ class Weights(unittest.TestCase):
             heavy.update(word, chance.randrange(4))
         for threshold in (0, 10, heavy.maximum_error, 500, GREATEST):
             least = max(threshold, heavy.maximum_error)
-            for name, place in ((True, 2), (False, 0)):
+            for name, place in (("negatives", 2), ("positives", 0)):
                 rows = heavy.rows(threshold, name)
                 told = {item: tuple(bounds) for item, *bounds in rows}
                 for word in set(words):
@@ -173,7 +173,8 @@ class Refusals(unittest.TestCase):
         with self.assertRaises(ds.SketchError) as refused:
             heavy.update(["a", "b", "c"])
         self.assertEqual(refused.exception.fault, "WeightOverflow")
-        self.assertEqual([heavy[word] for word in "abcd"], [1, 1, 0, GREATEST - 2])
+        self.assertEqual([heavy[word] for word in "abcd"], [0, 0, 0, GREATEST - 2])
+        heavy.update(["a", "b"])
         self.assertEqual((heavy.total, heavy.rows()[0]), (GREATEST, ("d",) + (GREATEST - 2,) * 3))
 
     def test_close(self):

@@ -30,6 +30,18 @@ twins.clear()
 print("a" in kept, "b" in kept)
 """
 
+COUNTED_SO_FAR = """
+import array, resource
+import datasketches_rattle as ds
+items = array.array("q", range(4000000))
+heavy = ds.FrequentItems(1 << 26)
+resource.setrlimit(resource.RLIMIT_AS, (1 << 28, 1 << 28))
+try:
+    heavy.update(items)
+except MemoryError as error:
+    print(str(error) == f"memory ended when {heavy.total} of 4000000 items were counted", 0 < heavy.total < 4000000)
+"""
+
 GIVEN_BACK = """
 import array, copy, pickle, resource
 import datasketches_rattle as ds
@@ -106,6 +118,10 @@ class Package(unittest.TestCase):
     @unittest.skipIf("asan" in os.environ.get("LD_PRELOAD", ""), "the limit on memory is too low for this run")
     def test_memory_refused(self):
         self.assertEqual(run(SHORT_OF_MEMORY), (0, ["MemoryError"] * 5 + ["True False"], ""))
+
+    @unittest.skipIf("asan" in os.environ.get("LD_PRELOAD", ""), "the limit on memory is too low for this run")
+    def test_memory_that_ends_in_a_batch(self):
+        self.assertEqual(run(COUNTED_SO_FAR), (0, ["True True"], ""))
 
     @unittest.skipIf("asan" in os.environ.get("LD_PRELOAD", ""), "the limit on memory is too low for this run")
     def test_memory_given_back(self):

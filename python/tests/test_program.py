@@ -124,7 +124,7 @@ def script_of_texts(chance, length):
             elif kind == "rows":
                 threshold, negatives = chance.choice((0, 5, 500)), chance.random() < 0.5
                 lines.append(f"rows {name} {'fn' if negatives else 'fp'} {threshold}")
-                rows = each.rows(threshold, negatives)
+                rows = each.rows(threshold, no_false="negatives" if negatives else "positives")
                 reply = " ".join(["rows", str(len(rows))] + ["{0} {2} {1} {3}".format(*row) for row in rows])
             else:
                 key = f"i{len(lines)}"
