@@ -7,14 +7,17 @@ use Rattle.std.proofs.lemmas.List.Sorted.{sum_by-IsPermutation}
 use Rattle.std.specs.List.{list_any}
 use Rattle.counter_table.specs.Tables.{sum_outside}
 use Rattle.sketch_frequencies.specs.History.{weight_outside, least_sample, budget_size}
-use Rattle.sketch_frequencies.specs.History.FrequentHistory.{New, Update, Merge}
+use Rattle.sketch_frequencies.specs.History.FrequentHistory.{New, Update, Merge, Restored}
+use Rattle.sketch_frequencies.specs.Image.{Restores, RestoresBudget, state_of_contents}
+use Rattle.sketch_frequencies.specs.Items.{Codec}
+use Rattle.sketch_frequencies.specs.Laws.{SpelledIsImage}
 use Rattle.sketch_frequencies.specs.RowValue.{RowValue}
 use Rattle.sketch_frequencies.specs.Rows.{Shows, ShowsExactly, MissesNone}
 use Rattle.sketch_frequencies.specs.Stands.{StandsFor, KeepsTailBudget, Extends, ExtendsBudget, ExtendsBoth, ExtendsBothBudgets}
 use Rattle.sketch_frequencies.specs.State.{FrequentState, greatest_sample_size}
 use Rattle.sketch_frequencies.specs.declared.error_type.ErrorType.{ErrorType}
 use Rattle.sketch_frequencies.specs.declared.error_type.ErrorType.TheVariants.{NoFalseNegatives}
-use Rattle.uses.specs.Groups.{weight_of, SumsUp, ReportsHeavy}
+use Rattle.uses.specs.Groups.{weight_of, SumsUp, ReportsHeavy, CarriesSums}
 
 -- half of the lesser of two samples
 least_places : (m n a b : ℕ) → m ≤ a / 2 → n ≤ b / 2 → min m n ≤ min a b / 2
@@ -160,3 +163,20 @@ module _ {G : Type 0} (eq : G → G → Bool) where
       → IfOk r (λ x. (n : ℕ) (rows : List (G × ℕ)) → SumsUp eq n s rows → ReportsHeavy eq n threshold s.error rows (heavy x))
   reports_either s threshold heavy (Ok x) exact misses = reports s NoFalseNegatives threshold (heavy x) exact (misses refl)
   reports_either s threshold heavy (Err e) exact misses = tt
+
+  -- what an image carried
+  pub restored : {C : Type 0} (codec : Codec C) (content : G → C) → SpelledIsImage codec → (image : List ℕ) (new : FrequentState G)
+      → Restores codec content eq image new → RestoresBudget codec content eq image new
+      → (n : ℕ) (rows : List (G × ℕ)) → CarriesSums eq codec content n image rows → SumsUp eq n new rows
+  restored codec content law image new stands budget n rows c =
+      let is = law image (state_of_contents content c.sums) c.spelled in
+      let s = c.sums_up in
+      record {
+        history = Restored s.history;
+        stands = stands c.sums is s.history s.stands.encloses;
+        budget = budget c.sums is s.history s.stands.encloses s.budget;
+        places = s.places;
+        total = s.total;
+        groups = s.groups;
+        others = s.others;
+      }

@@ -2,6 +2,8 @@
 use Rattle.std.specs.Prelude.{◌≡◌, ℕ, ◌-◌, ◌*◌, ◌<◌, ◌≤◌, max, Bool, true, cond, List, length, All, sum_by}
 use Rattle.std.specs.List.{list_any}
 use Rattle.sketch_frequencies.specs.History.{FrequentHistory, true_weight, total_weight, weight_outside, budget_size}
+use Rattle.sketch_frequencies.specs.Image.{IsSpelledFor}
+use Rattle.sketch_frequencies.specs.Items.{Codec}
 use Rattle.sketch_frequencies.specs.RowValue.{RowValue}
 use Rattle.sketch_frequencies.specs.Stands.{StandsFor, KeepsTailBudget}
 use Rattle.sketch_frequencies.specs.State.{FrequentState}
@@ -37,3 +39,10 @@ module _ {G : Type 0} (eq : G → G → Bool) where
     -- whichever k groups are set aside, the heaviest of all among them: for each of the n - k places that are left the
     -- other groups weigh as much as the error
     pub tail : (set : List G) → length set ≤ n → (n - length set) * error ≤ weight_of_others set rows
+
+  -- the bytes are the image of a sketch that sums these rows up
+  pub record CarriesSums {C : Type 0} (codec : Codec C) (content : G → C) (n : ℕ) (image : List ℕ) (rows : List (G × ℕ))
+      : Type 0 where
+    pub sums : FrequentState G
+    pub spelled : IsSpelledFor codec content image sums
+    pub sums_up : SumsUp n sums rows

@@ -3,15 +3,18 @@
 //! Each shard sums its rows up in a [`GroupSums`], the sums of the shards are merged, in any order and any tree, and the
 //! heavy groups are read off the last one.
 ghost use Rattle.std.specs.Prelude.{◌≡◌, ℕ, ◌+◌, ◌<◌, ◌≤◌, ◌/◌, ◌^◌, min, None, List, [], ◌∷◌, ◌++◌, false, sum_by, IfOk, IfErr, IsOk, IsTrue, OnOk, OnErr, IsErrOf, IsPermutation};
+ghost use Rattle.sketch_base.specs.Checks.{IsImageRefusal};
 ghost use Rattle.sketch_base.specs.Errors.{invalid_argument, no_memory, refusal_of};
+ghost use Rattle.counter_table.specs.Bytes.{table_bytes};
+ghost use Rattle.sketch_frequencies.specs.Image.{IsImageOf, IsSpelledFor, IsImageWritingRefusal, early_fault_within, first_fault_within};
 ghost use Rattle.sketch_frequencies.specs.Rows.{ShowsExactly, Descends};
 ghost use Rattle.sketch_frequencies.specs.Sizes.{size_fault};
 ghost use Rattle.sketch_frequencies.specs.State.{FrequentState, IsState, Overflows, TotalHasRoom, empty_state, greatest_sample_size, must_double};
 ghost use Rattle.sketch_frequencies.specs.Steps.{Steps, JoinsEqual};
-ghost use Rattle.uses.specs.Groups.{SumsUp, ReportsHeavy};
+ghost use Rattle.uses.specs.Groups.{SumsUp, ReportsHeavy, CarriesSums};
 
 use sketch_base::{Error, Fault};
-use sketch_frequencies::{ErrorType, FrequentItemsSketch, Row};
+use sketch_frequencies::{ErrorType, FrequentItemValue, FrequentItemsSketch, Row, laws};
 use std::alloc::Global;
 use std::hash::Hash;
 use std::marker::Model;
@@ -126,6 +129,41 @@ impl<G: Eq + Hash + Drop> GroupSums<G> {
         ensures sums { (n : ℕ) (rows : List (G × ℕ)) → SumsUp G.eq n self.now rows → result ≡ sum_by (λ row. row.1) rows }
     {
         self.sketch.total_weight()
+    }
+}
+
+impl<G: FrequentItemValue + Drop> GroupSums<G> {
+    /// The image of the sums, to be sent to where they are merged.
+    ///
+    /// # Errors
+    ///
+    /// Those of [`serialize`](FrequentItemsSketch::serialize).
+    pub fn image(&self) -> Result<Vec<u8>, Error>
+        ensures image { IfOk result (λ image. IsSpelledFor G.codec G.content image.items self.now) }
+        ensures carries { IfOk result (λ image. (n : ℕ) (rows : List (G × ℕ)) → SumsUp G.eq n self.now rows
+            → CarriesSums G.eq G.codec G.content n image.items rows) }
+        ensures err { IfErr result (IsImageWritingRefusal G.codec G.content self.now.counters) }
+    {
+        self.sketch.serialize()
+    }
+
+    /// The sums of an image, whose table takes at most so many bytes.
+    ///
+    /// # Errors
+    ///
+    /// Those of [`deserialize_with_limit`](FrequentItemsSketch::deserialize_with_limit).
+    pub fn from_image(alloc: Global, image: &[u8], most_bytes: usize) -> Result<Self, Error>
+        ensures image { IfOk result (λ sums. IsImageOf G.codec G.content image.now sums) }
+        ensures sample { IfOk result (λ sums. sums.sample_size ≡ greatest_sample_size sums.max_size) }
+        ensures sums { IfOk result (λ sums. (n : ℕ) (rows : List (G × ℕ))
+            → CarriesSums G.eq G.codec G.content n image.now rows → SumsUp G.eq n sums rows) }
+        ensures within { IfOk result (λ sums. table_bytes G.row sums.size ≤ most_bytes) }
+        ensures err { IfErr result (IsImageRefusal (early_fault_within G.row most_bytes image.now)
+            (first_fault_within G.row most_bytes G.codec image.now)) }
+    {
+        laws::what_images_say::<G>();
+        let sketch = FrequentItemsSketch::deserialize_with_limit(alloc, image, most_bytes)?;
+        Ok(GroupSums { sketch })
     }
 }
 

@@ -10,6 +10,9 @@ use std::fmt::Write;
 /// The most shards that lines may name.
 const MOST_SHARDS: usize = 1024;
 
+/// The most memory that the table of an image may take.
+const MOST_BYTES: usize = 1 << 30;
+
 /// How long the bar of the heaviest group may be.
 const LONGEST_BAR: u64 = 40;
 
@@ -72,7 +75,7 @@ fn make_shards(
     Ok(())
 }
 
-/// The sums of all shards.
+/// The sums of all shards, each of which comes as an image.
 fn merged(
     alloc: Global,
     size: usize,
@@ -80,9 +83,15 @@ fn merged(
 ) -> Result<GroupSums<String>, Error> {
     let mut all = GroupSums::new(alloc, size)?;
     for shard in shards {
-        all.merge(shard)?;
+        merge_image(alloc, &mut all, &shard.image()?)?;
     }
     Ok(all)
+}
+
+/// Merges the sums of an image.
+fn merge_image(alloc: Global, all: &mut GroupSums<String>, image: &[u8]) -> Result<(), Error> {
+    let shard = GroupSums::from_image(alloc, image, MOST_BYTES)?;
+    all.merge(&shard)
 }
 
 /// Reports the heavy groups, the heaviest first.
