@@ -14,9 +14,12 @@ multiplied n d m p h =
     let all : k * d + d ≡ m * d = omega (arith, ap (λ (x : ℕ). x * d) h) in
     (d - t, omega (arith, whole, less, all), omega (arith, less), omega arith)
 
--- a number between two multiples of 2 ^ 128
+-- a number between two multiples of 2 ^ 128, and of 2 ^ 64
 between : (a q : ℕ) → q * 2 ^ 128 ≤ a → a < (q + 1) * 2 ^ 128 → a / 2 ^ 128 ≡ q
 between a q low high = omega (arith, low, high)
+
+between_words : (a q : ℕ) → q * 2 ^ 64 ≤ a → a < (q + 1) * 2 ^ 64 → a / 2 ^ 64 ≡ q
+between_words a q low high = omega (arith, low, high)
 
 -- less by a factor
 cancel : (a b d : ℕ) → a * d < b * d → a < b
@@ -81,3 +84,35 @@ upper_fits n d lt small = omega (arith, by_digits n d (omega arith), fits n d lt
 pub halves_are : (n d : ℕ) → n < d
     → let m = n * 2 ^ 64 / d * 2 ^ 64 + n * 2 ^ 64 % d * 2 ^ 64 / d + 1 in n * 2 ^ 128 / d + 1 ≡ m / 2 ^ 64 * 2 ^ 64 + m % 2 ^ 64
 halves_are n d lt = omega (arith, by_digits n d (omega arith))
+
+-- where 2 ^ 64 times the fraction is whole, one product does for all numbers
+pub short_of_whole : (n d v : ℕ) → 0 < d → n * 2 ^ 64 % d ≡ 0 → v * (n * 2 ^ 64 / d) / 2 ^ 64 ≡ v * n / d
+short_of_whole n d v p none =
+    let u : ℕ = n * 2 ^ 64 / d in
+    let whole : u * d + n * 2 ^ 64 % d ≡ n * 2 ^ 64 = div-add-mod' (n * 2 ^ 64) d in
+    let exact : v * u * d ≡ v * n * 2 ^ 64 = omega (arith, ap (λ (x : ℕ). v * x) whole, ap (λ (x : ℕ). v * x) none) in
+    let q : ℕ = v * n / d in
+    let s : ℕ = v * n % d in
+    let parts : q * d + s ≡ v * n = div-add-mod' (v * n) d in
+    let less : s < d = mod-lt (v * n) p in
+    let low : q * 2 ^ 64 * d ≤ v * u * d = omega (arith, exact, parts) in
+    let high : v * u * d < (q + 1) * 2 ^ 64 * d = omega (arith, exact, parts, less) in
+    between_words (v * u) q (cancel_le (q * 2 ^ 64) (v * u) d p low) (cancel (v * u) ((q + 1) * 2 ^ 64) d high)
+
+-- and else for those whose product with the denominator has 64 bits
+pub short_of_few : (n d v : ℕ) → 0 < d → v ≤ (2 ^ 64 - 1) / d → v * (n * 2 ^ 64 / d + 1) / 2 ^ 64 ≡ v * n / d
+short_of_few n d v p few =
+    let u : ℕ = n * 2 ^ 64 / d in
+    let t : ℕ = n * 2 ^ 64 % d in
+    let whole : u * d + t ≡ n * 2 ^ 64 = div-add-mod' (n * 2 ^ 64) d in
+    let rest : t < d = mod-lt (n * 2 ^ 64) p in
+    let q : ℕ = v * n / d in
+    let s : ℕ = v * n % d in
+    let parts : q * d + s ≡ v * n = div-add-mod' (v * n) d in
+    let less : s < d = mod-lt (v * n) p in
+    let room : v * d < 2 ^ 64 = omega (arith, mul-le v d ((2 ^ 64 - 1) / d) d few (omega arith), div-add-mod' (2 ^ 64 - 1) d) in
+    let all : v * u * d + v * t ≡ v * n * 2 ^ 64 = omega (arith, ap (λ (x : ℕ). v * x) whole) in
+    let over : v * t ≤ v * d = mul-le v t v d (omega arith) (omega (arith, rest)) in
+    let low : q * 2 ^ 64 * d ≤ v * (u + 1) * d = omega (arith, all, over, parts) in
+    let high : v * (u + 1) * d < (q + 1) * 2 ^ 64 * d = omega (arith, all, parts, less, room) in
+    between_words (v * (u + 1)) q (cancel_le (q * 2 ^ 64) (v * (u + 1)) d p low) (cancel (v * (u + 1)) ((q + 1) * 2 ^ 64) d high)

@@ -1,5 +1,6 @@
 //! Multiplication by a fraction below one, without a division.
 ghost use Rattle.std.specs.Prelude.{◌≡◌, ◌*◌, ◌/◌, ◌<◌};
+ghost use Rattle.sketch_countmin.specs.Fractions.{IsShortUpTo};
 
 use std::marker::Model;
 
@@ -12,6 +13,9 @@ const WORD: u128 = 1 << 64;
 /// The multiplier is 2^128 times the fraction, rounded down, and one more. Its product with a number of 64 bits is above
 /// 2^128 times the true product by at most the number, which is less than 2^128 over the denominator. So the whole parts
 /// are the same, for each fraction and each number of 64 bits.
+///
+/// By the same reason 64 bits and one multiplication do for the numbers below 2^64 over the denominator, and for all
+/// where the fraction has no digits behind these.
 #[derive(Drop)]
 pub struct Fraction {
     numerator: u64,
@@ -19,17 +23,21 @@ pub struct Fraction {
     // The halves of the multiplier.
     upper: u64,
     lower: u64,
+    // The multiplier of 64 bits, and the greatest number for which it does.
+    short: u64,
+    limit: u64,
 }
 
 impl Model for Fraction {
     ghost use Rattle.std.specs.Prelude.{ℕ, ◌<◌};
-    ghost use Rattle.sketch_countmin.specs.Fractions.{IsMultiplier};
+    ghost use Rattle.sketch_countmin.specs.Fractions.{IsMultiplier, IsShortUpTo};
 
     ghost Value = { ℕ × ℕ };
 
     ghost view = { λ f. (f.numerator, f.denominator) };
 
-    ghost invariant = { λ f. (f.numerator < f.denominator) × IsMultiplier f.numerator f.denominator f.upper f.lower };
+    ghost invariant = { λ f. (f.numerator < f.denominator) × IsMultiplier f.numerator f.denominator f.upper f.lower
+        × IsShortUpTo f.limit f.numerator f.denominator f.short };
 }
 
 impl Fraction {
@@ -43,11 +51,14 @@ impl Fraction {
         let upper = shifted / divisor;
         let lower = shifted % divisor * WORD / divisor;
         let multiplier = upper * WORD + lower + 1;
+        let (short, limit) = short_multiplier(numerator, denominator);
         Fraction {
             numerator,
             denominator,
             upper: (multiplier / WORD) as u64,
             lower: (multiplier % WORD) as u64,
+            short,
+            limit,
         }
     }
 
@@ -56,7 +67,24 @@ impl Fraction {
     pub fn of(&self, value: u64) -> u64
         ensures { result ≡ value * self.now.0 / self.now.1 }
     {
+        if value <= self.limit {
+            return (value as u128 * self.short as u128 >> 64) as u64;
+        }
         let low = value as u128 * self.lower as u128 >> 64;
         (value as u128 * self.upper as u128 + low >> 64) as u64
+    }
+}
+
+/// The multiplier of 64 bits by which a product takes one multiplication, and the greatest number for which it does.
+fn short_multiplier(numerator: u64, denominator: u64) -> (u64, u64)
+    requires { numerator < denominator }
+    ensures { IsShortUpTo result.1 numerator denominator result.0 }
+{
+    let shifted = numerator as u128 * WORD;
+    let upper = (shifted / denominator as u128) as u64;
+    if shifted % denominator as u128 == 0 {
+        (upper, u64::MAX)
+    } else {
+        (upper + 1, u64::MAX / denominator)
     }
 }
