@@ -100,7 +100,7 @@ refuses_still s item answer e before since f spared =
 
 -- ---- what a call does
 
-pub follows_more : (old new : FilterState) (entry : Entry) → new.num_words ≡ old.num_words → new.num_hashes ≡ old.num_hashes → new.seed ≡ old.seed
+follows_more : (old new : FilterState) (entry : Entry) → new.num_words ≡ old.num_words → new.num_hashes ≡ old.num_hashes → new.seed ≡ old.seed
     → ((h : BloomHistory) → StandsFor old h → StandsFor new (after_entry h entry))
     → (entries : List Entry) → Follows old entries → Follows new (entries ++ entry ∷ [])
 follows_more old new entry w n e more entries f = record {
@@ -109,6 +109,11 @@ follows_more old new entry w n e more entries f = record {
       (subst (λ (g : BloomHistory). StandsFor new g) (sym (fold_push after_entry (New old.num_words old.num_hashes old.seed) entries entry))
       (more (history_of old entries) f.stands));
 }
+
+pub follows_inserted : (old new : FilterState) (item : List ℕ) → new ≡ inserted old item → Extends old new (λ h. Insert h item)
+    → (entries : List Entry) → Follows old entries → Follows new (entries ++ Refused item ∷ [])
+follows_inserted old new item is stands =
+    follows_more old new (Refused item) (ap (λ (s : FilterState). s.num_words) is) (ap (λ (s : FilterState). s.num_hashes) is) (ap (λ (s : FilterState). s.seed) is) stands
 
 pub follows_without : (old cleared' batch new : FilterState) (items : List (List ℕ)) → cleared' ≡ cleared old
     → Extends cleared' batch (λ h. all_inserted_after h items) → ExtendsBoth old batch new Difference → new ≡ subtracted old batch

@@ -1,4 +1,6 @@
 //! How often what is used is in a cache, with admission and without.
+ghost use Rattle.std.specs.Prelude.{◌<◌, IfOk};
+
 use crate::admission::Admission;
 use anyhow::{Result, bail, ensure};
 use lru::LruCache;
@@ -37,15 +39,29 @@ fn trial_of(alloc: Global, numbers: &[u64]) -> Result<Trial> {
     let [hashes, buckets, window, capacity] = numbers else {
         bail!("admission HASHES BUCKETS WINDOW CAPACITY");
     };
-    let window = u32::try_from(*window)?;
-    ensure!(window > 0, "an empty window");
-    let Some(capacity) = NonZeroUsize::new(usize::try_from(*capacity)?) else {
-        bail!("an empty cache");
-    };
+    let window = window_of(*window)?;
+    let capacity = capacity_of(*capacity)?;
     let hashes = u8::try_from(*hashes)?;
     let buckets = u32::try_from(*buckets)?;
     let admission = Admission::new(alloc, hashes, buckets, window)?;
     Ok(Trial::new(alloc, admission, capacity)?)
+}
+
+/// A window of so many uses.
+fn window_of(uses: u64) -> Result<u32>
+    ensures { IfOk result (λ window. 0 < window) }
+{
+    let window = u32::try_from(uses)?;
+    ensure!(window > 0, "an empty window");
+    Ok(window)
+}
+
+/// Caches of so many places.
+fn capacity_of(places: u64) -> Result<NonZeroUsize> {
+    match NonZeroUsize::new(usize::try_from(places)?) {
+        Some(capacity) => Ok(capacity),
+        None => bail!("an empty cache"),
+    }
 }
 
 impl Trial {

@@ -1,19 +1,18 @@
 //! The words of a line.
-use anyhow::{Context, Result};
+use anyhow::{Result, bail, ensure};
 use std::str::SplitWhitespace;
 
 /// The next word, as a number.
 pub fn next_number(words: &mut SplitWhitespace<'_>) -> Result<u64> {
-    let word = words.next().context("a short line")?;
+    let Some(word) = words.next() else {
+        bail!("a short line");
+    };
     Ok(word.parse::<u64>()?)
 }
 
 /// The next word, as a place below a limit.
 pub fn next_place(words: &mut SplitWhitespace<'_>, limit: usize) -> Result<usize> {
     let place = usize::try_from(next_number(words)?)?;
-    if place < limit {
-        Ok(place)
-    } else {
-        Err(anyhow::anyhow!("a place past the last"))
-    }
+    ensure!(place < limit, "a place past the last");
+    Ok(place)
 }
