@@ -456,8 +456,8 @@ fn middle_in<T, const N: usize>(slots: &[Slot<T>], size: usize) -> u64
         }
     }
     let counts = sample.as_mut_slice();
-    counts.sort_unstable();
-    counts[size / 2]
+    let (_, middle, _) = counts.select_nth_unstable(size / 2);
+    *middle
 }
 
 /// So many free slots. They ask for memory once.

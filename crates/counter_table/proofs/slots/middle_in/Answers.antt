@@ -2,7 +2,7 @@ use Rattle.std.proofs.Common.{◌≡◌, ℕ, ◌++◌, ◌∷◌, [], length, a
 use Rattle.std.proofs.lemmas.List.{map-append, length-map, take_all}
 use Rattle.counter_table.specs.Slots.{entries_of}
 use Rattle.counter_table.proofs.PurgeSamples.{entries_front, entries_taken, entries_passed}
-use Rattle.counter_table.proofs.PurgeMiddle.{IsSampleMiddle-from_sort}
+use Rattle.counter_table.proofs.PurgeMiddle.{IsSampleMiddle-from_split}
 use Rattle.counter_table.proofs.slots.middle_in.Goals as goal
 use Rattle.counter_table.proofs.slots.middle_in.Goals.{in-Taken, in_default, else-loop-slot-test, then-loop-slot-test+then-len-size}
 
@@ -52,4 +52,5 @@ returns g c =
     ] in
     let front : entries_of (take i slots) ≡ take n es = sym (entries_front i slots) ∙ ap (λ k. take k es) (sym many ∙ full) in
     let part : c.as_mut_slice-counts.result.now ≡ map num (take n es) = c.as_mut_slice-counts.ensures.value ∙ (c.loop-slot.invariant.counts ∙ ap (map num) front) in
-    IsSampleMiddle-from_sort n es c.sort_unstable.new.self c.requires.some c.requires.active (rw part at c.sort_unstable.ensures.permutation) c.sort_unstable.ensures.sorted
+    let cut = c.select_nth_unstable-middle in
+    IsSampleMiddle-from_split n es _ _ _ c.requires.active cut.ensures.front_len (rw part at cut.ensures.permutation) cut.ensures.partitioned
