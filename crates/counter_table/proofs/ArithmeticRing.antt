@@ -38,10 +38,6 @@ ahead-distance n h p l m = let d = distance_is n h p l m in let a = ahead_is n h
 pub distance-ahead : (n h j : ℕ) → h < n → j < n → distance n h (ahead n h j) ≡ j
 distance-ahead n h j l m = let a = ahead_is n h j l (omega arith) in let d = distance_is n h (ahead n h j) l a.below in omega arith
 
--- the place m places back
-pub distance-back : (n p m : ℕ) → p < n → m < n → distance n (ahead n p (n - m)) p ≡ m
-distance-back n p m l k = let a = ahead_is n p (n - m) l (omega arith) in let d = distance_is n (ahead n p (n - m)) p a.below l in omega arith
-
 pub back-distance : (n p k : ℕ) → p < n → k < n → ahead n p (n - distance n k p) ≡ k
 back-distance n p k l m = let d = distance_is n k p m l in let a = ahead_is n p (n - distance n k p) l (omega arith) in omega arith
 
@@ -55,36 +51,8 @@ passes n h k p m a b c l g =
     let d = distance_is n h k a b in let e = distance_is n h p a c in let f = distance_is n k p b c in
     let u = ahead_is n h (distance n h p - m) a (omega arith) in let v = ahead_is n p (n - m) c (omega arith) in (omega arith, omega arith)
 
--- m on the way from h to k
-pub distance-sum : (n h m k : ℕ) → h < n → m < n → k < n → distance n h m ≤ distance n h k → distance n h k ≡ distance n h m + distance n m k
-distance-sum n h m k a b c l = let d = distance_is n h k a c in let e = distance_is n h m a b in let f = distance_is n m k b c in omega arith
-
-pub distance-split : (n h m k : ℕ) → h < n → m < n → k < n → distance n m k ≤ distance n h k → distance n h k ≡ distance n h m + distance n m k
-distance-split n h m k a b c l = let d = distance_is n h k a c in let e = distance_is n h m a b in let f = distance_is n m k b c in omega arith
-
 pub distance-same : (n p : ℕ) → p < n → distance n p p ≡ 0
 distance-same n p l = let d = distance_is n p p l l in omega arith
-
-pub distance-some : (n h p : ℕ) → h < n → p < n → (h ≡ p → ⊥) → 1 ≤ distance n h p
-distance-some n h p a b ne = let d = distance_is n h p a b in omega arith
-
-pub ahead-sum : (n h j i : ℕ) → h < n → j + i < n → ahead n (ahead n h j) i ≡ ahead n h (j + i)
-ahead-sum n h j i l m =
-    let a = ahead_is n h j l (omega arith) in
-    let b = ahead_is n (ahead n h j) i a.below (omega arith) in
-    let c = ahead_is n h (j + i) l (omega arith) in
-    omega arith
-
-pub ahead-other : (n h j : ℕ) → h < n → 1 ≤ j → j < n → ahead n h j ≡ h → ⊥
-ahead-other n h j l s m e = let a = ahead_is n h j l (omega arith) in absurd (omega arith)
-
--- one place nearer to f
-pub nearer_by_one : (n p f : ℕ) → p < n → f < n → (p ≡ f → ⊥) → distance n (ahead n p 1) f + 1 ≡ distance n p f
-nearer_by_one n p f a b ne =
-    let u = ahead_is n p 1 a (omega arith) in
-    let d = distance_is n p f a b in
-    let e = distance_is n (ahead n p 1) f u.below b in
-    omega arith
 
 -- a place k that is no more than j back from the place j places on from h
 pub ahead-back : (n h k j : ℕ) → h < n → k < n → j < n → distance n k (ahead n h j) ≤ j → ahead n h (j - distance n k (ahead n h j)) ≡ k

@@ -40,7 +40,7 @@ differs_at : {T : Type 0} (eq : T → T → Bool) (k : T) (xs : List T) (x : T) 
 differs_at eq k [] x ys h = h.0
 differs_at eq k (z ∷ xs) x ys h = differs_at eq k xs x ys h.1
 
-last_apart : {T : Type 0} {eq : T → T → Bool} → IsEquivalence eq → (xs : List T) (x : T) (ys : List T) → IsDistinct eq (xs ++ x ∷ ys) → list_any (eq x) xs ≡ false
+pub last_apart : {T : Type 0} {eq : T → T → Bool} → IsEquivalence eq → (xs : List T) (x : T) (ys : List T) → IsDistinct eq (xs ++ x ∷ ys) → list_any (eq x) xs ≡ false
 last_apart laws [] x ys d = refl
 last_apart {eq = eq} laws (k ∷ xs) x ys d =
     let f : eq x k ≡ false = laws.symm x k ∙ differs_at eq k xs x ys (IsDistinct-head eq k (xs ++ x ∷ ys) d) in

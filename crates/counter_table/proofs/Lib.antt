@@ -10,13 +10,11 @@ pub mod LookupHomes
 pub mod LookupProbes
 pub mod LookupReach
 pub mod LookupTallies
-pub mod PurgeLessening
 pub mod PurgeMiddle
 pub mod PurgeRoom
 pub mod PurgeSamples
-pub mod PurgeScans
-pub mod RemovalPaths
-pub mod RemovalShifts
+pub mod PurgeSweeps
+pub mod PurgeTurns
 pub mod WalkEntries
 pub mod WalkSlots
 pub mod WalkSteps

@@ -24,6 +24,10 @@ pub next_masked : (p n : ℕ) → IsTableSize n → bit_and (p + 1) (n - 1) ≡ 
 unfolding ahead
 next_masked p n size = masked (p + 1) n size
 
+pub after_masked : (p j n : ℕ) → IsTableSize n → bit_and (p + j) (n - 1) ≡ ahead n p j
+unfolding ahead
+after_masked p j n size = masked (p + j) n size
+
 pub before_masked : (p back n : ℕ) → IsTableSize n → bit_and (p + (n - back)) (n - 1) ≡ ahead n p (n - back)
 unfolding ahead
 before_masked p back n size = masked (p + (n - back)) n size

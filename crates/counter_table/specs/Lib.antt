@@ -3,7 +3,7 @@ pub mod Filters
 pub mod Homes
 pub mod Places
 pub mod Probes
-pub mod Shifted
+pub mod Settled
 pub mod Slots
 pub mod Tables
 pub mod Walk

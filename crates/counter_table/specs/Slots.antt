@@ -1,5 +1,5 @@
 -- A table's slots, and the map that they hold. No public clause cites this module.
-use Rattle.std.specs.Prelude.{◌≡◌, ℕ, ◌+◌, ◌-◌, ◌<◌, ◌≤◌, ◌^◌, ◌==◌, Bool, true, false, IsTrue, List, length, Option, Some, None, is_some, slice_index_or, slice_set}
+use Rattle.std.specs.Prelude.{◌≡◌, ℕ, ◌+◌, ◌<◌, ◌≤◌, ◌^◌, Bool, true, IsTrue, List, length, Option, Some, None, is_some, slice_index_or, slice_set}
 use Rattle.std.specs.Int.{is_power_of_two}
 use Rattle.std.specs.List.{filter_map, IsDistinct}
 use Rattle.std.specs.Map.{keys_of}
@@ -25,9 +25,6 @@ held (Taken drift count item) = Some (record { item = item; count = count; drift
 
 abbrev pub taken : {T : Type 0} → Held T → Slot T
 taken s = Taken s.drift s.count s.item
-
-abbrev pub with_drift : {T : Type 0} → Held T → ℕ → Held T
-with_drift s d = record { item = s.item; count = s.count; drift = d }
 
 -- what stands in the slot at a place, if it is taken
 abbrev pub slot_at : {T : Type 0} → List (Slot T) → ℕ → Option (Held T)
@@ -76,31 +73,6 @@ CountHasRoom {T} slots k w = (s : Held T) → slot_at slots k ≡ Some s → s.c
 abbrev pub AddsAt : {T : Type 0} → List (Slot T) → ℕ → ℕ → List (Slot T) → Type 0
 AddsAt {T} old k w new =
     (s : Held T) → slot_at old k ≡ Some s → new ≡ slice_set old k (Taken s.drift (s.count + w) s.item)
-
--- the drift of what stands in a slot, 0 where it is free
-abbrev pub drift_of : {T : Type 0} → Option (Held T) → ℕ
-drift_of None = 0
-drift_of (Some s) = s.drift
-
--- the slot at k drifts by as much or more
-abbrev pub DriftsBy : {T : Type 0} → List (Slot T) → ℕ → ℕ → Type 0
-DriftsBy {T} slots k by = (s : Held T) → slot_at slots k ≡ Some s → by ≤ s.drift
-
--- new is old with the slot at `from` moved to `to`, and its drift less
-abbrev pub ShiftsBack : {T : Type 0} → List (Slot T) → ℕ → ℕ → ℕ → List (Slot T) → Type 0
-ShiftsBack {T} old from to by new =
-    (s : Held T) → slot_at old from ≡ Some s →
-    new ≡ slice_set (slice_set old from Free) to (taken (with_drift s (s.drift - by)))
-
--- whether the slot holds a count of 0
-abbrev pub is_spent : {T : Type 0} → Option (Held T) → Bool
-is_spent None = false
-is_spent (Some s) = s.count == 0
-
--- the slot with a count less by m, 0 where m is more
-abbrev pub lessened : {T : Type 0} → ℕ → Slot T → Slot T
-lessened m Free = Free
-lessened m (Taken drift count item) = Taken drift (count - m) item
 
 -- both slots are free, or hold equal items with one count and one drift
 abbrev pub IsSameSlot : {T : Type 0} → (T → T → Bool) → Slot T → Slot T → Type 0

@@ -1,16 +1,15 @@
 //! Work on the slots of a table: linear probing from an item's home on, round the end.
 //!
-//! Every place from an entry's home on to its slot is taken, so a look-up may end at the first free one. Freeing a slot
-//! keeps it so by shifting back each later entry of the cluster whose home is not after the freed slot, as Knuth's
-//! algorithm R does.
+//! Every place from an entry's home on to its slot is taken, so a look-up may end at the first free one. A purge
+//! keeps it so by one sweep that moves each entry that stays to the first free place from its home on.
 ghost use Rattle.std.specs.Prelude.{◌≡◌, ℕ, ◌+◌, ◌-◌, ◌<◌, ◌≤◌, ◌^◌, [], None, Some, true, false, not, length, map, filter, replicate, nat_lt, slice_index_or, slice_set, IfOk, IfErr, OnOk, OnErr, IsOk, IsTrue, IsPermutation};
 ghost use Rattle.std.specs.List.{IsDistinct, AllZip};
 ghost use Rattle.std.specs.Map.{keys_of};
 ghost use Rattle.sketch_base.specs.Errors.{no_memory};
 ghost use Rattle.counter_table.specs.Homes.{home_in, ahead};
 ghost use Rattle.counter_table.specs.Probes.{IsProbe, IsGap};
-ghost use Rattle.counter_table.specs.Shifted.{Origins};
-ghost use Rattle.counter_table.specs.Slots.{IsTableSize, IsPlaced, IsSlots, IsSameSlot, CountHasRoom, AddsAt, DriftsBy, ShiftsBack, drift_of, entries_of, is_spent, is_taken, lessened, slot_at};
+ghost use Rattle.counter_table.specs.Settled.{HasDrift, Settles};
+ghost use Rattle.counter_table.specs.Slots.{IsTableSize, IsPlaced, IsSlots, IsSameSlot, CountHasRoom, AddsAt, entries_of, is_taken};
 ghost use Rattle.counter_table.specs.Tables.{count_of, is_tracked, put, purged, IsSampleMiddle, PutsEqual};
 
 use crate::sizes::MAX_SAMPLE_SIZE;
@@ -56,6 +55,17 @@ fn next(place: usize, size: usize) -> usize
     ensures { result ≡ ahead size place 1 }
 {
     (place + 1) & (size - 1)
+}
+
+/// The place so many places after this one.
+#[inline(always)]
+fn after(place: usize, on: usize, size: usize) -> usize
+    requires size { IsTableSize size }
+    requires place { place < size }
+    requires on { on ≤ size }
+    ensures { result ≡ ahead size place on }
+{
+    (place + on) & (size - 1)
 }
 
 /// The place so many places before this one.
@@ -140,8 +150,19 @@ pub(crate) fn find_free<T: Hash>(slots: &[Slot<T>], item: &T) -> Gap
     requires room { length (entries_of slots.now) < length slots.now }
     ensures { IsGap (home_in T.hash_input (length slots.now) item.now) slots.now result.place result.looked }
 {
+    find_free_from(slots, item, home(item, slots.len()))
+}
+
+/// The same for an item whose home is known.
+#[inline(always)]
+fn find_free_from<T: Hash>(slots: &[Slot<T>], _item: &T, home: usize) -> Gap
+    requires size { IsTableSize (length slots.now) }
+    requires room { length (entries_of slots.now) < length slots.now }
+    requires home { home ≡ home_in T.hash_input (length slots.now) _item.now }
+    ensures { IsGap (home_in T.hash_input (length slots.now) _item.now) slots.now result.place result.looked }
+{
     let size = slots.len();
-    let mut place = home(item, size);
+    let mut place = home;
     let mut looked = 0;
     'probe: loop {
         if let Slot::Free = look(slots, place, &mut looked) {
@@ -282,64 +303,6 @@ pub(crate) fn put_clone_in<T: Eq + Hash + Clone + Drop>(
     }
 }
 
-/// Moves what stands in one slot to a free one that is so many places nearer to its home.
-#[inline(always)]
-fn shift_back<T: Drop>(slots: &mut [Slot<T>], from: usize, to: usize, by: u32)
-    requires from { from < length slots.old }
-    requires to { to < length slots.old }
-    requires by { DriftsBy slots.old from by }
-    ensures { ShiftsBack slots.old from to by slots.new }
-{
-    let moved = mem::replace(&mut slots[from], Slot::Free);
-    if let Slot::Taken { drift, count, item } = moved {
-        slots[to] = Slot::Taken {
-            drift: drift - by,
-            count,
-            item,
-        };
-    }
-}
-
-/// The drift in a slot, 0 where it is free.
-#[inline(always)]
-fn drift_at<T>(slots: &[Slot<T>], place: usize) -> u32
-    requires { place < length slots.now }
-    ensures { result ≡ drift_of (slot_at slots.now place) }
-{
-    match &slots[place] {
-        Slot::Taken { drift, .. } => *drift,
-        Slot::Free => 0,
-    }
-}
-
-/// Frees a slot, and shifts back each later entry of the cluster whose home is not after it.
-fn remove_at<T: Eq + Hash + Drop>(slots: &mut [Slot<T>], place: usize)
-    requires slots { IsSlots T.eq T.hash_input slots.old }
-    requires taken { is_taken slots.old place ≡ true }
-    ensures slots { IsSlots T.eq T.hash_input slots.new }
-    ensures entries { IsPermutation (entries_of (slice_set slots.old place Slot.Free)) (entries_of slots.new) }
-    ensures origins { Origins slots.old place slots.new }
-{
-    let size = slots.len();
-    slots[place] = Slot::Free;
-    let mut hole = place;
-    let mut probe = place;
-    let mut shift = 0;
-    for _ in 0..slots.len() {
-        probe = next(probe, size);
-        shift += 1;
-        let drift = drift_at(slots, probe);
-        if drift == 0 {
-            return;
-        }
-        if drift > shift {
-            shift_back(slots, probe, hole, shift);
-            hole = probe;
-            shift = 0;
-        }
-    }
-}
-
 /// Whether a slot is free.
 #[inline(always)]
 pub(crate) fn is_free<T>(slots: &[Slot<T>], place: usize) -> bool
@@ -349,18 +312,6 @@ pub(crate) fn is_free<T>(slots: &[Slot<T>], place: usize) -> bool
     match &slots[place] {
         Slot::Taken { .. } => false,
         Slot::Free => true,
-    }
-}
-
-/// Whether a slot holds a count of 0.
-#[inline(always)]
-fn is_spent<T>(slots: &[Slot<T>], place: usize) -> bool
-    requires { place < length slots.now }
-    ensures { result ≡ is_spent (slot_at slots.now place) }
-{
-    match &slots[place] {
-        Slot::Taken { count, .. } => *count == 0,
-        Slot::Free => false,
     }
 }
 
@@ -377,49 +328,56 @@ fn last_free<T>(slots: &[Slot<T>]) -> usize
     place
 }
 
-/// Removes each entry with a count of 0, and answers how many there were.
-///
-/// The scan starts below the highest free slot, goes down to 0, and then from the top down to that slot. So what a
-/// removal shifts back was scanned before.
-fn drop_spent<T: Eq + Hash + Drop>(slots: &mut [Slot<T>]) -> usize
-    requires { IsSlots T.eq T.hash_input slots.old }
-    ensures slots { IsSlots T.eq T.hash_input slots.new }
-    ensures entries { IsPermutation (filter (λ e. nat_lt 0 e.1) (entries_of slots.old)) (entries_of slots.new) }
-    ensures removed { result + length (entries_of slots.new) ≡ length (entries_of slots.old) }
+/// Takes `amount` from the count in a slot, if it is greater, and moves the entry to the first free slot from its home
+/// on: at the latest that where it stood. Else frees the slot. Answers whether an entry was dropped.
+#[inline(always)]
+fn settle<T: Hash + Drop>(slots: &mut [Slot<T>], place: usize, amount: u64) -> bool
+    requires size { IsTableSize (length slots.old) }
+    requires place { place < length slots.old }
+    requires drift { HasDrift (home_in T.hash_input (length slots.old)) slots.old place }
+    ensures { Settles (home_in T.hash_input (length slots.old)) slots.old place amount result slots.new }
 {
     let size = slots.len();
-    let free = last_free(slots);
-    let mut removed = 0;
-    for back in 1..size {
-        let place = before(free, back, size);
-        if is_spent(slots, place) {
-            remove_at(slots, place);
-            removed += 1;
-        }
-    }
-    removed
-}
-
-/// Takes `amount` from each count, or all of it where there is less.
-fn subtract<T>(slots: &mut [Slot<T>], amount: u64)
-    ensures { slots.new ≡ map (lessened amount) slots.old }
-{
-    for slot in slots.iter_mut() {
-        if let Slot::Taken { count, .. } = slot {
-            *count = count.saturating_sub(amount);
+    match mem::replace(&mut slots[place], Slot::Free) {
+        Slot::Free => false,
+        Slot::Taken { drift, count, item } => {
+            if count <= amount {
+                return true;
+            }
+            let home = before(place, drift as usize - 1, size);
+            let Gap { place: to, looked } = find_free_from(slots, &item, home);
+            let slot = Slot::Taken {
+                drift: looked as u32,
+                count: count - amount,
+                item,
+            };
+            fill(slots, to, slot);
+            false
         }
     }
 }
 
 /// Takes `amount` from each count, removes the entries at or below it, and answers how many there were.
+///
+/// One sweep goes up from behind a free slot, round the end. What stands behind that slot has its home behind it too, so
+/// all places from an entry's home on to its slot have been settled when its turn comes: the entries that stay come to
+/// stand as if they alone were put into an empty table, in this order.
 pub(crate) fn lower<T: Eq + Hash + Drop>(slots: &mut [Slot<T>], amount: u64) -> usize
     requires { IsSlots T.eq T.hash_input slots.old }
     ensures slots { IsSlots T.eq T.hash_input slots.new }
     ensures entries { IsPermutation (purged amount (entries_of slots.old)) (entries_of slots.new) }
     ensures removed { result + length (entries_of slots.new) ≡ length (entries_of slots.old) }
 {
-    subtract(slots, amount);
-    drop_spent(slots)
+    let size = slots.len();
+    let free = last_free(slots);
+    let mut removed = 0;
+    for on in 1..size {
+        let place = after(free, on, size);
+        if settle(slots, place, amount) {
+            removed += 1;
+        }
+    }
+    removed
 }
 
 /// A middle count of the first `size` entries.

@@ -4,27 +4,27 @@ use Rattle.counter_table.specs.Homes.{home_in, ahead}
 use Rattle.counter_table.specs.Slots.{held, is_taken}
 use Rattle.counter_table.proofs.LookupReach.{free_from_few, taken_few}
 use Rattle.counter_table.proofs.LookupHomes.{some_size, home_of-below, stands_first, stands_within, stands_next}
-use Rattle.counter_table.proofs.slots.find_free.Goals as goal
+use Rattle.counter_table.proofs.slots.find_free_from.Goals as goal
 
 pub probe-init : goal.probe-init
 probe-init g c = record {
-  stands = stands_first g.T.Hash.hash_input c.args.item.now _ c.requires.size _ c.home-place.ensures;
+  stands = stands_first g.T.Hash.hash_input c.args._item.now _ c.requires.size _ c.requires.home;
   taken = λ j l. absurd (omega arith);
 }
 
 pub look-requires-clause-place : goal.look-requires-clause-place
-look-requires-clause-place g c = stands_within g.T.Hash.hash_input c.args.item.now _ c.requires.size c.probe.place c.probe.looked c.probe.invariant.stands
+look-requires-clause-place g c = stands_within g.T.Hash.hash_input c.args._item.now _ c.requires.size c.probe.place c.probe.looked c.probe.invariant.stands
 
 pub probe-preserved : goal.probe-preserved
 probe-preserved g c =
     let slots = c.args.slots.now in
     let n = length slots in
-    let h = home_in g.T.Hash.hash_input n c.args.item.now in
+    let h = home_in g.T.Hash.hash_input n c.args._item.now in
     let here : is_taken slots (ahead n h c.probe.looked) ≡ true = ap (is_taken slots) (sym c.probe.invariant.stands.at_place) ∙ ap (λ o. is_some (held o)) (sym c.look.ensures.value ∙ c.in_default.is) in
     let P : ℕ → Type 0 = λ j. is_taken slots (ahead n h j) ≡ true in
     let more = below_more P c.probe.looked c.probe.invariant.taken here in
-    let below = taken_few slots h (c.probe.looked + 1) (home_of-below (fed_bytes g.T.Hash.hash_input c.args.item.now) n (some_size n c.requires.size)) (free_from_few slots c.requires.room) more in
+    let below = taken_few slots h (c.probe.looked + 1) (home_of-below (fed_bytes g.T.Hash.hash_input c.args._item.now) n (some_size n c.requires.size)) (free_from_few slots c.requires.room) more in
     rw (c.look.ensures.counted) (record {
-      stands = stands_next g.T.Hash.hash_input c.args.item.now n c.requires.size c.probe.place c.next-place.result c.probe.looked c.probe.invariant.stands c.next-place.ensures below;
+      stands = stands_next g.T.Hash.hash_input c.args._item.now n c.requires.size c.probe.place c.next-place.result c.probe.looked c.probe.invariant.stands c.next-place.ensures below;
       taken = more;
     })

@@ -1,0 +1,58 @@
+use Rattle.std.proofs.Common.{◌≡◌, ◌<◌, ap, sym, ◌∙◌, arith, length, Some}
+use Rattle.std.proofs.Math.ListN.{set}
+use Rattle.std.proofs.lemmas.List.{get_or_default, length-set}
+use Rattle.sketch_base.specs.Hashes.{fed_bytes}
+use Rattle.counter_table.specs.Homes.{home_in}
+use Rattle.counter_table.specs.Slots.{Held, held, slot_at}
+use Rattle.counter_table.specs.declared.slot.Slot.TheVariants.{Free}
+use Rattle.counter_table.proofs.ArithmeticRing.{distance_is}
+use Rattle.counter_table.proofs.LookupHomes.{some_size, home_of-below}
+use Rattle.counter_table.proofs.LookupProbes.{gap_below}
+use Rattle.counter_table.proofs.PurgeTurns.{room_without, settled, home_back}
+use Rattle.counter_table.proofs.slots.settle.Goals as goal
+
+pub overflow_sub-drift : goal.overflow_sub-drift
+overflow_sub-drift g c =
+    let s : Held g.row.T.Denot = record { item = c.in-Taken.item; count = c.in-Taken.count; drift = c.in-Taken.drift } in
+    let at : slot_at c.args.slots.now c.args.place ≡ Some s = ap held (get_or_default c.args.slots.now c.args.place Free c.index-slots-place.result c.requires.place ∙ sym c.replace.ensures.value ∙ c.in-Taken.is) in
+    omega (arith, c.requires.drift s at)
+
+pub before-home-requires-clause-back : goal.before-home-requires-clause-back
+before-home-requires-clause-back g c =
+    let n = length c.args.slots.now in
+    let s : Held g.row.T.Denot = record { item = c.in-Taken.item; count = c.in-Taken.count; drift = c.in-Taken.drift } in
+    let at : slot_at c.args.slots.now c.args.place ≡ Some s = ap held (get_or_default c.args.slots.now c.args.place Free c.index-slots-place.result c.requires.place ∙ sym c.replace.ensures.value ∙ c.in-Taken.is) in
+    let below = home_of-below (fed_bytes g.T.Hash.hash_input c.in-Taken.item) n (some_size n c.requires.size) in
+    let d = distance_is n _ c.args.place below c.requires.place in
+    omega (arith, c.requires.drift s at, d.below)
+
+pub find_free_from-to-requires-clause-room : goal.find_free_from-to-requires-clause-room
+find_free_from-to-requires-clause-room g c =
+    let s : Held g.row.T.Denot = record { item = c.in-Taken.item; count = c.in-Taken.count; drift = c.in-Taken.drift } in
+    let at : slot_at c.args.slots.now c.args.place ≡ Some s = ap held (get_or_default c.args.slots.now c.args.place Free c.index-slots-place.result c.requires.place ∙ sym c.replace.ensures.value ∙ c.in-Taken.is) in
+    rw (c.replace.ensures.after) (room_without c.args.slots.now c.args.place s at)
+
+pub find_free_from-to-requires-clause-home : goal.find_free_from-to-requires-clause-home
+find_free_from-to-requires-clause-home g c =
+    let n = length c.args.slots.now in
+    let s : Held g.row.T.Denot = record { item = c.in-Taken.item; count = c.in-Taken.count; drift = c.in-Taken.drift } in
+    let at : slot_at c.args.slots.now c.args.place ≡ Some s = ap held (get_or_default c.args.slots.now c.args.place Free c.index-slots-place.result c.requires.place ∙ sym c.replace.ensures.value ∙ c.in-Taken.is) in
+    let below = home_of-below (fed_bytes g.T.Hash.hash_input c.in-Taken.item) n (some_size n c.requires.size) in
+    rw (length-set c.args.slots.now c.args.place c.replace.new.dest) (home_back n _ c.args.place c.in-Taken.drift c.before-home.result below c.requires.place (c.requires.drift s at) c.before-home.ensures)
+
+pub fill-requires : goal.fill-requires
+fill-requires g c =
+    let n = length (set c.args.slots.now c.args.place c.replace.new.dest) in
+    let long = length-set c.args.slots.now c.args.place c.replace.new.dest in
+    let some : 0 < n = rw long (some_size _ c.requires.size) in
+    gap_below (home_of-below (fed_bytes g.T.Hash.hash_input c.in-Taken.item) n some) c.find_free_from-to.ensures
+
+pub returns-else-count-amount : goal.returns-else-count-amount
+returns-else-count-amount g c =
+    let slots = c.args.slots.now in
+    let p = c.args.place in
+    let s : Held g.row.T.Denot = record { item = c.in-Taken.item; count = c.in-Taken.count; drift = c.in-Taken.drift } in
+    let at : slot_at slots p ≡ Some s = ap held (get_or_default slots p Free c.index-slots-place.result c.requires.place ∙ sym c.replace.ensures.value ∙ c.in-Taken.is) in
+    let gap = rw (c.replace.ensures.after, length-set slots p Free) at c.find_free_from-to.ensures in
+    let made = rw (c.replace.ensures.after) at c.fill.ensures in
+    settled (home_in g.T.Hash.hash_input (length slots)) slots p c.args.amount s at c.if-count-amount.false _ _ _ gap made
