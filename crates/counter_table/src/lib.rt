@@ -2,8 +2,9 @@
 //!
 //! [`ReversePurgeItemHashMap`] keeps its entries in one array of slots, with linear probing. A purge takes a
 //! middle count of a sample from every count, and drops what is left without one: what a summary of Misra and Gries does
-//! where it has no counter left. It goes over the slots once, and a slot that was freed is filled by a later entry of its
-//! cluster, so that no slot is ever marked and what a look-up costs is a function of the entries alone.
+//! where it has no counter left. It deletes by backward shift, Knuth's algorithm R, all that goes in one sweep: a slot that was
+//! freed is filled by a later entry of its cluster, so that no slot is ever marked and what a look-up costs is a function of
+//! the entries alone.
 //!
 //! Contracts see a map as the list of its entries in an order that they leave open, and its size. Its slots show
 //! themselves to a caller that writes all entries out, by [`ReversePurgeItemHashMap::slots`].

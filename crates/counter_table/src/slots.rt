@@ -1,7 +1,8 @@
 //! Work on the slots of a table: linear probing from an item's home on, round the end.
 //!
 //! Every place from an entry's home on to its slot is taken, so a look-up may end at the first free one. A purge
-//! keeps it so by one sweep that moves each entry that stays to the first free place from its home on.
+//! keeps it so by one sweep that shifts each entry that stays back to the first free place from its home on: where deletions
+//! by backward shift would bring it, one by one and from above.
 ghost use Rattle.std.specs.Prelude.{◌≡◌, ℕ, ◌+◌, ◌-◌, ◌<◌, ◌≤◌, ◌^◌, [], None, Some, true, false, not, length, map, filter, replicate, nat_lt, slice_index_or, slice_set, IfOk, IfErr, OnOk, OnErr, IsOk, IsTrue, IsPermutation};
 ghost use Rattle.std.specs.List.{IsDistinct, AllZip};
 ghost use Rattle.std.specs.Map.{keys_of};
