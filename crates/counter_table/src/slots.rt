@@ -3,7 +3,7 @@
 //! Every place from an entry's home on to its slot is taken, so a look-up may end at the first free one. A purge
 //! keeps it so by one sweep that shifts each entry that stays back to the first free place from its home on: where deletions
 //! by backward shift would bring it, one by one and from above.
-ghost use Rattle.std.specs.Prelude.{◌≡◌, ℕ, ◌+◌, ◌-◌, ◌<◌, ◌≤◌, ◌^◌, [], None, Some, true, false, not, length, map, filter, replicate, nat_lt, slice_index_or, slice_set, IfOk, IfErr, OnOk, OnErr, IsOk, IsTrue, IsPermutation};
+ghost use Rattle.std.specs.Prelude.{◌≡◌, ℕ, ◌+◌, ◌-◌, ◌<◌, ◌≤◌, ◌^◌, [], None, Some, true, false, not, length, map, take, filter, replicate, nat_lt, slice_index_or, slice_set, IfOk, IfErr, OnOk, OnErr, IsOk, IsTrue, IsPermutation};
 ghost use Rattle.std.specs.List.{IsDistinct, AllZip};
 ghost use Rattle.std.specs.Map.{keys_of};
 ghost use Rattle.sketch_base.specs.Errors.{no_memory};
@@ -15,7 +15,6 @@ ghost use Rattle.counter_table.specs.Tables.{count_of, is_tracked, put, purged, 
 
 use crate::sizes::MAX_SAMPLE_SIZE;
 use crate::slot::Slot;
-use arrayvec::ArrayVec;
 use sketch_base::{DEFAULT_UPDATE_SEED, Error, murmur3_of};
 use std::alloc::Global;
 use std::hash::Hash;
@@ -405,18 +404,34 @@ fn middle_in<T, const N: usize>(slots: &[Slot<T>], size: usize) -> u64
     requires active { size ≤ length (entries_of slots.now) }
     ensures { IsSampleMiddle size (entries_of slots.now) result }
 {
-    let mut sample: ArrayVec<u64, N> = ArrayVec::new_in(());
+    let mut room = [0; N];
+    let sample = &mut room[..size];
+    gather_counts(slots, &0, sample);
+    let (_, middle, _) = sample.select_nth_unstable(size / 2);
+    *middle
+}
+
+/// Writes down the counts of the first entries, as many as there is room for.
+///
+/// A free slot puts `none`, over which the next count comes, so that no branch depends on the slot. `none` is a
+/// reference, and the function is not inlined: with a number of its own the compiler might make a branch again.
+#[inline(never)]
+fn gather_counts<T>(slots: &[Slot<T>], none: &u64, counts: &mut [u64])
+    requires { length counts.old ≤ length (entries_of slots.now) }
+    ensures { counts.new ≡ map (λ e. e.1) (take (length counts.old) (entries_of slots.now)) }
+{
+    let mut gathered = 0;
     for slot in slots {
-        if sample.len() == size {
+        if gathered >= counts.len() {
             break;
         }
-        if let Slot::Taken { count, .. } = slot {
-            sample.push(*count);
-        }
+        let (count, taken) = match slot {
+            Slot::Taken { count, .. } => (count, 1),
+            Slot::Free => (none, 0),
+        };
+        counts[gathered] = *count;
+        gathered += taken;
     }
-    let counts = sample.as_mut_slice();
-    let (_, middle, _) = counts.select_nth_unstable(size / 2);
-    *middle
 }
 
 /// So many free slots. They ask for memory once.
