@@ -3,7 +3,7 @@
 //! What a row costs does not wait for the rows before it. So the rows of a short item are taken four at a time: four places
 //! are found before the first cell is touched. Whether there is a power of two of buckets is asked once, outside all
 //! loops.
-ghost use Rattle.std.specs.Prelude.{◌≡◌, ℕ, ◌+◌, ◌*◌, ◌/◌, ◌^◌, ◌<◌, ◌≤◌, map, length, List, ℤ, ◌+ℤ◌, unsigned_abs, IsTrue};
+ghost use Rattle.std.specs.Prelude.{◌≡◌, ℕ, ◌+◌, ◌*◌, ◌/◌, ◌%◌, ◌^◌, ◌<◌, ◌≤◌, map, length, List, ℤ, ◌+ℤ◌, unsigned_abs, IsTrue};
 ghost use Rattle.std.specs.Int.{is_power_of_two};
 ghost use Rattle.sketch_base.specs.Hashes.{fed_bytes};
 ghost use Rattle.sketch_countmin.specs.Cells.{cell_in, RowsAdded, IsLeastOf, IsLeastFrom};
@@ -83,6 +83,20 @@ fn add_long<T: CountMinValue, I: Hash>(
     }
 }
 
+/// The bucket of a hash: by a mask where that is said, and then there is a power of two of buckets.
+#[inline(always)]
+fn bucket_in(buckets: Divisor, masked: bool, hash: u64) -> u64
+    requires { IsTrue masked → IsTrue (is_power_of_two buckets) }
+    ensures value { result ≡ hash % buckets }
+    ensures below { result < buckets }
+{
+    if masked {
+        buckets.rem_by_mask(hash)
+    } else {
+        buckets.rem_by_products(hash)
+    }
+}
+
 /// Where the cell of few bytes lies in a row: by a mask where that is said, and then there is a power of two of buckets.
 #[inline(always)]
 fn place_in(
@@ -100,12 +114,7 @@ fn place_in(
     ensures bucket { buckets_by buckets row_seeds.now bytes.now row < buckets }
     ensures inside { result < length row_seeds.now * buckets }
 {
-    let hash = bytes.murmur3(row_seeds[row]).0;
-    let bucket = if masked {
-        buckets.rem_by_mask(hash)
-    } else {
-        buckets.rem_by_products(hash)
-    };
+    let bucket = bucket_in(buckets, masked, bytes.murmur3(row_seeds[row]).0);
     row * buckets.divisor() as usize + bucket as usize
 }
 

@@ -2,6 +2,7 @@ use Rattle.std.proofs.Common.{arith, subst, sym, ◌≡◌, ◌≤◌, ℤ, ◌+
 use Rattle.std.specs.Int.{w128}
 use Rattle.std.proofs.lemmas.Int.{ints}
 use Rattle.sketch_countmin.specs.Values.{InRange}
+use Rattle.sketch_countmin.proofs.Numbers.{sum_fits}
 use Rattle.sketch_countmin.proofs.RowSteps.{read_cell, added_at}
 use Rattle.sketch_countmin.proofs.cells.add_at.Goals as goal
 
@@ -18,3 +19,6 @@ returns g c =
     let num = g.T.CountMinValue.number in
     let sum : num c.from_number_in_range.result ≡ num c.index-counts-place.result +ℤ num c.args.weight = omega (arith, ints) in
     added_at num c.args.counts.now c.args.place c.index-counts-place.result c.from_number_in_range.result (num c.args.weight) c.requires.bounds c.index-counts-place.is sum
+
+pub overflow_add-sum : goal.overflow_add-sum
+overflow_add-sum g c = sum_fits c.to_number.result c.to_number-2.result c.to_number.ensures.narrow c.to_number-2.ensures.narrow

@@ -50,3 +50,14 @@ loop-item-preserved g c =
           (c.add_at.ensures ∙ ap (λ (z : ℤ). set mid k (get_or mid k (pos 0) +ℤ z)) one);
       start = c.loop-item.invariant.start;
     }
+
+pub overflow_mul-start : goal.overflow_mul-start
+overflow_mul-start g c =
+    let start : c.args.row * c.divisor.result ≡ c.args.row * c.args.buckets = ap (λ (k : ℕ). c.args.row * k) c.divisor.ensures.value in
+    omega (arith, start, c.requires.shape)
+
+pub overflow_add-place : goal.overflow_add-place
+overflow_add-place g c = omega (arith, c.loop-item.invariant.start, c.rem.ensures.below, c.requires.shape)
+
+pub add_at-requires-clause-bounds : goal.add_at-requires-clause-bounds
+add_at-requires-clause-bounds g c = omega (arith, c.loop-item.invariant.start, c.rem.ensures.below, c.requires.shape, c.loop-item.auto.counts)

@@ -2,6 +2,8 @@ use Rattle.std.proofs.Common.{arith, refl, ap, subst, sym, ◌∙◌, ◌≡◌,
 use Rattle.sketch_base.specs.Hashes.{fed_bytes}
 use Rattle.std.proofs.lemmas.List.{length-map}
 use Rattle.sketch_countmin.specs.Buckets.{bucket_by}
+use Rattle.sketch_countmin.specs.Cells.{RowsAdded}
+use Rattle.sketch_countmin.proofs.Places.{inside_wide}
 use Rattle.sketch_countmin.proofs.RowSteps.{bucket_found, rows_added_here, inside}
 use Rattle.sketch_countmin.proofs.rows.add_long.Goals as goal
 
@@ -29,3 +31,23 @@ loop-row-preserved g c =
           (subst (λ (l : ℕ). place < l) (sym (length-map c.loop-row.counts num)) (omega (arith, row, at, inside d (length c.args.row_seeds.now) n (bucket n) (length c.loop-row.counts) (c.loop-row.auto.counts ∙ c.requires.shape) c.loop-row-test.true in_row))) c.add_at.ensures;
       columns = c.divisor-columns.ensures.value;
     }
+
+pub overflow_mul-place : goal.overflow_mul-place
+overflow_mul-place g c =
+    let start : c.loop-row.row * c.divisor-columns.result + 0 < length c.loop-row.counts = inside_wide c.args.buckets (length c.args.row_seeds.now) c.loop-row.row 0 (length c.loop-row.counts) c.divisor-columns.result c.divisor-columns.ensures.value (c.loop-row.auto.counts ∙ c.requires.shape) c.loop-row-test.true (omega (arith, c.divisor-columns.ensures.above_one, c.divisor-columns.ensures.value)) in
+    omega (arith, start)
+
+pub overflow_add-place : goal.overflow_add-place
+overflow_add-place g c =
+    let place : c.loop-row.row * c.divisor-columns.result + c.rem.result < length c.loop-row.counts = inside_wide c.args.buckets (length c.args.row_seeds.now) c.loop-row.row c.rem.result (length c.loop-row.counts) c.divisor-columns.result c.divisor-columns.ensures.value (c.loop-row.auto.counts ∙ c.requires.shape) c.loop-row-test.true c.rem.ensures.below in
+    omega (arith, place)
+
+pub add_at-requires-clause-bounds : goal.add_at-requires-clause-bounds
+add_at-requires-clause-bounds g c = inside_wide c.args.buckets (length c.args.row_seeds.now) c.loop-row.row c.rem.result (length c.loop-row.counts) c.divisor-columns.result c.divisor-columns.ensures.value (c.loop-row.auto.counts ∙ c.requires.shape) c.loop-row-test.true c.rem.ensures.below
+
+pub returns : goal.returns
+returns g c =
+    let num = g.T.CountMinValue.number in
+    let bucket = λ (r : ℕ). bucket_by c.args.buckets (slice_index c.args.row_seeds.now r) (fed_bytes g.I.Hash.hash_input c.args.item.now) in
+    let all : c.loop-row.row ≡ length c.args.row_seeds.now = omega arith in
+    subst (λ (n : ℕ). RowsAdded c.args.buckets (num c.args.weight) bucket n (map num c.args.counts.now) (map num c.loop-row.counts)) all c.loop-row.invariant.added

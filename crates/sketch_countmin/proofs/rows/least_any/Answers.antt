@@ -1,6 +1,8 @@
-use Rattle.std.proofs.Common.{arith, ap, ◌≡◌, ℕ, ◌+◌, ◌*◌, ◌<◌, length, slice_index}
+use Rattle.std.proofs.Common.{arith, ap, subst, ◌≡◌, ℕ, ◌+◌, ◌*◌, ◌<◌, map, length, slice_index}
 use Rattle.sketch_base.specs.Hashes.{fed_bytes}
 use Rattle.sketch_countmin.specs.Buckets.{bucket_by}
+use Rattle.sketch_countmin.specs.Cells.{IsLeastOf}
+use Rattle.sketch_countmin.proofs.Places.{inside_first, inside_wide}
 use Rattle.sketch_countmin.proofs.RowSteps.{bucket_found, inside, least_first, least_more}
 use Rattle.sketch_countmin.proofs.rows.least_any.Goals as goal
 
@@ -32,3 +34,30 @@ loop-row-preserved g c =
       columns = c.divisor-columns.ensures.value;
       hashed = c.new-hashed.ensures;
     }
+
+pub bounds-counts-first : goal.bounds-counts-first
+bounds-counts-first g c = inside_first c.args.buckets (length c.args.row_seeds.now) c.rem-first.result (length c.args.counts.now) c.requires.shape c.requires.rows c.rem-first.ensures.below
+
+pub overflow_mul-place : goal.overflow_mul-place
+overflow_mul-place g c =
+    let start : c.loop-row.row * c.divisor-columns.result + 0 < length c.args.counts.now = inside_wide c.args.buckets (length c.args.row_seeds.now) c.loop-row.row 0 (length c.args.counts.now) c.divisor-columns.result c.divisor-columns.ensures.value c.requires.shape c.loop-row-test.true (omega (arith, c.divisor-columns.ensures.above_one, c.divisor-columns.ensures.value)) in
+    omega (arith, start)
+
+pub overflow_add-place : goal.overflow_add-place
+overflow_add-place g c =
+    let place : c.loop-row.row * c.divisor-columns.result + c.rem.result < length c.args.counts.now = inside_wide c.args.buckets (length c.args.row_seeds.now) c.loop-row.row c.rem.result (length c.args.counts.now) c.divisor-columns.result c.divisor-columns.ensures.value c.requires.shape c.loop-row-test.true c.rem.ensures.below in
+    omega (arith, place)
+
+pub bounds-counts-place : goal.bounds-counts-place
+bounds-counts-place g c = inside_wide c.args.buckets (length c.args.row_seeds.now) c.loop-row.row c.rem.result (length c.args.counts.now) c.divisor-columns.result c.divisor-columns.ensures.value c.requires.shape c.loop-row-test.true c.rem.ensures.below
+
+pub offset_bounds-counts-place : goal.offset_bounds-counts-place
+offset_bounds-counts-place g c =
+    let place : c.loop-row.row * c.divisor-columns.result + c.rem.result < length c.args.counts.now = inside_wide c.args.buckets (length c.args.row_seeds.now) c.loop-row.row c.rem.result (length c.args.counts.now) c.divisor-columns.result c.divisor-columns.ensures.value c.requires.shape c.loop-row-test.true c.rem.ensures.below in
+    omega (arith, place)
+
+pub returns : goal.returns
+returns g c =
+    let bucket = λ (r : ℕ). bucket_by c.args.buckets (slice_index c.args.row_seeds.now r) (fed_bytes g.I.Hash.hash_input c.args.item.now) in
+    let all : c.loop-row.row ≡ length c.args.row_seeds.now = omega (arith, c.requires.rows) in
+    subst (λ (n : ℕ). IsLeastOf c.args.buckets (map g.T.CountMinValue.number c.args.counts.now) bucket n (g.T.CountMinValue.number c.loop-row.least)) all c.loop-row.invariant.least

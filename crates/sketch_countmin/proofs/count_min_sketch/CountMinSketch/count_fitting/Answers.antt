@@ -6,6 +6,7 @@ use Rattle.sketch_countmin.specs.Buckets.{bucket_by}
 use Rattle.sketch_countmin.specs.Cells.{RowsCounted}
 use Rattle.sketch_countmin.specs.State.{CountState, CountsAll}
 use Rattle.sketch_countmin.specs.Table.{state_of}
+use Rattle.sketch_countmin.proofs.Places.{lent_shape, room_for_items}
 use Rattle.sketch_countmin.proofs.Tables.{is_state}
 use Rattle.sketch_countmin.proofs.Updates.{length_own}
 use Rattle.sketch_countmin.proofs.BatchUpdates.{rows_counted_own, all_counted, counts_all_here}
@@ -59,3 +60,17 @@ returns-clause-counted g c =
 
 pub returns-clause-state : goal.returns-clause-state
 returns-clause-state g c = is_state _ _ _ _ _ _ (invariant_of-self g c)
+
+pub count_in_rows-requires-clause-shape : goal.count_in_rows-requires-clause-shape
+count_in_rows-requires-clause-shape g c = lent_shape g.T.CountMinValue.number c.self.inside.buckets c.self.inside.counts.items _ c.self.inside.row_seeds.items _ c.deref_mut.ensures.value c.deref.ensures.value c.self.invariant.size
+
+pub count_in_rows-requires-clause-room : goal.count_in_rows-requires-clause-room
+count_in_rows-requires-clause-room g c =
+    let number = g.T.CountMinValue.number in
+    room_for_items _ _ (unsigned_abs (number c.self.inside.total)) c.args.self.now.total (map number c.self.inside.counts.items) _ (ap (map number) c.deref_mut.ensures.value) c.self.invariant.bounded (ap (λ (s : CountState). s.total) c.self.view_is) c.requires
+
+pub from_number_in_range-self-inside-requires : goal.from_number_in_range-self-inside-requires
+from_number_in_range-self-inside-requires g c =
+    let own : unsigned_abs (g.T.CountMinValue.number c.self.inside.total) ≡ c.args.self.now.total = ap (λ (s : CountState). s.total) c.self.view_is in
+    let total : c.to_number.result ≡ pos c.args.self.now.total = c.to_number.ensures.value ∙ (c.self.invariant.total_is ∙ ap pos own) in
+    (omega (arith, ints, total, c.to_number.ensures.narrow, g.met.T.CountMinValue.zero_fits), omega (arith, ints, total, c.to_number.ensures.narrow, c.requires))

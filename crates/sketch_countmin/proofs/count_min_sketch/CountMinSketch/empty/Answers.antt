@@ -28,12 +28,15 @@ returns-clause-ok g c =
     let now = (goal.at.returns-clause-ok g c).After-ZERO in
     empty_value _ c.args.num_hashes c.bucket_count.result c.args.seed _ _ (height g now) (total g now) (cells g now) ∙ ap (λ (n : ℕ). empty_state c.args.num_hashes n c.args.seed) c.bucket_count.ensures
 
-pub returns-clause-state : goal.returns-clause-state
-returns-clause-state g c =
-    let now = (goal.at.returns-clause-state g c).After-ZERO in
-    is_state _ _ _ _ _ _ (empty_is g.T.CountMinValue.greatest _ c.bucket_count.result c.args.seed _ _
+pub invariant_of-result : goal.invariant_of-result
+invariant_of-result g c =
+    let now = (goal.at.invariant_of-result g c).After-ZERO in
+    empty_is g.T.CountMinValue.greatest _ c.bucket_count.result c.args.seed _ _
     (omega (arith, height g now)) (omega (arith, height g now)) (omega (arith, c.bucket_count.ensures)) (omega (arith, size g now)) c.requires.seeded
-    (λ r lr. c.in_ok-row_seeds.ensures.seeds r (omega (arith, lr, height g now))) (total g now) (cells g now))
+    (λ r lr. c.in_ok-row_seeds.ensures.seeds r (omega (arith, lr, height g now))) (total g now) (cells g now)
+
+pub returns-clause-state : goal.returns-clause-state
+returns-clause-state g c = is_state _ _ _ _ _ _ (invariant_of-result g c)
 
 pub returns-clause-stands : goal.returns-clause-stands
 returns-clause-stands g c = subst (λ (s : CountState). StandsFor s (New c.args.num_hashes c.args.num_buckets c.args.seed)) (sym (returns-clause-ok g c)) (stands_empty c.args.num_hashes c.args.num_buckets c.args.seed)

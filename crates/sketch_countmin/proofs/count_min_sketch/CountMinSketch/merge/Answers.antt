@@ -5,7 +5,8 @@ use Rattle.sketch_countmin.specs.State.{CountState, Joins}
 use Rattle.sketch_countmin.specs.Table.{state_of}
 use Rattle.sketch_countmin.proofs.Tables.{is_state, state_shown}
 use Rattle.sketch_countmin.proofs.Updates.{length_own}
-use Rattle.sketch_countmin.proofs.Merges.{AllAdded, all_added_own, merged, joins_here, shape_own}
+use Rattle.sketch_countmin.proofs.Merges.{AllAdded, all_added_own, merged, room_for_other, joins_here, shape_own}
+use Rattle.sketch_countmin.proofs.Places.{lent_same}
 use Rattle.sketch_countmin.proofs.Standing.{stands_joined}
 use Rattle.sketch_countmin.proofs.count_min_sketch.CountMinSketch.merge.Given as given
 use Rattle.sketch_countmin.proofs.count_min_sketch.CountMinSketch.merge.Goals as goal
@@ -56,3 +57,17 @@ returns-clause-state g c = is_state _ _ _ _ _ _ (invariant_of-self g c)
 
 pub returns-clause-stands : goal.returns-clause-stands
 returns-clause-stands g c = λ first second s t. stands_joined _ _ _ first second (returns-clause-joined g c) s t
+
+pub add_all-requires-clause-same : goal.add_all-requires-clause-same
+add_all-requires-clause-same g c =
+    let shape = shape_own _ _ _ _ c.self.view_is c.other.view_is (c.if-not-has_shape_of.ensures.0 refl) in
+    lent_same g.T.CountMinValue.number _ _ _ _ c.self.inside.counts.items _ c.other.inside.counts.items _ c.deref_mut.ensures.value c.deref.ensures.value c.self.invariant.size c.other.invariant.size shape.hashes shape.buckets
+
+pub add_all-requires-clause-room : goal.add_all-requires-clause-room
+add_all-requires-clause-room g c =
+    let number = g.T.CountMinValue.number in
+    let i = c.self.inside in
+    let o = c.other.inside in
+    let sum : number c.in-Some.total ≡ pos (unsigned_abs (number i.total) + unsigned_abs (number o.total)) = omega (arith, ints, c.in-Some.ensures.0, c.self.invariant.total_is, c.other.invariant.total_is) in
+    let fits : unsigned_abs (number c.in-Some.total) ≤ g.T.CountMinValue.greatest = omega (arith, ints, sum, c.in-Some.ensures.0, c.in-Some.ensures.1.1) in
+    room_for_other _ _ _ _ (number i.total) (number c.in-Some.total) (number o.total) (map number i.counts.items) _ (map number o.counts.items) _ c.self.invariant (ap (map number) c.deref_mut.ensures.value) c.other.invariant.bounded (ap (map number) c.deref.ensures.value) sum fits

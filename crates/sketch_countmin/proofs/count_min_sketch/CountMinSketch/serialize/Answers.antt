@@ -4,6 +4,8 @@ use Rattle.sketch_base.specs.Hashes.{seed_hash}
 use Rattle.sketch_countmin.specs.Image.{IsSpelled}
 use Rattle.sketch_countmin.specs.State.{CountState}
 use Rattle.sketch_countmin.specs.Values.{InRange}
+use Rattle.std.proofs.lemmas.List.{length-map}
+use Rattle.sketch_countmin.proofs.Numbers.{row_bytes}
 use Rattle.sketch_countmin.proofs.Spellings.{spelled_empty, spelled_full}
 use Rattle.sketch_countmin.proofs.count_min_sketch.CountMinSketch.serialize.Goals as goal
 
@@ -36,3 +38,12 @@ returns-clause-image g c =
     subst (λ (a : CountState). IsSpelled least greatest image a) c.self.view_is
     (spelled_full least greatest image s.row_seeds.items s.buckets s.seed (number s.total) (map number s.counts.items) g.met.T.CountMinValue.zero_fits c.self.invariant some fit
     (c.into_bytes-2.ensures ∙ (c.in_ok-write_cells.ensures.ok ∙ rw (counts, c.in_ok-write.ensures.ok, c.in_ok-out-2.ensures.ok, c.to_bytes.ensures.value, rows, buckets, hash) refl)))
+
+pub overflow_cast-num_buckets : goal.overflow_cast-num_buckets
+overflow_cast-num_buckets g c = omega (arith, row_bytes (length c.self.inside.row_seeds.items) c.self.inside.buckets c.self.invariant.some_rows c.self.invariant.few_cells, c.divisor-num_buckets.ensures.value)
+
+pub overflow_mul-room : goal.overflow_mul-room
+overflow_mul-room g c = omega (arith, length-map c.self.inside.counts.items g.T.CountMinValue.number, c.self.invariant.size, c.self.invariant.few_cells)
+
+pub overflow_add-room : goal.overflow_add-room
+overflow_add-room g c = omega (arith, length-map c.self.inside.counts.items g.T.CountMinValue.number, c.self.invariant.size, c.self.invariant.few_cells)

@@ -6,6 +6,7 @@ use Rattle.sketch_countmin.specs.Buckets.{bucket_by}
 use Rattle.sketch_countmin.specs.Cells.{RowsAdded}
 use Rattle.sketch_countmin.specs.State.{CountState, Counts}
 use Rattle.sketch_countmin.specs.Table.{state_of}
+use Rattle.sketch_countmin.proofs.Places.{lent_shape}
 use Rattle.sketch_countmin.proofs.Tables.{is_state}
 use Rattle.sketch_countmin.proofs.Updates.{rows_added_own, length_own, room_here, updated, counts_here}
 use Rattle.sketch_countmin.proofs.Standing.{stands_counted}
@@ -71,3 +72,6 @@ returns-clause-state g c = is_state _ _ _ _ _ _ (invariant_of-self g c)
 
 pub returns-clause-stands : goal.returns-clause-stands
 returns-clause-stands g c = λ h s. stands_counted _ _ (fed_bytes g.I.Hash.hash_input c.args.item) (g.T.CountMinValue.number c.args.weight) h (returns-clause-counted g c) s
+
+pub add_to_rows-requires-clause-shape : goal.add_to_rows-requires-clause-shape
+add_to_rows-requires-clause-shape g c = lent_shape g.T.CountMinValue.number c.self.inside.buckets c.self.inside.counts.items _ c.self.inside.row_seeds.items _ c.deref_mut.ensures.value c.deref.ensures.value c.self.invariant.size
