@@ -216,6 +216,9 @@ impl<T: Eq + Hash + Drop> FrequentItemsSketch<T> {
     }
 
     /// Tracks an item that is not tracked.
+    ///
+    /// It is seldom called, and not inlined: a purge's room for its sample would be on the stack of each update.
+    #[inline(never)]
     fn track(&mut self, item: T, count: u64) -> Result<(), Error>
         requires absent { is_tracked T.eq self.old.counters item ≡ false }
         requires positive { 0 < count }
