@@ -13,6 +13,9 @@ AB = "04010a0303000000" "0100000000000000" "0500000000000000" "0000000000000000"
 HUGE = "04010a1e1e000000" + AB[16:]
 EMPTY = "01010a0603050000"
 
+# The text "ab" twice, with a weight of 1 each.
+TWICE = AB[:16] + 2 * "0200000000000000" + AB[48:64] + 2 * "0100000000000000" + 2 * AB[80:]
+
 # A filter of one word with two bits set, and an empty one.
 TWO_BITS = "04011500010000002923000000000000" "0100000000000000" "0200000000000000" "0300000000000000"
 NO_BITS = "03011504010000002923000000000000" "0100000000000000"
@@ -63,6 +66,7 @@ def worked(shown):
         ("merge n h", "ok"),
         ("ask n ab", "estimate 5 lower 5 upper 5"),
     ]
+    rows += [(f"load q frequent 1000 {TWICE}", "ok"), ("ask q ab", "estimate 2 lower 2 upper 2")]
     return rows + [("load m bloom 1000 zz", f"bad line {len(SHOWN) + len(rows) + 1}")]
 
 
@@ -115,6 +119,9 @@ def counts(kind, total):
     return f"{kind} total {total} hashes 1 buckets 3 seed 9001"
 
 
+# Frequent items of no weight that may have 64 slots.
+NOTHING = "frequent active 0 error 0 total 0 size 8 max 64 capacity 6"
+
 # What is loaded, an image, and some bytes of it from a place on with the status of what is then loaded, or the refusal.
 ALTERED = [
     (
@@ -154,6 +161,16 @@ ALTERED = [
             (46, "09", frequent(1)),
         ],
     ),
+    (
+        "frequent 1000",
+        EMPTY,
+        [
+            (0, "01", NOTHING),
+            (0, "41010a0605", NOTHING),
+            (4, "07", "LgCurAboveMax"),
+        ],
+    ),
+    ("frequent 1000", TWICE, [(0, "04", frequent(1, total=2))]),
     (
         "bloom 1000",
         TWO_BITS,
@@ -236,6 +253,53 @@ CUT = [
     ("counti 32 9001", SIGNED),
     ("countu 4128 9001", NO_WEIGHT),
 ]
+
+
+# Images that are written as they were loaded, and those that are written of nothing.
+WRITTEN = [
+    (f"load f bloom 8 {TWO_BITS}", "ok"),
+    ("save f two", "ok"),
+    ("image two", f"image {TWO_BITS}"),
+    ("reset f", "ok"),
+    ("save f none", "ok"),
+    ("image none", f"image {NO_BITS}"),
+    (f"load i counti 32 9001 {SIGNED}", "ok"),
+    ("save i cells", "ok"),
+    ("image cells", f"image {SIGNED}"),
+    ("counti e 4 128 9001", "ok"),
+    ("save e weightless", "ok"),
+    ("image weightless", f"image {NO_WEIGHT}"),
+    (f"load z counti 10000 9001 {NO_WEIGHT[:6]}00{NO_WEIGHT[8:]}{(8 + 8 * 512) * '00'}", "ok"),
+    ("save z zeros", "ok"),
+    ("image zeros", f"image {NO_WEIGHT}"),
+    ("frequent s 64", "ok"),
+    ("save s empty", "ok"),
+    ("image empty", f"image {EMPTY}"),
+]
+
+
+def image_of_words(num_words, count, word):
+    """The image of a filter of so many words that are all the same, with this count of its bits, or -1 where it is not stated."""
+    numbers = [num_words, count % 2**64, *[word] * num_words]
+    return TWO_BITS[:32] + "".join(number.to_bytes(8, "little").hex() for number in numbers)
+
+
+def joined():
+    """Rows of filters of words that are 3 and of ones that are 6: their union is 7, which has three bits, their intersection is 2
+    and their difference is 1."""
+    for num_words, count in [(1, 2), (3, -1), (4, -1), (5, 10), (8, -1), (9, -1)]:
+        for join, bits, word in [("union", 3, 7), ("intersect", 1, 2), ("difference", 1, 1)]:
+            left, right, image = [f"{join}{num_words}{end}" for end in ("l", "r", "p")]
+            yield load(left, "bloom 1000", image_of_words(num_words, count, 3)), "ok"
+            yield load(right, "bloom 1000", image_of_words(num_words, count, 6)), "ok"
+            yield from [(f"{join} {left} {right}", "ok"), (f"save {left} {image}", "ok")]
+            yield f"image {image}", f"image {image_of_words(num_words, bits * num_words, word)}"
+
+
+def many_counts():
+    """Lines that show the image of a sketch of many weights, and then of what that gives back."""
+    adds = [f"adds c {n % 7 - 3} {n}" for n in range(2000)]
+    return ["counti c 4 4096 7", *adds, "save c p", "restore p d", "save d q", "image p", "image q"]
 
 
 # Loads of each kind, and refused ones.

@@ -108,6 +108,12 @@ def mixed():
     lines += ["merge s s2", "merge t t2", "merge c c2", "merge i i2", "union f f2", "difference f2 f"]
     lines += ["image p", "image r", "image m", "rows t fn 0", "rows t fp 1", "status s", "status c2", "status f2"]
     lines += ["halve c", "decay c2 1 3", "reset t2", "reset f"]
+    # a merge for which the table doubles, and windows of which one has a seventh item, for which its table does
+    lines += ["frequent w 64", *[f"add w 1 {item}" for item in "abcdef"], "frequent v 64", *[f"add v 1 {item}" for item in "agh"]]
+    lines += ["merge w v", "status w", "ask w a", "ask w g", "windows 2 64", "hadd 1 5 a", "hadd 1 3 b", "hturn 1"]
+    lines += [f"hadd 1 {weight} {item}" for weight, item in zip([1, 20, 40, 80, 160, 320, 640], "acdefgh")]
+    lines += ["hadd 2 9 a", "hreport 1 fn 0", "hturn 3", "hturn 1", "hadd 1 2 b", "hturn 2"]
+    lines += [f"hreport {tenant} fn 0" for tenant in (2, 1, 3)]
     return ("\n".join(lines) + "\n").encode()
 
 
@@ -269,6 +275,10 @@ class Tests:
         self.check("the image of an item", shown[:-16] == loads.OF_ONE_BIT and bits.bit_count() == 1, shown)
         rows = [(line, "ok") for line in loads.SHOWN[:-1]] + [(loads.SHOWN[-1], f"image {shown}")] + loads.worked(shown)
         self.plays("loads", *sessions.texts_of(rows), 1)
+        self.plays("images that are written", *sessions.texts_of(loads.WRITTEN), 0)
+        self.plays("images that are joined", *sessions.texts_of(list(loads.joined())), 0)
+        *_, image, again = self.answers(loads.many_counts())
+        self.check("an image of many counts", image == again and len(image.split()[1]) == 2 * (24 + 8 * 4 * 4096), again[:100])
         for line in loads.NO_LOADS:
             self.plays(f"no load {line}", b"frequent s 8\n" + line + b"\nstatus s\n", b"ok\nbad line 2\n", 1)
         for how, image in loads.CUT:
@@ -410,13 +420,13 @@ class Tests:
             lines, numbers = self.play([name], 0)
             self.check(f"trial {name}, counted", (numbers[0], numbers[3], lines) == wanted, (lines, numbers))
 
-    def hard_items_and_ranges(self):
+    def hard_items(self):
         for name, wanted in trials.ITEMS.items():
             lines, _ = self.play([name], 0)
             self.check(f"trial {name}", lines == wanted, lines)
 
     def list_of_calls(self, name):
-        """Each request of a list of calls refused in a run of its own: those of a session's run, or on windows."""
+        """Each request of a list of calls refused in a run of its own: those of a session's run."""
         lines, _ = self.play([name], 0)
         then = lines.index("then")
         self.check(f"{name}: no want of memory", trials.REFUSED not in lines)
@@ -481,15 +491,25 @@ class Tests:
 
     def sizes(self):
         """Shapes of the greatest sizes, where the process may have little memory: an answer, and no death."""
-        lines = b"bloom f 137438953152 1 9001\ncounti c 255 4210751 9001\nfrequent s 1073741824\nadd s 1 a\nask s a\n"
+        rows = sessions.GREATEST_SIZES + [
+            (loads.load("l", f"frequent {2**64 - 1}", loads.HUGE), "refused NoMemory"),
+            (loads.load("l", f"frequent {2**64 - 1}", loads.AB), "ok"),
+        ]
+        lines, replies = sessions.texts_of(rows)
         limited = 'ulimit -v 262144; exec "$0"'
         ran = subprocess.run(["/bin/sh", "-c", limited, self.program], input=lines, capture_output=True, timeout=60)
-        wanted = b"refused NoMemory\nrefused NoMemory\nok\nok\nestimate 1 lower 1 upper 1\n"
-        self.check("the greatest sizes", (ran.returncode, ran.stdout) == (0, wanted), ran)
-        limited += " sizes"
-        ran = subprocess.run(["/bin/sh", "-c", limited, self.trials], capture_output=True, timeout=60)
-        wanted = trials.SIZES
-        self.check("the greatest sizes, by calls", (ran.returncode, ran.stdout.decode().splitlines()) == (0, wanted), ran)
+        self.check("the greatest sizes", (ran.returncode, ran.stdout) == (0, replies), ran)
+
+    def thousands(self):
+        """Thousands of items, saved, restored and merged."""
+        *replies, image, last, first, absent, rows = self.answers(sessions.THOUSANDS)[3072:]
+        self.check("thousands of items, saved and merged", set(replies) == {"ok"}, set(replies))
+        # 32 bytes, 8 for each weight, 4 for each length, and the digits of 1 to 3072
+        length = 32 + 12 * 3072 + 9 + 2 * 90 + 3 * 900 + 4 * 2073
+        self.check("the image of thousands", len(image.split()[1]) == 2 * length, len(image))
+        told = (last, first, absent, rows[:10], len(rows.split()))
+        one = "estimate 1 lower 1 upper 1"
+        self.check("thousands of items", told == (one, one, "estimate 0 lower 0 upper 0", "rows 3072 ", 2 + 4 * 3072), told)
 
 
 def main():
@@ -504,13 +524,13 @@ def main():
         worked = tests.refused_in_turn("worked lines", WORKED)
         many = tests.refused_in_turn("two hundred lines", mixed())
         run = tests.list_of_calls("session")
-        windows = tests.list_of_calls("windows")
         tests.each_call()
         tests.allocation_free_calls()
         tests.counted_calls()
-        tests.hard_items_and_ranges()
+        tests.hard_items()
         tests.sessions()
         tests.purges()
+        tests.thousands()
         tests.tail_budget()
         tests.lines()
         tests.loads()
@@ -524,7 +544,7 @@ def main():
         tests.failing_streams()
         tests.sizes()
         examples.check(tests)
-        print(f"requests refused in turn: {worked} and {many} of the program, {run} of a run of a session, {windows} on windows")
+        print(f"requests refused in turn: {worked} and {many} of the program, {run} of a run of a session")
         print(f"{before[0] + tests.passed} passed, {before[1] + tests.failed} failed")
     sys.exit(1 if before[1] + tests.failed else 0)
 

@@ -381,6 +381,85 @@ TOTALS = [
     ("status t", "frequent active 1 error 0 total 1 size 8 max 8 capacity 6"),
 ]
 
+# The greatest weights of Count-Min sketches, aged by as little as may be, and halved.
+GREATEST_WEIGHTS = [
+    ("countu u 1 3 9001", "ok"),
+    ("add u 18446744073709551615 x", "ok"),
+    ("decay u 18446744073709551614 18446744073709551615", "ok"),
+    ("ask u x", "estimate 18446744073709551614 lower 18446744073709551614 upper 18446744073709551615"),
+    ("halve u", "ok"),
+    ("status u", "countu total 9223372036854775807 hashes 1 buckets 3 seed 9001"),
+]
+
+# A purge of seven items of great weight.
+GREAT_PURGE = [
+    ("frequent s 8", "ok"),
+    *[(f"add s 2305843009213693952 {n}", "ok") for n in range(7)],
+    ("status s", "frequent active 0 error 2305843009213693952 total 16140901064495857664 size 8 max 8 capacity 6"),
+    ("ask s 0", "estimate 0 lower 0 upper 2305843009213693952"),
+]
+
+# Where there is little memory: a filter of 16 GiB, a Count-Min sketch of 8 GiB, and frequent items that may have 2^30 slots.
+GREATEST_SIZES = [
+    ("bloom f 137438953152 1 9001", "refused NoMemory"),
+    ("counti c 255 4210751 9001", "refused NoMemory"),
+    ("frequent s 1073741824", "ok"),
+    ("add s 1 a", "ok"),
+    ("ask s a", "estimate 1 lower 1 upper 1"),
+]
+
+# As many items as a sketch of 4096 slots holds, in a sketch that is saved, restored and merged into another, and then what that says.
+THOUSANDS = [
+    "frequent s 4096",
+    *[f"add s 1 {n}" for n in range(1, 3073)],
+    "save s p",
+    "restore p t",
+    "frequent u 4096",
+    "merge u t",
+    "image p",
+    "ask u 3072",
+    "ask u 1",
+    "ask u 3073",
+    "rows u fn 0",
+]
+
+# Shapes, in the order in which they are refused, and sketches of shapes that differ.
+SHAPES = [
+    ("bloom f 0 0 1", "refused BadNumBits"),
+    ("bloom f 959 7 9001", "ok"),
+    ("status f", "bloom bits 0 capacity 960 hashes 7 seed 9001"),
+    ("bloom g 64 32767 9001", "ok"),
+    ("status g", "bloom bits 0 capacity 64 hashes 32767 seed 9001"),
+    ("countu c 0 2 50541", "refused BadNumHashes"),
+    ("countu c 1 2 50541", "refused BadNumBuckets"),
+    ("countu c 4 268435456 50541", "refused TableTooLarge"),
+    ("countu c 4 128 50541", "refused ZeroSeedHash"),
+    ("counti c 4 128 9001", "ok"),
+    ("counti d 4 64 9001", "ok"),
+    ("merge c d", "refused Mismatch"),
+    ("counti e 3 128 9001", "ok"),
+    ("merge c e", "refused Mismatch"),
+    ("counti h 4 128 9002", "ok"),
+    ("merge c h", "refused Mismatch"),
+    ("bloom k 960 7 9002", "ok"),
+    ("union f k", "refused Mismatch"),
+    ("intersect f k", "refused Mismatch"),
+    ("difference f k", "refused Mismatch"),
+]
+
+# Weights that are halved.
+HALVED = [
+    ("countu u 4 128 9001", "ok"),
+    ("add u 3 x", "ok"),
+    ("halve u", "ok"),
+    ("ask u x", "estimate 1 lower 1 upper 1"),
+    ("halve u", "ok"),
+    ("ask u x", "estimate 0 lower 0 upper 0"),
+    ("status u", "countu total 0 hashes 4 buckets 128 seed 9001"),
+    ("add u 128 x", "ok"),
+    ("ask u x", "estimate 128 lower 128 upper 130"),
+]
+
 # A greatest size and how many items came once each, and the numbers of their sketch: one more than three quarters of the
 # greatest size takes 1 from all, which leaves none.
 DISTINCT = [
@@ -520,6 +599,10 @@ SESSIONS = [
     ("a heavy item", HEAVY, 0),
     ("merges of unequal sizes", UNEQUAL, 0),
     ("totals", TOTALS, 0),
+    ("the greatest weights", GREATEST_WEIGHTS, 0),
+    ("shapes", SHAPES, 0),
+    ("weights that are halved", HALVED, 0),
+    ("a purge of great weights", GREAT_PURGE, 0),
     ("the last two windows", LAST_TWO_WINDOWS, 0),
     ("limits of windows", LIMITS, 0),
     *[(f"{limit} windows of each tenant", windows_of_eight_tenants(limit), 0) for limit in (1, 5, 24)],

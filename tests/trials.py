@@ -3,42 +3,16 @@
 SIX = "frequent 6 0 6 6 64 1/1/1 1/1/1 1/1/1 0/0/0"
 SEVENTH = "frequent 7 0 7 12 64 1/1/1 1/1/1 1/1/1 1/1/1"
 SEVENTH_OF_5 = "frequent 7 0 11 12 64 1/1/1 1/1/1 1/1/1 5/5/5"
-OTHER = "frequent 3 0 3 6 64 1/1/1 0/0/0 0/0/0 1/1/1"
-MERGED = "frequent 8 0 9 12 64 2/2/2 1/1/1 1/1/1 1/1/1"
-ROWS = "frequent 6 0 12 6 64 3/3/3 5/5/5 1/1/1 0/0/0"
-TABLE = "table 6 8 3 3 3 0"
-FILTER = "filter 9 256 3 9001 1 2 5"
-COUNTS = "counts 18 3 64 9001 5 6 7 0"
 
-# Each call that may answer want of memory: what was said before, the answers, and what was said after.
+# Calls that may answer want of memory: what was said before, the answers, and what was said after.
 CALLS = {
-    "frequent_new": ["call", "accepted", "call", "accepted"],
     "frequent_update": [SIX, "call", "accepted", "after", SEVENTH],
-    "frequent_update_with_count": [SIX, "call", "accepted", "after", SEVENTH_OF_5],
     "frequent_update_ref": [SIX, "call", "accepted", "after", SEVENTH],
     "frequent_update_with_count_ref": [SIX, "call", "accepted", "after", SEVENTH_OF_5],
-    "frequent_merge": [SIX, OTHER, "call", "accepted", "after", MERGED, OTHER],
-    "frequent_clone": [SIX, "call", SIX, "after", SIX],
-    "frequent_rows": [ROWS, "call", "rows b=5 a=3", "call", "rows 6", "after", ROWS],
     "frequent_clone_row": ["call", "row a=1"],
     # 32 bytes, 8 for each weight and 5 for each item
-    "frequent_serialize": [SIX, "call", "bytes 110 645", "after", SIX],
-    "frequent_deserialize": ["call", SIX, "call", SIX],
-    "table_new": ["call", "accepted"],
-    "table_add_ref": [TABLE, "call", "accepted", "after", "table 7 8 3 3 3 4"],
-    "table_resize": [TABLE, "call", "accepted", "after", "table 6 32 3 3 3 0"],
-    "table_double": [TABLE, "call", "accepted", "after", "table 6 16 3 3 3 0"],
-    "table_clone": [TABLE, "call", TABLE, "after", TABLE],
-    "table_entries": [TABLE, "call", "entries 6", "after", TABLE],
-    "filter_new": ["call", "accepted"],
-    "filter_clone": [FILTER, "call", FILTER, "call", FILTER, "after", FILTER],
-    "filter_serialize": [FILTER, "call", "bytes 64 336", "after", FILTER],
-    "filter_deserialize": ["call", FILTER, "call", FILTER],
-    "counts_new": ["call", "accepted", "call", "accepted"],
-    "counts_clone": [COUNTS, "call", COUNTS, "call", COUNTS, "after", COUNTS],
-    # 24 bytes, and 8 for each of 3 x 64 cells
-    "counts_serialize": [COUNTS, "call", "bytes 1560 511", "after", COUNTS],
-    "counts_deserialize": ["call", COUNTS] * 4,
+    "frequent_serialize": ["call", "bytes 110 645"],
+    "table_entries": ["call", "entries 6"],
     "bytes_new": ["call", "accepted"],
     "bytes_beyond": ["call", "accepted", "bytes 12 16"],
     # 6, three of 0, and 97 to 102
@@ -67,7 +41,6 @@ SPAM = 0xFBCEA83C8A378BF1
 FOX = 0xE34BBC7BBC071B6C ^ 0x7A433CA9C49A9347
 OVERFLOW = "refused argument WeightOverflow"
 
-OTHERS = ["InsufficientData", "InsufficientData", "SeedHashMismatch", "InsufficientData"]
 QUESTIONS = ["numbers 3 8 3 6 224", "counts 3 0 5 0 3 0"]
 WALK = ["walk 3 0 10 0 0", "looked true"]
 
@@ -83,7 +56,6 @@ ALLOCATION_FREE = {
         "refusal memory NoMemory out of memory",
         "refusal argument Mismatch shapes or seeds differ",
         "refusal data BadFamily wrong family",
-        "families none none BadFamily",
     ],
     # lengths of 8, 8 and 4 + 2; 7, 252 and seven of 255, 2, and 97 + 98
     "allocation-free_items": ["sizes 8 8 6", "writes" + 3 * " none", "bytes 22 2241"],
@@ -98,80 +70,46 @@ ALLOCATION_FREE = {
     ],
     # 97 + 98, 5, 2 + 1, 3, the bytes of -2, which are 254 and three of 255, 7, and those of -4: 252 and seven of 255
     "allocation-free_writes": ["writes" + 7 * " none", "bytes 29 3269"],
-    "allocation-free_reads": ["numbers 5 258 3 -2 7 -4", "bytes 97 98", "left 2"],
-    "allocation-free_short_reads": ["reads" + 7 * " InsufficientData", "InsufficientData left 3"],
+    "allocation-free_reads": [f"number {number}" for number in (5, 258, 3, -2, 7, -4)] + ["bytes 97 98", "left 2"],
+    "allocation-free_short_reads": ["InsufficientData left 0"] + 5 * ["InsufficientData left 1"] + ["InsufficientData"],
     # the greatest number of 64 bits ends in 615
-    "allocation-free_fields": ["fields 258 3 -2 7", "remainder 1000 615", "faults none InsufficientData none BadVersion"],
+    "allocation-free_fields": ["fields 258 3 -2 7"],
+    "allocation-free_remainders": ["remainder 1000 615"],
     "allocation-free_signed_values": [line for bits in (8, 16, 32, 64) for line in values(bits, True)],
     "allocation-free_unsigned_values": [line for bits in (8, 16, 32, 64) for line in values(bits, False)],
-    # the seventh item is one counter too many, and all counts are 1
-    "allocation-free_updates": ["updates" + 7 * " none", "frequent 0 1 7 6 8 0/0/1 0/0/1"],
     "allocation-free_updates_of_tracked": ["updates none", "frequent 6 0 7 6 64 2/2/2 0/0/0"],
     "allocation-free_updates_by_reference": ["updates" + 4 * " none", "frequent 1 0 4 6 8 4/4/4"],
-    # again all counts are 1
+    # one counter too many comes, and all counts are 1
     "allocation-free_purges": ["frequent 0 1 1537 1536 2048 0/0/1 0/0/1"],
     # 2048 slots of 28 bytes; 1, 2 and 1 more for one of 1536 items
     "allocation-free_full": [
         "numbers 1536 1536 0 1536 1536 2048 11 11 1024 57344 0",
-        "tracked 1 1 1",
-        "absent 0 0 0",
+        "bounds 1 1 1",
+        "bounds 0 0 0",
         "both 0 1",
         "updates none none none",
         "frequent 1536 0 1540 1536 2048 5/5/5 0/0/0",
         "frequent 0 0 0 6 2048 0/0/0 0/0/0",
     ],
-    "allocation-free_merges": ["merge none", "frequent 1 0 1 6 8 1/1/1", "frequent 0 0 0 6 8 0/0/0"],
     "allocation-free_frequent_refusals": [
         "merge WeightOverflow",
         "updates" + 4 * " WeightOverflow",
         "frequent 1 0 18446744073709551615 6 8"
         " 18446744073709551615/18446744073709551615/18446744073709551615 0/0/0",
     ],
-    # 1 to 7 are 28, an `Option<i64>` takes 16 bytes, and 16 slots 28 bytes each
-    "allocation-free_frequent_questions": ["numbers 7 28 0 48 12 64 6 4 48 448 0", "tracked 3 3 3", "absent 0 0 0", "both 0 3"],
-    "allocation-free_bounds": ["bounds 5 6 6", "bounds 0 0 1"],
-    "allocation-free_rows": ["row 2 2 2 1", "equal false", "row 1 1 1 2", "equal true"],
-    "allocation-free_filters": [
-        "found false",
-        "combined none none none",
-        "filter 3 256 3 9001 2",
-        "filter 0 256 3 9001",
-        "equal false",
-        "filter 0 256 3 9001",
-        "filter 6 256 3 9001 3 5",
-    ],
-    # the positions of 5 are 103, 108 and 113, and those of 6 are 121, 39 and 213
-    "allocation-free_filter_questions": [
-        "numbers 3 256 3 7 32",
-        "contains true false false",
-        "contains_all false true",
-        "compared true true",
-        "numbers 0 256 3 7 32",
-        "contains false false true",
-        "contains_all false false",
-        "compared false false",
-    ],
-    "allocation-free_filter_refusals": [
-        "combined" + 3 * " Mismatch",
-        "filter 3 256 3 9001 2",
-        "filter 2 256 2 9001 2",
-        "equal false",
-    ],
-    "allocation-free_counts": [
-        "faults" + 4 * " none",
-        "counts 11 3 64 9001 0 4 7 0",
-        "counts 2 3 64 9001 0 2 0 0",
-        "update_all none",
-        "counts 14 3 64 9001 0 5 9 0",
-    ],
-    # 1, 2 and 4 have buckets of their own in the first row, and the margin is e times 100 / 64
-    "allocation-free_count_questions": ["numbers 100 3 64 9001 1560 0", "bounds 60 60 64", "bounds 0 0 4", "estimate_all 40 0"],
-    "allocation-free_equal_counts": ["compared true false", "compared false true"],
-    "allocation-free_count_refusals": ["update WeightOverflow", "update_all WeightOverflow", "update WeightOverflow"]
-    + ["merge WeightOverflow", "merge Mismatch", "255"],
-    "allocation-free_signed_refusals": ["update WeightOverflow", "0"],
+    # 1, 3 and 5 have nine positions, none of which is one of 6; four words
+    "allocation-free_filters": ["changed false false true false", "32 9"],
+    "allocation-free_equal_filters": ["compared true true", "compared false false"],
+    # 250, and 1 to 5; three rows of 64 cells of one byte, and 3 seeds of 8
+    "allocation-free_counts": ["faults none none WeightOverflow", "estimates 3 0", "216 255"],
+    "allocation-free_equal_counts": ["compared true false true", "compared false true false"],
     # four words, 3 x 64 cells and 3 seeds of 8 bytes, and 8 slots of 28
-    "allocation-free_images": [f"faults TableTooLarge {other}" for other in OTHERS],
+    "allocation-free_images": [
+        "filters TableTooLarge BadFamily InsufficientData",
+        "counts TableTooLarge InsufficientData",
+        "seeded TableTooLarge SeedHashMismatch",
+        "frequent TableTooLarge InsufficientData",
+    ],
     # the middle one of 0, 3, 3, 3 and 7 is 3
     "allocation-free_table_changes": ["table 5 8 7 3 0", "purged 3", "table 1 8 4 0 0"],
     # 8 slots of 28 bytes
@@ -197,16 +135,20 @@ ALLOCATION_FREE = {
     + 5 * ["refused argument Mismatch"]
     + 2 * ["refused BadFraction"]
     + 3 * [OVERFLOW],
-    "allocation-free_windows": ["refused argument BadWindows"] + 3 * ["accepted"] + [OVERFLOW, "accepted", "report 10 0 a=8 b=2"],
-    "allocation-free_full_windows": ["accepted", OVERFLOW],
+    "allocation-free_windows": ["new BadWindows"]
+    + 3 * ["add none"]
+    + ["add WeightOverflow", "turn none", "report 10 0 a=8 b=2"],
+    "allocation-free_full_windows": ["add none", "report WeightOverflow"],
 }
+
+# Of any six of the counts 1, 1, 1, 1, 1, 50 and 100 the middle one is 1.
+HEAVY = ["row 7 99 100 100", "row 6 49 50 50", "equal false true false"]
+ALLOCATION_FREE["feeds-nothing_rows"] = HEAVY
 
 # Calls whose requests for memory are counted, and the blocks that they give back: how many of both, and what is said.
 # From 8 slots to 2048 a table doubles eight times, and asks for each new one.
 FULL = ["frequent 1536 0 1536 1536 2048 1/1/1 0/0/0"]
 COUNTED = {
-    "table_new": (1, 0, CALLS["table_new"]),
-    "table_double": (1, 1, CALLS["table_double"]),
     "bytes_read_text": (1, 0, CALLS["bytes_read_text"]),
     "bytes_write_text": (1, 0, CALLS["bytes_write_text"]),
     "frequent_update": (1, 1, CALLS["frequent_update"]),
@@ -218,19 +160,6 @@ COUNTED = {
     "counted_hostile_image": (1, 1, ["refused data InsufficientData"]),
 }
 
-# The sizes of a new sketch of 16 slots, an `Option` of whose items takes 16 bytes, and with seven items. An image says
-# nothing of a sample size, so what it gives back has the greatest, 12.
-SMALL = [
-    "sizes 0 12 6 16 4 3 4 224",
-    "empty true",
-    "sizes 7 12 12 16 4 4 4 448",
-    "empty false",
-    "sizes 7 12 12 16 4 4 12 448",
-    "empty false",
-    "refused data TableTooLarge",
-]
-# Of any six of the counts 1, 1, 1, 1, 1, 50 and 100 the middle one is 1.
-HEAVY = ["row 7 99 100 100", "row 6 49 50 50", "equal false true false"]
 SKETCH = [
     "frequent 4 0 16 6 8 1/1/1 5/5/5 0/0/0 1/1/1",
     "frequent 5 0 36 6 8 1/1/1 5/5/5 0/0/0 1/1/1",
@@ -250,7 +179,7 @@ REFUSED = "refused memory NoMemory"
 WITHOUT_MARKED = "frequent 1 0 1 6 8 0/0/0 1/1/1 0/0/0 0/0/0"
 ENTRIES = ["table 6 8 13 6 2 3 3 2", "purged 2", "table 2 8 2 2 0 1 1 0", "table 6 32 13 6 2 3 3 2"]
 
-# Items that are hard to hash, to clone, to write or to tell apart, and weights at the ends of their types.
+# Items that are hard to hash, to clone, to write or to tell apart.
 ITEMS = {
     "feeds-nothing_sketch": SKETCH,
     "feeds-nothing_clones": CLONES,
@@ -275,39 +204,10 @@ ITEMS = {
     "letter_clones": CLONES,
     "letter_marked": MARKED,
     "letter_table": ["table 5 8 13 5 4 3 3 4", "purged 3", "table 1 8 1 1 1 0 0 1", "table 5 32 13 5 4 3 3 4"],
-    "great_small_weights": [
-        "accepted",
-        "127 -127",
-        "refused argument WeightOverflow",
-        "127 -127",
-        "refused argument WeightOverflow",
-        "200 56",
-        "accepted",
-        "255 55",
-    ],
-    "great_weights": [
-        "refused argument WeightOverflow",
-        "accepted",
-        "18446744073709551615",
-        "18446744073709551614",
-        "9223372036854775807",
-    ],
-    "great_totals": [
-        "frequent 0 2305843009213693952 16140901064495857664 6 8 0/0/2305843009213693952",
-        "refused argument WeightOverflow",
-        "frequent 1 0 18446744073709551615 6 8"
-        " 18446744073709551615/18446744073709551615/18446744073709551615 0/0/0",
-        "frequent 1 0 1 6 8 0/0/0 1/1/1",
-    ],
-    "thousands": ["bytes 49184", "frequent 3072 0 3072 3072 4096 0/0/0 1/1/1 1/1/1 0/0/0", "rows 3072"],
 }
 for item in ["feeds-nothing", "unclonable", "unwritable", "letter"]:
-    ITEMS[f"{item}_sizes"] = SMALL
     ITEMS[f"{item}_rows"] = HEAVY
     ITEMS[f"{item}_questions"] = QUESTIONS
     ITEMS[f"{item}_walk"] = WALK
 # 38 equals 6 here
 ITEMS["letter_rows"] = HEAVY[:2] + ["equal false true true"]
-
-# Under a limit of memory: a filter of 16 GiB, a Count-Min sketch of 8 GiB, and an image that states 2^30 slots.
-SIZES = [REFUSED, REFUSED, REFUSED, "frequent 1 0 1 6 1073741824 1/1/1"]

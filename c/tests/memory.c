@@ -120,12 +120,16 @@ int main(void)
     DONE(&filter, ds_filter_from_bytes(&filter, image, length, 1 << 12));
     if (ds_filter_contains_u64(&filter, 63) != DS_YES) return 1;
     keep(&filter);
+    DONE(&copy, ds_clone(&copy, &filter));
+    if (ds_filter_contains_u64(&copy, 63) != DS_YES) return 1;
     DONE(&filter, ds_filter_new(&filter, 64, 1, 9001));
     DONE(&count, ds_count_u64_new(&count, 4, 128, 9001));
     DONE(&second, ds_count_u64_new(&second, 4, 128, 9001));
     DONE(&count, ds_count_u64_update_all_u64(&count, items, 64));
     DONE(&second, ds_count_u64_merge(&second, &count));
     if (ds_count_u64_estimate_u64(&second, 5, &estimate) != DS_OK || !estimate) return 1;
+    DONE(&copy, ds_clone(&copy, &second));
+    if (ds_count_u64_estimate_u64(&copy, 5, &estimate) != DS_OK || !estimate) return 1;
     DONE(&frequent, ds_frequent_u64_new(&frequent, 64, 48));
     DONE(&many, ds_frequent_i64_new(&many, 8, 6));
     /* the table doubles three times; where memory is refused to that, the items before are added */

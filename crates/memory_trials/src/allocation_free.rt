@@ -15,24 +15,15 @@ use test_items::FEEDS_NOTHING;
 /// Plays the trial of the name: of the sketches, of what they are made of, or of what is made of them.
 pub fn play(trial: &mut Trial, calls: &str) -> Result<(), SetupFailed> {
     match calls {
-        "updates" => frequent::updates(trial),
         "updates_of_tracked" => frequent::updates_of_tracked(trial),
         "updates_by_reference" => frequent::updates_by_reference(trial),
         "purges" => frequent::purges(trial),
         "full" => frequent::full_sketch(trial),
-        "merges" => frequent::merges(trial),
         "frequent_refusals" => frequent::refusals(trial),
-        "frequent_questions" => frequent::questions(trial),
-        "bounds" => frequent::bounds(trial),
-        "rows" => frequent::rows(trial),
         "filters" => filter::changes(trial),
-        "filter_questions" => filter::questions(trial),
-        "filter_refusals" => filter::refusals(trial),
+        "equal_filters" => filter::comparisons(trial),
         "counts" => counts::changes(trial),
-        "count_questions" => counts::questions(trial),
         "equal_counts" => counts::comparisons(trial),
-        "count_refusals" => counts::refusals(trial),
-        "signed_refusals" => counts::signed_refusals(trial),
         _ => play_parts(trial, calls),
     }
 }
@@ -47,6 +38,7 @@ fn play_parts(trial: &mut Trial, calls: &str) -> Result<(), SetupFailed> {
         "reads" => base::reads(trial),
         "short_reads" => base::short_reads(trial),
         "fields" => base::fields(trial),
+        "remainders" => base::remainders(trial),
         "texts" => base::texts(trial),
         "signed_values" => values::signed(trial),
         "unsigned_values" => values::unsigned(trial),

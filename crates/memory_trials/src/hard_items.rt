@@ -1,10 +1,12 @@
 //! Items that are hard to hash, to clone, to write or to tell apart, through all calls that take items.
 use crate::allocation_free;
-use crate::output::{begin_frequent, begin_values, write_bounds, write_error, write_outcome};
+use crate::output::{
+    begin_frequent, begin_values, write_bounds, write_error, write_outcome, write_values,
+};
 use crate::table::{Map, free_table, grow, purge, put, put_ref};
-use crate::trial::{SetupFailed, Trial, write_line, write_words};
+use crate::trial::{SetupFailed, Trial, counted, write_line, write_words};
 use datasketches::error::Error;
-use datasketches::frequencies::{ErrorType, FrequentItemsSketch};
+use datasketches::frequencies::{ErrorType, FrequentItemsSketch, Row};
 use std::alloc::Global;
 use std::fmt::Write;
 use test_items::{Item, MARKED, NUM_LETTERS};
@@ -17,8 +19,7 @@ pub fn play<const KIND: u8>(trial: &mut Trial, calls: &str) -> Result<(), SetupF
     match calls {
         "sketch" => sketch::<KIND>(trial),
         "clones" => clones::<KIND>(trial),
-        "sizes" => crate::sizes_and_rows::sizes::<KIND>(trial),
-        "rows" => crate::sizes_and_rows::rows::<KIND>(trial),
+        "rows" => rows::<KIND>(trial),
         "questions" => allocation_free::table::questions::<KIND>(trial),
         "walk" => allocation_free::table::walk::<KIND>(trial),
         "marked" => marked::<KIND>(trial),
@@ -95,24 +96,34 @@ fn write_rows<const KIND: u8>(trial: &mut Trial, sketch: &Sketch<KIND>) -> Resul
     Ok(())
 }
 
-/// What the sketch's image gives back says, and its rows.
+/// What a sketch says, and its rows.
+fn write_whole<const KIND: u8>(trial: &mut Trial, sketch: &Sketch<KIND>) -> Result<(), Error> {
+    write_asked(trial, sketch);
+    write_rows(trial, sketch)
+}
+
+/// The same of what the sketch's image gives back.
 fn write_restored<const KIND: u8>(trial: &mut Trial, sketch: &Sketch<KIND>) -> Result<(), Error> {
     let copy = restored(trial.alloc, sketch)?;
-    write_asked(trial, &copy);
-    write_rows(trial, &copy)
+    write_whole(trial, &copy)
 }
 
 /// Updates by value and by reference, a merge, a clone, rows and an image, of items that are not marked.
+fn change_all<const KIND: u8>(trial: &mut Trial, sketch: &mut Sketch<KIND>) -> Result<(), Error> {
+    update_all(sketch)?;
+    write_asked(trial, sketch);
+    merge_one(trial.alloc, sketch, 2 + NUM_LETTERS, 20)?;
+    write_asked(trial, sketch);
+    write_restored(trial, sketch)?;
+    purged(sketch)?;
+    write_asked(trial, sketch);
+    Ok(())
+}
+
+/// The same of a sketch of one item.
 fn sketch<const KIND: u8>(trial: &mut Trial) -> Result<(), SetupFailed> {
     let mut sketch = of_one::<KIND>(trial.alloc, 1, 1)?;
-    update_all(&mut sketch)?;
-    write_asked(trial, &sketch);
-    merge_one(trial.alloc, &mut sketch, 2 + NUM_LETTERS, 20)?;
-    write_asked(trial, &sketch);
-    write_restored(trial, &sketch)?;
-    purged(&mut sketch)?;
-    write_asked(trial, &sketch);
-    Ok(())
+    Ok(change_all(trial, &mut sketch)?)
 }
 
 /// An update and a merge that clone a marked item.
@@ -139,13 +150,18 @@ fn marked<const KIND: u8>(trial: &mut Trial) -> Result<(), SetupFailed> {
     Ok(())
 }
 
+/// What a table says, also of a purge of its clone, and in more slots.
+fn write_tables<const KIND: u8>(trial: &mut Trial, map: &mut Map<KIND>) -> Result<(), Error> {
+    write_table(trial, map)?;
+    write_purged(trial, map)?;
+    grow(map, 32)?;
+    write_table(trial, map)
+}
+
 /// The calls of the table.
 fn table<const KIND: u8>(trial: &mut Trial) -> Result<(), SetupFailed> {
     let mut map = filled::<KIND>(trial.alloc)?;
-    write_table(trial, &map)?;
-    write_purged(trial, &map)?;
-    grow(&mut map, 32)?;
-    Ok(write_table(trial, &map)?)
+    Ok(write_tables(trial, &mut map)?)
 }
 
 /// A table of five items, two of them added to by reference, and a sixth.
@@ -202,4 +218,53 @@ fn write_table<const KIND: u8>(trial: &mut Trial, map: &Map<KIND>) -> Result<(),
     }
     write_line!(trial);
     Ok(())
+}
+
+/// The rows of a sketch of seven items from this number on, of which the last two are heavy: the seventh takes 1 from all.
+fn heavy_rows<const KIND: u8>(alloc: Global, first: u64) -> Result<Vec<Row<Item<KIND>>>, Error> {
+    let mut sketch = FrequentItemsSketch::new(alloc, 8)?;
+    for (place, weight) in [1, 1, 1, 1, 1, 50, 100].iter().enumerate() {
+        sketch.update_with_count(Item::of(first.wrapping_add(place as u64)), *weight)?;
+    }
+    sketch.frequent_items(ErrorType::NoFalsePositives)
+}
+
+/// A row's item, its bounds and its estimate.
+fn row_numbers<const KIND: u8>(row: &Row<Item<KIND>>) -> [u64; 4] {
+    [
+        row.item().number(),
+        row.lower_bound(),
+        row.estimate(),
+        row.upper_bound(),
+    ]
+}
+
+/// The same on a line, with the requests for memory counted.
+fn write_row<const KIND: u8>(trial: &mut Trial, row: &Row<Item<KIND>>) {
+    let numbers = counted!(trial, row_numbers(row));
+    write_values(trial, "row", &numbers);
+}
+
+/// Two rows, and whether a clone of the second equals each of them and another, with the requests for memory counted.
+fn write_clone<const KIND: u8>(
+    trial: &mut Trial,
+    rows: &[Row<Item<KIND>>],
+    others: &[Row<Item<KIND>>],
+) -> Result<(), SetupFailed> {
+    let ([first, second], [_, other]) = (rows, others) else {
+        return Err(SetupFailed);
+    };
+    let copy = second.try_clone()?;
+    write_row(trial, first);
+    write_row(trial, &copy);
+    let equal = counted!(trial, [copy == *first, copy == *second, copy == *other]);
+    write_values(trial, "equal", &equal);
+    Ok(())
+}
+
+/// The rows of two items, a clone of the second, and whether it equals the rows and that of an item that may equal its own.
+fn rows<const KIND: u8>(trial: &mut Trial) -> Result<(), SetupFailed> {
+    let rows = heavy_rows::<KIND>(trial.alloc, 1)?;
+    let others = heavy_rows::<KIND>(trial.alloc, 1 + NUM_LETTERS)?;
+    write_clone(trial, &rows, &others)
 }

@@ -7,13 +7,10 @@
 //! | trial | shows |
 //! |---|---|
 //! | `session LEFT_OUT..` | a run of a session over commands of all kinds, without those of the given places |
-//! | `windows LEFT_OUT..` | calls on the windows of tenants, without those of the given places |
-//! | `frequent_..`, `table_..`, `filter_..`, `counts_..`, `bytes_..` | a call of the library that may answer want of memory, alone |
+//! | `frequent_..`, `table_..`, `bytes_..` | a call of the library that may answer want of memory, alone |
 //! | `allocation-free_..` | calls that take no memory |
 //! | `counted_..` | calls whose requests for memory are counted |
 //! | `feeds-nothing_..`, `unclonable_..`, `unwritable_..`, `letter_..` | items that are hard to hash, to clone, to write or to tell apart |
-//! | `great_small_weights`, `great_weights`, `great_totals`, `thousands` | weights and totals at the ends of their types |
-//! | `sizes` | shapes of the greatest sizes |
 //!
 //! Without a word it writes nothing. It ends with status 3 where something went wrong that no trial is about.
 #![tactic(auto)]
@@ -23,13 +20,10 @@ mod calls;
 mod commands;
 mod hard_items;
 mod output;
-mod ranges;
 mod session;
-mod sizes_and_rows;
 mod table;
 mod texts;
 mod trial;
-mod windows;
 
 use std::process::ExitCode;
 use test_items::{FEEDS_NOTHING, LETTER, UNCLONABLE, UNWRITABLE};
@@ -64,9 +58,6 @@ fn main(rt: HostRuntime) -> ExitCode {
 fn play(trial: &mut Trial, name: &str, places: &[usize]) -> Result<(), SetupFailed> {
     match name {
         "session" => session::session(trial, places),
-        "windows" => windows::windows(trial, places),
-        "sizes" => ranges::sizes(trial),
-        "thousands" => ranges::thousands(trial),
         _ => match name.split_once('_') {
             Some((subject, call)) => play_subject(trial, subject, call),
             None => Err(SetupFailed),
@@ -79,8 +70,6 @@ fn play_subject(trial: &mut Trial, subject: &str, call: &str) -> Result<(), Setu
     match subject {
         "frequent" => calls::frequent::play(trial, call),
         "table" => calls::table::play(trial, call),
-        "filter" => calls::filter::play(trial, call),
-        "counts" => calls::counts::play(trial, call),
         "bytes" => calls::bytes::play(trial, call),
         "allocation-free" => allocation_free::play(trial, call),
         "counted" => allocation_free::play_counted(trial, call),
@@ -88,7 +77,6 @@ fn play_subject(trial: &mut Trial, subject: &str, call: &str) -> Result<(), Setu
         "unclonable" => hard_items::play::<UNCLONABLE>(trial, call),
         "unwritable" => hard_items::play::<UNWRITABLE>(trial, call),
         "letter" => hard_items::play::<LETTER>(trial, call),
-        "great" => ranges::play_great(trial, call),
         _ => Err(SetupFailed),
     }
 }

@@ -1,7 +1,5 @@
 //! What sketches and answers say, in words.
 use crate::trial::{Trial, write_line, write_words};
-use datasketches::bloom::BloomFilter;
-use datasketches::countmin::CountMinSketch;
 use datasketches::error::{Error, ErrorKind};
 use datasketches::frequencies::{FrequentItemsSketch, ReversePurgeItemHashMap, Row};
 use datasketches::{Refusal, Reply};
@@ -99,38 +97,6 @@ pub fn write_table<T: Eq + Hash + Drop>(
     begin_values(trial, "table", &[map.num_active(), map.len()]);
     for item in items {
         write_words!(trial, " {}", map.get(item));
-    }
-    write_line!(trial);
-}
-
-/// A filter's numbers, and the items that it contains, of those from 0 to 7.
-pub fn write_filter(trial: &mut Trial, filter: &BloomFilter) {
-    let numbers = [
-        filter.bits_used(),
-        filter.capacity() as u64,
-        u64::from(filter.num_hashes()),
-        filter.seed(),
-    ];
-    begin_values(trial, "filter", &numbers);
-    for item in 0..8u64 {
-        if filter.contains(&item) {
-            write_words!(trial, " {item}");
-        }
-    }
-    write_line!(trial);
-}
-
-/// A Count-Min sketch's numbers, and the estimates of the items from 0 to 3.
-pub fn write_counts(trial: &mut Trial, sketch: &CountMinSketch<u64>) {
-    let numbers = [
-        sketch.total_weight(),
-        u64::from(sketch.num_hashes()),
-        u64::from(sketch.num_buckets()),
-        sketch.seed(),
-    ];
-    begin_values(trial, "counts", &numbers);
-    for item in 0..4u64 {
-        write_words!(trial, " {}", sketch.estimate(item));
     }
     write_line!(trial);
 }

@@ -1,5 +1,5 @@
 //! Texts, lists of them, and sketches of them.
-use crate::trial::{SetupFailed, Trial};
+use crate::trial::SetupFailed;
 use datasketches::error::Error;
 use datasketches::frequencies::FrequentItemsSketch;
 use std::alloc::{AllocError, Global};
@@ -19,17 +19,6 @@ pub fn texts(alloc: Global, texts: &[&str]) -> Result<Vec<String>, AllocError> {
         items.push(text(alloc, item)?)?;
     }
     Ok(items)
-}
-
-/// The texts of which a sketch or a table is asked, one of them not in it.
-pub fn asked(trial: &mut Trial) -> Vec<String> {
-    match texts(trial.alloc, &["a", "b", "c", "g"]) {
-        Ok(asked) => asked,
-        Err(_) => {
-            trial.fail();
-            Vec::new(trial.alloc)
-        }
-    }
 }
 
 /// A sketch that holds such texts with these weights.

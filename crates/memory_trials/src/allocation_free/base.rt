@@ -2,12 +2,11 @@
 use crate::output::{fault_of, kind_of, write_bytes, write_values};
 use crate::texts::text;
 use crate::trial::{SetupFailed, Trial, counted, write_line};
-use datasketches::codec::family::Family;
 use datasketches::codec::{SketchBytes, SketchSlice};
 use datasketches::error::{Error, ErrorKind, Fault};
 use datasketches::frequencies::FrequentItemValue;
 use datasketches::hash::{MurmurHash3X64128, XxHash64, check_seed_hash, compute_seed_hash};
-use sketch_base::image::{check_length, check_version, i32_at, u16_at, u32_at, u64_at};
+use sketch_base::image::{i32_at, u16_at, u32_at, u64_at};
 use sketch_base::{Divisor, SeedlessItem, murmur3_of, murmur3_of_u64, xxh64_of};
 use std::fmt::Write;
 use std::hash::Hasher;
@@ -34,7 +33,8 @@ fn xxh64(text: &[u8], at: usize) -> u64 {
 fn murmur3(text: &[u8], at: usize) -> u64 {
     let mut hasher = MurmurHash3X64128::with_seed(0);
     feed(&mut hasher, text, at);
-    hasher.finish() ^ hasher.finish128().1
+    let (low, high) = hasher.finish128();
+    low ^ high
 }
 
 /// The hash of a text by the hasher of the usual seed.
@@ -100,16 +100,7 @@ fn words_of(error: Error) -> [&'static str; 3] {
     [kind_of(error), fault.name(), fault.text()]
 }
 
-/// Why families of images are refused, if they are.
-fn faults_of_families() -> [&'static str; 3] {
-    [
-        fault_of(Family::FREQUENCY.validate_id(10)),
-        fault_of(Family::COUNTMIN.validate_id(18)),
-        fault_of(Family::BLOOMFILTER.validate_id(18)),
-    ]
-}
-
-/// Refusals, and the families of images.
+/// The words of refusals.
 pub fn refusals(trial: &mut Trial) -> Result<(), SetupFailed> {
     for (kind, fault) in [
         (ErrorKind::OutOfMemory, Fault::NoMemory),
@@ -119,8 +110,6 @@ pub fn refusals(trial: &mut Trial) -> Result<(), SetupFailed> {
         let words = counted!(trial, words_of(Error::new(kind, fault)));
         write_values(trial, "refusal", &words);
     }
-    let families = counted!(trial, faults_of_families());
-    write_values(trial, "families", &families);
     Ok(())
 }
 
@@ -193,25 +182,39 @@ fn write_items(bytes: &mut SketchBytes, text: &String) -> [&'static str; 3] {
 /// The sizes of items, and their writes.
 pub fn items(trial: &mut Trial) -> Result<(), SetupFailed> {
     let text = text(trial.alloc, "ab")?;
-    let mut bytes = SketchBytes::with_capacity(trial.alloc, 22)?;
     let sizes = counted!(trial, sizes_of(&text));
-    let faults = counted!(trial, write_items(&mut bytes, &text));
     write_values(trial, "sizes", &sizes);
+    Ok(write_items_counted(trial, &text)?)
+}
+
+/// Writes the items with their requests for memory counted, and then the bytes.
+fn write_items_counted(trial: &mut Trial, text: &String) -> Result<(), Error> {
+    let mut bytes = SketchBytes::with_capacity(trial.alloc, 22)?;
+    let faults = counted!(trial, write_items(&mut bytes, text));
     write_values(trial, "writes", &faults);
     write_bytes(trial, &bytes.into_bytes());
     Ok(())
 }
 
-/// A number of each width.
-fn numbers(slice: &mut SketchSlice) -> Result<[i64; 6], Error> {
-    Ok([
-        i64::from(slice.read_u8()?),
-        i64::from(slice.read_u16_le()?),
-        i64::from(slice.read_u32_le()?),
-        i64::from(slice.read_i32_le()?),
-        slice.read_u64_le()?.cast_signed(),
-        slice.read_i64_le()?,
-    ])
+/// A number, by the read of its place among the six.
+fn read_number(slice: &mut SketchSlice, read: u8) -> Result<i64, Error> {
+    match read {
+        0 => Ok(i64::from(slice.read_u8()?)),
+        1 => Ok(i64::from(slice.read_u16_le()?)),
+        2 => Ok(i64::from(slice.read_u32_le()?)),
+        3 => Ok(i64::from(slice.read_i32_le()?)),
+        4 => Ok(slice.read_u64_le()?.cast_signed()),
+        _ => slice.read_i64_le(),
+    }
+}
+
+/// Reads a number of each width.
+fn read_numbers(trial: &mut Trial, slice: &mut SketchSlice) -> Result<(), Error> {
+    for read in 0..6 {
+        let number = counted!(trial, read_number(slice, read))?;
+        write_values(trial, "number", &[number]);
+    }
+    Ok(())
 }
 
 /// Two bytes, and a jump over the next.
@@ -229,34 +232,23 @@ pub fn reads(trial: &mut Trial) -> Result<(), SetupFailed> {
     let bytes =
         b"\x05\x02\x01\x03\0\0\0\xFE\xFF\xFF\xFF\x07\0\0\0\0\0\0\0\xFC\xFF\xFF\xFF\xFF\xFF\xFF\xFFabcde";
     let mut slice = counted!(trial, SketchSlice::new(bytes));
-    let numbers = counted!(trial, numbers(&mut slice))?;
+    read_numbers(trial, &mut slice)?;
     let two = counted!(trial, last_bytes(&mut slice))?;
-    write_values(trial, "numbers", &numbers);
     write_values(trial, "bytes", &two);
     write_line!(trial, "left {}", slice.remaining().len());
     Ok(())
 }
 
-/// Reads of each width where nothing is left.
-fn read_none(slice: &mut SketchSlice) -> [&'static str; 7] {
-    [
-        fault_of(slice.read_u8()),
-        fault_of(slice.read_u16_le()),
-        fault_of(slice.read_u32_le()),
-        fault_of(slice.read_i32_le()),
-        fault_of(slice.read_u64_le()),
-        fault_of(slice.read_i64_le()),
-        fault_of(slice.read_exact(&mut [0; 2])),
-    ]
-}
-
-/// Reads of more than is left, which is 3 bytes in one cursor.
+/// Reads of each width, and of two bytes, where one byte or none is left.
 pub fn short_reads(trial: &mut Trial) -> Result<(), SetupFailed> {
-    let faults = counted!(trial, read_none(&mut SketchSlice::new(b"")));
-    write_values(trial, "reads", &faults);
-    let mut slice = SketchSlice::new(b"abc");
-    let short = counted!(trial, fault_of(slice.read_u32_le()));
-    write_line!(trial, "{short} left {}", slice.remaining().len());
+    for read in 0..6 {
+        let left = if read == 0 { &b""[..] } else { b"a" };
+        let mut slice = SketchSlice::new(left);
+        let fault = counted!(trial, fault_of(read_number(&mut slice, read)));
+        write_line!(trial, "{fault} left {}", slice.remaining().len());
+    }
+    let fault = counted!(trial, fault_of(last_bytes(&mut SketchSlice::new(b"a"))));
+    write_line!(trial, "{fault}");
     Ok(())
 }
 
@@ -272,29 +264,22 @@ fn fields_of_image() -> [i64; 4] {
     ]
 }
 
-/// Why an image's length or version is refused, if it is.
-fn faults_of_image() -> [&'static str; 4] {
-    [
-        fault_of(check_length(FIELDS, 18)),
-        fault_of(check_length(FIELDS, 19)),
-        fault_of(check_version(1)),
-        fault_of(check_version(2)),
-    ]
-}
-
 /// A divisor, and the remainder of the greatest number.
 fn remainder() -> [u64; 2] {
     let divisor = Divisor::new(1000);
     [divisor.divisor(), divisor.rem(u64::MAX)]
 }
 
-/// The fields of images, their checks, and a remainder.
+/// The fields of images.
 pub fn fields(trial: &mut Trial) -> Result<(), SetupFailed> {
     let numbers = counted!(trial, fields_of_image());
     write_values(trial, "fields", &numbers);
+    Ok(())
+}
+
+/// A remainder.
+pub fn remainders(trial: &mut Trial) -> Result<(), SetupFailed> {
     let numbers = counted!(trial, remainder());
     write_values(trial, "remainder", &numbers);
-    let faults = counted!(trial, faults_of_image());
-    write_values(trial, "faults", &faults);
     Ok(())
 }

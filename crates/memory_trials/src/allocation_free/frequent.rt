@@ -3,41 +3,14 @@ use crate::output::{fault_of, write_frequent, write_values};
 use crate::texts::{SIX, UpdateBy, sketch_of, text, texts, update};
 use crate::trial::{SetupFailed, Trial, counted, write_line, write_words};
 use datasketches::error::Error;
-use datasketches::frequencies::{ErrorType, FrequentItemsSketch, Row};
+use datasketches::frequencies::FrequentItemsSketch;
 use std::alloc::{AllocError, Global};
 use std::fmt::Write;
-use std::hash::Hash;
 
 /// A sketch of texts, and one of numbers.
 type Texts = FrequentItemsSketch<String>;
 
 type Numbers = FrequentItemsSketch<i64>;
-
-/// A text that is kept on the heap.
-const LONG: &str = "a long text, not kept in place";
-
-/// Seven texts once each, which are purged, and a heavy one.
-const PURGED: [(&str, u64); 8] = [
-    ("a", 1),
-    ("b", 1),
-    ("c", 1),
-    ("d", 1),
-    ("e", 1),
-    ("f", 1),
-    ("g", 1),
-    (LONG, 5),
-];
-
-/// Updates by value: the seventh item is one counter too many, and all are purged.
-const SEVEN_ITEMS: [(&str, UpdateBy); 7] = [
-    ("a", UpdateBy::Value),
-    ("b", UpdateBy::Value),
-    ("c", UpdateBy::Value),
-    ("d", UpdateBy::Value),
-    ("e", UpdateBy::Value),
-    ("f", UpdateBy::Value),
-    ("g", UpdateBy::Value),
-];
 
 /// Updates by reference of an item that is tracked, and updates of weight 0.
 const BY_REFERENCE: [(&str, UpdateBy); 4] = [
@@ -89,11 +62,6 @@ fn play_updates(
     Ok(write_texts(trial, &sketch, asked)?)
 }
 
-pub fn updates(trial: &mut Trial) -> Result<(), SetupFailed> {
-    let empty = sketch_of(trial.alloc, 8, &[])?;
-    play_updates(trial, empty, &SEVEN_ITEMS, &["a", "g"])
-}
-
 /// An update by value of an item that is tracked, where the table must double for one that is not.
 pub fn updates_of_tracked(trial: &mut Trial) -> Result<(), SetupFailed> {
     let six = sketch_of(trial.alloc, 64, &SIX)?;
@@ -118,15 +86,6 @@ pub fn refusals(trial: &mut Trial) -> Result<(), SetupFailed> {
     let mut heavy = sketch_of(trial.alloc, 8, &[("a", u64::MAX)])?;
     merge(trial, &mut heavy, &[("b", 1)])?;
     play_updates(trial, heavy, &TOO_HEAVY, &["a", "b"])
-}
-
-/// A merge of a sketch into which nothing was fed, and a reset.
-pub fn merges(trial: &mut Trial) -> Result<(), SetupFailed> {
-    let mut sketch = sketch_of(trial.alloc, 8, &[("a", 1)])?;
-    merge(trial, &mut sketch, &[])?;
-    write_texts(trial, &sketch, &["a"])?;
-    counted!(trial, sketch.reset());
-    Ok(write_texts(trial, &sketch, &["a"])?)
 }
 
 /// Adds as many items as a sketch of 2048 slots may hold, once each.
@@ -211,23 +170,12 @@ fn numbers(sketch: &Numbers) -> [u64; 11] {
 }
 
 /// An item's lower bound, estimate and upper bound.
-fn bounds_of<T: Eq + Hash + Drop>(sketch: &FrequentItemsSketch<T>, item: &T) -> [u64; 3] {
+fn bounds_of(sketch: &Numbers, item: i64) -> [u64; 3] {
     [
-        sketch.lower_bound(item),
-        sketch.estimate(item),
-        sketch.upper_bound(item),
+        sketch.lower_bound(&item),
+        sketch.estimate(&item),
+        sketch.upper_bound(&item),
     ]
-}
-
-/// An item's bounds with the requests for memory counted.
-fn write_bounds<T: Eq + Hash + Drop>(
-    trial: &mut Trial,
-    sketch: &FrequentItemsSketch<T>,
-    word: &str,
-    item: &T,
-) {
-    let bounds = counted!(trial, bounds_of(sketch, item));
-    write_values(trial, word, &bounds);
 }
 
 /// The estimates of two items by one call.
@@ -241,75 +189,10 @@ fn estimates_of(sketch: &Numbers, items: &[i64; 2]) -> [u64; 2] {
 fn write_answers(trial: &mut Trial, sketch: &Numbers) {
     let numbers = counted!(trial, numbers(sketch));
     write_values(trial, "numbers", &numbers);
-    write_bounds(trial, sketch, "tracked", &3);
-    write_bounds(trial, sketch, "absent", &-1);
+    for item in [3, -1] {
+        let bounds = counted!(trial, bounds_of(sketch, item));
+        write_values(trial, "bounds", &bounds);
+    }
     let estimates = counted!(trial, estimates_of(sketch, &[-1, 3]));
     write_values(trial, "both", &estimates);
-}
-
-/// Seven items with the weights 1 to 7, for which the table has doubled.
-fn seven(alloc: Global) -> Result<Numbers, Error> {
-    let mut sketch = FrequentItemsSketch::new(alloc, 64)?;
-    for item in 1..=7u8 {
-        sketch.update_with_count(i64::from(item), u64::from(item))?;
-    }
-    Ok(sketch)
-}
-
-/// All questions to a sketch of numbers.
-pub fn questions(trial: &mut Trial) -> Result<(), SetupFailed> {
-    let sketch = seven(trial.alloc)?;
-    write_answers(trial, &sketch);
-    Ok(())
-}
-
-/// The bounds of texts behind a purge of seven, all of weight 1.
-pub fn bounds(trial: &mut Trial) -> Result<(), SetupFailed> {
-    let sketch = sketch_of(trial.alloc, 8, &PURGED)?;
-    let asked = texts(trial.alloc, &[LONG, "b"])?;
-    for item in &asked {
-        write_bounds(trial, &sketch, "bounds", item);
-    }
-    Ok(())
-}
-
-/// A row's numbers, and how long its item is.
-fn row_numbers(row: &Row<String>) -> [u64; 4] {
-    [
-        row.lower_bound(),
-        row.estimate(),
-        row.upper_bound(),
-        row.item().len() as u64,
-    ]
-}
-
-/// The rows of two items.
-fn two_rows(alloc: Global) -> Result<Vec<Row<String>>, SetupFailed> {
-    let sketch = sketch_of(alloc, 8, &[("ab", 1), ("c", 2)])?;
-    Ok(sketch.frequent_items(ErrorType::NoFalseNegatives)?)
-}
-
-/// A row's numbers, and whether it equals another.
-fn write_row(trial: &mut Trial, row: &Row<String>, other: &Row<String>) {
-    let numbers = counted!(trial, row_numbers(row));
-    let equal = counted!(trial, *row == *other);
-    write_values(trial, "row", &numbers);
-    write_line!(trial, "equal {equal}");
-}
-
-/// The questions to two rows and a copy of the second.
-fn write_rows(trial: &mut Trial, rows: &[Row<String>]) -> Result<(), SetupFailed> {
-    let [first, second] = rows else {
-        return Err(SetupFailed);
-    };
-    write_row(trial, first, second);
-    let copy = second.try_clone()?;
-    write_row(trial, second, &copy);
-    Ok(())
-}
-
-/// The questions to the rows of a report.
-pub fn rows(trial: &mut Trial) -> Result<(), SetupFailed> {
-    let rows = two_rows(trial.alloc)?;
-    write_rows(trial, &rows)
 }

@@ -18,10 +18,11 @@ const COUNTS: [u8; 16] = [2, 1, 18, 1, 0, 0, 0, 0, 64, 0, 0, 0, 3, 0xcc, 0x93, 0
 /// The image of an empty sketch of frequent items that is limited to 64 slots.
 const FREQUENT: [u8; 8] = [1, 1, 10, 6, 3, 5, 0, 0];
 
-/// Images of a filter that would take a byte more than it may, and of nothing.
-fn filters(alloc: Global) -> [&'static str; 2] {
+/// Images of a filter that would take a byte more than it may, of another family, and of nothing.
+fn filters(alloc: Global) -> [&'static str; 3] {
     [
         fault_of(BloomFilter::deserialize_with_limit(alloc, &FILTER, 31)),
+        fault_of(BloomFilter::deserialize(alloc, &COUNTS)),
         fault_of(BloomFilter::deserialize(alloc, b"")),
     ]
 }
@@ -52,21 +53,18 @@ fn frequent(alloc: Global) -> [&'static str; 2] {
     ]
 }
 
-/// Images of sketches that would take a byte more than they may, one that is read under another seed, and no image.
+/// Images of sketches that would take a byte more than they may, one that is read under another seed, one of another family,
+/// and no image.
 pub fn images(trial: &mut Trial) -> Result<(), SetupFailed> {
     let alloc = trial.alloc;
-    let faults = counted!(
-        trial,
-        [
-            filters(alloc),
-            counts(alloc),
-            seeded_counts(alloc),
-            frequent(alloc)
-        ]
-    );
-    for row in &faults {
-        write_values(trial, "faults", row);
-    }
+    let faults = counted!(trial, filters(alloc));
+    write_values(trial, "filters", &faults);
+    let faults = counted!(trial, counts(alloc));
+    write_values(trial, "counts", &faults);
+    let faults = counted!(trial, seeded_counts(alloc));
+    write_values(trial, "seeded", &faults);
+    let faults = counted!(trial, frequent(alloc));
+    write_values(trial, "frequent", &faults);
     Ok(())
 }
 

@@ -1,7 +1,6 @@
 //! Calls of the table of counters that take no memory.
 use crate::output::{write_table, write_values};
 use crate::table::{Map, free_table, purge, put, put_ref};
-use crate::texts::{text, texts};
 use crate::trial::{SetupFailed, Trial, counted, write_line};
 use datasketches::error::Error;
 use datasketches::frequencies::{ReversePurgeItemHashMap, ReversePurgeItemIter};
@@ -9,54 +8,23 @@ use std::alloc::Global;
 use std::fmt::Write;
 use test_items::{FEEDS_NOTHING, Item};
 
-/// A table of texts.
-type Texts = ReversePurgeItemHashMap<String>;
-
-/// Amounts for new items and tracked ones, also by reference.
-const AMOUNTS: [(&str, u8, bool); 7] = [
-    ("a", 3, false),
-    ("b", 3, false),
-    ("c", 3, false),
-    ("d", 3, false),
-    ("a", 3, true),
-    ("a", 1, false),
-    ("e", 0, false),
-];
-
-/// Adds an amount to an item's count.
-fn add(map: &mut Texts, item: String, amount: u8, by_reference: bool) -> Result<(), Error> {
-    if by_reference {
-        put_ref(map, &item, amount)
-    } else {
+/// Adds amounts for new items and tracked ones, one of them by reference.
+fn add_all(map: &mut ReversePurgeItemHashMap<i64>) -> Result<(), Error> {
+    for (item, amount) in [(1, 3), (2, 3), (3, 3), (4, 3), (1, 1), (5, 0)] {
         put(map, item, amount);
-        Ok(())
     }
-}
-
-/// Adds all amounts with the requests for memory counted.
-fn add_all(trial: &mut Trial, map: &mut Texts) -> Result<(), SetupFailed> {
-    for (item, amount, by_reference) in AMOUNTS {
-        let item = text(trial.alloc, item)?;
-        counted!(trial, add(map, item, amount, by_reference))?;
-    }
-    Ok(())
-}
-
-/// A table's numbers, and the counts of three texts.
-fn write_asked(trial: &mut Trial, map: &Texts) -> Result<(), SetupFailed> {
-    let asked = texts(trial.alloc, &["a", "b", "e"])?;
-    write_table(trial, map, &asked);
-    Ok(())
+    put_ref(map, &1, 3)
 }
 
 /// Amounts for new items and tracked ones, and a purge.
 pub fn changes(trial: &mut Trial) -> Result<(), SetupFailed> {
     let mut map = free_table(trial.alloc, 8)?;
-    add_all(trial, &mut map)?;
-    write_asked(trial, &map)?;
+    counted!(trial, add_all(&mut map))?;
+    write_table(trial, &map, &[1, 2, 5]);
     let middle = counted!(trial, purge(&mut map));
     write_line!(trial, "purged {middle}");
-    write_asked(trial, &map)
+    write_table(trial, &map, &[1, 2, 5]);
+    Ok(())
 }
 
 /// A table of three items.

@@ -1,5 +1,5 @@
 //! Calls of bytes that are written, and texts that are written and read.
-use crate::calls::{play_calls, refusable};
+use crate::calls::refusable;
 use crate::output::{write_bytes, write_error, write_outcome};
 use crate::texts::text;
 use crate::trial::{SetupFailed, Trial, write_line};
@@ -10,16 +10,19 @@ use std::fmt::Write;
 /// Plays the trial of the name.
 pub fn play(trial: &mut Trial, call: &str) -> Result<(), SetupFailed> {
     match call {
-        "new" => play_calls!(
-            trial,
-            write_outcome,
-            SketchBytes::with_capacity(trial.alloc, 4)
-        ),
+        "new" => new(trial),
         "beyond" => beyond(trial),
         "write_text" => write_text(trial),
         "read_text" => read_text(trial),
         _ => Err(SetupFailed),
     }
+}
+
+fn new(trial: &mut Trial) -> Result<(), SetupFailed> {
+    let alloc = trial.alloc;
+    let made = refusable!(trial, SketchBytes::with_capacity(alloc, 4));
+    write_outcome(trial, made);
+    Ok(())
 }
 
 /// A write beyond the capacity.
