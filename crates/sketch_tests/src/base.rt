@@ -4,9 +4,8 @@
 ghost use Rattle.std.specs.Prelude.{◌<◌};
 
 use sketch_base::{
-    Divisor, Error, ErrorKind, Family, Fault, MurmurHash3X64128, SeedlessItem, SketchBytes,
-    SketchSlice, XxHash64, check_seed_hash, compute_seed_hash, murmur3_of, murmur3_of_u64,
-    xxh64_of,
+    Divisor, Error, MurmurHash3X64128, SeedlessItem, SketchBytes, SketchSlice, XxHash64,
+    murmur3_of, murmur3_of_u64, xxh64_of,
 };
 use std::alloc::{AllocError, Global};
 use std::hash::Hasher;
@@ -123,62 +122,6 @@ fn hashes_items(rt: HostRuntime) -> Result<(), Fail> {
     Ok(())
 }
 
-// The second is the least seed whose hash is 0.
-#[test]
-fn hashes_seeds(rt: HostRuntime) {
-    assert!(rt; compute_seed_hash(9001, ErrorKind::InvalidArgument) == Ok(0x93CC));
-    let zero = Error::new(ErrorKind::InvalidData, Fault::ZeroSeedHash);
-    assert!(rt; compute_seed_hash(50541, ErrorKind::InvalidData) == Err(zero));
-    let differ = Error::new(ErrorKind::InvalidData, Fault::SeedHashMismatch);
-    for (stated, wanted) in [(1, Err(differ)), (2, Ok(()))] {
-        assert!(rt; check_seed_hash(stated, 2, ErrorKind::InvalidData) == wanted);
-    }
-}
-
-#[test]
-fn names_families(rt: HostRuntime) {
-    let other = Err(Error::invalid_data(Fault::BadFamily));
-    for (family, id, wanted) in [
-        (Family::BLOOMFILTER, 18, other),
-        (Family::BLOOMFILTER, 21, Ok(())),
-        (Family::COUNTMIN, 18, Ok(())),
-        (Family::FREQUENCY, 10, Ok(())),
-    ] {
-        assert!(rt; family.validate_id(id) == wanted);
-    }
-}
-
-#[test]
-fn names_faults(rt: HostRuntime) -> Result<(), Fail> {
-    let error = Error::invalid_argument(Fault::MapSizeTooSmall);
-    let text = format!(in rt.alloc(); "{} {error}", error.fault().name())?;
-    assert!(rt; text.as_str() == "MapSizeTooSmall map size below 8");
-    assert!(rt; error.kind() == ErrorKind::InvalidArgument);
-    Ok(())
-}
-
-/// Three reads of three bytes, of which the second is refused, and what was left behind it.
-fn read_short(
-    bytes: &[u8],
-) -> (
-    Result<u16, Error>,
-    Result<u32, Error>,
-    usize,
-    Result<u8, Error>,
-) {
-    let mut slice = SketchSlice::new(bytes);
-    let first = slice.read_u16_le();
-    let second = slice.read_u32_le();
-    let left = slice.remaining().len();
-    (first, second, left, slice.read_u8())
-}
-
-#[test]
-fn stays_at_a_short_read(rt: HostRuntime) {
-    let short = Err(Error::invalid_data(Fault::InsufficientData));
-    assert!(rt; read_short(&[1, 2, 3]) == (Ok(513), short, 1, Ok(3)));
-}
-
 /// A byte, and one number of each width.
 fn written(alloc: Global) -> Result<Vec<u8>, Error> {
     let mut out = SketchBytes::with_capacity(alloc, 3)?;
@@ -192,30 +135,12 @@ fn written(alloc: Global) -> Result<Vec<u8>, Error> {
     Ok(out.into_bytes())
 }
 
-/// The numbers of four and eight bytes in what `written` wrote, and how many bytes are left.
-fn read_back(bytes: &[u8]) -> Result<(u32, i32, u64, i64, usize), Error> {
-    let mut slice = SketchSlice::new(bytes);
-    let mut front = [0; 5];
-    slice.read_exact(&mut front)?;
-    Ok((
-        slice.read_u32_le()?,
-        slice.read_i32_le()?,
-        slice.read_u64_le()?,
-        slice.read_i64_le()?,
-        slice.remaining().len(),
-    ))
-}
-
 #[test]
-fn writes_and_reads_each_width(rt: HostRuntime) -> Result<(), Fail> {
+fn writes_each_width(rt: HostRuntime) -> Result<(), Fail> {
     let bytes = written(rt.alloc())?;
     let wanted =
         b"\x01\x02\x03ab\x01\0\0\0\xFE\xFF\xFF\xFF\x03\0\0\0\0\0\0\0\xFC\xFF\xFF\xFF\xFF\xFF\xFF\xFF";
     assert!(rt; bytes.as_slice() == wanted.as_slice());
-    assert!(rt; read_back(&bytes) == Ok((1, -2, 3, -4, 0)));
-    let mut slice = SketchSlice::new(wanted);
-    slice.advance(1);
-    assert!(rt; slice.remaining().len() == 28);
     Ok(())
 }
 

@@ -1,6 +1,5 @@
 //! Worked rows, vectors from outside, printed texts, and that each call succeeds.
-use crate::alter::altered;
-use sketch_bloom::{BloomFilter, BloomFilterBuilder, Error, Fault, laws};
+use sketch_bloom::{BloomFilter, BloomFilterBuilder, Error, laws};
 use std::alloc::Global;
 use std::test::Fail;
 
@@ -17,100 +16,6 @@ fn filled(
         filter.insert(item);
     }
     Ok(filter)
-}
-
-/// The capacity of a filter that was asked for, its bytes, its hashes and its seed.
-fn shape(alloc: Global, num_bits: u64, num_hashes: u16) -> Result<(usize, usize, u16, u64), Error> {
-    let filter = BloomFilterBuilder::with_size(num_bits, num_hashes).build(alloc)?;
-    Ok((
-        filter.capacity(),
-        filter.estimated_size(),
-        filter.num_hashes(),
-        filter.seed(),
-    ))
-}
-
-#[test]
-fn has_the_shape_asked_for(rt: HostRuntime) -> Result<(), Fail> {
-    let rows = [
-        (959, 7, (960, 120, 7, 9001)),
-        (65, 1, (128, 16, 1, 9001)),
-        (64, 32767, (64, 8, 32767, 9001)),
-    ];
-    for (num_bits, num_hashes, wanted) in rows {
-        assert!(rt; shape(rt.alloc(), num_bits, num_hashes)? == wanted);
-    }
-    Ok(())
-}
-
-#[test]
-fn refuses_sizes(rt: HostRuntime) {
-    let rows = [
-        (0, 1, Fault::BadNumBits),
-        (137438953153, 1, Fault::BadNumBits),
-        (0, 0, Fault::BadNumBits),
-        (64, 0, Fault::BadNumHashes),
-        (64, 32768, Fault::BadNumHashes),
-    ];
-    for (num_bits, num_hashes, fault) in rows {
-        let refusal = shape(rt.alloc(), num_bits, num_hashes).err();
-        assert!(rt; refusal == Some(Error::invalid_argument(fault)));
-    }
-}
-
-#[test]
-fn inserts_and_forgets(rt: HostRuntime) -> Result<(), Fail> {
-    let mut filter = filled(rt.alloc(), 959, 7, 0, 0)?;
-    let empty = filter.is_empty();
-    let before = filter.contains_and_insert(&"apple");
-    let after = filter.contains_and_insert(&"apple");
-    assert!(rt; (empty, before, after, filter.bits_used()) == (true, false, true, 7));
-    filter.reset();
-    assert!(rt; (filter.is_empty(), filter.contains(&"apple")) == (true, false));
-    Ok(())
-}
-
-/// A filter of 959 bits and seven hashes with two words in it.
-fn of_words(alloc: Global, seed: u64, first: &str, second: &str) -> Result<BloomFilter, Error> {
-    let mut filter = BloomFilterBuilder::with_size(959, 7)
-        .seed(seed)
-        .build(alloc)?;
-    filter.insert(first);
-    filter.insert(second);
-    Ok(filter)
-}
-
-/// A filter with two words in it, less another of the same seed.
-fn difference(alloc: Global) -> Result<BloomFilter, Error> {
-    let mut left = of_words(alloc, 123, "apple", "shared")?;
-    left.difference(&of_words(alloc, 123, "grape", "shared")?)?;
-    Ok(left)
-}
-
-/// Whether each set operation is refused for a mismatch.
-fn refuses(filter: &mut BloomFilter, other: &BloomFilter) -> [bool; 3] {
-    let mismatch = Some(Error::invalid_argument(Fault::Mismatch));
-    [
-        filter.union(other).err() == mismatch,
-        filter.intersect(other).err() == mismatch,
-        filter.difference(other).err() == mismatch,
-    ]
-}
-
-/// The same, and whether the filter is then as it was.
-fn refuses_all(filter: &mut BloomFilter, other: &BloomFilter) -> Result<([bool; 3], bool), Error> {
-    let before = filter.clone()?;
-    Ok((refuses(filter, other), *filter == before))
-}
-
-#[test]
-fn takes_away_what_another_filter_holds(rt: HostRuntime) -> Result<(), Fail> {
-    let mut left = difference(rt.alloc())?;
-    assert!(rt; (left.contains(&"shared"), left.contains(&"apple")) == (false, true));
-    let other = of_words(rt.alloc(), 124, "apple", "shared")?;
-    assert!(rt; refuses_all(&mut left, &other)? == ([true; 3], true));
-    assert!(rt; left != other && !left.is_compatible(&other));
-    Ok(())
 }
 
 /// Which numbers of a range a filter contains: how many, and their sum.
@@ -239,6 +144,14 @@ fn prints_its_fields(rt: HostRuntime) -> Result<(), Fail> {
     laws::what_is_contained();
     laws::difference_takes_and_leaves();
     laws::equality_is_an_equivalence();
+    laws::what_images_say();
+    Ok(())
+}
+
+#[test]
+fn comes_back_from_its_image(rt: HostRuntime) -> Result<(), Fail> {
+    let filter = filled(rt.alloc(), 959, 7, 0, 100)?;
+    assert!(rt; laws::restored(rt.alloc(), &filter)? == filter);
     Ok(())
 }
 
@@ -247,160 +160,3 @@ const TWO_BITS: [u8; 40] = [
     4, 1, 21, 0, 1, 0, 0, 0, 0x29, 0x23, 0, 0, 0, 0, 0, 0, 1, 0, 0, 0, 0, 0, 0, 0, 2, 0, 0, 0, 0,
     0, 0, 0, 3, 0, 0, 0, 0, 0, 0, 0,
 ];
-
-/// The image of the same filter with nothing in it.
-const NO_BITS: [u8; 24] = [
-    3, 1, 21, 4, 1, 0, 0, 0, 0x29, 0x23, 0, 0, 0, 0, 0, 0, 1, 0, 0, 0, 0, 0, 0, 0,
-];
-
-/// The set bits of an image's filter, which is written again and read once more, or 999 where it comes back otherwise.
-fn bits_of(alloc: Global, image: &[u8]) -> Result<u64, Error> {
-    let filter = BloomFilter::deserialize(alloc, image)?;
-    let again = filter.serialize()?;
-    if BloomFilter::deserialize(alloc, &again)? == filter {
-        Ok(filter.bits_used())
-    } else {
-        Ok(999)
-    }
-}
-
-/// The same of the image of two bits with some bytes of it altered.
-fn bits_of_altered(alloc: Global, place: u8, bytes: &[u8]) -> Result<u64, Fault> {
-    bits_of(alloc, &altered(TWO_BITS, place, bytes)).map_err(|e| e.fault())
-}
-
-/// Eight bytes of the image of two bits, and how many bits it then has.
-const ALTERED: [(u8, [u8; 8], Result<u64, Fault>); 21] = [
-    (0, [4, 1, 21, 0, 1, 0, 0, 0], Ok(2)),
-    (0, [2, 1, 21, 0, 1, 0, 0, 0], Err(Fault::BadPreamble)),
-    (0, [5, 1, 21, 0, 1, 0, 0, 0], Err(Fault::BadPreamble)),
-    (0, [3, 1, 21, 0, 1, 0, 0, 0], Ok(2)),
-    (0, [4, 1, 21, 1, 1, 0, 0, 0], Ok(2)),
-    (0, [4, 2, 21, 0, 1, 0, 0, 0], Err(Fault::BadVersion)),
-    (0, [4, 1, 18, 0, 1, 0, 0, 0], Err(Fault::BadFamily)),
-    (0, [4, 2, 18, 0, 0, 0, 0, 0], Err(Fault::BadFamily)),
-    (0, [4, 1, 21, 4, 1, 0, 0, 0], Ok(0)),
-    (0, [4, 1, 21, 0, 0, 0, 0, 0], Err(Fault::BadNumHashes)),
-    (0, [4, 1, 21, 0, 0, 128, 0, 0], Err(Fault::BadNumHashes)),
-    (0, [4, 1, 21, 0, 255, 127, 0, 0], Ok(2)),
-    (16, [0, 0, 0, 0, 0, 0, 0, 0], Err(Fault::BadNumWords)),
-    (
-        16,
-        [255, 255, 255, 255, 0, 0, 0, 0],
-        Err(Fault::BadNumWords),
-    ),
-    (16, [0, 0, 0, 128, 0, 0, 0, 0], Err(Fault::BadNumWords)),
-    (16, [2, 0, 0, 0, 0, 0, 0, 0], Err(Fault::InsufficientData)),
-    (
-        16,
-        [255, 255, 255, 127, 0, 0, 0, 0],
-        Err(Fault::InsufficientData),
-    ),
-    (24, [255; 8], Ok(2)),
-    (24, [3, 0, 0, 0, 0, 0, 0, 0], Err(Fault::BadBitCount)),
-    (24, [10, 0, 0, 0, 0, 0, 0, 0], Err(Fault::BadBitCount)),
-    (32, [7, 0, 0, 0, 0, 0, 0, 0], Err(Fault::BadBitCount)),
-];
-
-#[test]
-fn reads_altered_images(rt: HostRuntime) {
-    for (place, bytes, wanted) in ALTERED {
-        assert!(rt; bits_of_altered(rt.alloc(), place, &bytes) == wanted);
-    }
-}
-
-#[test]
-fn reads_cut_images(rt: HostRuntime) {
-    let short = Err(Error::invalid_data(Fault::InsufficientData));
-    for length in 0..40 {
-        assert!(rt; bits_of(rt.alloc(), &TWO_BITS[..length]) == short);
-    }
-    for length in 0..24 {
-        assert!(rt; bits_of(rt.alloc(), &NO_BITS[..length]) == short);
-    }
-    assert!(rt; bits_of(rt.alloc(), &NO_BITS) == Ok(0));
-}
-
-/// Whether this is the image of a filter.
-fn writes(filter: &BloomFilter, image: &[u8]) -> Result<bool, Error> {
-    Ok(filter.serialize()?.as_slice() == image)
-}
-
-/// Whether the filter of the image of two bits writes it, and then, emptied, the image of no bits.
-fn writes_both(alloc: Global) -> Result<(bool, bool), Error> {
-    let mut filter = BloomFilter::deserialize_with_limit(alloc, &TWO_BITS, 8)?;
-    let is_full = writes(&filter, &TWO_BITS)?;
-    filter.reset();
-    Ok((is_full, writes(&filter, &NO_BITS)?))
-}
-
-/// Whether a filter of many items comes back from its image.
-fn comes_back(alloc: Global) -> Result<bool, Error> {
-    let filter = filled(alloc, 1_048_576, 7, 0, 30_000)?;
-    Ok(laws::restored(alloc, &filter)? == filter)
-}
-
-#[test]
-fn writes_images(rt: HostRuntime) -> Result<(), Fail> {
-    assert!(rt; writes_both(rt.alloc())? == (true, true));
-    let refused = BloomFilter::deserialize_with_limit(rt.alloc(), &NO_BITS, 7).err();
-    assert!(rt; refused == Some(Error::invalid_data(Fault::TableTooLarge)));
-    assert!(rt; comes_back(rt.alloc())?);
-    laws::what_images_say();
-    Ok(())
-}
-
-/// The image of a filter of so many words that are all the same, with this count of its bits, or -1 where that is not
-/// stated.
-fn image_of(alloc: Global, num_words: u8, count: i64, word: u8) -> Result<Vec<u8>, Error> {
-    let mut image = Vec::with_capacity(alloc, 128)?;
-    image.extend_from_slice(&TWO_BITS[..16])?;
-    image.extend_from_slice(&[num_words, 0, 0, 0, 0, 0, 0, 0])?;
-    image.extend_from_slice(&i64::to_le_bytes(count))?;
-    for _ in 0..num_words {
-        image.extend_from_slice(&[word, 0, 0, 0, 0, 0, 0, 0])?;
-    }
-    Ok(image)
-}
-
-/// A filter of such an image.
-fn of_image(alloc: Global, num_words: u8, count: i64, word: u8) -> Result<BloomFilter, Error> {
-    BloomFilter::deserialize(alloc, &image_of(alloc, num_words, count, word)?)
-}
-
-/// A set operation.
-#[derive(Clone, Copy)]
-enum Joins {
-    Union,
-    Intersection,
-    Difference,
-}
-
-/// The image of what comes of a filter whose words are 3 and one whose words are 6.
-fn joined(alloc: Global, joins: Joins, num_words: u8, count: i64) -> Result<Vec<u8>, Error> {
-    let mut left = of_image(alloc, num_words, count, 3)?;
-    let right = of_image(alloc, num_words, count, 6)?;
-    match joins {
-        Joins::Union => left.union(&right)?,
-        Joins::Intersection => left.intersect(&right)?,
-        Joins::Difference => left.difference(&right)?,
-    }
-    left.serialize()
-}
-
-// Of the words 3 and 6 the union is 7, which has three bits, the intersection 2 and the difference 1.
-#[test]
-fn combines_sets_of_images(rt: HostRuntime) -> Result<(), Fail> {
-    for (num_words, count) in [(1, 2), (3, -1), (4, -1), (5, 10), (8, -1), (9, -1)] {
-        for (joins, bits, word) in [
-            (Joins::Union, 3, 7),
-            (Joins::Intersection, 1, 2),
-            (Joins::Difference, 1, 1),
-        ] {
-            let found = joined(rt.alloc(), joins, num_words, count)?;
-            let wanted = image_of(rt.alloc(), num_words, bits * num_words as i64, word)?;
-            assert!(rt; found.as_slice() == wanted.as_slice());
-        }
-    }
-    Ok(())
-}

@@ -1,6 +1,5 @@
-//! A run of a session over numbers, and what is printed. Rows of commands of each kind are lines of the program, in
-//! `tests/sessions.py`.
-use datasketches::{Command, Refusal, Reply, Session};
+//! What is printed. Rows of commands of each kind are lines of the program, in `tests/sessions.py`.
+use datasketches::{Command, Refusal, Session};
 use sketch_base::{Error, Fault};
 use std::alloc::Global;
 use std::test::Fail;
@@ -8,43 +7,6 @@ use std::test::Fail;
 /// A name.
 fn visits(alloc: Global) -> Result<String, Error> {
     Ok(String::from_str(alloc, "visits")?)
-}
-
-/// A sketch, a weight and a question.
-fn commands(alloc: Global) -> Result<[Command<i64>; 3], Error> {
-    let (first, second, third) = (visits(alloc)?, visits(alloc)?, visits(alloc)?);
-    Ok([
-        Command::CreateFrequent {
-            name: first,
-            max_map_size: 8,
-        },
-        Command::Add {
-            name: second,
-            item: -7,
-            weight: 5,
-        },
-        Command::Ask {
-            name: third,
-            item: -7,
-        },
-    ])
-}
-
-/// The replies to these.
-fn replies(alloc: Global) -> Result<Vec<Reply<i64>>, Error> {
-    let commands = Vec::from_array(alloc, commands(alloc)?)?;
-    Session::new(alloc).run(commands)
-}
-
-#[test]
-fn runs_commands(rt: HostRuntime) -> Result<(), Fail> {
-    let bounds = Reply::Bounds {
-        estimate: 5,
-        lower: 5,
-        upper: 5,
-    };
-    assert!(rt; replies(rt.alloc())?.as_slice() == [Reply::Done, Reply::Done, bounds].as_slice());
-    Ok(())
 }
 
 /// A session of one empty sketch.
