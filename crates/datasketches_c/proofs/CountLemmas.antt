@@ -1,13 +1,15 @@
 -- Items that are counted one after another.
 use Rattle.std.proofs.Common.{◌≡◌, ℕ, ◌+◌, ◌-◌, ◌<◌, ◌≤◌, Bool, map, take, get_or, set, inl, inr, get_or-set_same, get_or-set_other, true, false, cond, List, [], ◌∷◌, ◌++◌, length, ℤ, pos, ◌+ℤ◌, sym, ap, ◌∙◌, subst, arith}
-use Rattle.std.specs.Prelude.{◌==◌, count_by, Result, Ok, Err, IsOk, OnOk}
+use Rattle.std.specs.Prelude.{◌==◌, count_by, Option, Result, Ok, Err, IsOk, OnOk}
 use Rattle.std.proofs.lemmas.Int.{ints}
 use Rattle.std.proofs.lemmas.Bool.{cases_eq, false≢true}
-use Rattle.std.proofs.lemmas.List.{length_push, length-map, length-take-le, take-map, map_more, map-set, get_or-map}
+use Rattle.std.proofs.lemmas.List.{map-id, length_push, length-map, length-take-le, take-map, map_more, map-set, get_or-map}
 use Rattle.std.proofs.lemmas.List.Sums.{sum_by_push}
 use Rattle.sketch_countmin.specs.Buckets.{bucket_of}
 use Rattle.sketch_countmin.specs.Rows.{cell_at}
 use Rattle.sketch_countmin.specs.State.{CountState, Counts, CountsAll, IsLeastCell}
+use Rattle.datasketches_c.specs.CountCalls.{EstimatesAll}
+use Rattle.datasketches_c.specs.declared.any_sketch.AnySketch.{AnySketch}
 
 by_test : (t : Bool) (z : ℤ) (n : ℕ) → (z +ℤ pos n) +ℤ cond t (pos 1) (pos 0) ≡ z +ℤ pos (n + cond t 1 0)
 by_test true z n = omega (arith, ints)
@@ -77,3 +79,8 @@ estimates_more number s bytes_of items estimates i d item v there room is so_far
 pub ok_said : {V E : Type 0} (r : Result V E) (P : Type 0) → IsOk r → OnOk r P → P
 ok_said (Ok x) P is said = said
 ok_said (Err e) P is said = absurd (false≢true is)
+
+-- a number with a sign is its own number
+pub own_numbers : {I : Type 0} (part : AnySketch → Option CountState) (old new : Option AnySketch) (result : ℤ) (bytes_of : I → List ℕ) (items : List I) (estimates : List ℤ)
+    → EstimatesAll part old new result bytes_of items (map (λ (x : ℤ). x) estimates) → EstimatesAll part old new result bytes_of items estimates
+own_numbers part old new result bytes_of items estimates said = subst (λ (zs : List ℤ). EstimatesAll part old new result bytes_of items zs) (map-id estimates) said

@@ -1,9 +1,12 @@
 -- Images of Count-Min sketches that are read.
-use Rattle.std.proofs.Common.{◌≡◌, ◌∙◌, refl, ℕ, ◌+◌, ◌*◌, ◌≤◌, Bool, true, false, List, Some, None, ℤ, cond, ap, subst}
+use Rattle.std.proofs.Common.{◌≡◌, ◌∙◌, refl, sym, ℕ, ◌+◌, ◌*◌, ◌≤◌, Bool, true, false, List, Option, Some, None, ℤ, pos, negsuc, cond, ap, subst}
 use Rattle.std.proofs.lemmas.Bool.{le-ltb}
 use Rattle.sketch_base.specs.declared.fault.Fault.TheVariants.{TableTooLarge}
 use Rattle.sketch_countmin.specs.Image as counts
 use Rattle.sketch_countmin.specs.State.{CountState}
+use Rattle.datasketches_c.specs.Kinds.{OfPart, HoldsKind}
+use Rattle.datasketches_c.specs.Numbers.{OnDone, ok}
+use Rattle.datasketches_c.specs.declared.any_sketch.AnySketch.{AnySketch}
 use Rattle.datasketches_c.proofs.Reading.{none_before}
 
 -- what holds of both of two sketches
@@ -21,3 +24,10 @@ no_early_fault_of_counts least greatest size most_bytes seed image s is within =
     let in_image : here ≤ most_bytes = subst (λ (n : ℕ). n ≤ most_bytes) (ap size_of is.value ∙ same) within in
     none_before (counts.early_fault seed image) (counts.limit_fault size most_bytes image) _ is.no_fault
     (ap (λ (t : Bool). cond t (Some TableTooLarge) None) (le-ltb most_bytes here in_image))
+
+-- a handle that was given a sketch of a kind holds it
+pub held_when_done : {S : Type 0} (result : ℤ) (part : AnySketch → Option S) (new : Option AnySketch) (held : AnySketch) (s : S) (P : S → Type 0) → part held ≡ Some s → P s
+    → OnDone result ((result ≡ ok) × (new ≡ Some held)) → OnDone result ((result ≡ ok) × HoldsKind part new P)
+held_when_done {S} (pos n) part new held s P is said done =
+    (done.0, subst (λ (h : Option AnySketch). HoldsKind part h P) (sym done.1) (subst (λ (p : Option S). OfPart part p P) (sym is) said))
+held_when_done {S} (negsuc n) part new held s P is said done = tt

@@ -19,15 +19,42 @@ abbrev pub OnFilter : (old new : Option AnySketch) → ℤ → (FilterState → 
 OnFilter (Some (Filter s)) new result said = said s
 OnFilter old new result said = IsOfNoUse old new result
 
--- the same of a Count-Min sketch in `i64`
+module _ {S : Type 0} (part : AnySketch → Option S) where
+  -- of what a handle has of a kind what is said, and else that the call was refused
+  abbrev pub OnPart : Option S → AnySketch → Option AnySketch → ℤ → (S → Type 0) → Type 0
+  OnPart (Some s) held new result said = said s
+  OnPart None held new result said = (result ≡ wrong_kind) × (new ≡ Some held)
+
+  abbrev pub OnKind : (old new : Option AnySketch) → ℤ → (S → Type 0) → Type 0
+  OnKind None new result said = (result ≡ no_sketch) × (new ≡ None)
+  OnKind (Some held) new result said = OnPart (part held) held new result said
+
+  -- there is a sketch of a kind, of which this holds
+  abbrev pub OfPart : Option S → (S → Type 0) → Type 0
+  OfPart (Some s) said = said s
+  OfPart None said = ⊥
+
+  abbrev pub HoldsKind : Option AnySketch → (S → Type 0) → Type 0
+  HoldsKind (Some held) said = OfPart (part held) said
+  HoldsKind None said = ⊥
+
+-- the Count-Min sketch in `i64` that a sketch of any kind is
+abbrev pub count_i64_of : AnySketch → Option CountState
+count_i64_of (CountI64 s) = Some s
+count_i64_of held = None
+
+-- the same in `u64`
+abbrev pub count_u64_of : AnySketch → Option CountState
+count_u64_of (CountU64 s) = Some s
+count_u64_of held = None
+
+-- of a Count-Min sketch in `i64` what is said, and else that the call was refused
 abbrev pub OnCountI64 : (old new : Option AnySketch) → ℤ → (CountState → Type 0) → Type 0
-OnCountI64 (Some (CountI64 s)) new result said = said s
-OnCountI64 old new result said = IsOfNoUse old new result
+OnCountI64 = OnKind count_i64_of
 
 -- the same of a Count-Min sketch in `u64`
 abbrev pub OnCountU64 : (old new : Option AnySketch) → ℤ → (CountState → Type 0) → Type 0
-OnCountU64 (Some (CountU64 s)) new result said = said s
-OnCountU64 old new result said = IsOfNoUse old new result
+OnCountU64 = OnKind count_u64_of
 
 -- there is a filter, of which this holds
 abbrev pub HoldsFilter : Option AnySketch → (FilterState → Type 0) → Type 0
@@ -36,13 +63,11 @@ HoldsFilter held said = ⊥
 
 -- there is a Count-Min sketch in `i64`, of which this holds
 abbrev pub HoldsCountI64 : Option AnySketch → (CountState → Type 0) → Type 0
-HoldsCountI64 (Some (CountI64 s)) said = said s
-HoldsCountI64 held said = ⊥
+HoldsCountI64 = HoldsKind count_i64_of
 
 -- there is a Count-Min sketch in `u64`, of which this holds
 abbrev pub HoldsCountU64 : Option AnySketch → (CountState → Type 0) → Type 0
-HoldsCountU64 (Some (CountU64 s)) said = said s
-HoldsCountU64 held said = ⊥
+HoldsCountU64 = HoldsKind count_u64_of
 
 -- of a frequent-items sketch of items of type `i64` what is said, and else that the call was refused
 abbrev pub OnFrequentI64 : (old new : Option AnySketch) → ℤ → (FrequentState ℤ → Type 0) → Type 0

@@ -1,4 +1,5 @@
 pub mod Copies
+pub mod CountCalls
 pub mod Estimates
 pub mod FrequentBatches
 pub mod FrequentCalls

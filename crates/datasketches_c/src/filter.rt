@@ -1,23 +1,33 @@
-//! Filters: made, filled and asked.
-ghost use Rattle.std.specs.Prelude.{◌≡◌, ◌≢◌, Some, None, length, map, if◌then◌else◌};
+//! Filters: made, filled, asked, set against others, emptied, described, written and read.
+ghost use Rattle.std.specs.FinSet as set;
 ghost use Rattle.std.specs.Hash as fed;
+ghost use Rattle.std.specs.Prelude.{◌≡◌, ◌≢◌, Some, None, length, map, if◌then◌else◌, ◌+◌, All, ◌*◌, ◌≤◌};
 ghost use Rattle.std.specs.Str.{IsUtf8};
 ghost use Rattle.sketch_base.specs.Errors.{refusal_of};
 ghost use Rattle.sketch_base.specs.Hashes.{fed_bytes};
 ghost use Rattle.sketch_bloom.specs.Building.{request_fault, words_for};
-ghost use Rattle.sketch_bloom.specs.State.{empty_state, contains_item, inserted, all_inserted};
-ghost use Rattle.datasketches_c.specs.Kinds.{OnFilter};
-ghost use Rattle.datasketches_c.specs.Numbers.{OnDone, OnRefused, ok, no, yes, no_room, refusal_number};
+ghost use Rattle.sketch_bloom.specs.Image.{IsImage, IsSpelled, early_fault_within, first_fault_within};
+ghost use Rattle.sketch_bloom.specs.State.{empty_state, contains_item, inserted, all_inserted, IsCompatible, united, intersected, subtracted, capacity_of, cleared};
+ghost use Rattle.datasketches_c.specs.Images.{WritesImage, IsRefusedImage};
+ghost use Rattle.datasketches_c.specs.Joining.{joined};
+ghost use Rattle.datasketches_c.specs.Kinds.{OnFilter, HoldsFilter};
+ghost use Rattle.datasketches_c.specs.Numbers.{OnDone, OnRefused, ok, no, yes, no_room, refusal_number, bad_offsets};
+ghost use Rattle.datasketches_c.specs.Texts.{AreOffsets, AreTexts, texts_of};
 ghost use Rattle.datasketches_c.specs.declared.any_sketch.AnySketch.TheVariants.{Filter};
 
 use crate::any_sketch::AnySketch;
 use crate::handle::SketchHandle;
+use crate::images::copy_out;
 use crate::on_sketch::{ask, change};
-use crate::status_code::{NO, NO_ROOM, OK, YES, refusal_number};
+use crate::status_code::{
+    BAD_OFFSETS, NO, NO_ROOM, NO_SKETCH, OK, WRONG_KIND, YES, refusal_number,
+};
+use crate::texts::{are_offsets, are_utf8, num_texts, text_at};
 use sketch_base::Fault;
-use sketch_bloom::BloomFilterBuilder;
+use sketch_bloom::{BloomFilter, BloomFilterBuilder};
 use std::alloc::Global;
 use std::hash::Hash;
+use std::mem::replace;
 
 /// Makes a filter of at least so many bits in place of what the handle has, which is freed.
 #[unsafe(no_mangle)]
@@ -209,4 +219,297 @@ pub extern "C" fn ds_filter_contains_all_i64(
         filter.contains_all(items, answers);
         OK
     })
+}
+
+/// Inserts each text of a buffer.
+fn insert_texts(filter: &mut BloomFilter, bytes: &[u8], offsets: &[u64])
+    requires { AreTexts bytes.now offsets.now }
+    ensures { filter.new ≡ all_inserted filter.old (map (fed_bytes fed.str) (texts_of bytes.now offsets.now)) }
+{
+    let count = num_texts(bytes, offsets);
+    'each: for i in 0..count {
+        filter.insert(text_at(bytes, offsets, i));
+    }
+}
+
+/// Writes down for each text of a buffer whether the filter contains it.
+fn contains_texts(filter: &BloomFilter, bytes: &[u8], offsets: &[u64], answers: &mut [bool])
+    requires texts { AreTexts bytes.now offsets.now }
+    requires same { length answers.old + 1 ≡ length offsets.now }
+    ensures { answers.new ≡ map (λ text. contains_item filter.now (fed_bytes fed.str text)) (texts_of bytes.now offsets.now) }
+{
+    let count = num_texts(bytes, offsets);
+    'each: for i in 0..count {
+        let text = text_at(bytes, offsets, i);
+        answers[i] = filter.contains(&text);
+    }
+}
+
+/// Inserts many texts, as one after another. They are the bytes between each of the offsets and the next, so there is
+/// one offset more than texts.
+///
+/// Refused with `BAD_OFFSETS` where there is no offset, one is below the one before it, or one passes the end of the
+/// bytes, and with `InvalidUtf8` where some text is not UTF-8. The filter is then as it was.
+#[unsafe(no_mangle)]
+pub extern "C" fn ds_filter_insert_all_text(
+    alloc: Global,
+    handle: &mut SketchHandle,
+    bytes: &[u8],
+    offsets: &[u64],
+) -> i32
+    ensures texts { AreTexts bytes.now offsets.now → OnFilter handle.old.value handle.new.value result (λ s.
+        (result ≡ ok) × (handle.new.value
+        ≡ Some (Filter (all_inserted s (map (fed_bytes fed.str) (texts_of bytes.now offsets.now)))))) }
+    ensures bad_offsets { ¬ AreOffsets bytes.now offsets.now → result ≡ bad_offsets }
+    ensures no_text { AreOffsets bytes.now offsets.now → ¬ All IsUtf8 (texts_of bytes.now offsets.now)
+        → result ≡ refusal_number Fault.InvalidUtf8 }
+    ensures refused { OnRefused result (handle.new.value ≡ handle.old.value) }
+{
+    if !are_offsets(bytes, offsets) {
+        return BAD_OFFSETS;
+    }
+    if !are_utf8(bytes, offsets) {
+        return refusal_number(Fault::InvalidUtf8);
+    }
+    change!(alloc, handle, Filter(filter) => {
+        insert_texts(filter, bytes, offsets);
+        OK
+    })
+}
+
+/// Writes down for each text whether the filter contains it. The texts are the bytes between each of the offsets and
+/// the next, and there are as many answers as texts.
+///
+/// Refused with `BAD_OFFSETS` where there is no offset, one is below the one before it, or one passes the end of the
+/// bytes, then with `NO_ROOM` where there are more or fewer answers than texts, then with `InvalidUtf8` where some text
+/// is not UTF-8. The answers are then as they were.
+#[unsafe(no_mangle)]
+pub extern "C" fn ds_filter_contains_all_text(
+    alloc: Global,
+    handle: &mut SketchHandle,
+    bytes: &[u8],
+    offsets: &[u64],
+    answers: &mut [bool],
+) -> i32
+    ensures kept { handle.new.value ≡ handle.old.value }
+    ensures bad_offsets { ¬ AreOffsets bytes.now offsets.now → result ≡ bad_offsets }
+    ensures no_room { AreOffsets bytes.now offsets.now → length answers.old + 1 ≢ length offsets.now → result ≡ no_room }
+    ensures no_text { AreOffsets bytes.now offsets.now → length answers.old + 1 ≡ length offsets.now
+        → ¬ All IsUtf8 (texts_of bytes.now offsets.now) → result ≡ refusal_number Fault.InvalidUtf8 }
+    ensures answers { AreTexts bytes.now offsets.now → length answers.old + 1 ≡ length offsets.now
+        → OnFilter handle.old.value handle.new.value result (λ s. (result ≡ ok)
+        × (answers.new ≡ map (λ text. contains_item s (fed_bytes fed.str text)) (texts_of bytes.now offsets.now))) }
+    ensures untouched { OnRefused result (answers.new ≡ answers.old) }
+{
+    if !are_offsets(bytes, offsets) {
+        return BAD_OFFSETS;
+    }
+    if answers.len() != offsets.len() - 1 {
+        return NO_ROOM;
+    }
+    if !are_utf8(bytes, offsets) {
+        return refusal_number(Fault::InvalidUtf8);
+    }
+    ask!(alloc, handle, Filter(filter) => {
+        contains_texts(filter, bytes, offsets, answers);
+        OK
+    })
+}
+
+/// What becomes of the first of two filters.
+#[derive(Clone, Copy)]
+pub(crate) enum SetOperation {
+    Union,
+    Intersection,
+    Difference,
+}
+
+fn combine(
+    alloc: Global,
+    handle: &mut SketchHandle,
+    other: &mut SketchHandle,
+    operation: SetOperation,
+) -> i32
+    ensures other { other.new.value ≡ other.old.value }
+    ensures refused { OnRefused result (handle.new.value ≡ handle.old.value) }
+    ensures call { OnFilter handle.old.value handle.new.value result (λ a.
+        OnFilter other.old.value other.new.value result (λ b.
+        (IsCompatible a b → (result ≡ ok) × (handle.new.value ≡ Some (Filter (joined operation a b))))
+        × (¬ IsCompatible a b → result ≡ refusal_number Fault.Mismatch))) }
+{
+    let Some(mut sketch) = replace(handle, SketchHandle::none(alloc)).into_box() else {
+        return NO_SKETCH;
+    };
+    let Some(second) = replace(other, SketchHandle::none(alloc)).into_box() else {
+        let answer = match &*sketch {
+            AnySketch::Filter(_) => NO_SKETCH,
+            _ => WRONG_KIND,
+        };
+        *handle = SketchHandle::of(sketch);
+        return answer;
+    };
+    let answer = match &mut *sketch {
+        AnySketch::Filter(filter) => match &*second {
+            AnySketch::Filter(second) => {
+                let done = match operation {
+                    SetOperation::Union => filter.union(second),
+                    SetOperation::Intersection => filter.intersect(second),
+                    SetOperation::Difference => filter.difference(second),
+                };
+                match done {
+                    Ok(()) => OK,
+                    Err(_) => refusal_number(Fault::Mismatch),
+                }
+            }
+            _ => WRONG_KIND,
+        },
+        _ => WRONG_KIND,
+    };
+    *handle = SketchHandle::of(sketch);
+    *other = SketchHandle::of(second);
+    answer
+}
+
+/// Adds the positions of the other filter's set. The other filter stays.
+#[unsafe(no_mangle)]
+pub extern "C" fn ds_filter_union(
+    alloc: Global,
+    handle: &mut SketchHandle,
+    other: &mut SketchHandle,
+) -> i32
+    ensures other { other.new.value ≡ other.old.value }
+    ensures refused { OnRefused result (handle.new.value ≡ handle.old.value) }
+    ensures call { OnFilter handle.old.value handle.new.value result (λ a.
+        OnFilter other.old.value other.new.value result (λ b.
+        (IsCompatible a b → (result ≡ ok) × (handle.new.value ≡ Some (Filter (united a b))))
+        × (¬ IsCompatible a b → result ≡ refusal_number Fault.Mismatch))) }
+{
+    combine(alloc, handle, other, SetOperation::Union)
+}
+
+/// Keeps only the positions that are also in the other filter's set. The other filter stays.
+#[unsafe(no_mangle)]
+pub extern "C" fn ds_filter_intersect(
+    alloc: Global,
+    handle: &mut SketchHandle,
+    other: &mut SketchHandle,
+) -> i32
+    ensures other { other.new.value ≡ other.old.value }
+    ensures refused { OnRefused result (handle.new.value ≡ handle.old.value) }
+    ensures call { OnFilter handle.old.value handle.new.value result (λ a.
+        OnFilter other.old.value other.new.value result (λ b.
+        (IsCompatible a b → (result ≡ ok) × (handle.new.value ≡ Some (Filter (intersected a b))))
+        × (¬ IsCompatible a b → result ≡ refusal_number Fault.Mismatch))) }
+{
+    combine(alloc, handle, other, SetOperation::Intersection)
+}
+
+/// Takes the positions of the other filter's set away. The other filter stays.
+#[unsafe(no_mangle)]
+pub extern "C" fn ds_filter_difference(
+    alloc: Global,
+    handle: &mut SketchHandle,
+    other: &mut SketchHandle,
+) -> i32
+    ensures other { other.new.value ≡ other.old.value }
+    ensures refused { OnRefused result (handle.new.value ≡ handle.old.value) }
+    ensures call { OnFilter handle.old.value handle.new.value result (λ a.
+        OnFilter other.old.value other.new.value result (λ b.
+        (IsCompatible a b → (result ≡ ok) × (handle.new.value ≡ Some (Filter (subtracted a b))))
+        × (¬ IsCompatible a b → result ≡ refusal_number Fault.Mismatch))) }
+{
+    combine(alloc, handle, other, SetOperation::Difference)
+}
+
+/// A filter's numbers.
+#[repr(C)]
+#[derive(Clone, Copy)]
+pub struct FilterStatus {
+    pub bits_used: u64,
+    pub capacity: u64,
+    pub seed: u64,
+    pub num_hashes: u16,
+}
+
+/// Frees what the handle has, if anything.
+#[unsafe(no_mangle)]
+pub extern "C" fn ds_free(alloc: Global, handle: &mut SketchHandle)
+    ensures { handle.new.value ≡ None }
+{
+    *handle = SketchHandle::none(alloc);
+}
+
+/// Takes all positions out of the filter's set.
+#[unsafe(no_mangle)]
+pub extern "C" fn ds_filter_reset(alloc: Global, handle: &mut SketchHandle) -> i32
+    ensures { OnFilter handle.old.value handle.new.value result (λ s.
+        (result ≡ ok) × (handle.new.value ≡ Some (Filter (cleared s)))) }
+{
+    change!(alloc, handle, Filter(filter) => {
+        filter.reset();
+        OK
+    })
+}
+
+/// Writes down the filter's numbers.
+#[unsafe(no_mangle)]
+pub extern "C" fn ds_filter_status(
+    alloc: Global,
+    handle: &mut SketchHandle,
+    status: &mut FilterStatus,
+) -> i32
+    ensures kept { handle.new.value ≡ handle.old.value }
+    ensures untouched { OnRefused result (status.new ≡ status.old) }
+    ensures numbers { OnFilter handle.old.value handle.new.value result (λ s. (result ≡ ok)
+        × (status.new.bits_used ≡ set.len s.set) × (status.new.capacity ≡ capacity_of s)
+        × (status.new.seed ≡ s.seed) × (status.new.num_hashes ≡ s.num_hashes)) }
+{
+    ask!(alloc, handle, Filter(filter) => {
+        *status = FilterStatus {
+            bits_used: filter.bits_used(),
+            capacity: filter.capacity() as u64,
+            seed: filter.seed(),
+            num_hashes: filter.num_hashes(),
+        };
+        OK
+    })
+}
+
+/// Writes the filter's image to the front of the caller's buffer, and says how long it is, also where there is no room.
+#[unsafe(no_mangle)]
+pub extern "C" fn ds_filter_to_bytes(
+    alloc: Global,
+    handle: &mut SketchHandle,
+    out: &mut [u8],
+    written: &mut usize,
+) -> i32
+    ensures kept { handle.new.value ≡ handle.old.value }
+    ensures untouched { OnRefused result (out.new ≡ out.old) }
+    ensures uncounted { result ≢ ok → result ≢ no_room → written.new ≡ written.old }
+    ensures image { OnFilter handle.old.value handle.new.value result (λ s.
+        WritesImage (λ image. IsSpelled image s) out.old out.new written.new result) }
+{
+    ask!(alloc, handle, Filter(filter) => match filter.serialize() {
+        Ok(image) => copy_out(&image, out, written),
+        Err(error) => refusal_number(error.fault()),
+    })
+}
+
+/// Makes the filter of an image, whose words take at most so many bytes, in place of what the handle has.
+#[unsafe(no_mangle)]
+pub extern "C" fn ds_filter_from_bytes(
+    alloc: Global,
+    handle: &mut SketchHandle,
+    image: &[u8],
+    most_bytes: usize,
+) -> i32
+    ensures done { OnDone result ((result ≡ ok) × HoldsFilter handle.new.value (λ s.
+        IsImage image.now s × (8 * s.num_words ≤ most_bytes))) }
+    ensures refused { OnRefused result ((handle.new.value ≡ handle.old.value) × IsRefusedImage
+        (early_fault_within most_bytes image.now) (first_fault_within most_bytes image.now) result) }
+{
+    match BloomFilter::deserialize_with_limit(alloc, image, most_bytes) {
+        Ok(filter) => handle.put(alloc, AnySketch::Filter(filter)),
+        Err(error) => refusal_number(error.fault()),
+    }
 }

@@ -80,6 +80,21 @@ impl SketchHandle {
         }
     }
 
+    /// Takes the sketch out of the handle.
+    pub(crate) fn take(&mut self, alloc: Global) -> Option<Box<AnySketch>>
+        ensures sketch { MatchOption result (self.old.value ≡ None) (λ boxed. self.old.value ≡ Some boxed.value) }
+        ensures emptied { self.new.value ≡ None }
+    {
+        std::mem::replace(self, SketchHandle::none(alloc)).into_box()
+    }
+
+    /// Gives the handle, which has none, a sketch.
+    pub(crate) fn give(&mut self, sketch: Box<AnySketch>)
+        ensures { self.new.value ≡ Some sketch.value }
+    {
+        *self = SketchHandle::of(sketch);
+    }
+
     /// Puts a sketch in place of what the handle has, which is freed.
     pub(crate) fn put(&mut self, alloc: Global, sketch: AnySketch) -> i32
         ensures done { OnDone result ((result ≡ ok) × (self.new.value ≡ Some sketch)) }

@@ -1,0 +1,10 @@
+use Rattle.std.proofs.Common.{◌≡◌, map, take}
+use Rattle.std.specs.Hash as fed
+use Rattle.sketch_base.specs.Hashes.{fed_bytes}
+use Rattle.sketch_bloom.specs.State.{all_inserted}
+use Rattle.datasketches_c.specs.Texts.{texts_of}
+use Rattle.datasketches_c.proofs.filter.insert_texts.Given as goal
+
+-- the texts so far are inserted
+abbrev pub invariant-each : goal.invariant-each
+invariant-each l = l.filter ≡ all_inserted l.fn.filter (map (fed_bytes fed.str) (take l.i (texts_of l.bytes l.offsets)))

@@ -1,0 +1,59 @@
+use Rattle.std.proofs.Common.{◌≡◌, ◌+◌, ◌<◌, ◌≤◌, ℕ, ℤ, List, [], length, get_or, refl, subst, arith}
+use Rattle.std.specs.Global.{Global}
+use Rattle.std.specs.Prelude.{sum}
+use Rattle.std.specs.declared.string.String.{String}
+use Rattle.sketch_frequencies.specs.State.{FrequentState, TotalHasRoom}
+use Rattle.datasketches_c.specs.FrequentTexts.{UpdatesText}
+use Rattle.datasketches_c.specs.Numbers.{ok, greatest_u64}
+use Rattle.datasketches_c.specs.Texts.{texts_of}
+use Rattle.datasketches_c.proofs.FrequentLemmas.{total_of_text, memory_of_text, adds_refused, adds_done}
+use Rattle.datasketches_c.proofs.InTurnLemmas.{is_done}
+use Rattle.datasketches_c.proofs.WeightLemmas.{one_fits, one_more, pair_more}
+use Rattle.datasketches_c.proofs.frequent.update_texts.Goals as goal
+
+pub returns-then-answer-ne-OK : goal.returns-then-answer-ne-OK
+returns-then-answer-ne-OK c =
+    let texts = texts_of c.args.bytes.now c.args.offsets.now in
+    let weights = c.args.weights.now in
+    let i = c.each.i in
+    let x = c.text_at.result.now in
+    let w : ℕ = get_or weights i 0 in
+    let answer = c.update_text-answer.result in
+    let there : i < length texts = omega arith in
+    let other : i < length weights = omega arith in
+    let same : length weights ≡ length texts = omega arith in
+    let total : c.total_weight.result ≡ c.args.sketch.now.total = c.total_weight.ensures in
+    let fits : c.args.sketch.now.total + sum weights ≤ greatest_u64 = subst (λ (n : ℕ). n + sum weights ≤ greatest_u64) total (c.if-not-weights_fit.ensures.0 refl) in
+    let one_has : c.each.sketch.total + w ≤ greatest_u64 = one_fits (λ (n : ℕ). n) weights i 0 w c.args.sketch.now.total c.each.sketch.total greatest_u64 other refl fits c.each.invariant.total in
+    let room : TotalHasRoom c.each.sketch w = omega arith in
+    let said = c.update_text-answer.ensures in
+    adds_refused UpdatesText c.args.sketch.now texts weights i x [] c.each.sketch c.update_text-answer.new.sketch answer same there c.text_at.ensures fits
+    c.each.invariant.added c.update_text-answer.type_inv said.done said.refused (memory_of_text c.each.sketch x w c.update_text-answer.new.sketch answer room said.updates)
+    c.if-answer-ne-OK.true said.updates
+
+pub each-preserved : goal.each-preserved
+each-preserved c =
+    let texts = texts_of c.args.bytes.now c.args.offsets.now in
+    let weights = c.args.weights.now in
+    let i = c.each.i in
+    let x = c.text_at.result.now in
+    let w : ℕ = get_or weights i 0 in
+    let step : FrequentState (String Global) → List ℕ × ℕ → FrequentState (String Global) → Type 0 = λ s pair t. UpdatesText s pair.0 pair.1 t ok in
+    let there : i < length texts = omega arith in
+    let other : i < length weights = omega arith in
+    let same : length weights ≡ length texts = omega arith in
+    let one : UpdatesText c.each.sketch x w c.update_text-answer.new.sketch ok = subst (λ (z : ℤ). UpdatesText c.each.sketch x w c.update_text-answer.new.sketch z) (is_done c.update_text-answer.result c.update_text-answer.type_inv c.if-answer-ne-OK.false) c.update_text-answer.ensures.updates in
+    record {
+      added = pair_more step texts weights i x [] w 0 c.args.sketch.now c.each.sketch c.update_text-answer.new.sketch same there c.text_at.ensures refl c.each.invariant.added one;
+      total = one_more (λ (n : ℕ). n) weights i 0 w c.args.sketch.now.total c.each.sketch.total c.update_text-answer.new.sketch.total other refl (total_of_text c.each.sketch x w c.update_text-answer.new.sketch one) c.each.invariant.total;
+    }
+
+pub returns : goal.returns
+returns c =
+    let texts = texts_of c.args.bytes.now c.args.offsets.now in
+    let weights = c.args.weights.now in
+    let same : length weights ≡ length texts = omega arith in
+    let total : c.total_weight.result ≡ c.args.sketch.now.total = c.total_weight.ensures in
+    let fits : c.args.sketch.now.total + sum weights ≤ greatest_u64 = subst (λ (n : ℕ). n + sum weights ≤ greatest_u64) total (c.if-not-weights_fit.ensures.0 refl) in
+    let here : length texts ≤ c.each.i = omega arith in
+    adds_done UpdatesText c.args.sketch.now texts weights c.each.i c.each.sketch same here fits c.each.invariant.added

@@ -1,0 +1,15 @@
+use Rattle.std.proofs.Common.{◌≡◌, ◌+◌, ℕ, List, take}
+use Rattle.std.specs.List.{zip}
+use Rattle.std.specs.Prelude.{sum}
+use Rattle.datasketches_c.specs.FrequentTexts.{UpdatesText}
+use Rattle.datasketches_c.specs.InTurn.{InTurn}
+use Rattle.datasketches_c.specs.Numbers.{ok}
+use Rattle.datasketches_c.specs.Texts.{texts_of}
+use Rattle.datasketches_c.proofs.frequent.update_texts.Given as goal
+
+-- the texts so far are added
+abbrev pub invariant-each : goal.invariant-each
+invariant-each l = record {
+  added : InTurn (λ s (pair : List ℕ × ℕ) t. UpdatesText s pair.0 pair.1 t ok) l.fn.sketch (take l.i (zip (texts_of l.bytes l.offsets) l.weights)) l.sketch;
+  total : l.sketch.total ≡ l.fn.sketch.total + sum (take l.i l.weights);
+}

@@ -1,0 +1,475 @@
+//! Count-Min sketches behind handles, whatever the type of the weights.
+ghost use Rattle.std.specs.Prelude.{◌≡◌, ◌≢◌, ◌+◌, ◌*◌, ◌<◌, ◌≤◌, None, Some, length, map, sum_by, unsigned_abs, All};
+ghost use Rattle.std.specs.Hash as fed;
+ghost use Rattle.std.specs.Str.{IsUtf8};
+ghost use Rattle.sketch_base.specs.Errors.{refusal_of};
+ghost use Rattle.sketch_base.specs.Hashes.{fed_bytes};
+ghost use Rattle.sketch_countmin.specs.Image.{IsImage, IsSpelled, early_fault_within, first_fault_within};
+ghost use Rattle.sketch_countmin.specs.Shapes.{shape_fault};
+ghost use Rattle.sketch_countmin.specs.State.{Counts, Joins, SameShape, empty_state};
+ghost use Rattle.datasketches_c.specs.CountCalls.{AddsWeight, AddsEach, AddsWeights, Estimates, EstimatesAll, Bounds, MergesInto, Describes};
+ghost use Rattle.datasketches_c.specs.Estimates.{AreLeastCells};
+ghost use Rattle.datasketches_c.specs.Images.{WritesImage, IsRefusedImage};
+ghost use Rattle.datasketches_c.specs.Kinds.{OnKind, HoldsKind};
+ghost use Rattle.datasketches_c.specs.Numbers.{OnDone, OnRefused, ok, no_room, bad_offsets, refusal_number};
+ghost use Rattle.datasketches_c.specs.Texts.{AreOffsets, AreTexts, texts_of};
+
+use crate::count_images::write_counts;
+use crate::count_texts::{count_texts, estimate_texts};
+use crate::count_weighted::{count_weighted, count_weighted_texts};
+use crate::handle::SketchHandle;
+use crate::kind::{Kind, on_kind};
+use crate::status_code::{BAD_OFFSETS, NO_ROOM, NO_SKETCH, OK, WRONG_KIND, refusal_number};
+use crate::texts::{are_offsets, are_utf8};
+use sketch_base::Fault;
+use sketch_countmin::{CountMinSketch, CountMinValue};
+use std::alloc::Global;
+use std::hash::Hash;
+
+/// The numbers of a Count-Min sketch.
+#[repr(C)]
+#[derive(Clone, Copy)]
+pub struct CountStatus {
+    pub total_weight: u64,
+    pub seed: u64,
+    pub num_buckets: u32,
+    pub num_hashes: u8,
+}
+
+/// Makes a sketch of so many rows, one for each hash, and cells in each row, in place of what the handle has.
+pub(crate) fn new<V: CountMinValue>(
+    alloc: Global,
+    handle: &mut SketchHandle,
+    num_hashes: u8,
+    num_buckets: u32,
+    seed: u64,
+) -> i32
+where
+    CountMinSketch<V>: Kind,
+    ensures done { OnDone result ((result ≡ ok)
+        × (handle.new.value ≡ Some (⟦<CountMinSketch<V> as Kind>⟧.whole (empty_state num_hashes num_buckets seed)))) }
+    ensures accepted { OnDone result (shape_fault num_hashes num_buckets seed ≡ None) }
+    ensures refused { OnRefused result ((handle.new.value ≡ handle.old.value)
+        × (result ≡ refusal_number (refusal_of (shape_fault num_hashes num_buckets seed)).fault)) }
+{
+    match CountMinSketch::<V>::with_seed(alloc, num_hashes, num_buckets, seed) {
+        Ok(sketch) => handle.put(alloc, sketch.into_any()),
+        Err(error) => refusal_number(error.fault()),
+    }
+}
+
+/// Adds a weight to an item's and its distance from 0 to the total of a sketch.
+#[inline(always)]
+fn count<V: CountMinValue, I: Hash + Drop>(
+    sketch: &mut CountMinSketch<V>,
+    item: I,
+    weight: V,
+) -> i32
+    ensures counted { sketch.old.total + unsigned_abs (V.number weight) ≤ V.greatest
+        → (result ≡ ok) × Counts sketch.old (fed_bytes I.hash_input item) (V.number weight) sketch.new }
+    ensures overflow { V.greatest < sketch.old.total + unsigned_abs (V.number weight)
+        → result ≡ refusal_number Fault.WeightOverflow }
+    ensures refused { OnRefused result (sketch.new ≡ sketch.old) }
+{
+    match sketch.update_with_weight(item, weight) {
+        Ok(()) => OK,
+        Err(error) => refusal_number(error.fault()),
+    }
+}
+
+/// Adds a weight to an item's.
+#[inline]
+pub(crate) fn update<V: CountMinValue, I: Hash + Drop>(
+    alloc: Global,
+    handle: &mut SketchHandle,
+    item: I,
+    weight: V,
+) -> i32
+where
+    CountMinSketch<V>: Kind,
+    ensures call { AddsWeight (⟦<CountMinSketch<V> as Kind>⟧.part) V.greatest handle.old.value handle.new.value result (fed_bytes I.hash_input item) (V.number weight) }
+    ensures refused { OnRefused result (handle.new.value ≡ handle.old.value) }
+{
+    on_kind!(alloc, handle, CountMinSketch<V>, sketch => count(sketch, item, weight))
+}
+
+/// Adds 1 to the weight of each item, as far as the total has room.
+#[inline]
+pub(crate) fn update_all<V: CountMinValue, I: Hash>(
+    alloc: Global,
+    handle: &mut SketchHandle,
+    items: &[I],
+) -> i32
+where
+    CountMinSketch<V>: Kind,
+    ensures { AddsEach (⟦<CountMinSketch<V> as Kind>⟧.part) V.greatest handle.old.value handle.new.value result (fed_bytes I.hash_input) items.now }
+{
+    on_kind!(alloc, handle, CountMinSketch<V>, sketch => match sketch.update_all(items) {
+        Ok(()) => OK,
+        Err(error) => refusal_number(error.fault()),
+    })
+}
+
+/// Adds a weight to that of each item, one after another.
+#[inline]
+pub(crate) fn update_all_weighted<V: CountMinValue, I: Hash + Copy>(
+    alloc: Global,
+    handle: &mut SketchHandle,
+    items: &[I],
+    weights: &[V],
+) -> i32
+where
+    CountMinSketch<V>: Kind,
+    ensures no_room { length weights.now ≢ length items.now → result ≡ no_room }
+    ensures call { length weights.now ≡ length items.now
+        → AddsWeights (⟦<CountMinSketch<V> as Kind>⟧.part) V.greatest handle.old.value handle.new.value result (fed_bytes I.hash_input) V.number items.now weights.now (sum_by (λ weight. unsigned_abs (V.number weight)) weights.now) }
+    ensures refused { OnRefused result (handle.new.value ≡ handle.old.value) }
+{
+    if weights.len() != items.len() {
+        return NO_ROOM;
+    }
+    on_kind!(alloc, handle, CountMinSketch<V>, sketch => count_weighted(sketch, items, weights))
+}
+
+/// Writes down the estimate of an item's weight.
+#[inline]
+pub(crate) fn estimate<V: CountMinValue, I: Hash + Drop>(
+    alloc: Global,
+    handle: &mut SketchHandle,
+    item: I,
+    estimate: &mut V,
+) -> i32
+where
+    CountMinSketch<V>: Kind,
+    ensures kept { handle.new.value ≡ handle.old.value }
+    ensures estimate { Estimates (⟦<CountMinSketch<V> as Kind>⟧.part) handle.old.value handle.new.value result (fed_bytes I.hash_input item) (V.number estimate.new) }
+    ensures untouched { OnRefused result (estimate.new ≡ estimate.old) }
+{
+    on_kind!(alloc, handle, CountMinSketch<V>, sketch => {
+        *estimate = sketch.estimate(item);
+        OK
+    })
+}
+
+/// Writes down an upper bound of an item's weight: the estimate and the margin.
+#[inline]
+pub(crate) fn upper_bound<V: CountMinValue, I: Hash + Drop>(
+    alloc: Global,
+    handle: &mut SketchHandle,
+    item: I,
+    bound: &mut V,
+) -> i32
+where
+    CountMinSketch<V>: Kind,
+    ensures kept { handle.new.value ≡ handle.old.value }
+    ensures bound { Bounds (⟦<CountMinSketch<V> as Kind>⟧.part) V.greatest handle.old.value handle.new.value result (fed_bytes I.hash_input item) (V.number bound.new) }
+    ensures untouched { OnRefused result (bound.new ≡ bound.old) }
+{
+    on_kind!(alloc, handle, CountMinSketch<V>, sketch => {
+        *bound = sketch.upper_bound(item);
+        OK
+    })
+}
+
+/// Writes down the estimate of each item's weight in a sketch, and answers the call's number.
+#[inline]
+fn estimates_of<V: CountMinValue, I: Hash>(
+    sketch: &CountMinSketch<V>,
+    items: &[I],
+    estimates: &mut [V],
+) -> i32
+    requires { length estimates.old ≡ length items.now }
+    ensures done { result ≡ ok }
+    ensures length { length estimates.new ≡ length estimates.old }
+    ensures estimates { AreLeastCells sketch.now (fed_bytes I.hash_input) items.now (map V.number estimates.new) }
+{
+    sketch.estimate_all(items, estimates);
+    OK
+}
+
+/// Writes down the estimate of each item's weight. There are as many estimates as items.
+#[inline]
+pub(crate) fn estimate_all<V: CountMinValue, I: Hash>(
+    alloc: Global,
+    handle: &mut SketchHandle,
+    items: &[I],
+    estimates: &mut [V],
+) -> i32
+where
+    CountMinSketch<V>: Kind,
+    ensures kept { handle.new.value ≡ handle.old.value }
+    ensures length { length estimates.new ≡ length estimates.old }
+    ensures no_room { length estimates.old ≢ length items.now
+        → (result ≡ no_room) × (estimates.new ≡ estimates.old) }
+    ensures estimates { length estimates.old ≡ length items.now
+        → EstimatesAll (⟦<CountMinSketch<V> as Kind>⟧.part) handle.old.value handle.new.value result (fed_bytes I.hash_input) items.now (map V.number estimates.new) }
+    ensures untouched { OnRefused result (estimates.new ≡ estimates.old) }
+{
+    if estimates.len() != items.len() {
+        return NO_ROOM;
+    }
+    on_kind!(alloc, handle, CountMinSketch<V>, sketch => estimates_of(sketch, items, estimates))
+}
+
+/// Adds a weight to a text's.
+pub(crate) fn update_text<V: CountMinValue>(
+    alloc: Global,
+    handle: &mut SketchHandle,
+    item: &[u8],
+    weight: V,
+) -> i32
+where
+    CountMinSketch<V>: Kind,
+    ensures text { IsUtf8 item.now
+        → AddsWeight (⟦<CountMinSketch<V> as Kind>⟧.part) V.greatest handle.old.value handle.new.value result (fed_bytes fed.str item.now) (V.number weight) }
+    ensures no_text { ¬ (IsUtf8 item.now) → result ≡ refusal_number Fault.InvalidUtf8 }
+    ensures refused { OnRefused result (handle.new.value ≡ handle.old.value) }
+{
+    let Ok(item) = str::from_utf8(item) else {
+        return refusal_number(Fault::InvalidUtf8);
+    };
+    update(alloc, handle, item, weight)
+}
+
+/// Writes down the estimate of a text's weight.
+pub(crate) fn estimate_text<V: CountMinValue>(
+    alloc: Global,
+    handle: &mut SketchHandle,
+    item: &[u8],
+    estimate: &mut V,
+) -> i32
+where
+    CountMinSketch<V>: Kind,
+    ensures kept { handle.new.value ≡ handle.old.value }
+    ensures text { IsUtf8 item.now
+        → Estimates (⟦<CountMinSketch<V> as Kind>⟧.part) handle.old.value handle.new.value result (fed_bytes fed.str item.now) (V.number estimate.new) }
+    ensures no_text { ¬ (IsUtf8 item.now) → result ≡ refusal_number Fault.InvalidUtf8 }
+    ensures untouched { OnRefused result (estimate.new ≡ estimate.old) }
+{
+    let Ok(item) = str::from_utf8(item) else {
+        return refusal_number(Fault::InvalidUtf8);
+    };
+    crate::count::estimate(alloc, handle, item, estimate)
+}
+
+/// Writes down an upper bound of a text's weight.
+pub(crate) fn upper_bound_text<V: CountMinValue>(
+    alloc: Global,
+    handle: &mut SketchHandle,
+    item: &[u8],
+    bound: &mut V,
+) -> i32
+where
+    CountMinSketch<V>: Kind,
+    ensures kept { handle.new.value ≡ handle.old.value }
+    ensures text { IsUtf8 item.now
+        → Bounds (⟦<CountMinSketch<V> as Kind>⟧.part) V.greatest handle.old.value handle.new.value result (fed_bytes fed.str item.now) (V.number bound.new) }
+    ensures no_text { ¬ (IsUtf8 item.now) → result ≡ refusal_number Fault.InvalidUtf8 }
+    ensures untouched { OnRefused result (bound.new ≡ bound.old) }
+{
+    let Ok(item) = str::from_utf8(item) else {
+        return refusal_number(Fault::InvalidUtf8);
+    };
+    upper_bound(alloc, handle, item, bound)
+}
+
+/// Adds 1 to the weight of each text, as far as the total has room.
+pub(crate) fn update_all_text<V: CountMinValue>(
+    alloc: Global,
+    handle: &mut SketchHandle,
+    bytes: &[u8],
+    offsets: &[u64],
+) -> i32
+where
+    CountMinSketch<V>: Kind,
+    ensures texts { AreTexts bytes.now offsets.now
+        → AddsEach (⟦<CountMinSketch<V> as Kind>⟧.part) V.greatest handle.old.value handle.new.value result (fed_bytes fed.str) (texts_of bytes.now offsets.now) }
+    ensures bad_offsets { ¬ AreOffsets bytes.now offsets.now
+        → (result ≡ bad_offsets) × (handle.new.value ≡ handle.old.value) }
+    ensures no_text { AreOffsets bytes.now offsets.now → ¬ All IsUtf8 (texts_of bytes.now offsets.now)
+        → (result ≡ refusal_number Fault.InvalidUtf8) × (handle.new.value ≡ handle.old.value) }
+{
+    if !are_offsets(bytes, offsets) {
+        return BAD_OFFSETS;
+    }
+    if !are_utf8(bytes, offsets) {
+        return refusal_number(Fault::InvalidUtf8);
+    }
+    on_kind!(alloc, handle, CountMinSketch<V>, sketch => count_texts(sketch, bytes, offsets))
+}
+
+/// Writes down the estimate of each text's weight. There are as many estimates as texts.
+pub(crate) fn estimate_all_text<V: CountMinValue>(
+    alloc: Global,
+    handle: &mut SketchHandle,
+    bytes: &[u8],
+    offsets: &[u64],
+    estimates: &mut [V],
+) -> i32
+where
+    CountMinSketch<V>: Kind,
+    ensures kept { handle.new.value ≡ handle.old.value }
+    ensures length { length estimates.new ≡ length estimates.old }
+    ensures bad_offsets { ¬ AreOffsets bytes.now offsets.now → result ≡ bad_offsets }
+    ensures no_room { AreOffsets bytes.now offsets.now → length estimates.old + 1 ≢ length offsets.now → result ≡ no_room }
+    ensures no_text { AreOffsets bytes.now offsets.now → length estimates.old + 1 ≡ length offsets.now
+        → ¬ All IsUtf8 (texts_of bytes.now offsets.now) → result ≡ refusal_number Fault.InvalidUtf8 }
+    ensures estimates { AreTexts bytes.now offsets.now → length estimates.old + 1 ≡ length offsets.now
+        → EstimatesAll (⟦<CountMinSketch<V> as Kind>⟧.part) handle.old.value handle.new.value result (fed_bytes fed.str) (texts_of bytes.now offsets.now) (map V.number estimates.new) }
+    ensures untouched { OnRefused result (estimates.new ≡ estimates.old) }
+{
+    if !are_offsets(bytes, offsets) {
+        return BAD_OFFSETS;
+    }
+    if estimates.len() != offsets.len() - 1 {
+        return NO_ROOM;
+    }
+    if !are_utf8(bytes, offsets) {
+        return refusal_number(Fault::InvalidUtf8);
+    }
+    on_kind!(alloc, handle, CountMinSketch<V>, sketch => {
+        estimate_texts(sketch, bytes, offsets, estimates);
+        OK
+    })
+}
+
+/// Adds a weight to that of each text, one after another.
+pub(crate) fn update_all_weighted_text<V: CountMinValue>(
+    alloc: Global,
+    handle: &mut SketchHandle,
+    bytes: &[u8],
+    offsets: &[u64],
+    weights: &[V],
+) -> i32
+where
+    CountMinSketch<V>: Kind,
+    ensures bad_offsets { ¬ AreOffsets bytes.now offsets.now → result ≡ bad_offsets }
+    ensures no_room { AreOffsets bytes.now offsets.now → length weights.now + 1 ≢ length offsets.now → result ≡ no_room }
+    ensures no_text { AreOffsets bytes.now offsets.now → length weights.now + 1 ≡ length offsets.now
+        → ¬ All IsUtf8 (texts_of bytes.now offsets.now) → result ≡ refusal_number Fault.InvalidUtf8 }
+    ensures call { AreTexts bytes.now offsets.now → length weights.now + 1 ≡ length offsets.now
+        → AddsWeights (⟦<CountMinSketch<V> as Kind>⟧.part) V.greatest handle.old.value handle.new.value result (fed_bytes fed.str) V.number (texts_of bytes.now offsets.now) weights.now (sum_by (λ weight. unsigned_abs (V.number weight)) weights.now) }
+    ensures refused { OnRefused result (handle.new.value ≡ handle.old.value) }
+{
+    if !are_offsets(bytes, offsets) {
+        return BAD_OFFSETS;
+    }
+    if weights.len() != offsets.len() - 1 {
+        return NO_ROOM;
+    }
+    if !are_utf8(bytes, offsets) {
+        return refusal_number(Fault::InvalidUtf8);
+    }
+    on_kind!(alloc, handle, CountMinSketch<V>, sketch => count_weighted_texts(sketch, bytes, offsets, weights))
+}
+
+/// Adds the other sketch's cells and total to a sketch.
+fn join<V: CountMinValue>(sketch: &mut CountMinSketch<V>, other: &CountMinSketch<V>) -> i32
+    ensures joined { SameShape sketch.old other.now → sketch.old.total + other.now.total ≤ V.greatest
+        → (result ≡ ok) × Joins sketch.old other.now sketch.new }
+    ensures overflow { SameShape sketch.old other.now → V.greatest < sketch.old.total + other.now.total
+        → result ≡ refusal_number Fault.WeightOverflow }
+    ensures mismatch { ¬ SameShape sketch.old other.now → result ≡ refusal_number Fault.Mismatch }
+    ensures refused { OnRefused result (sketch.new ≡ sketch.old) }
+{
+    match sketch.merge(other) {
+        Ok(()) => OK,
+        Err(error) => refusal_number(error.fault()),
+    }
+}
+
+/// Adds the cells and the total of the sketch of another handle to a sketch.
+fn merge_into<V: CountMinValue>(
+    alloc: Global,
+    sketch: &mut CountMinSketch<V>,
+    handle: &mut SketchHandle,
+) -> i32
+where
+    CountMinSketch<V>: Kind,
+    ensures kept { handle.new.value ≡ handle.old.value }
+    ensures call { OnKind (⟦<CountMinSketch<V> as Kind>⟧.part) handle.old.value handle.new.value result (λ b.
+        (SameShape sketch.old b → sketch.old.total + b.total ≤ V.greatest → (result ≡ ok) × Joins sketch.old b sketch.new)
+        × (SameShape sketch.old b → V.greatest < sketch.old.total + b.total → result ≡ refusal_number Fault.WeightOverflow)
+        × (¬ SameShape sketch.old b → result ≡ refusal_number Fault.Mismatch)) }
+    ensures refused { OnRefused result (sketch.new ≡ sketch.old) }
+{
+    on_kind!(alloc, handle, CountMinSketch<V>, other => join(sketch, other))
+}
+
+/// Adds the other sketch's cells and total. The other sketch stays.
+pub(crate) fn merge<V: CountMinValue>(
+    alloc: Global,
+    handle: &mut SketchHandle,
+    other: &mut SketchHandle,
+) -> i32
+where
+    CountMinSketch<V>: Kind,
+    ensures other { other.new.value ≡ other.old.value }
+    ensures refused { OnRefused result (handle.new.value ≡ handle.old.value) }
+    ensures call { MergesInto (⟦<CountMinSketch<V> as Kind>⟧.part) V.greatest handle.old.value handle.new.value result other.old.value other.new.value }
+{
+    on_kind!(alloc, handle, CountMinSketch<V>, sketch => merge_into(alloc, sketch, other))
+}
+
+/// Writes down the sketch's numbers.
+pub(crate) fn status<V: CountMinValue>(
+    alloc: Global,
+    handle: &mut SketchHandle,
+    status: &mut CountStatus,
+) -> i32
+where
+    CountMinSketch<V>: Kind,
+    ensures kept { handle.new.value ≡ handle.old.value }
+    ensures untouched { OnRefused result (status.new ≡ status.old) }
+    ensures numbers { Describes (⟦<CountMinSketch<V> as Kind>⟧.part) handle.old.value handle.new.value result status.new }
+{
+    on_kind!(alloc, handle, CountMinSketch<V>, sketch => {
+        *status = CountStatus {
+            total_weight: sketch.total_weight().to_number() as u64,
+            seed: sketch.seed(),
+            num_buckets: sketch.num_buckets(),
+            num_hashes: sketch.num_hashes(),
+        };
+        OK
+    })
+}
+
+/// Writes the sketch's image to the front of the caller's buffer.
+pub(crate) fn to_bytes<V: CountMinValue>(
+    alloc: Global,
+    handle: &mut SketchHandle,
+    out: &mut [u8],
+    written: &mut usize,
+) -> i32
+where
+    CountMinSketch<V>: Kind,
+    ensures kept { handle.new.value ≡ handle.old.value }
+    ensures untouched { OnRefused result (out.new ≡ out.old) }
+    ensures uncounted { result ≢ ok → result ≢ no_room → written.new ≡ written.old }
+    ensures image { OnKind (⟦<CountMinSketch<V> as Kind>⟧.part) handle.old.value handle.new.value result (λ s.
+        WritesImage (λ image. IsSpelled V.least V.greatest image s) out.old out.new written.new result) }
+{
+    on_kind!(alloc, handle, CountMinSketch<V>, sketch => write_counts(sketch, out, written))
+}
+
+/// Makes the sketch of an image that was written under this seed, in place of what the handle has.
+pub(crate) fn from_bytes<V: CountMinValue>(
+    alloc: Global,
+    handle: &mut SketchHandle,
+    image: &[u8],
+    seed: u64,
+    most_bytes: usize,
+) -> i32
+where
+    CountMinSketch<V>: Kind,
+    ensures done { OnDone result ((result ≡ ok) × HoldsKind (⟦<CountMinSketch<V> as Kind>⟧.part) handle.new.value (λ s.
+        IsImage V.least V.greatest seed image.now s × (s.hashes * s.buckets * V.SIZE + 8 * s.hashes ≤ most_bytes))) }
+    ensures refused { OnRefused result ((handle.new.value ≡ handle.old.value) × IsRefusedImage
+        (early_fault_within V.SIZE most_bytes seed image.now)
+        (first_fault_within V.least V.greatest V.SIZE most_bytes seed image.now) result) }
+{
+    match CountMinSketch::<V>::deserialize_with_seed_and_limit(alloc, image, seed, most_bytes) {
+        Ok(sketch) => handle.put(alloc, sketch.into_any()),
+        Err(error) => refusal_number(error.fault()),
+    }
+}
