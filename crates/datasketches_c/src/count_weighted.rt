@@ -12,14 +12,30 @@ use sketch_base::Fault;
 use sketch_countmin::{CountMinSketch, CountMinValue};
 use std::hash::Hash;
 
+/// How much the total is below the type's greatest number.
+#[inline]
+fn room_of<T: CountMinValue>(sketch: &CountMinSketch<T>) -> u64
+    ensures { sketch.now.total + result ≡ T.greatest }
+{
+    (T::MAX.to_number() - sketch.total_weight().to_number()) as u64
+}
+
+/// A weight's distance from 0.
+#[inline]
+fn size_of<T: CountMinValue>(weight: T) -> u64
+    ensures { result ≡ unsigned_abs (T.number weight) }
+{
+    weight.to_number().unsigned_abs() as u64
+}
+
 /// Whether the total has room for all weights, each as its distance from 0.
 fn weights_fit<T: CountMinValue>(sketch: &CountMinSketch<T>, weights: &[T]) -> bool
     ensures { IsTrue result
         ↔ (sketch.now.total + sum_by (λ weight. unsigned_abs (T.number weight)) weights.now ≤ T.greatest) }
 {
-    let mut room = (T::MAX.to_number() - sketch.total_weight().to_number()) as u64;
+    let mut room = room_of(sketch);
     'each: for i in 0..weights.len() {
-        let size = weights[i].to_number().unsigned_abs() as u64;
+        let size = size_of(weights[i]);
         if size > room {
             return false;
         }
