@@ -3,7 +3,7 @@ ghost use Rattle.std.specs.Prelude.{◌≡◌, Option, Some, None, MatchOption, 
 ghost use Rattle.std.specs.Borrow.{sem, LendsIf};
 ghost use Rattle.datasketches_c.specs.Kinds.{count_i64_of, count_u64_of};
 ghost use Rattle.datasketches_c.specs.contracts.any_sketch.AnySketch as any_sketch;
-ghost use Rattle.datasketches_c.specs.declared.any_sketch.AnySketch.{AnySketch as Any};
+ghost use Rattle.datasketches_c.specs.declared.any_sketch.AnySketch.{AnySketch as OfAnyKind};
 ghost use Rattle.datasketches_c.specs.declared.any_sketch.AnySketch.TheVariants.{CountI64, CountU64};
 
 use crate::any_sketch::AnySketch;
@@ -11,9 +11,9 @@ use sketch_countmin::CountMinSketch;
 
 /// A type of sketches that is one of the kinds.
 pub(crate) trait Kind: Drop {
-    ghost part: { Any → Option Self };
+    ghost part: { OfAnyKind → Option Self };
 
-    ghost whole: { Self → Any };
+    ghost whole: { Self → OfAnyKind };
 
     /// The sketch of this kind, where it is one.
     fn part_of(any: &mut AnySketch) -> Option<&mut Self>
