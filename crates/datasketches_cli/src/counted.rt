@@ -43,18 +43,6 @@ impl<S> Counted<S> {
     {
         self.failures
     }
-
-    /// The stream itself.
-    pub fn into_inner(self) -> S
-        ensures { result ≡ self.inner }
-    {
-        let Counted {
-            inner,
-            failures: _,
-            reads: _,
-        } = self;
-        inner
-    }
 }
 
 /// What a call gave, counted where it failed.

@@ -19,8 +19,6 @@ mod search;
 mod serve;
 mod state;
 mod stopped;
-#[cfg(test)]
-mod tests;
 
 use counted::Counted;
 use serve::{CliFault, Ended};

@@ -49,9 +49,13 @@ fn counts(signed: bool, words: &[&str]) -> Option<Shape>
     let [num_hashes, num_buckets, seed] = words else {
         return None;
     };
-    let num_hashes = number_of_u8(num_hashes)?;
-    let num_buckets = number_of_u32(num_buckets)?;
-    let seed = number_of(seed)?;
+    let (Some(num_hashes), Some(num_buckets), Some(seed)) = (
+        number_of_u8(num_hashes),
+        number_of_u32(num_buckets),
+        number_of(seed),
+    ) else {
+        return None;
+    };
     if signed {
         Some(Shape::CountI64 {
             num_hashes,
@@ -73,9 +77,16 @@ fn bloom(words: &[&str]) -> Option<Shape>
     let [num_bits, num_hashes, seed] = words else {
         return None;
     };
+    let (Some(num_bits), Some(num_hashes), Some(seed)) = (
+        number_of(num_bits),
+        number_of_u16(num_hashes),
+        number_of(seed),
+    ) else {
+        return None;
+    };
     Some(Shape::Bloom {
-        num_bits: number_of(num_bits)?,
-        num_hashes: number_of_u16(num_hashes)?,
-        seed: number_of(seed)?,
+        num_bits,
+        num_hashes,
+        seed,
     })
 }

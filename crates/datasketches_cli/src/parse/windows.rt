@@ -76,9 +76,16 @@ fn hreport(words: &[&str]) -> Option<Request>
     let [tenant, report, threshold] = words else {
         return None;
     };
+    let (Some(tenant), Some(error_type), Some(threshold)) = (
+        number_of(tenant),
+        error_type_of(report),
+        number_of(threshold),
+    ) else {
+        return None;
+    };
     Some(Request::Report {
-        tenant: number_of(tenant)?,
-        error_type: error_type_of(report)?,
-        threshold: number_of(threshold)?,
+        tenant,
+        error_type,
+        threshold,
     })
 }
