@@ -19,7 +19,7 @@ pub entries_of-replicate : {T : Type 0} (n : ℕ) → entries_of (replicate {A =
 entries_of-replicate zero = refl
 entries_of-replicate {T} (suc n) = entries_of-replicate {T = T} n
 
-nothing_at : {T : Type 0} (slots : List (Slot T)) (k : ℕ) (s : Held T) → entries_of slots ≡ [] → slot_at slots k ≡ Some s → ⊥
+pub nothing_at : {T : Type 0} (slots : List (Slot T)) (k : ℕ) (s : Held T) → entries_of slots ≡ [] → slot_at slots k ≡ Some s → ⊥
 nothing_at [] k s h e = cc
 nothing_at (Free ∷ os) zero s h e = cc
 nothing_at (Free ∷ os) (suc k) s h e = nothing_at os k s h e

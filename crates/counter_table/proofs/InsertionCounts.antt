@@ -6,32 +6,33 @@ use Rattle.std.proofs.lemmas.Bool.{cases_Bool}
 use Rattle.std.proofs.lemmas.List.{take-append-le, take_all}
 use Rattle.std.proofs.lemmas.List.Sorted.{length_permutation}
 use Rattle.counter_table.specs.declared.slot.Slot.{Slot}
+use Rattle.counter_table.specs.Fingerprints.{AreFingerprints}
 use Rattle.counter_table.specs.Slots.{entries_of, table_of, IsCounted, IsSlots, IsTableSize}
 use Rattle.counter_table.specs.Tables.{is_tracked, put}
 use Rattle.counter_table.proofs.InsertionPuts.{length_tracked, length_new}
 
-module _ {T : Type 0} (eq : T → T → Bool) (input : T → List (List ℕ)) (old lent new : List (Slot T)) (active : ℕ) (x : T) (w : ℕ) (was : IsCounted eq input old active) (same : lent ≡ old) (ok : IsSlots eq input new) where
+module _ {T : Type 0} (eq : T → T → Bool) (input : T → List (List ℕ)) (old lent new : List (Slot T)) (fingerprints bytes : List ℕ) (active : ℕ) (x : T) (w : ℕ) (was : IsCounted eq input old fingerprints active) (same : lent ≡ old) (ok : IsSlots eq input new) (are : AreFingerprints input new bytes) where
   -- an item that was there got more
-  pub counted_kept : is_tracked eq (entries_of lent) x ≡ true → IsPermutation (put eq (entries_of lent) x w) (entries_of new) → IsCounted eq input new active
+  pub counted_kept : is_tracked eq (entries_of lent) x ≡ true → IsPermutation (put eq (entries_of lent) x w) (entries_of new) → IsCounted eq input new bytes active
   counted_kept t perm =
       let es = entries_of lent in
       let more : length (put eq es x w) ≡ length es = length_tracked eq es x w t in
       let long = ap (λ l. length (entries_of l)) same in
-      record { slots_ok = ok; active_is = omega (arith, was.active_is, long, more, length_permutation _ _ perm) }
+      record { slots_ok = ok; fingerprints_ok = are; active_is = omega (arith, was.active_is, long, more, length_permutation _ _ perm) }
 
   -- one that was not came in
-  pub counted_more : is_tracked eq (entries_of lent) x ≡ false → IsPermutation (put eq (entries_of lent) x w) (entries_of new) → IsCounted eq input new (active + 1)
+  pub counted_more : is_tracked eq (entries_of lent) x ≡ false → IsPermutation (put eq (entries_of lent) x w) (entries_of new) → IsCounted eq input new bytes (active + 1)
   counted_more f perm =
       let es = entries_of lent in
       let more : length (put eq es x w) ≡ length es + 1 = length_new eq es x w f in
       let long = ap (λ l. length (entries_of l)) same in
-      record { slots_ok = ok; active_is = omega (arith, was.active_is, long, more, length_permutation _ _ perm) }
+      record { slots_ok = ok; fingerprints_ok = are; active_is = omega (arith, was.active_is, long, more, length_permutation _ _ perm) }
 
   -- got more where it was there
-  pub counted_adjusted : (b : Bool) → b ≡ is_tracked eq (entries_of lent) x → (b ≡ true → IsPermutation (put eq (entries_of lent) x w) (entries_of new)) → (b ≡ false → new ≡ lent) → IsCounted eq input new active
+  pub counted_adjusted : (b : Bool) → b ≡ is_tracked eq (entries_of lent) x → (b ≡ true → IsPermutation (put eq (entries_of lent) x w) (entries_of new)) → (b ≡ false → new ≡ lent) → IsCounted eq input new bytes active
   counted_adjusted b tracked present absent = elim (cases_Bool b) [
     | inl t ↦ counted_kept (sym tracked ∙ t) (present t)
-    | inr f ↦ record { slots_ok = ok; active_is = was.active_is ∙ ap (λ l. length (entries_of l)) (sym (absent f ∙ same)) }
+    | inr f ↦ record { slots_ok = ok; fingerprints_ok = are; active_is = was.active_is ∙ ap (λ l. length (entries_of l)) (sym (absent f ∙ same)) }
   ]
 
 pub table_size_of : (n m : ℕ) → n ≡ m → IsTrue (is_power_of_two m) → m ≤ 2 ^ 30 → IsTableSize n

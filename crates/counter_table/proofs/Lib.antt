@@ -6,6 +6,7 @@ pub mod InsertionCounts
 pub mod InsertionPuts
 pub mod InsertionWrites
 pub mod LookupBlocks
+pub mod LookupFingerprints
 pub mod LookupHomes
 pub mod LookupProbes
 pub mod LookupReach

@@ -13,12 +13,8 @@ pub some_size : (n : ℕ) → IsTableSize n → 0 < n
 some_size n size = power_positive n size.power
 
 -- a mask takes the remainder
-masked : (x n : ℕ) → IsTableSize n → bit_and x (n - 1) ≡ x % n
+pub masked : (x n : ℕ) → IsTableSize n → bit_and x (n - 1) ≡ x % n
 masked x n size = masked_remainder x n size.power
-
-pub home_masked : (bytes : List ℕ) (hash n : ℕ) → hash ≡ (murmur3_x64_128 bytes 9001).0 → IsTableSize n → bit_and hash (n - 1) ≡ home_of bytes n
-unfolding home_of
-home_masked bytes hash n e size = masked hash n size ∙ ap (λ x. x % n) e
 
 pub next_masked : (p n : ℕ) → IsTableSize n → bit_and (p + 1) (n - 1) ≡ ahead n p 1
 unfolding ahead

@@ -15,9 +15,9 @@ use Rattle.std.specs.List.{concat}
 use Rattle.counter_table.specs.Homes.{home_of}
 use Rattle.counter_table.proofs.LookupHomes.{some_size, home_of-below}
 use Rattle.counter_table.specs.Slots.{Held, entries_of, table_of, slot_at, is_taken, CountHasRoom, IsPlaced, IsSlots}
-use Rattle.counter_table.specs.Probes.{IsPassed, IsProbe, IsGap}
+use Rattle.counter_table.specs.Probes.{IsPassed, IsProbe, IsGap, IsCountAt}
 use Rattle.counter_table.proofs.ArithmeticRing.{ahead_is, ahead-distance}
-use Rattle.counter_table.proofs.LookupReach.{HasFree, free_from_few, is_taken-below, taken_few, taken_within, IsReach-from_free, reach_above}
+use Rattle.counter_table.proofs.LookupReach.{HasFree, free_from_few, is_taken-below, taken_slot, taken_few, taken_within, IsReach-from_free, reach_above}
 
 -- ---- a look-up goes on
 pub IsPassed-none : {T : Type 0} (eq : T → T → Bool) (h : ℕ) (slots : List (Slot T)) (x : T) → IsPassed eq h slots x 0
@@ -41,18 +41,44 @@ IsPassed-more {T} {eq} {h} {slots} {x} {n} p s e f = record {
 pub IsPassed-below : {T : Type 0} {eq : T → T → Bool} {h : ℕ} {slots : List (Slot T)} {x : T} {n : ℕ} → h < length slots → HasFree slots → IsPassed eq h slots x n → n < length slots
 IsPassed-below {T} {eq} {h} {slots} {x} {n} l gap p = taken_few slots h n l gap p.taken
 
--- a look-up ends at x's slot
-pub IsProbe-hit : {T : Type 0} {eq : T → T → Bool} {h : ℕ} {slots : List (Slot T)} {x : T} {n : ℕ} → IsPassed eq h slots x n → n < length slots → (place looked : ℕ) (s : Held T) → place ≡ ahead (length slots) h n → looked ≡ n + 1 → slot_at slots place ≡ Some s → eq x s.item ≡ true → IsProbe eq h slots x place (Some s.count) looked
-IsProbe-hit {T} {eq} {h} {slots} {x} {n} p l place looked s at count e t =
+not_some : (o : Option ℕ) → is_some o ≡ false → o ≡ None
+not_some None h = refl
+not_some (Some v) h = absurd (false≢true (sym h))
+
+-- a look-up goes on, where a taken slot does not hold x
+pub IsPassed-on : {T : Type 0} {eq : T → T → Bool} {h : ℕ} {slots : List (Slot T)} {x : T} {n : ℕ} → IsPassed eq h slots x n → (place : ℕ) (found : Option ℕ) → place ≡ ahead (length slots) h n → is_taken slots place ≡ true → IsCountAt eq slots x place found → is_some found ≡ false → IsPassed eq h slots x (n + 1)
+IsPassed-on {T} {eq} {h} {slots} {x} {n} p place found at some count none =
+    let s = taken_slot (slot_at slots place) some in
+    IsPassed-more p s.0 (ap (slot_at slots) (sym at) ∙ s.1) (count.other (not_some found none) s.0 s.1)
+
+-- a look-up ends at x's slot, or at a free one
+pub IsProbe-ends : {T : Type 0} {eq : T → T → Bool} {h : ℕ} {slots : List (Slot T)} {x : T} {n : ℕ} → IsPassed eq h slots x n → n < length slots → (place looked : ℕ) (found : Option ℕ) → place ≡ ahead (length slots) h n → looked ≡ n + 1 →
+    ((c : ℕ) → found ≡ Some c → (s : Held T) × (slot_at slots place ≡ Some s) × (s.count ≡ c) × (eq x s.item ≡ true)) → (found ≡ None → is_taken slots place ≡ false) → IsProbe eq h slots x place found looked
+IsProbe-ends {T} {eq} {h} {slots} {x} {n} p l place looked found at count here free =
     let same : n ≡ looked - 1 = omega (arith, count) in
     record {
       some = omega (arith, count);
       short = omega (arith, count);
       place_is = at ∙ ap (ahead (length slots) h) same;
       passed = rw (← same) p;
-      here = λ c f. (s, e, cc, t);
-      free = λ f. cc;
+      here = here;
+      free = free;
     }
+
+-- at one that holds x
+pub IsProbe-found : {T : Type 0} {eq : T → T → Bool} {h : ℕ} {slots : List (Slot T)} {x : T} {n : ℕ} → IsPassed eq h slots x n → n < length slots → (place looked : ℕ) (found : Option ℕ) → place ≡ ahead (length slots) h n → looked ≡ n + 1 → IsCountAt eq slots x place found → is_some found ≡ true → IsProbe eq h slots x place found looked
+IsProbe-found p l place looked found at count is there = IsProbe-ends p l place looked found at count is.here (λ none. absurd (false≢true (sym (ap is_some none) ∙ there)))
+
+-- at a free one
+pub IsProbe-free : {T : Type 0} {eq : T → T → Bool} {h : ℕ} {slots : List (Slot T)} {x : T} {n : ℕ} → IsPassed eq h slots x n → n < length slots → (place looked : ℕ) → place ≡ ahead (length slots) h n → looked ≡ n + 1 → is_taken slots place ≡ false → IsProbe eq h slots x place None looked
+IsProbe-free p l place looked at count free = IsProbe-ends p l place looked None at count (λ c e. cc) (λ _. free)
+
+-- ---- the count in a slot
+pub IsCountAt-found : {T : Type 0} (eq : T → T → Bool) (slots : List (Slot T)) (x : T) (place : ℕ) (s : Held T) → slot_at slots place ≡ Some s → eq x s.item ≡ true → IsCountAt eq slots x place (Some s.count)
+IsCountAt-found eq slots x place s e t = record { here = λ c f. (s, e, cc, t); other = λ f. cc }
+
+pub IsCountAt-other : {T : Type 0} (eq : T → T → Bool) (slots : List (Slot T)) (x : T) (place : ℕ) → ((s : Held T) → slot_at slots place ≡ Some s → eq x s.item ≡ false) → IsCountAt eq slots x place None
+IsCountAt-other eq slots x place f = record { here = λ c e. cc; other = λ _. f }
 
 -- ---- the entries, by the slots
 lookup_absent : {T : Type 0} (eq : T → T → Bool) (slots : List (Slot T)) (x : T) → ((k : ℕ) (s : Held T) → slot_at slots k ≡ Some s → eq x s.item ≡ false) → lookup (eq x) (entries_of slots) ≡ None

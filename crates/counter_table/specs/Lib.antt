@@ -1,5 +1,6 @@
 pub mod Bytes
 pub mod Filters
+pub mod Fingerprints
 pub mod Homes
 pub mod Places
 pub mod Probes

@@ -28,3 +28,10 @@ pub record IsGap {T : Type 0} (h : ℕ) (slots : List (Slot T)) (place looked : 
   pub place_is : place ≡ ahead (length slots) h (looked - 1)
   pub taken : (j : ℕ) → j + 1 < looked → is_taken slots (ahead (length slots) h j) ≡ true
   pub free : is_taken slots place ≡ false
+
+-- the count in the slot at a place, if it holds x
+pub record IsCountAt {T : Type 0} (eq : T → T → Bool) (slots : List (Slot T)) (x : T) (place : ℕ) (found : Option ℕ)
+    : Type 0 where
+  pub here :
+      (c : ℕ) → found ≡ Some c → (s : Held T) × (slot_at slots place ≡ Some s) × (s.count ≡ c) × (eq x s.item ≡ true)
+  pub other : found ≡ None → (s : Held T) → slot_at slots place ≡ Some s → eq x s.item ≡ false

@@ -10,6 +10,7 @@
 //! themselves to a caller that writes all entries out, by [`ReversePurgeItemHashMap::slots`].
 #![tactic(auto)]
 
+mod fingerprints;
 mod look_ups;
 mod reverse_purge_item_hash_map;
 mod reverse_purge_item_iter;

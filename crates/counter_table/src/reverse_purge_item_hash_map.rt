@@ -10,6 +10,7 @@ ghost use Rattle.counter_table.specs.Slots.{entries_of};
 ghost use Rattle.counter_table.specs.Tables.{count_of, is_tracked, put, purged, IsSampleMiddle, IsSameMap, PutsEqual};
 ghost use Rattle.counter_table.specs.Walk.{entry_of};
 
+use crate::fingerprints::{FREE, free_fingerprints};
 use crate::reverse_purge_item_iter::ReversePurgeItemIter;
 use crate::sizes::{MAX_SAMPLE_SIZE, bytes_of_table, capacity_of, lg_of};
 use crate::slot::Slot;
@@ -45,6 +46,8 @@ use std::mem;
 #[derive(Debug, Drop)]
 pub struct ReversePurgeItemHashMap<T: Eq + Hash + Drop> {
     slots: Vec<Slot<T>>,
+    // a byte for each slot
+    fingerprints: Vec<u8>,
     active: usize,
 }
 
@@ -57,7 +60,7 @@ impl<T: Eq + Hash + Drop> Model for ReversePurgeItemHashMap<T> {
 
     ghost view = { λ a. table_of a.slots.items };
 
-    ghost invariant = { λ a. IsCounted T.eq T.hash_input a.slots.items a.active };
+    ghost invariant = { λ a. IsCounted T.eq T.hash_input a.slots.items a.fingerprints.items a.active };
 }
 
 impl<T: Eq + Hash + Drop> ReversePurgeItemHashMap<T> {
@@ -71,7 +74,12 @@ impl<T: Eq + Hash + Drop> ReversePurgeItemHashMap<T> {
         ensures err { IfErr result (λ e. e ≡ no_memory) }
     {
         let slots = slots::free_slots(alloc, map_size)?;
-        Ok(ReversePurgeItemHashMap { slots, active: 0 })
+        let fingerprints = free_fingerprints(alloc, map_size)?;
+        Ok(ReversePurgeItemHashMap {
+            slots,
+            fingerprints,
+            active: 0,
+        })
     }
 
     /// The count of the item, 0 where it is absent.
@@ -97,7 +105,7 @@ impl<T: Eq + Hash + Drop> ReversePurgeItemHashMap<T> {
         ensures looked { result.1 ≤ length self.now.entries + 1 }
         ensures within { result.1 ≤ self.now.size }
     {
-        let probe = slots::find(&self.slots, item);
+        let probe = slots::find(&self.slots, &self.fingerprints, item);
         (probe.found.unwrap_or(0), probe.looked)
     }
 
@@ -121,7 +129,7 @@ impl<T: Eq + Hash + Drop> ReversePurgeItemHashMap<T> {
         requires { length counts.old ≡ length items.now }
         ensures { counts.new ≡ map (count_of T.eq self.now.entries) items.now }
     {
-        look_ups::counts_of(&self.slots, items, counts);
+        look_ups::counts_of(&self.slots, &self.fingerprints, items, counts);
     }
 
     /// Adds the amount to the item's count, or inserts the item with it where it is absent, also an amount of 0.
@@ -135,7 +143,7 @@ impl<T: Eq + Hash + Drop> ReversePurgeItemHashMap<T> {
         ensures size { self.new.size ≡ self.old.size }
         ensures distinct { IsDistinct T.eq (keys_of self.new.entries) }
     {
-        if slots::put_in(&mut self.slots, item, adjust_amount) {
+        if slots::put_in(&mut self.slots, &mut self.fingerprints, item, adjust_amount) {
             self.active += 1;
         }
     }
@@ -161,7 +169,7 @@ impl<T: Eq + Hash + Drop> ReversePurgeItemHashMap<T> {
         ensures memory { IfErr result (λ e. e ≡ no_memory) }
         ensures succeeds { is_tracked T.eq self.old.entries item.now ≡ true → IsOk result }
     {
-        if slots::put_clone_in(&mut self.slots, item, adjust_amount)? {
+        if slots::put_clone_in(&mut self.slots, &mut self.fingerprints, item, adjust_amount)? {
             self.active += 1;
         }
         Ok(())
@@ -183,7 +191,7 @@ impl<T: Eq + Hash + Drop> ReversePurgeItemHashMap<T> {
     {
         let size = sample_size.min(self.active.min(MAX_SAMPLE_SIZE));
         let middle = slots::middle_of(&self.slots, size);
-        let removed = slots::lower(&mut self.slots, middle);
+        let removed = slots::lower(&mut self.slots, &mut self.fingerprints, middle);
         self.active -= removed;
         middle
     }
@@ -202,8 +210,10 @@ impl<T: Eq + Hash + Drop> ReversePurgeItemHashMap<T> {
         ensures distinct { IsDistinct T.eq (keys_of self.new.entries) }
     {
         let slots = slots::free_slots(self.allocator(), new_size)?;
+        let fingerprints = free_fingerprints(self.allocator(), new_size)?;
         let old = mem::replace(&mut self.slots, slots);
-        slots::move_all(old, &mut self.slots);
+        self.fingerprints = fingerprints;
+        slots::move_all(old, &mut self.slots, &mut self.fingerprints);
         Ok(())
     }
 
@@ -280,8 +290,10 @@ impl<T: Eq + Hash + Drop> ReversePurgeItemHashMap<T> {
         ensures err { IfErr result (λ e. e ≡ no_memory) }
     {
         let slots = slots::clone_slots(self.allocator(), &self.slots)?;
+        let fingerprints = self.fingerprints.clone()?;
         Ok(ReversePurgeItemHashMap {
             slots,
+            fingerprints,
             active: self.active,
         })
     }
@@ -290,7 +302,7 @@ impl<T: Eq + Hash + Drop> ReversePurgeItemHashMap<T> {
     pub fn look_up(&self, item: &T) -> Option<u64>
         ensures { result ≡ lookup (T.eq item.now) self.now.entries }
     {
-        slots::find(&self.slots, item).found
+        slots::find(&self.slots, &self.fingerprints, item).found
     }
 
     /// Adds to the item's count where it has an entry, and answers whether it has. The sum has to fit.
@@ -304,7 +316,7 @@ impl<T: Eq + Hash + Drop> ReversePurgeItemHashMap<T> {
         ensures size { self.new.size ≡ self.old.size }
         ensures distinct { IsDistinct T.eq (keys_of self.new.entries) }
     {
-        slots::adjust_in(&mut self.slots, item, adjust_amount)
+        slots::adjust_in(&mut self.slots, &self.fingerprints, item, adjust_amount)
     }
 
     /// Inserts an item that is absent. A slot has to stay free behind it.
@@ -315,7 +327,7 @@ impl<T: Eq + Hash + Drop> ReversePurgeItemHashMap<T> {
         ensures size { self.new.size ≡ self.old.size }
         ensures distinct { IsDistinct T.eq (keys_of self.new.entries) }
     {
-        slots::insert_in(&mut self.slots, item, amount);
+        slots::insert_in(&mut self.slots, &mut self.fingerprints, item, amount);
         self.active += 1;
     }
 
@@ -328,6 +340,8 @@ impl<T: Eq + Hash + Drop> ReversePurgeItemHashMap<T> {
     {
         self.slots.truncate(size);
         slots::free_all(&mut self.slots);
+        self.fingerprints.truncate(size);
+        self.fingerprints.fill(FREE);
         self.active = 0;
     }
 

@@ -7,15 +7,17 @@ ghost use Rattle.std.specs.Prelude.{◌≡◌, ℕ, ◌+◌, ◌-◌, ◌<◌, �
 ghost use Rattle.std.specs.List.{IsDistinct, AllZip};
 ghost use Rattle.std.specs.Map.{keys_of};
 ghost use Rattle.sketch_base.specs.Errors.{no_memory};
+ghost use Rattle.counter_table.specs.Fingerprints.{hash_in, fingerprint_of, AreFingerprints};
 ghost use Rattle.counter_table.specs.Homes.{home_in, ahead};
 ghost use Rattle.counter_table.specs.Probes.{IsProbe, IsGap};
 ghost use Rattle.counter_table.specs.Settled.{HasDrift, Settles};
 ghost use Rattle.counter_table.specs.Slots.{IsTableSize, IsPlaced, IsSlots, IsSameSlot, CountHasRoom, AddsAt, entries_of, is_taken};
 ghost use Rattle.counter_table.specs.Tables.{count_of, is_tracked, put, purged, IsSampleMiddle, PutsEqual};
 
+use crate::fingerprints::{FREE, count_at, fingerprint, hash_of, home, look_at};
 use crate::sizes::MAX_SAMPLE_SIZE;
 use crate::slot::Slot;
-use sketch_base::{DEFAULT_UPDATE_SEED, Error, murmur3_of};
+use sketch_base::Error;
 use std::alloc::Global;
 use std::hash::Hash;
 use std::mem;
@@ -36,15 +38,6 @@ pub(crate) struct Probe {
 pub(crate) struct Gap {
     place: usize,
     looked: usize,
-}
-
-/// The home of the item in a table of this size.
-#[inline(always)]
-pub(crate) fn home<T: Hash>(item: &T, size: usize) -> usize
-    requires { IsTableSize size }
-    ensures { result ≡ home_in T.hash_input size item.now }
-{
-    murmur3_of(item, DEFAULT_UPDATE_SEED).0 as usize & (size - 1)
 }
 
 /// The place after this one.
@@ -79,7 +72,7 @@ fn before(place: usize, back: usize, size: usize) -> usize
     (place + (size - back)) & (size - 1)
 }
 
-/// Looks at a slot, and counts it. Look-ups and walks read slots by this call alone.
+/// Looks at a slot, and counts it. Walks read slots by this call alone.
 #[inline(always)]
 pub(crate) fn look<'a, T>(slots: &'a [Slot<T>], place: usize, looked: &mut usize) -> &'a Slot<T>
     requires place { place < length slots.now }
@@ -93,71 +86,75 @@ pub(crate) fn look<'a, T>(slots: &'a [Slot<T>], place: usize, looked: &mut usize
 
 /// Looks the item up from its home on.
 #[inline(always)]
-pub(crate) fn find<T: Eq + Hash>(slots: &[Slot<T>], item: &T) -> Probe
+pub(crate) fn find<T: Eq + Hash>(slots: &[Slot<T>], fingerprints: &[u8], item: &T) -> Probe
     requires size { IsTableSize (length slots.now) }
     requires room { length (entries_of slots.now) < length slots.now }
     requires placed { IsPlaced (home_in T.hash_input (length slots.now)) slots.now }
+    requires fingerprints { AreFingerprints T.hash_input slots.now fingerprints.now }
     ensures { IsProbe T.eq (home_in T.hash_input (length slots.now) item.now) slots.now item.now
         result.place result.found result.looked }
 {
-    find_from(slots, item, home(item, slots.len()))
+    find_from(slots, fingerprints, item, hash_of(item))
 }
 
-/// Looks the item up, whose home is known.
+/// Looks the item up, whose hash is known.
 #[inline(always)]
-pub(crate) fn find_from<T: Eq + Hash>(slots: &[Slot<T>], item: &T, home: usize) -> Probe
+pub(crate) fn find_from<T: Eq + Hash>(
+    slots: &[Slot<T>],
+    fingerprints: &[u8],
+    item: &T,
+    hash: u64,
+) -> Probe
     requires size { IsTableSize (length slots.now) }
     requires room { length (entries_of slots.now) < length slots.now }
     requires placed { IsPlaced (home_in T.hash_input (length slots.now)) slots.now }
-    requires home { home ≡ home_in T.hash_input (length slots.now) item.now }
+    requires fingerprints { AreFingerprints T.hash_input slots.now fingerprints.now }
+    requires hash { hash ≡ hash_in T.hash_input item.now }
     ensures { IsProbe T.eq (home_in T.hash_input (length slots.now) item.now) slots.now item.now
         result.place result.found result.looked }
 {
     let size = slots.len();
-    let mut place = home;
+    let mut place = home(hash, size);
     let mut looked = 0;
     'probe: loop {
-        match look(slots, place, &mut looked) {
-            Slot::Taken {
-                count,
-                item: there,
-                ..
-            } => {
-                if *item == *there {
-                    return Probe {
-                        place,
-                        found: Some(*count),
-                        looked,
-                    };
-                }
-            }
-            Slot::Free => {
-                return Probe {
-                    place,
-                    found: None,
-                    looked,
-                };
-            }
+        let seen = look_at(fingerprints, place, &mut looked);
+        if seen == FREE {
+            return Probe {
+                place,
+                found: None,
+                looked,
+            };
+        }
+        let found = count_at(slots, fingerprints, item, hash, place, seen);
+        if found.is_some() {
+            return Probe {
+                place,
+                found,
+                looked,
+            };
         }
         place = next(place, size);
     }
 }
 
-/// Looks for the first free slot from the item's home on.
+/// Looks for the first free slot from the home of an item with this hash on.
 #[inline(always)]
-pub(crate) fn find_free<T: Hash>(slots: &[Slot<T>], item: &T) -> Gap
+pub(crate) fn find_free<T: Hash>(slots: &[Slot<T>], fingerprints: &[u8], item: &T, hash: u64) -> Gap
     requires size { IsTableSize (length slots.now) }
     requires room { length (entries_of slots.now) < length slots.now }
+    requires fingerprints { AreFingerprints T.hash_input slots.now fingerprints.now }
+    requires hash { hash ≡ hash_in T.hash_input item.now }
     ensures { IsGap (home_in T.hash_input (length slots.now) item.now) slots.now result.place result.looked }
 {
-    find_free_from(slots, item, home(item, slots.len()))
+    find_free_from(slots, fingerprints, item, home(hash, slots.len()))
 }
 
 /// The same for an item whose home is known.
 #[inline(always)]
-fn find_free_from<T: Hash>(slots: &[Slot<T>], _item: &T, home: usize) -> Gap
+fn find_free_from<T: Hash>(slots: &[Slot<T>], fingerprints: &[u8], _item: &T, home: usize) -> Gap
     requires size { IsTableSize (length slots.now) }
     requires room { length (entries_of slots.now) < length slots.now }
+    requires fingerprints { AreFingerprints T.hash_input slots.now fingerprints.now }
     requires home { home ≡ home_in T.hash_input (length slots.now) _item.now }
     ensures { IsGap (home_in T.hash_input (length slots.now) _item.now) slots.now result.place result.looked }
 {
@@ -165,7 +162,7 @@ fn find_free_from<T: Hash>(slots: &[Slot<T>], _item: &T, home: usize) -> Gap
     let mut place = home;
     let mut looked = 0;
     'probe: loop {
-        if let Slot::Free = look(slots, place, &mut looked) {
+        if look_at(fingerprints, place, &mut looked) == FREE {
             return Gap { place, looked };
         }
         place = next(place, size);
@@ -184,19 +181,34 @@ pub(crate) fn add_at<T>(slots: &mut [Slot<T>], place: usize, amount: u64)
     }
 }
 
-/// Fills a slot.
+/// Fills a slot, and writes its fingerprint down.
 #[inline(always)]
-fn fill<T: Drop>(slots: &mut [Slot<T>], place: usize, slot: Slot<T>)
-    requires { place < length slots.old }
-    ensures { slots.new ≡ slice_set slots.old place slot }
+fn fill<T: Drop>(
+    slots: &mut [Slot<T>],
+    fingerprints: &mut [u8],
+    place: usize,
+    slot: Slot<T>,
+    fingerprint: u8,
+)
+    requires place { place < length slots.old }
+    requires same { length fingerprints.old ≡ length slots.old }
+    ensures slots { slots.new ≡ slice_set slots.old place slot }
+    ensures fingerprints { fingerprints.new ≡ slice_set fingerprints.old place fingerprint }
 {
     slots[place] = slot;
+    fingerprints[place] = fingerprint;
 }
 
 /// Adds to the item's count, and answers whether it has one.
 #[inline(always)]
-pub(crate) fn adjust_in<T: Eq + Hash>(slots: &mut [Slot<T>], item: &T, amount: u64) -> bool
+pub(crate) fn adjust_in<T: Eq + Hash>(
+    slots: &mut [Slot<T>],
+    fingerprints: &[u8],
+    item: &T,
+    amount: u64,
+) -> bool
     requires slots { IsSlots T.eq T.hash_input slots.old }
+    requires fingerprints { AreFingerprints T.hash_input slots.old fingerprints.now }
     requires fits { is_tracked T.eq (entries_of slots.old) item.now ≡ true
         → count_of T.eq (entries_of slots.old) item.now + amount < 2 ^ 64 }
     ensures tracked { result ≡ is_tracked T.eq (entries_of slots.old) item.now }
@@ -204,8 +216,9 @@ pub(crate) fn adjust_in<T: Eq + Hash>(slots: &mut [Slot<T>], item: &T, amount: u
     ensures present { result ≡ true
         → IsPermutation (put T.eq (entries_of slots.old) item.now amount) (entries_of slots.new) }
     ensures absent { result ≡ false → slots.new ≡ slots.old }
+    ensures fingerprints { AreFingerprints T.hash_input slots.new fingerprints.now }
 {
-    let probe = find(slots, item);
+    let probe = find(slots, fingerprints, item);
     match probe.found {
         Some(_) => {
             add_at(slots, probe.place, amount);
@@ -217,26 +230,40 @@ pub(crate) fn adjust_in<T: Eq + Hash>(slots: &mut [Slot<T>], item: &T, amount: u
 
 /// Puts an item that is absent into the first free slot from its home on.
 #[inline(always)]
-pub(crate) fn insert_in<T: Eq + Hash + Drop>(slots: &mut [Slot<T>], item: T, amount: u64)
+pub(crate) fn insert_in<T: Eq + Hash + Drop>(
+    slots: &mut [Slot<T>],
+    fingerprints: &mut [u8],
+    item: T,
+    amount: u64,
+)
     requires slots { IsSlots T.eq T.hash_input slots.old }
+    requires fingerprints { AreFingerprints T.hash_input slots.old fingerprints.old }
     requires absent { is_tracked T.eq (entries_of slots.old) item ≡ false }
     requires room { length (entries_of slots.old) + 1 < length slots.old }
     ensures slots { IsSlots T.eq T.hash_input slots.new }
     ensures entries { IsPermutation (put T.eq (entries_of slots.old) item amount) (entries_of slots.new) }
+    ensures fingerprints { AreFingerprints T.hash_input slots.new fingerprints.new }
 {
-    let gap = find_free(slots, &item);
+    let hash = hash_of(&item);
+    let gap = find_free(slots, fingerprints, &item, hash);
     let slot = Slot::Taken {
         drift: gap.looked as u32,
         count: amount,
         item,
     };
-    fill(slots, gap.place, slot);
+    fill(slots, fingerprints, gap.place, slot, fingerprint(hash));
 }
 
 /// Adds to the item's count, or puts the item where its look-up ended, and answers whether it was put there.
 #[inline(always)]
-pub(crate) fn put_in<T: Eq + Hash + Drop>(slots: &mut [Slot<T>], item: T, amount: u64) -> bool
+pub(crate) fn put_in<T: Eq + Hash + Drop>(
+    slots: &mut [Slot<T>],
+    fingerprints: &mut [u8],
+    item: T,
+    amount: u64,
+) -> bool
     requires slots { IsSlots T.eq T.hash_input slots.old }
+    requires fingerprints { AreFingerprints T.hash_input slots.old fingerprints.old }
     requires room { is_tracked T.eq (entries_of slots.old) item ≡ false
         → length (entries_of slots.old) + 1 < length slots.old }
     requires fits { is_tracked T.eq (entries_of slots.old) item ≡ true
@@ -244,8 +271,10 @@ pub(crate) fn put_in<T: Eq + Hash + Drop>(slots: &mut [Slot<T>], item: T, amount
     ensures tracked { is_tracked T.eq (entries_of slots.old) item ≡ not result }
     ensures slots { IsSlots T.eq T.hash_input slots.new }
     ensures entries { IsPermutation (put T.eq (entries_of slots.old) item amount) (entries_of slots.new) }
+    ensures fingerprints { AreFingerprints T.hash_input slots.new fingerprints.new }
 {
-    let probe = find(slots, &item);
+    let hash = hash_of(&item);
+    let probe = find_from(slots, fingerprints, &item, hash);
     match probe.found {
         Some(_) => {
             add_at(slots, probe.place, amount);
@@ -257,7 +286,7 @@ pub(crate) fn put_in<T: Eq + Hash + Drop>(slots: &mut [Slot<T>], item: T, amount
                 count: amount,
                 item,
             };
-            fill(slots, probe.place, slot);
+            fill(slots, fingerprints, probe.place, slot, fingerprint(hash));
             true
         }
     }
@@ -268,11 +297,13 @@ pub(crate) fn put_in<T: Eq + Hash + Drop>(slots: &mut [Slot<T>], item: T, amount
 #[inline(always)]
 pub(crate) fn put_clone_in<T: Eq + Hash + Clone + Drop>(
     slots: &mut [Slot<T>],
+    fingerprints: &mut [u8],
     item: &T,
     amount: u64,
 ) -> Result<bool, Error>
     requires clones { (x y : T) → T.is_clone x y → IsTrue (T.eq x y) }
     requires slots { IsSlots T.eq T.hash_input slots.old }
+    requires fingerprints { AreFingerprints T.hash_input slots.old fingerprints.old }
     requires room { is_tracked T.eq (entries_of slots.old) item.now ≡ false
         → length (entries_of slots.old) + 1 < length slots.old }
     requires fits { is_tracked T.eq (entries_of slots.old) item.now ≡ true
@@ -283,8 +314,11 @@ pub(crate) fn put_clone_in<T: Eq + Hash + Clone + Drop>(
     ensures err { OnErr result (slots.new ≡ slots.old) }
     ensures memory { IfErr result (λ e. e ≡ no_memory) }
     ensures succeeds { is_tracked T.eq (entries_of slots.old) item.now ≡ true → IsOk result }
+    ensures fingerprints { AreFingerprints T.hash_input slots.new fingerprints.new }
+    ensures kept { OnErr result (fingerprints.new ≡ fingerprints.old) }
 {
-    let probe = find(slots, item);
+    let hash = hash_of(item);
+    let probe = find_from(slots, fingerprints, item, hash);
     match probe.found {
         Some(_) => {
             add_at(slots, probe.place, amount);
@@ -297,7 +331,7 @@ pub(crate) fn put_clone_in<T: Eq + Hash + Clone + Drop>(
                 count: amount,
                 item: clone,
             };
-            fill(slots, probe.place, slot);
+            fill(slots, fingerprints, probe.place, slot, fingerprint(hash));
             Ok(true)
         }
     }
@@ -331,13 +365,22 @@ fn last_free<T>(slots: &[Slot<T>]) -> usize
 /// Takes `amount` from the count in a slot, if it is greater, and moves the entry to the first free slot from its home
 /// on: at the latest that where it stood. Else frees the slot. Answers whether an entry was dropped.
 #[inline(always)]
-fn settle<T: Hash + Drop>(slots: &mut [Slot<T>], place: usize, amount: u64) -> bool
+fn settle<T: Hash + Drop>(
+    slots: &mut [Slot<T>],
+    fingerprints: &mut [u8],
+    place: usize,
+    amount: u64,
+) -> bool
     requires size { IsTableSize (length slots.old) }
+    requires fingerprints { AreFingerprints T.hash_input slots.old fingerprints.old }
     requires place { place < length slots.old }
     requires drift { HasDrift (home_in T.hash_input (length slots.old)) slots.old place }
-    ensures { Settles (home_in T.hash_input (length slots.old)) slots.old place amount result slots.new }
+    ensures slots { Settles (home_in T.hash_input (length slots.old)) slots.old place amount result slots.new }
+    ensures fingerprints { AreFingerprints T.hash_input slots.new fingerprints.new }
 {
     let size = slots.len();
+    let moving = fingerprints[place];
+    fingerprints[place] = FREE;
     match mem::replace(&mut slots[place], Slot::Free) {
         Slot::Free => false,
         Slot::Taken { drift, count, item } => {
@@ -345,13 +388,13 @@ fn settle<T: Hash + Drop>(slots: &mut [Slot<T>], place: usize, amount: u64) -> b
                 return true;
             }
             let home = before(place, drift as usize - 1, size);
-            let Gap { place: to, looked } = find_free_from(slots, &item, home);
+            let Gap { place: to, looked } = find_free_from(slots, fingerprints, &item, home);
             let slot = Slot::Taken {
                 drift: looked as u32,
                 count: count - amount,
                 item,
             };
-            fill(slots, to, slot);
+            fill(slots, fingerprints, to, slot, moving);
             false
         }
     }
@@ -362,18 +405,24 @@ fn settle<T: Hash + Drop>(slots: &mut [Slot<T>], place: usize, amount: u64) -> b
 /// One sweep goes up from behind a free slot, round the end. What stands behind that slot has its home behind it too, so
 /// all places from an entry's home on to its slot have been settled when its turn comes: the entries that stay come to
 /// stand as if they alone were put into an empty table, in this order.
-pub(crate) fn lower<T: Eq + Hash + Drop>(slots: &mut [Slot<T>], amount: u64) -> usize
-    requires { IsSlots T.eq T.hash_input slots.old }
+pub(crate) fn lower<T: Eq + Hash + Drop>(
+    slots: &mut [Slot<T>],
+    fingerprints: &mut [u8],
+    amount: u64,
+) -> usize
+    requires slots { IsSlots T.eq T.hash_input slots.old }
+    requires fingerprints { AreFingerprints T.hash_input slots.old fingerprints.old }
     ensures slots { IsSlots T.eq T.hash_input slots.new }
     ensures entries { IsPermutation (purged amount (entries_of slots.old)) (entries_of slots.new) }
     ensures removed { result + length (entries_of slots.new) ≡ length (entries_of slots.old) }
+    ensures fingerprints { AreFingerprints T.hash_input slots.new fingerprints.new }
 {
     let size = slots.len();
     let free = last_free(slots);
     let mut removed = 0;
     for on in 1..size {
         let place = after(free, on, size);
-        if settle(slots, place, amount) {
+        if settle(slots, fingerprints, place, amount) {
             removed += 1;
         }
     }
@@ -456,17 +505,23 @@ pub(crate) fn free_all<T: Drop>(slots: &mut [Slot<T>])
 }
 
 /// Moves all entries of `old` into slots that are free.
-pub(crate) fn move_all<T: Eq + Hash + Drop>(old: Vec<Slot<T>>, slots: &mut [Slot<T>])
+pub(crate) fn move_all<T: Eq + Hash + Drop>(
+    old: Vec<Slot<T>>,
+    slots: &mut [Slot<T>],
+    fingerprints: &mut [u8],
+)
     requires distinct { IsDistinct T.eq (keys_of (entries_of old.items)) }
     requires room { length (entries_of old.items) < length slots.old }
     requires size { IsTableSize (length slots.old) }
     requires free { entries_of slots.old ≡ [] }
+    requires fingerprints { AreFingerprints T.hash_input slots.old fingerprints.old }
     ensures slots { IsSlots T.eq T.hash_input slots.new }
     ensures entries { IsPermutation (entries_of old.items) (entries_of slots.new) }
+    ensures fingerprints { AreFingerprints T.hash_input slots.new fingerprints.new }
 {
     for slot in old {
         if let Slot::Taken { count, item, .. } = slot {
-            insert_in(slots, item, count);
+            insert_in(slots, fingerprints, item, count);
         }
     }
 }

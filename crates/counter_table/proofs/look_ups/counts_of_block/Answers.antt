@@ -1,35 +1,33 @@
-use Rattle.std.proofs.Common.{◌≡◌, ◌+◌, ◌<◌, ℕ, List, map, length, take, get_or, set, refl, sym, ap, ◌∙◌, subst, arith}
+use Rattle.std.proofs.Common.{◌≡◌, ◌+◌, ◌%◌, ℕ, List, map, length, take, get_or, set, refl, ap, ◌∙◌, arith}
 use Rattle.std.proofs.lemmas.List.{length-map, get_or-map, get_or-set_other}
 use Rattle.sketch_base.specs.Batches.{written_more, written_all}
-use Rattle.counter_table.specs.Homes.{home_in}
+use Rattle.counter_table.specs.Fingerprints.{hash_in}
 use Rattle.counter_table.specs.Slots.{entries_of}
 use Rattle.counter_table.specs.Tables.{count_of}
-use Rattle.counter_table.proofs.LookupBlocks.{mark_of, homes_within}
+use Rattle.counter_table.proofs.LookupBlocks.{mark_of, home_within}
 use Rattle.counter_table.proofs.look_ups.counts_of_block.Goals as goal
 
 pub marks-init : goal.marks-init
 marks-init g c = refl
 
 pub mark_at-requires : goal.mark_at-requires
-mark_at-requires g c =
-    let n : ℕ = length c.args.slots.now in
-    subst (λ (hs : List ℕ). get_or hs c.marks.i 0 < n) (sym c.requires.homes) (homes_within g.T.Hash.hash_input n c.requires.slots.size c.args.items.now c.marks.i c.marks-test.true)
+mark_at-requires g c = rw c.home-place.ensures (home_within _ (length c.args.slots.now) c.requires.slots.size)
 
 pub marks-preserved : goal.marks-preserved
 marks-preserved g c =
-    let homes = ap length c.requires.homes ∙ length-map c.args.items.now (home_in g.T.Hash.hash_input (length c.args.slots.now)) in
-    let f : ℕ → ℕ = mark_of c.args.slots.now in
-    ap (λ (n : ℕ). take (c.marks.i + 1) (set c.marks.counts c.marks.i n)) c.mark_at.ensures
-    ∙ written_more f c.args.homes.now c.marks.counts c.marks.i 0 (omega (arith, homes)) (omega arith) c.marks.invariant
+    let hashes = ap length c.requires.hashes ∙ length-map c.args.items.now (hash_in g.T.Hash.hash_input) in
+    let f : ℕ → ℕ = λ h. mark_of c.args.slots.now (h % length c.args.slots.now) in
+    ap (λ (n : ℕ). take (c.marks.i + 1) (set c.marks.counts c.marks.i n)) (c.mark_at.ensures ∙ ap (mark_of c.args.slots.now) c.home-place.ensures)
+    ∙ written_more f c.args.hashes.now c.marks.counts c.marks.i 0 (omega (arith, hashes)) (omega arith) c.marks.invariant
 
 pub counts-init : goal.counts-init
 counts-init g c =
-    let homes = ap length c.requires.homes ∙ length-map c.args.items.now (home_in g.T.Hash.hash_input (length c.args.slots.now)) in
-    let f : ℕ → ℕ = mark_of c.args.slots.now in
-    let all : c.marks.counts ≡ map f c.args.homes.now = written_all f c.args.homes.now c.marks.counts c.marks.i (omega (arith, homes)) (omega arith) c.marks.invariant in
+    let hashes = ap length c.requires.hashes ∙ length-map c.args.items.now (hash_in g.T.Hash.hash_input) in
+    let f : ℕ → ℕ = λ h. mark_of c.args.slots.now (h % length c.args.slots.now) in
+    let all : c.marks.counts ≡ map f c.args.hashes.now = written_all f c.args.hashes.now c.marks.counts c.marks.i (omega (arith, hashes)) (omega arith) c.marks.invariant in
     record {
       done = refl;
-      left = λ k _ l. ap (λ (ns : List ℕ). get_or ns k 0) all ∙ get_or-map f c.args.homes.now k 0 0 l;
+      left = λ k _ l. ap (λ (ns : List ℕ). get_or ns k 0) all ∙ get_or-map f c.args.hashes.now k 0 0 l;
     }
 
 pub counts-preserved : goal.counts-preserved

@@ -1,4 +1,5 @@
-use Rattle.std.proofs.Common.{ap, sym, ◌∙◌, is_some}
+use Rattle.std.proofs.Common.{ap, sym, ◌∙◌, ◌+◌, is_some}
+use Rattle.counter_table.proofs.LookupFingerprints.{fingerprints_counted}
 use Rattle.counter_table.proofs.LookupProbes.{answers, fits_from_probe}
 use Rattle.counter_table.proofs.InsertionWrites.{wrote_hit}
 use Rattle.counter_table.proofs.slots.adjust_in.Goals as goal
@@ -29,3 +30,8 @@ pub returns-in-None-clause-tracked : goal.returns-in-None-clause-tracked
 returns-in-None-clause-tracked g c =
     let a = answers g.met.T.Eq.laws g.met.T.Hash.respects_eq c.args.slots.now c.requires.slots c.args.item.now _ _ _ c.find-probe.ensures in
     sym (ap is_some (a.looked_up ∙ c.in-None.is))
+
+pub returns-in-Some-clause-fingerprints : goal.returns-in-Some-clause-fingerprints
+returns-in-Some-clause-fingerprints g c =
+    let here = c.find-probe.ensures.here c.in-Some.field-0 c.in-Some.is in
+    fingerprints_counted c.requires.fingerprints c.find-probe.result.place (here.0.count + c.args.amount) here.0 c.add_at.new.slots here.1 (c.add_at.ensures here.0 here.1)

@@ -4,38 +4,41 @@ use Rattle.counter_table.proofs.slots.lower.Goals as goal
 use Rattle.counter_table.proofs.slots.lower.Goals.{then-settle, else-settle}
 
 pub loop-on-init : goal.loop-on-init
-loop-on-init g c = sweep_starts g.T.PartialEq.eq g.T.Hash.hash_input c.args.amount c.args.slots.now c.last_free-free.result c.requires c.last_free-free.ensures.below c.last_free-free.ensures.free
+loop-on-init g c = record {
+  sweep = sweep_starts g.T.PartialEq.eq g.T.Hash.hash_input c.args.amount c.args.slots.now c.last_free-free.result c.requires.slots c.last_free-free.ensures.below c.last_free-free.ensures.free;
+  fingerprints_ok = c.requires.fingerprints;
+}
 
 pub settle-requires-clause-place : goal.settle-requires-clause-place
 settle-requires-clause-place g c =
-    let w = c.loop-on.invariant in
+    let w = c.loop-on.invariant.sweep in
     let at = turn_place (length c.args.slots.now) c.last_free-free.result c.loop-on.on c.after-place.result w.below c.loop-on-test.true c.after-place.ensures in
     omega (arith, at.0, w.long)
 
 pub settle-requires-clause-drift : goal.settle-requires-clause-drift
 settle-requires-clause-drift g c =
-    let w = c.loop-on.invariant in
+    let w = c.loop-on.invariant.sweep in
     let at = turn_place (length c.args.slots.now) c.last_free-free.result c.loop-on.on c.after-place.result w.below c.loop-on-test.true c.after-place.ensures in
-    turn_drift g.met.T.Eq.laws g.T.Hash.hash_input c.args.amount c.args.slots.now c.loop-on.slots c.last_free-free.result c.loop-on.on c.loop-on.removed c.after-place.result c.requires w at.0 at.1
+    turn_drift g.met.T.Eq.laws g.T.Hash.hash_input c.args.amount c.args.slots.now c.loop-on.slots c.last_free-free.result c.loop-on.on c.loop-on.removed c.after-place.result c.requires.slots w at.0 at.1
 
 pub overflow_add-removed : goal.overflow_add-removed
-overflow_add-removed g c = omega (arith, sweep_few c.loop-on.invariant, c.requires.room, c.requires.size.limit)
+overflow_add-removed g c = omega (arith, sweep_few c.loop-on.invariant.sweep, c.requires.slots.room, c.requires.slots.size.limit)
 
 pub loop-on-preserved : goal.loop-on-preserved
 loop-on-preserved g c =
-    let w = c.loop-on.invariant in
+    let w = c.loop-on.invariant.sweep in
     let at = turn_place (length c.args.slots.now) c.last_free-free.result c.loop-on.on c.after-place.result w.below c.loop-on-test.true c.after-place.ensures in
-    let turn = sweep_turn g.met.T.Eq.laws g.T.Hash.hash_input c.args.amount c.args.slots.now c.loop-on.slots c.last_free-free.result c.loop-on.on c.loop-on.removed c.after-place.result c.requires w at.0 at.1 c.settle.result c.settle.new.slots c.settle.ensures in
+    let turn = sweep_turn g.met.T.Eq.laws g.T.Hash.hash_input c.args.amount c.args.slots.now c.loop-on.slots c.last_free-free.result c.loop-on.on c.loop-on.removed c.after-place.result c.requires.slots w at.0 at.1 c.settle.result c.settle.new.slots c.settle.ensures.slots in
     elim c.if-settle.branch [
-      | then-settle v ↦ rw v.removed-is (turn.0 v.if-settle.true)
-      | else-settle v ↦ rw v.removed-is (turn.1 v.if-settle.false)
+      | then-settle v ↦ rw v.removed-is (record { sweep = turn.0 v.if-settle.true; fingerprints_ok = c.settle.ensures.fingerprints })
+      | else-settle v ↦ rw v.removed-is (record { sweep = turn.1 v.if-settle.false; fingerprints_ok = c.settle.ensures.fingerprints })
     ]
 
 pub returns-clause-slots : goal.returns-clause-slots
-returns-clause-slots g c = (sweep_ends c.loop-on.invariant c.loop-on-test.false).0
+returns-clause-slots g c = (sweep_ends c.loop-on.invariant.sweep c.loop-on-test.false).0
 
 pub returns-clause-entries : goal.returns-clause-entries
-returns-clause-entries g c = (sweep_ends c.loop-on.invariant c.loop-on-test.false).1
+returns-clause-entries g c = (sweep_ends c.loop-on.invariant.sweep c.loop-on-test.false).1
 
 pub returns-clause-removed : goal.returns-clause-removed
-returns-clause-removed g c = (sweep_ends c.loop-on.invariant c.loop-on-test.false).2
+returns-clause-removed g c = (sweep_ends c.loop-on.invariant.sweep c.loop-on-test.false).2

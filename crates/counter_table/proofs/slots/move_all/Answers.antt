@@ -8,6 +8,7 @@ pub loop-slot-init : goal.loop-slot-init
 loop-slot-init g c = record {
   slots_ok = IsSlots-free g.T.PartialEq.eq g.T.Hash.hash_input c.args.slots.now c.requires.free c.requires.size;
   entries = rw c.requires.free (IsPermutation-refl _);
+  fingerprints_ok = c.requires.fingerprints;
   split = sym c.into_iter-slot-iterator.ensures.into_iter_gives.0;
 }
 
@@ -33,6 +34,7 @@ loop-slot-preserved-in-Taken g c =
     record {
       slots_ok = c.insert_in.ensures.slots;
       entries = rw c.in-Taken.is (n.moved _ c.insert_in.ensures.entries);
+      fingerprints_ok = c.insert_in.ensures.fingerprints;
       split = split_more _ _ _ _ _ c.loop-slot.invariant.split c.in-Some.ensures.steps.0;
     }
 
@@ -40,5 +42,6 @@ pub loop-slot-preserved : goal.loop-slot-preserved
 loop-slot-preserved g c = record {
   slots_ok = c.loop-slot.invariant.slots_ok;
   entries = rw (c.in_default.is, entries_of-push_free c.loop-slot.yielded) c.loop-slot.invariant.entries;
+  fingerprints_ok = c.loop-slot.invariant.fingerprints_ok;
   split = split_more _ _ _ _ _ c.loop-slot.invariant.split c.in-Some.ensures.steps.0;
 }

@@ -1,6 +1,9 @@
-use Rattle.std.proofs.Common.{ap, sym, ◌∙◌, subst, is_some, length, ℕ}
+use Rattle.std.proofs.Common.{ap, ◌+◌, sym, ◌∙◌, subst, is_some, length, ℕ}
 use Rattle.std.proofs.lemmas.Bool.{false≢true}
 use Rattle.counter_table.specs.Probes.{IsGap}
+use Rattle.counter_table.specs.Fingerprints.{fingerprint_of}
+use Rattle.counter_table.specs.declared.slot.Slot.TheVariants.{Taken}
+use Rattle.counter_table.proofs.LookupFingerprints.{fingerprints_set, fingerprints_counted, hash_alike}
 use Rattle.counter_table.proofs.LookupHomes.{some_size, home_of-below}
 use Rattle.counter_table.proofs.LookupProbes.{answers, fits_from_probe, gap_from_probe, probe_below}
 use Rattle.counter_table.proofs.InsertionWrites.{Wrote, wrote_hit, wrote_gap, tracked_alike, home_alike}
@@ -9,27 +12,27 @@ use Rattle.counter_table.proofs.slots.put_clone_in.Goals as goal
 
 pub add_at-requires-clause-fits : goal.add_at-requires-clause-fits
 add_at-requires-clause-fits g c =
-    let a = answers g.met.T.Eq.laws g.met.T.Hash.respects_eq c.args.slots.now c.requires.slots c.args.item.now _ _ _ c.find-probe.ensures in
-    fits_from_probe c.find-probe.ensures c.in-Some.is a.looked_up c.args.amount c.requires.fits
+    let a = answers g.met.T.Eq.laws g.met.T.Hash.respects_eq c.args.slots.now c.requires.slots c.args.item.now _ _ _ c.find_from-probe.ensures in
+    fits_from_probe c.find_from-probe.ensures c.in-Some.is a.looked_up c.args.amount c.requires.fits
 
-pub fill-requires : goal.fill-requires
-fill-requires g c = probe_below (home_of-below _ (length c.args.slots.now) (some_size _ c.requires.slots.size)) c.find-probe.ensures
+pub fill-requires-clause-place : goal.fill-requires-clause-place
+fill-requires-clause-place g c = probe_below (home_of-below _ (length c.args.slots.now) (some_size _ c.requires.slots.size)) c.find_from-probe.ensures
 
 pub returns-in_err-clone-in-None-clause-succeeds : goal.returns-in_err-clone-in-None-clause-succeeds
 returns-in_err-clone-in-None-clause-succeeds g c = λ there.
-    let a = answers g.met.T.Eq.laws g.met.T.Hash.respects_eq c.args.slots.now c.requires.slots c.args.item.now _ _ _ c.find-probe.ensures in
+    let a = answers g.met.T.Eq.laws g.met.T.Hash.respects_eq c.args.slots.now c.requires.slots c.args.item.now _ _ _ c.find_from-probe.ensures in
     absurd (false≢true (sym (ap is_some (a.looked_up ∙ c.in-None.is)) ∙ there))
 
 pub returns-in-Some-clause-tracked : goal.returns-in-Some-clause-tracked
 returns-in-Some-clause-tracked g c =
-    let a = answers g.met.T.Eq.laws g.met.T.Hash.respects_eq c.args.slots.now c.requires.slots c.args.item.now _ _ _ c.find-probe.ensures in
+    let a = answers g.met.T.Eq.laws g.met.T.Hash.respects_eq c.args.slots.now c.requires.slots c.args.item.now _ _ _ c.find_from-probe.ensures in
     ap is_some (a.looked_up ∙ c.in-Some.is)
 
 -- the count was written to the item's own slot
 wrote_there : (g : given.Over) (c : goal.After-slots-1 g) → Wrote g.T.PartialEq.eq g.T.Hash.hash_input c.args.slots.now c.args.item.now c.args.amount c.add_at.new.slots
 wrote_there g c =
-    let here = c.find-probe.ensures.here c.in-Some.field-0 c.in-Some.is in
-    wrote_hit g.met.T.Eq.laws g.T.Hash.hash_input c.args.slots.now c.requires.slots c.args.item.now c.args.amount c.find-probe.result.place here.0 here.1 here.3 c.add_at.new.slots (c.add_at.ensures here.0 here.1)
+    let here = c.find_from-probe.ensures.here c.in-Some.field-0 c.in-Some.is in
+    wrote_hit g.met.T.Eq.laws g.T.Hash.hash_input c.args.slots.now c.requires.slots c.args.item.now c.args.amount c.find_from-probe.result.place here.0 here.1 here.3 c.add_at.new.slots (c.add_at.ensures here.0 here.1)
 
 pub returns-in-Some-clause-slots : goal.returns-in-Some-clause-slots
 returns-in-Some-clause-slots g c = (wrote_there g c).slots_ok
@@ -39,27 +42,46 @@ returns-in-Some-clause-entries g c = record { item = c.args.item.now; equal = g.
 
 pub returns-in_ok-clone-in-None-clause-tracked : goal.returns-in_ok-clone-in-None-clause-tracked
 returns-in_ok-clone-in-None-clause-tracked g c =
-    let a = answers g.met.T.Eq.laws g.met.T.Hash.respects_eq c.args.slots.now c.requires.slots c.args.item.now _ _ _ c.find-probe.ensures in
+    let a = answers g.met.T.Eq.laws g.met.T.Hash.respects_eq c.args.slots.now c.requires.slots c.args.item.now _ _ _ c.find_from-probe.ensures in
     ap is_some (a.looked_up ∙ c.in-None.is)
 
--- the clone was written to the free slot
-wrote_clone : (g : given.Over) (c : goal.After-slots-in-None-1 g) → Wrote g.T.PartialEq.eq g.T.Hash.hash_input c.args.slots.now c.in_ok-clone-in-None.clone c.args.amount c.fill.new.slots
-wrote_clone g c =
-    let a = answers g.met.T.Eq.laws g.met.T.Hash.respects_eq c.args.slots.now c.requires.slots c.args.item.now _ _ _ c.find-probe.ensures in
+pub returns-in_ok-clone-in-None-clause-slots : goal.returns-in_ok-clone-in-None-clause-slots
+returns-in_ok-clone-in-None-clause-slots g c =
+    let a = answers g.met.T.Eq.laws g.met.T.Hash.respects_eq c.args.slots.now c.requires.slots c.args.item.now _ _ _ c.find_from-probe.ensures in
     let slots = c.args.slots.now in
     let x = c.args.item.now in
     let y = c.in_ok-clone-in-None.clone in
     let same = c.requires.clones x y c.in_ok-clone-in-None.ensures.cases in
     let absent = ap is_some (a.looked_up ∙ c.in-None.is) in
-    let gap = subst (λ (h : ℕ). IsGap h slots c.find-probe.result.place c.find-probe.result.looked) (home_alike g.met.T.Hash.respects_eq (length slots) x y same) (gap_from_probe c.in-None.is c.find-probe.ensures) in
-    wrote_gap g.met.T.Eq.laws g.T.Hash.hash_input slots c.requires.slots y c.args.amount c.find-probe.result.place c.find-probe.result.looked (tracked_alike g.met.T.Eq.laws _ x y same ∙ absent) (c.requires.room absent) gap c.fill.new.slots c.fill.ensures
-
-pub returns-in_ok-clone-in-None-clause-slots : goal.returns-in_ok-clone-in-None-clause-slots
-returns-in_ok-clone-in-None-clause-slots g c = (wrote_clone g c).slots_ok
+    let gap = subst (λ (h : ℕ). IsGap h slots c.find_from-probe.result.place c.find_from-probe.result.looked) (home_alike g.met.T.Hash.respects_eq (length slots) x y same) (gap_from_probe c.in-None.is c.find_from-probe.ensures) in
+    (wrote_gap g.met.T.Eq.laws g.T.Hash.hash_input slots c.requires.slots y c.args.amount c.find_from-probe.result.place c.find_from-probe.result.looked (tracked_alike g.met.T.Eq.laws _ x y same ∙ absent) (c.requires.room absent) gap c.fill.new.slots c.fill.ensures.slots).slots_ok
 
 pub returns-in_ok-clone-in-None-clause-entries : goal.returns-in_ok-clone-in-None-clause-entries
-returns-in_ok-clone-in-None-clause-entries g c = record {
-  item = c.in_ok-clone-in-None.clone;
-  equal = c.requires.clones c.args.item.now c.in_ok-clone-in-None.clone c.in_ok-clone-in-None.ensures.cases;
-  entries = (wrote_clone g c).entries;
-}
+returns-in_ok-clone-in-None-clause-entries g c =
+    let a = answers g.met.T.Eq.laws g.met.T.Hash.respects_eq c.args.slots.now c.requires.slots c.args.item.now _ _ _ c.find_from-probe.ensures in
+    let slots = c.args.slots.now in
+    let x = c.args.item.now in
+    let y = c.in_ok-clone-in-None.clone in
+    let same = c.requires.clones x y c.in_ok-clone-in-None.ensures.cases in
+    let absent = ap is_some (a.looked_up ∙ c.in-None.is) in
+    let gap = subst (λ (h : ℕ). IsGap h slots c.find_from-probe.result.place c.find_from-probe.result.looked) (home_alike g.met.T.Hash.respects_eq (length slots) x y same) (gap_from_probe c.in-None.is c.find_from-probe.ensures) in
+    let w = wrote_gap g.met.T.Eq.laws g.T.Hash.hash_input slots c.requires.slots y c.args.amount c.find_from-probe.result.place c.find_from-probe.result.looked (tracked_alike g.met.T.Eq.laws _ x y same ∙ absent) (c.requires.room absent) gap c.fill.new.slots c.fill.ensures.slots in
+    record {
+      item = c.in_ok-clone-in-None.clone;
+      equal = c.requires.clones c.args.item.now c.in_ok-clone-in-None.clone c.in_ok-clone-in-None.ensures.cases;
+      entries = w.entries;
+    }
+
+pub returns-in-Some-clause-fingerprints : goal.returns-in-Some-clause-fingerprints
+returns-in-Some-clause-fingerprints g c =
+    let here = c.find_from-probe.ensures.here c.in-Some.field-0 c.in-Some.is in
+    fingerprints_counted c.requires.fingerprints c.find_from-probe.result.place (here.0.count + c.args.amount) here.0 c.add_at.new.slots here.1 (c.add_at.ensures here.0 here.1)
+
+pub returns-in_ok-clone-in-None-clause-fingerprints : goal.returns-in_ok-clone-in-None-clause-fingerprints
+returns-in_ok-clone-in-None-clause-fingerprints g c =
+    let x = c.args.item.now in
+    let y = c.in_ok-clone-in-None.clone in
+    let same = c.requires.clones x y c.in_ok-clone-in-None.ensures.cases in
+    let alike = hash_alike g.T.Hash.hash_input g.met.T.Hash.respects_eq x y same in
+    let below = probe_below (home_of-below _ (length c.args.slots.now) (some_size _ c.requires.slots.size)) c.find_from-probe.ensures in
+    fingerprints_set c.requires.fingerprints c.find_from-probe.result.place (Taken c.find_from-probe.result.looked c.args.amount y) c.fingerprint.result c.fill.new.slots c.fill.new.fingerprints below (c.fingerprint.ensures ∙ ap fingerprint_of (c.hash_of-hash.ensures ∙ alike)) c.fill.ensures.slots c.fill.ensures.fingerprints

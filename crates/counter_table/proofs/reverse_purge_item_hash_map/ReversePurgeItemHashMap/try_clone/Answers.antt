@@ -1,8 +1,9 @@
 use Rattle.std.proofs.Common.{ap, sym, ◌∙◌, subst, List}
-use Rattle.std.specs.List.{AllZip}
+use Rattle.std.specs.List.{AllZip, each_same}
 use Rattle.counter_table.specs.Slots.{IsSameSlot}
 use Rattle.counter_table.specs.declared.slot.Slot.{Slot}
 use Rattle.counter_table.proofs.CloneSlots.{IsSlots-clones, cloned_length, cloned_map, cloned_size}
+use Rattle.counter_table.proofs.LookupFingerprints.{fingerprints_cloned}
 use Rattle.counter_table.proofs.reverse_purge_item_hash_map.ReversePurgeItemHashMap.try_clone.Goals as goal
 
 pub invariant_of-result : goal.invariant_of-result
@@ -12,6 +13,7 @@ invariant_of-result g c =
     let zip = subst P c.deref.ensures.value c.in_ok-slots.ensures.ok in
     record {
       slots_ok = IsSlots-clones eq g.met.T.Eq.laws g.T.Hash.hash_input g.met.T.Hash.respects_eq _ _ zip c.self.invariant.slots_ok;
+      fingerprints_ok = fingerprints_cloned g.T.Hash.hash_input g.met.T.Hash.respects_eq _ _ _ zip (rw (each_same c.self.inside.fingerprints.items c.in_ok-fingerprints.fingerprints.items c.in_ok-fingerprints.ensures.cases.0) c.self.invariant.fingerprints_ok);
       active_is = c.self.invariant.active_is ∙ sym (cloned_length eq _ _ zip);
     }
 

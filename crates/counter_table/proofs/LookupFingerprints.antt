@@ -1,0 +1,133 @@
+-- What a fingerprint says of its slot, and what a write to a slot makes of the fingerprints.
+use Rattle.std.proofs.Common.{◌≡◌, ℕ, zero, suc, ◌∷◌, ◌%◌, ◌<◌, Bool, true, false, inl, inr, refl, ap, sym, ◌∙◌, arith, List, [], length, get_or, replicate, Some, is_some}
+use Rattle.std.specs.Prelude.{IsTrue}
+use Rattle.std.specs.List.{AllZip, concat}
+use Rattle.std.proofs.Math.ListN.{set}
+use Rattle.std.proofs.lemmas.Bool.{cases_Bool, cases_eq}
+use Rattle.std.proofs.lemmas.List.{length-set, length-replicate, get_or-set_same, get_or-set_other}
+use Rattle.sketch_base.specs.Hashes.{fed_bytes}
+use Rattle.counter_table.specs.declared.slot.Slot.{Slot}
+use Rattle.counter_table.specs.declared.slot.Slot.TheVariants.{Free, Taken}
+use Rattle.counter_table.specs.Fingerprints.{hash_of, hash_in, fingerprint_of, slot_fingerprint, AreFingerprints}
+use Rattle.counter_table.specs.Homes.{home_of, home_in}
+use Rattle.counter_table.specs.Slots.{Held, held, entries_of, slot_at, is_taken, IsSameSlot}
+use Rattle.counter_table.proofs.CloneSlots.{cloned_size}
+use Rattle.counter_table.proofs.GrowthMoves.{nothing_at}
+use Rattle.counter_table.proofs.LookupReach.{taken_slot, is_taken-below}
+use Rattle.counter_table.proofs.PurgeTurns.{slot_from_held, slot_from_none}
+
+-- ---- a hash
+home_remainder : (bytes : List ℕ) (n : ℕ) → hash_of bytes % n ≡ home_of bytes n
+unfolding hash_of home_of
+home_remainder bytes n = refl
+
+-- the home is the hash modulo the size
+pub home_is : {T : Type 0} (input : T → List (List ℕ)) (x : T) (n hash place : ℕ) → hash ≡ hash_in input x → place ≡ hash % n → place ≡ home_in input n x
+home_is input x n hash place h e = e ∙ (ap (λ z. z % n) h ∙ home_remainder (fed_bytes input x) n)
+
+some_fingerprint : (hash : ℕ) → 0 < fingerprint_of hash
+unfolding fingerprint_of
+some_fingerprint hash = omega arith
+
+-- equal items have one hash
+pub hash_alike : {T : Type 0} {eq : T → T → Bool} (input : T → List (List ℕ)) → ((x y : T) → IsTrue (eq x y) → input x ≡ input y) → (x y : T) → IsTrue (eq x y) → hash_in input x ≡ hash_in input y
+hash_alike input respects x y t = ap (λ f. hash_of (concat f)) (respects x y t)
+
+-- ---- a slot
+free_slot : {T : Type 0} (input : T → List (List ℕ)) (o : Slot T) → slot_fingerprint input o ≡ 0 → is_some (held o) ≡ false
+free_slot input Free e = refl
+free_slot input (Taken d c x) e = absurd (omega (arith, e, some_fingerprint (hash_in input x)))
+
+taken_is : {T : Type 0} (input : T → List (List ℕ)) (o : Slot T) → (slot_fingerprint input o ≡ 0 → ⊥) → is_some (held o) ≡ true
+taken_is input Free n = absurd (n refl)
+taken_is input (Taken d c x) n = refl
+
+module _ {T : Type 0} {input : T → List (List ℕ)} {slots : List (Slot T)} {bytes : List ℕ} (are : AreFingerprints input slots bytes) where
+  -- 0 stands at the free slots alone
+  pub seen_free : (place seen : ℕ) → seen ≡ get_or bytes place 0 → seen ≡ 0 → is_taken slots place ≡ false
+  seen_free place seen is none = free_slot input (get_or slots place Free) (sym (are.each place) ∙ (sym is ∙ none))
+
+  pub seen_taken : (place seen : ℕ) → seen ≡ get_or bytes place 0 → (seen ≡ 0 → ⊥) → is_taken slots place ≡ true
+  seen_taken place seen is some = taken_is input (get_or slots place Free) (λ e. some (is ∙ (are.each place ∙ e)))
+
+  fingerprint_at : (place : ℕ) (s : Held T) → slot_at slots place ≡ Some s → get_or bytes place 0 ≡ fingerprint_of (hash_in input s.item)
+  fingerprint_at place s e = are.each place ∙ ap (slot_fingerprint input) (slot_from_held (get_or slots place Free) s e)
+
+  -- an item with another fingerprint is another
+  pub seen_other : {eq : T → T → Bool} → ((x y : T) → IsTrue (eq x y) → input x ≡ input y) → (x : T) (hash place seen mark : ℕ) → hash ≡ hash_in input x → mark ≡ fingerprint_of hash → seen ≡ get_or bytes place 0 → (seen ≡ mark → ⊥) → (s : Held T) → slot_at slots place ≡ Some s → eq x s.item ≡ false
+  seen_other {eq} respects x hash place seen mark h m is other s e = elim (cases_Bool (eq x s.item)) [
+    | inl same ↦
+        let alike : hash_in input x ≡ hash_in input s.item = hash_alike input respects x s.item same in
+        absurd (other (is ∙ (fingerprint_at place s e ∙ (ap fingerprint_of (sym alike) ∙ (ap fingerprint_of (sym h) ∙ sym m)))))
+    | inr f ↦ f
+  ]
+
+  -- ---- a write of a slot and of its fingerprint
+  pub fingerprints_set : (place : ℕ) (o : Slot T) (b : ℕ) (new : List (Slot T)) (news : List ℕ) → place < length slots → b ≡ slot_fingerprint input o → new ≡ set slots place o → news ≡ set bytes place b → AreFingerprints input new news
+  fingerprints_set place o b new news below mark made marked = rw (made, marked) (record {
+    long = length-set bytes place b ∙ (are.long ∙ sym (length-set slots place o));
+    each = λ k. elim (cases_eq k place) [
+      | inl same ↦
+          let left : get_or (set bytes place b) place 0 ≡ b = get_or-set_same bytes place b 0 (omega (arith, are.long, below)) in
+          let right : get_or (set slots place o) place Free ≡ o = get_or-set_same slots place o Free below in
+          ap (λ j. get_or (set bytes place b) j 0) same ∙ (left ∙ (mark ∙ (ap (slot_fingerprint input) (sym right) ∙ ap (λ j. slot_fingerprint input (get_or (set slots place o) j Free)) (sym same))))
+      | inr other ↦ get_or-set_other bytes place k b 0 other ∙ (are.each k ∙ ap (slot_fingerprint input) (sym (get_or-set_other slots place k o Free other)))
+    ];
+  })
+
+  -- an item's count alone
+  pub fingerprints_counted : (place count : ℕ) (s : Held T) (new : List (Slot T)) → slot_at slots place ≡ Some s → new ≡ set slots place (Taken s.drift count s.item) → AreFingerprints input new bytes
+  fingerprints_counted place count s new e made = rw made (record {
+    long = are.long ∙ sym (length-set slots place (Taken s.drift count s.item));
+    each = λ k. elim (cases_eq k place) [
+      | inl same ↦
+          let o : Slot T = Taken s.drift count s.item in
+          let right : get_or (set slots place o) place Free ≡ o = get_or-set_same slots place o Free (is_taken-below slots place (ap is_some e)) in
+          ap (λ j. get_or bytes j 0) same ∙ (fingerprint_at place s e ∙ (ap (slot_fingerprint input) (sym right) ∙ ap (λ j. slot_fingerprint input (get_or (set slots place o) j Free)) (sym same)))
+      | inr other ↦ are.each k ∙ ap (slot_fingerprint input) (sym (get_or-set_other slots place k (Taken s.drift count s.item) Free other))
+    ];
+  })
+
+  -- a slot is freed
+  pub fingerprints_freed : (place : ℕ) → place < length slots → AreFingerprints input (set slots place Free) (set bytes place 0)
+  fingerprints_freed place below = fingerprints_set place Free 0 (set slots place Free) (set bytes place 0) below refl refl refl
+
+  -- the byte that goes with an item
+  pub fingerprint_moves : (place : ℕ) (s : Held T) (moving looked count : ℕ) → slot_at slots place ≡ Some s → moving ≡ get_or bytes place 0 → moving ≡ slot_fingerprint input (Taken looked count s.item)
+  fingerprint_moves place s moving looked count e is = is ∙ fingerprint_at place s e
+
+-- ---- all slots
+none_held : {T : Type 0} (slots : List (Slot T)) (k : ℕ) → entries_of slots ≡ [] → get_or slots k Free ≡ Free
+none_held slots k none = elim (cases_Bool (is_taken slots k)) [
+  | inl t ↦ let s = taken_slot (slot_at slots k) t in absurd (nothing_at slots k s.0 none s.1)
+  | inr f ↦ slot_from_none (get_or slots k Free) f
+]
+
+same_at : (z n k : ℕ) → get_or (replicate n z) k z ≡ z
+same_at z zero k = refl
+same_at z (suc n) zero = refl
+same_at z (suc n) (suc k) = same_at z n k
+
+-- where none is taken
+pub fingerprints_free : {T : Type 0} (input : T → List (List ℕ)) (slots : List (Slot T)) (bytes : List ℕ) (n : ℕ) → entries_of slots ≡ [] → length slots ≡ n → bytes ≡ replicate n 0 → AreFingerprints input slots bytes
+fingerprints_free input slots bytes n none long zeros = record {
+  long = ap length zeros ∙ (length-replicate n 0 ∙ sym long);
+  each = λ k. ap (λ l. get_or l k 0) zeros ∙ (same_at 0 n k ∙ ap (slot_fingerprint input) (sym (none_held slots k none)));
+}
+
+cloned_each : {T : Type 0} {eq : T → T → Bool} (input : T → List (List ℕ)) → ((x y : T) → IsTrue (eq x y) → input x ≡ input y) → (slots clones : List (Slot T)) → AllZip (IsSameSlot eq) slots clones → (k : ℕ) → slot_fingerprint input (get_or slots k Free) ≡ slot_fingerprint input (get_or clones k Free)
+cloned_each input respects [] [] h k = refl
+cloned_each input respects [] (p ∷ ps) h k = absurd h
+cloned_each input respects (o ∷ os) [] h k = absurd h
+cloned_each input respects (Free ∷ os) (Free ∷ ps) h zero = refl
+cloned_each input respects (Free ∷ os) (Taken e n y ∷ ps) h zero = absurd h.0
+cloned_each input respects (Taken d c x ∷ os) (Free ∷ ps) h zero = absurd h.0
+cloned_each input respects (Taken d c x ∷ os) (Taken e n y ∷ ps) h zero = ap fingerprint_of (hash_alike input respects x y h.0.2)
+cloned_each input respects (o ∷ os) (p ∷ ps) h (suc k) = cloned_each input respects os ps h.1 k
+
+-- clones have those of their originals
+pub fingerprints_cloned : {T : Type 0} {eq : T → T → Bool} (input : T → List (List ℕ)) → ((x y : T) → IsTrue (eq x y) → input x ≡ input y) → (slots clones : List (Slot T)) (bytes : List ℕ) → AllZip (IsSameSlot eq) slots clones → AreFingerprints input slots bytes → AreFingerprints input clones bytes
+fingerprints_cloned {eq = eq} input respects slots clones bytes zip are = record {
+  long = are.long ∙ sym (cloned_size eq slots clones zip);
+  each = λ k. are.each k ∙ cloned_each input respects slots clones zip k;
+}
