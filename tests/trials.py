@@ -146,18 +146,18 @@ HEAVY = ["row 7 99 100 100", "row 6 49 50 50", "equal false true false"]
 ALLOCATION_FREE["feeds-nothing_rows"] = HEAVY
 
 # Calls whose requests for memory are counted, and the blocks that they give back: how many of both, and what is said.
-# From 8 slots to 2048 a table doubles eight times, and asks for each new one.
+# From 8 slots to 2048 a table doubles eight times, and asks for the slots of each new one and for their fingerprints.
 FULL = ["frequent 1536 0 1536 1536 2048 1/1/1 0/0/0"]
 COUNTED = {
     "bytes_read_text": (1, 0, CALLS["bytes_read_text"]),
     "bytes_write_text": (1, 0, CALLS["bytes_write_text"]),
-    "frequent_update": (1, 1, CALLS["frequent_update"]),
+    "frequent_update": (2, 2, CALLS["frequent_update"]),
     "frequent_serialize": (1, 0, CALLS["frequent_serialize"]),
     "allocation-free_full": (0, 0, ALLOCATION_FREE["allocation-free_full"]),
-    "counted_fills": (8, 8, FULL),
-    "counted_refills": (8, 8, FULL),
+    "counted_fills": (16, 16, FULL),
+    "counted_refills": (16, 16, FULL),
     # the table alone
-    "counted_hostile_image": (1, 1, ["refused data InsufficientData"]),
+    "counted_hostile_image": (2, 2, ["refused data InsufficientData"]),
 }
 
 SKETCH = [

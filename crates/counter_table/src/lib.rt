@@ -1,6 +1,7 @@
 //! A table of counters: a finite map from items to counts, whose light entries a purge drops.
 //!
-//! [`ReversePurgeItemHashMap`] keeps its entries in one array of slots, with linear probing. A purge takes a
+//! [`ReversePurgeItemHashMap`] keeps its entries in one array of slots, with linear probing, and beside it a byte a slot, its
+//! fingerprint, by which a look-up sees whether to look into the slot. A purge takes a
 //! middle count of a sample from every count, and drops what is left without one: what a summary of Misra and Gries does
 //! where it has no counter left. It deletes by backward shift, Knuth's algorithm R, all that goes in one sweep: a slot that was
 //! freed is filled by a later entry of its cluster, so that no slot is ever marked and what a look-up costs is a function of
