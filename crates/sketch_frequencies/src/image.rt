@@ -235,19 +235,19 @@ fn take_each<T: FrequentItemValue>(slots: &[Slot<T>], size: usize) -> bool {
     true
 }
 
-/// The sum of what the items in the slots take, or nothing where it passes the greatest `usize`.
+/// The sum of what the items in the slots take, where each free slot takes what `other` does.
 ///
-/// At a free slot `other` is measured and adds nothing, so that no branch depends on the slot.
-fn sum_of_sizes<T: FrequentItemValue>(slots: &[Slot<T>], other: &T) -> Option<usize> {
-    let mut size = 0usize;
+/// So no branch depends on the slot, and of 128 bits none on the sum.
+fn sum_of_sizes<T: FrequentItemValue>(slots: &[Slot<T>], other: &T) -> u128 {
+    let mut size = 0u128;
     for slot in slots {
-        let (item, counted) = match slot {
-            Slot::Taken { item, .. } => (item, usize::MAX),
-            Slot::Free => (other, 0),
+        let item = match slot {
+            Slot::Taken { item, .. } => item,
+            Slot::Free => other,
         };
-        size = size.checked_add(T::serialize_size(item) & counted)?;
+        size += T::serialize_size(item) as u128;
     }
-    Some(size)
+    size
 }
 
 /// How many bytes the items in the slots take, of which there are so many, or nothing where that passes the greatest
@@ -260,7 +260,9 @@ fn items_size<T: FrequentItemValue>(slots: &[Slot<T>], active: usize) -> Option<
     if take_each(slots, each) {
         return each.checked_mul(active);
     }
-    sum_of_sizes(slots, item)
+    let of_free = slots.len().saturating_sub(active) as u128 * each as u128;
+    let of_items = sum_of_sizes(slots, item).checked_sub(of_free)?;
+    usize::try_from(of_items).ok()
 }
 
 /// How many bytes the image takes of a sketch with so many counters in these slots.
