@@ -1,5 +1,6 @@
 pub mod Copies
 pub mod CountCalls
+pub mod CountJoins
 pub mod Estimates
 pub mod FrequentBatches
 pub mod FrequentCalls

@@ -8,6 +8,7 @@ ghost use Rattle.sketch_countmin.specs.Image.{IsImage, IsSpelled, early_fault_wi
 ghost use Rattle.sketch_countmin.specs.Shapes.{shape_fault};
 ghost use Rattle.sketch_countmin.specs.State.{Counts, Joins, SameShape, empty_state};
 ghost use Rattle.datasketches_c.specs.CountCalls.{AddsWeight, AddsEach, AddsWeights, Estimates, EstimatesAll, Bounds, MergesInto, Describes};
+ghost use Rattle.datasketches_c.specs.CountJoins.{IsJoined};
 ghost use Rattle.datasketches_c.specs.Estimates.{AreLeastCells};
 ghost use Rattle.datasketches_c.specs.Images.{WritesImage, IsRefusedImage};
 ghost use Rattle.datasketches_c.specs.Kinds.{OnKind, HoldsKind};
@@ -365,11 +366,7 @@ where
 
 /// Adds the other sketch's cells and total to a sketch.
 fn join<V: CountMinValue>(sketch: &mut CountMinSketch<V>, other: &CountMinSketch<V>) -> i32
-    ensures joined { SameShape sketch.old other.now → sketch.old.total + other.now.total ≤ V.greatest
-        → (result ≡ ok) × Joins sketch.old other.now sketch.new }
-    ensures overflow { SameShape sketch.old other.now → V.greatest < sketch.old.total + other.now.total
-        → result ≡ refusal_number Fault.WeightOverflow }
-    ensures mismatch { ¬ SameShape sketch.old other.now → result ≡ refusal_number Fault.Mismatch }
+    ensures call { IsJoined V.greatest sketch.old other.now sketch.new result }
     ensures refused { OnRefused result (sketch.new ≡ sketch.old) }
 {
     match sketch.merge(other) {
@@ -388,9 +385,7 @@ where
     CountMinSketch<V>: Kind,
     ensures kept { handle.new.value ≡ handle.old.value }
     ensures call { OnKind (⟦<CountMinSketch<V> as Kind>⟧.part) handle.old.value handle.new.value result (λ b.
-        (SameShape sketch.old b → sketch.old.total + b.total ≤ V.greatest → (result ≡ ok) × Joins sketch.old b sketch.new)
-        × (SameShape sketch.old b → V.greatest < sketch.old.total + b.total → result ≡ refusal_number Fault.WeightOverflow)
-        × (¬ SameShape sketch.old b → result ≡ refusal_number Fault.Mismatch)) }
+        IsJoined V.greatest sketch.old b sketch.new result) }
     ensures refused { OnRefused result (sketch.new ≡ sketch.old) }
 {
     on_kind!(alloc, handle, CountMinSketch<V>, other => join(sketch, other))

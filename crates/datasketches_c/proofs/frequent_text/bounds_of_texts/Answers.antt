@@ -1,4 +1,4 @@
-use Rattle.std.proofs.Common.{◌<◌, ◌≤◌, ◌≡◌, ℕ, ℤ, List, [], length, inl, inr, refl, sym, subst, arith}
+use Rattle.std.proofs.Common.{◌<◌, ◌≤◌, ℤ, [], length, inl, inr, refl, sym, subst, arith}
 use Rattle.datasketches_c.specs.FrequentBatches.{AreBoundsOfText, TellsOfTexts}
 use Rattle.datasketches_c.specs.Texts.{texts_of}
 use Rattle.datasketches_c.proofs.BoundsLemmas.{zip_more, zip_whole, rest_more}
