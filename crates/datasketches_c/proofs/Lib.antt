@@ -1,4 +1,5 @@
 pub mod BoundsLemmas
+pub mod CountJoinLemmas
 pub mod CountLemmas
 pub mod FrequentLemmas
 pub mod Handles
