@@ -141,7 +141,8 @@ fn counts_in_turn<T: Eq + Hash>(
     }
 }
 
-/// Writes down the count of each item.
+/// Writes down the count of each item. It is not inlined, so that its loops have the processor's registers to themselves.
+#[inline(never)]
 pub(crate) fn counts_of<T: Eq + Hash>(
     slots: &[Slot<T>],
     fingerprints: &[u8],
