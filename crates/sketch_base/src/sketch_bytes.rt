@@ -1,5 +1,5 @@
 //! A buffer that is written at its end.
-ghost use Rattle.std.specs.Prelude.{◌≡◌, ◌+◌, ◌≤◌, [], ◌∷◌, ◌++◌, length, IfOk, OnOk, IfErr, OnErr, IsOk};
+ghost use Rattle.std.specs.Prelude.{◌≡◌, ◌+◌, ◌≤◌, [], ◌∷◌, ◌++◌, length, max, IfOk, OnOk, IfErr, OnErr, IsOk};
 ghost use Rattle.std.specs.Int.{w16, w32, w64, to_le_bytes, cast_unsigned};
 ghost use Rattle.sketch_base.specs.Errors.{no_memory};
 
@@ -51,6 +51,18 @@ impl SketchBytes {
         Ok(SketchBytes {
             bytes: Vec::with_capacity(alloc, capacity)?,
         })
+    }
+
+    /// Makes room for `additional` bytes more, and for no more than that.
+    pub fn reserve(&mut self, additional: usize) -> Result<(), Error>
+        ensures ok { OnOk result (self.new.capacity ≡ max self.old.capacity (length self.old.bytes + additional)) }
+        ensures within { length self.old.bytes + additional ≤ self.old.capacity → IsOk result }
+        ensures bytes { self.new.bytes ≡ self.old.bytes }
+        ensures no_memory { IfErr result (λ e. e ≡ no_memory) }
+        ensures err { OnErr result (self.new.capacity ≡ self.old.capacity) }
+    {
+        self.bytes.reserve_exact(additional)?;
+        Ok(())
     }
 
     /// Writes `part` at the end.

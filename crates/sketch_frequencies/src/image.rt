@@ -1,5 +1,5 @@
 //! The images of sketches: how they are read and written.
-ghost use Rattle.std.specs.Prelude.{◌≡◌, ◌+◌, ◌*◌, ◌<◌, ◌≤◌, ◌^◌, ◌++◌, None, Some, length, take, slice_index, sum, IfOk, IfErr, OnOk, IsTrue};
+ghost use Rattle.std.specs.Prelude.{◌≡◌, ◌+◌, ◌*◌, ◌<◌, ◌≤◌, ◌^◌, ◌++◌, [], None, Some, length, take, slice_index, sum, IfOk, IfErr, IfNone, OnOk, IsTrue};
 ghost use Rattle.std.specs.Int.{is_power_of_two};
 ghost use Rattle.sketch_base.specs.Checks.{first_failing};
 ghost use Rattle.sketch_base.specs.Errors.{invalid_data, no_memory};
@@ -212,7 +212,9 @@ pub(crate) fn table_size(lg: u8) -> usize
 }
 
 /// The item in the first slot that is taken.
-fn first_item<T>(slots: &[Slot<T>]) -> Option<&T> {
+fn first_item<T>(slots: &[Slot<T>]) -> Option<&T>
+    ensures { IfNone result (entries_of slots.now ≡ []) }
+{
     for slot in slots {
         if let Slot::Taken { item, .. } = slot {
             return Some(item);
@@ -235,53 +237,21 @@ fn take_each<T: FrequentItemValue>(slots: &[Slot<T>], size: usize) -> bool {
     true
 }
 
-/// The sum of what the items in the slots take, where each free slot takes what `other` does.
-///
-/// So no branch depends on the slot, and of 128 bits none on the sum.
-fn sum_of_sizes<T: FrequentItemValue>(slots: &[Slot<T>], other: &T) -> u128 {
-    let mut size = 0u128;
-    for slot in slots {
-        let item = match slot {
-            Slot::Taken { item, .. } => item,
-            Slot::Free => other,
-        };
-        size += T::serialize_size(item) as u128;
-    }
-    size
-}
-
-/// How many bytes the items in the slots take, of which there are so many, or nothing where that passes the greatest
-/// `usize`.
-fn items_size<T: FrequentItemValue>(slots: &[Slot<T>], active: usize) -> Option<usize> {
+/// How many bytes to ask for at first, for the image of a sketch with so many counters in these slots: those of the preamble
+/// and of the weights, and of the items where each takes the same. Where not, [`write_weights`] asks for theirs.
+pub(crate) fn first_room<T: FrequentItemValue>(slots: &[Slot<T>], active: usize) -> usize
+    requires { active ≤ 2 ^ 30 }
+{
+    let weights = 32 + 8 * active;
     let Some(item) = first_item(slots) else {
-        return Some(0);
+        return weights;
     };
     let each = T::serialize_size(item);
     if take_each(slots, each) {
-        return each.checked_mul(active);
+        weights.saturating_add(each.saturating_mul(active))
+    } else {
+        weights
     }
-    let of_free = slots.len().saturating_sub(active) as u128 * each as u128;
-    let of_items = sum_of_sizes(slots, item).checked_sub(of_free)?;
-    usize::try_from(of_items).ok()
-}
-
-/// How many bytes the image takes of a sketch with so many counters in these slots.
-///
-/// Answers `NoMemory` where that passes the greatest `usize`, since so many are never to be had.
-pub(crate) fn image_size<T: FrequentItemValue>(
-    slots: &[Slot<T>],
-    active: usize,
-) -> Result<usize, Error>
-    requires { active ≤ 2 ^ 30 }
-    ensures { IfErr result (λ e. e ≡ no_memory) }
-{
-    let Some(items) = items_size(slots, active) else {
-        return Err(Error::new(ErrorKind::OutOfMemory, Fault::NoMemory));
-    };
-    let Some(size) = items.checked_add(32 + 8 * active) else {
-        return Err(Error::new(ErrorKind::OutOfMemory, Fault::NoMemory));
-    };
-    Ok(size)
 }
 
 /// The image of a sketch into which nothing was fed.
@@ -350,43 +320,63 @@ fn write_header(
 /// How many slots are looked at before their weights are written at once.
 const BLOCK: usize = 64;
 
-/// Puts the weights of the counters in the slots one after another, and answers how many bytes they take.
+/// Puts the weights of the counters in the slots one after another, and answers how many bytes they take, and their items.
 ///
-/// A free slot puts `none`, over which the next weight comes, so that no branch depends on the slot. `none` is a reference,
-/// and the function is not inlined: with a number of its own the compiler made a branch again.
+/// A free slot puts `none`, over which the next weight comes, and counts as one with the item `other`, so that no branch
+/// depends on the slot. `none` is a reference, and the function is not inlined: with a number of its own the compiler
+/// made a branch again. The bytes of the items are counted modulo 2^64, since no image can be longer.
 #[inline(never)]
-fn gather_weights<T>(slots: &[Slot<T>], none: &u64, bytes: &mut [u8]) -> usize
+fn gather_weights<T: FrequentItemValue>(
+    slots: &[Slot<T>],
+    none: &u64,
+    other: &T,
+    bytes: &mut [u8],
+) -> (usize, usize)
     requires { 8 * length slots.now ≤ length bytes.old }
-    ensures weights { take result bytes.new ≡ encoded_weights (entries_of slots.now) }
-    ensures few { result ≤ 8 * length slots.now }
+    ensures weights { take result.0 bytes.new ≡ encoded_weights (entries_of slots.now) }
+    ensures few { result.0 ≤ 8 * length slots.now }
 {
     let mut size = 0;
+    let mut items = 0usize;
     for slot in slots {
-        let (count, taken) = match slot {
-            Slot::Taken { count, .. } => (count, 8),
-            Slot::Free => (none, 0),
+        let (count, taken, item) = match slot {
+            Slot::Taken { count, item, .. } => (count, 8, item),
+            Slot::Free => (none, 0, other),
         };
         bytes[size..size + 8].copy_from_slice(&count.to_le_bytes());
         size += taken;
+        items = items.wrapping_add(T::serialize_size(item));
     }
-    size
+    (size, items)
 }
 
-/// Writes the weights of the counters in the slots.
-pub(crate) fn write_weights<T>(out: &mut SketchBytes, slots: &[Slot<T>]) -> Result<(), Error>
+/// Writes the weights of the counters in the slots, of which there are so many, and makes room for their items.
+pub(crate) fn write_weights<T: FrequentItemValue>(
+    out: &mut SketchBytes,
+    slots: &[Slot<T>],
+    active: usize,
+) -> Result<(), Error>
     ensures ok { OnOk result (out.new.bytes ≡ out.old.bytes ++ encoded_weights (entries_of slots.now)) }
     ensures err { IfErr result (λ e. e ≡ no_memory) }
 {
+    let Some(other) = first_item(slots) else {
+        return Ok(());
+    };
     let mut bytes = [0; 8 * BLOCK];
     let blocks = slots.len() / BLOCK;
+    let mut all = 0usize;
     // The label is there for the prover alone: its goals are named after it.
     'whole: for b in 0..blocks {
         let at = BLOCK * b;
-        let size = gather_weights(&slots[at..at + BLOCK], &0, &mut bytes);
+        let (size, items) = gather_weights(&slots[at..at + BLOCK], &0, other, &mut bytes);
         out.write(&bytes[..size])?;
+        all = all.wrapping_add(items);
     }
-    let last = gather_weights(&slots[BLOCK * blocks..], &0, &mut bytes);
+    let (last, items) = gather_weights(&slots[BLOCK * blocks..], &0, other, &mut bytes);
     out.write(&bytes[..last])?;
+    let free = slots.len().wrapping_sub(active);
+    let of_free = free.wrapping_mul(T::serialize_size(other));
+    out.reserve(all.wrapping_add(items).wrapping_sub(of_free))?;
     Ok(())
 }
 

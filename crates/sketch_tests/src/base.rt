@@ -128,6 +128,7 @@ fn written(alloc: Global) -> Result<Vec<u8>, Error> {
     out.write_u8(1)?;
     out.write_u16_le(770)?;
     out.write(b"ab")?;
+    out.reserve(24)?;
     out.write_u32_le(1)?;
     out.write_i32_le(-2)?;
     out.write_u64_le(3)?;

@@ -8,7 +8,7 @@ ghost use Rattle.sketch_frequencies.specs.State.{IsState, greatest_sample_size};
 use crate::frequent_item_value::FrequentItemValue;
 use crate::frequent_items_sketch::FrequentItemsSketch;
 use crate::image::{
-    Numbers, begin_image, check_limit, check_weights, empty_image, image_size, read_counters,
+    Numbers, begin_image, check_limit, check_weights, empty_image, first_room, read_counters,
     read_header, read_numbers, table_size, write_items, write_weights,
 };
 use crate::sizes::{LEAST_MAP_SIZE, greatest_sample_of};
@@ -22,8 +22,8 @@ impl<T: FrequentItemValue + Drop> FrequentItemsSketch<T> {
     ///
     /// # Errors
     ///
-    /// `NoMemory` where there is no memory for the image, which is asked for once, or where its length would pass the
-    /// greatest `usize`. A fault of the kind `InvalidArgument` where an item has no bytes, as `ItemTooLong` for a text
+    /// `NoMemory` where there is no memory for the image, which is asked for once where all items take as many bytes, and
+    /// else twice. A fault of the kind `InvalidArgument` where an item has no bytes, as `ItemTooLong` for a text
     /// of more than 2^32 - 1 bytes.
     pub fn serialize(&self) -> Result<Vec<u8>, Error>
         ensures image { IfOk result (λ image. IsSpelledFor T.codec T.content image.items self.now) }
@@ -41,9 +41,9 @@ impl<T: FrequentItemValue + Drop> FrequentItemsSketch<T> {
             total: self.total,
             error: self.error,
         };
-        let room = image_size(slots, active)?;
+        let room = first_room(slots, active);
         let mut out = begin_image(alloc, room, lg_max, self.map.lg_length(), &numbers)?;
-        write_weights(&mut out, slots)?;
+        write_weights(&mut out, slots, active)?;
         write_items(&mut out, slots)?;
         Ok(out.into_bytes())
     }

@@ -22,5 +22,6 @@ returns-clause-ok g c =
     let at : ℕ = 64 * (n / 64) in
     let end : c.whole.b ≡ n / 64 = omega (arith, c.whole-test.false, c.whole.auto.b-end) in
     let done : c.whole.out.bytes ≡ old ++ encoded_weights (entries_of (take at slots)) = c.whole.invariant ∙ ap (λ (b : ℕ). old ++ encoded_weights (entries_of (take (64 * b) slots))) end in
-    weights_of_part slots (take (n - at) (drop at slots)) at n old c.whole.out.bytes c.write-2.new.self.bytes _ (omega arith) refl done c.gather_weights-last.ensures.weights c.in_ok-write-2.ensures.ok
-    ∙ ap (λ l. old ++ encoded_weights (entries_of l)) (take_all n slots (omega arith))
+    c.reserve.ensures.bytes
+    ∙ (weights_of_part slots (take (n - at) (drop at slots)) at n old c.whole.out.bytes c.write-2.new.self.bytes _ (omega arith) refl done c.gather_weights-last.ensures.weights c.in_ok-write-2.ensures.ok
+    ∙ ap (λ l. old ++ encoded_weights (entries_of l)) (take_all n slots (omega arith)))
