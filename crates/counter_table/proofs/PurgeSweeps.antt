@@ -1,12 +1,13 @@
 -- A purge goes once over the slots, from a free place on. Behind the places that are settled, all count as free.
-use Rattle.std.proofs.Common.{◌≡◌, ℕ, zero, suc, ◌+◌, ◌-◌, ◌<◌, ◌≤◌, Bool, true, false, cond, ltb, inl, inr, refl, ap, sym, ◌∙◌, subst, arith, List, [], ◌∷◌, ◌++◌, length, get_or, Some, is_some, IsPermutation, length-append}
+use Rattle.std.proofs.Common.{◌≡◌, ℕ, zero, suc, ◌+◌, ◌-◌, ◌<◌, ◌≤◌, Bool, true, false, cond, ltb, inl, inr, refl, ap, sym, ◌∙◌, subst, arith, List, [], ◌∷◌, ◌++◌, length, get_or, map, filter, Some, is_some, IsPermutation, length-append}
 use Rattle.std.specs.Cmp.{IsEquivalence}
 use Rattle.std.specs.List.{IsDistinct, AllByRecursion, list_any}
 use Rattle.std.specs.Map.{keys_of}
 use Rattle.std.proofs.Math.ListN.{set}
 use Rattle.std.proofs.lemmas.Bool.{cases_lt, cases_eq, cases_Bool, both_ways, lt-ltb, le-ltb, false≢true}
-use Rattle.std.proofs.lemmas.List.{length-set, map-append, same_lists, get_or_default, get_or-set_same, get_or-set_other}
+use Rattle.std.proofs.lemmas.List.{length-set, append-nil, map-append, same_lists, get_or_default, get_or-set_same, get_or-set_other}
 use Rattle.std.proofs.lemmas.List.Sorted.{IsPermutation-refl, IsPermutation-sym, IsPermutation-trans, IsPermutation-append_left, IsPermutation-map, length_permutation}
+use Rattle.std.proofs.lemmas.List.Elements.{filter-append}
 use Rattle.std.proofs.lemmas.Map.Keys.{IsDistinct-IsPermutation}
 use Rattle.sketch_base.specs.Hashes.{fed_bytes}
 use Rattle.counter_table.specs.Filters.{filter-permutation}
@@ -167,23 +168,17 @@ module _ (n f a p : ℕ) (fb : f < n) (pb : p < n) (far : distance n f p ≡ a) 
       ])
 
 -- ---- what is left of the entries
+purged_one : {T : Type 0} (m : ℕ) (es : List (T × ℕ)) (e : T × ℕ) → purged m (es ++ e ∷ []) ≡ purged m es ++ purged m (e ∷ [])
+purged_one {T} m es e =
+    let left : T × ℕ → T × ℕ = λ f. (f.0, f.1 - m) in
+    let stays : T × ℕ → Bool = λ f. ltb m f.1 in
+    ap (map left) (filter-append stays es (e ∷ [])) ∙ map-append left (filter stays es) (filter stays (e ∷ []))
+
 purged_more : {T : Type 0} (m : ℕ) (es : List (T × ℕ)) (x : T) (c : ℕ) → m < c → purged m (es ++ (x, c) ∷ []) ≡ purged m es ++ (x, c - m) ∷ []
-purged_more m [] x c l = rw (lt-ltb m c l) refl
-purged_more {T} m (e ∷ es) x c l =
-    let rest = purged_more m es x c l in
-    elim (cases_lt m e.1) [
-      | inl u ↦ rw (lt-ltb m e.1 u) (ap (λ (l : List (T × ℕ)). (e.0, e.1 - m) ∷ l) rest)
-      | inr u ↦ rw (le-ltb m e.1 u) rest
-    ]
+purged_more m es x c l = purged_one m es (x, c) ∙ rw (lt-ltb m c l) refl
 
 purged_same : {T : Type 0} (m : ℕ) (es : List (T × ℕ)) (x : T) (c : ℕ) → c ≤ m → purged m (es ++ (x, c) ∷ []) ≡ purged m es
-purged_same m [] x c l = rw (le-ltb m c l) refl
-purged_same {T} m (e ∷ es) x c l =
-    let rest = purged_same m es x c l in
-    elim (cases_lt m e.1) [
-      | inl u ↦ rw (lt-ltb m e.1 u) (ap (λ (l : List (T × ℕ)). (e.0, e.1 - m) ∷ l) rest)
-      | inr u ↦ rw (le-ltb m e.1 u) rest
-    ]
+purged_same m es x c l = purged_one m es (x, c) ∙ (rw (le-ltb m c l) refl ∙ append-nil (purged m es))
 
 purged-permutation : {T : Type 0} (m : ℕ) (es fs : List (T × ℕ)) → IsPermutation es fs → IsPermutation (purged m es) (purged m fs)
 purged-permutation {T} m es fs p = IsPermutation-map (λ (e : T × ℕ). (e.0, e.1 - m)) _ _ (filter-permutation (λ (e : T × ℕ). ltb m e.1) es fs p)

@@ -99,49 +99,9 @@ fn counts_of_block<T: Eq + Hash>(
     }
 }
 
-/// Writes down the count of each item, block by block.
-#[inline(always)]
-fn counts_by_blocks<T: Eq + Hash>(
-    slots: &[Slot<T>],
-    fingerprints: &[u8],
-    items: &[T],
-    counts: &mut [u64],
-)
-    requires slots { IsSlots T.eq T.hash_input slots.now }
-    requires fingerprints { AreFingerprints T.hash_input slots.now fingerprints.now }
-    requires same { length counts.old ≡ length items.now }
-    ensures { counts.new ≡ map (count_of T.eq (entries_of slots.now)) items.now }
-{
-    let blocks = items.len().div_ceil(BLOCK);
-    'each: for b in 0..blocks {
-        let from = BLOCK * b;
-        let to = from + BLOCK.min(items.len() - from);
-        let block = &items[from..to];
-        let hashes = hashes_of_block(block);
-        let counts = &mut counts[from..to];
-        counts_of_block(slots, fingerprints, block, &hashes[..block.len()], counts);
-    }
-}
-
-/// Writes down the count of each item, one after another.
-#[inline(always)]
-fn counts_in_turn<T: Eq + Hash>(
-    slots: &[Slot<T>],
-    fingerprints: &[u8],
-    items: &[T],
-    counts: &mut [u64],
-)
-    requires slots { IsSlots T.eq T.hash_input slots.now }
-    requires fingerprints { AreFingerprints T.hash_input slots.now fingerprints.now }
-    requires same { length counts.old ≡ length items.now }
-    ensures { counts.new ≡ map (count_of T.eq (entries_of slots.now)) items.now }
-{
-    'each: for i in 0..items.len() {
-        counts[i] = count_in(slots, fingerprints, &items[i]);
-    }
-}
-
-/// Writes down the count of each item. It is not inlined, so that its loops have the processor's registers to themselves.
+/// Writes down the count of each item, one after another, or of a large table block by block.
+///
+/// It is not inlined, so that its loops have the processor's registers to themselves.
 #[inline(never)]
 pub(crate) fn counts_of<T: Eq + Hash>(
     slots: &[Slot<T>],
@@ -155,8 +115,18 @@ pub(crate) fn counts_of<T: Eq + Hash>(
     ensures { counts.new ≡ map (count_of T.eq (entries_of slots.now)) items.now }
 {
     if slots.len() < LARGE_TABLE {
-        counts_in_turn(slots, fingerprints, items, counts);
-    } else {
-        counts_by_blocks(slots, fingerprints, items, counts);
+        'each: for i in 0..items.len() {
+            counts[i] = count_in(slots, fingerprints, &items[i]);
+        }
+        return;
+    }
+    let blocks = items.len().div_ceil(BLOCK);
+    'by_block: for b in 0..blocks {
+        let from = BLOCK * b;
+        let to = from + BLOCK.min(items.len() - from);
+        let block = &items[from..to];
+        let hashes = hashes_of_block(block);
+        let counts = &mut counts[from..to];
+        counts_of_block(slots, fingerprints, block, &hashes[..block.len()], counts);
     }
 }

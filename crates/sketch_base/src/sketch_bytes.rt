@@ -1,5 +1,5 @@
 //! A buffer that is written at its end.
-ghost use Rattle.std.specs.Prelude.{◌≡◌, ◌+◌, ◌≤◌, [], ◌∷◌, ◌++◌, length, max, IfOk, OnOk, IfErr, OnErr, IsOk};
+ghost use Rattle.std.specs.Prelude.{◌≡◌, ◌+◌, ◌*◌, ◌≤◌, [], ◌∷◌, ◌++◌, length, max, IfOk, OnOk, IfErr, OnErr, IsOk};
 ghost use Rattle.std.specs.Int.{w16, w32, w64, to_le_bytes, cast_unsigned};
 ghost use Rattle.sketch_base.specs.Errors.{no_memory};
 
@@ -74,7 +74,37 @@ impl SketchBytes {
         ensures no_memory { IfErr result (λ e. e ≡ no_memory) }
         ensures err { OnErr result (self.new.bytes ≡ self.old.bytes) }
     {
-        self.bytes.extend_from_slice(part)?;
+        let n = part.len();
+        if n > 8 && n <= 16 {
+            self.write_ends::<8>(part)
+        } else if n > 4 && n < 8 {
+            self.write_ends::<4>(part)
+        } else {
+            Ok(self.bytes.extend_from_slice(part)?)
+        }
+    }
+
+    /// Writes few bytes as the first so many and the last so many of them, which meet or overlap, with no call out of line.
+    #[inline(always)]
+    fn write_ends<const WIDTH: usize>(&mut self, part: &[u8]) -> Result<(), Error>
+        requires at_least { WIDTH ≤ length part.now }
+        requires at_most { length part.now ≤ 2 * WIDTH }
+        ensures ok { OnOk result (self.new.bytes ≡ self.old.bytes ++ part.now) }
+        ensures within { length self.old.bytes + length part.now ≤ self.old.capacity → IsOk result }
+        ensures capacity { self.old.capacity ≤ self.new.capacity }
+        ensures no_memory { IfErr result (λ e. e ≡ no_memory) }
+        ensures err { OnErr result (self.new.bytes ≡ self.old.bytes) }
+    {
+        let mut first = [0; WIDTH];
+        let mut last = [0; WIDTH];
+        let rest = part.len() - WIDTH;
+        first.copy_from_slice(&part[..WIDTH]);
+        last.copy_from_slice(&part[rest..]);
+        self.bytes.reserve(part.len())?;
+        let until = self.bytes.len() + rest;
+        self.bytes.extend_from_slice(&first)?;
+        self.bytes.truncate(until);
+        self.bytes.extend_from_slice(&last)?;
         Ok(())
     }
 

@@ -45,8 +45,9 @@ returns-in_ok-clone-in-None-clause-tracked g c =
     let a = answers g.met.T.Eq.laws g.met.T.Hash.respects_eq c.args.slots.now c.requires.slots c.args.item.now _ _ _ c.find_from-probe.ensures in
     ap is_some (a.looked_up ∙ c.in-None.is)
 
-pub returns-in_ok-clone-in-None-clause-slots : goal.returns-in_ok-clone-in-None-clause-slots
-returns-in_ok-clone-in-None-clause-slots g c =
+-- the clone was written to the free slot where the look-up ended
+wrote_clone : (g : given.Over) (c : goal.After-slice_known-in-None-1 g) → Wrote g.T.PartialEq.eq g.T.Hash.hash_input c.args.slots.now c.in_ok-clone-in-None.clone c.args.amount c.fill.new.slots
+wrote_clone g c =
     let a = answers g.met.T.Eq.laws g.met.T.Hash.respects_eq c.args.slots.now c.requires.slots c.args.item.now _ _ _ c.find_from-probe.ensures in
     let slots = c.args.slots.now in
     let x = c.args.item.now in
@@ -54,23 +55,17 @@ returns-in_ok-clone-in-None-clause-slots g c =
     let same = c.requires.clones x y c.in_ok-clone-in-None.ensures.cases in
     let absent = ap is_some (a.looked_up ∙ c.in-None.is) in
     let gap = subst (λ (h : ℕ). IsGap h slots c.find_from-probe.result.place c.find_from-probe.result.looked) (home_alike g.met.T.Hash.respects_eq (length slots) x y same) (gap_from_probe c.in-None.is c.find_from-probe.ensures) in
-    (wrote_gap g.met.T.Eq.laws g.T.Hash.hash_input slots c.requires.slots y c.args.amount c.find_from-probe.result.place c.find_from-probe.result.looked (tracked_alike g.met.T.Eq.laws _ x y same ∙ absent) (c.requires.room absent) gap c.fill.new.slots c.fill.ensures.slots).slots_ok
+    wrote_gap g.met.T.Eq.laws g.T.Hash.hash_input slots c.requires.slots y c.args.amount c.find_from-probe.result.place c.find_from-probe.result.looked (tracked_alike g.met.T.Eq.laws _ x y same ∙ absent) (c.requires.room absent) gap c.fill.new.slots c.fill.ensures.slots
+
+pub returns-in_ok-clone-in-None-clause-slots : goal.returns-in_ok-clone-in-None-clause-slots
+returns-in_ok-clone-in-None-clause-slots g c = (wrote_clone g c).slots_ok
 
 pub returns-in_ok-clone-in-None-clause-entries : goal.returns-in_ok-clone-in-None-clause-entries
-returns-in_ok-clone-in-None-clause-entries g c =
-    let a = answers g.met.T.Eq.laws g.met.T.Hash.respects_eq c.args.slots.now c.requires.slots c.args.item.now _ _ _ c.find_from-probe.ensures in
-    let slots = c.args.slots.now in
-    let x = c.args.item.now in
-    let y = c.in_ok-clone-in-None.clone in
-    let same = c.requires.clones x y c.in_ok-clone-in-None.ensures.cases in
-    let absent = ap is_some (a.looked_up ∙ c.in-None.is) in
-    let gap = subst (λ (h : ℕ). IsGap h slots c.find_from-probe.result.place c.find_from-probe.result.looked) (home_alike g.met.T.Hash.respects_eq (length slots) x y same) (gap_from_probe c.in-None.is c.find_from-probe.ensures) in
-    let w = wrote_gap g.met.T.Eq.laws g.T.Hash.hash_input slots c.requires.slots y c.args.amount c.find_from-probe.result.place c.find_from-probe.result.looked (tracked_alike g.met.T.Eq.laws _ x y same ∙ absent) (c.requires.room absent) gap c.fill.new.slots c.fill.ensures.slots in
-    record {
-      item = c.in_ok-clone-in-None.clone;
-      equal = c.requires.clones c.args.item.now c.in_ok-clone-in-None.clone c.in_ok-clone-in-None.ensures.cases;
-      entries = w.entries;
-    }
+returns-in_ok-clone-in-None-clause-entries g c = record {
+  item = c.in_ok-clone-in-None.clone;
+  equal = c.requires.clones c.args.item.now c.in_ok-clone-in-None.clone c.in_ok-clone-in-None.ensures.cases;
+  entries = (wrote_clone g c).entries;
+}
 
 pub returns-in-Some-clause-fingerprints : goal.returns-in-Some-clause-fingerprints
 returns-in-Some-clause-fingerprints g c =
