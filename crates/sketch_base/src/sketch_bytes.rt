@@ -66,7 +66,7 @@ impl SketchBytes {
     }
 
     /// Writes `part` at the end.
-    #[inline]
+    #[inline(always)]
     pub fn write(&mut self, part: &[u8]) -> Result<(), Error>
         ensures ok { OnOk result (self.new.bytes ≡ self.old.bytes ++ part.now) }
         ensures within { length self.old.bytes + length part.now ≤ self.old.capacity → IsOk result }
@@ -80,8 +80,21 @@ impl SketchBytes {
         } else if n > 4 && n < 8 {
             self.write_ends::<4>(part)
         } else {
-            Ok(self.bytes.extend_from_slice(part)?)
+            self.write_whole(part)
         }
+    }
+
+    /// Writes `part` as one piece.
+    #[inline]
+    fn write_whole(&mut self, part: &[u8]) -> Result<(), Error>
+        ensures ok { OnOk result (self.new.bytes ≡ self.old.bytes ++ part.now) }
+        ensures within { length self.old.bytes + length part.now ≤ self.old.capacity → IsOk result }
+        ensures capacity { self.old.capacity ≤ self.new.capacity }
+        ensures no_memory { IfErr result (λ e. e ≡ no_memory) }
+        ensures err { OnErr result (self.new.bytes ≡ self.old.bytes) }
+    {
+        self.bytes.extend_from_slice(part)?;
+        Ok(())
     }
 
     /// Writes few bytes as the first so many and the last so many of them, which meet or overlap, with no call out of line.
