@@ -8,7 +8,7 @@ ghost use Rattle.sketch_bloom.specs.Image.{early_fault, preamble};
 ghost use Rattle.sketch_bloom.specs.Preamble.{IsPreamble};
 
 use crate::limits::{MAX_NUM_HASHES, MAX_NUM_WORDS};
-use sketch_base::image::{SERIAL_VERSION, check_length, check_version, u16_at, u32_at, u64_at};
+use sketch_base::image::{SERIAL_VERSION, u16_at, u32_at, u64_at};
 use sketch_base::{Error, Family, Fault, SketchBytes};
 use std::alloc::{AllocError, Global};
 
@@ -44,32 +44,52 @@ pub fn read_preamble(image: &[u8]) -> Result<Preamble, Error>
     ensures few_hashes { IfOk result (λ p. p.num_hashes ≤ MAX_NUM_HASHES) }
     ensures err { IfErr result (λ e. (e ≡ invalid_data e.fault) × (early_fault image.now ≡ Some e.fault)) }
 {
-    check_length(image, 4)?;
-    Family::BLOOMFILTER.validate_id(image[2])?;
-    check_version(image[1])?;
-    if image[0] != PREAMBLE_LONGS_EMPTY && image[0] != PREAMBLE_LONGS_NONEMPTY {
-        return Err(Error::invalid_data(Fault::BadPreamble));
-    }
-    check_length(image, 6)?;
-    let num_hashes = u16_at(image, 4);
-    if num_hashes == 0 || num_hashes > MAX_NUM_HASHES {
-        return Err(Error::invalid_data(Fault::BadNumHashes));
-    }
-    check_length(image, 24)?;
-    let num_words = u32_at(image, 16) as usize;
-    if num_words == 0 || num_words > MAX_NUM_WORDS {
-        return Err(Error::invalid_data(Fault::BadNumWords));
-    }
-    let is_empty = image[3] & EMPTY_FLAG_MASK != 0;
-    if !is_empty {
-        check_length(image, 32 + 8 * num_words)?;
+    if let Some(fault) = fault_of(image) {
+        return Err(Error::invalid_data(fault));
     }
     Ok(Preamble {
-        is_empty,
-        num_hashes,
+        is_empty: image[3] & EMPTY_FLAG_MASK != 0,
+        num_hashes: u16_at(image, 4),
         seed: u64_at(image, 8),
-        num_words,
+        num_words: u32_at(image, 16) as usize,
     })
+}
+
+/// The fault of the first check that fails, of those that come before memory is asked for.
+fn fault_of(image: &[u8]) -> Option<Fault>
+    ensures { result ≡ early_fault image.now }
+{
+    if image.len() < 4 {
+        return Some(Fault::InsufficientData);
+    }
+    if image[2] != Family::BLOOMFILTER.id {
+        return Some(Fault::BadFamily);
+    }
+    if image[1] != SERIAL_VERSION {
+        return Some(Fault::BadVersion);
+    }
+    if image[0] != PREAMBLE_LONGS_EMPTY && image[0] != PREAMBLE_LONGS_NONEMPTY {
+        return Some(Fault::BadPreamble);
+    }
+    if image.len() < 6 {
+        return Some(Fault::InsufficientData);
+    }
+    let num_hashes = u16_at(image, 4);
+    if num_hashes == 0 || num_hashes > MAX_NUM_HASHES {
+        return Some(Fault::BadNumHashes);
+    }
+    if image.len() < 24 {
+        return Some(Fault::InsufficientData);
+    }
+    let num_words = u32_at(image, 16) as usize;
+    if num_words == 0 || num_words > MAX_NUM_WORDS {
+        return Some(Fault::BadNumWords);
+    }
+    let is_empty = image[3] & EMPTY_FLAG_MASK != 0;
+    if !is_empty && image.len() < 32 + 8 * num_words {
+        return Some(Fault::InsufficientData);
+    }
+    None
 }
 
 /// Reads so many words that stand behind the preamble, and counts the bits that are set.
@@ -114,13 +134,33 @@ pub fn begin_image(
     ensures seed_fits { seed < 2 ^ 64 }
 {
     let mut out = SketchBytes::with_capacity(alloc, room)?;
-    out.write(&[longs, SERIAL_VERSION, Family::BLOOMFILTER.id, flags])?;
-    out.write_u16_le(num_hashes)?;
-    out.write(&[0, 0])?;
-    out.write_u64_le(seed)?;
-    out.write_u32_le(num_words as u32)?;
-    out.write(&[0, 0, 0, 0])?;
+    write_preamble(&mut out, longs, flags, num_hashes, seed, num_words)?;
     Ok(out)
+}
+
+/// Writes the preamble of an image.
+fn write_preamble(
+    out: &mut SketchBytes,
+    longs: u8,
+    flags: u8,
+    num_hashes: u16,
+    seed: u64,
+    num_words: usize,
+) -> Result<(), Error>
+    requires { num_words ≤ MAX_NUM_WORDS }
+    ensures ok { OnOk result (out.new.bytes ≡ out.old.bytes ++ preamble longs flags num_hashes seed num_words) }
+    ensures err { IfErr result (λ e. e ≡ no_memory) }
+{
+    let version = SERIAL_VERSION;
+    let family = Family::BLOOMFILTER.id;
+    let hashes = num_hashes.to_le_bytes();
+    let seed = seed.to_le_bytes();
+    let words = (num_words as u32).to_le_bytes();
+    out.write(&[
+        longs, version, family, flags, hashes[0], hashes[1], 0, 0, seed[0], seed[1], seed[2],
+        seed[3], seed[4], seed[5], seed[6], seed[7], words[0], words[1], words[2], words[3], 0, 0,
+        0, 0,
+    ])
 }
 
 /// How many words are written at once.
