@@ -1,5 +1,5 @@
 -- What is read is what the image says.
-use Rattle.std.proofs.Common.{◌≡◌, ◌≢◌, ℕ, zero, suc, ◌*◌, ◌+◌, ◌<◌, ◌≤◌, ◌^◌, Bool, true, false, List, [], ◌∷◌, length, drop, get_or, Option, Some, None, ℤ, pos, unsigned_abs, ◌≤ℤ◌, T, replicate, ◌++◌, refl, sym, ap, subst, ◌∙◌, arith, eq-eqb, All}
+use Rattle.std.proofs.Common.{◌≡◌, ◌≢◌, ℕ, zero, suc, ◌*◌, ◌+◌, ◌<◌, ◌≤◌, ◌^◌, Bool, true, false, ◌||◌, List, [], ◌∷◌, length, drop, get_or, Option, Some, None, ℤ, pos, unsigned_abs, ◌≤ℤ◌, T, replicate, ◌++◌, refl, sym, ap, subst, ◌∙◌, arith, eq-eqb, All}
 use Rattle.std.specs.Prelude.{slice_index, if◌then◌else◌, nat_le, nat_lt, int_le}
 use Rattle.std.specs.Int.Signed.{le_z_yes}
 use Rattle.std.proofs.lemmas.Bool.{leb-true, ltb-true, le-ltb, and_parts, not-true, false≢true}
@@ -97,16 +97,38 @@ each_passes (check ∷ checks) h =
     first_passes true fault rest h = (refl, h)
     first_passes false fault rest h = cc
 
+-- what holds of an image where no early check fails
+pub record PassesEarly (seed : ℕ) (image : List ℕ) : Type 0 where
+  pub long : 16 ≤ length image
+  pub seeded : seed_hash seed ≢ 0
+  pub some_hashes : 1 ≤ hashes_at image
+  pub some_buckets : 3 ≤ buckets_at image
+  pub few_cells : num_cells_at image < 1073741824
+  pub cells : says_empty image ≡ false → 24 + 8 * num_cells_at image ≤ length image
+
+pub passes_early : (seed : ℕ) (image : List ℕ) → early_fault seed image ≡ None → PassesEarly seed image
+passes_early seed image passes = record {
+  long = leb-true 16 (length image) (check 4 (omega arith));
+  seeded = λ zero. false≢true (sym (not-true _ (check 5 (omega arith))) ∙ eq-eqb (seed_hash seed) 0 zero);
+  some_hashes = leb-true 1 (hashes_at image) (check 7 (omega arith));
+  some_buckets = leb-true 3 (buckets_at image) (check 8 (omega arith));
+  few_cells = ltb-true (num_cells_at image) 1073741824 (check 9 (omega arith));
+  cells = λ full. leb-true (24 + 8 * num_cells_at image) (length image) (second (says_empty image) _ full (check 10 (omega arith)));
+}
+  where
+    check : (k : ℕ) → k < 11 → (get_or (early_checks seed image) k (true, InsufficientData)).0 ≡ true
+    check k lt = All-get_or (λ (c : Bool × Fault). c.0 ≡ true) (early_checks seed image) k (true, InsufficientData) lt (each_passes (early_checks seed image) passes)
+
+    second : (a b : Bool) → a ≡ false → (a || b) ≡ true → b ≡ true
+    second true b full h = cc
+    second false b full h = h
+
 -- the greatest limit refuses nothing
 no_limit : (size seed : ℕ) (image : List ℕ) → size ≤ 8 → early_fault seed image ≡ None → limit_fault size 18446744073709551615 image ≡ None
 no_limit size seed image small passes =
-    let checks = early_checks seed image in
-    let none : Bool × Fault = (true, InsufficientData) in
-    let each = each_passes checks passes in
-    let buckets : (nat_le 3 (buckets_at image)) ≡ true = All-get_or (λ (c : Bool × Fault). c.0 ≡ true) checks 8 none (omega arith) each in
-    let cells : (nat_lt (num_cells_at image) 1073741824) ≡ true = All-get_or (λ (c : Bool × Fault). c.0 ≡ true) checks 9 none (omega arith) each in
-    by_size (hashes_at image) (num_cells_at image) (leb-true _ _ buckets) (ltb-true _ _ cells)
-    (mul-le (hashes_at image) 1 (hashes_at image) (buckets_at image) (omega arith) (omega (arith, leb-true _ _ buckets))) (mul-le (num_cells_at image) size (num_cells_at image) 8 (omega arith) small)
+    let image_is = passes_early seed image passes in
+    by_size (hashes_at image) (num_cells_at image) image_is.some_buckets image_is.few_cells
+    (mul-le (hashes_at image) 1 (hashes_at image) (buckets_at image) (omega arith) (omega (arith, image_is.some_buckets))) (mul-le (num_cells_at image) size (num_cells_at image) 8 (omega arith) small)
   where
     by_size : (hashes cells : ℕ) → 3 ≤ buckets_at image → cells < 1073741824 → hashes * 1 ≤ cells → cells * size ≤ cells * 8 → (if nat_lt 18446744073709551615 (cells * size + 8 * hashes) then Some (Fault.TableTooLarge) else None) ≡ None
     by_size hashes cells wide few many long = rw (le-ltb 18446744073709551615 (cells * size + 8 * hashes) (omega arith)) refl
@@ -150,34 +172,21 @@ state_at least greatest seed image bytes passes = by_flag (says_empty image) ref
     parts : (early_fault seed image ≡ None) × (late_fault least greatest image ≡ None)
     parts = neither (early_fault seed image) (late_fault least greatest image) passes
 
-    check : (k : ℕ) → k < 11 → (get_or (early_checks seed image) k (true, InsufficientData)).0 ≡ true
-    check k lt = All-get_or (λ (c : Bool × Fault). c.0 ≡ true) (early_checks seed image) k (true, InsufficientData) lt (each_passes (early_checks seed image) parts.0)
-
-    some_hashes : 1 ≤ hashes_at image
-    some_hashes = leb-true 1 (hashes_at image) (check 7 (omega arith))
+    early : PassesEarly seed image
+    early = passes_early seed image parts.0
 
     few_hashes : hashes_at image ≤ 255
     few_hashes =
-        let long : 16 ≤ length image = leb-true 16 (length image) (check 4 (omega arith)) in
-        let byte : hashes_at image < 2 ^ 8 = All-get_or (λ (n : ℕ). n < 2 ^ 8) image 12 0 (omega (arith, long)) bytes in
+        let byte : hashes_at image < 2 ^ 8 = All-get_or (λ (n : ℕ). n < 2 ^ 8) image 12 0 (omega (arith, early.long)) bytes in
         omega (arith, byte)
-
-    some_buckets : 3 ≤ buckets_at image
-    some_buckets = leb-true 3 (buckets_at image) (check 8 (omega arith))
-
-    few_cells : num_cells_at image < 1073741824
-    few_cells = ltb-true (num_cells_at image) 1073741824 (check 9 (omega arith))
-
-    seeded : seed_hash seed ≢ 0
-    seeded = λ zero. false≢true (sym (not-true _ (check 5 (omega arith))) ∙ eq-eqb (seed_hash seed) 0 zero)
 
     by_flag : (b : Bool) → says_empty image ≡ b → IsCountState greatest (value_at least seed image)
     by_flag true e = rw e (record {
-      some_hashes = omega (arith, some_hashes);
+      some_hashes = omega (arith, early.some_hashes);
       few_hashes = few_hashes;
-      some_buckets = some_buckets;
-      few_cells = few_cells;
-      seeded = seeded;
+      some_buckets = early.some_buckets;
+      few_cells = early.few_cells;
+      seeded = early.seeded;
       height = length-replicate (hashes_at image) (replicate (buckets_at image) (pos 0));
       width = All-from_get_or (λ (row : List ℤ). length row ≡ buckets_at image) (replicate (hashes_at image) (replicate (buckets_at image) (pos 0))) []
           (λ i lt. ap length (get_or-replicate (hashes_at image) i (replicate (buckets_at image) (pos 0)) [] (omega (arith, lt, length-replicate (hashes_at image) (replicate (buckets_at image) (pos 0))))) ∙ length-replicate (buckets_at image) (pos 0));
@@ -190,11 +199,11 @@ state_at least greatest seed image bytes passes = by_flag (says_empty image) ref
         let cells = cells_checks least greatest (unsigned_abs (total_at least image)) (cells_at least image) in
         let both : (first_failing totals ≡ None) × (first_failing cells ≡ None) = neither (first_failing totals) (first_failing cells) (sym (first_failing-append totals cells) ∙ late) in
         rw e (record {
-          some_hashes = omega (arith, some_hashes);
+          some_hashes = omega (arith, early.some_hashes);
           few_hashes = few_hashes;
-          some_buckets = some_buckets;
-          few_cells = few_cells;
-          seeded = seeded;
+          some_buckets = early.some_buckets;
+          few_cells = early.few_cells;
+          seeded = early.seeded;
           height = length-rows_of (hashes_at image) (buckets_at image) (cells_at least image);
           width = rows_width (hashes_at image) (buckets_at image) (cells_at least image) (length-numbers_in least (num_cells_at image) (drop 24 image));
           fits = total_fits least greatest (total_at least image) both.0;

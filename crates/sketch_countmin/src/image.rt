@@ -10,10 +10,8 @@ ghost use Rattle.sketch_countmin.specs.Values.{InRange, bytes_of};
 
 use crate::count_min_value::CountMinValue;
 use crate::limits::{MAX_TABLE_ENTRIES, MIN_NUM_BUCKETS};
-use sketch_base::image::{SERIAL_VERSION, check_length, check_version, u16_at, u32_at};
-use sketch_base::{
-    Error, ErrorKind, Family, Fault, SketchBytes, check_seed_hash, compute_seed_hash,
-};
+use sketch_base::image::{SERIAL_VERSION, u16_at, u32_at};
+use sketch_base::{Error, ErrorKind, Family, Fault, SketchBytes, compute_seed_hash};
 use std::alloc::Global;
 
 /// The longs of the preamble.
@@ -42,36 +40,58 @@ pub fn read_preamble(image: &[u8], seed: u64) -> Result<Preamble, Error>
     ensures seeded { OnOk result (seed_hash seed ≢ 0) }
     ensures err { IfErr result (λ e. (e ≡ invalid_data e.fault) × (early_fault seed image.now ≡ Some e.fault)) }
 {
-    check_length(image, 8)?;
-    Family::COUNTMIN.validate_id(image[2])?;
-    check_version(image[1])?;
-    if image[0] != PREAMBLE_LONGS {
-        return Err(Error::invalid_data(Fault::BadPreamble));
+    if let Some(fault) = fault_of(image, seed) {
+        return Err(Error::invalid_data(fault));
     }
-    check_length(image, 16)?;
-    let hash = compute_seed_hash(seed, ErrorKind::InvalidData)?;
-    check_seed_hash(hash, u16_at(image, 13), ErrorKind::InvalidData)?;
+    Ok(Preamble {
+        is_empty: image[3] & EMPTY_FLAG_MASK != 0,
+        num_hashes: image[12],
+        num_buckets: u32_at(image, 8),
+    })
+}
+
+/// The fault of the first check that fails, of those that come before memory is asked for.
+fn fault_of(image: &[u8], seed: u64) -> Option<Fault>
+    ensures { result ≡ early_fault seed image.now }
+{
+    if image.len() < 8 {
+        return Some(Fault::InsufficientData);
+    }
+    if image[2] != Family::COUNTMIN.id {
+        return Some(Fault::BadFamily);
+    }
+    if image[1] != SERIAL_VERSION {
+        return Some(Fault::BadVersion);
+    }
+    if image[0] != PREAMBLE_LONGS {
+        return Some(Fault::BadPreamble);
+    }
+    if image.len() < 16 {
+        return Some(Fault::InsufficientData);
+    }
+    let Ok(hash) = compute_seed_hash(seed, ErrorKind::InvalidData) else {
+        return Some(Fault::ZeroSeedHash);
+    };
+    if hash != u16_at(image, 13) {
+        return Some(Fault::SeedHashMismatch);
+    }
     let num_hashes = image[12];
     if num_hashes == 0 {
-        return Err(Error::invalid_data(Fault::BadNumHashes));
+        return Some(Fault::BadNumHashes);
     }
     let num_buckets = u32_at(image, 8);
     if num_buckets < MIN_NUM_BUCKETS {
-        return Err(Error::invalid_data(Fault::BadNumBuckets));
+        return Some(Fault::BadNumBuckets);
     }
     let num_cells = num_hashes as usize * num_buckets as usize;
     if num_cells >= MAX_TABLE_ENTRIES {
-        return Err(Error::invalid_data(Fault::TableTooLarge));
+        return Some(Fault::TableTooLarge);
     }
     let is_empty = image[3] & EMPTY_FLAG_MASK != 0;
-    if !is_empty {
-        check_length(image, 24 + 8 * num_cells)?;
+    if !is_empty && image.len() < 24 + 8 * num_cells {
+        return Some(Fault::InsufficientData);
     }
-    Ok(Preamble {
-        is_empty,
-        num_hashes,
-        num_buckets,
-    })
+    None
 }
 
 /// Reads the value in the eight bytes from a place on, and sees that the type has it.
@@ -160,13 +180,30 @@ pub fn begin_image(
     ensures err { IfErr result (λ e. e ≡ no_memory) }
 {
     let mut out = SketchBytes::with_capacity(alloc, room)?;
-    out.write(&[PREAMBLE_LONGS, SERIAL_VERSION, Family::COUNTMIN.id, flags])?;
-    out.write(&[0, 0, 0, 0])?;
-    out.write_u32_le(num_buckets)?;
-    out.write_u8(num_hashes)?;
-    out.write_u16_le(hash)?;
-    out.write_u8(0)?;
+    write_preamble(&mut out, flags, num_buckets, num_hashes, hash)?;
     Ok(out)
+}
+
+/// Writes the preamble of an image.
+fn write_preamble(
+    out: &mut SketchBytes,
+    flags: u8,
+    num_buckets: u32,
+    num_hashes: u8,
+    hash: u16,
+) -> Result<(), Error>
+    ensures ok { OnOk result (out.new.bytes ≡ out.old.bytes ++ preamble flags num_buckets num_hashes hash) }
+    ensures err { IfErr result (λ e. e ≡ no_memory) }
+{
+    let longs = PREAMBLE_LONGS;
+    let version = SERIAL_VERSION;
+    let family = Family::COUNTMIN.id;
+    let buckets = num_buckets.to_le_bytes();
+    let hash = hash.to_le_bytes();
+    out.write(&[
+        longs, version, family, flags, 0, 0, 0, 0, buckets[0], buckets[1], buckets[2], buckets[3],
+        num_hashes, hash[0], hash[1], 0,
+    ])
 }
 
 /// How many cells are written at once.

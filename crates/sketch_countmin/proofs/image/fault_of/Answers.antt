@@ -1,6 +1,6 @@
 use Rattle.std.proofs.Common.{arith, get_or}
 use Rattle.sketch_countmin.proofs.Numbers.{cells_fit}
-use Rattle.sketch_countmin.proofs.image.read_preamble.Goals as goal
+use Rattle.sketch_countmin.proofs.image.fault_of.Goals as goal
 
 pub overflow_mul-num_cells : goal.overflow_mul-num_cells
 overflow_mul-num_cells c = record { fits = cells_fit (get_or c.args.image.now 12 0) c.u32_at-num_buckets.result (c.type_inv.image 12).fits c.u32_at-num_buckets.type_inv }
