@@ -14,7 +14,7 @@ ghost use Rattle.sketch_frequencies.specs.Writing.{WritesItems};
 use crate::frequent_item_value::FrequentItemValue;
 use counter_table::{ReversePurgeItemHashMap, Slot, bytes_of_table, capacity_of};
 use sketch_base::image::{SERIAL_VERSION, check_length, check_version, u32_at, u64_at};
-use sketch_base::{Error, ErrorKind, Family, Fault, SketchBytes, SketchSlice};
+use sketch_base::{Error, Family, Fault, SketchBytes, SketchSlice};
 use std::alloc::Global;
 
 /// The longs of the preamble of a sketch into which nothing was fed.
