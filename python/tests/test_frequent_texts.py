@@ -3,6 +3,7 @@ import array
 import copy
 import pickle
 import random
+import struct
 import unittest
 from collections import Counter
 
@@ -185,6 +186,23 @@ class Refusals(unittest.TestCase):
             with self.assertRaises(ValueError):
                 call()
         self.assertEqual(repr(heavy), "<FrequentItems, closed>")
+
+
+class Images(unittest.TestCase):
+    def test_texts_of_each_length(self):
+        texts = ["abcdefghijklmnopqrstuvwxyz0123456789ABCD"[:length] for length in range(41)]
+        heavy = ds.FrequentItems(64, item=str)
+        for text in texts:
+            heavy.update(text, len(text) + 1)
+        image = heavy.to_bytes()
+        self.assertEqual(struct.unpack_from("<I4xQQ", image, 8), (41, sum(range(1, 42)), 0))
+        read, at = [], 32 + 8 * 41
+        for weight in struct.unpack_from("<41Q", image, 32):
+            (length,) = struct.unpack_from("<I", image, at)
+            read.append((image[at + 4:at + 4 + length].decode(), weight))
+            at += 4 + length
+        self.assertEqual(at, len(image))
+        self.assertEqual(sorted(read), sorted((text, len(text) + 1) for text in texts))
 
 
 if __name__ == "__main__":
