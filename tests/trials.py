@@ -37,20 +37,14 @@ def values(bits, signed):
     ] + ([] if signed else [f"half {greatest // 2}"])
 
 
-SPAM = 0xFBCEA83C8A378BF1
-FOX = 0xE34BBC7BBC071B6C ^ 0x7A433CA9C49A9347
 OVERFLOW = "refused argument WeightOverflow"
 
 QUESTIONS = ["numbers 3 8 3 6 224", "counts 3 0 5 0 3 0"]
 WALK = ["walk 3 0 10 0 0", "looked true"]
 
-# Calls that take no memory. Hashes, positions and buckets are published, or those of a program in another language,
-# written from the public descriptions.
+# Calls that take no memory. Positions and buckets are those of a program in another language, written from the public
+# descriptions.
 ALLOCATION_FREE = {
-    "allocation-free_hashes": [
-        f"texts {SPAM} {SPAM} {0x44BC2CF5AD770999} {FOX} {FOX} {0xCB57126DD8878D21}",
-        f"items {0x3A92A5C0E5AA0E19} {0xF9870733D517E9C1} {0xB1214042AB4DFAD7} {0xB1214042AB4DFAD7}",
-    ],
     "allocation-free_seeds": [f"seed {0x93CC}", "faults none ZeroSeedHash SeedHashMismatch none"],
     "allocation-free_refusals": [
         "refusal memory NoMemory out of memory",
@@ -72,9 +66,7 @@ ALLOCATION_FREE = {
     "allocation-free_writes": ["writes" + 7 * " none", "bytes 29 3269"],
     "allocation-free_reads": [f"number {number}" for number in (5, 258, 3, -2, 7, -4)] + ["bytes 97 98", "left 2"],
     "allocation-free_short_reads": ["InsufficientData left 0"] + 5 * ["InsufficientData left 1"] + ["InsufficientData"],
-    # the greatest number of 64 bits ends in 615
     "allocation-free_fields": ["fields 258 3 -2 7"],
-    "allocation-free_remainders": ["remainder 1000 615"],
     "allocation-free_signed_values": [line for bits in (8, 16, 32, 64) for line in values(bits, True)],
     "allocation-free_unsigned_values": [line for bits in (8, 16, 32, 64) for line in values(bits, False)],
     "allocation-free_updates_of_tracked": ["updates none", "frequent 6 0 7 6 64 2/2/2 0/0/0"],

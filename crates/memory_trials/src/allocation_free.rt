@@ -30,7 +30,6 @@ pub fn play(trial: &mut Trial, calls: &str) -> Result<(), SetupFailed> {
 
 fn play_parts(trial: &mut Trial, calls: &str) -> Result<(), SetupFailed> {
     match calls {
-        "hashes" => base::hashes(trial),
         "seeds" => base::seeds(trial),
         "refusals" => base::refusals(trial),
         "writes" => base::writes(trial),
@@ -38,7 +37,6 @@ fn play_parts(trial: &mut Trial, calls: &str) -> Result<(), SetupFailed> {
         "reads" => base::reads(trial),
         "short_reads" => base::short_reads(trial),
         "fields" => base::fields(trial),
-        "remainders" => base::remainders(trial),
         "texts" => base::texts(trial),
         "signed_values" => values::signed(trial),
         "unsigned_values" => values::unsigned(trial),

@@ -5,75 +5,9 @@ use crate::trial::{SetupFailed, Trial, counted, write_line};
 use datasketches::codec::{SketchBytes, SketchSlice};
 use datasketches::error::{Error, ErrorKind, Fault};
 use datasketches::frequencies::FrequentItemValue;
-use datasketches::hash::{MurmurHash3X64128, XxHash64, check_seed_hash, compute_seed_hash};
+use datasketches::hash::{check_seed_hash, compute_seed_hash};
 use sketch_base::image::{i32_at, u16_at, u32_at, u64_at};
-use sketch_base::{Divisor, SeedlessItem, murmur3_of, murmur3_of_u64, xxh64_of};
 use std::fmt::Write;
-use std::hash::Hasher;
-
-/// A text with a published XXH64, longer than a stripe.
-const SPAM: &[u8] = b"Nobody inspects the spammish repetition";
-
-/// A text with a published MurmurHash3 x64 128, longer than two blocks.
-const FOX: &[u8] = b"The quick brown fox jumps over the lazy dog";
-
-/// Feeds a text in two pieces.
-fn feed<H: Hasher>(hasher: &mut H, text: &[u8], at: usize) {
-    let at = at.min(text.len());
-    hasher.write(&text[..at]);
-    hasher.write(&text[at..]);
-}
-
-fn xxh64(text: &[u8], at: usize) -> u64 {
-    let mut hasher = XxHash64::with_seed(0);
-    feed(&mut hasher, text, at);
-    hasher.finish()
-}
-
-fn murmur3(text: &[u8], at: usize) -> u64 {
-    let mut hasher = MurmurHash3X64128::with_seed(0);
-    feed(&mut hasher, text, at);
-    let (low, high) = hasher.finish128();
-    low ^ high
-}
-
-/// The hash of a text by the hasher of the usual seed.
-fn usual(text: &[u8]) -> u64 {
-    let mut hasher = MurmurHash3X64128::default();
-    hasher.write(text);
-    hasher.finish()
-}
-
-/// Hashes of texts that are fed whole, or cut within a block or a stripe.
-fn hashes_of_texts() -> [u64; 6] {
-    [
-        xxh64(SPAM, 0),
-        xxh64(SPAM, 7),
-        xxh64(b"abc", 1),
-        murmur3(FOX, 0),
-        murmur3(FOX, 7),
-        usual(b"abc"),
-    ]
-}
-
-/// Hashes of items.
-fn hashes_of_items() -> [u64; 4] {
-    [
-        xxh64_of(&7u64, 9001),
-        murmur3_of(&7u64, 9001).0,
-        murmur3_of_u64(7, 9001).1,
-        SeedlessItem::new(&7u64).murmur3(9001).1,
-    ]
-}
-
-/// Hashes of texts and of items.
-pub fn hashes(trial: &mut Trial) -> Result<(), SetupFailed> {
-    let texts = counted!(trial, hashes_of_texts());
-    let items = counted!(trial, hashes_of_items());
-    write_values(trial, "texts", &texts);
-    write_values(trial, "items", &items);
-    Ok(())
-}
 
 /// Why seeds or hashes of seeds are refused, if they are: the second seed has the hash 0.
 fn faults_of_seeds() -> [&'static str; 4] {
@@ -264,22 +198,9 @@ fn fields_of_image() -> [i64; 4] {
     ]
 }
 
-/// A divisor, and the remainder of the greatest number.
-fn remainder() -> [u64; 2] {
-    let divisor = Divisor::new(1000);
-    [divisor.divisor(), divisor.rem(u64::MAX)]
-}
-
 /// The fields of images.
 pub fn fields(trial: &mut Trial) -> Result<(), SetupFailed> {
     let numbers = counted!(trial, fields_of_image());
     write_values(trial, "fields", &numbers);
-    Ok(())
-}
-
-/// A remainder.
-pub fn remainders(trial: &mut Trial) -> Result<(), SetupFailed> {
-    let numbers = counted!(trial, remainder());
-    write_values(trial, "remainder", &numbers);
     Ok(())
 }
