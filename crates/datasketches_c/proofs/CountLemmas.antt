@@ -3,7 +3,7 @@ use Rattle.std.proofs.Common.{◌≡◌, ℕ, ◌+◌, ◌-◌, ◌<◌, ◌≤�
 use Rattle.std.specs.Prelude.{◌==◌, count_by, Option, Result, Ok, Err, IsOk, OnOk}
 use Rattle.std.proofs.lemmas.Int.{ints}
 use Rattle.std.proofs.lemmas.Bool.{cases_eq, false≢true}
-use Rattle.std.proofs.lemmas.List.{map-id, length_push, length-map, length-take-le, take-map, map_more, map-set, get_or-map}
+use Rattle.std.proofs.lemmas.List.{map-id, length_push, length-map, length-take-le, take_all, take-map, map_more, map-set, get_or-map}
 use Rattle.std.proofs.lemmas.List.Sums.{sum_by_push}
 use Rattle.sketch_countmin.specs.Buckets.{bucket_of}
 use Rattle.sketch_countmin.specs.Rows.{cell_at}
@@ -54,6 +54,26 @@ counts_stop bytes_of items i greatest old mid there all fits over =
     let so_many : length (map bytes_of (take i items)) ≡ i = length-map (take i items) bytes_of ∙ length-take-le i items there in
     let room : greatest - old.total ≡ i = omega (arith, all.total) in
     subst (λ xs. CountsAll old xs mid) (sym (ap (λ (n : ℕ). take n (map bytes_of items)) room ∙ take-map bytes_of i items)) all
+
+-- and more items than there was room for
+pub counts_short : {I : Type 0} (bytes_of : I → List ℕ) (items : List I) (i greatest : ℕ) (old mid : CountState) → i < length items
+    → CountsAll old (map bytes_of (take i items)) mid → greatest < mid.total + 1 → greatest < old.total + length items
+counts_short bytes_of items i greatest old mid there all over =
+    let so_far : i ≤ length items = omega arith in
+    let so_many : length (map bytes_of (take i items)) ≡ i = length-map (take i items) bytes_of ∙ length-take-le i items so_far in
+    omega (arith, all.total)
+
+-- all items are counted, so there was room for them
+pub counts_whole : {I : Type 0} (bytes_of : I → List ℕ) (items : List I) (i greatest : ℕ) (old mid : CountState) → length items ≤ i
+    → CountsAll old (map bytes_of (take i items)) mid → mid.total ≤ greatest
+    → CountsAll old (take (greatest - old.total) (map bytes_of items)) mid × (old.total + length items ≤ greatest)
+counts_whole bytes_of items i greatest old mid here all fits =
+    let whole = take_all i items here in
+    let so_many : length (map bytes_of (take i items)) ≡ length items = length-map (take i items) bytes_of ∙ ap length whole in
+    let long : length (map bytes_of items) ≡ length items = length-map items bytes_of in
+    let fit : old.total + length items ≤ greatest = omega (arith, all.total) in
+    let room : length (map bytes_of items) ≤ greatest - old.total = omega arith in
+    (subst (λ xs. CountsAll old xs mid) (ap (map bytes_of) whole ∙ sym (take_all (greatest - old.total) (map bytes_of items) room)) all, fit)
 
 -- the estimates so far, and one more
 pub estimates_more : {I V : Type 0} (number : V → ℤ) (s : CountState) (bytes_of : I → List ℕ) (items : List I) (estimates : List V) (i : ℕ) (d item : I) (v : V)

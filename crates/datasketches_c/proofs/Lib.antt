@@ -1,11 +1,14 @@
 pub mod BoundsLemmas
+pub mod CountCallLemmas
 pub mod CountJoinLemmas
 pub mod CountLemmas
 pub mod FrequentLemmas
 pub mod Handles
 pub mod InTurnLemmas
+pub mod KindLemmas
 pub mod Reading
 pub mod ReadingCounts
+pub mod Reports
 pub mod TextLemmas
 pub mod TextReports
 pub mod TextRows

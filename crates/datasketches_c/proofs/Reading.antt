@@ -1,6 +1,6 @@
 -- Images that are read, and refusals to write one.
-use Rattle.std.proofs.Common.{◌≡◌, ℕ, ◌*◌, ◌≤◌, Bool, List, Option, Some, None, ℤ, pos, negsuc, cond, ap, subst, inl, inr, refl}
-use Rattle.std.proofs.lemmas.Bool.{le-ltb}
+use Rattle.std.proofs.Common.{◌≡◌, ℕ, ◌*◌, ◌<◌, ◌≤◌, Bool, List, length, take, drop, Option, Some, None, ℤ, pos, negsuc, cond, ap, sym, subst, inl, inr, refl}
+use Rattle.std.proofs.lemmas.Bool.{cases_lt, le-ltb}
 use Rattle.sketch_base.specs.Checks.{or_else, IsImageRefusal}
 use Rattle.sketch_base.specs.Errors.{ErrorValue}
 use Rattle.sketch_base.specs.declared.fault.Fault.{Fault}
@@ -13,8 +13,8 @@ use Rattle.sketch_frequencies.specs.Items.{Codec}
 use Rattle.sketch_frequencies.specs.State.{FrequentState}
 use denote.RattleType.{RattleType}
 use Rattle.datasketches_c.specs.FrequentImages.{WritesFrequent}
-use Rattle.datasketches_c.specs.Images.{IsRefusedImage}
-use Rattle.datasketches_c.specs.Numbers.{OnRefused, refusal_number}
+use Rattle.datasketches_c.specs.Images.{WritesImage, IsRefusedImage}
+use Rattle.datasketches_c.specs.Numbers.{OnRefused, ok, no_room, refusal_number}
 
 -- where neither an image nor the limit has a fault, none comes before memory
 pub none_before : (early limit late : Option Fault) → or_else early late ≡ None → limit ≡ None → or_else early limit ≡ None
@@ -43,6 +43,22 @@ pub refused_for_memory : (result : ℤ) (Kept : Type 0) (before whole : Option F
     → OnRefused result ((result ≡ refusal_number NoMemory) × Kept) → OnRefused result (Kept × IsRefusedImage before whole result)
 refused_for_memory (pos n) Kept before whole none said = tt
 refused_for_memory (negsuc n) Kept before whole none said = (said.1, inl (said.0, none))
+
+-- an image that was made and copied out was written
+pub copied_image : (Spelled : List ℕ → Type 0) (image out new : List ℕ) (written : ℕ) (result : ℤ) → Spelled image → written ≡ length image
+    → (length image ≤ length out → (result ≡ ok) × (take (length image) new ≡ image) × (drop (length image) new ≡ drop (length image) out))
+    → (length out < length image → (result ≡ no_room) × (new ≡ out)) → WritesImage Spelled out new written result
+copied_image Spelled image out new written result is counted copied few = elim (cases_lt (length out) (length image)) as (λ _. WritesImage Spelled out new written result) [
+  | inl short ↦ inr (inl ((few short).0, subst (λ (n : ℕ). length out < n) (sym counted) short, (image, is, sym counted)))
+  | inr fits ↦
+      let said = copied fits in
+      inl (
+        said.0,
+        subst (λ (n : ℕ). n ≤ length out) (sym counted) fits,
+        subst (λ (n : ℕ). Spelled (take n new)) (sym counted) (subst Spelled (sym said.1) is),
+        subst (λ (n : ℕ). drop n new ≡ drop n out) (sym counted) said.2,
+      )
+]
 
 -- a refusal to write an image, by its number
 pub refused_to_write : {T C : Type 0} (codec : Codec C) (content : T → C) (s : FrequentState T) (old new : List ℕ) (written : ℕ) (e : ErrorValue)

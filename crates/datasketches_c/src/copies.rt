@@ -1,42 +1,37 @@
 //! Copies of sketches.
-ghost use Rattle.std.specs.Prelude.{◌≡◌, Some};
-ghost use Rattle.datasketches_c.specs.Copies.{IsCopied};
+ghost use Rattle.std.specs.Prelude.{◌≡◌, Some, IfSome};
+ghost use Rattle.datasketches_c.specs.Copies.{HoldsCopy, IsCopied};
 
 use crate::any_sketch::AnySketch;
 use crate::handle::SketchHandle;
 use crate::status_code::{NO_SKETCH, refusal_number};
+use sketch_base::Fault;
 use std::alloc::Global;
 use std::mem::replace;
+
+/// A copy of a sketch, where there is memory for one.
+fn copy_of(sketch: &AnySketch) -> Option<AnySketch>
+    ensures { IfSome result (λ copy. HoldsCopy sketch.now (Some copy)) }
+{
+    match sketch {
+        AnySketch::FrequentTexts(sketch) => Some(AnySketch::FrequentTexts(
+            sketch.try_clone().ok()?,
+        )),
+        AnySketch::FrequentI64(sketch) => Some(AnySketch::FrequentI64(sketch.try_clone().ok()?)),
+        AnySketch::FrequentU64(sketch) => Some(AnySketch::FrequentU64(sketch.try_clone().ok()?)),
+        AnySketch::CountI64(sketch) => Some(AnySketch::CountI64(sketch.try_clone().ok()?)),
+        AnySketch::CountU64(sketch) => Some(AnySketch::CountU64(sketch.try_clone().ok()?)),
+        AnySketch::Filter(sketch) => Some(AnySketch::Filter(sketch.try_clone().ok()?)),
+    }
+}
 
 /// Puts a copy of a sketch in place of what the handle has, and answers the call's number.
 fn put_copy(alloc: Global, handle: &mut SketchHandle, sketch: &AnySketch) -> i32
     ensures { IsCopied (Some sketch.now) handle.old.value handle.new.value result }
 {
-    match sketch {
-        AnySketch::FrequentTexts(sketch) => match sketch.try_clone() {
-            Ok(copy) => handle.put(alloc, AnySketch::FrequentTexts(copy)),
-            Err(error) => refusal_number(error.fault()),
-        },
-        AnySketch::FrequentI64(sketch) => match sketch.try_clone() {
-            Ok(copy) => handle.put(alloc, AnySketch::FrequentI64(copy)),
-            Err(error) => refusal_number(error.fault()),
-        },
-        AnySketch::FrequentU64(sketch) => match sketch.try_clone() {
-            Ok(copy) => handle.put(alloc, AnySketch::FrequentU64(copy)),
-            Err(error) => refusal_number(error.fault()),
-        },
-        AnySketch::CountI64(sketch) => match sketch.try_clone() {
-            Ok(copy) => handle.put(alloc, AnySketch::CountI64(copy)),
-            Err(error) => refusal_number(error.fault()),
-        },
-        AnySketch::CountU64(sketch) => match sketch.try_clone() {
-            Ok(copy) => handle.put(alloc, AnySketch::CountU64(copy)),
-            Err(error) => refusal_number(error.fault()),
-        },
-        AnySketch::Filter(sketch) => match sketch.try_clone() {
-            Ok(copy) => handle.put(alloc, AnySketch::Filter(copy)),
-            Err(error) => refusal_number(error.fault()),
-        },
+    match copy_of(sketch) {
+        Some(copy) => handle.put(alloc, copy),
+        None => refusal_number(Fault::NoMemory),
     }
 }
 

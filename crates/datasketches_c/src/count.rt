@@ -1,12 +1,12 @@
 //! Count-Min sketches behind handles, whatever the type of the weights.
-ghost use Rattle.std.specs.Prelude.{◌≡◌, ◌≢◌, ◌+◌, ◌*◌, ◌<◌, ◌≤◌, None, Some, length, map, sum_by, unsigned_abs, All};
+ghost use Rattle.std.specs.Prelude.{◌≡◌, ◌≢◌, ◌+◌, ◌-◌, ◌*◌, ◌<◌, ◌≤◌, None, Some, length, map, take, sum_by, unsigned_abs, All};
 ghost use Rattle.std.specs.Hash as fed;
 ghost use Rattle.std.specs.Str.{IsUtf8};
 ghost use Rattle.sketch_base.specs.Errors.{refusal_of};
 ghost use Rattle.sketch_base.specs.Hashes.{fed_bytes};
 ghost use Rattle.sketch_countmin.specs.Image.{IsImage, IsSpelled, early_fault_within, first_fault_within};
 ghost use Rattle.sketch_countmin.specs.Shapes.{shape_fault};
-ghost use Rattle.sketch_countmin.specs.State.{Counts, Joins, SameShape, empty_state};
+ghost use Rattle.sketch_countmin.specs.State.{Counts, CountsAll, Joins, SameShape, empty_state};
 ghost use Rattle.datasketches_c.specs.CountCalls.{AddsWeight, AddsEach, AddsWeights, Estimates, EstimatesAll, Bounds, MergesInto, Describes};
 ghost use Rattle.datasketches_c.specs.CountJoins.{IsJoined};
 ghost use Rattle.datasketches_c.specs.Estimates.{AreLeastCells};
@@ -20,8 +20,8 @@ use crate::count_texts::{count_texts, estimate_texts};
 use crate::count_weighted::{count_weighted, count_weighted_texts};
 use crate::handle::SketchHandle;
 use crate::kind::{Kind, on_kind};
-use crate::status_code::{BAD_OFFSETS, NO_ROOM, NO_SKETCH, OK, WRONG_KIND, refusal_number};
-use crate::texts::{are_offsets, are_utf8};
+use crate::status_code::{NO_ROOM, NO_SKETCH, OK, WRONG_KIND, refusal_number};
+use crate::texts::need_texts;
 use sketch_base::Fault;
 use sketch_countmin::{CountMinSketch, CountMinValue};
 use std::alloc::Global;
@@ -94,6 +94,20 @@ where
     on_kind!(alloc, handle, CountMinSketch<V>, sketch => count(sketch, item, weight))
 }
 
+/// Adds 1 to the weight of each item in a sketch, as far as the total has room, and answers the call's number.
+#[inline]
+fn count_all<V: CountMinValue, I: Hash>(sketch: &mut CountMinSketch<V>, items: &[I]) -> i32
+    ensures counted { CountsAll sketch.old
+        (take (V.greatest - sketch.old.total) (map (fed_bytes I.hash_input) items.now)) sketch.new }
+    ensures done { sketch.old.total + length items.now ≤ V.greatest → result ≡ ok }
+    ensures overflow { V.greatest < sketch.old.total + length items.now → result ≡ refusal_number Fault.WeightOverflow }
+{
+    match sketch.update_all(items) {
+        Ok(()) => OK,
+        Err(error) => refusal_number(error.fault()),
+    }
+}
+
 /// Adds 1 to the weight of each item, as far as the total has room.
 #[inline]
 pub(crate) fn update_all<V: CountMinValue, I: Hash>(
@@ -105,10 +119,7 @@ where
     CountMinSketch<V>: Kind,
     ensures { AddsEach (⟦<CountMinSketch<V> as Kind>⟧.part) V.greatest handle.old.value handle.new.value result (fed_bytes I.hash_input) items.now }
 {
-    on_kind!(alloc, handle, CountMinSketch<V>, sketch => match sketch.update_all(items) {
-        Ok(()) => OK,
-        Err(error) => refusal_number(error.fault()),
-    })
+    on_kind!(alloc, handle, CountMinSketch<V>, sketch => count_all(sketch, items))
 }
 
 /// Adds a weight to that of each item, one after another.
@@ -290,12 +301,7 @@ where
     ensures no_text { AreOffsets bytes.now offsets.now → ¬ All IsUtf8 (texts_of bytes.now offsets.now)
         → (result ≡ refusal_number Fault.InvalidUtf8) × (handle.new.value ≡ handle.old.value) }
 {
-    if !are_offsets(bytes, offsets) {
-        return BAD_OFFSETS;
-    }
-    if !are_utf8(bytes, offsets) {
-        return refusal_number(Fault::InvalidUtf8);
-    }
+    need_texts!(bytes, offsets);
     on_kind!(alloc, handle, CountMinSketch<V>, sketch => count_texts(sketch, bytes, offsets))
 }
 
@@ -319,15 +325,7 @@ where
         → EstimatesAll (⟦<CountMinSketch<V> as Kind>⟧.part) handle.old.value handle.new.value result (fed_bytes fed.str) (texts_of bytes.now offsets.now) (map V.number estimates.new) }
     ensures untouched { OnRefused result (estimates.new ≡ estimates.old) }
 {
-    if !are_offsets(bytes, offsets) {
-        return BAD_OFFSETS;
-    }
-    if estimates.len() != offsets.len() - 1 {
-        return NO_ROOM;
-    }
-    if !are_utf8(bytes, offsets) {
-        return refusal_number(Fault::InvalidUtf8);
-    }
+    need_texts!(bytes, offsets, estimates.len());
     on_kind!(alloc, handle, CountMinSketch<V>, sketch => {
         estimate_texts(sketch, bytes, offsets, estimates);
         OK
@@ -352,15 +350,7 @@ where
         → AddsWeights (⟦<CountMinSketch<V> as Kind>⟧.part) V.greatest handle.old.value handle.new.value result (fed_bytes fed.str) V.number (texts_of bytes.now offsets.now) weights.now (sum_by (λ weight. unsigned_abs (V.number weight)) weights.now) }
     ensures refused { OnRefused result (handle.new.value ≡ handle.old.value) }
 {
-    if !are_offsets(bytes, offsets) {
-        return BAD_OFFSETS;
-    }
-    if weights.len() != offsets.len() - 1 {
-        return NO_ROOM;
-    }
-    if !are_utf8(bytes, offsets) {
-        return refusal_number(Fault::InvalidUtf8);
-    }
+    need_texts!(bytes, offsets, weights.len());
     on_kind!(alloc, handle, CountMinSketch<V>, sketch => count_weighted_texts(sketch, bytes, offsets, weights))
 }
 

@@ -2,7 +2,7 @@
 ghost use Rattle.std.specs.Prelude.{◌≡◌, ◌+◌, ◌<◌, ◌≤◌, ◌↔◌, length, sum_by, unsigned_abs, IsTrue};
 ghost use Rattle.std.specs.Hash as fed;
 ghost use Rattle.sketch_base.specs.Hashes.{fed_bytes};
-ghost use Rattle.datasketches_c.specs.Numbers.{ok, refusal_number};
+ghost use Rattle.datasketches_c.specs.Numbers.{OnRefused, ok, refusal_number};
 ghost use Rattle.datasketches_c.specs.Texts.{AreTexts, texts_of};
 ghost use Rattle.datasketches_c.specs.Weights.{CountsWeights};
 
@@ -54,7 +54,8 @@ pub(crate) fn count_weighted<T: CountMinValue, I: Hash + Copy>(
     ensures counted { sketch.old.total + sum_by (λ weight. unsigned_abs (T.number weight)) weights.now ≤ T.greatest
         → (result ≡ ok) × CountsWeights (fed_bytes I.hash_input) T.number sketch.old items.now weights.now sketch.new }
     ensures overflow { T.greatest < sketch.old.total + sum_by (λ weight. unsigned_abs (T.number weight)) weights.now
-        → (result ≡ refusal_number Fault.WeightOverflow) × (sketch.new ≡ sketch.old) }
+        → result ≡ refusal_number Fault.WeightOverflow }
+    ensures refused { OnRefused result (sketch.new ≡ sketch.old) }
 {
     if !weights_fit(sketch, weights) {
         return refusal_number(Fault::WeightOverflow);
@@ -78,7 +79,8 @@ pub(crate) fn count_weighted_texts<T: CountMinValue>(
         → (result ≡ ok) × CountsWeights (fed_bytes fed.str) T.number sketch.old (texts_of bytes.now offsets.now) weights.now
         sketch.new }
     ensures overflow { T.greatest < sketch.old.total + sum_by (λ weight. unsigned_abs (T.number weight)) weights.now
-        → (result ≡ refusal_number Fault.WeightOverflow) × (sketch.new ≡ sketch.old) }
+        → result ≡ refusal_number Fault.WeightOverflow }
+    ensures refused { OnRefused result (sketch.new ≡ sketch.old) }
 {
     if !weights_fit(sketch, weights) {
         return refusal_number(Fault::WeightOverflow);

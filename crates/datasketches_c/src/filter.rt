@@ -18,16 +18,13 @@ ghost use Rattle.datasketches_c.specs.declared.any_sketch.AnySketch.TheVariants.
 use crate::any_sketch::AnySketch;
 use crate::handle::SketchHandle;
 use crate::images::copy_out;
-use crate::on_sketch::{ask, change};
-use crate::status_code::{
-    BAD_OFFSETS, NO, NO_ROOM, NO_SKETCH, OK, WRONG_KIND, YES, refusal_number,
-};
-use crate::texts::{are_offsets, are_utf8, num_texts, text_at};
+use crate::on_sketch::{ask, change, join};
+use crate::status_code::{NO, NO_ROOM, OK, YES, refusal_number};
+use crate::texts::{need_texts, num_texts, text_at};
 use sketch_base::Fault;
 use sketch_bloom::{BloomFilter, BloomFilterBuilder};
 use std::alloc::Global;
 use std::hash::Hash;
-use std::mem::replace;
 
 /// Makes a filter of at least so many bits in place of what the handle has, which is freed.
 #[unsafe(no_mangle)]
@@ -52,16 +49,25 @@ pub extern "C" fn ds_filter_new(
     }
 }
 
+/// Inserts an item, for the calls below.
+#[inline]
+fn insert<I: Hash + Drop>(alloc: Global, handle: &mut SketchHandle, item: I) -> i32
+    ensures { OnFilter handle.old.value handle.new.value result (λ s.
+        (result ≡ ok) × (handle.new.value ≡ Some (Filter (inserted s (fed_bytes I.hash_input item))))) }
+{
+    change!(alloc, handle, Filter(filter) => {
+        filter.insert(item);
+        OK
+    })
+}
+
 /// Inserts a number.
 #[unsafe(no_mangle)]
 pub extern "C" fn ds_filter_insert_u64(alloc: Global, handle: &mut SketchHandle, item: u64) -> i32
     ensures { OnFilter handle.old.value handle.new.value result (λ s.
         (result ≡ ok) × (handle.new.value ≡ Some (Filter (inserted s (fed_bytes fed.u64 item))))) }
 {
-    change!(alloc, handle, Filter(filter) => {
-        filter.insert(item);
-        OK
-    })
+    insert(alloc, handle, item)
 }
 
 /// Inserts a number with a sign.
@@ -70,10 +76,7 @@ pub extern "C" fn ds_filter_insert_i64(alloc: Global, handle: &mut SketchHandle,
     ensures { OnFilter handle.old.value handle.new.value result (λ s.
         (result ≡ ok) × (handle.new.value ≡ Some (Filter (inserted s (fed_bytes fed.i64 item))))) }
 {
-    change!(alloc, handle, Filter(filter) => {
-        filter.insert(item);
-        OK
-    })
+    insert(alloc, handle, item)
 }
 
 /// Inserts a text.
@@ -91,10 +94,7 @@ pub extern "C" fn ds_filter_insert_text(
     let Ok(item) = str::from_utf8(item) else {
         return refusal_number(Fault::InvalidUtf8);
     };
-    change!(alloc, handle, Filter(filter) => {
-        filter.insert(item);
-        OK
-    })
+    insert(alloc, handle, item)
 }
 
 /// Inserts many items, for the calls below.
@@ -135,6 +135,16 @@ pub extern "C" fn ds_filter_insert_all_i64(
     insert_all(alloc, handle, items)
 }
 
+/// Whether the filter contains an item, for the calls below: 1 or 0.
+#[inline]
+fn contains<I: Hash>(alloc: Global, handle: &mut SketchHandle, item: &I) -> i32
+    ensures kept { handle.new.value ≡ handle.old.value }
+    ensures answer { OnFilter handle.old.value handle.new.value result (λ s.
+        result ≡ (if contains_item s (fed_bytes I.hash_input item.now) then yes else no)) }
+{
+    ask!(alloc, handle, Filter(filter) => { if filter.contains(item) { YES } else { NO } })
+}
+
 /// Whether the filter contains a number: 1 or 0.
 #[unsafe(no_mangle)]
 pub extern "C" fn ds_filter_contains_u64(alloc: Global, handle: &mut SketchHandle, item: u64) -> i32
@@ -142,7 +152,7 @@ pub extern "C" fn ds_filter_contains_u64(alloc: Global, handle: &mut SketchHandl
     ensures answer { OnFilter handle.old.value handle.new.value result (λ s.
         result ≡ (if contains_item s (fed_bytes fed.u64 item) then yes else no)) }
 {
-    ask!(alloc, handle, Filter(filter) => { if filter.contains(&item) { YES } else { NO } })
+    contains(alloc, handle, &item)
 }
 
 /// Whether the filter contains a number with a sign: 1 or 0.
@@ -152,7 +162,7 @@ pub extern "C" fn ds_filter_contains_i64(alloc: Global, handle: &mut SketchHandl
     ensures answer { OnFilter handle.old.value handle.new.value result (λ s.
         result ≡ (if contains_item s (fed_bytes fed.i64 item) then yes else no)) }
 {
-    ask!(alloc, handle, Filter(filter) => { if filter.contains(&item) { YES } else { NO } })
+    contains(alloc, handle, &item)
 }
 
 /// Whether the filter contains a text: 1 or 0.
@@ -170,7 +180,31 @@ pub extern "C" fn ds_filter_contains_text(
     let Ok(item) = str::from_utf8(item) else {
         return refusal_number(Fault::InvalidUtf8);
     };
-    ask!(alloc, handle, Filter(filter) => { if filter.contains(&item) { YES } else { NO } })
+    contains(alloc, handle, &item)
+}
+
+/// Writes down for each item whether the filter contains it, for the calls below. There are as many answers as items.
+#[inline]
+fn contains_all<I: Hash>(
+    alloc: Global,
+    handle: &mut SketchHandle,
+    items: &[I],
+    answers: &mut [bool],
+) -> i32
+    ensures kept { handle.new.value ≡ handle.old.value }
+    ensures no_room { length answers.old ≢ length items.now → (result ≡ no_room) × (answers.new ≡ answers.old) }
+    ensures answers { length answers.old ≡ length items.now
+        → OnFilter handle.old.value handle.new.value result (λ s. (result ≡ ok)
+        × (answers.new ≡ map (λ item. contains_item s (fed_bytes I.hash_input item)) items.now)) }
+    ensures untouched { OnRefused result (answers.new ≡ answers.old) }
+{
+    if answers.len() != items.len() {
+        return NO_ROOM;
+    }
+    ask!(alloc, handle, Filter(filter) => {
+        filter.contains_all(items, answers);
+        OK
+    })
 }
 
 /// Writes down for each number whether the filter contains it. There are as many answers as numbers.
@@ -188,13 +222,7 @@ pub extern "C" fn ds_filter_contains_all_u64(
         × (answers.new ≡ map (λ item. contains_item s (fed_bytes fed.u64 item)) items.now)) }
     ensures untouched { OnRefused result (answers.new ≡ answers.old) }
 {
-    if answers.len() != items.len() {
-        return NO_ROOM;
-    }
-    ask!(alloc, handle, Filter(filter) => {
-        filter.contains_all(items, answers);
-        OK
-    })
+    contains_all(alloc, handle, items, answers)
 }
 
 /// Writes down for each number whether the filter contains it. There are as many answers as numbers.
@@ -212,13 +240,7 @@ pub extern "C" fn ds_filter_contains_all_i64(
         × (answers.new ≡ map (λ item. contains_item s (fed_bytes fed.i64 item)) items.now)) }
     ensures untouched { OnRefused result (answers.new ≡ answers.old) }
 {
-    if answers.len() != items.len() {
-        return NO_ROOM;
-    }
-    ask!(alloc, handle, Filter(filter) => {
-        filter.contains_all(items, answers);
-        OK
-    })
+    contains_all(alloc, handle, items, answers)
 }
 
 /// Inserts each text of a buffer.
@@ -265,12 +287,7 @@ pub extern "C" fn ds_filter_insert_all_text(
         → result ≡ refusal_number Fault.InvalidUtf8 }
     ensures refused { OnRefused result (handle.new.value ≡ handle.old.value) }
 {
-    if !are_offsets(bytes, offsets) {
-        return BAD_OFFSETS;
-    }
-    if !are_utf8(bytes, offsets) {
-        return refusal_number(Fault::InvalidUtf8);
-    }
+    need_texts!(bytes, offsets);
     change!(alloc, handle, Filter(filter) => {
         insert_texts(filter, bytes, offsets);
         OK
@@ -301,15 +318,7 @@ pub extern "C" fn ds_filter_contains_all_text(
         × (answers.new ≡ map (λ text. contains_item s (fed_bytes fed.str text)) (texts_of bytes.now offsets.now))) }
     ensures untouched { OnRefused result (answers.new ≡ answers.old) }
 {
-    if !are_offsets(bytes, offsets) {
-        return BAD_OFFSETS;
-    }
-    if answers.len() != offsets.len() - 1 {
-        return NO_ROOM;
-    }
-    if !are_utf8(bytes, offsets) {
-        return refusal_number(Fault::InvalidUtf8);
-    }
+    need_texts!(bytes, offsets, answers.len());
     ask!(alloc, handle, Filter(filter) => {
         contains_texts(filter, bytes, offsets, answers);
         OK
@@ -324,7 +333,25 @@ pub(crate) enum SetOperation {
     Difference,
 }
 
-fn combine(
+/// Does a set operation on a filter, and answers the call's number.
+fn combine(filter: &mut BloomFilter, other: &BloomFilter, operation: SetOperation) -> i32
+    ensures done { IsCompatible filter.old other.now → (result ≡ ok) × (filter.new ≡ joined operation filter.old other.now) }
+    ensures mismatch { ¬ IsCompatible filter.old other.now → result ≡ refusal_number Fault.Mismatch }
+    ensures refused { OnRefused result (filter.new ≡ filter.old) }
+{
+    let done = match operation {
+        SetOperation::Union => filter.union(other),
+        SetOperation::Intersection => filter.intersect(other),
+        SetOperation::Difference => filter.difference(other),
+    };
+    match done {
+        Ok(()) => OK,
+        Err(error) => refusal_number(error.fault()),
+    }
+}
+
+/// Does a set operation on the filter of a handle. The other filter stays.
+fn set_against(
     alloc: Global,
     handle: &mut SketchHandle,
     other: &mut SketchHandle,
@@ -337,37 +364,7 @@ fn combine(
         (IsCompatible a b → (result ≡ ok) × (handle.new.value ≡ Some (Filter (joined operation a b))))
         × (¬ IsCompatible a b → result ≡ refusal_number Fault.Mismatch))) }
 {
-    let Some(mut sketch) = replace(handle, SketchHandle::none(alloc)).into_box() else {
-        return NO_SKETCH;
-    };
-    let Some(second) = replace(other, SketchHandle::none(alloc)).into_box() else {
-        let answer = match &*sketch {
-            AnySketch::Filter(_) => NO_SKETCH,
-            _ => WRONG_KIND,
-        };
-        *handle = SketchHandle::of(sketch);
-        return answer;
-    };
-    let answer = match &mut *sketch {
-        AnySketch::Filter(filter) => match &*second {
-            AnySketch::Filter(second) => {
-                let done = match operation {
-                    SetOperation::Union => filter.union(second),
-                    SetOperation::Intersection => filter.intersect(second),
-                    SetOperation::Difference => filter.difference(second),
-                };
-                match done {
-                    Ok(()) => OK,
-                    Err(_) => refusal_number(Fault::Mismatch),
-                }
-            }
-            _ => WRONG_KIND,
-        },
-        _ => WRONG_KIND,
-    };
-    *handle = SketchHandle::of(sketch);
-    *other = SketchHandle::of(second);
-    answer
+    join!(alloc, handle, other, Filter(filter, second) => combine(filter, second, operation))
 }
 
 /// Adds the positions of the other filter's set. The other filter stays.
@@ -384,7 +381,7 @@ pub extern "C" fn ds_filter_union(
         (IsCompatible a b → (result ≡ ok) × (handle.new.value ≡ Some (Filter (united a b))))
         × (¬ IsCompatible a b → result ≡ refusal_number Fault.Mismatch))) }
 {
-    combine(alloc, handle, other, SetOperation::Union)
+    set_against(alloc, handle, other, SetOperation::Union)
 }
 
 /// Keeps only the positions that are also in the other filter's set. The other filter stays.
@@ -401,7 +398,7 @@ pub extern "C" fn ds_filter_intersect(
         (IsCompatible a b → (result ≡ ok) × (handle.new.value ≡ Some (Filter (intersected a b))))
         × (¬ IsCompatible a b → result ≡ refusal_number Fault.Mismatch))) }
 {
-    combine(alloc, handle, other, SetOperation::Intersection)
+    set_against(alloc, handle, other, SetOperation::Intersection)
 }
 
 /// Takes the positions of the other filter's set away. The other filter stays.
@@ -418,7 +415,7 @@ pub extern "C" fn ds_filter_difference(
         (IsCompatible a b → (result ≡ ok) × (handle.new.value ≡ Some (Filter (subtracted a b))))
         × (¬ IsCompatible a b → result ≡ refusal_number Fault.Mismatch))) }
 {
-    combine(alloc, handle, other, SetOperation::Difference)
+    set_against(alloc, handle, other, SetOperation::Difference)
 }
 
 /// A filter's numbers.
@@ -475,6 +472,18 @@ pub extern "C" fn ds_filter_status(
     })
 }
 
+/// Writes the image of a filter to the front of the caller's buffer, for the call below.
+fn write_filter(filter: &BloomFilter, out: &mut [u8], written: &mut usize) -> i32
+    ensures image { WritesImage (λ image. IsSpelled image filter.now) out.old out.new written.new result }
+    ensures untouched { OnRefused result (out.new ≡ out.old) }
+    ensures uncounted { result ≢ ok → result ≢ no_room → written.new ≡ written.old }
+{
+    match filter.serialize() {
+        Ok(image) => copy_out(&image, out, written),
+        Err(error) => refusal_number(error.fault()),
+    }
+}
+
 /// Writes the filter's image to the front of the caller's buffer, and says how long it is, also where there is no room.
 #[unsafe(no_mangle)]
 pub extern "C" fn ds_filter_to_bytes(
@@ -489,10 +498,7 @@ pub extern "C" fn ds_filter_to_bytes(
     ensures image { OnFilter handle.old.value handle.new.value result (λ s.
         WritesImage (λ image. IsSpelled image s) out.old out.new written.new result) }
 {
-    ask!(alloc, handle, Filter(filter) => match filter.serialize() {
-        Ok(image) => copy_out(&image, out, written),
-        Err(error) => refusal_number(error.fault()),
-    })
+    ask!(alloc, handle, Filter(filter) => write_filter(filter, out, written))
 }
 
 /// Makes the filter of an image, whose words take at most so many bytes, in place of what the handle has.

@@ -17,8 +17,8 @@ use crate::frequent_text::update_text;
 use crate::handle::SketchHandle;
 use crate::images::copy_out;
 use crate::on_sketch::change;
-use crate::status_code::{BAD_OFFSETS, NO_ROOM, OK, refusal_number};
-use crate::texts::{are_offsets, are_utf8, num_texts, text_at};
+use crate::status_code::{NO_ROOM, OK, refusal_number};
+use crate::texts::{need_texts, num_texts, text_at};
 use sketch_base::Fault;
 use sketch_frequencies::{Error, ErrorType, FrequentItemValue, FrequentItemsSketch, Row};
 use std::alloc::Global;
@@ -378,14 +378,6 @@ pub extern "C" fn ds_frequent_text_update_all_weighted(
         → OnFrequentTexts handle.old.value handle.new.value result (λ s. HoldsFrequentTexts handle.new.value (λ t.
         AddsWeights UpdatesText s (texts_of bytes.now offsets.now) weights.now t result)) }
 {
-    if !are_offsets(bytes, offsets) {
-        return BAD_OFFSETS;
-    }
-    if weights.len() != offsets.len() - 1 {
-        return NO_ROOM;
-    }
-    if !are_utf8(bytes, offsets) {
-        return refusal_number(Fault::InvalidUtf8);
-    }
+    need_texts!(bytes, offsets, weights.len());
     change!(alloc, handle, FrequentTexts(sketch) => update_texts(alloc, sketch, bytes, offsets, weights))
 }

@@ -31,8 +31,8 @@ use crate::frequent::{
 };
 use crate::handle::SketchHandle;
 use crate::on_sketch::{ask, change, join};
-use crate::status_code::{BAD_OFFSETS, NO_ROOM, OK, refusal_number};
-use crate::texts::{are_offsets, are_utf8, num_texts, text_at};
+use crate::status_code::{NO_ROOM, OK, refusal_number};
+use crate::texts::{need_texts, num_texts, text_at};
 use sketch_base::Fault;
 use sketch_frequencies::{FrequentItemsSketch, Row};
 use std::alloc::Global;
@@ -232,12 +232,7 @@ pub extern "C" fn ds_frequent_text_update_all(
     ensures no_text { AreOffsets bytes.now offsets.now → ¬ All IsUtf8 (texts_of bytes.now offsets.now)
         → (result ≡ refusal_number Fault.InvalidUtf8) × (handle.new.value ≡ handle.old.value) }
 {
-    if !are_offsets(bytes, offsets) {
-        return BAD_OFFSETS;
-    }
-    if !are_utf8(bytes, offsets) {
-        return refusal_number(Fault::InvalidUtf8);
-    }
+    need_texts!(bytes, offsets);
     change!(alloc, handle, FrequentTexts(sketch) => update_texts(alloc, sketch, bytes, offsets))
 }
 
@@ -289,15 +284,7 @@ pub extern "C" fn ds_frequent_text_bounds_all(
         → OnFrequentTexts handle.old.value handle.new.value result (λ s.
         TellsOfTexts s (texts_of bytes.now offsets.now) bounds.old bounds.new result) }
 {
-    if !are_offsets(bytes, offsets) {
-        return BAD_OFFSETS;
-    }
-    if bounds.len() != offsets.len() - 1 {
-        return NO_ROOM;
-    }
-    if !are_utf8(bytes, offsets) {
-        return refusal_number(Fault::InvalidUtf8);
-    }
+    need_texts!(bytes, offsets, bounds.len());
     ask!(alloc, handle, FrequentTexts(sketch) => bounds_of_texts(alloc, sketch, bytes, offsets, bounds))
 }
 

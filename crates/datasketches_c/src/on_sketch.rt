@@ -4,34 +4,40 @@
 /// Changes the sketch of a handle, which is of a kind: the answer is what the change answers.
 macro_rules! change {
     ($alloc:expr, $handle:expr, $kind:ident($sketch:ident) => $change:expr) => {{
-        let Some(mut boxed) =
-            std::mem::replace($handle, $crate::handle::SketchHandle::none($alloc)).into_box()
-        else {
+        let Some(mut boxed) = $handle.take($alloc) else {
             return $crate::status_code::NO_SKETCH;
         };
-        let answer = match &mut *boxed {
-            $crate::any_sketch::AnySketch::$kind($sketch) => $change,
-            _ => $crate::status_code::WRONG_KIND,
-        };
-        *$handle = $crate::handle::SketchHandle::of(boxed);
-        answer
+        match &mut *boxed {
+            $crate::any_sketch::AnySketch::$kind($sketch) => {
+                let answer = $change;
+                $handle.give(boxed);
+                answer
+            }
+            _ => {
+                $handle.give(boxed);
+                $crate::status_code::WRONG_KIND
+            }
+        }
     }};
 }
 
 /// Asks the sketch of a handle, which is of a kind.
 macro_rules! ask {
     ($alloc:expr, $handle:expr, $kind:ident($sketch:ident) => $question:expr) => {{
-        let Some(boxed) =
-            std::mem::replace($handle, $crate::handle::SketchHandle::none($alloc)).into_box()
-        else {
+        let Some(boxed) = $handle.take($alloc) else {
             return $crate::status_code::NO_SKETCH;
         };
-        let answer = match &*boxed {
-            $crate::any_sketch::AnySketch::$kind($sketch) => $question,
-            _ => $crate::status_code::WRONG_KIND,
-        };
-        *$handle = $crate::handle::SketchHandle::of(boxed);
-        answer
+        match &*boxed {
+            $crate::any_sketch::AnySketch::$kind($sketch) => {
+                let answer = $question;
+                $handle.give(boxed);
+                answer
+            }
+            _ => {
+                $handle.give(boxed);
+                $crate::status_code::WRONG_KIND
+            }
+        }
     }};
 }
 
@@ -39,31 +45,33 @@ macro_rules! ask {
 /// another kind, says the answer.
 macro_rules! join {
     ($alloc:expr, $handle:expr, $other:expr, $kind:ident($sketch:ident, $second:ident) => $join:expr) => {{
-        let Some(mut boxed) =
-            std::mem::replace($handle, $crate::handle::SketchHandle::none($alloc)).into_box()
-        else {
+        let Some(mut boxed) = $handle.take($alloc) else {
             return $crate::status_code::NO_SKETCH;
         };
-        let Some(second) =
-            std::mem::replace($other, $crate::handle::SketchHandle::none($alloc)).into_box()
-        else {
+        let Some(second) = $other.take($alloc) else {
             let answer = match &*boxed {
                 $crate::any_sketch::AnySketch::$kind(_) => $crate::status_code::NO_SKETCH,
                 _ => $crate::status_code::WRONG_KIND,
             };
-            *$handle = $crate::handle::SketchHandle::of(boxed);
+            $handle.give(boxed);
             return answer;
         };
-        let answer = match &mut *boxed {
-            $crate::any_sketch::AnySketch::$kind($sketch) => match &*second {
-                $crate::any_sketch::AnySketch::$kind($second) => $join,
-                _ => $crate::status_code::WRONG_KIND,
-            },
-            _ => $crate::status_code::WRONG_KIND,
-        };
-        *$handle = $crate::handle::SketchHandle::of(boxed);
-        *$other = $crate::handle::SketchHandle::of(second);
-        answer
+        match (&mut *boxed, &*second) {
+            (
+                $crate::any_sketch::AnySketch::$kind($sketch),
+                $crate::any_sketch::AnySketch::$kind($second),
+            ) => {
+                let answer = $join;
+                $handle.give(boxed);
+                $other.give(second);
+                answer
+            }
+            _ => {
+                $handle.give(boxed);
+                $other.give(second);
+                $crate::status_code::WRONG_KIND
+            }
+        }
     }};
 }
 

@@ -63,3 +63,29 @@ pub(crate) fn text_at<'a>(bytes: &'a [u8], offsets: &[u64], i: usize) -> &'a str
 {
     unsafe { str::from_utf8_unchecked(bytes_at(bytes, offsets, i)) }
 }
+
+/// Leaves a call for the texts of a buffer with the answer that refuses them, unless each is there and is UTF-8. Where the call
+/// has a place for each text, how many there are comes third.
+macro_rules! need_texts {
+    ($bytes:expr, $offsets:expr) => {
+        if !$crate::texts::are_offsets($bytes, $offsets) {
+            return $crate::status_code::BAD_OFFSETS;
+        }
+        if !$crate::texts::are_utf8($bytes, $offsets) {
+            return $crate::status_code::refusal_number(sketch_base::Fault::InvalidUtf8);
+        }
+    };
+    ($bytes:expr, $offsets:expr, $places:expr) => {
+        if !$crate::texts::are_offsets($bytes, $offsets) {
+            return $crate::status_code::BAD_OFFSETS;
+        }
+        if $places != $offsets.len() - 1 {
+            return $crate::status_code::NO_ROOM;
+        }
+        if !$crate::texts::are_utf8($bytes, $offsets) {
+            return $crate::status_code::refusal_number(sketch_base::Fault::InvalidUtf8);
+        }
+    };
+}
+
+pub(crate) use need_texts;

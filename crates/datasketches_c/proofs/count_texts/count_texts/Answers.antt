@@ -4,7 +4,7 @@ use Rattle.std.proofs.lemmas.Bool.{cases_lt, false≢true}
 use Rattle.sketch_base.specs.Hashes.{fed_bytes}
 use Rattle.sketch_countmin.specs.State.{CountsAll}
 use Rattle.datasketches_c.specs.Texts.{texts_of}
-use Rattle.datasketches_c.proofs.CountLemmas.{counts_next, counts_stop}
+use Rattle.datasketches_c.proofs.CountLemmas.{counts_next, counts_stop, counts_short, counts_whole}
 use Rattle.datasketches_c.proofs.count_texts.count_texts.Goals as goal
 
 pub each-preserved : goal.each-preserved
@@ -24,3 +24,25 @@ returns-in_default-clause-counted g c =
     elim (cases_lt g.T.CountMinValue.greatest (c.each.sketch.total + 1)) [ inl lt ↦ lt | inr le ↦ absurd (false≢true (c.in_default.ensures.succeeds le)) ] in
     subst (λ s. CountsAll c.args.sketch.now (take (g.T.CountMinValue.greatest - c.args.sketch.now.total) (map (fed_bytes fed.str) texts)) s) (sym c.in_default.ensures.err)
     (counts_stop (fed_bytes fed.str) texts c.each.i g.T.CountMinValue.greatest c.args.sketch.now c.each.sketch there c.each.invariant.counted c.each.invariant.state.fits over)
+
+pub returns-in_default-clause-done : goal.returns-in_default-clause-done
+returns-in_default-clause-done g c =
+    let texts = texts_of c.args.bytes.now c.args.offsets.now in
+    let there : c.each.i < length texts = omega arith in
+    let over : g.T.CountMinValue.greatest < c.each.sketch.total + 1 =
+    elim (cases_lt g.T.CountMinValue.greatest (c.each.sketch.total + 1)) [ inl lt ↦ lt | inr le ↦ absurd (false≢true (c.in_default.ensures.succeeds le)) ] in
+    let short = counts_short (fed_bytes fed.str) texts c.each.i g.T.CountMinValue.greatest c.args.sketch.now c.each.sketch there c.each.invariant.counted over in
+    λ fits. absurd (omega (arith, short))
+
+pub returns-clause-counted : goal.returns-clause-counted
+returns-clause-counted g c =
+    let texts = texts_of c.args.bytes.now c.args.offsets.now in
+    let here : length texts ≤ c.each.i = omega arith in
+    (counts_whole (fed_bytes fed.str) texts c.each.i g.T.CountMinValue.greatest c.args.sketch.now c.each.sketch here c.each.invariant.counted c.each.invariant.state.fits).0
+
+pub returns-clause-overflow : goal.returns-clause-overflow
+returns-clause-overflow g c =
+    let texts = texts_of c.args.bytes.now c.args.offsets.now in
+    let here : length texts ≤ c.each.i = omega arith in
+    let fits = (counts_whole (fed_bytes fed.str) texts c.each.i g.T.CountMinValue.greatest c.args.sketch.now c.each.sketch here c.each.invariant.counted c.each.invariant.state.fits).1 in
+    λ over. absurd (omega (arith, fits))

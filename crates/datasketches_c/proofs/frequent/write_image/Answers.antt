@@ -1,6 +1,15 @@
-use Rattle.std.proofs.Common.{rules}
-use Rattle.datasketches_c.proofs.Reading.{refused_to_write}
+use Rattle.std.proofs.Common.{List, ℕ, sym, subst, rules}
+use Rattle.sketch_frequencies.specs.Image.{IsSpelledFor}
+use Rattle.datasketches_c.proofs.Reading.{copied_image, refused_to_write}
 use Rattle.datasketches_c.proofs.frequent.write_image.Goals as goal
+
+-- the image was made, and copied where there was room
+pub returns-in-Ok-clause-image : goal.returns-in-Ok-clause-image
+returns-in-Ok-clause-image g c =
+    let item = g.T.FrequentItemValue in
+    let Spelled : List ℕ → Type 0 = λ image. IsSpelledFor item.codec item.content image c.args.sketch.now in
+    let said = copied_image Spelled c.deref.result.now c.args.out.now c.copy_out.new.out c.copy_out.new.written c.copy_out.result (subst Spelled (sym c.deref.ensures.value) c.in-Ok.ensures.image) c.copy_out.ensures.length c.copy_out.ensures.copied c.copy_out.ensures.no_room in
+    search rules
 
 -- the library refused to write
 pub returns-in-Err-clause-image : goal.returns-in-Err-clause-image

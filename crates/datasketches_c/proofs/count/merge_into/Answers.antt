@@ -1,0 +1,18 @@
+use Rattle.std.proofs.Common.{Some, sym, ap, ◌∙◌, rules}
+use Rattle.sketch_countmin.specs.State.{CountState}
+use Rattle.datasketches_c.specs.CountJoins.{IsJoined}
+use Rattle.datasketches_c.proofs.KindLemmas.{on_kind_said}
+use Rattle.datasketches_c.proofs.count.merge_into.Goals as goal
+
+-- the other sketch was added, and its handle has it again
+pub returns-in-Some-part_of-clause-call : goal.returns-in-Some-part_of-clause-call
+returns-in-Some-part_of-clause-call g c =
+    let Joined : CountState → Type 0 = λ b. IsJoined g.V.CountMinValue.greatest c.args.sketch.now b c.join-answer.new.sketch c.join-answer.result in
+    let said = on_kind_said g.bound-7.part c.args.handle.now.value c.give.new.self.value c.deref_mut.result.now c.in-Some-part_of.other.now c.join-answer.result Joined
+    (c.in-Some.ensures.sketch ∙ ap Some (sym c.deref_mut.ensures.value)) c.in-Some-part_of.ensures.which.0 c.join-answer.ensures.call in
+    search rules
+
+-- the sketch is put back
+pub returns-in-Some-part_of-clause-kept : goal.returns-in-Some-part_of-clause-kept
+returns-in-Some-part_of-clause-kept g c =
+    c.give.ensures ∙ (ap Some (sym c.in-Some-part_of.ensures.which.1) ∙ sym (c.in-Some.ensures.sketch ∙ ap Some (sym c.deref_mut.ensures.value)))

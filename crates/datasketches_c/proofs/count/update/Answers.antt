@@ -1,0 +1,35 @@
+use Rattle.std.proofs.Common.{Some, ◌+◌, ◌<◌, ◌≤◌, ◌≡◌, ℤ, sym, ap, ◌∙◌, rules}
+use Rattle.std.specs.Prelude.{unsigned_abs}
+use Rattle.sketch_base.specs.Hashes.{fed_bytes}
+use Rattle.sketch_base.specs.declared.fault.Fault.TheVariants.{WeightOverflow}
+use Rattle.sketch_countmin.specs.State.{CountState, Counts}
+use Rattle.datasketches_c.specs.Kinds.{HoldsKind}
+use Rattle.datasketches_c.specs.Numbers.{ok, refusal_number}
+use Rattle.datasketches_c.proofs.KindLemmas.{on_kind_said, holds_kind, kept_when_refused}
+use Rattle.datasketches_c.proofs.count.update.Goals as goal
+
+-- the sketch was changed, and the handle has it again
+pub returns-in-Some-part_of-clause-call : goal.returns-in-Some-part_of-clause-call
+returns-in-Some-part_of-clause-call g c =
+    let greatest = g.V.CountMinValue.greatest in
+    let weight : ℤ = g.V.CountMinValue.number c.args.weight in
+    let old = c.in-Some-part_of.sketch.now in
+    let new = c.count-answer.new.sketch in
+    let result = c.count-answer.result in
+    let bytes = fed_bytes g.I.Hash.hash_input c.args.item in
+    let handle = c.give.new.self.value in
+    let Added : CountState → Type 0 = λ s.
+    (s.total + unsigned_abs weight ≤ greatest → (result ≡ ok) × HoldsKind g.bound-10.part handle (Counts s bytes weight))
+    × (greatest < s.total + unsigned_abs weight → result ≡ refusal_number WeightOverflow) in
+    let counted : old.total + unsigned_abs weight ≤ greatest → (result ≡ ok) × Counts old bytes weight new = c.count-answer.ensures.counted in
+    let said = on_kind_said g.bound-10.part c.args.handle.now.value handle c.deref_mut.result.now old result Added
+    (c.in-Some.ensures.sketch ∙ ap Some (sym c.deref_mut.ensures.value)) c.in-Some-part_of.ensures.which.0
+    ((λ room. ((counted room).0, holds_kind g.bound-10.part handle (g.bound-10.whole new) new (Counts old bytes weight) c.give.ensures (g.bound-10-met.back new) (counted room).1)), c.count-answer.ensures.overflow) in
+    search rules
+
+-- a sketch that was not changed is put back
+pub returns-in-Some-part_of-clause-refused : goal.returns-in-Some-part_of-clause-refused
+returns-in-Some-part_of-clause-refused g c =
+    let said = kept_when_refused g.bound-10.part g.bound-10.whole c.args.handle.now.value c.give.new.self.value c.deref_mut.result.now c.in-Some-part_of.sketch.now c.count-answer.new.sketch c.count-answer.result
+    (c.in-Some.ensures.sketch ∙ ap Some (sym c.deref_mut.ensures.value)) c.in-Some-part_of.ensures.which.1 c.give.ensures c.count-answer.ensures.refused in
+    search rules
