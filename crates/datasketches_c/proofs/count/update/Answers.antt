@@ -27,9 +27,6 @@ returns-in-Some-part_of-clause-call g c =
     ((λ room. ((counted room).0, holds_kind g.bound-10.part handle (g.bound-10.whole new) new (Counts old bytes weight) c.give.ensures (g.bound-10-met.back new) (counted room).1)), c.count-answer.ensures.overflow) in
     search rules
 
--- a sketch that was not changed is put back
 pub returns-in-Some-part_of-clause-refused : goal.returns-in-Some-part_of-clause-refused
 returns-in-Some-part_of-clause-refused g c =
-    let said = kept_when_refused g.bound-10.part g.bound-10.whole c.args.handle.now.value c.give.new.self.value c.deref_mut.result.now c.in-Some-part_of.sketch.now c.count-answer.new.sketch c.count-answer.result
-    (c.in-Some.ensures.sketch ∙ ap Some (sym c.deref_mut.ensures.value)) c.in-Some-part_of.ensures.which.1 c.give.ensures c.count-answer.ensures.refused in
-    search rules
+    let said = kept_when_refused g.bound-10.part g.bound-10.whole c.args.handle.now.value c.give.new.self.value c.deref_mut.result.now c.in-Some-part_of.sketch.now c.count-answer.new.sketch c.count-answer.result (c.in-Some.ensures.sketch ∙ ap Some (sym c.deref_mut.ensures.value)) c.in-Some-part_of.ensures.which.1 c.give.ensures c.count-answer.ensures.refused in search rules

@@ -16,9 +16,6 @@ returns-in-Some-part_of-clause-call g c =
     (fed_bytes fed.str) g.V.CountMinValue.number (texts_of c.args.bytes.now c.args.offsets.now) c.args.weights.now (sum_by (λ (w : g.row.V.Denot). unsigned_abs (g.V.CountMinValue.number w)) c.args.weights.now) counted.counted counted.overflow in
     search rules
 
--- a sketch that was not changed is put back
 pub returns-in-Some-part_of-clause-refused : goal.returns-in-Some-part_of-clause-refused
 returns-in-Some-part_of-clause-refused g c =
-    let said = kept_when_refused g.bound-7.part g.bound-7.whole c.args.handle.now.value c.give.new.self.value c.deref_mut.result.now c.in-Some-part_of.sketch.now c.count_weighted_texts-answer.new.sketch c.count_weighted_texts-answer.result
-    (c.in-Some.ensures.sketch ∙ ap Some (sym c.deref_mut.ensures.value)) c.in-Some-part_of.ensures.which.1 c.give.ensures c.count_weighted_texts-answer.ensures.refused in
-    search rules
+    let said = kept_when_refused g.bound-7.part g.bound-7.whole c.args.handle.now.value c.give.new.self.value c.deref_mut.result.now c.in-Some-part_of.sketch.now c.count_weighted_texts-answer.new.sketch c.count_weighted_texts-answer.result (c.in-Some.ensures.sketch ∙ ap Some (sym c.deref_mut.ensures.value)) c.in-Some-part_of.ensures.which.1 c.give.ensures c.count_weighted_texts-answer.ensures.refused in search rules

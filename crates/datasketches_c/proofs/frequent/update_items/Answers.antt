@@ -29,16 +29,15 @@ returns-then-answer-ne-OK g c =
 pub each-preserved : goal.each-preserved
 each-preserved g c =
     let eq = g.T.PartialEq.eq in
-    let items = c.args.items.now in
     let weights = c.args.weights.now in
     let i = c.each.i in
-    let x = c.index-items-i.result in
     let w : ℕ = get_or weights i 0 in
+    let x = c.index-items-i.result in
     let step : FrequentState g.row.T.Denot → g.row.T.Denot × ℕ → FrequentState g.row.T.Denot → Type 0 = λ s pair t. Updates eq s pair.0 pair.1 t ok in
     let other : i < length weights = omega arith in
     let one : Updates eq c.each.sketch x w c.update-answer.new.sketch ok = subst (λ (z : ℤ). Updates eq c.each.sketch x w c.update-answer.new.sketch z) (is_done c.update-answer.result c.update-answer.type_inv c.if-answer-ne-OK.false) c.update-answer.ensures.updates in
     record {
-      added = pair_more step items weights i x x w 0 c.args.sketch.now c.each.sketch c.update-answer.new.sketch c.requires c.each-test.true c.index-items-i.is refl c.each.invariant.added one;
+      added = pair_more step c.args.items.now weights i x x w 0 c.args.sketch.now c.each.sketch c.update-answer.new.sketch c.requires c.each-test.true c.index-items-i.is refl c.each.invariant.added one;
       total = one_more (λ (n : ℕ). n) weights i 0 w c.args.sketch.now.total c.each.sketch.total c.update-answer.new.sketch.total other refl (total_of_update eq c.each.sketch x w c.update-answer.new.sketch one) c.each.invariant.total;
     }
 

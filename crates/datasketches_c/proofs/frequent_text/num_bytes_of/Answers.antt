@@ -10,12 +10,12 @@ pub returns-then-length-total : goal.returns-then-length-total
 returns-then-length-total c =
     let texts = row_texts c.args.rows.now in
     let i = c.each.i in
+    let so_far : c.each.total ≡ length (concat (take i texts)) = c.each.invariant in
     let there : i < length texts = omega (arith, length-row_texts c.args.rows.now) in
     let text : c.as_bytes-length.result.now ≡ get_or texts i [] =
     c.as_bytes-length.ensures.value ∙ (ap string_bytes c.item.ensures ∙ row_text_at c.args.rows.now i c.index-rows-i.result c.each-test.true c.index-rows-i.is) in
-    let most = concat_fits texts i there in
     let sized : length c.as_bytes-length.result.now ≡ length (get_or texts i []) = ap length text in
-    let so_far : c.each.total ≡ length (concat (take i texts)) = c.each.invariant in
+    let most = concat_fits texts i there in
     omega arith
 
 pub each-preserved : goal.each-preserved
