@@ -81,6 +81,7 @@ impl SketchHandle {
     }
 
     /// Takes the sketch out of the handle.
+    #[inline]
     pub(crate) fn take(&mut self, alloc: Global) -> Option<Box<AnySketch>>
         ensures sketch { MatchOption result (self.old.value ≡ None) (λ boxed. self.old.value ≡ Some boxed.value) }
         ensures emptied { self.new.value ≡ None }
@@ -89,6 +90,7 @@ impl SketchHandle {
     }
 
     /// Gives the handle, which has none, a sketch.
+    #[inline]
     pub(crate) fn give(&mut self, sketch: Box<AnySketch>)
         ensures { self.new.value ≡ Some sketch.value }
     {
