@@ -9,8 +9,8 @@ use Rattle.std.specs.Ordering.{MatchOrdering, is_lt}
 use Rattle.std.specs.Prelude.{◌≤ℤ◌, ◌<ℤ◌}
 use Rattle.std.proofs.lemmas.Int.{ints}
 use Rattle.std.proofs.lemmas.Nat.{mul-le}
-use Rattle.std.proofs.lemmas.Bool.{cases_lt, eqb-true, eqb-false}
-use Rattle.sketch_countmin.specs.Cells.{flat_at, RowsAdded, IsLeastOf, IsLeastFrom, IsLesser}
+use Rattle.std.proofs.lemmas.Bool.{eqb-true, eqb-false}
+use Rattle.sketch_countmin.specs.Cells.{flat_at, RowsAdded, IsLeastOf, IsLesser}
 use Rattle.sketch_countmin.specs.Buckets.{row_seed, bucket_by}
 
 -- where an item is counted in a row, by its hash under the row's seed
@@ -81,12 +81,6 @@ pub rows_added_next : (d : ℕ) (w : ℤ) (bucket : ℕ → ℕ) (n m : ℕ) (ol
 rows_added_next d w bucket n m old mid new h next k in_row place fits e =
     subst (λ (l : ℕ). RowsAdded d w bucket l old new) (sym next) (rows_added_here d w bucket n old mid new h k in_row place fits e)
 
--- cells behind the row n stay
-pub rest_stays : (d n b k j : ℕ) (mid new : List ℤ) (w : ℤ) → k ≡ n * d + b → b < d → (n + 1) * d ≤ j → new ≡ set mid k w → get_or new j (pos 0) ≡ get_or mid j (pos 0)
-rest_stays d n b k j mid new w place in_row le e =
-    let ne : j ≢ k = omega (arith, place) in
-    ap (λ (l : List ℤ). get_or l j (pos 0)) e ∙ get_or-set_other mid k j w (pos 0) ne
-
 -- ---- the least cell
 
 -- what the lesser of two values is
@@ -128,47 +122,6 @@ least_more num cmp d bucket n xs a ordered h k b c place fits e chosen =
     let l : IsLesser (num a) (num b) (num c) = subst (λ (c : _). IsLesser (num a) (num b) (num c)) (sym chosen) (lesser num a b (cmp b a) (ordered b a)) in
     let here : flat_at d (map num xs) n (bucket n) ≡ num b = ap (λ (j : ℕ). get_or (map num xs) j (pos 0)) (sym place) ∙ read_cell num xs k b fits e in
     least_lesser d (map num xs) bucket n (num a) (num c) h (subst (λ (z : ℤ). IsLesser (num a) z (num c)) (sym here) l)
-
--- ---- the least cell of some rows
-
--- one row alone, by the value that the code reads
-pub from_one : {T : Type 0} (num : T → ℤ) (d : ℕ) (bucket : ℕ → ℕ) (n m : ℕ) (xs : List T) (k : ℕ) (x : T) → m ≡ n + 1 → k ≡ n * d + bucket n → k < length xs → x ≡ get_or xs k x
-    → IsLeastFrom d (map num xs) bucket n m (num x)
-from_one num d bucket n m xs k x next place fits e =
-    let here : flat_at d (map num xs) n (bucket n) ≡ num x = ap (λ (j : ℕ). get_or (map num xs) j (pos 0)) (sym place) ∙ read_cell num xs k x fits e in
-    record {
-      below = λ r le lt. let at : n ≡ r = omega (arith, next) in subst (λ (r : ℕ). num x ≤ℤ flat_at d (map num xs) r (bucket r)) at (omega (arith, ints, here));
-      reached = (n, omega (arith, next), sym here);
-    }
-
--- with the cell of one row more
-pub from_more : {T : Type 0} (num : T → ℤ) (cmp : T → T → Ordering) (d : ℕ) (bucket : ℕ → ℕ) (from n m : ℕ) (xs : List T) (a : T)
-    → ((x y : T) → MatchOrdering (cmp x y) (num x <ℤ num y) (num x ≡ num y) (num y <ℤ num x))
-    → IsLeastFrom d (map num xs) bucket from n (num a)
-    → (k : ℕ) (b c : T) → m ≡ n + 1 → k ≡ n * d + bucket n → k < length xs → b ≡ get_or xs k b → c ≡ cond (is_lt (cmp b a)) b a
-    → IsLeastFrom d (map num xs) bucket from m (num c)
-from_more num cmp d bucket from n m xs a ordered h k b c next place fits e chosen =
-    let here : flat_at d (map num xs) n (bucket n) ≡ num b = ap (λ (j : ℕ). get_or (map num xs) j (pos 0)) (sym place) ∙ read_cell num xs k b fits e in
-    let l : IsLesser (num a) (flat_at d (map num xs) n (bucket n)) (num c) = lesser_here num cmp a b c (num a) (flat_at d (map num xs) n (bucket n)) ordered refl (sym here) chosen in
-    subst (λ (m : ℕ). IsLeastFrom d (map num xs) bucket from m (num c)) (sym next)
-    record {
-      below = λ r le lt. below_more (λ (r : ℕ). from ≤ r → num c ≤ℤ flat_at d (map num xs) r (bucket r)) n (λ r lt le. let prior = h.below r le lt in omega (arith, ints, l.first, prior)) (λ _. l.second) r lt le;
-      reached = ⊎_elim (λ (same : num c ≡ num a). let there = h.reached in (there.0, omega (arith, there.1), same ∙ there.2)) (λ (same : num c ≡ flat_at d (map num xs) n (bucket n)). (n, omega arith, same)) l.either;
-    }
-
--- from the first row on
-pub from_first : (d : ℕ) (cells : List ℤ) (bucket : ℕ → ℕ) (n : ℕ) (z : ℤ) → IsLeastFrom d cells bucket 0 n z → IsLeastOf d cells bucket n z
-from_first d cells bucket n z h = record { below = λ r lt. h.below r (omega arith) lt; reached = h.reached }
-
--- with the least of the rows behind
-pub least_joined : (d : ℕ) (cells : List ℤ) (bucket : ℕ → ℕ) (n m : ℕ) (x y z : ℤ) → n ≤ m → IsLeastOf d cells bucket n x → IsLeastFrom d cells bucket n m y → IsLesser x y z → IsLeastOf d cells bucket m z
-least_joined d cells bucket n m x y z le h f l = record {
-  below = λ r lt. elim (cases_lt r n) [
-    | inl less ↦ let prior = h.below r less in omega (arith, ints, l.first, prior)
-    | inr more ↦ let prior = f.below r more lt in omega (arith, ints, l.second, prior)
-  ];
-  reached = ⊎_elim (λ (same : z ≡ x). let there = h.reached in (there.0, omega (arith, there.1, le), same ∙ there.2)) (λ (same : z ≡ y). let there = f.reached in (there.0, there.1, same ∙ there.2)) l.either;
-}
 
 -- ---- what a new sketch is made of
 

@@ -38,11 +38,6 @@ pub record IsLeastOf (buckets : ℕ) (cells : List ℤ) (bucket : ℕ → ℕ) (
   pub below : (r : ℕ) → r < n → z ≤ℤ flat_at buckets cells r (bucket r)
   pub reached : (r : ℕ) × (r < n) × (z ≡ flat_at buckets cells r (bucket r))
 
--- z is the least of the cells that the rows from one on, and before another, have at their buckets
-pub record IsLeastFrom (buckets : ℕ) (cells : List ℤ) (bucket : ℕ → ℕ) (from n : ℕ) (z : ℤ) : Type 0 where
-  pub below : (r : ℕ) → from ≤ r → r < n → z ≤ℤ flat_at buckets cells r (bucket r)
-  pub reached : (r : ℕ) × (r < n) × (z ≡ flat_at buckets cells r (bucket r))
-
 -- z is the lesser of x and y
 pub record IsLesser (x y z : ℤ) : Type 0 where
   pub first : z ≤ℤ x

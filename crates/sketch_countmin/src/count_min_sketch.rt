@@ -313,7 +313,7 @@ impl<T: CountMinValue> CountMinSketch<T> {
     /// The least of the item's cells. It takes no memory.
     ///
     /// Where no weight was below zero, this is at least the item's own weight and at most the total.
-    #[inline]
+    #[inline(always)]
     pub fn estimate<I: Hash + Drop>(&self, item: I) -> T
         ensures least { IsLeastCell self.now (fed_bytes I.hash_input item) (T.number result) }
 

@@ -1,12 +1,12 @@
 //! The cells of one item, one in each row.
 //!
-//! What a row costs does not wait for the rows before it. So the rows of a short item are taken four at a time: four places
-//! are found before the first cell is touched. Whether there is a power of two of buckets is asked once, outside all
-//! loops.
-ghost use Rattle.std.specs.Prelude.{◌≡◌, ℕ, ◌+◌, ◌*◌, ◌/◌, ◌%◌, ◌^◌, ◌<◌, ◌≤◌, map, length, List, ℤ, ◌+ℤ◌, unsigned_abs, IsTrue};
+//! An item of few bytes is fed once, and each row hashes what was fed under its own seed. Whether there is a power of two of buckets
+//! is asked once, outside all loops. Four rows, the most usual number beside three and five, have no loop: their four places are found
+//! before the first cell is touched.
+ghost use Rattle.std.specs.Prelude.{◌≡◌, ℕ, ◌+◌, ◌*◌, ◌/◌, ◌%◌, ◌^◌, ◌<◌, ◌≤◌, map, length, ℤ, ◌+ℤ◌, unsigned_abs, IsTrue};
 ghost use Rattle.std.specs.Int.{is_power_of_two};
 ghost use Rattle.sketch_base.specs.Hashes.{fed_bytes};
-ghost use Rattle.sketch_countmin.specs.Cells.{cell_in, RowsAdded, IsLeastOf, IsLeastFrom};
+ghost use Rattle.sketch_countmin.specs.Cells.{cell_in, RowsAdded, IsLeastOf};
 ghost use Rattle.sketch_countmin.specs.Buckets.{buckets_by};
 
 use crate::cells::add_at;
@@ -30,39 +30,14 @@ pub fn add_to_rows<T: CountMinValue, I: Hash>(
         (length row_seeds.now) (map T.number counts.old) (map T.number counts.new) }
 {
     let hashed = SeedlessItem::new(item);
-    if buckets.is_power_of_two()
-        && let Some(bytes) = hashed.short()
-    {
-        add_short(counts, buckets, true, row_seeds, bytes, weight);
-        return;
-    }
-    add_any(counts, buckets, row_seeds, item, weight);
-}
-
-/// The same, out of line, so that what stands at a caller is the loop for few bytes and a power of two of buckets.
-#[inline(never)]
-fn add_any<T: CountMinValue, I: Hash>(
-    counts: &mut [T],
-    buckets: Divisor,
-    row_seeds: &[u64],
-    item: &I,
-    weight: T,
-)
-    requires shape { length counts.old ≡ length row_seeds.now * buckets }
-    requires room { (k : ℕ) → unsigned_abs (cell_in (map T.number counts.old) k +ℤ T.number weight) ≤ T.greatest }
-    ensures { RowsAdded buckets (T.number weight)
-        (buckets_by buckets row_seeds.now (fed_bytes I.hash_input item.now))
-        (length row_seeds.now) (map T.number counts.old) (map T.number counts.new) }
-{
-    let hashed = SeedlessItem::new(item);
     match hashed.short() {
-        Some(bytes) => add_short(counts, buckets, false, row_seeds, bytes, weight),
+        Some(bytes) => add_short(counts, buckets, row_seeds, bytes, weight),
         None => add_long(counts, buckets, row_seeds, item, weight),
     }
 }
 
-/// The same for an item that is hashed anew for each row.
-#[inline(always)]
+/// The same for an item of many bytes, which is hashed anew for each row.
+#[inline(never)]
 fn add_long<T: CountMinValue, I: Hash>(
     counts: &mut [T],
     buckets: Divisor,
@@ -79,6 +54,103 @@ fn add_long<T: CountMinValue, I: Hash>(
     let columns = buckets.divisor() as usize;
     for (row, seed) in row_seeds.iter().enumerate() {
         let place = row * columns + buckets.rem(murmur3_of(item, *seed).0) as usize;
+        add_at(counts, place, weight);
+    }
+}
+
+/// The same for few bytes.
+#[inline(always)]
+fn add_short<T: CountMinValue>(
+    counts: &mut [T],
+    buckets: Divisor,
+    row_seeds: &[u64],
+    bytes: &ShortBytes,
+    weight: T,
+)
+    requires short { length bytes.now < 16 }
+    requires shape { length counts.old ≡ length row_seeds.now * buckets }
+    requires room { (k : ℕ) → unsigned_abs (cell_in (map T.number counts.old) k +ℤ T.number weight) ≤ T.greatest }
+    ensures { RowsAdded buckets (T.number weight) (buckets_by buckets row_seeds.now bytes.now)
+        (length row_seeds.now) (map T.number counts.old) (map T.number counts.new) }
+{
+    if buckets.is_power_of_two() {
+        add_by(counts, buckets, true, row_seeds, bytes, weight);
+    } else {
+        add_by(counts, buckets, false, row_seeds, bytes, weight);
+    }
+}
+
+/// The same, by a mask where that is said, and then there is a power of two of buckets.
+#[inline(always)]
+fn add_by<T: CountMinValue>(
+    counts: &mut [T],
+    buckets: Divisor,
+    masked: bool,
+    row_seeds: &[u64],
+    bytes: &ShortBytes,
+    weight: T,
+)
+    requires masked { IsTrue masked → IsTrue (is_power_of_two buckets) }
+    requires short { length bytes.now < 16 }
+    requires shape { length counts.old ≡ length row_seeds.now * buckets }
+    requires room { (k : ℕ) → unsigned_abs (cell_in (map T.number counts.old) k +ℤ T.number weight) ≤ T.greatest }
+    ensures { RowsAdded buckets (T.number weight) (buckets_by buckets row_seeds.now bytes.now)
+        (length row_seeds.now) (map T.number counts.old) (map T.number counts.new) }
+{
+    if row_seeds.len() == 4 {
+        add_to_four(counts, buckets, masked, row_seeds, bytes, weight);
+    } else {
+        add_to_each(counts, buckets, masked, row_seeds, bytes, weight);
+    }
+}
+
+/// The same in four rows.
+#[inline(always)]
+fn add_to_four<T: CountMinValue>(
+    counts: &mut [T],
+    buckets: Divisor,
+    masked: bool,
+    row_seeds: &[u64],
+    bytes: &ShortBytes,
+    weight: T,
+)
+    requires masked { IsTrue masked → IsTrue (is_power_of_two buckets) }
+    requires short { length bytes.now < 16 }
+    requires four { length row_seeds.now ≡ 4 }
+    requires shape { length counts.old ≡ length row_seeds.now * buckets }
+    requires room { (k : ℕ) → unsigned_abs (cell_in (map T.number counts.old) k +ℤ T.number weight) ≤ T.greatest }
+    ensures { RowsAdded buckets (T.number weight) (buckets_by buckets row_seeds.now bytes.now)
+        (length row_seeds.now) (map T.number counts.old) (map T.number counts.new) }
+{
+    let first = place_in(buckets, masked, row_seeds, bytes, 0);
+    let second = place_in(buckets, masked, row_seeds, bytes, 1);
+    let third = place_in(buckets, masked, row_seeds, bytes, 2);
+    let fourth = place_in(buckets, masked, row_seeds, bytes, 3);
+    add_at(counts, first, weight);
+    add_at(counts, second, weight);
+    add_at(counts, third, weight);
+    add_at(counts, fourth, weight);
+}
+
+/// The same, row by row.
+#[inline(always)]
+fn add_to_each<T: CountMinValue>(
+    counts: &mut [T],
+    buckets: Divisor,
+    masked: bool,
+    row_seeds: &[u64],
+    bytes: &ShortBytes,
+    weight: T,
+)
+    requires masked { IsTrue masked → IsTrue (is_power_of_two buckets) }
+    requires short { length bytes.now < 16 }
+    requires shape { length counts.old ≡ length row_seeds.now * buckets }
+    requires room { (k : ℕ) → unsigned_abs (cell_in (map T.number counts.old) k +ℤ T.number weight) ≤ T.greatest }
+    ensures { RowsAdded buckets (T.number weight) (buckets_by buckets row_seeds.now bytes.now)
+        (length row_seeds.now) (map T.number counts.old) (map T.number counts.new) }
+{
+    for row in 0..row_seeds.len() {
+        let place = place_in(buckets, masked, row_seeds, bytes, row);
         add_at(counts, place, weight);
     }
 }
@@ -118,89 +190,8 @@ fn place_in(
     row * buckets.divisor() as usize + bucket as usize
 }
 
-/// Adds the weight at the bucket of few bytes of each row.
-#[inline(always)]
-fn add_short<T: CountMinValue>(
-    counts: &mut [T],
-    buckets: Divisor,
-    masked: bool,
-    row_seeds: &[u64],
-    bytes: &ShortBytes,
-    weight: T,
-)
-    requires masked { IsTrue masked → IsTrue (is_power_of_two buckets) }
-    requires short { length bytes.now < 16 }
-    requires shape { length counts.old ≡ length row_seeds.now * buckets }
-    requires room { (k : ℕ) → unsigned_abs (cell_in (map T.number counts.old) k +ℤ T.number weight) ≤ T.greatest }
-    ensures { RowsAdded buckets (T.number weight) (buckets_by buckets row_seeds.now bytes.now)
-        (length row_seeds.now) (map T.number counts.old) (map T.number counts.new) }
-{
-    add_to_fours(counts, buckets, masked, row_seeds, bytes, weight);
-    let done = 4 * (row_seeds.len() / 4);
-    add_to_rest(counts, buckets, masked, row_seeds, bytes, weight, done);
-}
-
-/// Adds the weight at the bucket of few bytes of each row, of as many fours of rows as there are.
-#[inline(always)]
-fn add_to_fours<T: CountMinValue>(
-    counts: &mut [T],
-    buckets: Divisor,
-    masked: bool,
-    row_seeds: &[u64],
-    bytes: &ShortBytes,
-    weight: T,
-)
-    requires masked { IsTrue masked → IsTrue (is_power_of_two buckets) }
-    requires short { length bytes.now < 16 }
-    requires shape { length counts.old ≡ length row_seeds.now * buckets }
-    requires room { (k : ℕ) → unsigned_abs (cell_in (map T.number counts.old) k +ℤ T.number weight) ≤ T.greatest }
-    ensures { RowsAdded buckets (T.number weight) (buckets_by buckets row_seeds.now bytes.now)
-        (4 * (length row_seeds.now / 4)) (map T.number counts.old) (map T.number counts.new) }
-{
-    for four in 0..row_seeds.len() / 4 {
-        let row = 4 * four;
-        let first = place_in(buckets, masked, row_seeds, bytes, row);
-        let second = place_in(buckets, masked, row_seeds, bytes, row + 1);
-        let third = place_in(buckets, masked, row_seeds, bytes, row + 2);
-        let fourth = place_in(buckets, masked, row_seeds, bytes, row + 3);
-        add_at(counts, first, weight);
-        add_at(counts, second, weight);
-        add_at(counts, third, weight);
-        add_at(counts, fourth, weight);
-    }
-}
-
-/// Adds the weight at the bucket of few bytes of each row from one on.
-#[inline(always)]
-fn add_to_rest<T: CountMinValue>(
-    counts: &mut [T],
-    buckets: Divisor,
-    masked: bool,
-    row_seeds: &[u64],
-    bytes: &ShortBytes,
-    weight: T,
-    from: usize,
-)
-    requires masked { IsTrue masked → IsTrue (is_power_of_two buckets) }
-    requires short { length bytes.now < 16 }
-    requires shape { length counts.old ≡ length row_seeds.now * buckets }
-    requires from { from ≤ length row_seeds.now }
-    requires room { (k : ℕ) → from * buckets ≤ k
-        → unsigned_abs (cell_in (map T.number counts.old) k +ℤ T.number weight) ≤ T.greatest }
-    ensures { (before : List ℤ)
-        → RowsAdded buckets (T.number weight) (buckets_by buckets row_seeds.now bytes.now)
-        from before (map T.number counts.old)
-        → RowsAdded buckets (T.number weight) (buckets_by buckets row_seeds.now bytes.now)
-        (length row_seeds.now) before (map T.number counts.new) }
-{
-    for row in from..row_seeds.len() {
-        let place = place_in(buckets, masked, row_seeds, bytes, row);
-        add_at(counts, place, weight);
-    }
-}
-
 /// The least of the item's cells.
-#[inline]
+#[inline(always)]
 pub fn least_cell<T: CountMinValue, I: Hash>(
     counts: &[T],
     buckets: Divisor,
@@ -214,18 +205,15 @@ pub fn least_cell<T: CountMinValue, I: Hash>(
         (length row_seeds.now) (T.number result) }
 {
     let hashed = SeedlessItem::new(item);
-    if row_seeds.len() >= 4
-        && buckets.is_power_of_two()
-        && let Some(bytes) = hashed.short()
-    {
-        return least_short(counts, buckets, true, row_seeds, bytes);
+    match hashed.short() {
+        Some(bytes) => least_short(counts, buckets, row_seeds, bytes),
+        None => least_long(counts, buckets, row_seeds, item),
     }
-    least_any(counts, buckets, row_seeds, item)
 }
 
-/// The same, row by row.
-#[inline]
-fn least_any<T: CountMinValue, I: Hash>(
+/// The same for an item of many bytes, which is hashed anew for each row.
+#[inline(never)]
+fn least_long<T: CountMinValue, I: Hash>(
     counts: &[T],
     buckets: Divisor,
     row_seeds: &[u64],
@@ -238,20 +226,40 @@ fn least_any<T: CountMinValue, I: Hash>(
         (length row_seeds.now) (T.number result) }
 {
     let columns = buckets.divisor() as usize;
-    let hashed = SeedlessItem::new(item);
-    let first = buckets.rem(hashed.murmur3(row_seeds[0]).0) as usize;
+    let first = buckets.rem(murmur3_of(item, row_seeds[0]).0) as usize;
     let mut least = counts[first];
     for row in 1..row_seeds.len() {
-        let place = row * columns + buckets.rem(hashed.murmur3(row_seeds[row]).0) as usize;
+        let place = row * columns + buckets.rem(murmur3_of(item, row_seeds[row]).0) as usize;
         let cell = counts[place];
         least = least.min(cell);
     }
     least
 }
 
-/// The least of the cells of few bytes, in four rows or more.
+/// The same for few bytes.
 #[inline(always)]
 fn least_short<T: CountMinValue>(
+    counts: &[T],
+    buckets: Divisor,
+    row_seeds: &[u64],
+    bytes: &ShortBytes,
+) -> T
+    requires short { length bytes.now < 16 }
+    requires rows { 0 < length row_seeds.now }
+    requires shape { length counts.now ≡ length row_seeds.now * buckets }
+    ensures { IsLeastOf buckets (map T.number counts.now) (buckets_by buckets row_seeds.now bytes.now)
+        (length row_seeds.now) (T.number result) }
+{
+    if buckets.is_power_of_two() {
+        least_by(counts, buckets, true, row_seeds, bytes)
+    } else {
+        least_by(counts, buckets, false, row_seeds, bytes)
+    }
+}
+
+/// The same, by a mask where that is said, and then there is a power of two of buckets.
+#[inline(always)]
+fn least_by<T: CountMinValue>(
     counts: &[T],
     buckets: Divisor,
     masked: bool,
@@ -260,24 +268,19 @@ fn least_short<T: CountMinValue>(
 ) -> T
     requires masked { IsTrue masked → IsTrue (is_power_of_two buckets) }
     requires short { length bytes.now < 16 }
+    requires rows { 0 < length row_seeds.now }
     requires shape { length counts.now ≡ length row_seeds.now * buckets }
-    requires rows { 4 ≤ length row_seeds.now }
     ensures { IsLeastOf buckets (map T.number counts.now) (buckets_by buckets row_seeds.now bytes.now)
         (length row_seeds.now) (T.number result) }
 {
-    let mut least = least_of_four(counts, buckets, masked, row_seeds, bytes, 0);
-    for four in 1..row_seeds.len() / 4 {
-        let more = least_of_four(counts, buckets, masked, row_seeds, bytes, 4 * four);
-        least = least.min(more);
+    if row_seeds.len() == 4 {
+        least_of_four(counts, buckets, masked, row_seeds, bytes)
+    } else {
+        least_of_each(counts, buckets, masked, row_seeds, bytes)
     }
-    for row in 4 * (row_seeds.len() / 4)..row_seeds.len() {
-        let cell = counts[place_in(buckets, masked, row_seeds, bytes, row)];
-        least = least.min(cell);
-    }
-    least
 }
 
-/// The least of the cells of few bytes in four rows from one on.
+/// The same in four rows.
 #[inline(always)]
 fn least_of_four<T: CountMinValue>(
     counts: &[T],
@@ -285,21 +288,46 @@ fn least_of_four<T: CountMinValue>(
     masked: bool,
     row_seeds: &[u64],
     bytes: &ShortBytes,
-    row: usize,
 ) -> T
     requires masked { IsTrue masked → IsTrue (is_power_of_two buckets) }
     requires short { length bytes.now < 16 }
+    requires four { length row_seeds.now ≡ 4 }
     requires shape { length counts.now ≡ length row_seeds.now * buckets }
-    requires rows { row + 4 ≤ length row_seeds.now }
-    ensures { IsLeastFrom buckets (map T.number counts.now) (buckets_by buckets row_seeds.now bytes.now)
-        row (row + 4) (T.number result) }
+    ensures { IsLeastOf buckets (map T.number counts.now) (buckets_by buckets row_seeds.now bytes.now)
+        (length row_seeds.now) (T.number result) }
 {
-    let first = place_in(buckets, masked, row_seeds, bytes, row);
-    let second = place_in(buckets, masked, row_seeds, bytes, row + 1);
-    let third = place_in(buckets, masked, row_seeds, bytes, row + 2);
-    let fourth = place_in(buckets, masked, row_seeds, bytes, row + 3);
+    let first = place_in(buckets, masked, row_seeds, bytes, 0);
+    let second = place_in(buckets, masked, row_seeds, bytes, 1);
+    let third = place_in(buckets, masked, row_seeds, bytes, 2);
+    let fourth = place_in(buckets, masked, row_seeds, bytes, 3);
     let one = counts[first];
     let two = one.min(counts[second]);
     let three = two.min(counts[third]);
     three.min(counts[fourth])
+}
+
+/// The same, row by row.
+#[inline(always)]
+fn least_of_each<T: CountMinValue>(
+    counts: &[T],
+    buckets: Divisor,
+    masked: bool,
+    row_seeds: &[u64],
+    bytes: &ShortBytes,
+) -> T
+    requires masked { IsTrue masked → IsTrue (is_power_of_two buckets) }
+    requires short { length bytes.now < 16 }
+    requires rows { 0 < length row_seeds.now }
+    requires shape { length counts.now ≡ length row_seeds.now * buckets }
+    ensures { IsLeastOf buckets (map T.number counts.now) (buckets_by buckets row_seeds.now bytes.now)
+        (length row_seeds.now) (T.number result) }
+{
+    let first = place_in(buckets, masked, row_seeds, bytes, 0);
+    let mut least = counts[first];
+    for row in 1..row_seeds.len() {
+        let place = place_in(buckets, masked, row_seeds, bytes, row);
+        let cell = counts[place];
+        least = least.min(cell);
+    }
+    least
 }

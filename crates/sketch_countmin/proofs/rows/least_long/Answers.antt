@@ -1,22 +1,21 @@
-use Rattle.std.proofs.Common.{arith, ap, subst, ◌≡◌, ℕ, ◌+◌, ◌*◌, ◌<◌, map, length, slice_index}
+use Rattle.std.proofs.Common.{arith, refl, ap, subst, ◌≡◌, ℕ, ◌+◌, ◌*◌, ◌<◌, map, length, slice_index}
 use Rattle.sketch_base.specs.Hashes.{fed_bytes}
 use Rattle.sketch_countmin.specs.Buckets.{bucket_by}
 use Rattle.sketch_countmin.specs.Cells.{IsLeastOf}
 use Rattle.sketch_countmin.proofs.Places.{inside_first, inside_wide}
 use Rattle.sketch_countmin.proofs.RowSteps.{bucket_found, inside, least_first, least_more}
-use Rattle.sketch_countmin.proofs.rows.least_any.Goals as goal
+use Rattle.sketch_countmin.proofs.rows.least_long.Goals as goal
 
 pub loop-row-init : goal.loop-row-init
 loop-row-init g c =
     let d : ℕ = c.args.buckets in
     let bucket = λ (r : ℕ). bucket_by d (slice_index c.args.row_seeds.now r) (fed_bytes g.I.Hash.hash_input c.args.item.now) in
-    let at : c.rem-first.result ≡ bucket 0 = bucket_found d (slice_index c.args.row_seeds.now 0) c.rem-first.result c.murmur3.result _ _ c.rem-first.ensures.value c.murmur3.ensures c.new-hashed.ensures in
+    let at : c.rem-first.result ≡ bucket 0 = bucket_found d (slice_index c.args.row_seeds.now 0) c.rem-first.result c.murmur3_of.result _ _ c.rem-first.ensures.value c.murmur3_of.ensures refl in
     let in_row : bucket 0 < d = omega (arith, c.divisor-columns.ensures.above_one, c.divisor-columns.ensures.value) in
     let fits : c.rem-first.result < length c.args.counts.now = omega (arith, at, inside d (length c.args.row_seeds.now) 0 (bucket 0) (length c.args.counts.now) c.requires.shape c.requires.rows in_row) in
     record {
       least = least_first g.T.CountMinValue.number d bucket c.args.counts.now c.rem-first.result c.index-counts-first.result at fits c.index-counts-first.is;
       columns = c.divisor-columns.ensures.value;
-      hashed = c.new-hashed.ensures;
     }
 
 pub loop-row-preserved : goal.loop-row-preserved
@@ -25,14 +24,13 @@ loop-row-preserved g c =
     let n : ℕ = c.loop-row.row in
     let bucket = λ (r : ℕ). bucket_by d (slice_index c.args.row_seeds.now r) (fed_bytes g.I.Hash.hash_input c.args.item.now) in
     let row : n * c.divisor-columns.result ≡ n * d = ap (λ (k : ℕ). n * k) c.divisor-columns.ensures.value in
-    let at : c.rem.result ≡ bucket n = bucket_found d (slice_index c.args.row_seeds.now n) c.rem.result c.murmur3-in-loop-row.result _ _ c.rem.ensures.value c.murmur3-in-loop-row.ensures c.loop-row.invariant.hashed in
+    let at : c.rem.result ≡ bucket n = bucket_found d (slice_index c.args.row_seeds.now n) c.rem.result c.murmur3_of-in-loop-row.result _ _ c.rem.ensures.value c.murmur3_of-in-loop-row.ensures refl in
     let in_row : bucket n < d = omega (arith, c.divisor-columns.ensures.above_one, c.divisor-columns.ensures.value) in
     let fits : n * c.divisor-columns.result + c.rem.result < length c.args.counts.now = omega (arith, row, at, inside d (length c.args.row_seeds.now) n (bucket n) (length c.args.counts.now) c.requires.shape c.loop-row-test.true in_row) in
     record {
       least = least_more g.T.CountMinValue.number g.T.Ord.cmp d bucket n c.args.counts.now c.loop-row.least g.met.T.CountMinValue.ordered c.loop-row.invariant.least
           (n * c.divisor-columns.result + c.rem.result) c.index-counts-place.result c.min-least.result (omega (arith, row, at)) fits c.index-counts-place.is c.min-least.ensures;
       columns = c.divisor-columns.ensures.value;
-      hashed = c.new-hashed.ensures;
     }
 
 pub bounds-counts-first : goal.bounds-counts-first

@@ -1,0 +1,23 @@
+use Rattle.std.proofs.Common.{arith, sym, subst, ◌∙◌, ◌≡◌, ℕ, ◌*◌, List, map, length, ℤ}
+use Rattle.sketch_countmin.specs.Buckets.{buckets_by}
+use Rattle.sketch_countmin.specs.Cells.{RowsAdded}
+use Rattle.sketch_countmin.proofs.Places.{row_added}
+use Rattle.sketch_countmin.proofs.RowSteps.{rows_none}
+use Rattle.sketch_countmin.proofs.rows.add_to_four.Goals as goal
+
+pub returns : goal.returns
+returns g c =
+    let num = g.T.CountMinValue.number in
+    let d : ℕ = c.args.buckets in
+    let w : ℤ = num c.args.weight in
+    let bucket = buckets_by d c.args.row_seeds.now c.args.bytes.now in
+    let old : List ℤ = map num c.args.counts.now in
+    let size : ℕ = length c.args.row_seeds.now * d in
+    let long : length c.add_at.new.counts ≡ size = c.add_at.auto.counts ∙ c.requires.shape in
+    let long-2 : length c.add_at-2.new.counts ≡ size = c.add_at-2.auto.counts ∙ long in
+    let long-3 : length c.add_at-3.new.counts ≡ size = c.add_at-3.auto.counts ∙ long-2 in
+    let one : RowsAdded d w bucket 1 old (map num c.add_at.new.counts) = row_added num d w bucket 0 1 c.place_in-first.result size old c.args.counts.now c.add_at.new.counts (rows_none d w bucket old) (omega arith) c.place_in-first.ensures.bucket c.place_in-first.ensures.place c.place_in-first.ensures.inside c.requires.shape c.add_at.ensures in
+    let two : RowsAdded d w bucket 2 old (map num c.add_at-2.new.counts) = row_added num d w bucket 1 2 c.place_in-second.result size old c.add_at.new.counts c.add_at-2.new.counts one (omega arith) c.place_in-second.ensures.bucket c.place_in-second.ensures.place c.place_in-second.ensures.inside long c.add_at-2.ensures in
+    let three : RowsAdded d w bucket 3 old (map num c.add_at-3.new.counts) = row_added num d w bucket 2 3 c.place_in-third.result size old c.add_at-2.new.counts c.add_at-3.new.counts two (omega arith) c.place_in-third.ensures.bucket c.place_in-third.ensures.place c.place_in-third.ensures.inside long-2 c.add_at-3.ensures in
+    let four : RowsAdded d w bucket 4 old (map num c.add_at-4.new.counts) = row_added num d w bucket 3 4 c.place_in-fourth.result size old c.add_at-3.new.counts c.add_at-4.new.counts three (omega arith) c.place_in-fourth.ensures.bucket c.place_in-fourth.ensures.place c.place_in-fourth.ensures.inside long-3 c.add_at-4.ensures in
+    subst (λ (n : ℕ). RowsAdded d w bucket n old (map num c.add_at-4.new.counts)) (sym c.requires.four) four
