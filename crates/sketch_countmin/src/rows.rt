@@ -73,48 +73,25 @@ fn add_short<T: CountMinValue>(
     ensures { RowsAdded buckets (T.number weight) (buckets_by buckets row_seeds.now bytes.now)
         (length row_seeds.now) (map T.number counts.old) (map T.number counts.new) }
 {
-    if buckets.is_power_of_two() {
-        add_by(counts, buckets, true, row_seeds, bytes, weight);
+    if !buckets.is_power_of_two() {
+        add_to_each(counts, buckets, false, row_seeds, bytes, weight);
+    } else if row_seeds.len() == 4 {
+        add_to_four(counts, buckets, row_seeds, bytes, weight);
     } else {
-        add_by(counts, buckets, false, row_seeds, bytes, weight);
+        add_to_each(counts, buckets, true, row_seeds, bytes, weight);
     }
 }
 
-/// The same, by a mask where that is said, and then there is a power of two of buckets.
-#[inline(always)]
-fn add_by<T: CountMinValue>(
-    counts: &mut [T],
-    buckets: Divisor,
-    masked: bool,
-    row_seeds: &[u64],
-    bytes: &ShortBytes,
-    weight: T,
-)
-    requires masked { IsTrue masked → IsTrue (is_power_of_two buckets) }
-    requires short { length bytes.now < 16 }
-    requires shape { length counts.old ≡ length row_seeds.now * buckets }
-    requires room { (k : ℕ) → unsigned_abs (cell_in (map T.number counts.old) k +ℤ T.number weight) ≤ T.greatest }
-    ensures { RowsAdded buckets (T.number weight) (buckets_by buckets row_seeds.now bytes.now)
-        (length row_seeds.now) (map T.number counts.old) (map T.number counts.new) }
-{
-    if row_seeds.len() == 4 {
-        add_to_four(counts, buckets, masked, row_seeds, bytes, weight);
-    } else {
-        add_to_each(counts, buckets, masked, row_seeds, bytes, weight);
-    }
-}
-
-/// The same in four rows.
+/// The same in four rows of a power of two of buckets.
 #[inline(always)]
 fn add_to_four<T: CountMinValue>(
     counts: &mut [T],
     buckets: Divisor,
-    masked: bool,
     row_seeds: &[u64],
     bytes: &ShortBytes,
     weight: T,
 )
-    requires masked { IsTrue masked → IsTrue (is_power_of_two buckets) }
+    requires power { IsTrue (is_power_of_two buckets) }
     requires short { length bytes.now < 16 }
     requires four { length row_seeds.now ≡ 4 }
     requires shape { length counts.old ≡ length row_seeds.now * buckets }
@@ -122,17 +99,17 @@ fn add_to_four<T: CountMinValue>(
     ensures { RowsAdded buckets (T.number weight) (buckets_by buckets row_seeds.now bytes.now)
         (length row_seeds.now) (map T.number counts.old) (map T.number counts.new) }
 {
-    let first = place_in(buckets, masked, row_seeds, bytes, 0);
-    let second = place_in(buckets, masked, row_seeds, bytes, 1);
-    let third = place_in(buckets, masked, row_seeds, bytes, 2);
-    let fourth = place_in(buckets, masked, row_seeds, bytes, 3);
+    let first = place_in(buckets, true, row_seeds, bytes, 0);
+    let second = place_in(buckets, true, row_seeds, bytes, 1);
+    let third = place_in(buckets, true, row_seeds, bytes, 2);
+    let fourth = place_in(buckets, true, row_seeds, bytes, 3);
     add_at(counts, first, weight);
     add_at(counts, second, weight);
     add_at(counts, third, weight);
     add_at(counts, fourth, weight);
 }
 
-/// The same, row by row.
+/// The same row by row: by a mask where that is said, and then there is a power of two of buckets.
 #[inline(always)]
 fn add_to_each<T: CountMinValue>(
     counts: &mut [T],
@@ -250,63 +227,41 @@ fn least_short<T: CountMinValue>(
     ensures { IsLeastOf buckets (map T.number counts.now) (buckets_by buckets row_seeds.now bytes.now)
         (length row_seeds.now) (T.number result) }
 {
-    if buckets.is_power_of_two() {
-        least_by(counts, buckets, true, row_seeds, bytes)
+    if !buckets.is_power_of_two() {
+        least_of_each(counts, buckets, false, row_seeds, bytes)
+    } else if row_seeds.len() == 4 {
+        least_of_four(counts, buckets, row_seeds, bytes)
     } else {
-        least_by(counts, buckets, false, row_seeds, bytes)
+        least_of_each(counts, buckets, true, row_seeds, bytes)
     }
 }
 
-/// The same, by a mask where that is said, and then there is a power of two of buckets.
-#[inline(always)]
-fn least_by<T: CountMinValue>(
-    counts: &[T],
-    buckets: Divisor,
-    masked: bool,
-    row_seeds: &[u64],
-    bytes: &ShortBytes,
-) -> T
-    requires masked { IsTrue masked → IsTrue (is_power_of_two buckets) }
-    requires short { length bytes.now < 16 }
-    requires rows { 0 < length row_seeds.now }
-    requires shape { length counts.now ≡ length row_seeds.now * buckets }
-    ensures { IsLeastOf buckets (map T.number counts.now) (buckets_by buckets row_seeds.now bytes.now)
-        (length row_seeds.now) (T.number result) }
-{
-    if row_seeds.len() == 4 {
-        least_of_four(counts, buckets, masked, row_seeds, bytes)
-    } else {
-        least_of_each(counts, buckets, masked, row_seeds, bytes)
-    }
-}
-
-/// The same in four rows.
+/// The same in four rows of a power of two of buckets.
 #[inline(always)]
 fn least_of_four<T: CountMinValue>(
     counts: &[T],
     buckets: Divisor,
-    masked: bool,
     row_seeds: &[u64],
     bytes: &ShortBytes,
 ) -> T
-    requires masked { IsTrue masked → IsTrue (is_power_of_two buckets) }
+    requires power { IsTrue (is_power_of_two buckets) }
     requires short { length bytes.now < 16 }
     requires four { length row_seeds.now ≡ 4 }
     requires shape { length counts.now ≡ length row_seeds.now * buckets }
     ensures { IsLeastOf buckets (map T.number counts.now) (buckets_by buckets row_seeds.now bytes.now)
         (length row_seeds.now) (T.number result) }
 {
-    let first = place_in(buckets, masked, row_seeds, bytes, 0);
-    let second = place_in(buckets, masked, row_seeds, bytes, 1);
-    let third = place_in(buckets, masked, row_seeds, bytes, 2);
-    let fourth = place_in(buckets, masked, row_seeds, bytes, 3);
+    let first = place_in(buckets, true, row_seeds, bytes, 0);
+    let second = place_in(buckets, true, row_seeds, bytes, 1);
+    let third = place_in(buckets, true, row_seeds, bytes, 2);
+    let fourth = place_in(buckets, true, row_seeds, bytes, 3);
     let one = counts[first];
     let two = one.min(counts[second]);
     let three = two.min(counts[third]);
     three.min(counts[fourth])
 }
 
-/// The same, row by row.
+/// The same row by row: by a mask where that is said, and then there is a power of two of buckets.
 #[inline(always)]
 fn least_of_each<T: CountMinValue>(
     counts: &[T],
