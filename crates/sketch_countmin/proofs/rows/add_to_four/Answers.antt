@@ -1,9 +1,43 @@
 use Rattle.std.proofs.Common.{arith, sym, subst, ◌∙◌, ◌≡◌, ℕ, ◌*◌, List, map, length, ℤ}
 use Rattle.sketch_countmin.specs.Buckets.{buckets_by}
 use Rattle.sketch_countmin.specs.Cells.{RowsAdded}
-use Rattle.sketch_countmin.proofs.Places.{row_added}
+use Rattle.sketch_countmin.proofs.Places.{within, room_stays, row_added}
 use Rattle.sketch_countmin.proofs.RowSteps.{rows_none}
 use Rattle.sketch_countmin.proofs.rows.add_to_four.Goals as goal
+
+pub add_at-requires-clause-bounds : goal.add_at-requires-clause-bounds
+add_at-requires-clause-bounds g c = within _ _ _ c.place_in-first.ensures.inside c.requires.shape
+
+pub add_at-requires-clause-room : goal.add_at-requires-clause-room
+add_at-requires-clause-room g c =
+    c.requires.room c.place_in-first.result
+
+pub add_at-requires-2-clause-bounds : goal.add_at-requires-2-clause-bounds
+add_at-requires-2-clause-bounds g c = within _ _ _ c.place_in-second.ensures.inside (c.add_at.auto.counts ∙ c.requires.shape)
+
+pub add_at-requires-2-clause-room : goal.add_at-requires-2-clause-room
+add_at-requires-2-clause-room g c =
+    room_stays _ _ _ _ (buckets_by c.args.buckets c.args.row_seeds.now c.args.bytes.now) 0 1 c.place_in-first.result c.place_in-second.result _ _ (omega arith) c.place_in-first.ensures.bucket c.place_in-first.ensures.place c.place_in-second.ensures.place c.add_at.ensures
+    (c.requires.room c.place_in-second.result)
+
+pub add_at-requires-3-clause-bounds : goal.add_at-requires-3-clause-bounds
+add_at-requires-3-clause-bounds g c = within _ _ _ c.place_in-third.ensures.inside (c.add_at-2.auto.counts ∙ (c.add_at.auto.counts ∙ c.requires.shape))
+
+pub add_at-requires-3-clause-room : goal.add_at-requires-3-clause-room
+add_at-requires-3-clause-room g c =
+    room_stays _ _ _ _ (buckets_by c.args.buckets c.args.row_seeds.now c.args.bytes.now) 1 2 c.place_in-second.result c.place_in-third.result _ _ (omega arith) c.place_in-second.ensures.bucket c.place_in-second.ensures.place c.place_in-third.ensures.place c.add_at-2.ensures
+    (room_stays _ _ _ _ (buckets_by c.args.buckets c.args.row_seeds.now c.args.bytes.now) 0 2 c.place_in-first.result c.place_in-third.result _ _ (omega arith) c.place_in-first.ensures.bucket c.place_in-first.ensures.place c.place_in-third.ensures.place c.add_at.ensures
+    (c.requires.room c.place_in-third.result))
+
+pub add_at-requires-4-clause-bounds : goal.add_at-requires-4-clause-bounds
+add_at-requires-4-clause-bounds g c = within _ _ _ c.place_in-fourth.ensures.inside (c.add_at-3.auto.counts ∙ (c.add_at-2.auto.counts ∙ (c.add_at.auto.counts ∙ c.requires.shape)))
+
+pub add_at-requires-4-clause-room : goal.add_at-requires-4-clause-room
+add_at-requires-4-clause-room g c =
+    room_stays _ _ _ _ (buckets_by c.args.buckets c.args.row_seeds.now c.args.bytes.now) 2 3 c.place_in-third.result c.place_in-fourth.result _ _ (omega arith) c.place_in-third.ensures.bucket c.place_in-third.ensures.place c.place_in-fourth.ensures.place c.add_at-3.ensures
+    (room_stays _ _ _ _ (buckets_by c.args.buckets c.args.row_seeds.now c.args.bytes.now) 1 3 c.place_in-second.result c.place_in-fourth.result _ _ (omega arith) c.place_in-second.ensures.bucket c.place_in-second.ensures.place c.place_in-fourth.ensures.place c.add_at-2.ensures
+    (room_stays _ _ _ _ (buckets_by c.args.buckets c.args.row_seeds.now c.args.bytes.now) 0 3 c.place_in-first.result c.place_in-fourth.result _ _ (omega arith) c.place_in-first.ensures.bucket c.place_in-first.ensures.place c.place_in-fourth.ensures.place c.add_at.ensures
+    (c.requires.room c.place_in-fourth.result)))
 
 pub returns : goal.returns
 returns g c =
