@@ -31,7 +31,13 @@ pub fn add_to_rows<T: CountMinValue, I: Hash>(
 {
     let hashed = SeedlessItem::new(item);
     match hashed.short() {
-        Some(bytes) => add_short(counts, buckets, row_seeds, bytes, weight),
+        Some(bytes) if !buckets.is_power_of_two() => {
+            add_to_each(counts, buckets, false, row_seeds, bytes, weight)
+        }
+        Some(bytes) if row_seeds.len() == 4 => {
+            add_to_four(counts, buckets, row_seeds, bytes, weight)
+        }
+        Some(bytes) => add_to_each(counts, buckets, true, row_seeds, bytes, weight),
         None => add_long(counts, buckets, row_seeds, item, weight),
     }
 }
@@ -58,31 +64,7 @@ fn add_long<T: CountMinValue, I: Hash>(
     }
 }
 
-/// The same for few bytes.
-#[inline(always)]
-fn add_short<T: CountMinValue>(
-    counts: &mut [T],
-    buckets: Divisor,
-    row_seeds: &[u64],
-    bytes: &ShortBytes,
-    weight: T,
-)
-    requires short { length bytes.now < 16 }
-    requires shape { length counts.old ≡ length row_seeds.now * buckets }
-    requires room { (k : ℕ) → unsigned_abs (cell_in (map T.number counts.old) k +ℤ T.number weight) ≤ T.greatest }
-    ensures { RowsAdded buckets (T.number weight) (buckets_by buckets row_seeds.now bytes.now)
-        (length row_seeds.now) (map T.number counts.old) (map T.number counts.new) }
-{
-    if !buckets.is_power_of_two() {
-        add_to_each(counts, buckets, false, row_seeds, bytes, weight);
-    } else if row_seeds.len() == 4 {
-        add_to_four(counts, buckets, row_seeds, bytes, weight);
-    } else {
-        add_to_each(counts, buckets, true, row_seeds, bytes, weight);
-    }
-}
-
-/// The same in four rows of a power of two of buckets.
+/// The same for few bytes in four rows of a power of two of buckets.
 #[inline(always)]
 fn add_to_four<T: CountMinValue>(
     counts: &mut [T],
@@ -109,7 +91,7 @@ fn add_to_four<T: CountMinValue>(
     add_at(counts, fourth, weight);
 }
 
-/// The same row by row: by a mask where that is said, and then there is a power of two of buckets.
+/// The same for few bytes, row by row: by a mask where that is said, and then there is a power of two of buckets.
 #[inline(always)]
 fn add_to_each<T: CountMinValue>(
     counts: &mut [T],
@@ -183,7 +165,11 @@ pub fn least_cell<T: CountMinValue, I: Hash>(
 {
     let hashed = SeedlessItem::new(item);
     match hashed.short() {
-        Some(bytes) => least_short(counts, buckets, row_seeds, bytes),
+        Some(bytes) if !buckets.is_power_of_two() => {
+            least_of_each(counts, buckets, false, row_seeds, bytes)
+        }
+        Some(bytes) if row_seeds.len() == 4 => least_of_four(counts, buckets, row_seeds, bytes),
+        Some(bytes) => least_of_each(counts, buckets, true, row_seeds, bytes),
         None => least_long(counts, buckets, row_seeds, item),
     }
 }
@@ -213,30 +199,7 @@ fn least_long<T: CountMinValue, I: Hash>(
     least
 }
 
-/// The same for few bytes.
-#[inline(always)]
-fn least_short<T: CountMinValue>(
-    counts: &[T],
-    buckets: Divisor,
-    row_seeds: &[u64],
-    bytes: &ShortBytes,
-) -> T
-    requires short { length bytes.now < 16 }
-    requires rows { 0 < length row_seeds.now }
-    requires shape { length counts.now ≡ length row_seeds.now * buckets }
-    ensures { IsLeastOf buckets (map T.number counts.now) (buckets_by buckets row_seeds.now bytes.now)
-        (length row_seeds.now) (T.number result) }
-{
-    if !buckets.is_power_of_two() {
-        least_of_each(counts, buckets, false, row_seeds, bytes)
-    } else if row_seeds.len() == 4 {
-        least_of_four(counts, buckets, row_seeds, bytes)
-    } else {
-        least_of_each(counts, buckets, true, row_seeds, bytes)
-    }
-}
-
-/// The same in four rows of a power of two of buckets.
+/// The same for few bytes in four rows of a power of two of buckets.
 #[inline(always)]
 fn least_of_four<T: CountMinValue>(
     counts: &[T],
@@ -261,7 +224,7 @@ fn least_of_four<T: CountMinValue>(
     three.min(counts[fourth])
 }
 
-/// The same row by row: by a mask where that is said, and then there is a power of two of buckets.
+/// The same for few bytes, row by row: by a mask where that is said, and then there is a power of two of buckets.
 #[inline(always)]
 fn least_of_each<T: CountMinValue>(
     counts: &[T],
