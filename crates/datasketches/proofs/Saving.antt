@@ -1,18 +1,20 @@
 -- Commands that make a sketch or an image, by the clauses of the calls beneath.
-use Rattle.std.proofs.Common.{◌≡◌, ℕ, Bool, List, Option, Some, None, inl, inr, refl, ◌∙◌, ap}
+use Rattle.std.proofs.Common.{◌≡◌, ℕ, Bool, List, Option, Some, None, inl, inr, refl, ◌∙◌, ap, subst}
 use Rattle.std.specs.Prelude.{Result, IsErrAnd}
 use Rattle.std.specs.Option.{MatchOption}
 use Rattle.std.proofs.lemmas.Result.{err_from_is_err_and}
 use Rattle.sketch_base.specs.Errors.{ErrorValue, invalid_argument, no_memory, refusal_of}
 use Rattle.sketch_base.specs.declared.fault.Fault.{Fault}
+use Rattle.datasketches.specs.Histories.{begun}
 use Rattle.datasketches.specs.Images.{IsWrittenBy, IsReadFrom, GivesBack, TakesWithin}
 use Rattle.sketch_frequencies.specs.Items.{Codec}
 use Rattle.datasketches.proofs.Saved.{read_first, load_first}
 use Rattle.datasketches.specs.Names.{at_name, Puts, AreSame}
 use Rattle.datasketches.specs.Replies.{told, refused}
-use Rattle.datasketches.specs.Shapes.{fault_of}
+use Rattle.datasketches.specs.Shapes.{empty_sketch, fault_of}
+use Rattle.datasketches.specs.Stands.{StandsFor}
 use Rattle.datasketches.specs.State.{SessionState}
-use Rattle.datasketches.specs.Steps.{Creates, MakesEmpty, Refuses, Saves, Restores, Loads}
+use Rattle.datasketches.specs.Steps.{OnSketches, Creates, MakesEmpty, Refuses, Saves, Restores, Loads}
 use Rattle.datasketches.specs.declared.image.Image.{Image}
 use Rattle.datasketches.specs.declared.reply.Refusal.{Refusal}
 use Rattle.datasketches.specs.declared.reply.Refusal.TheVariants.{Call}
@@ -34,6 +36,23 @@ module _ {T : Type 0} (eq : T → T → Bool) where
   -- a shape was refused, or memory
   pub creates_refused : (shape : Shape) (name : List ℕ) (old : List (List ℕ × Sketch T)) (reply : Reply T) (error : ErrorValue) → at_name name old ≡ None → reply ≡ refused error → error ≡ refusal_of (fault_of shape) → Creates eq shape name old reply old
   creates_refused shape name old reply error h r e = rw h (refused_case name shape old reply error (fault_of shape) r e)
+
+  -- a sketch that was made, in a session that is seen as its parts
+  pub creates_done : (shape : Shape) (name : List ℕ) (seen old new : SessionState T) (sketch : Sketch T) → seen ≡ old → at_name name old.sketches ≡ None → fault_of shape ≡ None →
+      sketch ≡ empty_sketch shape → StandsFor eq sketch (begun shape) → Puts name sketch seen.sketches new.sketches → AreSame seen.images new.images → OnSketches (Creates eq shape name) old Done new
+  creates_done shape name seen old new sketch same free well is stands puts images =
+      let put = subst (λ (s : SessionState T). Puts name sketch s.sketches new.sketches) same puts in (
+        rw (free, well) (inl (refl, subst (λ (s : Sketch T). Puts name s old.sketches new.sketches) is put, subst (λ (s : Sketch T). StandsFor eq s (begun shape)) is stands)),
+        subst (λ (s : SessionState T). AreSame s.images new.images) same images,
+      )
+
+  -- a sketch that was made, where there was no memory for its name
+  pub creates_unnamed : (shape : Shape) (name : List ℕ) (seen old new : SessionState T) (reply : Reply T) (error : ErrorValue) → seen ≡ old → at_name name old.sketches ≡ None → fault_of shape ≡ None →
+      reply ≡ refused error → error ≡ no_memory → AreSame seen.sketches new.sketches → AreSame seen.images new.images → OnSketches (Creates eq shape name) old reply new
+  creates_unnamed shape name seen old new reply error same free well r e sketches images = (
+    rw (free, well) (inr (r ∙ ap refused e, subst (λ (s : SessionState T). AreSame s.sketches new.sketches) same sketches)),
+    subst (λ (s : SessionState T). AreSame s.images new.images) same images,
+  )
 
 module _ {T C : Type 0} (eq : T → T → Bool) (codec : Codec C) (content : T → C) where
   -- an image that was read, where there was no memory for its name
