@@ -1,5 +1,5 @@
 """The library for C: its header beside the sources and the built archive, and its calls from C, plainly, under the compiler's
-checks of addresses, under valgrind, where memory is refused, and line by line beside the program.
+checks of addresses, under valgrind, where memory is refused or counted, and line by line beside the program.
 
     python3 tests/c_library.py crates/datasketches_cli/out/datasketches_cli [ARCHIVE]
 
@@ -128,6 +128,12 @@ class Tests:
         checked = self.compile(f"{TOP}/c/tests/sizes.c", "-g", "-O1", "-fsanitize=address,undefined", "-fno-sanitize-recover=all")
         ran = self.run([checked])
         self.check("sizes", ran.returncode == 0 and b"checks hold" in ran.stdout, ran)
+
+    def requests_counted(self):
+        """Requests for memory, and blocks that are given back, call by call."""
+        counts = ["-O2", *[f"-Wl,--wrap={name}" for name in ["malloc", "calloc", "realloc", "free"]]]
+        ran = self.run([self.compile(f"{TOP}/c/tests/requests.c", *counts)])
+        self.check("requests counted", ran.returncode == 0 and b"rows hold" in ran.stdout, ran)
 
     def refused_in_turn(self):
         """Each request for memory refused in a run of its own, until a run meets no refusal."""
@@ -275,6 +281,7 @@ def main():
         tests.header()
         tests.calls()
         tests.sizes()
+        tests.requests_counted()
         requests = tests.refused_in_turn()
         tests.beside_the_program()
         tests.many_at_once()

@@ -89,11 +89,17 @@ fn known_visitors(alloc: Global) -> Result<[bool; 4], Error> {
     Ok(known_of_four(&seen, &[7, 8, 9, 10]))
 }
 
-/// Whether an aged sketch comes back.
-fn counts_come_back(alloc: Global) -> Result<(u64, bool), Error> {
+/// A sketch of ten apples, aged.
+fn aged(alloc: Global) -> Result<CountMinSketch<u64>, Error> {
     let mut counts = CountMinSketch::new(alloc, 4, 128)?;
     counts.update_with_weight("apple", 10)?;
     age(&mut counts);
+    Ok(counts)
+}
+
+/// Whether an aged sketch comes back.
+fn counts_come_back(alloc: Global) -> Result<(u64, bool), Error> {
+    let counts = aged(alloc)?;
     let copy = sent_counts(alloc, &counts)?;
     Ok((copy.estimate("apple"), copy == counts))
 }
@@ -115,33 +121,51 @@ fn sketches_are_as_the_docs_say(rt: HostRuntime) -> Result<(), Fail> {
     Ok(())
 }
 
-/// The hashes and buckets of counts, the bits and hashes of a filter, and the greatest size of visits, as they were chosen.
-fn chosen_sizes(alloc: Global) -> Result<(u8, u32, usize, u16, usize), Error> {
+/// The hashes and buckets of counts, as they were chosen.
+fn chosen_shape(alloc: Global) -> Result<(u8, u32), Error> {
     let counts = bytes_within_a_thousandth(alloc)?;
+    Ok((counts.num_hashes(), counts.num_buckets()))
+}
+
+/// The bits and hashes of a filter.
+fn chosen_bits(alloc: Global) -> Result<(usize, u16), Error> {
     let filter = filter_for(alloc, 1000)?;
+    Ok((filter.capacity(), filter.num_hashes()))
+}
+
+/// The greatest size of visits.
+fn chosen_slots(alloc: Global) -> Result<usize, Error> {
     let visits = visits_within_a_percent(alloc)?;
-    Ok((
-        counts.num_hashes(),
-        counts.num_buckets(),
-        filter.capacity(),
-        filter.num_hashes(),
-        visits.max_map_size(),
-    ))
+    Ok(visits.max_map_size())
 }
 
 // 9603 bits are asked for: 151 words.
 #[test]
 fn sizes_are_as_the_docs_say(rt: HostRuntime) -> Result<(), Fail> {
-    assert!(rt; chosen_sizes(rt.alloc())? == (4, 2719, 9664, 7, 512));
+    assert!(rt; chosen_shape(rt.alloc())? == (4, 2719));
+    assert!(rt; chosen_bits(rt.alloc())? == (9664, 7));
+    assert!(rt; chosen_slots(rt.alloc())? == 512);
     Ok(())
 }
 
-/// How many pages are heavier than 3, from a sketch that comes back.
-fn pages_come_back(alloc: Global) -> Result<(usize, usize), Error> {
+/// A sketch of two pages.
+fn of_two_pages(alloc: Global) -> Result<FrequentItemsSketch<u64>, Error> {
     let mut pages = FrequentItemsSketch::new(alloc, 8)?;
     pages.update_with_count(1, 5)?;
     pages.update_with_count(2, 3)?;
-    heavier_pages(&sent_pages(alloc, &pages)?, 3)
+    Ok(pages)
+}
+
+/// The two pages, from a sketch that comes back.
+fn pages_come_back(alloc: Global) -> Result<FrequentItemsSketch<u64>, Error> {
+    let pages = of_two_pages(alloc)?;
+    sent_pages(alloc, &pages)
+}
+
+/// How many pages are heavier than 3.
+fn heavier_than_three(alloc: Global) -> Result<(usize, usize), Error> {
+    let pages = pages_come_back(alloc)?;
+    heavier_pages(&pages, 3)
 }
 
 /// Whether the first row of a sketch surely weighs more than itself.
@@ -152,35 +176,24 @@ fn is_above_itself(alloc: Global) -> Result<Option<bool>, Error> {
     Ok(rows.first().map(|row| surely_weighs_more(row, row)))
 }
 
-/// Whether a visit was counted in a table of so many slots, a power of two, and the count of its page.
-fn visits_of_a_page(alloc: Global, size: usize) -> Result<(bool, u64), Error> {
+/// A table of so many slots, a power of two, in which a visit was counted.
+fn of_a_visit(alloc: Global, size: usize) -> Result<Option<ReversePurgeItemHashMap<u64>>, Error> {
     if !size.is_power_of_two() || size > 8 {
-        return Ok((false, 0));
+        return Ok(None);
     }
     let mut visits = ReversePurgeItemHashMap::new(alloc, size)?;
     let counted = counts_visit(&mut visits, 7);
-    Ok((counted, visits.get(&7)))
+    Ok(if counted { Some(visits) } else { None })
 }
 
-/// The counts of four pages in a table of so many slots, a power of two, where page 7 was visited once.
-fn visits_of_pages(alloc: Global, size: usize) -> Result<[u64; 4], Error> {
-    if !size.is_power_of_two() || size > 8 {
-        return Ok([0; 4]);
-    }
-    let mut visits = ReversePurgeItemHashMap::new(alloc, size)?;
-    counts_visit(&mut visits, 7);
-    Ok(visits_of_four(&visits, &[7, 8, 7, 9]))
-}
-
-/// The page visited most, and the slots of the longest look-up, in a table of so many slots, a power of two, where only page 7 was
-/// visited.
-fn most_visited_of_one(alloc: Global, size: usize) -> Result<(Option<u64>, u32), Error> {
-    if !size.is_power_of_two() || size > 8 {
-        return Ok((None, 0));
-    }
-    let mut visits = ReversePurgeItemHashMap::new(alloc, size)?;
-    counts_visit(&mut visits, 7);
-    Ok((most_visited(&visits), longest_look_up(&visits)))
+#[test]
+fn tables_are_as_the_docs_say(rt: HostRuntime) -> Result<(), Fail> {
+    let Some(visits) = of_a_visit(rt.alloc(), 8)? else {
+        return Err(Fail::from("no visit was counted"));
+    };
+    assert!(rt; visits_of_four(&visits, &[7, 8, 7, 9]) == [1, 0, 1, 0]);
+    assert!(rt; most_visited(&visits) == Some(7) && longest_look_up(&visits) == 1);
+    Ok(())
 }
 
 /// The weights of four pages, of which two visitors came.
@@ -190,11 +203,8 @@ fn weights_of_pages(alloc: Global) -> Result<[u64; 4], Error> {
 
 #[test]
 fn frequent_items_are_as_the_docs_say(rt: HostRuntime) -> Result<(), Fail> {
-    assert!(rt; pages_come_back(rt.alloc())? == (1, 1));
+    assert!(rt; heavier_than_three(rt.alloc())? == (1, 1));
     assert!(rt; is_above_itself(rt.alloc())? == Some(false));
-    assert!(rt; visits_of_a_page(rt.alloc(), 8)? == (true, 1));
-    assert!(rt; visits_of_pages(rt.alloc(), 8)? == [1, 0, 1, 0]);
-    assert!(rt; most_visited_of_one(rt.alloc(), 8)? == (Some(7), 1));
     assert!(rt; weights_of_pages(rt.alloc())? == [2, 1, 0, 2]);
     assert!(rt; bytes_of(rt.alloc(), &1u64)?.as_slice() == [1u8, 0, 0, 0, 0, 0, 0, 0].as_slice());
     Ok(())
@@ -204,11 +214,11 @@ fn frequent_items_are_as_the_docs_say(rt: HostRuntime) -> Result<(), Fail> {
 fn calls_answer_as_the_readme_of_each_crate_says(rt: HostRuntime) -> Result<(), Fail> {
     assert!(rt; apples_of_both_shops(rt.alloc())? == (42, 42));
     assert!(rt; still_refused(rt.alloc())? == (true, false));
-    let kept = orders_to_join(rt.alloc(), &[7, 9], &[1, 7, 9, 7, 2])?;
-    assert!(rt; kept.as_slice() == [7u64, 9, 7].as_slice());
     assert!(rt; apples_in_store(rt.alloc())? == 70);
     assert!(rt; weight_of_the_first(rt.alloc())? == 5);
     assert!(rt; has_seen_seven(rt.alloc())?);
+    let kept = orders_to_join(rt.alloc(), &[7, 9], &[1, 7, 9, 7, 2])?;
+    assert!(rt; kept.as_slice() == [7u64, 9, 7].as_slice());
     Ok(())
 }
 
@@ -223,6 +233,8 @@ fn shape_of_visits(alloc: Global) -> Result<Option<Shape>, Error> {
 
 #[test]
 fn sessions_are_as_the_docs_say(rt: HostRuntime) -> Result<(), Fail> {
+    assert!(rt; refusal_of_an_unknown_name(rt.alloc())? == Some(Refusal::NoSuchName));
+    assert!(rt; shape_of_visits(rt.alloc())? == Some(Shape::Frequent { max_map_size: 64 }));
     let told = visits_by_seven(rt.alloc())?;
     assert!(rt;
         told == Reply::Bounds {
@@ -231,8 +243,6 @@ fn sessions_are_as_the_docs_say(rt: HostRuntime) -> Result<(), Fail> {
             upper: 5
         }
     );
-    assert!(rt; refusal_of_an_unknown_name(rt.alloc())? == Some(Refusal::NoSuchName));
-    assert!(rt; shape_of_visits(rt.alloc())? == Some(Shape::Frequent { max_map_size: 64 }));
     Ok(())
 }
 
@@ -244,37 +254,46 @@ fn half_of_sixteen(alloc: Global) -> Result<u64, Error> {
     Ok(weight_of_all(&counts))
 }
 
-/// Whether an item and a name make an insertion, and two names a union.
-fn makes_actions(alloc: Global) -> Result<bool, Error> {
-    let inserts = matches!(
-        insertion(String::from_str(alloc, "a")?, 7),
-        Action::Change { .. }
-    );
-    let joins = union(String::from_str(alloc, "a")?, String::from_str(alloc, "b")?);
-    Ok(inserts && matches!(joins, Action::Join { .. }))
+/// Whether an item and a name make an insertion.
+fn inserts(alloc: Global) -> Result<bool, Error> {
+    let name = String::from_str(alloc, "a")?;
+    Ok(matches!(insertion(name, 7), Action::Change { .. }))
+}
+
+/// Whether two names make a union.
+fn unites(alloc: Global) -> Result<bool, Error> {
+    let into = String::from_str(alloc, "a")?;
+    let other = String::from_str(alloc, "b")?;
+    Ok(matches!(union(into, other), Action::Join { .. }))
 }
 
 /// Whether the name of a refused insertion can be used again.
 fn recycles_a_name(alloc: Global) -> Result<bool, Error> {
+    let name = String::from_str(alloc, "a")?;
     let mut session = Session::new(alloc);
-    Ok(recycles(&mut session, String::from_str(alloc, "a")?, 7))
+    Ok(recycles(&mut session, name, 7))
 }
 
-/// Whether an empty filter's image is taken under a name, and not once more under the same.
-fn takes_a_filter_once(alloc: Global) -> Result<bool, Error> {
-    let mut session = Session::new(alloc);
+/// An empty filter's image.
+fn image_of_a_filter(alloc: Global) -> Result<Vec<u8>, Error> {
     let filter = BloomFilterBuilder::with_size(64, 1).build(alloc)?;
-    let taken = takes_filter(
-        &mut session,
-        String::from_str(alloc, "a")?,
-        filter.serialize()?,
-    );
-    let again = takes_filter(
-        &mut session,
-        String::from_str(alloc, "a")?,
-        filter.serialize()?,
-    );
-    Ok(taken && !again)
+    filter.serialize()
+}
+
+/// Whether a session takes the image under a name.
+fn takes_image(alloc: Global, session: &mut Session<u64>) -> Result<bool, Error> {
+    let name = String::from_str(alloc, "a")?;
+    let image = image_of_a_filter(alloc)?;
+    Ok(takes_filter(session, name, image))
+}
+
+/// Whether an image is taken under a name, and whether it is once more under the same.
+fn takes_a_filter_once(alloc: Global) -> Result<[bool; 2], Error> {
+    let mut session = Session::new(alloc);
+    Ok([
+        takes_image(alloc, &mut session)?,
+        takes_image(alloc, &mut session)?,
+    ])
 }
 
 #[test]
@@ -286,9 +305,9 @@ fn types_are_as_their_docs_say(rt: HostRuntime) -> Result<(), Fail> {
         seed: 9001,
     };
     assert!(rt; half_of_sixteen(rt.alloc())? == 8);
-    assert!(rt; makes_actions(rt.alloc())?);
+    assert!(rt; inserts(rt.alloc())? && unites(rt.alloc())?);
     assert!(rt; recycles_a_name(rt.alloc())?);
-    assert!(rt; takes_a_filter_once(rt.alloc())?);
+    assert!(rt; takes_a_filter_once(rt.alloc())? == [true, false]);
     assert!(rt; most_slots(status) == None);
     assert!(rt; word_for(Refusal::NameTaken) == "NameTaken");
     assert!(rt; reason(&Error::invalid_data(Fault::BadFamily)) == "wrong family");
