@@ -13,6 +13,7 @@ import tempfile
 import threading
 
 import cluster
+import counted
 import examples
 import loads
 import sessions
@@ -420,6 +421,30 @@ class Tests:
             lines, numbers = self.play([name], 0)
             self.check(f"trial {name}, counted", (numbers[0], numbers[3], lines) == wanted, (lines, numbers))
 
+    def requests_of(self, lines):
+        """How many requests the program makes over the lines of a file, which it reads by the same calls each time, and its replies."""
+        name, report = [os.path.join(self.work, it) for it in ("lines", "report")]
+        with open(name, "wb") as file:
+            file.write(lines)
+        with open(name, "rb") as file:
+            env = {"LD_PRELOAD": self.library, "REFUSED_AT": "0", "REFUSED_REPORT": report}
+            ran = subprocess.run([self.program], stdin=file, capture_output=True, env=env, timeout=60, check=True)
+        with open(report) as file:
+            return int(file.read().split()[0]), ran.stdout.decode().splitlines()
+
+    def lines_counted(self):
+        """Lines for which a session and its windows ask for no memory: a request more for each word that a line keeps."""
+        rows = [([line], copied, reply) for line, copied, reply in counted.LINES] + [(counted.PURGED, len(counted.PURGED), "ok")]
+        for lines, copied, reply in rows:
+            few, _ = self.requests_of(counted.text(lines, counted.FEW))
+            many, replies = self.requests_of(counted.text(lines, counted.MANY))
+            self.check(f"requests of {lines[0]}", many - few == (counted.MANY - counted.FEW) * copied, many - few)
+            told = replies[-counted.MANY * len(lines) :]
+            self.check(f"replies to {lines[0]}", set(told) == {reply}, told)
+        without, _ = self.requests_of(b"frequent f 8\n")
+        new, replies = self.requests_of(b"frequent f 8\nwindows 2 8\n")
+        self.check("requests of new windows", (new, replies) == (without, ["ok", "ok"]), (new, without))
+
     def hard_items(self):
         for name, wanted in trials.ITEMS.items():
             lines, _ = self.play([name], 0)
@@ -527,6 +552,7 @@ def main():
         tests.each_call()
         tests.allocation_free_calls()
         tests.counted_calls()
+        tests.lines_counted()
         tests.hard_items()
         tests.sessions()
         tests.purges()

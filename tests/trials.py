@@ -10,8 +10,6 @@ CALLS = {
     "frequent_update_ref": [SIX, "call", "accepted", "after", SEVENTH],
     "frequent_update_with_count_ref": [SIX, "call", "accepted", "after", SEVENTH_OF_5],
     "frequent_clone_row": ["call", "row a=1"],
-    # 32 bytes, 8 for each weight and 5 for each item
-    "frequent_serialize": ["call", "bytes 110 645"],
     "table_entries": ["call", "entries 6"],
     "bytes_new": ["call", "accepted"],
     "bytes_beyond": ["call", "accepted", "bytes 12 16"],
@@ -24,33 +22,11 @@ CALLS = {
 LEFT = {"bytes 12 16": "bytes 4 7", "bytes 10 603": "bytes 4 6"}
 
 
-def values(bits, signed):
-    """What the calls on the values of a type of so many bits answer."""
-    least, greatest = (-(2 ** (bits - 1)), 2 ** (bits - 1) - 1) if signed else (0, 2**bits - 1)
-    wide = 2**32 if bits == 64 else "ValueOutOfRange"
-    ones = -1 if signed else greatest if bits == 64 else "ValueOutOfRange"
-    return [
-        f"numbers 0 1 {least} {greatest}",
-        f"checked {greatest} none {greatest} {'none' if signed else 0} 2 none",
-        f"others 1 {least} 1 {bits // 8}",
-        f"read {least} {wide} {ones}",
-    ] + ([] if signed else [f"half {greatest // 2}"])
-
-
-OVERFLOW = "refused argument WeightOverflow"
-
 QUESTIONS = ["numbers 3 8 3 6 224", "counts 3 0 5 0 3 0"]
 WALK = ["walk 3 0 10 0 0", "looked true"]
 
-# Calls that take no memory. Positions and buckets are those of a program in another language, written from the public
-# descriptions.
+# Calls that take no memory, and that neither the program nor the library for C makes.
 ALLOCATION_FREE = {
-    "allocation-free_seeds": [f"seed {0x93CC}", "faults none ZeroSeedHash SeedHashMismatch none"],
-    "allocation-free_refusals": [
-        "refusal memory NoMemory out of memory",
-        "refusal argument Mismatch shapes or seeds differ",
-        "refusal data BadFamily wrong family",
-    ],
     # lengths of 8, 8 and 4 + 2; 7, 252 and seven of 255, 2, and 97 + 98
     "allocation-free_items": ["sizes 8 8 6", "writes" + 3 * " none", "bytes 22 2241"],
     "allocation-free_texts": [
@@ -60,48 +36,21 @@ ALLOCATION_FREE = {
         "    kind: InvalidData,",
         "    fault: BadFamily,",
         "}",
-        "true true",
+        "true",
     ],
     # 97 + 98, 5, 2 + 1, 3, the bytes of -2, which are 254 and three of 255, 7, and those of -4: 252 and seven of 255
     "allocation-free_writes": ["writes" + 7 * " none", "bytes 29 3269"],
-    "allocation-free_reads": [f"number {number}" for number in (5, 258, 3, -2, 7, -4)] + ["bytes 97 98", "left 2"],
-    "allocation-free_short_reads": ["InsufficientData left 0"] + 5 * ["InsufficientData left 1"] + ["InsufficientData"],
-    "allocation-free_fields": ["fields 258 3 -2 7"],
-    "allocation-free_signed_values": [line for bits in (8, 16, 32, 64) for line in values(bits, True)],
-    "allocation-free_unsigned_values": [line for bits in (8, 16, 32, 64) for line in values(bits, False)],
-    "allocation-free_updates_of_tracked": ["updates none", "frequent 6 0 7 6 64 2/2/2 0/0/0"],
-    "allocation-free_updates_by_reference": ["updates" + 4 * " none", "frequent 1 0 4 6 8 4/4/4"],
-    # one counter too many comes, and all counts are 1
-    "allocation-free_purges": ["frequent 0 1 1537 1536 2048 0/0/1 0/0/1"],
-    # 2048 slots of 28 bytes; 1, 2 and 1 more for one of 1536 items
-    "allocation-free_full": [
-        "numbers 1536 1536 0 1536 1536 2048 11 11 1024 57344 0",
-        "bounds 1 1 1",
-        "bounds 0 0 0",
-        "both 0 1",
-        "updates none none none",
-        "frequent 1536 0 1540 1536 2048 5/5/5 0/0/0",
-        "frequent 0 0 0 6 2048 0/0/0 0/0/0",
+    "allocation-free_updates_by_reference": ["updates" + 4 * " none", "frequent 1 0 5 6 8 5/5/5"],
+    "allocation-free_refused_references": [
+        "updates" + 3 * " WeightOverflow",
+        "frequent 1 0 18446744073709551615 6 8 18446744073709551615/18446744073709551615/18446744073709551615",
     ],
-    "allocation-free_frequent_refusals": [
-        "merge WeightOverflow",
-        "updates" + 4 * " WeightOverflow",
-        "frequent 1 0 18446744073709551615 6 8"
-        " 18446744073709551615/18446744073709551615/18446744073709551615 0/0/0",
-    ],
-    # 1, 3 and 5 have nine positions, none of which is one of 6; four words
-    "allocation-free_filters": ["changed false false true false", "32 9"],
-    "allocation-free_equal_filters": ["compared true true", "compared false false"],
-    # 250, and 1 to 5; three rows of 64 cells of one byte, and 3 seeds of 8
-    "allocation-free_counts": ["faults none none WeightOverflow", "estimates 3 0", "216 255"],
-    "allocation-free_equal_counts": ["compared true false true", "compared false true false"],
-    # four words, 3 x 64 cells and 3 seeds of 8 bytes, and 8 slots of 28
-    "allocation-free_images": [
-        "filters TableTooLarge BadFamily InsufficientData",
-        "counts TableTooLarge InsufficientData",
-        "seeded TableTooLarge SeedHashMismatch",
-        "frequent TableTooLarge InsufficientData",
-    ],
+    # limited to 2^6 slots and with 2^3, of 28 bytes
+    "allocation-free_frequent": ["numbers 6 3 224 0 0 7"],
+    # four words
+    "allocation-free_filter": ["answers true true true false", "size 32"],
+    # three rows of 64 cells of one byte, and 3 seeds of 8
+    "allocation-free_counts": ["answers true true false", "size 216"],
     # the middle one of 0, 3, 3, 3 and 7 is 3
     "allocation-free_table_changes": ["table 5 8 7 3 0", "purged 3", "table 1 8 4 0 0"],
     # 8 slots of 28 bytes
@@ -109,28 +58,7 @@ ALLOCATION_FREE = {
     # what is absent is told from three entries of one home by a fourth slot
     "allocation-free_table_looks": ["0 looked 4"],
     "allocation-free_table_walk": WALK,
-    "allocation-free_hostile_text": ["refused data InsufficientData"],
-    "allocation-free_new_session": ["refused NoSuchName"],
-    # 1, 9 and 3 are 13, of which a half is 6, and of that 3; the margin of -9 is e times 9 / 16
-    "allocation-free_session": 17 * ["done"]
-    + ["bounds 9 9 9", "bounds 3 3 3", "bounds -9 -9 -8", "contains true", "contains false"]
-    + [
-        "Frequent { active: 2, error: 0, total: 11, size: 8, max: 8, capacity: 6 }",
-        "CountU64 { total: 3, hashes: 2, buckets: 16, seed: 9001 }",
-        "CountI64 { total: 9, hashes: 2, buckets: 16, seed: 9001 }",
-        "Bloom { bits: 0, capacity: 128, hashes: 2, seed: 9001 }",
-    ],
-    "allocation-free_session_refusals": 18 * ["refused NoSuchName"]
-    + 12 * ["refused WrongKind"]
-    + 6 * ["refused NameTaken"]
-    + 2 * ["refused SameName"]
-    + 5 * ["refused argument Mismatch"]
-    + 2 * ["refused BadFraction"]
-    + 3 * [OVERFLOW],
-    "allocation-free_windows": ["new BadWindows"]
-    + 3 * ["add none"]
-    + ["add WeightOverflow", "turn none", "report 10 0 a=8 b=2"],
-    "allocation-free_full_windows": ["add none", "report WeightOverflow"],
+    "allocation-free_session": ["refused NoSuchName"],
 }
 
 # Of any six of the counts 1, 1, 1, 1, 1, 50 and 100 the middle one is 1.
@@ -138,18 +66,11 @@ HEAVY = ["row 7 99 100 100", "row 6 49 50 50", "equal false true false"]
 ALLOCATION_FREE["feeds-nothing_rows"] = HEAVY
 
 # Calls whose requests for memory are counted, and the blocks that they give back: how many of both, and what is said.
-# From 8 slots to 2048 a table doubles eight times, and asks for the slots of each new one and for their fingerprints.
-FULL = ["frequent 1536 0 1536 1536 2048 1/1/1 0/0/0"]
 COUNTED = {
     "bytes_read_text": (1, 0, CALLS["bytes_read_text"]),
     "bytes_write_text": (1, 0, CALLS["bytes_write_text"]),
+    # a table that doubles asks for slots and for their fingerprints
     "frequent_update": (2, 2, CALLS["frequent_update"]),
-    "frequent_serialize": (1, 0, CALLS["frequent_serialize"]),
-    "allocation-free_full": (0, 0, ALLOCATION_FREE["allocation-free_full"]),
-    "counted_fills": (16, 16, FULL),
-    "counted_refills": (16, 16, FULL),
-    # the table alone
-    "counted_hostile_image": (2, 2, ["refused data InsufficientData"]),
 }
 
 SKETCH = [

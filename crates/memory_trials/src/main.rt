@@ -9,7 +9,6 @@
 //! | `session LEFT_OUT..` | a run of a session over commands of all kinds, without those of the given places |
 //! | `frequent_..`, `table_..`, `bytes_..` | a call of the library that may answer want of memory, alone |
 //! | `allocation-free_..` | calls that take no memory |
-//! | `counted_..` | calls whose requests for memory are counted |
 //! | `feeds-nothing_..`, `unclonable_..`, `unwritable_..`, `letter_..` | items that are hard to hash, to clone, to write or to tell apart |
 //!
 //! Without a word it writes nothing. It ends with status 3 where something went wrong that no trial is about.
@@ -72,7 +71,6 @@ fn play_subject(trial: &mut Trial, subject: &str, call: &str) -> Result<(), Setu
         "table" => calls::table::play(trial, call),
         "bytes" => calls::bytes::play(trial, call),
         "allocation-free" => allocation_free::play(trial, call),
-        "counted" => allocation_free::play_counted(trial, call),
         "feeds-nothing" => hard_items::play::<FEEDS_NOTHING>(trial, call),
         "unclonable" => hard_items::play::<UNCLONABLE>(trial, call),
         "unwritable" => hard_items::play::<UNWRITABLE>(trial, call),

@@ -74,11 +74,6 @@ impl Trial {
         }
     }
 
-    /// Something that the trial is not about went wrong.
-    pub fn fail(&mut self) {
-        self.failed = true;
-    }
-
     fn mark(&mut self, size: usize) -> Result<(), SetupFailed> {
         self.marks.push(Vec::with_capacity(self.alloc, size)?)?;
         Ok(())

@@ -13,11 +13,11 @@ use std::alloc::Global;
 pub fn once_each(
     alloc: Global,
     max_map_size: usize,
-    last: i64,
+    last: u16,
 ) -> Result<FrequentItemsSketch<i64>, Error> {
     let mut sketch = FrequentItemsSketch::new(alloc, max_map_size)?;
-    for item in 1..=last {
-        sketch.update(item)?;
+    for item in 0..last {
+        sketch.update(i64::from(item) + 1)?;
     }
     Ok(sketch)
 }

@@ -5,8 +5,6 @@
 #![tactic(auto)]
 
 #[cfg(test)]
-mod alter;
-#[cfg(test)]
 mod base;
 #[cfg(test)]
 mod bloom;

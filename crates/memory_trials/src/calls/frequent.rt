@@ -1,9 +1,8 @@
 //! Calls of a sketch of six texts, whose table must double for a seventh.
 use crate::calls::refusable;
-use crate::output::{write_bytes, write_error, write_frequent, write_outcome};
+use crate::output::{write_error, write_frequent, write_outcome};
 use crate::texts::{SIX, UpdateBy, sketch_of, text, texts, update};
 use crate::trial::{SetupFailed, Trial, write_line};
-use datasketches::error::Error;
 use datasketches::frequencies::{ErrorType, FrequentItemsSketch, Row};
 use std::alloc::{AllocError, Global};
 use std::fmt::Write;
@@ -17,7 +16,6 @@ pub fn play(trial: &mut Trial, call: &str) -> Result<(), SetupFailed> {
         "update" => play_update(trial, UpdateBy::Value),
         "update_ref" => play_update(trial, UpdateBy::Reference),
         "update_with_count_ref" => play_update(trial, UpdateBy::ReferenceWithCount(5)),
-        "serialize" => serialize(trial),
         "clone_row" => clone_row(trial),
         _ => Err(SetupFailed),
     }
@@ -49,21 +47,6 @@ fn write_update(trial: &mut Trial, sketch: &mut Sketch, by: UpdateBy) -> Result<
 fn play_update(trial: &mut Trial, by: UpdateBy) -> Result<(), SetupFailed> {
     let mut sketch = sketch_of(trial.alloc, 64, &SIX)?;
     Ok(write_update(trial, &mut sketch, by)?)
-}
-
-/// An image, or why there is none.
-fn write_image(trial: &mut Trial, image: Result<Vec<u8>, Error>) {
-    match image {
-        Ok(image) => write_bytes(trial, &image),
-        Err(e) => write_error(trial, e),
-    }
-}
-
-fn serialize(trial: &mut Trial) -> Result<(), SetupFailed> {
-    let sketch = sketch_of(trial.alloc, 64, &SIX)?;
-    let image = refusable!(trial, sketch.serialize());
-    write_image(trial, image);
-    Ok(())
 }
 
 /// The rows of a sketch of one text.

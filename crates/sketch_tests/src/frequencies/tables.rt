@@ -54,67 +54,7 @@ fn resize(
 }
 
 /// The first six items whose home is the last of eight slots.
-fn items_of_the_last_slot() -> [i64; 6] {
-    let mut items = [0; 6];
-    let mut count = 0;
-    for item in 0..1000 {
-        if count < 6 && murmur3_of(&item, 9001).0 % 8 == 7 {
-            items[count] = item;
-            count += 1;
-        }
-    }
-    items
-}
-
-/// A table of five items that feed nothing, with these counts.
-fn of_five(rt: &impl Abort, alloc: Global, counts: [u8; 5]) -> Result<Table, Error> {
-    let mut map = table(rt, alloc, 8)?;
-    for (item, count) in (0u64..5).zip(counts) {
-        let item = Item::of(item);
-        let slots = map.len();
-        assert!(rt; map.num_active() + 1 < slots && map.get(&item) < 1000);
-        map.adjust_or_put_value_ref(&item, count as u64)?;
-    }
-    Ok(map)
-}
-
-/// The table's numbers: its slots, as a power of two too, how many entries a sketch keeps in them, how many there are,
-/// and its bytes.
-fn shape<T: Eq + Hash + Drop>(
-    map: &ReversePurgeItemHashMap<T>,
-) -> (usize, u8, usize, usize, usize) {
-    (
-        map.len(),
-        map.lg_length(),
-        map.capacity(),
-        map.num_active(),
-        map.estimated_size(),
-    )
-}
-
-/// The counts of the five items.
-fn counts_of_five(map: &Table) -> [u64; 5] {
-    [0, 1, 2, 3, 4].map(|item| map.get(&Item::of(item)))
-}
-
-// The middle count m is one of theirs, and what is left are the counts above m, less m, each once.
-#[test]
-fn five_items_that_feed_nothing(rt: HostRuntime) -> Result<(), Fail> {
-    let mut map = of_five(&rt, rt.alloc(), [3, 0, 2, 0, 5])?;
-    // An `Option` of an item takes 16 bytes.
-    assert!(rt; shape(&map) == (8, 3, 6, 5, 224));
-    assert!(rt; map.num_active() > 0);
-    let wanted = match map.purge(1) {
-        0 => ([3, 0, 2, 0, 5], 3),
-        2 => ([1, 0, 0, 0, 3], 2),
-        3 => ([0, 0, 0, 0, 2], 1),
-        5 => ([0; 5], 0),
-        _ => ([999; 5], 0),
-    };
-    assert!(rt; (counts_of_five(&map), map.active_entries()?.len()) == wanted);
-    assert!(rt; map.try_clone()?.num_active() == wanted.1);
-    Ok(())
-}
+const ITEMS_OF_THE_LAST_SLOT: [i64; 6] = [25, 30, 43, 44, 47, 54];
 
 /// A table of the numbers from 1 on, each as often as it says, below this one.
 fn counted_below(rt: &impl Abort, alloc: Global, end: u8) -> Result<Table, Error> {
@@ -136,26 +76,6 @@ fn seven_items_that_feed_nothing(rt: HostRuntime) -> Result<(), Fail> {
     Ok(())
 }
 
-/// How many slots were looked at for each of three items, of which the number `i` has the count `i`, in ascending order.
-fn looked_at_for_three(map: &Table) -> [usize; 3] {
-    let mut looked = [1, 2, 3].map(|item| match map.get_counted(&Item::of(item)) {
-        (count, looked) if count == item => looked,
-        _ => 999,
-    });
-    looked.sort_unstable();
-    looked
-}
-
-// They stand in a row from their one home on, in an order that is left open. One that is absent is told by the free slot
-// behind them.
-#[test]
-fn three_items_that_feed_nothing(rt: HostRuntime) -> Result<(), Fail> {
-    let map = counted_below(&rt, rt.alloc(), 4)?;
-    assert!(rt; looked_at_for_three(&map) == [1, 2, 3]);
-    assert!(rt; map.get_counted(&Item::of(4)) == (0, 4));
-    Ok(())
-}
-
 /// A table of eight slots with these items and counts.
 fn with_counts(
     rt: &impl Abort,
@@ -170,34 +90,32 @@ fn with_counts(
     Ok(map)
 }
 
+#[test]
+fn items_of_one_home(rt: HostRuntime) {
+    for item in ITEMS_OF_THE_LAST_SLOT {
+        assert!(rt; murmur3_of(&item, 9001).0 % 8 == 7);
+    }
+}
+
+/// The counts of the six items.
+fn counts_of_six(map: &ReversePurgeItemHashMap<i64>) -> [u64; 6] {
+    let mut counts = [0; 6];
+    map.get_all(&ITEMS_OF_THE_LAST_SLOT, &mut counts);
+    counts
+}
+
 // The counts are 0, 3, 0, 5 and 1, and the middle one is 1. A sixth item with their home then has to pass the two that
 // are left, whatever stood there before.
 #[test]
 fn a_cluster_round_the_end(rt: HostRuntime) -> Result<(), Fail> {
-    let items = items_of_the_last_slot();
-    let mut map = with_counts(&rt, rt.alloc(), &items, [0, 3, 0, 5, 1])?;
-    assert!(rt; purge(&rt, &mut map, 5) == 1 && map.num_active() == 2);
-    assert!(rt; items.map(|item| map.get(&item)) == [0, 2, 0, 4, 0, 0]);
-    assert!(rt; map.get_counted(&items[5]) == (0, 3));
+    let mut map = with_counts(&rt, rt.alloc(), &ITEMS_OF_THE_LAST_SLOT, [0, 3, 0, 5, 1])?;
+    assert!(rt;
+        purge(&rt, &mut map, 5) == 1 && map.get_counted(&ITEMS_OF_THE_LAST_SLOT[5]) == (0, 3)
+    );
+    assert!(rt; counts_of_six(&map) == [0, 2, 0, 4, 0, 0]);
     for size in [8, 16, 4] {
         resize(&rt, &mut map, size)?;
-        assert!(rt; map.len() == size && map.num_active() == 2);
-        assert!(rt; items.map(|item| map.get(&item)) == [0, 2, 0, 4, 0, 0]);
+        assert!(rt; map.len() == size && counts_of_six(&map) == [0, 2, 0, 4, 0, 0]);
     }
-    Ok(())
-}
-
-#[test]
-fn a_walk_over_two_slots(rt: HostRuntime) -> Result<(), Fail> {
-    let mut map = table(&rt, rt.alloc(), 2)?;
-    add(&rt, &mut map, 7i64, 5);
-    let mut walk = map.iter();
-    assert!(rt; walk.len() == 1 && walk.size_hint() == (1, Some(1)));
-    let Some((item, count)) = walk.next() else {
-        return Err(Fail::from("the walk gave nothing"));
-    };
-    assert!(rt; *item == 7 && count == 5);
-    assert!(rt; walk.next().is_none() && walk.next().is_none());
-    assert!(rt; walk.len() == 0 && walk.looked_at() >= 1 && walk.looked_at() <= 2);
     Ok(())
 }
