@@ -75,19 +75,6 @@ pub fn write_bounds<T: Eq + Hash + Drop>(
     write_words!(trial, " {estimate}/{lower}/{upper}");
 }
 
-/// A sketch's numbers, and for each of the items its estimate and bounds.
-pub fn write_frequent<T: Eq + Hash + Drop>(
-    trial: &mut Trial,
-    sketch: &FrequentItemsSketch<T>,
-    items: &[T],
-) {
-    begin_frequent(trial, sketch);
-    for item in items {
-        write_bounds(trial, sketch, item);
-    }
-    write_line!(trial);
-}
-
 /// A table's numbers, and the counts of the items.
 pub fn write_table<T: Eq + Hash + Drop>(
     trial: &mut Trial,

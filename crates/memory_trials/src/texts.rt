@@ -1,8 +1,10 @@
-//! Texts, lists of them, and sketches of them.
-use crate::trial::SetupFailed;
+//! Texts, and sketches of them.
+use crate::output::{begin_frequent, write_bounds};
+use crate::trial::{SetupFailed, Trial, write_line};
 use datasketches::error::Error;
 use datasketches::frequencies::FrequentItemsSketch;
 use std::alloc::{AllocError, Global};
+use std::fmt::Write;
 
 /// Six texts, once each: a table of 8 slots has no room for a seventh.
 pub const SIX: [(&str, u64); 6] = [("a", 1), ("b", 1), ("c", 1), ("d", 1), ("e", 1), ("f", 1)];
@@ -10,15 +12,6 @@ pub const SIX: [(&str, u64); 6] = [("a", 1), ("b", 1), ("c", 1), ("d", 1), ("e",
 /// A text with memory of its own.
 pub fn text(alloc: Global, text: &str) -> Result<String, AllocError> {
     String::from_str(alloc, text)
-}
-
-/// Such texts.
-pub fn texts(alloc: Global, texts: &[&str]) -> Result<Vec<String>, AllocError> {
-    let mut items = Vec::new(alloc);
-    for item in texts {
-        items.push(text(alloc, item)?)?;
-    }
-    Ok(items)
 }
 
 /// A sketch that holds such texts with these weights.
@@ -32,6 +25,21 @@ pub fn sketch_of(
         sketch.update_with_count(text(alloc, item)?, *weight)?;
     }
     Ok(sketch)
+}
+
+/// A sketch's numbers, and for each of the texts its estimate and bounds.
+pub fn write_sketch(
+    trial: &mut Trial,
+    sketch: &FrequentItemsSketch<String>,
+    asked: &[&str],
+) -> Result<(), AllocError> {
+    begin_frequent(trial, sketch);
+    for item in asked {
+        let item = text(trial.alloc, item)?;
+        write_bounds(trial, sketch, &item);
+    }
+    write_line!(trial);
+    Ok(())
 }
 
 /// A call that updates a sketch. By reference the item is cloned where it is new.

@@ -1,6 +1,6 @@
 //! Calls of the sketches of frequent items that take no memory, and that neither a session nor the library for C makes.
-use crate::output::{fault_of, write_frequent, write_values};
-use crate::texts::{UpdateBy, sketch_of, text, texts, update};
+use crate::output::{fault_of, write_values};
+use crate::texts::{UpdateBy, sketch_of, text, update, write_sketch};
 use crate::trial::{SetupFailed, Trial, counted, write_line, write_words};
 use datasketches::frequencies::FrequentItemsSketch;
 use std::alloc::AllocError;
@@ -48,9 +48,7 @@ fn play_updates(
         update_counted(trial, sketch, item, *by)?;
     }
     write_line!(trial);
-    let asked = texts(trial.alloc, &["a"])?;
-    write_frequent(trial, sketch, &asked);
-    Ok(())
+    write_sketch(trial, sketch, &["a"])
 }
 
 /// The updates of a sketch of one item of this weight.

@@ -1,7 +1,7 @@
 //! Calls of a sketch of six texts, whose table must double for a seventh.
 use crate::calls::refusable;
-use crate::output::{write_error, write_frequent, write_outcome};
-use crate::texts::{SIX, UpdateBy, sketch_of, text, texts, update};
+use crate::output::{write_error, write_outcome};
+use crate::texts::{SIX, UpdateBy, sketch_of, text, update, write_sketch};
 use crate::trial::{SetupFailed, Trial, write_line};
 use datasketches::frequencies::{ErrorType, FrequentItemsSketch, Row};
 use std::alloc::{AllocError, Global};
@@ -21,12 +21,8 @@ pub fn play(trial: &mut Trial, call: &str) -> Result<(), SetupFailed> {
     }
 }
 
-/// The sketch's numbers, and what it says of four texts, one of them not in it.
-fn write_sketch(trial: &mut Trial, sketch: &Sketch) -> Result<(), AllocError> {
-    let asked = texts(trial.alloc, &["a", "b", "c", "g"])?;
-    write_frequent(trial, sketch, &asked);
-    Ok(())
-}
+/// The texts that are asked for, one of them not in the sketch.
+const ASKED: [&str; 4] = ["a", "b", "c", "g"];
 
 /// Updates the sketch with a seventh text.
 fn add_seventh(trial: &mut Trial, sketch: &mut Sketch, by: UpdateBy) -> Result<(), AllocError> {
@@ -38,10 +34,10 @@ fn add_seventh(trial: &mut Trial, sketch: &mut Sketch, by: UpdateBy) -> Result<(
 
 /// What a sketch says before and after it is updated.
 fn write_update(trial: &mut Trial, sketch: &mut Sketch, by: UpdateBy) -> Result<(), AllocError> {
-    write_sketch(trial, sketch)?;
+    write_sketch(trial, sketch, &ASKED)?;
     add_seventh(trial, sketch, by)?;
     write_line!(trial, "after");
-    write_sketch(trial, sketch)
+    write_sketch(trial, sketch, &ASKED)
 }
 
 fn play_update(trial: &mut Trial, by: UpdateBy) -> Result<(), SetupFailed> {

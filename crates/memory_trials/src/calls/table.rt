@@ -1,15 +1,15 @@
-//! The call of a table of six texts that no sketch makes.
+//! The call of a table of six numbers that no sketch makes.
 use crate::calls::refusable;
 use crate::output::write_error;
 use crate::table::{free_table, put};
-use crate::texts::{SIX, text};
 use crate::trial::{SetupFailed, Trial, write_line};
+use datasketches::error::Error;
 use datasketches::frequencies::ReversePurgeItemHashMap;
 use std::alloc::Global;
 use std::fmt::Write;
 
-/// A table of texts.
-type Table = ReversePurgeItemHashMap<String>;
+/// A table of numbers.
+type Table = ReversePurgeItemHashMap<i64>;
 
 /// Plays the trial of the name.
 pub fn play(trial: &mut Trial, call: &str) -> Result<(), SetupFailed> {
@@ -19,11 +19,11 @@ pub fn play(trial: &mut Trial, call: &str) -> Result<(), SetupFailed> {
     }
 }
 
-/// A table of six texts, as many as a sketch keeps in 8 slots, with a count of 3 each.
-fn of_six(alloc: Global) -> Result<Table, SetupFailed> {
+/// A table of six numbers, as many as a sketch keeps in 8 slots, with a count of 3 each.
+fn of_six(alloc: Global) -> Result<Table, Error> {
     let mut map = free_table(alloc, 8)?;
-    for (item, _) in SIX {
-        put(&mut map, text(alloc, item)?, 3);
+    for item in 0..6i64 {
+        put(&mut map, item, 3);
     }
     Ok(map)
 }
