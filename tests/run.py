@@ -142,16 +142,19 @@ class Tests:
 
     def run(self, lines, refused_at=None, words=None, **settings):
         """Its status, what it wrote, and the four numbers of the library, where that was loaded: of the program over the
-        lines, or of the trials with these words."""
+        lines of a file, which it reads by the same calls each time, or of the trials with these words."""
         env = {"PATH": "/usr/bin:/bin"}
-        report = os.path.join(self.work, "report")
+        report, name = [os.path.join(self.work, it) for it in ("report", "lines")]
+        with open(name, "wb") as file:
+            file.write(lines)
         if refused_at is not None:
             settings["REFUSED_AT"] = refused_at
         if settings:
             env.update({name: str(value) for name, value in settings.items()})
             env.update(LD_PRELOAD=self.library, REFUSED_REPORT=report)
         command = [self.program] if words is None else [self.trials] + words
-        ran = subprocess.run(command, input=lines, capture_output=True, env=env, timeout=60)
+        with open(name, "rb") as file:
+            ran = subprocess.run(command, stdin=file, capture_output=True, env=env, timeout=60)
         numbers = None
         if settings:
             with open(report) as file:
@@ -422,15 +425,10 @@ class Tests:
             self.check(f"trial {name}, counted", (numbers[0], numbers[3], lines) == wanted, (lines, numbers))
 
     def requests_of(self, lines):
-        """How many requests the program makes over the lines of a file, which it reads by the same calls each time, and its replies."""
-        name, report = [os.path.join(self.work, it) for it in ("lines", "report")]
-        with open(name, "wb") as file:
-            file.write(lines)
-        with open(name, "rb") as file:
-            env = {"LD_PRELOAD": self.library, "REFUSED_AT": "0", "REFUSED_REPORT": report}
-            ran = subprocess.run([self.program], stdin=file, capture_output=True, env=env, timeout=60, check=True)
-        with open(report) as file:
-            return int(file.read().split()[0]), ran.stdout.decode().splitlines()
+        """How many requests the program makes over the lines, and its replies."""
+        status, out, said, numbers = self.run(lines, 0)
+        self.check("lines that are counted", (status, said) == (0, b""), (status, said))
+        return numbers[0], out.decode().splitlines()
 
     def lines_counted(self):
         """Lines for which a session and its windows ask for no memory: a request more for each word that a line keeps."""

@@ -19,7 +19,7 @@ CALLS = {
 }
 
 # What a call that was refused leaves, where that is no line of the above.
-LEFT = {"bytes 12 16": "bytes 4 7", "bytes 10 603": "bytes 4 6"}
+LEFT = {"bytes 12 16": "bytes 4 7", "bytes 10 603": "bytes 0 0"}
 
 
 QUESTIONS = ["numbers 3 8 3 6 224", "counts 3 0 5 0 3 0"]

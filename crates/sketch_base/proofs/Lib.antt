@@ -1,3 +1,4 @@
+pub mod BothEnds
 pub mod Blocks
 pub mod DirectRemainder
 pub mod KeptBytes

@@ -1,5 +1,5 @@
 //! A buffer that is written at its end.
-ghost use Rattle.std.specs.Prelude.{◌≡◌, ◌+◌, ◌*◌, ◌≤◌, [], ◌∷◌, ◌++◌, length, max, IfOk, OnOk, IfErr, OnErr, IsOk};
+ghost use Rattle.std.specs.Prelude.{◌≡◌, ◌+◌, ◌-◌, ◌*◌, ◌^◌, ◌<◌, ◌≤◌, [], ◌∷◌, ◌++◌, length, take, max, IfOk, OnOk, IfErr, OnErr, IsOk};
 ghost use Rattle.std.specs.Int.{w16, w32, w64, to_le_bytes, cast_unsigned};
 ghost use Rattle.sketch_base.specs.Errors.{no_memory};
 
@@ -110,15 +110,78 @@ impl SketchBytes {
     {
         let mut first = [0; WIDTH];
         let mut last = [0; WIDTH];
-        let rest = part.len() - WIDTH;
         first.copy_from_slice(&part[..WIDTH]);
-        last.copy_from_slice(&part[rest..]);
-        self.bytes.reserve(part.len())?;
-        let until = self.bytes.len() + rest;
-        self.bytes.extend_from_slice(&first)?;
+        last.copy_from_slice(&part[part.len() - WIDTH..]);
+        self.write_overlapping(&first, &last, part.len())
+    }
+
+    /// Writes `size` bytes that are given by the first and the last of them, which meet or overlap.
+    #[inline(always)]
+    fn write_overlapping(&mut self, first: &[u8], last: &[u8], size: usize) -> Result<(), Error>
+        requires first_within { length first.now ≤ size }
+        requires last_within { length last.now ≤ size }
+        requires meet { size ≤ length first.now + length last.now }
+        ensures ok { OnOk result (self.new.bytes ≡ self.old.bytes ++ (take (size - length last.now) first.now ++ last.now)) }
+        ensures within { length self.old.bytes + size ≤ self.old.capacity → IsOk result }
+        ensures capacity { self.old.capacity ≤ self.new.capacity }
+        ensures no_memory { IfErr result (λ e. e ≡ no_memory) }
+        ensures err { OnErr result (self.new.bytes ≡ self.old.bytes) }
+    {
+        self.bytes.reserve(size)?;
+        let until = self.bytes.len() + (size - last.len());
+        self.bytes.extend_from_slice(first)?;
         self.bytes.truncate(until);
-        self.bytes.extend_from_slice(&last)?;
+        self.bytes.extend_from_slice(last)?;
         Ok(())
+    }
+
+    /// Writes how many bytes `part` has, as an unsigned number of four bytes, the lowest first, and then `part`, which is
+    /// shorter than 2^32 bytes.
+    #[inline(always)]
+    pub fn write_length_prefixed(&mut self, part: &[u8]) -> Result<(), Error>
+        requires short { length part.now < 2 ^ 32 }
+        ensures ok { OnOk result (self.new.bytes ≡ self.old.bytes ++ (to_le_bytes w32 (length part.now) ++ part.now)) }
+        ensures within { length self.old.bytes + (4 + length part.now) ≤ self.old.capacity → IsOk result }
+        ensures capacity { self.old.capacity ≤ self.new.capacity }
+        ensures no_memory { IfErr result (λ e. e ≡ no_memory) }
+        ensures err { OnErr result (self.new.bytes ≡ self.old.bytes) }
+    {
+        let n = part.len();
+        let prefix = u32::to_le_bytes(n as u32);
+        if n >= 8 && n <= 16 {
+            self.write_prefixed_ends::<8>(&prefix, part)
+        } else if n >= 4 && n < 8 {
+            self.write_prefixed_ends::<4>(&prefix, part)
+        } else {
+            self.bytes.reserve(4 + n)?;
+            self.write(&prefix)?;
+            self.write(part)
+        }
+    }
+
+    /// Writes a prefix, and few bytes behind it as the first so many and the last so many of them, which meet or overlap: as one
+    /// piece, with no call out of line.
+    #[inline(always)]
+    fn write_prefixed_ends<const WIDTH: usize>(
+        &mut self,
+        prefix: &[u8; 4],
+        part: &[u8],
+    ) -> Result<(), Error>
+        requires width { WIDTH ≤ 8 }
+        requires at_least { WIDTH ≤ length part.now }
+        requires at_most { length part.now ≤ 2 * WIDTH }
+        ensures ok { OnOk result (self.new.bytes ≡ self.old.bytes ++ (prefix.now ++ part.now)) }
+        ensures within { length self.old.bytes + (4 + length part.now) ≤ self.old.capacity → IsOk result }
+        ensures capacity { self.old.capacity ≤ self.new.capacity }
+        ensures no_memory { IfErr result (λ e. e ≡ no_memory) }
+        ensures err { OnErr result (self.new.bytes ≡ self.old.bytes) }
+    {
+        let mut first = [0; 12];
+        let mut last = [0; WIDTH];
+        first[..4].copy_from_slice(prefix);
+        first[4..4 + WIDTH].copy_from_slice(&part[..WIDTH]);
+        last.copy_from_slice(&part[part.len() - WIDTH..]);
+        self.write_overlapping(&first[..4 + WIDTH], &last, 4 + part.len())
     }
 
     /// Writes a byte.

@@ -164,7 +164,7 @@ impl FrequentItemValue for String {
         4 + item.len()
     }
 
-    #[inline]
+    #[inline(always)]
     fn serialize_value(&self, out: &mut SketchBytes) -> Result<(), Error>
         ensures ok { OnOk result (Writes text_codec out.old.bytes (string_bytes self.now) out.new.bytes) }
         ensures err { IfErr result (IsWritingRefusal text_codec (string_bytes self.now)) }
@@ -181,9 +181,7 @@ impl FrequentItemValue for String {
         if text.len() > u32::MAX as usize {
             return Err(Error::invalid_argument(Fault::ItemTooLong));
         }
-        out.write_u32_le(text.len() as u32)?;
-        out.write(text)?;
-        Ok(())
+        out.write_length_prefixed(text)
     }
 
     #[inline]
