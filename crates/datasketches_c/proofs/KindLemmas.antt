@@ -27,6 +27,38 @@ module _ {S : Type 0} (part : AnySketch → Option S) where
   on_kind_said old new held s result P is which said =
       subst (λ (h : Option AnySketch). OnKind part h new result P) (sym is) (subst (λ (p : Option S). OnPart part p held new result P) (sym which) said)
 
+  -- of a handle whose sketch was changed is said what holds of the sketch before and behind
+  pub changed : (R : S → S → Type 0) (old new : Option AnySketch) (held given : AnySketch) (s t : S) (result : ℤ) → old ≡ Some held → part held ≡ Some s → new ≡ Some given → part given ≡ Some t
+      → R s t → OnKind part old new result (λ a. HoldsKind part new (R a))
+  changed R old new held given s t result old_is which new_is which_new said =
+      on_kind_said old new held s result (λ a. HoldsKind part new (R a)) old_is which (holds_kind new given t (R s) new_is which_new said)
+
+  -- of one whose sketch another handle's was joined to, what holds of the three
+  pub was_joined : (R : S → S → S → Type 0) (old new other_old other_new : Option AnySketch) (held given : AnySketch) (s t : S) (result : ℤ) → old ≡ Some held → part held ≡ Some s
+      → new ≡ Some given → part given ≡ Some t → OnKind part other_old other_new result (λ b. R s b t)
+      → OnKind part old new result (λ a. OnKind part other_old other_new result (λ b. HoldsKind part new (R a b)))
+  was_joined R old new other_old other_new held given s t result old_is which new_is which_new said =
+      on_kind_said old new held s result (λ a. OnKind part other_old other_new result (λ b. HoldsKind part new (R a b))) old_is which
+      (on_kind_less other_old other_new result (λ b. R s b t) (λ b. HoldsKind part new (R s b)) (λ b is. holds_kind new given t (R s b) new_is which_new is) said)
+
+  of_part : {Q : Type 0} (found : Option S) (P : S → Type 0) → ((s : S) → P s → Q) → OfPart part found P → Q
+  of_part (Some s) P follows said = follows s said
+  of_part None P follows said = absurd said
+
+  -- what follows of the sketch that a handle holds, whichever it is
+  pub of_held : {Q : Type 0} (new : Option AnySketch) (P : S → Type 0) → ((s : S) → P s → Q) → HoldsKind part new P → Q
+  of_held None P follows said = absurd said
+  of_held (Some held) P follows said = of_part (part held) P follows said
+
+  of_part_less : (found : Option S) (P Q : S → Type 0) → ((s : S) → P s → Q s) → OfPart part found P → OfPart part found Q
+  of_part_less (Some s) P Q less said = less s said
+  of_part_less None P Q less said = said
+
+  -- what is said of it can be replaced by what follows from it
+  pub holds_less : (new : Option AnySketch) (P Q : S → Type 0) → ((s : S) → P s → Q s) → HoldsKind part new P → HoldsKind part new Q
+  holds_less None P Q less said = said
+  holds_less (Some held) P Q less said = of_part_less (part held) P Q less said
+
   -- a handle whose sketch was changed, where a refused change leaves the sketch
   pub kept_when_refused : (whole : S → AnySketch) (old new : Option AnySketch) (held : AnySketch) (s t : S) (result : ℤ) → old ≡ Some held → held ≡ whole s → new ≡ Some (whole t)
       → OnRefused result (t ≡ s) → OnRefused result (new ≡ old)

@@ -2,6 +2,7 @@ pub mod BoundsLemmas
 pub mod CountCallLemmas
 pub mod CountJoinLemmas
 pub mod CountLemmas
+pub mod FilterLemmas
 pub mod FrequentLemmas
 pub mod Handles
 pub mod InTurnLemmas

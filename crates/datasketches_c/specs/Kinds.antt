@@ -9,16 +9,6 @@ use Rattle.datasketches_c.specs.Numbers.{no_sketch, wrong_kind}
 use Rattle.datasketches_c.specs.declared.any_sketch.AnySketch.{AnySketch}
 use Rattle.datasketches_c.specs.declared.any_sketch.AnySketch.TheVariants.{Filter, CountI64, CountU64, FrequentI64, FrequentTexts, FrequentU64}
 
--- the call was refused for want of a sketch of its kind, and left the handle as it was
-abbrev pub IsOfNoUse : (old new : Option AnySketch) → ℤ → Type 0
-IsOfNoUse None new result = (result ≡ no_sketch) × (new ≡ None)
-IsOfNoUse old new result = (result ≡ wrong_kind) × (new ≡ old)
-
--- of a filter what is said, and else that the call was refused
-abbrev pub OnFilter : (old new : Option AnySketch) → ℤ → (FilterState → Type 0) → Type 0
-OnFilter (Some (Filter s)) new result said = said s
-OnFilter old new result said = IsOfNoUse old new result
-
 module _ {S : Type 0} (part : AnySketch → Option S) where
   -- of what a handle has of a kind what is said, and else that the call was refused
   abbrev pub OnPart : Option S → AnySketch → Option AnySketch → ℤ → (S → Type 0) → Type 0
@@ -38,7 +28,12 @@ module _ {S : Type 0} (part : AnySketch → Option S) where
   HoldsKind (Some held) said = OfPart (part held) said
   HoldsKind None said = ⊥
 
--- the Count-Min sketch in `i64` that a sketch of any kind is
+-- the filter that a sketch of any kind is
+abbrev pub filter_of : AnySketch → Option FilterState
+filter_of (Filter s) = Some s
+filter_of held = None
+
+-- the Count-Min sketch in `i64`
 abbrev pub count_i64_of : AnySketch → Option CountState
 count_i64_of (CountI64 s) = Some s
 count_i64_of held = None
@@ -48,53 +43,55 @@ abbrev pub count_u64_of : AnySketch → Option CountState
 count_u64_of (CountU64 s) = Some s
 count_u64_of held = None
 
--- of a Count-Min sketch in `i64` what is said, and else that the call was refused
+-- the frequent-items sketch of items of type `i64`
+abbrev pub frequent_i64_of : AnySketch → Option (FrequentState ℤ)
+frequent_i64_of (FrequentI64 s) = Some s
+frequent_i64_of held = None
+
+-- the same of items of type `u64`
+abbrev pub frequent_u64_of : AnySketch → Option (FrequentState ℕ)
+frequent_u64_of (FrequentU64 s) = Some s
+frequent_u64_of held = None
+
+-- the same of texts
+abbrev pub frequent_texts_of : AnySketch → Option (FrequentState (String Global))
+frequent_texts_of (FrequentTexts s) = Some s
+frequent_texts_of held = None
+
+-- of a filter what is said, and else that the call was refused; and the same of the other kinds
+abbrev pub OnFilter : (old new : Option AnySketch) → ℤ → (FilterState → Type 0) → Type 0
+OnFilter = OnKind filter_of
+
 abbrev pub OnCountI64 : (old new : Option AnySketch) → ℤ → (CountState → Type 0) → Type 0
 OnCountI64 = OnKind count_i64_of
 
--- the same of a Count-Min sketch in `u64`
 abbrev pub OnCountU64 : (old new : Option AnySketch) → ℤ → (CountState → Type 0) → Type 0
 OnCountU64 = OnKind count_u64_of
 
--- there is a filter, of which this holds
-abbrev pub HoldsFilter : Option AnySketch → (FilterState → Type 0) → Type 0
-HoldsFilter (Some (Filter s)) said = said s
-HoldsFilter held said = ⊥
+abbrev pub OnFrequentI64 : (old new : Option AnySketch) → ℤ → (FrequentState ℤ → Type 0) → Type 0
+OnFrequentI64 = OnKind frequent_i64_of
 
--- there is a Count-Min sketch in `i64`, of which this holds
+abbrev pub OnFrequentU64 : (old new : Option AnySketch) → ℤ → (FrequentState ℕ → Type 0) → Type 0
+OnFrequentU64 = OnKind frequent_u64_of
+
+abbrev pub OnFrequentTexts : (old new : Option AnySketch) → ℤ → (FrequentState (String Global) → Type 0) → Type 0
+OnFrequentTexts = OnKind frequent_texts_of
+
+-- there is a filter, of which this holds; and the same of the other kinds
+abbrev pub HoldsFilter : Option AnySketch → (FilterState → Type 0) → Type 0
+HoldsFilter = HoldsKind filter_of
+
 abbrev pub HoldsCountI64 : Option AnySketch → (CountState → Type 0) → Type 0
 HoldsCountI64 = HoldsKind count_i64_of
 
--- there is a Count-Min sketch in `u64`, of which this holds
 abbrev pub HoldsCountU64 : Option AnySketch → (CountState → Type 0) → Type 0
 HoldsCountU64 = HoldsKind count_u64_of
 
--- of a frequent-items sketch of items of type `i64` what is said, and else that the call was refused
-abbrev pub OnFrequentI64 : (old new : Option AnySketch) → ℤ → (FrequentState ℤ → Type 0) → Type 0
-OnFrequentI64 (Some (FrequentI64 s)) new result said = said s
-OnFrequentI64 old new result said = IsOfNoUse old new result
-
--- the same of items of type `u64`
-abbrev pub OnFrequentU64 : (old new : Option AnySketch) → ℤ → (FrequentState ℕ → Type 0) → Type 0
-OnFrequentU64 (Some (FrequentU64 s)) new result said = said s
-OnFrequentU64 old new result said = IsOfNoUse old new result
-
--- the same of texts
-abbrev pub OnFrequentTexts : (old new : Option AnySketch) → ℤ → (FrequentState (String Global) → Type 0) → Type 0
-OnFrequentTexts (Some (FrequentTexts s)) new result said = said s
-OnFrequentTexts old new result said = IsOfNoUse old new result
-
--- there is a frequent-items sketch of items of type `i64`, of which this holds
 abbrev pub HoldsFrequentI64 : Option AnySketch → (FrequentState ℤ → Type 0) → Type 0
-HoldsFrequentI64 (Some (FrequentI64 s)) said = said s
-HoldsFrequentI64 held said = ⊥
+HoldsFrequentI64 = HoldsKind frequent_i64_of
 
--- there is a frequent-items sketch of items of type `u64`, of which this holds
 abbrev pub HoldsFrequentU64 : Option AnySketch → (FrequentState ℕ → Type 0) → Type 0
-HoldsFrequentU64 (Some (FrequentU64 s)) said = said s
-HoldsFrequentU64 held said = ⊥
+HoldsFrequentU64 = HoldsKind frequent_u64_of
 
--- there is a frequent-items sketch of texts, of which this holds
 abbrev pub HoldsFrequentTexts : Option AnySketch → (FrequentState (String Global) → Type 0) → Type 0
-HoldsFrequentTexts (Some (FrequentTexts s)) said = said s
-HoldsFrequentTexts held said = ⊥
+HoldsFrequentTexts = HoldsKind frequent_texts_of

@@ -1,7 +1,9 @@
 -- Many texts as one buffer of bytes with offsets: each text goes from an offset to the next one.
-use Rattle.std.specs.Prelude.{ℕ, ◌+◌, ◌<◌, ◌≤◌, List, [], ◌∷◌, length, map, drop, slice_index, All, EachIndex}
+use Rattle.std.specs.Prelude.{◌≡◌, ◌≢◌, ℕ, ℤ, ◌+◌, ◌<◌, ◌≤◌, List, [], ◌∷◌, length, map, drop, slice_index, All, EachIndex}
 use Rattle.std.specs.List.{slice_range, zip}
 use Rattle.std.specs.Str.{IsUtf8}
+use Rattle.sketch_base.specs.declared.fault.Fault.TheVariants.{InvalidUtf8}
+use Rattle.datasketches_c.specs.Numbers.{bad_offsets, no_room, refusal_number}
 
 -- the texts of a buffer, one fewer than its offsets
 unfoldable pub texts_of : (bytes offsets : List ℕ) → List (List ℕ)
@@ -17,6 +19,21 @@ pub record AreOffsets (bytes offsets : List ℕ) : Type 0 where
 pub record AreTexts (bytes offsets : List ℕ) : Type 0 where
   pub ends : AreOffsets bytes offsets
   pub utf8 : All IsUtf8 (texts_of bytes offsets)
+
+-- this answer refuses a buffer that has no such texts
+pub record AreRefused (bytes offsets : List ℕ) (answer : ℤ) : Type 0 where
+  pub not_texts : ¬ AreTexts bytes offsets
+  pub not_offsets : ¬ AreOffsets bytes offsets → answer ≡ bad_offsets
+  pub not_utf8 : AreOffsets bytes offsets → ¬ All IsUtf8 (texts_of bytes offsets) → answer ≡ refusal_number InvalidUtf8
+
+-- this answer refuses a buffer that has no such texts, or more or fewer than so many places
+pub record AreRefusedIn (places : ℕ) (bytes offsets : List ℕ) (answer : ℤ) : Type 0 where
+  pub not_texts : places + 1 ≡ length offsets → ¬ AreTexts bytes offsets
+  pub not_offsets : ¬ AreOffsets bytes offsets → answer ≡ bad_offsets
+  pub not_placed : AreOffsets bytes offsets → places + 1 ≢ length offsets → answer ≡ no_room
+  pub not_utf8 :
+      AreOffsets bytes offsets → places + 1 ≡ length offsets → ¬ All IsUtf8 (texts_of bytes offsets) →
+      answer ≡ refusal_number InvalidUtf8
 
 -- the offsets of texts that stand one behind the other from an offset on
 abbrev pub offsets_from : ℕ → List (List ℕ) → List ℕ

@@ -7,7 +7,6 @@ use crate::handle::SketchHandle;
 use crate::status_code::{NO_SKETCH, refusal_number};
 use sketch_base::Fault;
 use std::alloc::Global;
-use std::mem::replace;
 
 /// A copy of a sketch, where there is memory for one.
 fn copy_of(sketch: &AnySketch) -> Option<AnySketch>
@@ -48,10 +47,10 @@ pub extern "C" fn ds_clone(
     ensures other { other.new.value ≡ other.old.value }
     ensures copied { IsCopied other.old.value handle.old.value handle.new.value result }
 {
-    let Some(sketch) = replace(other, SketchHandle::none(alloc)).into_box() else {
+    let Some(sketch) = other.take(alloc) else {
         return NO_SKETCH;
     };
     let answer = put_copy(alloc, handle, &sketch);
-    *other = SketchHandle::of(sketch);
+    other.give(sketch);
     answer
 }

@@ -6,7 +6,7 @@ ghost use Rattle.sketch_base.specs.Errors.{refusal_of};
 ghost use Rattle.sketch_base.specs.Hashes.{fed_bytes};
 ghost use Rattle.sketch_countmin.specs.Image.{IsImage, IsSpelled, early_fault_within, first_fault_within};
 ghost use Rattle.sketch_countmin.specs.Shapes.{shape_fault};
-ghost use Rattle.sketch_countmin.specs.State.{Counts, CountsAll, Joins, SameShape, empty_state};
+ghost use Rattle.sketch_countmin.specs.State.{Counts, CountsAll, empty_state};
 ghost use Rattle.datasketches_c.specs.CountCalls.{AddsWeight, AddsEach, AddsWeights, Estimates, EstimatesAll, Bounds, MergesInto, Describes};
 ghost use Rattle.datasketches_c.specs.CountJoins.{IsJoined};
 ghost use Rattle.datasketches_c.specs.Estimates.{AreLeastCells};
@@ -19,9 +19,10 @@ use crate::count_images::write_counts;
 use crate::count_texts::{count_texts, estimate_texts};
 use crate::count_weighted::{count_weighted, count_weighted_texts};
 use crate::handle::SketchHandle;
+use crate::join::{Joins, join};
 use crate::kind::{Kind, on_kind};
-use crate::status_code::{NO_ROOM, NO_SKETCH, OK, WRONG_KIND, refusal_number};
-use crate::texts::need_texts;
+use crate::status_code::{NO_ROOM, OK, refusal_number};
+use crate::texts::{refusal_of_texts, refusal_of_texts_in};
 use sketch_base::Fault;
 use sketch_countmin::{CountMinSketch, CountMinValue};
 use std::alloc::Global;
@@ -301,7 +302,9 @@ where
     ensures no_text { AreOffsets bytes.now offsets.now → ¬ All IsUtf8 (texts_of bytes.now offsets.now)
         → (result ≡ refusal_number Fault.InvalidUtf8) × (handle.new.value ≡ handle.old.value) }
 {
-    need_texts!(bytes, offsets);
+    if let Some(refusal) = refusal_of_texts(bytes, offsets) {
+        return refusal;
+    }
     on_kind!(alloc, handle, CountMinSketch<V>, sketch => count_texts(sketch, bytes, offsets))
 }
 
@@ -325,7 +328,9 @@ where
         → EstimatesAll (⟦<CountMinSketch<V> as Kind>⟧.part) handle.old.value handle.new.value result (fed_bytes fed.str) (texts_of bytes.now offsets.now) (map V.number estimates.new) }
     ensures untouched { OnRefused result (estimates.new ≡ estimates.old) }
 {
-    need_texts!(bytes, offsets, estimates.len());
+    if let Some(refusal) = refusal_of_texts_in(estimates.len(), bytes, offsets) {
+        return refusal;
+    }
     on_kind!(alloc, handle, CountMinSketch<V>, sketch => {
         estimate_texts(sketch, bytes, offsets, estimates);
         OK
@@ -350,35 +355,24 @@ where
         → AddsWeights (⟦<CountMinSketch<V> as Kind>⟧.part) V.greatest handle.old.value handle.new.value result (fed_bytes fed.str) V.number (texts_of bytes.now offsets.now) weights.now (sum_by (λ weight. unsigned_abs (V.number weight)) weights.now) }
     ensures refused { OnRefused result (handle.new.value ≡ handle.old.value) }
 {
-    need_texts!(bytes, offsets, weights.len());
+    if let Some(refusal) = refusal_of_texts_in(weights.len(), bytes, offsets) {
+        return refusal;
+    }
     on_kind!(alloc, handle, CountMinSketch<V>, sketch => count_weighted_texts(sketch, bytes, offsets, weights))
 }
 
-/// Adds the other sketch's cells and total to a sketch.
-fn join<V: CountMinValue>(sketch: &mut CountMinSketch<V>, other: &CountMinSketch<V>) -> i32
-    ensures call { IsJoined V.greatest sketch.old other.now sketch.new result }
-    ensures refused { OnRefused result (sketch.new ≡ sketch.old) }
-{
-    match sketch.merge(other) {
-        Ok(()) => OK,
-        Err(error) => refusal_number(error.fault()),
-    }
-}
-
-/// Adds the cells and the total of the sketch of another handle to a sketch.
-fn merge_into<V: CountMinValue>(
-    alloc: Global,
-    sketch: &mut CountMinSketch<V>,
-    handle: &mut SketchHandle,
-) -> i32
+impl<V: CountMinValue> Joins<()> for CountMinSketch<V>
 where
     CountMinSketch<V>: Kind,
-    ensures kept { handle.new.value ≡ handle.old.value }
-    ensures call { OnKind (⟦<CountMinSketch<V> as Kind>⟧.part) handle.old.value handle.new.value result (λ b.
-        IsJoined V.greatest sketch.old b sketch.new result) }
-    ensures refused { OnRefused result (sketch.new ≡ sketch.old) }
 {
-    on_kind!(alloc, handle, CountMinSketch<V>, other => join(sketch, other))
+    ghost joins = { λ _. IsJoined V.greatest };
+
+    fn join_with(&mut self, other: &CountMinSketch<V>, _way: ()) -> i32 {
+        match self.merge(other) {
+            Ok(()) => OK,
+            Err(error) => refusal_number(error.fault()),
+        }
+    }
 }
 
 /// Adds the other sketch's cells and total. The other sketch stays.
@@ -393,7 +387,7 @@ where
     ensures refused { OnRefused result (handle.new.value ≡ handle.old.value) }
     ensures call { MergesInto (⟦<CountMinSketch<V> as Kind>⟧.part) V.greatest handle.old.value handle.new.value result other.old.value other.new.value }
 {
-    on_kind!(alloc, handle, CountMinSketch<V>, sketch => merge_into(alloc, sketch, other))
+    join::<CountMinSketch<V>, ()>(alloc, handle, other, ())
 }
 
 /// Writes down the sketch's numbers.

@@ -16,8 +16,8 @@ ghost use Rattle.datasketches_c.specs.declared.any_sketch.AnySketch.TheVariants.
 
 use crate::count::{self, CountStatus};
 use crate::handle::SketchHandle;
-use crate::kind::{Kind, on_kind};
-use crate::status_code::{BAD_FRACTION, NO_SKETCH, OK, WRONG_KIND};
+use crate::kind::on_kind;
+use crate::status_code::{BAD_FRACTION, OK};
 use sketch_base::Fault;
 use sketch_countmin::CountMinSketch;
 use std::alloc::Global;

@@ -9,7 +9,7 @@ ghost use Rattle.sketch_bloom.specs.Building.{request_fault, words_for};
 ghost use Rattle.sketch_bloom.specs.Image.{IsImage, IsSpelled, early_fault_within, first_fault_within};
 ghost use Rattle.sketch_bloom.specs.State.{empty_state, contains_item, inserted, all_inserted, IsCompatible, united, intersected, subtracted, capacity_of, cleared};
 ghost use Rattle.datasketches_c.specs.Images.{WritesImage, IsRefusedImage};
-ghost use Rattle.datasketches_c.specs.Joining.{joined};
+ghost use Rattle.datasketches_c.specs.Joining.{IsCombined, joined};
 ghost use Rattle.datasketches_c.specs.Kinds.{OnFilter, HoldsFilter};
 ghost use Rattle.datasketches_c.specs.Numbers.{OnDone, OnRefused, ok, no, yes, no_room, refusal_number, bad_offsets};
 ghost use Rattle.datasketches_c.specs.Texts.{AreOffsets, AreTexts, texts_of};
@@ -18,9 +18,10 @@ ghost use Rattle.datasketches_c.specs.declared.any_sketch.AnySketch.TheVariants.
 use crate::any_sketch::AnySketch;
 use crate::handle::SketchHandle;
 use crate::images::copy_out;
-use crate::on_sketch::{ask, change, join};
+use crate::join::{Joins, join};
+use crate::kind::on_kind;
 use crate::status_code::{NO, NO_ROOM, OK, YES, refusal_number};
-use crate::texts::{need_texts, num_texts, text_at};
+use crate::texts::{num_texts, refusal_of_texts, refusal_of_texts_in, text_at};
 use sketch_base::Fault;
 use sketch_bloom::{BloomFilter, BloomFilterBuilder};
 use std::alloc::Global;
@@ -55,7 +56,7 @@ fn insert<I: Hash + Drop>(alloc: Global, handle: &mut SketchHandle, item: I) -> 
     ensures { OnFilter handle.old.value handle.new.value result (λ s.
         (result ≡ ok) × (handle.new.value ≡ Some (Filter (inserted s (fed_bytes I.hash_input item))))) }
 {
-    change!(alloc, handle, Filter(filter) => {
+    on_kind!(alloc, handle, BloomFilter, filter => {
         filter.insert(item);
         OK
     })
@@ -103,7 +104,7 @@ fn insert_all<I: Hash>(alloc: Global, handle: &mut SketchHandle, items: &[I]) ->
     ensures { OnFilter handle.old.value handle.new.value result (λ s.
         (result ≡ ok) × (handle.new.value ≡ Some (Filter (all_inserted s (map (fed_bytes I.hash_input) items.now))))) }
 {
-    change!(alloc, handle, Filter(filter) => {
+    on_kind!(alloc, handle, BloomFilter, filter => {
         filter.insert_all(items);
         OK
     })
@@ -142,7 +143,7 @@ fn contains<I: Hash>(alloc: Global, handle: &mut SketchHandle, item: &I) -> i32
     ensures answer { OnFilter handle.old.value handle.new.value result (λ s.
         result ≡ (if contains_item s (fed_bytes I.hash_input item.now) then yes else no)) }
 {
-    ask!(alloc, handle, Filter(filter) => { if filter.contains(item) { YES } else { NO } })
+    on_kind!(alloc, handle, BloomFilter, filter => { if filter.contains(item) { YES } else { NO } })
 }
 
 /// Whether the filter contains a number: 1 or 0.
@@ -201,7 +202,7 @@ fn contains_all<I: Hash>(
     if answers.len() != items.len() {
         return NO_ROOM;
     }
-    ask!(alloc, handle, Filter(filter) => {
+    on_kind!(alloc, handle, BloomFilter, filter => {
         filter.contains_all(items, answers);
         OK
     })
@@ -287,8 +288,10 @@ pub extern "C" fn ds_filter_insert_all_text(
         → result ≡ refusal_number Fault.InvalidUtf8 }
     ensures refused { OnRefused result (handle.new.value ≡ handle.old.value) }
 {
-    need_texts!(bytes, offsets);
-    change!(alloc, handle, Filter(filter) => {
+    if let Some(refusal) = refusal_of_texts(bytes, offsets) {
+        return refusal;
+    }
+    on_kind!(alloc, handle, BloomFilter, filter => {
         insert_texts(filter, bytes, offsets);
         OK
     })
@@ -318,8 +321,10 @@ pub extern "C" fn ds_filter_contains_all_text(
         × (answers.new ≡ map (λ text. contains_item s (fed_bytes fed.str text)) (texts_of bytes.now offsets.now))) }
     ensures untouched { OnRefused result (answers.new ≡ answers.old) }
 {
-    need_texts!(bytes, offsets, answers.len());
-    ask!(alloc, handle, Filter(filter) => {
+    if let Some(refusal) = refusal_of_texts_in(answers.len(), bytes, offsets) {
+        return refusal;
+    }
+    on_kind!(alloc, handle, BloomFilter, filter => {
         contains_texts(filter, bytes, offsets, answers);
         OK
     })
@@ -333,20 +338,19 @@ pub(crate) enum SetOperation {
     Difference,
 }
 
-/// Does a set operation on a filter, and answers the call's number.
-fn combine(filter: &mut BloomFilter, other: &BloomFilter, operation: SetOperation) -> i32
-    ensures done { IsCompatible filter.old other.now → (result ≡ ok) × (filter.new ≡ joined operation filter.old other.now) }
-    ensures mismatch { ¬ IsCompatible filter.old other.now → result ≡ refusal_number Fault.Mismatch }
-    ensures refused { OnRefused result (filter.new ≡ filter.old) }
-{
-    let done = match operation {
-        SetOperation::Union => filter.union(other),
-        SetOperation::Intersection => filter.intersect(other),
-        SetOperation::Difference => filter.difference(other),
-    };
-    match done {
-        Ok(()) => OK,
-        Err(error) => refusal_number(error.fault()),
+impl Joins<SetOperation> for BloomFilter {
+    ghost joins = { IsCombined };
+
+    fn join_with(&mut self, other: &BloomFilter, operation: SetOperation) -> i32 {
+        let done = match operation {
+            SetOperation::Union => self.union(other),
+            SetOperation::Intersection => self.intersect(other),
+            SetOperation::Difference => self.difference(other),
+        };
+        match done {
+            Ok(()) => OK,
+            Err(error) => refusal_number(error.fault()),
+        }
     }
 }
 
@@ -364,7 +368,7 @@ fn set_against(
         (IsCompatible a b → (result ≡ ok) × (handle.new.value ≡ Some (Filter (joined operation a b))))
         × (¬ IsCompatible a b → result ≡ refusal_number Fault.Mismatch))) }
 {
-    join!(alloc, handle, other, Filter(filter, second) => combine(filter, second, operation))
+    join::<BloomFilter, SetOperation>(alloc, handle, other, operation)
 }
 
 /// Adds the positions of the other filter's set. The other filter stays.
@@ -442,7 +446,7 @@ pub extern "C" fn ds_filter_reset(alloc: Global, handle: &mut SketchHandle) -> i
     ensures { OnFilter handle.old.value handle.new.value result (λ s.
         (result ≡ ok) × (handle.new.value ≡ Some (Filter (cleared s)))) }
 {
-    change!(alloc, handle, Filter(filter) => {
+    on_kind!(alloc, handle, BloomFilter, filter => {
         filter.reset();
         OK
     })
@@ -461,7 +465,7 @@ pub extern "C" fn ds_filter_status(
         × (status.new.bits_used ≡ set.len s.set) × (status.new.capacity ≡ capacity_of s)
         × (status.new.seed ≡ s.seed) × (status.new.num_hashes ≡ s.num_hashes)) }
 {
-    ask!(alloc, handle, Filter(filter) => {
+    on_kind!(alloc, handle, BloomFilter, filter => {
         *status = FilterStatus {
             bits_used: filter.bits_used(),
             capacity: filter.capacity() as u64,
@@ -498,7 +502,7 @@ pub extern "C" fn ds_filter_to_bytes(
     ensures image { OnFilter handle.old.value handle.new.value result (λ s.
         WritesImage (λ image. IsSpelled image s) out.old out.new written.new result) }
 {
-    ask!(alloc, handle, Filter(filter) => write_filter(filter, out, written))
+    on_kind!(alloc, handle, BloomFilter, filter => write_filter(filter, out, written))
 }
 
 /// Makes the filter of an image, whose words take at most so many bytes, in place of what the handle has.

@@ -14,19 +14,16 @@ ghost use Rattle.datasketches_c.specs.FrequentRows.{WritesRows, error_type};
 ghost use Rattle.datasketches_c.specs.Images.{IsRefusedImage};
 ghost use Rattle.datasketches_c.specs.Kinds.{OnFrequentU64, HoldsFrequentU64, OnFrequentI64, HoldsFrequentI64};
 ghost use Rattle.datasketches_c.specs.Numbers.{OnDone, OnRefused, ok, refusal_number, no_room};
+ghost use Rattle.datasketches_c.specs.Weights.{AddsWeights};
 ghost use Rattle.datasketches_c.specs.declared.any_sketch.AnySketch.TheVariants.{FrequentU64, FrequentI64};
 
 use crate::any_sketch::AnySketch;
-use crate::frequent::{
-    FrequentBounds, FrequentStatus, bounds_of, merge, read_image, reset, status_of, update,
-    update_all, write_image, write_rows,
-};
+use crate::frequent::{self, FrequentBounds, FrequentStatus, read_image};
 use crate::handle::SketchHandle;
-use crate::on_sketch::{ask, change, join};
-use crate::status_code::{NO_ROOM, OK, refusal_number};
+use crate::join::join;
+use crate::status_code::refusal_number;
 use sketch_frequencies::FrequentItemsSketch;
 use std::alloc::Global;
-use std::hash::Hash;
 
 /// Makes a sketch of frequent numbers in place of what the handle has, which is freed. Its table may grow to
 /// `max_map_size` slots, a power of two from 8 to 2^30, and its purges sample `sample_size` counters, an even number from
@@ -49,10 +46,7 @@ pub extern "C" fn ds_frequent_u64_new(
     ensures refused { OnRefused result ((handle.new.value ≡ handle.old.value)
         × (result ≡ refusal_number (refusal_of (sizes_fault max_map_size sample_size)).fault)) }
 {
-    match FrequentItemsSketch::with_sample_size(alloc, max_map_size, sample_size) {
-        Ok(sketch) => handle.put(alloc, AnySketch::FrequentU64(sketch)),
-        Err(error) => refusal_number(error.fault()),
-    }
+    frequent::new::<u64>(alloc, handle, max_map_size, sample_size)
 }
 
 /// Adds a weight to a number's. A weight of 0 changes nothing.
@@ -70,7 +64,7 @@ pub extern "C" fn ds_frequent_u64_update(
         HoldsFrequentU64 handle.new.value (λ t. Updates nat_eq s item weight t result)) }
     ensures refused { OnRefused result (handle.new.value ≡ handle.old.value) }
 {
-    change!(alloc, handle, FrequentU64(sketch) => update(sketch, item, weight))
+    frequent::update(alloc, handle, item, weight)
 }
 
 /// Adds 1 to the weight of each number, one after another.
@@ -86,7 +80,29 @@ pub extern "C" fn ds_frequent_u64_update_all(
     ensures { OnFrequentU64 handle.old.value handle.new.value result (λ s.
         HoldsFrequentU64 handle.new.value (λ t. UpdatesMany nat_eq s items.now t result)) }
 {
-    change!(alloc, handle, FrequentU64(sketch) => update_all(sketch, items))
+    frequent::update_all(alloc, handle, items)
+}
+
+/// Adds a weight to that of each number, one after another. A weight of 0 changes nothing.
+///
+/// Refused with `NO_ROOM` where there are more or fewer weights than numbers, and with `WeightOverflow` where the weight of
+/// all numbers would pass the greatest `u64`. The sketch is then as it was. Refused with `NoMemory` at the first number for
+/// which the table must double and there is no memory: the numbers before it are added then, and neither it nor those
+/// behind it are.
+#[unsafe(no_mangle)]
+pub extern "C" fn ds_frequent_u64_update_all_weighted(
+    alloc: Global,
+    handle: &mut SketchHandle,
+    items: &[u64],
+    weights: &[u64],
+) -> i32
+    ensures no_room { length weights.now ≢ length items.now
+        → (result ≡ no_room) × (handle.new.value ≡ handle.old.value) }
+    ensures call { length weights.now ≡ length items.now
+        → OnFrequentU64 handle.old.value handle.new.value result (λ s. HoldsFrequentU64 handle.new.value (λ t.
+        AddsWeights (Updates nat_eq) s items.now weights.now t result)) }
+{
+    frequent::update_all_weighted(alloc, handle, items, weights)
 }
 
 /// Writes down the bounds and the estimate of a number's weight.
@@ -102,10 +118,26 @@ pub extern "C" fn ds_frequent_u64_bounds(
         (result ≡ ok) × AreBounds nat_eq s item bounds.new) }
     ensures untouched { OnRefused result (bounds.new ≡ bounds.old) }
 {
-    ask!(alloc, handle, FrequentU64(sketch) => {
-        *bounds = bounds_of(sketch, &item);
-        OK
-    })
+    frequent::bounds(alloc, handle, &item, bounds)
+}
+
+/// Writes down the bounds and the estimate of each number's weight. There are as many bounds as numbers, else `NO_ROOM`. A
+/// refusal leaves `bounds` as it was.
+#[unsafe(no_mangle)]
+pub extern "C" fn ds_frequent_u64_bounds_all(
+    alloc: Global,
+    handle: &mut SketchHandle,
+    items: &[u64],
+    bounds: &mut [FrequentBounds],
+) -> i32
+    ensures kept { handle.new.value ≡ handle.old.value }
+    ensures no_room { length bounds.old ≢ length items.now → result ≡ no_room }
+    ensures bounds { length bounds.old ≡ length items.now
+        → OnFrequentU64 handle.old.value handle.new.value result (λ s.
+        (result ≡ ok) × AreBoundsOfAll nat_eq s items.now bounds.new) }
+    ensures untouched { OnRefused result (bounds.new ≡ bounds.old) }
+{
+    frequent::bounds_all(alloc, handle, items, bounds)
 }
 
 /// Merges the other sketch into this one, which then stands for both streams and keeps its own sizes. The other sketch
@@ -125,7 +157,7 @@ pub extern "C" fn ds_frequent_u64_merge(
         OnFrequentU64 other.old.value other.new.value result (λ b.
         HoldsFrequentU64 handle.new.value (λ t. MergesInto nat_eq a b t result))) }
 {
-    join!(alloc, handle, other, FrequentU64(sketch, second) => merge(sketch, second))
+    join::<FrequentItemsSketch<u64>, ()>(alloc, handle, other, ())
 }
 
 /// Writes down the tracked numbers whose bound is above both the threshold and the error, in rows that descend by
@@ -150,9 +182,15 @@ pub extern "C" fn ds_frequent_u64_rows(
         WritesRows nat_eq (error_type no_false_negatives) threshold s items.old items.new bounds.old bounds.new count.new
         result) }
 {
-    ask!(alloc, handle, FrequentU64(sketch) => {
-        write_rows(sketch, no_false_negatives, threshold, items, bounds, count)
-    })
+    frequent::rows(
+        alloc,
+        handle,
+        no_false_negatives,
+        threshold,
+        items,
+        bounds,
+        count,
+    )
 }
 
 /// Forgets everything but the greatest size and the sample size.
@@ -161,10 +199,7 @@ pub extern "C" fn ds_frequent_u64_reset(alloc: Global, handle: &mut SketchHandle
     ensures { OnFrequentU64 handle.old.value handle.new.value result (λ s.
         (result ≡ ok) × HoldsFrequentU64 handle.new.value (Empties nat_eq s)) }
 {
-    change!(alloc, handle, FrequentU64(sketch) => {
-        reset(sketch);
-        OK
-    })
+    frequent::reset::<u64>(alloc, handle)
 }
 
 /// Writes down the sketch's numbers. Sizes are in slots, and capacities in counters.
@@ -179,10 +214,7 @@ pub extern "C" fn ds_frequent_u64_status(
         (result ≡ ok) × AreNumbers s status.new) }
     ensures untouched { OnRefused result (status.new ≡ status.old) }
 {
-    ask!(alloc, handle, FrequentU64(sketch) => {
-        *status = status_of(sketch);
-        OK
-    })
+    frequent::status::<u64>(alloc, handle, status)
 }
 
 /// Writes the sketch's image to the front of the caller's buffer, and says how many bytes long it is, also where there is
@@ -202,7 +234,7 @@ pub extern "C" fn ds_frequent_u64_to_bytes(
     ensures image { OnFrequentU64 handle.old.value handle.new.value result (λ s.
         WritesFrequent u64_codec (λ n. n) s out.old out.new written.new result) }
 {
-    ask!(alloc, handle, FrequentU64(sketch) => write_image(sketch, out, written))
+    frequent::to_bytes::<u64>(alloc, handle, out, written)
 }
 
 /// Makes the sketch of an image, whose table takes at most so many bytes, in place of what the handle has, which is freed.
@@ -249,10 +281,7 @@ pub extern "C" fn ds_frequent_i64_new(
     ensures refused { OnRefused result ((handle.new.value ≡ handle.old.value)
         × (result ≡ refusal_number (refusal_of (sizes_fault max_map_size sample_size)).fault)) }
 {
-    match FrequentItemsSketch::with_sample_size(alloc, max_map_size, sample_size) {
-        Ok(sketch) => handle.put(alloc, AnySketch::FrequentI64(sketch)),
-        Err(error) => refusal_number(error.fault()),
-    }
+    frequent::new::<i64>(alloc, handle, max_map_size, sample_size)
 }
 
 /// Adds a weight to a number's. A weight of 0 changes nothing.
@@ -270,7 +299,7 @@ pub extern "C" fn ds_frequent_i64_update(
         HoldsFrequentI64 handle.new.value (λ t. Updates int_eq s item weight t result)) }
     ensures refused { OnRefused result (handle.new.value ≡ handle.old.value) }
 {
-    change!(alloc, handle, FrequentI64(sketch) => update(sketch, item, weight))
+    frequent::update(alloc, handle, item, weight)
 }
 
 /// Adds 1 to the weight of each number, one after another.
@@ -286,7 +315,29 @@ pub extern "C" fn ds_frequent_i64_update_all(
     ensures { OnFrequentI64 handle.old.value handle.new.value result (λ s.
         HoldsFrequentI64 handle.new.value (λ t. UpdatesMany int_eq s items.now t result)) }
 {
-    change!(alloc, handle, FrequentI64(sketch) => update_all(sketch, items))
+    frequent::update_all(alloc, handle, items)
+}
+
+/// Adds a weight to that of each number, one after another. A weight of 0 changes nothing.
+///
+/// Refused with `NO_ROOM` where there are more or fewer weights than numbers, and with `WeightOverflow` where the weight of
+/// all numbers would pass the greatest `u64`. The sketch is then as it was. Refused with `NoMemory` at the first number for
+/// which the table must double and there is no memory: the numbers before it are added then, and neither it nor those
+/// behind it are.
+#[unsafe(no_mangle)]
+pub extern "C" fn ds_frequent_i64_update_all_weighted(
+    alloc: Global,
+    handle: &mut SketchHandle,
+    items: &[i64],
+    weights: &[u64],
+) -> i32
+    ensures no_room { length weights.now ≢ length items.now
+        → (result ≡ no_room) × (handle.new.value ≡ handle.old.value) }
+    ensures call { length weights.now ≡ length items.now
+        → OnFrequentI64 handle.old.value handle.new.value result (λ s. HoldsFrequentI64 handle.new.value (λ t.
+        AddsWeights (Updates int_eq) s items.now weights.now t result)) }
+{
+    frequent::update_all_weighted(alloc, handle, items, weights)
 }
 
 /// Writes down the bounds and the estimate of a number's weight.
@@ -302,10 +353,26 @@ pub extern "C" fn ds_frequent_i64_bounds(
         (result ≡ ok) × AreBounds int_eq s item bounds.new) }
     ensures untouched { OnRefused result (bounds.new ≡ bounds.old) }
 {
-    ask!(alloc, handle, FrequentI64(sketch) => {
-        *bounds = bounds_of(sketch, &item);
-        OK
-    })
+    frequent::bounds(alloc, handle, &item, bounds)
+}
+
+/// Writes down the bounds and the estimate of each number's weight. There are as many bounds as numbers, else `NO_ROOM`. A
+/// refusal leaves `bounds` as it was.
+#[unsafe(no_mangle)]
+pub extern "C" fn ds_frequent_i64_bounds_all(
+    alloc: Global,
+    handle: &mut SketchHandle,
+    items: &[i64],
+    bounds: &mut [FrequentBounds],
+) -> i32
+    ensures kept { handle.new.value ≡ handle.old.value }
+    ensures no_room { length bounds.old ≢ length items.now → result ≡ no_room }
+    ensures bounds { length bounds.old ≡ length items.now
+        → OnFrequentI64 handle.old.value handle.new.value result (λ s.
+        (result ≡ ok) × AreBoundsOfAll int_eq s items.now bounds.new) }
+    ensures untouched { OnRefused result (bounds.new ≡ bounds.old) }
+{
+    frequent::bounds_all(alloc, handle, items, bounds)
 }
 
 /// Merges the other sketch into this one, which then stands for both streams and keeps its own sizes. The other sketch
@@ -325,7 +392,7 @@ pub extern "C" fn ds_frequent_i64_merge(
         OnFrequentI64 other.old.value other.new.value result (λ b.
         HoldsFrequentI64 handle.new.value (λ t. MergesInto int_eq a b t result))) }
 {
-    join!(alloc, handle, other, FrequentI64(sketch, second) => merge(sketch, second))
+    join::<FrequentItemsSketch<i64>, ()>(alloc, handle, other, ())
 }
 
 /// Writes down the tracked numbers whose bound is above both the threshold and the error, in rows that descend by
@@ -350,9 +417,15 @@ pub extern "C" fn ds_frequent_i64_rows(
         WritesRows int_eq (error_type no_false_negatives) threshold s items.old items.new bounds.old bounds.new count.new
         result) }
 {
-    ask!(alloc, handle, FrequentI64(sketch) => {
-        write_rows(sketch, no_false_negatives, threshold, items, bounds, count)
-    })
+    frequent::rows(
+        alloc,
+        handle,
+        no_false_negatives,
+        threshold,
+        items,
+        bounds,
+        count,
+    )
 }
 
 /// Forgets everything but the greatest size and the sample size.
@@ -361,10 +434,7 @@ pub extern "C" fn ds_frequent_i64_reset(alloc: Global, handle: &mut SketchHandle
     ensures { OnFrequentI64 handle.old.value handle.new.value result (λ s.
         (result ≡ ok) × HoldsFrequentI64 handle.new.value (Empties int_eq s)) }
 {
-    change!(alloc, handle, FrequentI64(sketch) => {
-        reset(sketch);
-        OK
-    })
+    frequent::reset::<i64>(alloc, handle)
 }
 
 /// Writes down the sketch's numbers. Sizes are in slots, and capacities in counters.
@@ -379,10 +449,7 @@ pub extern "C" fn ds_frequent_i64_status(
         (result ≡ ok) × AreNumbers s status.new) }
     ensures untouched { OnRefused result (status.new ≡ status.old) }
 {
-    ask!(alloc, handle, FrequentI64(sketch) => {
-        *status = status_of(sketch);
-        OK
-    })
+    frequent::status::<i64>(alloc, handle, status)
 }
 
 /// Writes the sketch's image to the front of the caller's buffer, and says how many bytes long it is, also where there is
@@ -402,7 +469,7 @@ pub extern "C" fn ds_frequent_i64_to_bytes(
     ensures image { OnFrequentI64 handle.old.value handle.new.value result (λ s.
         WritesFrequent i64_codec (λ n. n) s out.old out.new written.new result) }
 {
-    ask!(alloc, handle, FrequentI64(sketch) => write_image(sketch, out, written))
+    frequent::to_bytes::<i64>(alloc, handle, out, written)
 }
 
 /// Makes the sketch of an image, whose table takes at most so many bytes, in place of what the handle has, which is freed.
@@ -426,68 +493,4 @@ pub extern "C" fn ds_frequent_i64_from_bytes(
         Ok(sketch) => handle.put(alloc, AnySketch::FrequentI64(sketch)),
         Err(error) => refusal_number(error.fault()),
     }
-}
-
-/// What the sketch says of each item.
-fn bounds_of_all<T: Eq + Hash + Drop>(
-    sketch: &FrequentItemsSketch<T>,
-    items: &[T],
-    bounds: &mut [FrequentBounds],
-)
-    requires same { length bounds.old ≡ length items.now }
-    ensures { AreBoundsOfAll T.eq sketch.now items.now bounds.new }
-{
-    'each: for i in 0..items.len() {
-        bounds[i] = bounds_of(sketch, &items[i]);
-    }
-}
-
-/// Writes down the bounds and the estimate of each number's weight. There are as many bounds as numbers, else `NO_ROOM`. A
-/// refusal leaves `bounds` as it was.
-#[unsafe(no_mangle)]
-pub extern "C" fn ds_frequent_u64_bounds_all(
-    alloc: Global,
-    handle: &mut SketchHandle,
-    items: &[u64],
-    bounds: &mut [FrequentBounds],
-) -> i32
-    ensures kept { handle.new.value ≡ handle.old.value }
-    ensures no_room { length bounds.old ≢ length items.now → result ≡ no_room }
-    ensures bounds { length bounds.old ≡ length items.now
-        → OnFrequentU64 handle.old.value handle.new.value result (λ s.
-        (result ≡ ok) × AreBoundsOfAll nat_eq s items.now bounds.new) }
-    ensures untouched { OnRefused result (bounds.new ≡ bounds.old) }
-{
-    if bounds.len() != items.len() {
-        return NO_ROOM;
-    }
-    ask!(alloc, handle, FrequentU64(sketch) => {
-        bounds_of_all(sketch, items, bounds);
-        OK
-    })
-}
-
-/// Writes down the bounds and the estimate of each number's weight. There are as many bounds as numbers, else `NO_ROOM`. A
-/// refusal leaves `bounds` as it was.
-#[unsafe(no_mangle)]
-pub extern "C" fn ds_frequent_i64_bounds_all(
-    alloc: Global,
-    handle: &mut SketchHandle,
-    items: &[i64],
-    bounds: &mut [FrequentBounds],
-) -> i32
-    ensures kept { handle.new.value ≡ handle.old.value }
-    ensures no_room { length bounds.old ≢ length items.now → result ≡ no_room }
-    ensures bounds { length bounds.old ≡ length items.now
-        → OnFrequentI64 handle.old.value handle.new.value result (λ s.
-        (result ≡ ok) × AreBoundsOfAll int_eq s items.now bounds.new) }
-    ensures untouched { OnRefused result (bounds.new ≡ bounds.old) }
-{
-    if bounds.len() != items.len() {
-        return NO_ROOM;
-    }
-    ask!(alloc, handle, FrequentI64(sketch) => {
-        bounds_of_all(sketch, items, bounds);
-        OK
-    })
 }

@@ -1,6 +1,6 @@
 //! Sketches of frequent texts: made, filled, asked, merged, reported, emptied, described, written and read.
 ghost use Rattle.std.specs.List.{concat};
-ghost use Rattle.std.specs.Prelude.{◌≡◌, None, Some, All, ◌≢◌, ◌+◌, length, ◌<◌, ◌≤◌, ◌^◌, ◌⊎◌, take, map, MatchOption};
+ghost use Rattle.std.specs.Prelude.{◌≡◌, None, Some, All, ◌≢◌, ◌+◌, length, ◌<◌, ◌≤◌, ◌^◌, ◌⊎◌, MatchOption};
 ghost use Rattle.std.specs.Str.{IsUtf8};
 ghost use Rattle.std.specs.String.{string_bytes};
 ghost use Rattle.sketch_base.specs.Errors.{refusal_of};
@@ -13,7 +13,7 @@ ghost use Rattle.sketch_frequencies.specs.State.{empty_state};
 ghost use Rattle.datasketches_c.specs.FrequentBatches.{TellsOfTexts};
 ghost use Rattle.datasketches_c.specs.FrequentCalls.{MergesInto, Empties, AreNumbers};
 ghost use Rattle.datasketches_c.specs.FrequentImages.{WritesFrequent, IsRestored};
-ghost use Rattle.datasketches_c.specs.FrequentRows.{bounds_in, error_type};
+ghost use Rattle.datasketches_c.specs.FrequentRows.{error_type};
 ghost use Rattle.datasketches_c.specs.FrequentTextImages.{text_row};
 ghost use Rattle.datasketches_c.specs.FrequentTextRows.{ReportsTexts, WritesTextRows, row_texts};
 ghost use Rattle.datasketches_c.specs.FrequentTexts.{UpdatesText, TellsOfText, text_eq};
@@ -22,17 +22,18 @@ ghost use Rattle.datasketches_c.specs.InTurn.{CallsInTurn};
 ghost use Rattle.datasketches_c.specs.Kinds.{OnFrequentTexts, HoldsFrequentTexts};
 ghost use Rattle.datasketches_c.specs.Numbers.{OnDone, OnRefused, ok, refusal_number, bad_offsets, no_room};
 ghost use Rattle.datasketches_c.specs.Texts.{AreOffsets, AreTexts, texts_of, offsets_from};
+ghost use Rattle.datasketches_c.specs.Weights.{AddsWeights};
 ghost use Rattle.datasketches_c.specs.declared.any_sketch.AnySketch.TheVariants.{FrequentTexts};
 
 use crate::any_sketch::AnySketch;
-use crate::frequent::{
-    FrequentBounds, FrequentStatus, bounds_of, copy_bounds, error_type_of, merge, read_image,
-    reset, status_of, update, write_image,
-};
+use crate::frequent::{self, FrequentBounds, FrequentStatus, add, bounds_of, read_image};
+use crate::frequent_rows::{copy_bounds, error_type_of};
+use crate::frequent_weighted::add_weighted_texts;
 use crate::handle::SketchHandle;
-use crate::on_sketch::{ask, change, join};
+use crate::join::join;
+use crate::kind::on_kind;
 use crate::status_code::{NO_ROOM, OK, refusal_number};
-use crate::texts::{need_texts, num_texts, text_at};
+use crate::texts::{num_texts, refusal_of_texts, refusal_of_texts_in, text_at};
 use sketch_base::Fault;
 use sketch_frequencies::{FrequentItemsSketch, Row};
 use std::alloc::Global;
@@ -49,7 +50,7 @@ pub(crate) fn update_text(
     ensures refused { OnRefused result (sketch.new ≡ sketch.old) }
 {
     match String::from_str(alloc, item) {
-        Ok(item) => update(sketch, item, weight),
+        Ok(item) => add(sketch, item, weight),
         Err(_) => refusal_number(Fault::NoMemory),
     }
 }
@@ -79,7 +80,7 @@ fn update_str(alloc: Global, handle: &mut SketchHandle, item: &str, weight: u64)
         HoldsFrequentTexts handle.new.value (λ t. UpdatesText s item.now weight t result)) }
     ensures refused { OnRefused result (handle.new.value ≡ handle.old.value) }
 {
-    change!(alloc, handle, FrequentTexts(sketch) => update_text(alloc, sketch, item, weight))
+    on_kind!(alloc, handle, FrequentItemsSketch<String>, sketch => update_text(alloc, sketch, item, weight))
 }
 
 /// Writes down what the sketch of a handle says of a text.
@@ -94,7 +95,7 @@ fn bounds_of_str(
         TellsOfText s item.now bounds.new result) }
     ensures untouched { OnRefused result (bounds.new ≡ bounds.old) }
 {
-    ask!(alloc, handle, FrequentTexts(sketch) => bounds_of_text(alloc, sketch, item, bounds))
+    on_kind!(alloc, handle, FrequentItemsSketch<String>, sketch => bounds_of_text(alloc, sketch, item, bounds))
 }
 
 /// Makes a sketch of frequent texts in place of what the handle has, which is freed. Its table may grow to
@@ -118,10 +119,7 @@ pub extern "C" fn ds_frequent_text_new(
     ensures refused { OnRefused result ((handle.new.value ≡ handle.old.value)
         × (result ≡ refusal_number (refusal_of (sizes_fault max_map_size sample_size)).fault)) }
 {
-    match FrequentItemsSketch::with_sample_size(alloc, max_map_size, sample_size) {
-        Ok(sketch) => handle.put(alloc, AnySketch::FrequentTexts(sketch)),
-        Err(error) => refusal_number(error.fault()),
-    }
+    frequent::new::<String>(alloc, handle, max_map_size, sample_size)
 }
 
 /// Adds a weight to a text's. A weight of 0 changes nothing.
@@ -187,7 +185,7 @@ pub extern "C" fn ds_frequent_text_merge(
         OnFrequentTexts other.old.value other.new.value result (λ b.
         HoldsFrequentTexts handle.new.value (λ t. MergesInto text_eq a b t result))) }
 {
-    join!(alloc, handle, other, FrequentTexts(sketch, second) => merge(sketch, second))
+    join::<FrequentItemsSketch<String>, ()>(alloc, handle, other, ())
 }
 
 /// Adds 1 to the weight of each text of a buffer, one after another.
@@ -232,8 +230,43 @@ pub extern "C" fn ds_frequent_text_update_all(
     ensures no_text { AreOffsets bytes.now offsets.now → ¬ All IsUtf8 (texts_of bytes.now offsets.now)
         → (result ≡ refusal_number Fault.InvalidUtf8) × (handle.new.value ≡ handle.old.value) }
 {
-    need_texts!(bytes, offsets);
-    change!(alloc, handle, FrequentTexts(sketch) => update_texts(alloc, sketch, bytes, offsets))
+    if let Some(refusal) = refusal_of_texts(bytes, offsets) {
+        return refusal;
+    }
+    on_kind!(alloc, handle, FrequentItemsSketch<String>, sketch => update_texts(alloc, sketch, bytes, offsets))
+}
+
+/// Adds a weight to that of each text, one after another. A weight of 0 changes nothing. The texts are the bytes between each
+/// of the offsets and the next.
+///
+/// Refused with `BAD_OFFSETS` where there is no offset, one is below the one before it, or one passes the end of the
+/// bytes, then with `NO_ROOM` where there are more or fewer weights than texts, then with `InvalidUtf8` where some text
+/// is not UTF-8, and with `WeightOverflow` where the weight of all texts would pass the greatest `u64`. The sketch is then as
+/// it was. Refused with `NoMemory` at the first text for which there is no memory: the texts before it are added then, and
+/// neither it nor those behind it are.
+#[unsafe(no_mangle)]
+pub extern "C" fn ds_frequent_text_update_all_weighted(
+    alloc: Global,
+    handle: &mut SketchHandle,
+    bytes: &[u8],
+    offsets: &[u64],
+    weights: &[u64],
+) -> i32
+    ensures bad_offsets { ¬ AreOffsets bytes.now offsets.now
+        → (result ≡ bad_offsets) × (handle.new.value ≡ handle.old.value) }
+    ensures no_room { AreOffsets bytes.now offsets.now → length weights.now + 1 ≢ length offsets.now
+        → (result ≡ no_room) × (handle.new.value ≡ handle.old.value) }
+    ensures no_text { AreOffsets bytes.now offsets.now → length weights.now + 1 ≡ length offsets.now
+        → ¬ All IsUtf8 (texts_of bytes.now offsets.now)
+        → (result ≡ refusal_number Fault.InvalidUtf8) × (handle.new.value ≡ handle.old.value) }
+    ensures call { AreTexts bytes.now offsets.now → length weights.now + 1 ≡ length offsets.now
+        → OnFrequentTexts handle.old.value handle.new.value result (λ s. HoldsFrequentTexts handle.new.value (λ t.
+        AddsWeights UpdatesText s (texts_of bytes.now offsets.now) weights.now t result)) }
+{
+    if let Some(refusal) = refusal_of_texts_in(weights.len(), bytes, offsets) {
+        return refusal;
+    }
+    on_kind!(alloc, handle, FrequentItemsSketch<String>, sketch => add_weighted_texts(alloc, sketch, bytes, offsets, weights))
 }
 
 /// What the sketch says of each text of a buffer.
@@ -284,8 +317,10 @@ pub extern "C" fn ds_frequent_text_bounds_all(
         → OnFrequentTexts handle.old.value handle.new.value result (λ s.
         TellsOfTexts s (texts_of bytes.now offsets.now) bounds.old bounds.new result) }
 {
-    need_texts!(bytes, offsets, bounds.len());
-    ask!(alloc, handle, FrequentTexts(sketch) => bounds_of_texts(alloc, sketch, bytes, offsets, bounds))
+    if let Some(refusal) = refusal_of_texts_in(bounds.len(), bytes, offsets) {
+        return refusal;
+    }
+    on_kind!(alloc, handle, FrequentItemsSketch<String>, sketch => bounds_of_texts(alloc, sketch, bytes, offsets, bounds))
 }
 
 /// How many bytes the texts of rows have, where that is below 2^64.
@@ -407,7 +442,7 @@ pub extern "C" fn ds_frequent_text_rows(
         (record { bytes = bytes.old; offsets = offsets.old; bounds = bounds.old })
         (record { bytes = bytes.new; offsets = offsets.new; bounds = bounds.new }) count.new num_bytes.new result) }
 {
-    ask!(alloc, handle, FrequentTexts(sketch) => write_rows(
+    on_kind!(alloc, handle, FrequentItemsSketch<String>, sketch => write_rows(
         sketch,
         no_false_negatives,
         threshold,
@@ -425,10 +460,7 @@ pub extern "C" fn ds_frequent_text_reset(alloc: Global, handle: &mut SketchHandl
     ensures { OnFrequentTexts handle.old.value handle.new.value result (λ s.
         (result ≡ ok) × HoldsFrequentTexts handle.new.value (Empties text_eq s)) }
 {
-    change!(alloc, handle, FrequentTexts(sketch) => {
-        reset(sketch);
-        OK
-    })
+    frequent::reset::<String>(alloc, handle)
 }
 
 /// Writes down the sketch's numbers. Sizes are in slots, and capacities in counters.
@@ -443,10 +475,7 @@ pub extern "C" fn ds_frequent_text_status(
         (result ≡ ok) × AreNumbers s status.new) }
     ensures untouched { OnRefused result (status.new ≡ status.old) }
 {
-    ask!(alloc, handle, FrequentTexts(sketch) => {
-        *status = status_of(sketch);
-        OK
-    })
+    frequent::status::<String>(alloc, handle, status)
 }
 
 /// Writes the sketch's image to the front of the caller's buffer, and says how many bytes long it is, also where there is
@@ -467,7 +496,7 @@ pub extern "C" fn ds_frequent_text_to_bytes(
     ensures image { OnFrequentTexts handle.old.value handle.new.value result (λ s.
         WritesFrequent text_codec (λ text. string_bytes text) s out.old out.new written.new result) }
 {
-    ask!(alloc, handle, FrequentTexts(sketch) => write_image(sketch, out, written))
+    frequent::to_bytes::<String>(alloc, handle, out, written)
 }
 
 /// Makes the sketch of an image, whose table takes at most so many bytes, in place of what the handle has, which is freed.

@@ -1,13 +1,15 @@
 //! The kinds of sketches, each as its library's type.
 ghost use Rattle.std.specs.Prelude.{◌≡◌, Option, Some, None, MatchOption, refl};
 ghost use Rattle.std.specs.Borrow.{sem, LendsIf};
-ghost use Rattle.datasketches_c.specs.Kinds.{count_i64_of, count_u64_of};
+ghost use Rattle.datasketches_c.specs.Kinds.{filter_of, count_i64_of, count_u64_of, frequent_i64_of, frequent_u64_of, frequent_texts_of};
 ghost use Rattle.datasketches_c.specs.contracts.any_sketch.AnySketch as any_sketch;
 ghost use Rattle.datasketches_c.specs.declared.any_sketch.AnySketch.{AnySketch as OfAnyKind};
-ghost use Rattle.datasketches_c.specs.declared.any_sketch.AnySketch.TheVariants.{CountI64, CountU64};
+ghost use Rattle.datasketches_c.specs.declared.any_sketch.AnySketch.TheVariants.{Filter, CountI64, CountU64, FrequentI64, FrequentU64, FrequentTexts};
 
 use crate::any_sketch::AnySketch;
+use sketch_bloom::BloomFilter;
 use sketch_countmin::CountMinSketch;
+use sketch_frequencies::FrequentItemsSketch;
 
 /// A type of sketches that is one of the kinds.
 pub(crate) trait Kind: Drop {
@@ -26,6 +28,27 @@ pub(crate) trait Kind: Drop {
         ensures { result ≡ whole self };
 
     ghost back: { (s : Self) → part (whole s) ≡ Some s };
+}
+
+impl Kind for BloomFilter {
+    ghost part = { filter_of };
+
+    ghost whole = { Filter };
+
+    #[inline(always)]
+    fn part_of(any: &mut AnySketch) -> Option<&mut BloomFilter> {
+        if let AnySketch::Filter(sketch) = any {
+            Some(sketch)
+        } else {
+            None
+        }
+    }
+
+    fn into_any(self) -> AnySketch {
+        AnySketch::Filter(self)
+    }
+
+    ghost back = { λ s. refl };
 }
 
 impl Kind for CountMinSketch<i64> {
@@ -70,14 +93,77 @@ impl Kind for CountMinSketch<u64> {
     ghost back = { λ s. refl };
 }
 
+impl Kind for FrequentItemsSketch<i64> {
+    ghost part = { frequent_i64_of };
+
+    ghost whole = { FrequentI64 };
+
+    #[inline(always)]
+    fn part_of(any: &mut AnySketch) -> Option<&mut FrequentItemsSketch<i64>> {
+        if let AnySketch::FrequentI64(sketch) = any {
+            Some(sketch)
+        } else {
+            None
+        }
+    }
+
+    fn into_any(self) -> AnySketch {
+        AnySketch::FrequentI64(self)
+    }
+
+    ghost back = { λ s. refl };
+}
+
+impl Kind for FrequentItemsSketch<u64> {
+    ghost part = { frequent_u64_of };
+
+    ghost whole = { FrequentU64 };
+
+    #[inline(always)]
+    fn part_of(any: &mut AnySketch) -> Option<&mut FrequentItemsSketch<u64>> {
+        if let AnySketch::FrequentU64(sketch) = any {
+            Some(sketch)
+        } else {
+            None
+        }
+    }
+
+    fn into_any(self) -> AnySketch {
+        AnySketch::FrequentU64(self)
+    }
+
+    ghost back = { λ s. refl };
+}
+
+impl Kind for FrequentItemsSketch<String> {
+    ghost part = { frequent_texts_of };
+
+    ghost whole = { FrequentTexts };
+
+    #[inline(always)]
+    fn part_of(any: &mut AnySketch) -> Option<&mut FrequentItemsSketch<String>> {
+        if let AnySketch::FrequentTexts(sketch) = any {
+            Some(sketch)
+        } else {
+            None
+        }
+    }
+
+    fn into_any(self) -> AnySketch {
+        AnySketch::FrequentTexts(self)
+    }
+
+    ghost back = { λ s. refl };
+}
+
 /// What a call answers that does its work with the sketch of a handle, where that is of a kind: the sketch is taken out,
-/// and put back.
+/// and put back. Where there is no sketch, or one of another kind, the handle keeps what it has and the answer says so.
 macro_rules! on_kind {
     ($alloc:expr, $handle:expr, $kind:ty, $sketch:ident => $work:expr) => {{
         let Some(mut boxed) = $handle.take($alloc) else {
-            return NO_SKETCH;
+            return $crate::status_code::NO_SKETCH;
         };
-        match <$kind>::part_of(&mut *boxed) {
+        match <$kind as $crate::kind::Kind>::part_of(&mut *boxed) {
             Some($sketch) => {
                 let answer = $work;
                 $handle.give(boxed);
@@ -85,7 +171,7 @@ macro_rules! on_kind {
             }
             None => {
                 $handle.give(boxed);
-                WRONG_KIND
+                $crate::status_code::WRONG_KIND
             }
         }
     }};

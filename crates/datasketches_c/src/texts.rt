@@ -2,9 +2,12 @@
 //!
 //! n texts have n + 1 offsets, of 64 bits each, as in Arrow's `large_utf8`: a buffer may then be longer than 2^31 bytes, and a caller
 //! who has 32-bit offsets widens them.
-ghost use Rattle.std.specs.Prelude.{◌≡◌, ◌+◌, ◌<◌, ◌↔◌, [], length, slice_index_or, All, IsTrue};
+ghost use Rattle.std.specs.Prelude.{◌≡◌, ◌+◌, ◌<◌, ◌↔◌, [], length, slice_index_or, All, IsTrue, MatchOption};
 ghost use Rattle.std.specs.Str.{IsUtf8};
-ghost use Rattle.datasketches_c.specs.Texts.{AreOffsets, AreTexts, texts_of};
+ghost use Rattle.datasketches_c.specs.Texts.{AreOffsets, AreTexts, AreRefused, AreRefusedIn, texts_of};
+
+use crate::status_code::{BAD_OFFSETS, NO_ROOM, refusal_number};
+use sketch_base::Fault;
 
 /// Whether there is an offset, none is below the one before it, and none passes the end of the buffer.
 pub(crate) fn are_offsets(bytes: &[u8], offsets: &[u64]) -> bool
@@ -64,28 +67,32 @@ pub(crate) fn text_at<'a>(bytes: &'a [u8], offsets: &[u64], i: usize) -> &'a str
     unsafe { str::from_utf8_unchecked(bytes_at(bytes, offsets, i)) }
 }
 
-/// Leaves a call for the texts of a buffer with the answer that refuses them, unless each is there and is UTF-8. Where the call
-/// has a place for each text, how many there are comes third.
-macro_rules! need_texts {
-    ($bytes:expr, $offsets:expr) => {
-        if !$crate::texts::are_offsets($bytes, $offsets) {
-            return $crate::status_code::BAD_OFFSETS;
-        }
-        if !$crate::texts::are_utf8($bytes, $offsets) {
-            return $crate::status_code::refusal_number(sketch_base::Fault::InvalidUtf8);
-        }
-    };
-    ($bytes:expr, $offsets:expr, $places:expr) => {
-        if !$crate::texts::are_offsets($bytes, $offsets) {
-            return $crate::status_code::BAD_OFFSETS;
-        }
-        if $places != $offsets.len() - 1 {
-            return $crate::status_code::NO_ROOM;
-        }
-        if !$crate::texts::are_utf8($bytes, $offsets) {
-            return $crate::status_code::refusal_number(sketch_base::Fault::InvalidUtf8);
-        }
-    };
+/// The answer that refuses the texts of a buffer, unless each is there and is UTF-8.
+pub(crate) fn refusal_of_texts(bytes: &[u8], offsets: &[u64]) -> Option<i32>
+    ensures { MatchOption result (AreTexts bytes.now offsets.now) (AreRefused bytes.now offsets.now) }
+{
+    if !are_offsets(bytes, offsets) {
+        return Some(BAD_OFFSETS);
+    }
+    if !are_utf8(bytes, offsets) {
+        return Some(refusal_number(Fault::InvalidUtf8));
+    }
+    None
 }
 
-pub(crate) use need_texts;
+/// The answer that refuses the texts of a buffer, unless each is there and is UTF-8, and has one of so many places.
+pub(crate) fn refusal_of_texts_in(places: usize, bytes: &[u8], offsets: &[u64]) -> Option<i32>
+    ensures { MatchOption result (AreTexts bytes.now offsets.now × (places + 1 ≡ length offsets.now))
+        (AreRefusedIn places bytes.now offsets.now) }
+{
+    if !are_offsets(bytes, offsets) {
+        return Some(BAD_OFFSETS);
+    }
+    if places != num_texts(bytes, offsets) {
+        return Some(NO_ROOM);
+    }
+    if !are_utf8(bytes, offsets) {
+        return Some(refusal_number(Fault::InvalidUtf8));
+    }
+    None
+}

@@ -9,11 +9,11 @@ use Rattle.datasketches_c.proofs.count.estimate_all_text.Goals as goal
 -- the sketch is put back
 pub returns-in-Some-part_of-clause-kept : goal.returns-in-Some-part_of-clause-kept
 returns-in-Some-part_of-clause-kept g c =
-    c.give.ensures ∙ (ap Some (sym c.in-Some-part_of.ensures.which.1) ∙ sym (c.in-Some.ensures.sketch ∙ ap Some (sym c.deref_mut.ensures.value)))
+    c.give.ensures ∙ (ap Some (sym c.in-Some-part_of.ensures.which.1) ∙ sym (c.in-Some-take.ensures.sketch ∙ ap Some (sym c.deref_mut.ensures.value)))
 
 -- each has its estimate
 pub returns-in-Some-part_of-clause-estimates : goal.returns-in-Some-part_of-clause-estimates
 returns-in-Some-part_of-clause-estimates g c =
     λ texts same. all_estimated g.bound-7.part c.args.handle.now.value c.give.new.self.value c.deref_mut.result.now c.in-Some-part_of.sketch.now ok
-    (c.in-Some.ensures.sketch ∙ ap Some (sym c.deref_mut.ensures.value)) c.in-Some-part_of.ensures.which.0
+    (c.in-Some-take.ensures.sketch ∙ ap Some (sym c.deref_mut.ensures.value)) c.in-Some-part_of.ensures.which.0
     (fed_bytes fed.str) (texts_of c.args.bytes.now c.args.offsets.now) (map g.V.CountMinValue.number c.estimate_texts.new.estimates) refl c.estimate_texts.ensures.estimates

@@ -12,10 +12,10 @@ pub returns-in-Some-part_of-clause-call : goal.returns-in-Some-part_of-clause-ca
 returns-in-Some-part_of-clause-call g c =
     let counted = c.count_weighted_texts-answer.ensures in
     let said = weights_added g.bound-7.part c.args.handle.now.value c.give.new.self.value c.deref_mut.result.now c.in-Some-part_of.sketch.now c.count_weighted_texts-answer.result
-    (c.in-Some.ensures.sketch ∙ ap Some (sym c.deref_mut.ensures.value)) c.in-Some-part_of.ensures.which.0 g.V.CountMinValue.greatest (g.bound-7.whole c.count_weighted_texts-answer.new.sketch) c.count_weighted_texts-answer.new.sketch c.give.ensures (g.bound-7-met.back c.count_weighted_texts-answer.new.sketch)
+    (c.in-Some-take.ensures.sketch ∙ ap Some (sym c.deref_mut.ensures.value)) c.in-Some-part_of.ensures.which.0 g.V.CountMinValue.greatest (g.bound-7.whole c.count_weighted_texts-answer.new.sketch) c.count_weighted_texts-answer.new.sketch c.give.ensures (g.bound-7-met.back c.count_weighted_texts-answer.new.sketch)
     (fed_bytes fed.str) g.V.CountMinValue.number (texts_of c.args.bytes.now c.args.offsets.now) c.args.weights.now (sum_by (λ (w : g.row.V.Denot). unsigned_abs (g.V.CountMinValue.number w)) c.args.weights.now) counted.counted counted.overflow in
     search rules
 
 pub returns-in-Some-part_of-clause-refused : goal.returns-in-Some-part_of-clause-refused
 returns-in-Some-part_of-clause-refused g c =
-    let said = kept_when_refused g.bound-7.part g.bound-7.whole c.args.handle.now.value c.give.new.self.value c.deref_mut.result.now c.in-Some-part_of.sketch.now c.count_weighted_texts-answer.new.sketch c.count_weighted_texts-answer.result (c.in-Some.ensures.sketch ∙ ap Some (sym c.deref_mut.ensures.value)) c.in-Some-part_of.ensures.which.1 c.give.ensures c.count_weighted_texts-answer.ensures.refused in search rules
+    let said = kept_when_refused g.bound-7.part g.bound-7.whole c.args.handle.now.value c.give.new.self.value c.deref_mut.result.now c.in-Some-part_of.sketch.now c.count_weighted_texts-answer.new.sketch c.count_weighted_texts-answer.result (c.in-Some-take.ensures.sketch ∙ ap Some (sym c.deref_mut.ensures.value)) c.in-Some-part_of.ensures.which.1 c.give.ensures c.count_weighted_texts-answer.ensures.refused in search rules

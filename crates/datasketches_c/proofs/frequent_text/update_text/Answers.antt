@@ -6,7 +6,7 @@ use Rattle.datasketches_c.proofs.frequent_text.update_text.Goals as goal
 pub returns-in-Ok-clause-updates : goal.returns-in-Ok-clause-updates
 unfolding UpdatesText
 returns-in-Ok-clause-updates c =
-    let said : UpdatesText c.args.sketch.now c.args.item.now c.args.weight c.update.new.sketch c.update.result = inl (c.in-Ok.item, c.in-Ok.ensures.ok, c.update.ensures.updates) in
+    let said : UpdatesText c.args.sketch.now c.args.item.now c.args.weight c.add.new.sketch c.add.result = inl (c.in-Ok.item, c.in-Ok.ensures.ok, c.add.ensures.updates) in
     search rules
 
 -- there was no memory for it

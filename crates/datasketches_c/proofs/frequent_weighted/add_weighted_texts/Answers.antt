@@ -9,7 +9,7 @@ use Rattle.datasketches_c.specs.Texts.{texts_of}
 use Rattle.datasketches_c.proofs.FrequentLemmas.{total_of_text, memory_of_text, adds_refused, adds_done}
 use Rattle.datasketches_c.proofs.InTurnLemmas.{is_done}
 use Rattle.datasketches_c.proofs.WeightLemmas.{one_fits, one_more, pair_more}
-use Rattle.datasketches_c.proofs.frequent.update_texts.Goals as goal
+use Rattle.datasketches_c.proofs.frequent_weighted.add_weighted_texts.Goals as goal
 
 pub returns-then-answer-ne-OK : goal.returns-then-answer-ne-OK
 returns-then-answer-ne-OK c =

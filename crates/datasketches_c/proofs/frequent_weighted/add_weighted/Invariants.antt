@@ -4,7 +4,7 @@ use Rattle.std.specs.Prelude.{sum}
 use Rattle.datasketches_c.specs.FrequentCalls.{Updates}
 use Rattle.datasketches_c.specs.InTurn.{InTurn}
 use Rattle.datasketches_c.specs.Numbers.{ok}
-use Rattle.datasketches_c.proofs.frequent.update_items.Given as goal
+use Rattle.datasketches_c.proofs.frequent_weighted.add_weighted.Given as goal
 
 -- the items so far are added
 abbrev pub invariant-each : goal.invariant-each

@@ -1,6 +1,6 @@
 use Rattle.std.proofs.Common.{◌≡◌, map, take}
 use Rattle.sketch_frequencies.specs.RowValue.{RowValue}
-use Rattle.datasketches_c.proofs.frequent.copy_items.Given as goal
+use Rattle.datasketches_c.proofs.frequent_rows.copy_items.Given as goal
 
 -- the items so far are written
 abbrev pub invariant-each : goal.invariant-each

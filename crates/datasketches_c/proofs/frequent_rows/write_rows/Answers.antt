@@ -2,7 +2,7 @@ use Rattle.std.proofs.Common.{rules, sym, subst}
 use Rattle.sketch_frequencies.specs.declared.error_type.ErrorType.{ErrorType}
 use Rattle.datasketches_c.specs.FrequentRows.{AreRows, error_type}
 use Rattle.datasketches_c.proofs.Reports.{copied_rows}
-use Rattle.datasketches_c.proofs.frequent.write_rows.Goals as goal
+use Rattle.datasketches_c.proofs.frequent_rows.write_rows.Goals as goal
 
 -- the rows were found, and copied where there was room
 pub returns-in-Ok-clause-rows : goal.returns-in-Ok-clause-rows

@@ -1,7 +1,7 @@
 use Rattle.std.proofs.Common.{take}
 use Rattle.std.specs.List.{AllZip}
 use Rattle.datasketches_c.specs.FrequentCalls.{AreBounds}
-use Rattle.datasketches_c.proofs.frequent_numbers.bounds_of_all.Given as goal
+use Rattle.datasketches_c.proofs.frequent.bounds_of_all.Given as goal
 
 -- the bounds so far are those of the items
 abbrev pub invariant-each : goal.invariant-each

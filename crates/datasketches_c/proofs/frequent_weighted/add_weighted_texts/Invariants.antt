@@ -5,7 +5,7 @@ use Rattle.datasketches_c.specs.FrequentTexts.{UpdatesText}
 use Rattle.datasketches_c.specs.InTurn.{InTurn}
 use Rattle.datasketches_c.specs.Numbers.{ok}
 use Rattle.datasketches_c.specs.Texts.{texts_of}
-use Rattle.datasketches_c.proofs.frequent.update_texts.Given as goal
+use Rattle.datasketches_c.proofs.frequent_weighted.add_weighted_texts.Given as goal
 
 -- the texts so far are added
 abbrev pub invariant-each : goal.invariant-each

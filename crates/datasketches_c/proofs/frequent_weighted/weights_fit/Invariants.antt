@@ -1,7 +1,7 @@
 use Rattle.std.proofs.Common.{◌≡◌, ◌+◌, take}
 use Rattle.std.specs.Prelude.{sum}
 use Rattle.datasketches_c.specs.Numbers.{greatest_u64}
-use Rattle.datasketches_c.proofs.frequent.weights_fit.Given as goal
+use Rattle.datasketches_c.proofs.frequent_weighted.weights_fit.Given as goal
 
 -- what is left for the other weights
 abbrev pub invariant-each : goal.invariant-each

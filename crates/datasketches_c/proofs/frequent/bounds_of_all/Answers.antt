@@ -1,7 +1,7 @@
 use Rattle.std.proofs.Common.{◌<◌, length, arith}
 use Rattle.datasketches_c.specs.FrequentCalls.{AreBounds}
 use Rattle.datasketches_c.proofs.BoundsLemmas.{zip_more}
-use Rattle.datasketches_c.proofs.frequent_numbers.bounds_of_all.Goals as goal
+use Rattle.datasketches_c.proofs.frequent.bounds_of_all.Goals as goal
 
 pub each-preserved : goal.each-preserved
 each-preserved g c =

@@ -6,7 +6,7 @@ use Rattle.datasketches_c.specs.Numbers.{ok, greatest_u64}
 use Rattle.datasketches_c.proofs.FrequentLemmas.{total_of_update, on_done_first, adds_refused, adds_done}
 use Rattle.datasketches_c.proofs.InTurnLemmas.{is_done}
 use Rattle.datasketches_c.proofs.WeightLemmas.{one_fits, one_more, pair_more}
-use Rattle.datasketches_c.proofs.frequent.update_items.Goals as goal
+use Rattle.datasketches_c.proofs.frequent_weighted.add_weighted.Goals as goal
 
 pub returns-then-answer-ne-OK : goal.returns-then-answer-ne-OK
 returns-then-answer-ne-OK g c =
@@ -16,15 +16,15 @@ returns-then-answer-ne-OK g c =
     let i = c.each.i in
     let x = c.index-items-i.result in
     let w : ℕ = get_or weights i 0 in
-    let answer = c.update-answer.result in
+    let answer = c.add-answer.result in
     let other : i < length weights = omega arith in
     let total : c.total_weight.result ≡ c.args.sketch.now.total = c.total_weight.ensures in
     let fits : c.args.sketch.now.total + sum weights ≤ greatest_u64 = subst (λ (n : ℕ). n + sum weights ≤ greatest_u64) total (c.if-not-weights_fit.ensures.0 refl) in
     let one_has : c.each.sketch.total + w ≤ greatest_u64 = one_fits (λ (n : ℕ). n) weights i 0 w c.args.sketch.now.total c.each.sketch.total greatest_u64 other refl fits c.each.invariant.total in
     let room : TotalHasRoom c.each.sketch w = omega arith in
-    adds_refused (Updates eq) c.args.sketch.now items weights i x x c.each.sketch c.update-answer.new.sketch answer c.requires c.each-test.true c.index-items-i.is fits
-    c.each.invariant.added c.update-answer.type_inv (on_done_first answer _ _ c.update-answer.ensures.updates.done) c.update-answer.ensures.refused (c.update-answer.ensures.updates.memory room)
-    c.if-answer-ne-OK.true c.update-answer.ensures.updates
+    adds_refused (Updates eq) c.args.sketch.now items weights i x x c.each.sketch c.add-answer.new.sketch answer c.requires c.each-test.true c.index-items-i.is fits
+    c.each.invariant.added c.add-answer.type_inv (on_done_first answer _ _ c.add-answer.ensures.updates.done) c.add-answer.ensures.refused (c.add-answer.ensures.updates.memory room)
+    c.if-answer-ne-OK.true c.add-answer.ensures.updates
 
 pub each-preserved : goal.each-preserved
 each-preserved g c =
@@ -35,10 +35,10 @@ each-preserved g c =
     let x = c.index-items-i.result in
     let step : FrequentState g.row.T.Denot → g.row.T.Denot × ℕ → FrequentState g.row.T.Denot → Type 0 = λ s pair t. Updates eq s pair.0 pair.1 t ok in
     let other : i < length weights = omega arith in
-    let one : Updates eq c.each.sketch x w c.update-answer.new.sketch ok = subst (λ (z : ℤ). Updates eq c.each.sketch x w c.update-answer.new.sketch z) (is_done c.update-answer.result c.update-answer.type_inv c.if-answer-ne-OK.false) c.update-answer.ensures.updates in
+    let one : Updates eq c.each.sketch x w c.add-answer.new.sketch ok = subst (λ (z : ℤ). Updates eq c.each.sketch x w c.add-answer.new.sketch z) (is_done c.add-answer.result c.add-answer.type_inv c.if-answer-ne-OK.false) c.add-answer.ensures.updates in
     record {
-      added = pair_more step c.args.items.now weights i x x w 0 c.args.sketch.now c.each.sketch c.update-answer.new.sketch c.requires c.each-test.true c.index-items-i.is refl c.each.invariant.added one;
-      total = one_more (λ (n : ℕ). n) weights i 0 w c.args.sketch.now.total c.each.sketch.total c.update-answer.new.sketch.total other refl (total_of_update eq c.each.sketch x w c.update-answer.new.sketch one) c.each.invariant.total;
+      added = pair_more step c.args.items.now weights i x x w 0 c.args.sketch.now c.each.sketch c.add-answer.new.sketch c.requires c.each-test.true c.index-items-i.is refl c.each.invariant.added one;
+      total = one_more (λ (n : ℕ). n) weights i 0 w c.args.sketch.now.total c.each.sketch.total c.add-answer.new.sketch.total other refl (total_of_update eq c.each.sketch x w c.add-answer.new.sketch one) c.each.invariant.total;
     }
 
 pub returns : goal.returns

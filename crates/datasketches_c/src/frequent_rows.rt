@@ -1,0 +1,91 @@
+//! Reports on frequent items, whatever these are: rows in the caller's buffers.
+ghost use Rattle.std.specs.Prelude.{◌≡◌, ◌≢◌, ◌<◌, ◌≤◌, IsTrue, length, map};
+ghost use Rattle.datasketches_c.specs.FrequentRows.{StandAtFront, WritesRows, bounds_in, error_type};
+ghost use Rattle.datasketches_c.specs.Numbers.{OnRefused, ok, no_room};
+
+use crate::frequent::FrequentBounds;
+use crate::status_code::{NO_ROOM, OK, refusal_number};
+use sketch_frequencies::{ErrorType, FrequentItemsSketch, Row};
+use std::hash::Hash;
+
+/// Writes the report's rows to the front of both buffers, and says how many there are, also where there is no room.
+pub(crate) fn write_rows<T: Eq + Hash + Clone + Copy + Drop>(
+    sketch: &FrequentItemsSketch<T>,
+    no_false_negatives: bool,
+    threshold: u64,
+    items: &mut [T],
+    bounds: &mut [FrequentBounds],
+    count: &mut usize,
+) -> i32
+    requires clones { (x y : T) → T.is_clone x y → IsTrue (T.eq x y) }
+    ensures rows { WritesRows T.eq (error_type no_false_negatives) threshold sketch.now items.old items.new
+        bounds.old bounds.new count.new result }
+    ensures untouched { OnRefused result ((items.new ≡ items.old) × (bounds.new ≡ bounds.old)) }
+    ensures uncounted { result ≢ ok → result ≢ no_room → count.new ≡ count.old }
+{
+    match sketch.frequent_items_with_threshold(error_type_of(no_false_negatives), threshold) {
+        Ok(rows) => copy_rows(&rows, items, bounds, count),
+        Err(error) => refusal_number(error.fault()),
+    }
+}
+
+/// Which mistakes a report may make.
+pub(crate) fn error_type_of(no_false_negatives: bool) -> ErrorType
+    ensures { result ≡ error_type no_false_negatives }
+{
+    if no_false_negatives {
+        ErrorType::NoFalseNegatives
+    } else {
+        ErrorType::NoFalsePositives
+    }
+}
+
+/// Copies rows to the front of both buffers, where there is room, and says how many there are.
+fn copy_rows<T: Copy>(
+    rows: &[Row<T>],
+    items: &mut [T],
+    bounds: &mut [FrequentBounds],
+    count: &mut usize,
+) -> i32
+    ensures counted { count.new ≡ length rows.now }
+    ensures written { length rows.now ≤ length items.old → length rows.now ≤ length bounds.old
+        → (result ≡ ok) × StandAtFront rows.now items.old items.new bounds.old bounds.new }
+    ensures few_items { length items.old < length rows.now → result ≡ no_room }
+    ensures few_bounds { length bounds.old < length rows.now → result ≡ no_room }
+    ensures untouched { OnRefused result ((items.new ≡ items.old) × (bounds.new ≡ bounds.old)) }
+    ensures uncounted { result ≢ ok → result ≢ no_room → count.new ≡ count.old }
+{
+    let needed = rows.len();
+    *count = needed;
+    if items.len() < needed || bounds.len() < needed {
+        return NO_ROOM;
+    }
+    copy_items(rows, &mut items[..needed]);
+    copy_bounds(rows, &mut bounds[..needed]);
+    OK
+}
+
+/// Writes down the items of rows.
+fn copy_items<T: Copy>(rows: &[Row<T>], items: &mut [T])
+    requires same { length items.old ≡ length rows.now }
+    ensures { items.new ≡ map (λ row. row.item) rows.now }
+{
+    'each: for i in 0..rows.len() {
+        items[i] = *rows[i].item();
+    }
+}
+
+/// Writes down the bounds of rows.
+pub(crate) fn copy_bounds<T>(rows: &[Row<T>], bounds: &mut [FrequentBounds])
+    requires same { length bounds.old ≡ length rows.now }
+    ensures { bounds.new ≡ map bounds_in rows.now }
+{
+    'each: for i in 0..rows.len() {
+        let row = &rows[i];
+        bounds[i] = FrequentBounds {
+            lower_bound: row.lower_bound(),
+            estimate: row.estimate(),
+            upper_bound: row.upper_bound(),
+        };
+    }
+}
