@@ -166,7 +166,10 @@ impl<T: Eq + Hash + Drop> FrequentItemsSketch<T> {
         let _total = self.total;
         let error = self.error;
         let floor = threshold.max(error);
-        let mut rows = Vec::new(self.map.allocator());
+        // where each count makes a row, the room for all of them is asked for at once
+        let all_pass = floor == error && error_type == ErrorType::NoFalseNegatives;
+        let room = if all_pass { self.map.num_active() } else { 0 };
+        let mut rows = Vec::with_capacity(self.map.allocator(), room)?;
         for (item, count) in self.map.iter() {
             let upper_bound = count + error;
             if error_type.is_above(floor, count, upper_bound) {

@@ -10,7 +10,7 @@ loop-item-init g c =
     let ok : IsState eq s = subst (λ s. IsState eq s) c.self.view_is c.self.invariant in
     let order = c.iter-item-items.result.rest in
     let whole = subst (λ (l : _). IsPermutation l order) (ap (λ s. s.counters) c.self.view_is) c.iter-item-items.ensures.entries in
-    rw (c.into_iter-item-iterator.ensures.into_iter_gives, c.iter-item-items.ensures.given, c.new-rows.ensures.items) (tt, tt, rows_none g.met.T.Eq.laws c.args.error_type c.args.threshold s ok.distinct order whole)
+    rw (c.into_iter-item-iterator.ensures.into_iter_gives, c.iter-item-items.ensures.given, c.in_ok-rows.ensures.items) (tt, tt, rows_none g.met.T.Eq.laws c.args.error_type c.args.threshold s ok.distinct order whole)
 
 pub overflow_add-upper_bound : goal.overflow_add-upper_bound
 overflow_add-upper_bound g c =
