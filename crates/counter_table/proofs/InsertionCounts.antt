@@ -45,3 +45,8 @@ table_is slots n a b = rw (a, b) refl
 -- a slice written back whole
 pub written_whole : {X : Type 0} (n : ℕ) (a b : List X) → length a ≡ n → take n (a ++ drop (length a) b) ≡ a
 written_whole n a b h = rw (← h) (take-append-le (length a) a (drop (length a) b) (omega arith) ∙ take_all (length a) a (omega arith))
+
+-- a table of which both slices are written back whole
+pub written_counted : {T : Type 0} {eq : T → T → Bool} {input : T → List (List ℕ)} {active : ℕ} (n m : ℕ) (new old : List (Slot T)) (bytes marks : List ℕ)
+    → length new ≡ n → length bytes ≡ m → IsCounted eq input new bytes active → IsCounted eq input (take n (new ++ drop (length new) old)) (take m (bytes ++ drop (length bytes) marks)) active
+written_counted n m new old bytes marks l k is = rw (written_whole n new old l, written_whole m bytes marks k) is

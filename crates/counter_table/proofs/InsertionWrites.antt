@@ -1,5 +1,5 @@
 -- A write to the slot where a look-up ended.
-use Rattle.std.proofs.Common.{◌≡◌, ℕ, zero, suc, ◌+◌, ◌-◌, ◌<◌, ◌≤◌, Bool, true, false, inl, inr, refl, ap, sym, ◌∙◌, subst, arith, List, [], ◌∷◌, ◌++◌, length, Some, is_some, IsPermutation}
+use Rattle.std.proofs.Common.{◌≡◌, ℕ, zero, suc, ◌+◌, ◌-◌, ◌<◌, ◌≤◌, Bool, true, false, inl, inr, refl, ap, sym, ◌∙◌, subst, arith, List, [], ◌∷◌, ◌++◌, length, Option, Some, is_some, IsPermutation}
 use Rattle.std.specs.Cmp.{IsEquivalence}
 use Rattle.std.specs.List.{IsDistinct, concat}
 use Rattle.std.specs.Prelude.{IsTrue}
@@ -14,8 +14,8 @@ use Rattle.counter_table.proofs.InsertionPuts.{put_new, distinct_tracked, distin
 use Rattle.counter_table.specs.declared.slot.Slot.{Slot}
 use Rattle.counter_table.specs.declared.slot.Slot.TheVariants.{Free, Taken}
 use Rattle.counter_table.specs.Homes.{home_in, home_of, ahead, distance}
-use Rattle.counter_table.specs.Slots.{Held, taken, entries_of, slot_at, is_taken, IsPlaced, IsSlots}
-use Rattle.counter_table.specs.Probes.{IsGap}
+use Rattle.counter_table.specs.Slots.{Held, taken, entries_of, slot_at, is_taken, AddsAt, IsPlaced, IsSlots}
+use Rattle.counter_table.specs.Probes.{IsGap, IsProbe}
 use Rattle.counter_table.proofs.ArithmeticRing.{ahead-distance, distance-ahead}
 use Rattle.counter_table.proofs.LookupHomes.{some_size, home_of-below}
 use Rattle.counter_table.proofs.LookupReach.{is_taken-below, slot_at-set_same, slot_at-set_other}
@@ -92,7 +92,7 @@ pub record Wrote {T : Type 0} (eq : T → T → Bool) (input : T → List (List 
   pub entries : IsPermutation (put eq (entries_of old) x w) (entries_of new)
 
 -- to the item's own slot
-pub wrote_hit : {T : Type 0} {eq : T → T → Bool} → IsEquivalence eq → (input : T → List (List ℕ)) (slots : List (Slot T)) → IsSlots eq input slots →
+wrote_hit : {T : Type 0} {eq : T → T → Bool} → IsEquivalence eq → (input : T → List (List ℕ)) (slots : List (Slot T)) → IsSlots eq input slots →
     (x : T) (w k : ℕ) (s : Held T) → slot_at slots k ≡ Some s → eq x s.item ≡ true → (new : List (Slot T)) → new ≡ set slots k (Taken s.drift (s.count + w) s.item) → Wrote eq input slots x w new
 wrote_hit {T} {eq} laws input slots ok x w k s e t new is =
     let n = length slots in
@@ -117,6 +117,13 @@ wrote_hit {T} {eq} laws input slots ok x w k s e t new is =
       };
       entries = rw put_is (IsPermutation-refl _);
     })
+
+-- and so by an amount that is added where a look-up found the item
+pub wrote_found : {T : Type 0} {eq : T → T → Bool} → IsEquivalence eq → {input : T → List (List ℕ)} {slots : List (Slot T)} → IsSlots eq input slots → {x : T} {h place c looked : ℕ} {found : Option ℕ}
+    → IsProbe eq h slots x place found looked → found ≡ Some c → (w : ℕ) {new : List (Slot T)} → AddsAt slots place w new → Wrote eq input slots x w new
+wrote_found laws {input} {slots} ok {x} {place = place} p hit w {new} adds =
+    let here = p.here _ hit in
+    wrote_hit laws input slots ok x w place here.0 here.1 here.3 new (adds here.0 here.1)
 
 -- to the first free slot
 pub wrote_gap : {T : Type 0} {eq : T → T → Bool} → IsEquivalence eq → (input : T → List (List ℕ)) (slots : List (Slot T)) → IsSlots eq input slots →

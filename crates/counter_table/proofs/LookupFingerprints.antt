@@ -1,5 +1,5 @@
 -- What a fingerprint says of its slot, and what a write to a slot makes of the fingerprints.
-use Rattle.std.proofs.Common.{◌≡◌, ℕ, zero, suc, ◌∷◌, ◌%◌, ◌<◌, Bool, true, false, inl, inr, refl, ap, sym, ◌∙◌, arith, List, [], length, get_or, replicate, Some, is_some}
+use Rattle.std.proofs.Common.{◌≡◌, ℕ, zero, suc, ◌∷◌, ◌+◌, ◌%◌, ◌<◌, Bool, true, false, inl, inr, refl, ap, sym, ◌∙◌, arith, List, [], length, get_or, replicate, Option, Some, is_some}
 use Rattle.std.specs.Prelude.{IsTrue}
 use Rattle.std.specs.List.{AllZip, concat}
 use Rattle.std.proofs.Math.ListN.{set}
@@ -10,7 +10,8 @@ use Rattle.counter_table.specs.declared.slot.Slot.{Slot}
 use Rattle.counter_table.specs.declared.slot.Slot.TheVariants.{Free, Taken}
 use Rattle.counter_table.specs.Fingerprints.{hash_of, hash_in, fingerprint_of, slot_fingerprint, AreFingerprints}
 use Rattle.counter_table.specs.Homes.{home_of, home_in}
-use Rattle.counter_table.specs.Slots.{Held, held, entries_of, slot_at, is_taken, IsSameSlot}
+use Rattle.counter_table.specs.Probes.{IsProbe}
+use Rattle.counter_table.specs.Slots.{Held, held, entries_of, slot_at, is_taken, AddsAt, IsSameSlot}
 use Rattle.counter_table.proofs.CloneSlots.{cloned_size}
 use Rattle.counter_table.proofs.GrowthMoves.{nothing_at}
 use Rattle.counter_table.proofs.LookupReach.{taken_slot, is_taken-below}
@@ -76,7 +77,7 @@ module _ {T : Type 0} {input : T → List (List ℕ)} {slots : List (Slot T)} {b
   })
 
   -- an item's count alone
-  pub fingerprints_counted : (place count : ℕ) (s : Held T) (new : List (Slot T)) → slot_at slots place ≡ Some s → new ≡ set slots place (Taken s.drift count s.item) → AreFingerprints input new bytes
+  fingerprints_counted : (place count : ℕ) (s : Held T) (new : List (Slot T)) → slot_at slots place ≡ Some s → new ≡ set slots place (Taken s.drift count s.item) → AreFingerprints input new bytes
   fingerprints_counted place count s new e made = rw made (record {
     long = are.long ∙ sym (length-set slots place (Taken s.drift count s.item));
     each = λ k. elim (cases_eq k place) [
@@ -87,6 +88,10 @@ module _ {T : Type 0} {input : T → List (List ℕ)} {slots : List (Slot T)} {b
       | inr other ↦ are.each k ∙ ap (slot_fingerprint input) (sym (get_or-set_other slots place k (Taken s.drift count s.item) Free other))
     ];
   })
+
+  -- which is added where a look-up found the item
+  pub fingerprints_found : {eq : T → T → Bool} {x : T} {h place c looked : ℕ} {found : Option ℕ} → IsProbe eq h slots x place found looked → found ≡ Some c → (w : ℕ) {new : List (Slot T)} → AddsAt slots place w new → AreFingerprints input new bytes
+  fingerprints_found {place = place} p hit w {new} adds = let here = p.here _ hit in fingerprints_counted place (here.0.count + w) here.0 new here.1 (adds here.0 here.1)
 
   -- a slot is freed
   pub fingerprints_freed : (place : ℕ) → place < length slots → AreFingerprints input (set slots place Free) (set bytes place 0)

@@ -47,11 +47,25 @@ or_else_none None late e = refl
 or_else_none (Some fault) late e = cc
 
 module _ {T C : Type 0} (eq : T → T → Bool) (codec : Codec C) (content : T → C) where
-  -- a filter that was read gives back what was saved
-  pub filter_back : bloom_laws.SpelledIsImage → (bytes : Vec ℕ Global) (filter : FilterState) → IsFilterState filter → bloom.Restores bytes.items filter → GivesBack eq codec content (image.Bloom bytes) (Bloom filter)
-  filter_back spelled bytes filter state restores (OfBloom h) i = record { state = state; stands = restores i.filter (spelled bytes.items i.filter i.spelled) h i.stands }
-  filter_back spelled bytes filter state restores OfStranger i = state
-  filter_back spelled bytes filter state restores _ i = absurd i
+  -- a filter that was read from the bytes that were saved gives back what was saved
+  pub filter_back : (bytes : Vec ℕ Global) {read : List ℕ} {filter : FilterState} → read ≡ bytes.items → bloom_laws.SpelledIsImage → IsFilterState filter → bloom.Restores read filter → GivesBack eq codec content (image.Bloom bytes) (Bloom filter)
+  filter_back bytes same spelled state restores (OfBloom h) i = record { state = state; stands = restores i.filter (spelled _ i.filter (rw same i.spelled)) h i.stands }
+  filter_back bytes same spelled state restores OfStranger i = state
+  filter_back bytes same spelled state restores _ i = absurd i
+
+  -- so does a sketch of frequent items
+  pub frequent_back : (bytes : Vec ℕ Global) {read : List ℕ} {new : FrequentState T} → read ≡ bytes.items → frequent_laws.SpelledIsImage codec → IsState eq new → frequent.Restores codec content eq read new → frequent.RestoresBudget codec content eq read new → GivesBack eq codec content (image.Frequent bytes) (Frequent new)
+  frequent_back bytes {new = new} same spelled state restores budgets (OfFrequent h) i =
+      let was = spelled _ _ (rw same i.spelled) in
+      let stands = restores i.sketch was h i.encloses in
+      record {
+        state = state;
+        few = few_within _ _ _ state.few (subst (λ (n : ℕ). new.size ≤ n) stands.encloses.max_size state.within);
+        stands = stands;
+        budget = budgets i.sketch was h i.encloses i.budget;
+      }
+  frequent_back bytes same spelled state restores budgets OfStranger i = state
+  frequent_back bytes same spelled state restores budgets _ i = absurd i
 
   -- so does a Count-Min sketch
   pub signed_back : count_laws.SpelledIsImage least_signed greatest_signed → (seed : ℕ) (bytes : Vec ℕ Global) (new : CountState) → IsCountState greatest_signed new → count.Restores least_signed greatest_signed seed bytes.items new → GivesBack eq codec content (image.CountI64 seed bytes) (CountI64 new)
@@ -64,20 +78,6 @@ module _ {T C : Type 0} (eq : T → T → Bool) (codec : Codec C) (content : T �
   unsigned_back spelled seed bytes new state restores (OfCountU64 h) i = count_back least_unsigned greatest_unsigned seed bytes.items new h spelled state restores i
   unsigned_back spelled seed bytes new state restores OfStranger i = state
   unsigned_back spelled seed bytes new state restores _ i = absurd i
-
-  -- so does a sketch of frequent items
-  pub frequent_back : frequent_laws.SpelledIsImage codec → (bytes : Vec ℕ Global) (new : FrequentState T) → IsState eq new → frequent.Restores codec content eq bytes.items new → frequent.RestoresBudget codec content eq bytes.items new → GivesBack eq codec content (image.Frequent bytes) (Frequent new)
-  frequent_back spelled bytes new state restores budgets (OfFrequent h) i =
-      let was = spelled bytes.items _ i.spelled in
-      let stands = restores i.sketch was h i.encloses in
-      record {
-        state = state;
-        few = few_within _ _ _ state.few (subst (λ (n : ℕ). new.size ≤ n) stands.encloses.max_size state.within);
-        stands = stands;
-        budget = budgets i.sketch was h i.encloses i.budget;
-      }
-  frequent_back spelled bytes new state restores budgets OfStranger i = state
-  frequent_back spelled bytes new state restores budgets _ i = absurd i
 
   -- what was written for a sketch stands for what the sketch stands for
   pub saved_stands : (sketch : Sketch T) (image : Image) (h : History T) → IsWrittenBy codec content sketch image → StandsFor eq sketch h → IsImageOf eq codec content image h

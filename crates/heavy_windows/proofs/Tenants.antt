@@ -12,6 +12,10 @@ eqb_apart : (a b : ℕ) → (a ≡ b → ⊥) → (a == b) ≡ false
 eqb_apart a b apart = grind (arith, nat_tests)
 
 module _ {T : Type 0} where
+  -- the state that the fields show
+  abbrev pub state_of : ℕ → ℕ → List (ℕ × List (FrequentState T)) → WindowsState T
+  state_of limit max_map_size tenants = record { limit = limit; max_map_size = max_map_size; tenants = tenants }
+
   -- a tenant has these windows now, and the others have theirs
   pub record PutsWindows (tenant : ℕ) (windows : List (FrequentState T)) (old new : WindowsState T) : Type 0 where
     pub limit : new.limit ≡ old.limit
@@ -54,9 +58,7 @@ module _ {T : Type 0} where
   -- the same of a map that was written
   pub put_in : (tenant limit max_map_size : ℕ) (old new : List (ℕ × List (FrequentState T))) (windows : List (FrequentState T))
       → ((other : ℕ) → lookup (eqb other) new ≡ cond (eqb tenant other) (Some windows) (lookup (eqb other) old))
-      → PutsWindows tenant windows
-      (record { limit = limit; max_map_size = max_map_size; tenants = old })
-      (record { limit = limit; max_map_size = max_map_size; tenants = new })
+      → PutsWindows tenant windows (state_of limit max_map_size old) (state_of limit max_map_size new)
   put_in tenant limit max_map_size old new windows e = record { limit = refl; max_map_size = refl; each = e }
 
   -- no other tenant's windows changed, of windows that are seen as these
@@ -66,19 +68,19 @@ module _ {T : Type 0} where
 
   -- the map was left as it was
   pub put_none : (limit max_map_size : ℕ) (old new : List (ℕ × List (FrequentState T))) (now : WindowsState T)
-      → record { limit = limit; max_map_size = max_map_size; tenants = old } ≡ now → new ≡ old
-      → record { limit = limit; max_map_size = max_map_size; tenants = new } ≡ now
+      → state_of limit max_map_size old ≡ now → new ≡ old
+      → state_of limit max_map_size new ≡ now
   put_none limit max_map_size old new now e same =
       subst
-      (λ (es : List (ℕ × List (FrequentState T))). record { limit = limit; max_map_size = max_map_size; tenants = es } ≡ now)
+      (λ (es : List (ℕ × List (FrequentState T))). state_of limit max_map_size es ≡ now)
       (sym same) e
 
   -- what was found, written back, changes nothing
   pub put_back : (tenant limit max_map_size : ℕ) (old new : List (ℕ × List (FrequentState T)))
       (windows : List (FrequentState T)) (now : WindowsState T)
-      → record { limit = limit; max_map_size = max_map_size; tenants = old } ≡ now
+      → state_of limit max_map_size old ≡ now
       → lookup (eqb tenant) old ≡ Some windows → new ≡ set_value (eqb tenant) old windows
-      → record { limit = limit; max_map_size = max_map_size; tenants = new } ≡ now
+      → state_of limit max_map_size new ≡ now
   put_back tenant limit max_map_size old new windows now e found written =
       put_none limit max_map_size old new now e (written ∙ set_value_same (eqb tenant) old windows found)
 

@@ -1,8 +1,7 @@
 -- What updates of many items leave, and what they mean for a history.
-use Rattle.std.proofs.Common.{◌≡◌, ℕ, ◌+◌, ◌-◌, ◌*◌, ◌<◌, ◌≤◌, Bool, true, false, cond, List, [], ◌∷◌, length, take, get_or, map, ℤ, pos, ◌+ℤ◌, unsigned_abs, refl, sym, ap, ◌∙◌, subst, arith, min, ⊎_elim}
+use Rattle.std.proofs.Common.{◌≡◌, ℕ, ◌+◌, ◌-◌, ◌<◌, ◌≤◌, Bool, true, false, cond, List, [], ◌∷◌, length, take, map, ℤ, pos, ◌+ℤ◌, unsigned_abs, refl, sym, ap, ◌∙◌, subst, arith, min}
 use Rattle.std.specs.Prelude.{slice_index, ◌==◌, count_by}
 use Rattle.std.proofs.lemmas.Int.{ints}
-use Rattle.std.proofs.lemmas.Bool.{cases_lt}
 use Rattle.std.proofs.lemmas.List.{take-map, take_min}
 use Rattle.std.proofs.lemmas.List.Sums.{count_by-le-length, sum_by-cons}
 use Rattle.sketch_countmin.specs.Cells.{RowsCounted}
@@ -13,7 +12,7 @@ use Rattle.sketch_countmin.specs.Table.{IsTable, state_of}
 use Rattle.sketch_countmin.specs.History.{CountHistory, all_updated, value_over, absolute_weight, cell_share, of_first}
 use Rattle.sketch_countmin.specs.History.CountHistory.{Update}
 use Rattle.sketch_countmin.specs.Stands.{StandsFor}
-use Rattle.sketch_countmin.proofs.Tables.{by_place, read_rows, remade}
+use Rattle.sketch_countmin.proofs.Tables.{read_rows, remade_rows}
 use Rattle.sketch_countmin.proofs.Updates.{row_bucket}
 
 -- ---- the items that fit
@@ -77,20 +76,8 @@ pub all_counted : (greatest : ℕ) (row_seeds : List ℕ) (d seed : ℕ) (t t' :
     → IsTable greatest row_seeds d seed t old → RowsCounted d bucket items (length row_seeds) old new → length new ≡ length old
     → t' ≡ pos (unsigned_abs t + length items) → unsigned_abs t' ≤ greatest → IsTable greatest row_seeds d seed t' new
 all_counted greatest row_seeds d seed t t' old new bucket items i h long sum fits =
-    remade greatest row_seeds d seed t t' old new i long (sum ∙ ap pos (sym total)) fits
-    (λ k. ⊎_elim (λ (lt : k < length row_seeds * d). within k lt) (λ (le : length row_seeds * d ≤ k). past k le) (cases_lt k (length row_seeds * d)))
-  where
-    total : unsigned_abs t' ≡ unsigned_abs t + length items
-    total = ap unsigned_abs sum
-
-    at : (r : ℕ) → r < length row_seeds → (b : ℕ) → b < d → unsigned_abs (get_or new (r * d + b) (pos 0)) ≤ unsigned_abs t'
-    at r lr b lb = rw (h.done r lr b lb) (omega (arith, ints, count_by-le-length (λ bytes. bucket r bytes == b) items, i.bounded (r * d + b), total))
-
-    within : (k : ℕ) → k < length row_seeds * d → unsigned_abs (get_or new k (pos 0)) ≤ unsigned_abs t'
-    within k lt = by_place (λ (k : ℕ). unsigned_abs (get_or new k (pos 0)) ≤ unsigned_abs t') d (length row_seeds) (omega (arith, i.some_buckets)) at k lt
-
-    past : (k : ℕ) → length row_seeds * d ≤ k → unsigned_abs (get_or new k (pos 0)) ≤ unsigned_abs t'
-    past k le = rw (h.rest k le) (omega (arith, i.bounded k, total))
+    remade_rows greatest row_seeds d seed t t' old new (length items) i long sum fits
+    (λ r lr b lb. rw (h.done r lr b lb) (omega (arith, ints, count_by-le-length (λ bytes. bucket r bytes == b) items))) h.rest
 
 -- a count by one of two tests that say the same
 count_same : (f g : List ℕ → ℕ) (b : ℕ) (items : List (List ℕ)) → ((bytes : List ℕ) → f bytes ≡ g bytes) → count_by (λ bytes. f bytes == b) items ≡ count_by (λ bytes. g bytes == b) items

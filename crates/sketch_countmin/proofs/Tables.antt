@@ -111,6 +111,27 @@ remade greatest row_seeds d seed t t' old new i long total_is fits bounded = rec
   bounded = bounded;
 }
 
+-- and where no cell of a row grew by more than the total did, and the other cells are as they were
+pub remade_rows : (greatest : ℕ) (row_seeds : List ℕ) (d seed : ℕ) (t t' : ℤ) (old new : List ℤ) (w : ℕ) → IsTable greatest row_seeds d seed t old → length new ≡ length old
+    → t' ≡ pos (unsigned_abs t + w) → unsigned_abs t' ≤ greatest
+    → ((r : ℕ) → r < length row_seeds → (b : ℕ) → b < d → unsigned_abs (get_or new (r * d + b) (pos 0)) ≤ unsigned_abs (get_or old (r * d + b) (pos 0)) + w)
+    → ((k : ℕ) → length row_seeds * d ≤ k → get_or new k (pos 0) ≡ get_or old k (pos 0)) → IsTable greatest row_seeds d seed t' new
+remade_rows greatest row_seeds d seed t t' old new w i long sum fits grown rest =
+    remade greatest row_seeds d seed t t' old new i long (sum ∙ ap pos (sym total)) fits
+    (λ k. ⊎_elim (λ (lt : k < length row_seeds * d). within k lt) (λ (le : length row_seeds * d ≤ k). past k le) (cases_lt k (length row_seeds * d)))
+  where
+    total : unsigned_abs t' ≡ unsigned_abs t + w
+    total = ap unsigned_abs sum
+
+    at : (r : ℕ) → r < length row_seeds → (b : ℕ) → b < d → unsigned_abs (get_or new (r * d + b) (pos 0)) ≤ unsigned_abs t'
+    at r lr b lb = omega (arith, grown r lr b lb, i.bounded (r * d + b), total)
+
+    within : (k : ℕ) → k < length row_seeds * d → unsigned_abs (get_or new k (pos 0)) ≤ unsigned_abs t'
+    within k lt = by_place (λ (k : ℕ). unsigned_abs (get_or new k (pos 0)) ≤ unsigned_abs t') d (length row_seeds) (omega (arith, i.some_buckets)) at k lt
+
+    past : (k : ℕ) → length row_seeds * d ≤ k → unsigned_abs (get_or new k (pos 0)) ≤ unsigned_abs t'
+    past k le = rw (rest k le) (omega (arith, i.bounded k, total))
+
 -- the parts of an empty sketch
 pub empty_is : (greatest : ℕ) (row_seeds : List ℕ) (d seed : ℕ) (z : ℤ) (cells : List ℤ) → 0 < length row_seeds → length row_seeds ≤ 255 → 3 ≤ d → length row_seeds * d < 2 ^ 30 → seed_hash seed ≢ 0
     → ((r : ℕ) → r < length row_seeds → slice_index row_seeds r ≡ row_seed r seed) → z ≡ pos 0 → cells ≡ replicate (length row_seeds * d) (pos 0) → IsTable greatest row_seeds d seed z cells

@@ -1,15 +1,14 @@
 -- What one update leaves.
-use Rattle.std.proofs.Common.{◌≡◌, ℕ, ◌+◌, ◌*◌, ◌<◌, ◌≤◌, Bool, true, false, eqb, cond, List, length, get_or, map, ℤ, pos, ◌+ℤ◌, unsigned_abs, refl, sym, ap, ◌∙◌, subst, arith, ⊎_elim}
+use Rattle.std.proofs.Common.{◌≡◌, ℕ, ◌+◌, ◌≤◌, Bool, true, false, eqb, cond, List, length, get_or, map, ℤ, pos, ◌+ℤ◌, unsigned_abs, refl, sym, ap, ◌∙◌, subst, arith}
 use Rattle.std.specs.Prelude.{slice_index, ◌==◌, if◌then◌else◌}
 use Rattle.std.proofs.lemmas.Int.{ints}
-use Rattle.std.proofs.lemmas.Bool.{cases_lt}
 use Rattle.std.proofs.lemmas.List.{length-map}
 use Rattle.sketch_countmin.specs.Cells.{flat_at, RowsAdded}
 use Rattle.sketch_countmin.specs.Rows.{cell_at, rows_of}
 use Rattle.sketch_countmin.specs.Buckets.{row_seed, bucket_by, bucket_of}
 use Rattle.sketch_countmin.specs.State.{Counts}
 use Rattle.sketch_countmin.specs.Table.{IsTable, state_of}
-use Rattle.sketch_countmin.proofs.Tables.{by_place, read_rows, remade}
+use Rattle.sketch_countmin.proofs.Tables.{read_rows, remade_rows}
 
 -- a sum is no further from zero than both together
 pub abs_sum : (x y : ℤ) → unsigned_abs (x +ℤ y) ≤ unsigned_abs x + unsigned_abs y
@@ -45,20 +44,7 @@ pub updated : (greatest : ℕ) (row_seeds : List ℕ) (d seed : ℕ) (t t' : ℤ
     → IsTable greatest row_seeds d seed t old → RowsAdded d w bucket (length row_seeds) old new → length new ≡ length old
     → t' ≡ pos (unsigned_abs t + unsigned_abs w) → unsigned_abs t' ≤ greatest → IsTable greatest row_seeds d seed t' new
 updated greatest row_seeds d seed t t' old new bucket w i h long sum fits =
-    remade greatest row_seeds d seed t t' old new i long (sum ∙ ap pos (sym total)) fits
-    (λ k. ⊎_elim (λ (lt : k < length row_seeds * d). within k lt) (λ (le : length row_seeds * d ≤ k). past k le) (cases_lt k (length row_seeds * d)))
-  where
-    total : unsigned_abs t' ≡ unsigned_abs t + unsigned_abs w
-    total = ap unsigned_abs sum
-
-    at : (r : ℕ) → r < length row_seeds → (b : ℕ) → b < d → unsigned_abs (get_or new (r * d + b) (pos 0)) ≤ unsigned_abs t'
-    at r lr b lb = rw (h.done r lr b lb) (omega (arith, abs_added (flat_at d old r b) w (eqb (bucket r) b), i.bounded (r * d + b), total))
-
-    within : (k : ℕ) → k < length row_seeds * d → unsigned_abs (get_or new k (pos 0)) ≤ unsigned_abs t'
-    within k lt = by_place (λ (k : ℕ). unsigned_abs (get_or new k (pos 0)) ≤ unsigned_abs t') d (length row_seeds) (omega (arith, i.some_buckets)) at k lt
-
-    past : (k : ℕ) → length row_seeds * d ≤ k → unsigned_abs (get_or new k (pos 0)) ≤ unsigned_abs t'
-    past k le = rw (h.rest k le) (omega (arith, i.bounded k, total))
+    remade_rows greatest row_seeds d seed t t' old new (unsigned_abs w) i long sum fits (λ r lr b lb. rw (h.done r lr b lb) (abs_added (flat_at d old r b) w (eqb (bucket r) b))) h.rest
 
 -- the bucket by the seed of a row is the row's bucket
 pub row_bucket : (row_seeds : List ℕ) (d seed r : ℕ) (bytes : List ℕ) → slice_index row_seeds r ≡ row_seed r seed → bucket_by d (slice_index row_seeds r) bytes ≡ bucket_of d seed r bytes

@@ -1,12 +1,12 @@
-use Rattle.std.proofs.Common.{ap, ◌+◌, sym, ◌∙◌, subst, is_some, length, ℕ}
+use Rattle.std.proofs.Common.{ap, sym, ◌∙◌, subst, is_some, length, ℕ}
 use Rattle.std.proofs.lemmas.Bool.{false≢true}
 use Rattle.counter_table.specs.Probes.{IsGap}
 use Rattle.counter_table.specs.Fingerprints.{fingerprint_of}
 use Rattle.counter_table.specs.declared.slot.Slot.TheVariants.{Taken}
-use Rattle.counter_table.proofs.LookupFingerprints.{fingerprints_set, fingerprints_counted, hash_alike}
+use Rattle.counter_table.proofs.LookupFingerprints.{fingerprints_set, fingerprints_found, hash_alike}
 use Rattle.counter_table.proofs.LookupHomes.{some_size, home_of-below}
 use Rattle.counter_table.proofs.LookupProbes.{answers, fits_from_probe, gap_from_probe, probe_below}
-use Rattle.counter_table.proofs.InsertionWrites.{Wrote, wrote_hit, wrote_gap, tracked_alike, home_alike}
+use Rattle.counter_table.proofs.InsertionWrites.{Wrote, wrote_found, wrote_gap, tracked_alike, home_alike}
 use Rattle.counter_table.proofs.slots.put_clone_in.Given as given
 use Rattle.counter_table.proofs.slots.put_clone_in.Goals as goal
 
@@ -28,17 +28,11 @@ returns-in-Some-clause-tracked g c =
     let a = answers g.met.T.Eq.laws g.met.T.Hash.respects_eq c.args.slots.now c.requires.slots c.args.item.now _ _ _ c.find_from-probe.ensures in
     ap is_some (a.looked_up ∙ c.in-Some.is)
 
--- the count was written to the item's own slot
-wrote_there : (g : given.Over) (c : goal.After-slots-1 g) → Wrote g.T.PartialEq.eq g.T.Hash.hash_input c.args.slots.now c.args.item.now c.args.amount c.add_at.new.slots
-wrote_there g c =
-    let here = c.find_from-probe.ensures.here c.in-Some.field-0 c.in-Some.is in
-    wrote_hit g.met.T.Eq.laws g.T.Hash.hash_input c.args.slots.now c.requires.slots c.args.item.now c.args.amount c.find_from-probe.result.place here.0 here.1 here.3 c.add_at.new.slots (c.add_at.ensures here.0 here.1)
-
 pub returns-in-Some-clause-slots : goal.returns-in-Some-clause-slots
-returns-in-Some-clause-slots g c = (wrote_there g c).slots_ok
+returns-in-Some-clause-slots g c = (wrote_found g.met.T.Eq.laws c.requires.slots c.find_from-probe.ensures c.in-Some.is c.args.amount c.add_at.ensures).slots_ok
 
 pub returns-in-Some-clause-entries : goal.returns-in-Some-clause-entries
-returns-in-Some-clause-entries g c = record { item = c.args.item.now; equal = g.met.T.Eq.laws.refl c.args.item.now; entries = (wrote_there g c).entries }
+returns-in-Some-clause-entries g c = record { item = c.args.item.now; equal = g.met.T.Eq.laws.refl c.args.item.now; entries = (wrote_found g.met.T.Eq.laws c.requires.slots c.find_from-probe.ensures c.in-Some.is c.args.amount c.add_at.ensures).entries }
 
 pub returns-in_ok-clone-in-None-clause-tracked : goal.returns-in_ok-clone-in-None-clause-tracked
 returns-in_ok-clone-in-None-clause-tracked g c =
@@ -68,9 +62,7 @@ returns-in_ok-clone-in-None-clause-entries g c = record {
 }
 
 pub returns-in-Some-clause-fingerprints : goal.returns-in-Some-clause-fingerprints
-returns-in-Some-clause-fingerprints g c =
-    let here = c.find_from-probe.ensures.here c.in-Some.field-0 c.in-Some.is in
-    fingerprints_counted c.requires.fingerprints c.find_from-probe.result.place (here.0.count + c.args.amount) here.0 c.add_at.new.slots here.1 (c.add_at.ensures here.0 here.1)
+returns-in-Some-clause-fingerprints g c = fingerprints_found c.requires.fingerprints c.find_from-probe.ensures c.in-Some.is c.args.amount c.add_at.ensures
 
 pub returns-in_ok-clone-in-None-clause-fingerprints : goal.returns-in_ok-clone-in-None-clause-fingerprints
 returns-in_ok-clone-in-None-clause-fingerprints g c =

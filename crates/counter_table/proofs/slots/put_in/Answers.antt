@@ -1,11 +1,10 @@
-use Rattle.std.proofs.Common.{ap, ◌+◌, ◌∙◌, is_some, length}
+use Rattle.std.proofs.Common.{ap, ◌∙◌, is_some, length}
 use Rattle.counter_table.specs.Fingerprints.{fingerprint_of}
 use Rattle.counter_table.specs.declared.slot.Slot.TheVariants.{Taken}
-use Rattle.counter_table.proofs.LookupFingerprints.{fingerprints_set, fingerprints_counted}
+use Rattle.counter_table.proofs.LookupFingerprints.{fingerprints_set, fingerprints_found}
 use Rattle.counter_table.proofs.LookupHomes.{some_size, home_of-below}
 use Rattle.counter_table.proofs.LookupProbes.{answers, fits_from_probe, gap_from_probe, probe_below}
-use Rattle.counter_table.proofs.InsertionWrites.{Wrote, wrote_hit, wrote_gap}
-use Rattle.counter_table.proofs.slots.put_in.Given as given
+use Rattle.counter_table.proofs.InsertionWrites.{wrote_found, wrote_gap}
 use Rattle.counter_table.proofs.slots.put_in.Goals as goal
 
 pub add_at-requires-clause-fits : goal.add_at-requires-clause-fits
@@ -21,17 +20,11 @@ returns-in-Some-clause-tracked g c =
     let a = answers g.met.T.Eq.laws g.met.T.Hash.respects_eq c.args.slots.now c.requires.slots c.args.item _ _ _ c.find_from-probe.ensures in
     ap is_some (a.looked_up ∙ c.in-Some.is)
 
--- the count was written to the item's own slot
-wrote_there : (g : given.Over) (c : goal.After-drop-item g) → Wrote g.T.PartialEq.eq g.T.Hash.hash_input c.args.slots.now c.args.item c.args.amount c.add_at.new.slots
-wrote_there g c =
-    let here = c.find_from-probe.ensures.here c.in-Some.field-0 c.in-Some.is in
-    wrote_hit g.met.T.Eq.laws g.T.Hash.hash_input c.args.slots.now c.requires.slots c.args.item c.args.amount c.find_from-probe.result.place here.0 here.1 here.3 c.add_at.new.slots (c.add_at.ensures here.0 here.1)
-
 pub returns-in-Some-clause-slots : goal.returns-in-Some-clause-slots
-returns-in-Some-clause-slots g c = (wrote_there g c).slots_ok
+returns-in-Some-clause-slots g c = (wrote_found g.met.T.Eq.laws c.requires.slots c.find_from-probe.ensures c.in-Some.is c.args.amount c.add_at.ensures).slots_ok
 
 pub returns-in-Some-clause-entries : goal.returns-in-Some-clause-entries
-returns-in-Some-clause-entries g c = (wrote_there g c).entries
+returns-in-Some-clause-entries g c = (wrote_found g.met.T.Eq.laws c.requires.slots c.find_from-probe.ensures c.in-Some.is c.args.amount c.add_at.ensures).entries
 
 pub returns-in-None-clause-tracked : goal.returns-in-None-clause-tracked
 returns-in-None-clause-tracked g c =
@@ -51,9 +44,7 @@ returns-in-None-clause-entries g c =
     (wrote_gap g.met.T.Eq.laws g.T.Hash.hash_input c.args.slots.now c.requires.slots c.args.item c.args.amount c.find_from-probe.result.place c.find_from-probe.result.looked absent (c.requires.room absent) (gap_from_probe c.in-None.is c.find_from-probe.ensures) c.fill.new.slots c.fill.ensures.slots).entries
 
 pub returns-in-Some-clause-fingerprints : goal.returns-in-Some-clause-fingerprints
-returns-in-Some-clause-fingerprints g c =
-    let here = c.find_from-probe.ensures.here c.in-Some.field-0 c.in-Some.is in
-    fingerprints_counted c.requires.fingerprints c.find_from-probe.result.place (here.0.count + c.args.amount) here.0 c.add_at.new.slots here.1 (c.add_at.ensures here.0 here.1)
+returns-in-Some-clause-fingerprints g c = fingerprints_found c.requires.fingerprints c.find_from-probe.ensures c.in-Some.is c.args.amount c.add_at.ensures
 
 pub returns-in-None-clause-fingerprints : goal.returns-in-None-clause-fingerprints
 returns-in-None-clause-fingerprints g c =

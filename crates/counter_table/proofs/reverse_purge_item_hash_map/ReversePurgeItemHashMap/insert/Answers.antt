@@ -1,14 +1,12 @@
-use Rattle.std.proofs.Common.{arith, ap, ◌∙◌}
+use Rattle.std.proofs.Common.{ap, ◌∙◌}
 use Rattle.counter_table.specs.Slots.{entries_of}
 use Rattle.counter_table.specs.Tables.{is_tracked}
-use Rattle.counter_table.proofs.InsertionCounts.{counted_more, written_whole}
+use Rattle.counter_table.proofs.InsertionCounts.{counted_more, written_counted}
 use Rattle.counter_table.proofs.reverse_purge_item_hash_map.ReversePurgeItemHashMap.insert.Goals as goal
 
 pub invariant_of-self : goal.invariant_of-self
 invariant_of-self g c =
     let eq = g.T.PartialEq.eq in
-    let old = c.self.inside.slots in
-    let marks = c.self.inside.fingerprints in
     let absent = ap (λ l. is_tracked eq (entries_of l) c.args.item) c.deref_mut.ensures.value ∙ ap (λ t. is_tracked eq t.entries c.args.item) c.self.view_is ∙ c.requires.absent in
-    rw (written_whole old.len c.insert_in.new.slots old.items (omega (arith, c.insert_in.auto.slots, c.deref_mut.ensures.len)), written_whole marks.len c.insert_in.new.fingerprints marks.items (omega (arith, c.insert_in.auto.fingerprints, c.deref_mut-2.ensures.len)))
-    (counted_more eq g.T.Hash.hash_input old.items c.deref_mut.result.now c.insert_in.new.slots marks.items c.insert_in.new.fingerprints c.self.inside.active c.args.item c.args.amount c.self.invariant c.deref_mut.ensures.value c.insert_in.ensures.slots c.insert_in.ensures.fingerprints absent c.insert_in.ensures.entries)
+    written_counted _ _ _ _ _ _ (c.insert_in.auto.slots ∙ c.deref_mut.ensures.len) (c.insert_in.auto.fingerprints ∙ c.deref_mut-2.ensures.len)
+    (counted_more eq g.T.Hash.hash_input c.self.inside.slots.items c.deref_mut.result.now c.insert_in.new.slots c.self.inside.fingerprints.items c.insert_in.new.fingerprints c.self.inside.active c.args.item c.args.amount c.self.invariant c.deref_mut.ensures.value c.insert_in.ensures.slots c.insert_in.ensures.fingerprints absent c.insert_in.ensures.entries)

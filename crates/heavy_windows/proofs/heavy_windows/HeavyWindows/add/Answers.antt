@@ -1,8 +1,6 @@
-use Rattle.std.proofs.Common.{rules, ◌≡◌, ◌<◌, arith, [], ◌∷◌, Some, unwrap_or, refl, ap, sym, subst}
+use Rattle.std.proofs.Common.{rules, ◌≡◌, ◌<◌, arith, [], ◌∷◌, unwrap_or, refl, ap, sym, subst}
 use Rattle.std.proofs.lemmas.Grind.{common_steps}
-use Rattle.std.proofs.Math.Dec.{eqb}
 use Rattle.std.proofs.lemmas.Result.{on_err_weaker}
-use Rattle.std.specs.Map.{lookup}
 use Rattle.sketch_frequencies.specs.Steps.{Steps}
 use Rattle.heavy_windows.specs.Fresh.{fresh_state}
 use Rattle.heavy_windows.specs.Histories.{added_history}
@@ -12,23 +10,18 @@ use Rattle.heavy_windows.specs.Steps.{AddsToNewest}
 use Rattle.heavy_windows.proofs.Kept.{kept_added_either, kept_first}
 use Rattle.heavy_windows.proofs.Standing.{fresh_window, first_at}
 use Rattle.heavy_windows.proofs.Steps.{adds_first}
-use Rattle.heavy_windows.proofs.Tenants.{PutsWindows, kept_of, put_in, put_at, put_kept, put_others_of, put_back, put_none, same_changes}
+use Rattle.heavy_windows.proofs.Tenants.{PutsWindows, state_of, kept_of, put_in, put_at, put_kept, put_others_of, put_back, put_none, same_changes}
 use Rattle.heavy_windows.proofs.heavy_windows.HeavyWindows.add.Given as given
 use Rattle.heavy_windows.proofs.heavy_windows.HeavyWindows.add.Goals as goal
 
 -- the newest window was updated, or left as it was
 put : (g : given.Over) (c : goal.After-self-in-Some-1 g)
-    → PutsWindows c.args.tenant c.add.new.self
-    (record { limit = c.self.inside.limit; max_map_size = c.self.inside.max_map_size; tenants = c.self.inside.tenants.entries })
-    (record { limit = c.self.inside.limit; max_map_size = c.self.inside.max_map_size; tenants = (c.get_mut.follows.lender c.add.new.self).entries })
-put g c =
-    let found : lookup (eqb c.args.tenant) c.self.inside.tenants.entries ≡ Some c.in-Some.windows.now = sym c.in-Some.ensures.value in
-    put_in c.args.tenant c.self.inside.limit c.self.inside.max_map_size c.self.inside.tenants.entries (c.get_mut.follows.lender c.add.new.self).entries c.add.new.self
-    ((c.get_mut.follows.holds c.add.new.self).3 (rw found refl)).0
+    → PutsWindows c.args.tenant c.add.new.self (state_of c.self.inside.limit c.self.inside.max_map_size c.self.inside.tenants.entries) (state_of c.self.inside.limit c.self.inside.max_map_size (c.get_mut.follows.lender c.add.new.self).entries)
+put g c = put_in c.args.tenant _ _ _ _ c.add.new.self ((c.get_mut.follows.holds c.add.new.self).3 (rw (sym c.in-Some.ensures.value) refl)).0
 
 pub invariant_of-self : goal.invariant_of-self
 invariant_of-self g c =
-    let old : WindowsState g.row.T.Denot = record { limit = c.self.inside.limit; max_map_size = c.self.inside.max_map_size; tenants = c.self.inside.tenants.entries } in
+    let old = state_of c.self.inside.limit c.self.inside.max_map_size c.self.inside.tenants.entries in
     put_kept c.args.tenant c.add.new.self old _ (put g c)
     (kept_added_either g.T.PartialEq.eq c.self.inside.limit c.self.inside.max_map_size (fresh_state c.self.inside.max_map_size) c.in-Some.windows.now c.add.new.self c.args.item c.args.weight c.add.result
     (kept_of c.args.tenant old c.in-Some.windows.now c.self.invariant (sym c.in-Some.ensures.value))
@@ -56,20 +49,20 @@ returns-in-Some-clause-call g c = let is_put = put g c in record {
 
 pub returns-in_err-window-clause-call : goal.returns-in_err-window-clause-call
 returns-in_err-window-clause-call g c =
-    let unknown : at_tenant c.args.tenant (record { limit = c.self.inside.limit; max_map_size = c.self.inside.max_map_size; tenants = c.self.inside.tenants.entries }) ≡ [] = ap (λ o. unwrap_or o []) (sym c.in_default.ensures.value) in
+    let unknown : at_tenant c.args.tenant (state_of c.self.inside.limit c.self.inside.max_map_size c.self.inside.tenants.entries) ≡ [] = ap (λ o. unwrap_or o []) (sym c.in_default.ensures.value) in
     grind (arith, common_steps)
 
 pub returns-in_err-update_with_count-clause-call : goal.returns-in_err-update_with_count-clause-call
 returns-in_err-update_with_count-clause-call g c =
-    let unknown : at_tenant c.args.tenant (record { limit = c.self.inside.limit; max_map_size = c.self.inside.max_map_size; tenants = c.self.inside.tenants.entries }) ≡ [] = ap (λ o. unwrap_or o []) (sym c.in_default.ensures.value) in
+    let unknown : at_tenant c.args.tenant (state_of c.self.inside.limit c.self.inside.max_map_size c.self.inside.tenants.entries) ≡ [] = ap (λ o. unwrap_or o []) (sym c.in_default.ensures.value) in
     grind (arith, common_steps)
 
 pub returns-in_err-insert-clause-call : goal.returns-in_err-insert-clause-call
 returns-in_err-insert-clause-call g c =
-    let unknown : at_tenant c.args.tenant (record { limit = c.self.inside.limit; max_map_size = c.self.inside.max_map_size; tenants = c.self.inside.tenants.entries }) ≡ [] = ap (λ o. unwrap_or o []) (sym c.in_default.ensures.value) in
+    let unknown : at_tenant c.args.tenant (state_of c.self.inside.limit c.self.inside.max_map_size c.self.inside.tenants.entries) ≡ [] = ap (λ o. unwrap_or o []) (sym c.in_default.ensures.value) in
     let old = c.self.inside.tenants.entries in
     let same : c.insert.new.self.entries ≡ old = rw c.get_mut.follows.holds-at-none at c.in_err-insert.ensures.err in
-    let new : WindowsState g.row.T.Denot = record { limit = c.self.inside.limit; max_map_size = c.self.inside.max_map_size; tenants = c.insert.new.self.entries } in
+    let new = state_of c.self.inside.limit c.self.inside.max_map_size c.insert.new.self.entries in
     record {
       zero = search rules;
       adds = grind (arith, common_steps);
@@ -83,16 +76,13 @@ returns-in_err-insert-clause-call g c =
 
 -- an unknown tenant got a first window
 put_first : (g : given.Over) (c : goal.Joined-branch-4 g)
-    → PutsWindows c.args.tenant (c.update_with_count.new.self ∷ [])
-    (record { limit = c.self.inside.limit; max_map_size = c.self.inside.max_map_size; tenants = c.self.inside.tenants.entries })
-    (record { limit = c.self.inside.limit; max_map_size = c.self.inside.max_map_size; tenants = c.insert.new.self.entries })
+    → PutsWindows c.args.tenant (c.update_with_count.new.self ∷ []) (state_of c.self.inside.limit c.self.inside.max_map_size c.self.inside.tenants.entries) (state_of c.self.inside.limit c.self.inside.max_map_size c.insert.new.self.entries)
 put_first g c =
-    put_in c.args.tenant c.self.inside.limit c.self.inside.max_map_size c.self.inside.tenants.entries c.insert.new.self.entries (c.update_with_count.new.self ∷ [])
-    (rw (c.new-windows.ensures, c.get_mut.follows.holds-at-none) at c.in_ok-insert.ensures.updates.0)
+    put_in c.args.tenant _ _ _ _ (c.update_with_count.new.self ∷ []) (rw (c.new-windows.ensures, c.get_mut.follows.holds-at-none) at c.in_ok-insert.ensures.updates.0)
 
 pub invariant_of-self-2 : goal.invariant_of-self-2
 invariant_of-self-2 g c =
-    let old : WindowsState g.row.T.Denot = record { limit = c.self.inside.limit; max_map_size = c.self.inside.max_map_size; tenants = c.self.inside.tenants.entries } in
+    let old = state_of c.self.inside.limit c.self.inside.max_map_size c.self.inside.tenants.entries in
     let some : 0 < c.args.weight = omega arith in
     put_kept c.args.tenant (c.update_with_count.new.self ∷ []) old _ (put_first g c)
     (kept_first g.T.PartialEq.eq c.self.inside.limit c.self.inside.max_map_size c.in_ok-window.window c.update_with_count.new.self c.args.item c.args.weight c.self.invariant.limits c.in_ok-window.ensures.ok (c.in_ok-update_with_count.ensures.step some))
@@ -104,10 +94,10 @@ returns-clause-state g c = invariant_of-self-2 g c
 pub returns-clause-call : goal.returns-clause-call
 returns-clause-call g c =
     let eq = g.T.PartialEq.eq in
-    let tenant = c.args.tenant in
     let max_map_size = c.self.inside.max_map_size in
-    let old : WindowsState g.row.T.Denot = record { limit = c.self.inside.limit; max_map_size = max_map_size; tenants = c.self.inside.tenants.entries } in
-    let new : WindowsState g.row.T.Denot = record { limit = c.self.inside.limit; max_map_size = max_map_size; tenants = c.insert.new.self.entries } in
+    let tenant = c.args.tenant in
+    let old = state_of c.self.inside.limit c.self.inside.max_map_size c.self.inside.tenants.entries in
+    let new = state_of c.self.inside.limit c.self.inside.max_map_size c.insert.new.self.entries in
     let before : at_tenant tenant old ≡ [] = ap (λ o. unwrap_or o []) (sym c.in_default.ensures.value) in
     let after = put_at tenant (c.update_with_count.new.self ∷ []) old new (put_first g c) in
     record {

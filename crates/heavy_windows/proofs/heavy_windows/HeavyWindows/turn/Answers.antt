@@ -1,21 +1,19 @@
-use Rattle.std.proofs.Common.{rules, arith, ◌≡◌, [], Some, unwrap_or, refl, ap, sym, ◌∙◌, subst}
+use Rattle.std.proofs.Common.{rules, arith, ◌≡◌, [], unwrap_or, refl, ap, sym, ◌∙◌, subst}
 use Rattle.std.proofs.lemmas.Grind.{common_steps}
-use Rattle.std.proofs.Math.Dec.{eqb}
 use Rattle.std.proofs.lemmas.Result.{err_from_is_err_and, on_ok_weaker, on_err_weaker}
-use Rattle.std.specs.Map.{lookup}
 use Rattle.std.specs.Result.{OnOk}
 use Rattle.heavy_windows.specs.Histories.{turned_history}
 use Rattle.heavy_windows.specs.Stands.{ExtendsEach}
 use Rattle.heavy_windows.specs.State.{WindowsState, IsWindows, at_tenant}
 use Rattle.heavy_windows.proofs.Kept.{kept_either}
 use Rattle.heavy_windows.proofs.Standing.{fresh_window, opened_at}
-use Rattle.heavy_windows.proofs.Tenants.{PutsWindows, kept_of, put_in, put_at, put_kept, put_others_of, put_back, same_changes}
+use Rattle.heavy_windows.proofs.Tenants.{PutsWindows, state_of, kept_of, put_in, put_at, put_kept, put_others_of, put_back, same_changes}
 use Rattle.heavy_windows.proofs.heavy_windows.HeavyWindows.turn.Given as given
 use Rattle.heavy_windows.proofs.heavy_windows.HeavyWindows.turn.Goals as goal
 
 -- a window was refused: the windows were written back as they were
 same : (g : given.Over) (c : goal.After-from_residual g)
-    → record { limit = c.self.inside.limit; max_map_size = c.self.inside.max_map_size; tenants = (c.get_mut.follows.lender c.in-Some.windows.now).entries } ≡ c.args.self.now
+    → state_of c.self.inside.limit c.self.inside.max_map_size (c.get_mut.follows.lender c.in-Some.windows.now).entries ≡ c.args.self.now
 same g c =
     put_back c.args.tenant c.self.inside.limit c.self.inside.max_map_size c.self.inside.tenants.entries (c.get_mut.follows.lender c.in-Some.windows.now).entries c.in-Some.windows.now c.args.self.now c.self.view_is (sym c.in-Some.ensures.value) (c.get_mut.follows.holds c.in-Some.windows.now).0
 
@@ -40,17 +38,12 @@ returns-in_err-window-clause-call g c = record {
 
 -- the windows were turned, or left as they were
 put : (g : given.Over) (c : goal.After-self-2-1 g)
-    → PutsWindows c.args.tenant c.turn.new.self
-    (record { limit = c.self.inside.limit; max_map_size = c.self.inside.max_map_size; tenants = c.self.inside.tenants.entries })
-    (record { limit = c.self.inside.limit; max_map_size = c.self.inside.max_map_size; tenants = (c.get_mut.follows.lender c.turn.new.self).entries })
-put g c =
-    let found : lookup (eqb c.args.tenant) c.self.inside.tenants.entries ≡ Some c.in-Some.windows.now = sym c.in-Some.ensures.value in
-    put_in c.args.tenant c.self.inside.limit c.self.inside.max_map_size c.self.inside.tenants.entries (c.get_mut.follows.lender c.turn.new.self).entries c.turn.new.self
-    ((c.get_mut.follows.holds c.turn.new.self).3 (rw found refl)).0
+    → PutsWindows c.args.tenant c.turn.new.self (state_of c.self.inside.limit c.self.inside.max_map_size c.self.inside.tenants.entries) (state_of c.self.inside.limit c.self.inside.max_map_size (c.get_mut.follows.lender c.turn.new.self).entries)
+put g c = put_in c.args.tenant _ _ _ _ c.turn.new.self ((c.get_mut.follows.holds c.turn.new.self).3 (rw (sym c.in-Some.ensures.value) refl)).0
 
 pub invariant_of-self-2 : goal.invariant_of-self-2
 invariant_of-self-2 g c =
-    let old : WindowsState g.row.T.Denot = record { limit = c.self.inside.limit; max_map_size = c.self.inside.max_map_size; tenants = c.self.inside.tenants.entries } in
+    let old = state_of c.self.inside.limit c.self.inside.max_map_size c.self.inside.tenants.entries in
     put_kept c.args.tenant c.turn.new.self old _ (put g c)
     (kept_either c.self.inside.limit c.self.inside.max_map_size c.in-Some.windows.now c.turn.new.self c.in_ok-window.window c.turn.result
     (kept_of c.args.tenant old c.in-Some.windows.now c.self.invariant (sym c.in-Some.ensures.value))
@@ -62,17 +55,16 @@ returns-clause-state g c = invariant_of-self-2 g c
 
 pub returns-clause-call : goal.returns-clause-call
 returns-clause-call g c =
-    let eq = g.T.PartialEq.eq in
     let tenant = c.args.tenant in
-    let new : WindowsState g.row.T.Denot = record { limit = c.self.inside.limit; max_map_size = c.self.inside.max_map_size; tenants = (c.get_mut.follows.lender c.turn.new.self).entries } in
+    let new = state_of c.self.inside.limit c.self.inside.max_map_size (c.get_mut.follows.lender c.turn.new.self).entries in
     let before = ap (λ o. unwrap_or o []) (sym c.in-Some.ensures.value) in
     let after = put_at tenant c.turn.new.self _ new (put g c) in
     record {
       turned = search rules;
-      stands = subst (λ (s : WindowsState g.row.T.Denot). OnOk c.turn.result (ExtendsEach eq s.max_map_size (at_tenant tenant s) (at_tenant tenant new) (turned_history s.limit s.max_map_size))) c.self.view_is
+      stands = subst (λ (s : WindowsState g.row.T.Denot). OnOk c.turn.result (ExtendsEach g.T.PartialEq.eq s.max_map_size (at_tenant tenant s) (at_tenant tenant new) (turned_history s.limit s.max_map_size))) c.self.view_is
           (on_ok_weaker c.turn.result
-          (λ done. opened_at eq c.self.inside.limit c.self.inside.max_map_size c.in_ok-window.window c.in-Some.windows.now _ (at_tenant tenant new) before (after ∙ done)
-          (fresh_window eq c.self.inside.max_map_size c.in_ok-window.window c.in_ok-window.ensures.stands c.in_ok-window.ensures.budget))
+          (λ done. opened_at g.T.PartialEq.eq c.self.inside.limit c.self.inside.max_map_size c.in_ok-window.window c.in-Some.windows.now _ (at_tenant tenant new) before (after ∙ done)
+          (fresh_window g.T.PartialEq.eq c.self.inside.max_map_size c.in_ok-window.window c.in_ok-window.ensures.stands c.in_ok-window.ensures.budget))
           c.turn.ensures.turned);
       others = put_others_of tenant c.turn.new.self _ c.args.self.now _ c.self.view_is (put g c);
       unknown = search rules;

@@ -1,20 +1,15 @@
-use Rattle.std.proofs.Common.{◌≡◌, ◌≤◌, ◌*◌, ◌==◌, length, List, ℕ, sym, ap, ◌∙◌, subst, arith}
-use Rattle.std.specs.FinSet as set
+use Rattle.std.proofs.Common.{◌==◌, sym, ap, ◌∙◌, subst, arith}
 use Rattle.sketch_base.specs.Hashes.{fed_bytes}
-use Rattle.sketch_bloom.specs.BitSet.{set_of}
 use Rattle.sketch_bloom.specs.History.BloomHistory.{Insert}
 use Rattle.sketch_bloom.specs.Stands.{StandsFor}
 use Rattle.sketch_bloom.specs.State.{FilterState, contains_item, inserted}
-use Rattle.sketch_bloom.proofs.Counting.{len-set_of-le}
+use Rattle.sketch_bloom.proofs.Counting.{count_fits}
 use Rattle.sketch_bloom.proofs.Inserting.{item_inserted_state, item_contained, inserted_stands}
 use Rattle.sketch_bloom.proofs.States.{written_state}
 use Rattle.sketch_bloom.proofs.bloom_filter.BloomFilter.contains_and_insert.Goals as goal
 
 pub overflow_add-self : goal.overflow_add-self
-overflow_add-self g c =
-    let most : set.len (set_of c.insert_positions-added.new.words) ≤ 64 * length c.insert_positions-added.new.words = len-set_of-le c.insert_positions-added.new.words in
-    let same : set.len (set_of c.deref_mut.result.now) ≡ set.len (set_of c.self.inside.words.items) = ap (λ (ws : List ℕ). set.len (set_of ws)) c.deref_mut.ensures.value in
-    record { fits = omega (arith, c.insert_positions-added.ensures.added, c.self.invariant.bits_used_is, c.self.invariant.few_words) }
+overflow_add-self g c = record { fits = count_fits _ _ c.self.invariant c.deref_mut.ensures.value c.insert_positions-added.auto.words c.insert_positions-added.ensures.added }
 
 pub returns-clause-answer : goal.returns-clause-answer
 returns-clause-answer g c =

@@ -1,22 +1,18 @@
-use Rattle.std.proofs.Common.{◌≡◌, ◌≤◌, ◌*◌, ℕ, List, map, length, sym, ap, ◌∙◌, subst, arith}
+use Rattle.std.proofs.Common.{ℕ, List, map, sym, ap, ◌∙◌, subst, arith}
 use Rattle.std.specs.List.{fold}
-use Rattle.std.specs.FinSet as set
 use Rattle.sketch_base.specs.Hashes.{fed_bytes}
 use Rattle.sketch_bloom.specs.BitSet.{set_of}
 use Rattle.sketch_bloom.specs.History.{all_inserted_after}
 use Rattle.sketch_bloom.specs.Pairs.{pair_of, with_pair}
 use Rattle.sketch_bloom.specs.Stands.{StandsFor}
 use Rattle.sketch_bloom.specs.State.{FilterState, all_inserted}
-use Rattle.sketch_bloom.proofs.Counting.{len-set_of-le}
+use Rattle.sketch_bloom.proofs.Counting.{count_fits}
 use Rattle.sketch_bloom.proofs.Inserting.{inserted_state, all_inserted_stands}
 use Rattle.sketch_bloom.proofs.States.{written_state}
 use Rattle.sketch_bloom.proofs.bloom_filter.BloomFilter.insert_all.Goals as goal
 
 pub overflow_add-self : goal.overflow_add-self
-overflow_add-self g c =
-    let most : set.len (set_of c.insert_items-added.new.words) ≤ 64 * length c.insert_items-added.new.words = len-set_of-le c.insert_items-added.new.words in
-    let same : set.len (set_of c.deref_mut.result.now) ≡ set.len (set_of c.self.inside.words.items) = ap (λ (ws : List ℕ). set.len (set_of ws)) c.deref_mut.ensures.value in
-    record { fits = omega (arith, c.insert_items-added.ensures.added, c.self.invariant.bits_used_is, c.self.invariant.few_words) }
+overflow_add-self g c = record { fits = count_fits _ _ c.self.invariant c.deref_mut.ensures.value c.insert_items-added.auto.words c.insert_items-added.ensures.added }
 
 pub returns-clause-insertions : goal.returns-clause-insertions
 returns-clause-insertions g c =
