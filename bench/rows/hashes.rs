@@ -8,24 +8,24 @@ use std::hash::{Hash, Hasher};
 use std::hint::black_box;
 
 fn murmur3_u64(seed: &u64, items: &[u64], _: &[u64], turns: u64) -> u64 {
-    let mut all = 0;
+    let mut all: u64 = 0;
     for turn in 0..turns {
         for n in items {
             let mut hasher = Murmur3::with_seed(seed.wrapping_add(turn));
             n.hash(&mut hasher);
-            all ^= hasher.finish();
+            all = all.rotate_left(1) ^ hasher.finish();
         }
     }
     all
 }
 
 fn xxh64_u64(seed: &u64, items: &[u64], _: &[u64], turns: u64) -> u64 {
-    let mut all = 0;
+    let mut all: u64 = 0;
     for turn in 0..turns {
         for n in items {
             let mut hasher = Xxh64::with_seed(seed.wrapping_add(turn));
             n.hash(&mut hasher);
-            all ^= hasher.finish();
+            all = all.rotate_left(1) ^ hasher.finish();
         }
     }
     all
