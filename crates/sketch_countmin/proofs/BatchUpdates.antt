@@ -62,14 +62,12 @@ stands_all old new items h step s = record {
 -- ---- what the cells say
 
 -- what a loop did over the lists that it was lent, it did to the sketch's own
-pub rows_counted_own : {T : Type 0} (number : T → ℤ) (d : ℕ) (items : List (List ℕ)) (row_seeds seeds : List ℕ) (cells before after whole : List T)
-    → seeds ≡ row_seeds → before ≡ cells → whole ≡ after
+pub rows_counted_own : {T : Type 0} (number : T → ℤ) (d : ℕ) (items : List (List ℕ)) (row_seeds seeds : List ℕ) (cells before after : List T) → seeds ≡ row_seeds → before ≡ cells
     → RowsCounted d (λ r. bucket_by d (slice_index seeds r)) items (length seeds) (map number before) (map number after)
-    → RowsCounted d (λ r. bucket_by d (slice_index row_seeds r)) items (length row_seeds) (map number cells) (map number whole)
-rows_counted_own number d items row_seeds seeds cells before after whole se be we h =
-    subst (λ (l : List ℕ). RowsCounted d (λ r. bucket_by d (slice_index l r)) items (length l) (map number cells) (map number whole)) se
-    (subst (λ (l : List _). RowsCounted d (λ r. bucket_by d (slice_index seeds r)) items (length seeds) (map number l) (map number whole)) be
-    (subst (λ (l : List _). RowsCounted d (λ r. bucket_by d (slice_index seeds r)) items (length seeds) (map number before) (map number l)) (sym we) h))
+    → RowsCounted d (λ r. bucket_by d (slice_index row_seeds r)) items (length row_seeds) (map number cells) (map number after)
+rows_counted_own number d items row_seeds seeds cells before after se be h =
+    subst (λ (l : List ℕ). RowsCounted d (λ r. bucket_by d (slice_index l r)) items (length l) (map number cells) (map number after)) se
+    (subst (λ (l : List _). RowsCounted d (λ r. bucket_by d (slice_index seeds r)) items (length seeds) (map number l) (map number after)) be h)
 
 -- the parts are those of a sketch again
 pub all_counted : (greatest : ℕ) (row_seeds : List ℕ) (d seed : ℕ) (t t' : ℤ) (old new : List ℤ) (bucket : ℕ → List ℕ → ℕ) (items : List (List ℕ))

@@ -11,13 +11,12 @@ pub record AllAdded (old other new : List ℤ) : Type 0 where
   pub cells : (k : ℕ) → get_or new k (pos 0) ≡ get_or old k (pos 0) +ℤ get_or other k (pos 0)
 
 -- what a loop did over the lists that it was lent, it did to the sketches' own
-pub all_added_own : {T : Type 0} (number : T → ℤ) (items before after whole others other : List T) → before ≡ items → whole ≡ after → other ≡ others
+pub all_added_own : {T : Type 0} (number : T → ℤ) (items before after others other : List T) → before ≡ items → other ≡ others
     → ((k : ℕ) → get_or (map number after) k (pos 0) ≡ get_or (map number before) k (pos 0) +ℤ get_or (map number other) k (pos 0))
-    → AllAdded (map number items) (map number others) (map number whole)
-all_added_own number items before after whole others other be we oe h =
-    subst (λ (l : List _). AllAdded (map number l) (map number others) (map number whole)) be
-    (subst (λ (l : List _). AllAdded (map number before) (map number l) (map number whole)) oe
-    (subst (λ (l : List _). AllAdded (map number before) (map number other) (map number l)) (sym we) (record { cells = h })))
+    → AllAdded (map number items) (map number others) (map number after)
+all_added_own number items before after others other be oe h =
+    subst (λ (l : List _). AllAdded (map number l) (map number others) (map number after)) be
+    (subst (λ (l : List _). AllAdded (map number before) (map number l) (map number after)) oe (record { cells = h }))
 
 -- the parts are those of a sketch again
 pub merged : (greatest : ℕ) (row_seeds : List ℕ) (d seed : ℕ) (t t' u : ℤ) (old other new : List ℤ)

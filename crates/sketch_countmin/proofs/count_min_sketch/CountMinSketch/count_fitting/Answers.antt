@@ -1,6 +1,6 @@
-use Rattle.std.proofs.Common.{arith, ap, subst, ◌∙◌, ◌≡◌, ℕ, ◌+◌, ◌≤◌, ◌++◌, map, length, take, drop, ℤ, pos, unsigned_abs, List, slice_index}
+use Rattle.std.proofs.Common.{arith, ap, subst, ◌∙◌, ◌≡◌, ℕ, ◌+◌, ◌≤◌, map, length, ℤ, pos, unsigned_abs, List, slice_index}
 use Rattle.std.proofs.lemmas.Int.{ints}
-use Rattle.std.proofs.lemmas.List.{take_at, length-map}
+use Rattle.std.proofs.lemmas.List.{length-map}
 use Rattle.sketch_base.specs.Hashes.{fed_bytes}
 use Rattle.sketch_countmin.specs.Buckets.{bucket_by}
 use Rattle.sketch_countmin.specs.Cells.{RowsCounted}
@@ -8,7 +8,7 @@ use Rattle.sketch_countmin.specs.State.{CountState, CountsAll}
 use Rattle.sketch_countmin.specs.Table.{state_of}
 use Rattle.sketch_countmin.proofs.Places.{lent_shape, room_for_items}
 use Rattle.sketch_countmin.proofs.Tables.{is_state}
-use Rattle.sketch_countmin.proofs.Updates.{length_own}
+use Rattle.sketch_countmin.proofs.Updates.{written_back, length_own}
 use Rattle.sketch_countmin.proofs.BatchUpdates.{rows_counted_own, all_counted, counts_all_here}
 use Rattle.sketch_countmin.proofs.count_min_sketch.CountMinSketch.count_fitting.Given as given
 use Rattle.sketch_countmin.proofs.count_min_sketch.CountMinSketch.count_fitting.Goals as goal
@@ -18,20 +18,12 @@ use Rattle.sketch_countmin.proofs.count_min_sketch.CountMinSketch.count_fitting.
 abbrev fed : (g : given.Over) → After-count_in_rows g → List (List ℕ)
 fed g c = map (fed_bytes g.I.Hash.hash_input) c.args.items.now
 
--- the cells that the loop leaves
-abbrev new_counts : (g : given.Over) → After-count_in_rows g → List g.row.T.Denot
-new_counts g c = take c.self.inside.counts.len (c.count_in_rows.new.counts ++ drop (length c.count_in_rows.new.counts) c.self.inside.counts.items)
-
-same_counts : (g : given.Over) (c : After-count_in_rows g) → new_counts g c ≡ c.count_in_rows.new.counts
-same_counts g c = take_at c.count_in_rows.new.counts (drop (length c.count_in_rows.new.counts) c.self.inside.counts.items) c.self.inside.counts.len (c.count_in_rows.auto.counts ∙ c.deref_mut.ensures.len)
-
 -- have the items counted in each row
 counted : (g : given.Over) (c : After-count_in_rows g) → let i = c.self.inside in let number = g.T.CountMinValue.number in
-    RowsCounted i.buckets (λ r. bucket_by i.buckets (slice_index i.row_seeds.items r)) (fed g c) (length i.row_seeds.items) (map number i.counts.items) (map number (new_counts g c))
+    RowsCounted i.buckets (λ r. bucket_by i.buckets (slice_index i.row_seeds.items r)) (fed g c) (length i.row_seeds.items) (map number i.counts.items) (map number c.count_in_rows.new.counts)
 counted g c =
     let i = c.self.inside in
-    rows_counted_own g.T.CountMinValue.number i.buckets (fed g c) i.row_seeds.items c.deref.result.now i.counts.items c.deref_mut.result.now c.count_in_rows.new.counts (new_counts g c)
-    c.deref.ensures.value c.deref_mut.ensures.value (same_counts g c) c.count_in_rows.ensures
+    rows_counted_own g.T.CountMinValue.number i.buckets (fed g c) i.row_seeds.items c.deref.result.now i.counts.items c.deref_mut.result.now c.count_in_rows.new.counts c.deref.ensures.value c.deref_mut.ensures.value c.count_in_rows.ensures
 
 -- the new total, which has room for them
 total : (g : given.Over) (c : After-count_in_rows g) (t : ℤ) → let number = g.T.CountMinValue.number in
@@ -46,8 +38,9 @@ invariant_of-self g c =
     let i = c.self.inside in
     let now = (goal.at.invariant_of-self g c).After-count_in_rows in
     let sum = total g now (number c.from_number_in_range-self-inside.result) (omega (arith, ints, c.from_number_in_range-self-inside.ensures, c.to_number.ensures.value, c.to_number.ensures.narrow, c.self.invariant.total_is)) in
-    all_counted _ _ _ _ (number i.total) (number c.from_number_in_range-self-inside.result) (map number i.counts.items) _ _ (fed g now) c.self.invariant (counted g now)
-    (length_own number i.counts.items c.deref_mut.result.now c.count_in_rows.new.counts _ c.deref_mut.ensures.value (same_counts g now) c.count_in_rows.auto.counts) sum.0 sum.1
+    rw (written_back i.counts.len c.count_in_rows.new.counts i.counts.items (c.count_in_rows.auto.counts ∙ c.deref_mut.ensures.len))
+    (all_counted _ _ _ _ (number i.total) (number c.from_number_in_range-self-inside.result) (map number i.counts.items) _ _ (fed g now) c.self.invariant (counted g now)
+    (length_own number i.counts.items c.deref_mut.result.now _ c.deref_mut.ensures.value c.count_in_rows.auto.counts) sum.0 sum.1)
 
 pub returns-clause-counted : goal.returns-clause-counted
 returns-clause-counted g c =
@@ -55,8 +48,9 @@ returns-clause-counted g c =
     let i = c.self.inside in
     let now = (goal.at.returns-clause-counted g c).After-count_in_rows in
     let sum = total g now (number c.from_number_in_range-self-inside.result) (omega (arith, ints, c.from_number_in_range-self-inside.ensures, c.to_number.ensures.value, c.to_number.ensures.narrow, c.self.invariant.total_is)) in
-    subst (λ (s : CountState). CountsAll s (fed g now) (state_of i.row_seeds.items i.buckets i.seed (number c.from_number_in_range-self-inside.result) (map number (new_counts g now)))) c.self.view_is
-    (counts_all_here _ _ _ _ (number i.total) (number c.from_number_in_range-self-inside.result) (map number i.counts.items) _ (fed g now) c.self.invariant (counted g now) (ap unsigned_abs sum.0))
+    rw (written_back i.counts.len c.count_in_rows.new.counts i.counts.items (c.count_in_rows.auto.counts ∙ c.deref_mut.ensures.len))
+    (subst (λ (s : CountState). CountsAll s (fed g now) (state_of i.row_seeds.items i.buckets i.seed (number c.from_number_in_range-self-inside.result) (map number c.count_in_rows.new.counts))) c.self.view_is
+    (counts_all_here _ _ _ _ (number i.total) (number c.from_number_in_range-self-inside.result) (map number i.counts.items) _ (fed g now) c.self.invariant (counted g now) (ap unsigned_abs sum.0)))
 
 pub returns-clause-state : goal.returns-clause-state
 returns-clause-state g c = is_state _ _ _ _ _ _ (invariant_of-self g c)

@@ -1,10 +1,9 @@
-use Rattle.std.proofs.Common.{arith, refl, ap, subst, ◌∙◌, ◌≡◌, ◌+◌, ◌≤◌, ◌++◌, List, map, length, take, drop, pos, unsigned_abs}
+use Rattle.std.proofs.Common.{arith, refl, ap, subst, ◌∙◌, ◌≡◌, ◌+◌, ◌≤◌, map, pos, unsigned_abs}
 use Rattle.std.proofs.lemmas.Int.{ints}
-use Rattle.std.proofs.lemmas.List.{take_at}
 use Rattle.sketch_countmin.specs.State.{CountState, Joins}
 use Rattle.sketch_countmin.specs.Table.{state_of}
 use Rattle.sketch_countmin.proofs.Tables.{is_state, state_shown}
-use Rattle.sketch_countmin.proofs.Updates.{length_own}
+use Rattle.sketch_countmin.proofs.Updates.{written_back, length_own}
 use Rattle.sketch_countmin.proofs.Merges.{AllAdded, all_added_own, merged, room_for_other, joins_here, shape_own}
 use Rattle.sketch_countmin.proofs.Places.{lent_same}
 use Rattle.sketch_countmin.proofs.Standing.{stands_joined}
@@ -12,17 +11,10 @@ use Rattle.sketch_countmin.proofs.count_min_sketch.CountMinSketch.merge.Given as
 use Rattle.sketch_countmin.proofs.count_min_sketch.CountMinSketch.merge.Goals as goal
 use Rattle.sketch_countmin.proofs.count_min_sketch.CountMinSketch.merge.Goals.{After-add_all}
 
--- the cells that the loop leaves
-abbrev new_counts : (g : given.Over) → After-add_all g → List g.row.T.Denot
-new_counts g c = take c.self.inside.counts.len (c.add_all.new.counts ++ drop (length c.add_all.new.counts) c.self.inside.counts.items)
-
-same_counts : (g : given.Over) (c : After-add_all g) → new_counts g c ≡ c.add_all.new.counts
-same_counts g c = take_at c.add_all.new.counts (drop (length c.add_all.new.counts) c.self.inside.counts.items) c.self.inside.counts.len (c.add_all.auto.counts ∙ c.deref_mut.ensures.len)
-
 -- are the sums of both
-added : (g : given.Over) (c : After-add_all g) → let number = g.T.CountMinValue.number in AllAdded (map number c.self.inside.counts.items) (map number c.other.inside.counts.items) (map number (new_counts g c))
+added : (g : given.Over) (c : After-add_all g) → let number = g.T.CountMinValue.number in AllAdded (map number c.self.inside.counts.items) (map number c.other.inside.counts.items) (map number c.add_all.new.counts)
 added g c =
-    all_added_own g.T.CountMinValue.number c.self.inside.counts.items c.deref_mut.result.now c.add_all.new.counts (new_counts g c) c.other.inside.counts.items c.deref.result.now c.deref_mut.ensures.value (same_counts g c) c.deref.ensures.value c.add_all.ensures
+    all_added_own g.T.CountMinValue.number c.self.inside.counts.items c.deref_mut.result.now c.add_all.new.counts c.other.inside.counts.items c.deref.result.now c.deref_mut.ensures.value c.deref.ensures.value c.add_all.ensures
 
 -- and so is the total
 sum : (g : given.Over) (c : After-add_all g) → let number = g.T.CountMinValue.number in number c.in-Some.total ≡ pos (unsigned_abs (number c.self.inside.total) + unsigned_abs (number c.other.inside.total))
@@ -39,18 +31,20 @@ invariant_of-self g c =
     let number = g.T.CountMinValue.number in
     let now = (goal.at.invariant_of-self g c).After-add_all in
     let fits : unsigned_abs (number c.in-Some.total) ≤ g.T.CountMinValue.greatest = omega (arith, ints, sum g now, c.in-Some.ensures.0, c.in-Some.ensures.1.1) in
-    merged _ _ _ _ (number c.self.inside.total) (number c.in-Some.total) (number c.other.inside.total) (map number c.self.inside.counts.items) (map number c.other.inside.counts.items) _ c.self.invariant c.other.invariant.bounded (added g now)
-    (length_own number c.self.inside.counts.items c.deref_mut.result.now c.add_all.new.counts _ c.deref_mut.ensures.value (same_counts g now) c.add_all.auto.counts) (sum g now) fits
+    rw (written_back c.self.inside.counts.len c.add_all.new.counts c.self.inside.counts.items (c.add_all.auto.counts ∙ c.deref_mut.ensures.len))
+    (merged _ _ _ _ (number c.self.inside.total) (number c.in-Some.total) (number c.other.inside.total) (map number c.self.inside.counts.items) (map number c.other.inside.counts.items) _ c.self.invariant c.other.invariant.bounded (added g now)
+    (length_own number c.self.inside.counts.items c.deref_mut.result.now _ c.deref_mut.ensures.value c.add_all.auto.counts) (sum g now) fits)
 
 pub returns-clause-joined : goal.returns-clause-joined
 returns-clause-joined g c =
     let number = g.T.CountMinValue.number in
     let i = c.self.inside in
     let now = (goal.at.returns-clause-joined g c).After-add_all in
-    let new : CountState = state_of i.row_seeds.items i.buckets i.seed (number c.in-Some.total) (map number (new_counts g now)) in
-    subst (λ (s : CountState). Joins s c.args.other.now new) c.self.view_is
+    let new : CountState = state_of i.row_seeds.items i.buckets i.seed (number c.in-Some.total) (map number c.add_all.new.counts) in
+    rw (written_back c.self.inside.counts.len c.add_all.new.counts c.self.inside.counts.items (c.add_all.auto.counts ∙ c.deref_mut.ensures.len))
+    (subst (λ (s : CountState). Joins s c.args.other.now new) c.self.view_is
     (subst (λ (s : CountState). Joins (state_of i.row_seeds.items i.buckets i.seed (number i.total) (map number i.counts.items)) s new) c.other.view_is
-    (joins_here _ _ _ _ _ _ (number i.total) (number c.in-Some.total) (number c.other.inside.total) (map number i.counts.items) (map number c.other.inside.counts.items) _ (shape_own _ _ _ _ c.self.view_is c.other.view_is (c.if-not-has_shape_of.ensures.0 refl)) (added g now) (ap unsigned_abs (sum g now))))
+    (joins_here _ _ _ _ _ _ (number i.total) (number c.in-Some.total) (number c.other.inside.total) (map number i.counts.items) (map number c.other.inside.counts.items) _ (shape_own _ _ _ _ c.self.view_is c.other.view_is (c.if-not-has_shape_of.ensures.0 refl)) (added g now) (ap unsigned_abs (sum g now)))))
 
 pub returns-clause-state : goal.returns-clause-state
 returns-clause-state g c = is_state _ _ _ _ _ _ (invariant_of-self g c)

@@ -1,6 +1,5 @@
-use Rattle.std.proofs.Common.{arith, ap, subst, sym, ◌∙◌, ◌≡◌, ℕ, ◌+◌, ◌≤◌, ◌++◌, map, length, take, drop, ℤ, pos, unsigned_abs, List, slice_index}
+use Rattle.std.proofs.Common.{arith, ap, subst, sym, ◌∙◌, ◌≡◌, ℕ, ◌+◌, ◌≤◌, map, length, ℤ, pos, unsigned_abs, List, slice_index}
 use Rattle.std.proofs.lemmas.Int.{ints}
-use Rattle.std.proofs.lemmas.List.{take_at}
 use Rattle.sketch_base.specs.Hashes.{fed_bytes}
 use Rattle.sketch_countmin.specs.Buckets.{bucket_by}
 use Rattle.sketch_countmin.specs.Cells.{RowsAdded}
@@ -8,7 +7,7 @@ use Rattle.sketch_countmin.specs.State.{CountState, Counts}
 use Rattle.sketch_countmin.specs.Table.{state_of}
 use Rattle.sketch_countmin.proofs.Places.{lent_shape}
 use Rattle.sketch_countmin.proofs.Tables.{is_state}
-use Rattle.sketch_countmin.proofs.Updates.{rows_added_own, length_own, room_here, updated, counts_here}
+use Rattle.sketch_countmin.proofs.Updates.{written_back, rows_added_own, length_own, room_here, updated, counts_here}
 use Rattle.sketch_countmin.proofs.Standing.{stands_counted}
 use Rattle.sketch_countmin.proofs.count_min_sketch.CountMinSketch.update_with_weight.Given as given
 use Rattle.sketch_countmin.proofs.count_min_sketch.CountMinSketch.update_with_weight.Goals as goal
@@ -18,20 +17,12 @@ use Rattle.sketch_countmin.proofs.count_min_sketch.CountMinSketch.update_with_we
 total_sum : (s u : CountState) (w t : ℤ) → s ≡ u → t ≡ pos (u.total + unsigned_abs w) → t ≡ pos (s.total + unsigned_abs w)
 total_sum s u w t e h = h ∙ ap (λ (v : CountState). pos (v.total + unsigned_abs w)) (sym e)
 
--- the cells that the loop leaves
-abbrev new_counts : (g : given.Over) → After-add_to_rows g → List g.row.T.Denot
-new_counts g c = take c.self.inside.counts.len (c.add_to_rows.new.counts ++ drop (length c.add_to_rows.new.counts) c.self.inside.counts.items)
-
-same_counts : (g : given.Over) (c : After-add_to_rows g) → new_counts g c ≡ c.add_to_rows.new.counts
-same_counts g c = take_at c.add_to_rows.new.counts (drop (length c.add_to_rows.new.counts) c.self.inside.counts.items) c.self.inside.counts.len (c.add_to_rows.auto.counts ∙ c.deref_mut.ensures.len)
-
 -- have the weight added in each row
 added : (g : given.Over) (c : After-add_to_rows g) → let i = c.self.inside in let number = g.T.CountMinValue.number in
-    RowsAdded i.buckets (number c.args.weight) (λ r. bucket_by i.buckets (slice_index i.row_seeds.items r) (fed_bytes g.I.Hash.hash_input c.args.item)) (length i.row_seeds.items) (map number i.counts.items) (map number (new_counts g c))
+    RowsAdded i.buckets (number c.args.weight) (λ r. bucket_by i.buckets (slice_index i.row_seeds.items r) (fed_bytes g.I.Hash.hash_input c.args.item)) (length i.row_seeds.items) (map number i.counts.items) (map number c.add_to_rows.new.counts)
 added g c =
     let i = c.self.inside in
-    rows_added_own g.T.CountMinValue.number i.buckets (g.T.CountMinValue.number c.args.weight) (fed_bytes g.I.Hash.hash_input c.args.item) i.row_seeds.items c.deref.result.now i.counts.items c.deref_mut.result.now c.add_to_rows.new.counts (new_counts g c)
-    c.deref.ensures.value c.deref_mut.ensures.value (same_counts g c) c.add_to_rows.ensures
+    rows_added_own g.T.CountMinValue.number i.buckets (g.T.CountMinValue.number c.args.weight) (fed_bytes g.I.Hash.hash_input c.args.item) i.row_seeds.items c.deref.result.now i.counts.items c.deref_mut.result.now c.add_to_rows.new.counts c.deref.ensures.value c.deref_mut.ensures.value c.add_to_rows.ensures
 
 -- and so has the total
 sum : (g : given.Over) (c : After-add_to_rows g) → let number = g.T.CountMinValue.number in number c.in_ok-total.total ≡ pos (unsigned_abs (number c.self.inside.total) + unsigned_abs (number c.args.weight))
@@ -55,8 +46,9 @@ invariant_of-self g c =
     let number = g.T.CountMinValue.number in
     let i = c.self.inside in
     let now = (goal.at.invariant_of-self g c).After-add_to_rows in
-    updated _ _ _ _ (number i.total) (number c.in_ok-total.total) (map number i.counts.items) _ _ (number c.args.weight) c.self.invariant (added g now)
-    (length_own number i.counts.items c.deref_mut.result.now c.add_to_rows.new.counts _ c.deref_mut.ensures.value (same_counts g now) c.add_to_rows.auto.counts) (sum g now) (fits g now)
+    rw (written_back i.counts.len c.add_to_rows.new.counts i.counts.items (c.add_to_rows.auto.counts ∙ c.deref_mut.ensures.len))
+    (updated _ _ _ _ (number i.total) (number c.in_ok-total.total) (map number i.counts.items) _ _ (number c.args.weight) c.self.invariant (added g now)
+    (length_own number i.counts.items c.deref_mut.result.now _ c.deref_mut.ensures.value c.add_to_rows.auto.counts) (sum g now) (fits g now))
 
 pub returns-clause-counted : goal.returns-clause-counted
 returns-clause-counted g c =
@@ -64,8 +56,9 @@ returns-clause-counted g c =
     let i = c.self.inside in
     let bytes : List ℕ = fed_bytes g.I.Hash.hash_input c.args.item in
     let now = (goal.at.returns-clause-counted g c).After-add_to_rows in
-    subst (λ (s : CountState). Counts s bytes (number c.args.weight) (state_of i.row_seeds.items i.buckets i.seed (number c.in_ok-total.total) (map number (new_counts g now)))) c.self.view_is
-    (counts_here _ _ _ _ (number i.total) (number c.in_ok-total.total) (map number i.counts.items) _ bytes (number c.args.weight) c.self.invariant (added g now) (ap unsigned_abs (sum g now)))
+    rw (written_back i.counts.len c.add_to_rows.new.counts i.counts.items (c.add_to_rows.auto.counts ∙ c.deref_mut.ensures.len))
+    (subst (λ (s : CountState). Counts s bytes (number c.args.weight) (state_of i.row_seeds.items i.buckets i.seed (number c.in_ok-total.total) (map number c.add_to_rows.new.counts))) c.self.view_is
+    (counts_here _ _ _ _ (number i.total) (number c.in_ok-total.total) (map number i.counts.items) _ bytes (number c.args.weight) c.self.invariant (added g now) (ap unsigned_abs (sum g now))))
 
 pub returns-clause-state : goal.returns-clause-state
 returns-clause-state g c = is_state _ _ _ _ _ _ (invariant_of-self g c)
