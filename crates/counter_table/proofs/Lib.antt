@@ -5,7 +5,7 @@ pub mod GrowthMoves
 pub mod InsertionCounts
 pub mod InsertionPuts
 pub mod InsertionWrites
-pub mod LookupBlocks
+pub mod LookupCounts
 pub mod LookupFingerprints
 pub mod LookupHomes
 pub mod LookupProbes

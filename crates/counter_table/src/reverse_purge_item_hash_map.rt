@@ -112,8 +112,6 @@ impl<T: Eq + Hash + Drop> ReversePurgeItemHashMap<T> {
     /// Writes down the count of each item, 0 where it is absent, as [`get`](Self::get) answers. It takes no memory, and
     /// there are as many counts as items.
     ///
-    /// In a large table it is faster than a call an item, since the slots of several items are waited for at once.
-    ///
     /// # Examples
     ///
     /// ```

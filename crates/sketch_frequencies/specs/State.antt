@@ -1,5 +1,5 @@
 -- A frequent-items sketch as its counters and four numbers.
-use Rattle.std.specs.Prelude.{◌≡◌, ℕ, ◌+◌, ◌*◌, ◌/◌, ◌%◌, ◌^◌, ◌<◌, ◌≤◌, min, nat_lt, nat_le, not, ◌&&◌, ◌==◌, cond, Bool, IsTrue, List, [], length, All, if◌then◌else◌}
+use Rattle.std.specs.Prelude.{◌≡◌, ℕ, ◌+◌, ◌*◌, ◌/◌, ◌%◌, ◌^◌, ◌<◌, ◌≤◌, min, nat_lt, nat_le, not, ◌&&◌, Bool, IsTrue, List, [], length, All, if◌then◌else◌}
 use Rattle.std.specs.Int.{is_power_of_two}
 use Rattle.std.specs.List.{IsDistinct}
 use Rattle.std.specs.Map.{keys_of}
@@ -70,10 +70,6 @@ empty_state max_size sample_size =
 -- the best single guess of an item's weight: its count and the error where it is tracked, else 0
 abbrev pub estimate_of : {T : Type 0} → (T → T → Bool) → FrequentState T → T → ℕ
 estimate_of eq s x = if is_tracked eq s.counters x then count_of eq s.counters x + s.error else 0
-
--- the estimate of a count: 0 is that of an item that is not tracked
-abbrev pub with_error : ℕ → ℕ → ℕ
-with_error error count = cond (count == 0) 0 (count + error)
 
 -- the table must double for one more counter: all that it may hold are taken, and it may grow
 abbrev pub must_grow : {T : Type 0} → FrequentState T → Bool

@@ -5,7 +5,7 @@ ghost use Rattle.sketch_base.specs.Errors.{no_memory};
 ghost use Rattle.sketch_frequencies.specs.History.{FrequentHistory, least_size, least_sample, total_weight, HasUsualSamples};
 ghost use Rattle.sketch_frequencies.specs.Rows.{ShowsExactly, Descends, MissesNone, ShowsNoneBelow};
 ghost use Rattle.sketch_frequencies.specs.Stands.{Encloses, KeepsTailBudget, IsLowerBound, IsUpperBound, IsExactOfFew};
-ghost use Rattle.sketch_frequencies.specs.State.{estimate_of, with_error};
+ghost use Rattle.sketch_frequencies.specs.State.{estimate_of};
 ghost use Rattle.counter_table.specs.Tables.{count_of};
 
 use crate::error_type::ErrorType;
@@ -34,8 +34,6 @@ impl<T: Eq + Hash + Drop> FrequentItemsSketch<T> {
     /// Writes down the estimate of each item, as [`estimate`](Self::estimate) answers. It takes no memory, and there are
     /// as many estimates as items.
     ///
-    /// In a large table it is faster than a call an item, since the slots of several items are waited for at once.
-    ///
     /// # Examples
     ///
     /// ```
@@ -47,15 +45,16 @@ impl<T: Eq + Hash + Drop> FrequentItemsSketch<T> {
     ///     weights
     /// }
     /// ```
+    #[inline(never)]
     pub fn estimate_all(&self, items: &[T], estimates: &mut [u64])
         requires { length estimates.old ≡ length items.now }
         ensures value { estimates.new ≡ map (estimate_of T.eq self.now) items.now }
         ensures exact { AllZip (IsExactOfFew T.eq self.now) items.now estimates.new }
     {
-        // for the prover: each sum is at most the total, which fits
-        let _total = self.total;
-        self.map.get_all(items, estimates);
-        add_error(estimates, self.error);
+        // The label is there for the prover alone.
+        'each: for i in 0..items.len() {
+            estimates[i] = self.estimate(&items[i]);
+        }
     }
 
     /// A bound that the item's true weight reaches: its count, or 0 where it is not tracked.
@@ -177,24 +176,5 @@ impl<T: Eq + Hash + Drop> FrequentItemsSketch<T> {
             }
         }
         Ok(rows)
-    }
-}
-
-/// The estimate of an item with this count, which is 0 where the item is not tracked.
-#[inline(always)]
-fn estimate_for(count: u64, error: u64) -> u64
-    requires { count + error < 2 ^ 64 }
-    ensures { result ≡ with_error error count }
-{
-    if count == 0 { 0 } else { count + error }
-}
-
-/// Writes the estimates of items over their counts.
-fn add_error(counts: &mut [u64], error: u64)
-    requires fits { All (λ n. n + error < 2 ^ 64) counts.old }
-    ensures { counts.new ≡ map (with_error error) counts.old }
-{
-    for count in counts.iter_mut() {
-        *count = estimate_for(*count, error);
     }
 }

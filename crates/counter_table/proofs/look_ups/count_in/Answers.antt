@@ -1,5 +1,5 @@
 use Rattle.std.proofs.Common.{◌∙◌}
-use Rattle.counter_table.proofs.LookupBlocks.{count_found}
+use Rattle.counter_table.proofs.LookupCounts.{count_found}
 use Rattle.counter_table.proofs.look_ups.count_in.Goals as goal
 
 pub returns : goal.returns

@@ -1,24 +1,26 @@
-use Rattle.std.proofs.Common.{◌+◌, ◌<◌, ◌^◌, ℕ, List, map, length, get_or, refl, sym, ap, ◌∙◌, subst, arith}
+use Rattle.std.proofs.Common.{◌≡◌, ◌+◌, ℕ, List, take, get_or, set, refl, sym, ap, ◌∙◌, subst, arith}
 use Rattle.std.specs.List.{AllZip}
+use Rattle.sketch_base.specs.Batches.{written_more, written_all}
 use Rattle.sketch_frequencies.specs.Stands.{IsExactOfFew}
-use Rattle.sketch_frequencies.specs.State.{FrequentState, estimate_of, with_error, state_of}
-use Rattle.sketch_frequencies.proofs.Batches.{counts_fit, estimates_of_counts, AllZip-map}
+use Rattle.sketch_frequencies.specs.State.{estimate_of}
+use Rattle.sketch_frequencies.proofs.Batches.{AllZip-map}
 use Rattle.sketch_frequencies.proofs.Estimates.{estimate_exact}
 use Rattle.sketch_frequencies.proofs.frequent_items_sketch.FrequentItemsSketch.estimate_all.Goals as goal
 
-pub add_error-requires : goal.add_error-requires
-add_error-requires g c = record {
-  fits = λ k d l. subst (λ (ns : List ℕ). k < length ns → get_or ns k d + c.self.inside.error < 2 ^ 64) (sym c.get_all.ensures)
-      (λ l. counts_fit g.T.PartialEq.eq (state_of c.self.inside.map c.self.inside.error c.self.inside.total c.self.inside.max_size c.self.inside.sample_size) c.args.items.now k d c.self.invariant.sum (omega arith) l) l;
-}
+pub each-init : goal.each-init
+each-init g c = refl
+
+pub each-preserved : goal.each-preserved
+each-preserved g c =
+    let f : g.row.T.Denot → ℕ = estimate_of g.T.PartialEq.eq c.args.self.now in
+    let item : f c.index-items-i.result ≡ f (get_or c.args.items.now c.each.i c.index-items-i.result) = ap f c.index-items-i.is in
+    ap (λ (n : ℕ). take (c.each.i + 1) (set c.each.estimates c.each.i n)) (c.estimate.ensures.value ∙ item)
+    ∙ written_more f c.args.items.now c.each.estimates c.each.i c.index-items-i.result c.each-test.true (omega arith) c.each.invariant
 
 pub returns-clause-value : goal.returns-clause-value
 returns-clause-value g c =
-    let eq = g.T.PartialEq.eq in
-    let inner = state_of c.self.inside.map c.self.inside.error c.self.inside.total c.self.inside.max_size c.self.inside.sample_size in
-    c.add_error.ensures ∙ ap (map (with_error c.self.inside.error)) c.get_all.ensures
-    ∙ estimates_of_counts eq inner c.args.items.now c.self.invariant
-    ∙ ap (λ (s : FrequentState g.row.T.Denot). map (estimate_of eq s) c.args.items.now) c.self.view_is
+    let f : g.row.T.Denot → ℕ = estimate_of g.T.PartialEq.eq c.args.self.now in
+    written_all f c.args.items.now c.each.estimates c.each.i c.each-test.false (omega arith) c.each.invariant
 
 pub returns-clause-exact : goal.returns-clause-exact
 returns-clause-exact g c =
