@@ -10,6 +10,15 @@ use Rattle.std.proofs.lemmas.Map.Text.{hash_map_updates_text}
 use Rattle.std.proofs.lemmas.Slice.Eq.{bytes_eq-Decides}
 use Rattle.datasketches.specs.Names.{Name, place_of, at_place, with_first, listed, ArePlaces, at_name, Puts, AreSame}
 
+none_from : {V : Type 0} (o : Option V) → is_some o ≡ false → o ≡ None
+none_from None e = refl
+none_from (Some x) e = cc
+
+-- a name that is not contained, by the bytes that were asked for
+pub free_name : {V : Type 0} (asked name : List ℕ) (values : List (List ℕ × V)) (contained : Bool) → contained ≡ false → contained ≡ is_some (at_name asked values) → asked ≡ name → at_name name values ≡ None
+free_name asked name values contained not is same =
+    none_from (at_name name values) (subst (λ (n : List ℕ). is_some (at_name n values) ≡ false) same (sym is ∙ not))
+
 -- ---- places of a list
 
 -- what stands at a place within the list

@@ -1,5 +1,5 @@
 //! Values under names.
-ghost use Rattle.std.specs.Prelude.{◌≡◌, [], None, Some, string_bytes, MatchOption, OnOk, OnErr, IfErr};
+ghost use Rattle.std.specs.Prelude.{◌≡◌, [], None, Some, is_some, string_bytes, MatchOption, OnOk, OnErr, IfErr};
 ghost use Rattle.sketch_base.specs.Errors.{no_memory};
 ghost use Rattle.std.specs.Borrow.{sem};
 ghost use Rattle.std.specs.Option.{option_copied_mut};
@@ -61,6 +61,13 @@ impl<V: Drop> NameMap<V> {
             None => None,
             Some(place) => Some(&self.values[place]),
         }
+    }
+
+    /// Whether the name has a value.
+    pub fn contains_name(&self, name: &str) -> bool
+        ensures { result ≡ is_some (at_name name.now self.now) }
+    {
+        self.get(name).is_some()
     }
 
     /// The value of the name for writing, if there is one.

@@ -232,7 +232,7 @@ impl<T: FrequentItemValue + Clone + Drop> Session<T> {
     fn create(&mut self, name: String, shape: Shape) -> Result<Reply<T>, Refusal>
         ensures { OnSketches (Creates T.eq shape (string_bytes name)) self.old (told result) self.new }
     {
-        if self.sketches.get(name.as_str()).is_some() {
+        if self.sketches.contains_name(name.as_str()) {
             return Err(Refusal::NameTaken);
         }
         let sketch = Sketch::new(self.alloc, shape)?;
@@ -267,7 +267,7 @@ impl<T: FrequentItemValue + Clone + Drop> Session<T> {
         let Some(sketch) = self.sketches.get(name) else {
             return Err(Refusal::NoSuchName);
         };
-        if self.images.get(image.as_str()).is_some() {
+        if self.images.contains_name(image.as_str()) {
             return Err(Refusal::NameTaken);
         }
         let saved = sketch.save()?;
@@ -279,7 +279,7 @@ impl<T: FrequentItemValue + Clone + Drop> Session<T> {
         ensures { Restores T.eq T.codec T.content image.now (string_bytes name) self.old (told result) self.new }
     {
         let saved = self.image(image)?;
-        if self.sketches.get(name.as_str()).is_some() {
+        if self.sketches.contains_name(name.as_str()) {
             return Err(Refusal::NameTaken);
         }
         let sketch = Sketch::restore(self.alloc, saved)?;
@@ -295,7 +295,7 @@ impl<T: FrequentItemValue + Clone + Drop> Session<T> {
     ) -> Result<Reply<T>, Refusal>
         ensures { Loads (option_bytes T.row) T.eq T.codec T.content image most_bytes (string_bytes new_name) self.old (told result) self.new }
     {
-        if self.sketches.get(new_name.as_str()).is_some() {
+        if self.sketches.contains_name(new_name.as_str()) {
             return Err(Refusal::NameTaken);
         }
         let sketch = Sketch::load(self.alloc, &image, most_bytes)?;

@@ -32,6 +32,16 @@ pub enum Sketch<T: Eq + Hash + Drop> {
     Bloom(BloomFilter),
 }
 
+// a sketch of the kind, or the error for which there is none
+macro_rules! of_kind {
+    ($kind:ident, $made:expr) => {
+        match $made {
+            Ok(sketch) => Ok(Sketch::$kind(sketch)),
+            Err(error) => Err(error),
+        }
+    };
+}
+
 impl<T: Eq + Hash + Drop> Sketch<T> {
     /// An empty sketch of the shape.
     pub fn new(alloc: Global, shape: Shape) -> Result<Self, Error>
@@ -41,47 +51,42 @@ impl<T: Eq + Hash + Drop> Sketch<T> {
         ensures refused { IfErr result (λ e. e ≡ refusal_of (fault_of shape)) }
     {
         match shape {
-            Shape::Frequent { max_map_size } => Ok(Sketch::Frequent(FrequentItemsSketch::new(
-                alloc,
-                max_map_size,
-            )?)),
+            Shape::Frequent { max_map_size } => {
+                of_kind!(Frequent, FrequentItemsSketch::new(alloc, max_map_size))
+            }
             Shape::FrequentSampled {
                 max_map_size,
                 sample_size,
-            } => Ok(Sketch::Frequent(FrequentItemsSketch::with_sample_size(
-                alloc,
-                max_map_size,
-                sample_size,
-            )?)),
+            } => of_kind!(
+                Frequent,
+                FrequentItemsSketch::with_sample_size(alloc, max_map_size, sample_size)
+            ),
             Shape::CountI64 {
                 num_hashes,
                 num_buckets,
                 seed,
-            } => Ok(Sketch::CountI64(CountMinSketch::with_seed(
-                alloc,
-                num_hashes,
-                num_buckets,
-                seed,
-            )?)),
+            } => of_kind!(
+                CountI64,
+                CountMinSketch::with_seed(alloc, num_hashes, num_buckets, seed)
+            ),
             Shape::CountU64 {
                 num_hashes,
                 num_buckets,
                 seed,
-            } => Ok(Sketch::CountU64(CountMinSketch::with_seed(
-                alloc,
-                num_hashes,
-                num_buckets,
-                seed,
-            )?)),
+            } => of_kind!(
+                CountU64,
+                CountMinSketch::with_seed(alloc, num_hashes, num_buckets, seed)
+            ),
             Shape::Bloom {
                 num_bits,
                 num_hashes,
                 seed,
-            } => Ok(Sketch::Bloom(
+            } => of_kind!(
+                Bloom,
                 BloomFilterBuilder::with_size(num_bits, num_hashes)
                     .seed(seed)
-                    .build(alloc)?,
-            )),
+                    .build(alloc)
+            ),
         }
     }
 
@@ -317,19 +322,25 @@ impl<T: FrequentItemValue + Drop> Sketch<T> {
         match image {
             Image::Frequent(bytes) => {
                 frequencies::what_images_say::<T>();
-                Ok(Sketch::Frequent(FrequentItemsSketch::deserialize(alloc, bytes)?))
+                of_kind!(Frequent, FrequentItemsSketch::deserialize(alloc, bytes))
             }
             Image::CountI64 { seed, bytes } => {
                 countmin::what_images_say::<i64>();
-                Ok(Sketch::CountI64(CountMinSketch::deserialize_with_seed(alloc, bytes, *seed)?))
+                of_kind!(
+                    CountI64,
+                    CountMinSketch::deserialize_with_seed(alloc, bytes, *seed)
+                )
             }
             Image::CountU64 { seed, bytes } => {
                 countmin::what_images_say::<u64>();
-                Ok(Sketch::CountU64(CountMinSketch::deserialize_with_seed(alloc, bytes, *seed)?))
+                of_kind!(
+                    CountU64,
+                    CountMinSketch::deserialize_with_seed(alloc, bytes, *seed)
+                )
             }
             Image::Bloom(bytes) => {
                 bloom::what_images_say();
-                Ok(Sketch::Bloom(BloomFilter::deserialize(alloc, bytes)?))
+                of_kind!(Bloom, BloomFilter::deserialize(alloc, bytes))
             }
         }
     }
@@ -349,25 +360,31 @@ impl<T: FrequentItemValue + Drop> Sketch<T> {
         match image {
             Image::Frequent(bytes) => {
                 frequencies::what_images_say::<T>();
-                Ok(Sketch::Frequent(FrequentItemsSketch::deserialize_with_limit(
-                    alloc, bytes, most_bytes,
-                )?))
+                of_kind!(
+                    Frequent,
+                    FrequentItemsSketch::deserialize_with_limit(alloc, bytes, most_bytes)
+                )
             }
             Image::CountI64 { seed, bytes } => {
                 countmin::what_images_say::<i64>();
-                Ok(Sketch::CountI64(CountMinSketch::deserialize_with_seed_and_limit(
-                    alloc, bytes, *seed, most_bytes,
-                )?))
+                of_kind!(
+                    CountI64,
+                    CountMinSketch::deserialize_with_seed_and_limit(alloc, bytes, *seed, most_bytes)
+                )
             }
             Image::CountU64 { seed, bytes } => {
                 countmin::what_images_say::<u64>();
-                Ok(Sketch::CountU64(CountMinSketch::deserialize_with_seed_and_limit(
-                    alloc, bytes, *seed, most_bytes,
-                )?))
+                of_kind!(
+                    CountU64,
+                    CountMinSketch::deserialize_with_seed_and_limit(alloc, bytes, *seed, most_bytes)
+                )
             }
             Image::Bloom(bytes) => {
                 bloom::what_images_say();
-                Ok(Sketch::Bloom(BloomFilter::deserialize_with_limit(alloc, bytes, most_bytes)?))
+                of_kind!(
+                    Bloom,
+                    BloomFilter::deserialize_with_limit(alloc, bytes, most_bytes)
+                )
             }
         }
     }
