@@ -2,13 +2,15 @@
 use Rattle.std.proofs.Common.{◌≡◌, ℕ, ◌+◌, ◌≤◌, ◌^◌, Bool, true, false, inl, inr, refl, ap, sym, ◌∙◌, subst, arith, List, [], length, take, drop, ◌++◌, IsPermutation}
 use Rattle.std.specs.Prelude.{IsTrue}
 use Rattle.std.specs.Int.{is_power_of_two}
+use Rattle.std.specs.List.{IsDistinct}
+use Rattle.std.specs.Map.{keys_of}
 use Rattle.std.proofs.lemmas.Bool.{cases_Bool}
 use Rattle.std.proofs.lemmas.List.{take-append-le, take_all}
 use Rattle.std.proofs.lemmas.List.Sorted.{length_permutation}
 use Rattle.counter_table.specs.declared.slot.Slot.{Slot}
 use Rattle.counter_table.specs.Fingerprints.{AreFingerprints}
 use Rattle.counter_table.specs.Slots.{entries_of, table_of, IsCounted, IsSlots, IsTableSize}
-use Rattle.counter_table.specs.Tables.{is_tracked, put}
+use Rattle.counter_table.specs.Tables.{is_tracked, put, Table}
 use Rattle.counter_table.proofs.InsertionPuts.{length_tracked, length_new}
 
 module _ {T : Type 0} (eq : T → T → Bool) (input : T → List (List ℕ)) (old lent new : List (Slot T)) (fingerprints bytes : List ℕ) (active : ℕ) (x : T) (w : ℕ) (was : IsCounted eq input old fingerprints active) (same : lent ≡ old) (ok : IsSlots eq input new) (are : AreFingerprints input new bytes) where
@@ -50,3 +52,17 @@ written_whole n a b h = rw (← h) (take-append-le (length a) a (drop (length a)
 pub written_counted : {T : Type 0} {eq : T → T → Bool} {input : T → List (List ℕ)} {active : ℕ} (n m : ℕ) (new old : List (Slot T)) (bytes marks : List ℕ)
     → length new ≡ n → length bytes ≡ m → IsCounted eq input new bytes active → IsCounted eq input (take n (new ++ drop (length new) old)) (take m (bytes ++ drop (length bytes) marks)) active
 written_counted n m new old bytes marks l k is = rw (written_whole n new old l, written_whole m bytes marks k) is
+
+-- w was put at x, and the slots were written back
+pub record Puts {T : Type 0} (eq : T → T → Bool) (was : Table T) (x : T) (w : ℕ) (slots : List (Slot T)) : Type 0 where
+  pub entries : IsPermutation (put eq was.entries x w) (entries_of slots)
+  pub size : length slots ≡ was.size
+  pub distinct : IsDistinct eq (keys_of (entries_of slots))
+
+pub written_puts : {T : Type 0} {eq : T → T → Bool} {input : T → List (List ℕ)} (n : ℕ) (old lent new : List (Slot T)) (was : Table T) (x : T) (w : ℕ)
+    → table_of old ≡ was → lent ≡ old → length lent ≡ n → length new ≡ length lent → IsSlots eq input new → IsPermutation (put eq (entries_of lent) x w) (entries_of new) → Puts eq was x w (take n (new ++ drop (length new) old))
+written_puts n old lent new was x w view same long kept ok perm = rw (written_whole n new old (kept ∙ long), ← view) (record {
+  entries = rw same at perm;
+  size = kept ∙ ap length same;
+  distinct = ok.distinct;
+})
