@@ -1,23 +1,25 @@
 -- What is read is what the image says.
-use Rattle.std.proofs.Common.{◌≡◌, ◌≢◌, ℕ, zero, suc, ◌*◌, ◌+◌, ◌<◌, ◌≤◌, ◌^◌, Bool, true, false, ◌||◌, List, [], ◌∷◌, length, drop, get_or, Option, Some, None, ℤ, pos, unsigned_abs, ◌≤ℤ◌, T, replicate, ◌++◌, refl, sym, ap, subst, ◌∙◌, arith, eq-eqb, All}
-use Rattle.std.specs.Prelude.{slice_index, if◌then◌else◌, nat_le, nat_lt, int_le}
+use Rattle.std.proofs.Common.{◌≡◌, ◌≢◌, ℕ, zero, suc, ◌*◌, ◌+◌, ◌<◌, ◌≤◌, ◌^◌, Bool, true, false, ◌||◌, List, [], ◌∷◌, length, drop, get_or, Option, Some, None, ℤ, pos, unsigned_abs, ◌≤ℤ◌, T, replicate, ◌++◌, refl, sym, ap, subst, ◌∙◌, arith, eq-eqb, All, inl}
+use Rattle.std.specs.Prelude.{Result, Ok, Err, IfOk, OnOk, slice_index, if◌then◌else◌, nat_le, nat_lt, int_le}
 use Rattle.std.specs.Int.Signed.{le_z_yes}
-use Rattle.std.proofs.lemmas.Bool.{leb-true, ltb-true, le-ltb, and_parts, not-true, false≢true}
+use Rattle.std.proofs.lemmas.Bool.{leb-true, ltb-true, le-ltb, lt-ltb, and_parts, not-true, false≢true}
 use Rattle.std.proofs.lemmas.Int.{ints}
 use Rattle.std.proofs.lemmas.List.{length-replicate, get_or-replicate}
 use Rattle.std.proofs.lemmas.Nat.{mul-le}
 use Rattle.std.proofs.lemmas.List.Concat.{flat_map-cons}
 use Rattle.std.proofs.lemmas.List.Elements.{All-nil, All-cons, All-get_or, All-from_get_or}
 use Rattle.sketch_base.specs.Checks.{first_failing, or_else, IsImageRefusal}
-use Rattle.sketch_base.specs.Errors.{ErrorValue}
+use Rattle.sketch_base.specs.Errors.{ErrorValue, no_memory}
 use Rattle.sketch_base.specs.Hashes.{seed_hash}
 use Rattle.sketch_base.specs.declared.fault.Fault.{Fault}
 use Rattle.sketch_base.specs.declared.fault.Fault.TheVariants.{ValueOutOfRange, CellAboveTotal, InsufficientData}
 use Rattle.sketch_countmin.specs.Buckets.{row_seed}
-use Rattle.sketch_countmin.specs.Image.{says_empty, hashes_at, buckets_at, num_cells_at, numbers_in, total_at, cells_at, value_at, is_in_range, total_checks, cell_checks, cells_checks, early_checks, early_fault, early_fault_within, limit_fault, late_fault, first_fault, first_fault_within}
+use Rattle.sketch_countmin.specs.History.CountHistory.{Restored}
+use Rattle.sketch_countmin.specs.Image.{says_empty, hashes_at, buckets_at, num_cells_at, numbers_in, total_at, cells_at, value_at, is_in_range, total_checks, cell_checks, cells_checks, early_checks, early_fault, early_fault_within, limit_fault, late_fault, first_fault, first_fault_within, IsImage, Restores}
 use Rattle.sketch_countmin.specs.Preamble.{IsPreamble}
 use Rattle.sketch_countmin.specs.Rows.{cell_at}
-use Rattle.sketch_countmin.specs.State.{IsCountState}
+use Rattle.sketch_countmin.specs.Stands.{StandsFor}
+use Rattle.sketch_countmin.specs.State.{CountState, IsCountState, empty_state}
 use Rattle.sketch_countmin.specs.Table.{IsTable}
 use Rattle.sketch_countmin.specs.declared.image.Preamble.{Preamble}
 use Rattle.sketch_countmin.proofs.Reading.{first_failing-append}
@@ -143,6 +145,65 @@ refusal_without_limit least greatest size seed image e small h =
     unlimited : (early limit : Option Fault) → (early ≡ None → limit ≡ None) → or_else early limit ≡ early
     unlimited None limit h = h refl
     unlimited (Some fault) limit h = refl
+
+-- ---- a reader's limit
+
+-- a number of either of two sketches
+of_either : (b : Bool) (x y : CountState) (f : CountState → ℕ) (k : ℕ) → f x ≡ k → f y ≡ k → f (if b then x else y) ≡ k
+of_either true x y f k e h = e
+of_either false x y f k e h = h
+
+module _ (least : ℤ) (greatest size most_bytes seed : ℕ) (image : List ℕ) where
+  -- a fault of the early checks is the first
+  pub early_first : (fault : Fault) → early_fault seed image ≡ Some fault → first_fault_within least greatest size most_bytes seed image ≡ Some fault
+  early_first fault e = ap (λ (o : Option Fault). or_else (or_else o (limit_fault size most_bytes image)) (late_fault least greatest image)) e
+
+  module _ (p : Preamble) (fields : IsPreamble image p) (passes : early_fault seed image ≡ None) where
+    bytes_are : p.num_hashes * p.num_buckets * size + 8 * p.num_hashes ≡ num_cells_at image * size + 8 * hashes_at image
+    bytes_are = rw (fields.num_hashes, fields.num_buckets) refl
+
+    -- the limit by the fields that were read
+    pub limit_first : most_bytes < p.num_hashes * p.num_buckets * size + 8 * p.num_hashes → first_fault_within least greatest size most_bytes seed image ≡ Some (Fault.TableTooLarge)
+    limit_first above = rw (passes, lt-ltb most_bytes (num_cells_at image * size + 8 * hashes_at image) (subst (λ (n : ℕ). most_bytes < n) bytes_are above)) refl
+
+    within_limit : p.num_hashes * p.num_buckets * size + 8 * p.num_hashes ≤ most_bytes → early_fault_within size most_bytes seed image ≡ None
+    within_limit below = rw (passes, le-ltb most_bytes (num_cells_at image * size + 8 * hashes_at image) (subst (λ (n : ℕ). n ≤ most_bytes) bytes_are below)) refl
+
+    -- within it nothing was wrong before memory was asked for
+    pub memory_refusal : p.num_hashes * p.num_buckets * size + 8 * p.num_hashes ≤ most_bytes → (e : ErrorValue) → e ≡ no_memory
+        → IsImageRefusal (early_fault_within size most_bytes seed image) (first_fault_within least greatest size most_bytes seed image) e
+    memory_refusal below e h = inl (h, within_limit below)
+
+    -- and the faults are the late ones
+    pub late_refusal : p.num_hashes * p.num_buckets * size + 8 * p.num_hashes ≤ most_bytes → (e : ErrorValue) → IsImageRefusal None (late_fault least greatest image) e
+        → IsImageRefusal (early_fault_within size most_bytes seed image) (first_fault_within least greatest size most_bytes seed image) e
+    late_refusal below e h = subst (λ (early : Option Fault). IsImageRefusal early (or_else early (late_fault least greatest image)) e) (sym (within_limit below)) h
+
+    -- and what the image says is within it
+    pub value_within : p.num_hashes * p.num_buckets * size + 8 * p.num_hashes ≤ most_bytes → (s : CountState) → s ≡ value_at least seed image → s.hashes * s.buckets * size + 8 * s.hashes ≤ most_bytes
+    value_within below s s_is =
+        let bytes : CountState → ℕ = λ u. u.hashes * u.buckets * size + 8 * u.hashes in
+        subst (λ (n : ℕ). n ≤ most_bytes) (bytes_are ∙ sym (ap bytes s_is ∙ of_either (says_empty image) _ _ bytes _ refl refl)) below
+
+-- ---- what was read is what the image says
+
+pub empty_image : (least : ℤ) (greatest seed : ℕ) (image : List ℕ) (p : Preamble) → IsPreamble image p → p.is_empty ≡ true → early_fault seed image ≡ None
+    → (s : CountState) → s ≡ empty_state p.num_hashes p.num_buckets seed → IsImage least greatest seed image s
+empty_image least greatest seed image p fields is_empty passes s s_is =
+    let empty : says_empty image ≡ true = sym fields.is_empty ∙ is_empty in
+    record {
+      no_fault = rw (passes, empty) refl;
+      value = rw empty (s_is ∙ (ap (λ (m : ℕ). empty_state m p.num_buckets seed) fields.num_hashes ∙ ap (λ (n : ℕ). empty_state (hashes_at image) n seed) fields.num_buckets));
+    }
+
+pub image_read : (least : ℤ) (greatest seed : ℕ) (image : List ℕ) (r : Result CountState ErrorValue) → early_fault seed image ≡ None → OnOk r (late_fault least greatest image ≡ None)
+    → IfOk r (λ s. s ≡ value_at least seed image) → IfOk r (λ s. IsImage least greatest seed image s)
+image_read least greatest seed image (Ok s) passes late value = record { no_fault = ap (λ (o : Option Fault). or_else o (late_fault least greatest image)) passes ∙ late; value = value }
+image_read least greatest seed image (Err e) passes late value = tt
+
+-- what the image says stands for what a sketch of the image stood for
+pub restores : (least : ℤ) (greatest seed : ℕ) (image : List ℕ) (s : CountState) → IsImage least greatest seed image s → Restores least greatest seed image s
+restores least greatest seed image s now = λ old before h stands. subst (λ (t : CountState). StandsFor t (Restored h)) (before.value ∙ sym now.value) (record { hashes = stands.hashes; buckets = stands.buckets; seed = stands.seed; total = stands.total; cells = stands.cells })
 
 -- ---- what an image says is a sketch
 

@@ -1,10 +1,10 @@
 -- Numbers scaled by a fraction.
-use Rattle.std.proofs.Common.{◌≡◌, ℕ, ◌-◌, ◌*◌, ◌/◌, ◌^◌, ◌<◌, ◌≤◌, ℤ, pos, negsuc, ◌≤ℤ◌, unsigned_abs, to_z, of_z, arith}
+use Rattle.std.proofs.Common.{◌≡◌, ℕ, ◌-◌, ◌*◌, ◌/◌, ◌^◌, ◌<◌, ◌≤◌, ℤ, pos, negsuc, ◌≤ℤ◌, unsigned_abs, to_z, of_z, bit_and, ◌∙◌, arith}
 use Rattle.std.specs.Prelude.{◌+ℤ◌, ◌-ℤ◌}
-use Rattle.std.specs.Int.{w128}
+use Rattle.std.specs.Int.{w64, w128}
 use mir.Val.{SFits}
 use Rattle.std.proofs.lemmas.Int.{ints}
-use Rattle.std.proofs.lemmas.Nat.{mul-le}
+use Rattle.std.proofs.lemmas.Nat.{mul-le, and_mask}
 use Rattle.std.proofs.Math.Nat.{div-le_of_le-mul}
 use Rattle.sketch_countmin.specs.Values.{InRange}
 
@@ -52,3 +52,8 @@ cells_fit rows width h k = omega (arith, mul-le rows width 255 4294967295 (omega
 -- the sum of two numbers of 64 bits, through the casts of the code
 pub sum_fits : (x y : ℤ) → unsigned_abs x < 2 ^ 64 → unsigned_abs y < 2 ^ 64 → SFits w128 (to_z w128 (of_z w128 x) +ℤ to_z w128 (of_z w128 y))
 sum_fits x y h k = small_fits (to_z w128 (of_z w128 x) +ℤ to_z w128 (of_z w128 y)) (omega (arith, ints))
+
+-- the low half of a number of 128 bits
+pub low_word : (x : ℕ) (y z : ℤ) → x ≡ of_z w128 (to_z w128 (of_z w128 y)) → y ≡ z → unsigned_abs y < 2 ^ 64 → bit_and x 18446744073709551615 ≡ of_z w64 z
+low_word x y (pos n) e same small = and_mask x 64 ∙ grind (arith, ints)
+low_word x y (negsuc n) e same small = and_mask x 64 ∙ grind (arith, ints)

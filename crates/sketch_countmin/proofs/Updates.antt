@@ -6,7 +6,7 @@ use Rattle.std.proofs.lemmas.List.{length-map, take_at}
 use Rattle.sketch_countmin.specs.Cells.{flat_at, RowsAdded}
 use Rattle.sketch_countmin.specs.Rows.{cell_at, rows_of}
 use Rattle.sketch_countmin.specs.Buckets.{row_seed, bucket_by, bucket_of}
-use Rattle.sketch_countmin.specs.State.{Counts}
+use Rattle.sketch_countmin.specs.State.{CountState, Counts}
 use Rattle.sketch_countmin.specs.Table.{IsTable, state_of}
 use Rattle.sketch_countmin.proofs.Tables.{read_rows, remade_rows}
 
@@ -65,3 +65,15 @@ counts_here greatest row_seeds d seed t t' old new bytes w i h total = record {
       ∙ (ap (λ (z : ℤ). z +ℤ (if bucket_by d (slice_index row_seeds r) bytes == b then w else pos 0)) (sym (read_rows (length row_seeds) d old r b lr lb))
       ∙ ap (λ (c : ℕ). cell_at (rows_of (length row_seeds) d old) r b +ℤ (if c == b then w else pos 0)) (row_bucket row_seeds d seed r bytes (i.seeds r lr))));
 }
+
+-- a weight of 0 changes nothing
+pub uncounted : (s : CountState) (bytes : List ℕ) (w : ℤ) → w ≡ pos 0 → Counts s bytes w s
+uncounted s bytes w zero = record {
+  shape = record { hashes = refl; buckets = refl; seed = refl };
+  total = omega (arith, ints, zero);
+  cells = λ r lr b lb. same (cell_at s.rows r b) (bucket_of s.buckets s.seed r bytes == b);
+}
+  where
+    same : (z : ℤ) (b : Bool) → z ≡ z +ℤ (if b then w else pos 0)
+    same z true = omega (arith, ints, zero)
+    same z false = omega (arith, ints)

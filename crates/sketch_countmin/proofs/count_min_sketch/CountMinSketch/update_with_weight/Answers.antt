@@ -6,8 +6,8 @@ use Rattle.sketch_countmin.specs.Cells.{RowsAdded}
 use Rattle.sketch_countmin.specs.State.{CountState, Counts}
 use Rattle.sketch_countmin.specs.Table.{state_of}
 use Rattle.sketch_countmin.proofs.Places.{lent_shape}
-use Rattle.sketch_countmin.proofs.Tables.{is_state}
-use Rattle.sketch_countmin.proofs.Updates.{written_back, rows_added_own, length_own, room_here, updated, counts_here}
+use Rattle.sketch_countmin.proofs.Tables.{is_state, state_shown}
+use Rattle.sketch_countmin.proofs.Updates.{written_back, rows_added_own, length_own, room_here, updated, counts_here, uncounted}
 use Rattle.sketch_countmin.proofs.Standing.{stands_counted}
 use Rattle.sketch_countmin.proofs.count_min_sketch.CountMinSketch.update_with_weight.Given as given
 use Rattle.sketch_countmin.proofs.count_min_sketch.CountMinSketch.update_with_weight.Goals as goal
@@ -68,3 +68,12 @@ returns-clause-stands g c = λ h s. stands_counted _ _ (fed_bytes g.I.Hash.hash_
 
 pub add_to_rows-requires-clause-shape : goal.add_to_rows-requires-clause-shape
 add_to_rows-requires-clause-shape g c = lent_shape g.T.CountMinValue.number c.self.inside.buckets c.self.inside.counts.items _ c.self.inside.row_seeds.items _ c.deref_mut.ensures.value c.deref.ensures.value c.self.invariant.size
+
+pub returns-then-to_number-eq0-clause-counted : goal.returns-then-to_number-eq0-clause-counted
+returns-then-to_number-eq0-clause-counted g c = uncounted _ (fed_bytes g.I.Hash.hash_input c.args.item) (g.T.CountMinValue.number c.args.weight) (omega (arith, ints, c.if-to_number-eq0.true, c.to_number.ensures.value, c.to_number.ensures.narrow))
+
+pub returns-then-to_number-eq0-clause-state : goal.returns-then-to_number-eq0-clause-state
+returns-then-to_number-eq0-clause-state g c = state_shown _ _ _ _ _ _ _ c.self.view_is c.self.invariant
+
+pub returns-then-to_number-eq0-clause-stands : goal.returns-then-to_number-eq0-clause-stands
+returns-then-to_number-eq0-clause-stands g c = λ h s. stands_counted _ _ (fed_bytes g.I.Hash.hash_input c.args.item) (g.T.CountMinValue.number c.args.weight) h (returns-then-to_number-eq0-clause-counted g c) s
