@@ -19,6 +19,7 @@ pub mod Powers
 pub mod Promises
 pub mod Purges
 pub mod Puts
+pub mod Refusals
 pub mod Reports
 pub mod RoundTrips
 pub mod SameMaps
