@@ -53,6 +53,16 @@ pub written_counted : {T : Type 0} {eq : T → T → Bool} {input : T → List (
     → length new ≡ n → length bytes ≡ m → IsCounted eq input new bytes active → IsCounted eq input (take n (new ++ drop (length new) old)) (take m (bytes ++ drop (length bytes) marks)) active
 written_counted n m new old bytes marks l k is = rw (written_whole n new old l, written_whole m bytes marks k) is
 
+-- what a call asks of the slots and fingerprints of a table that are lent whole
+pub record Lent {T : Type 0} (eq : T → T → Bool) (input : T → List (List ℕ)) (was : Table T) (slots : List (Slot T)) (fingerprints : List ℕ) : Type 0 where
+  pub table : table_of slots ≡ was
+  pub slots_ok : IsSlots eq input slots
+  pub fingerprints_ok : AreFingerprints input slots fingerprints
+
+pub lent_whole : {T : Type 0} {eq : T → T → Bool} {input : T → List (List ℕ)} {old : List (Slot T)} {marks : List ℕ} {active : ℕ} {was : Table T} (slots : List (Slot T)) (fingerprints : List ℕ)
+    → IsCounted eq input old marks active → table_of old ≡ was → slots ≡ old → fingerprints ≡ marks → Lent eq input was slots fingerprints
+lent_whole slots fingerprints is view same same_marks = rw (same, same_marks, ← view) (record { table = refl; slots_ok = is.slots_ok; fingerprints_ok = is.fingerprints_ok })
+
 -- w was put at x, and the slots were written back
 pub record Puts {T : Type 0} (eq : T → T → Bool) (was : Table T) (x : T) (w : ℕ) (slots : List (Slot T)) : Type 0 where
   pub entries : IsPermutation (put eq was.entries x w) (entries_of slots)

@@ -1,6 +1,5 @@
 use Rattle.std.proofs.Common.{arith, ◌≡◌, ◌∙◌, ap, replicate}
 use Rattle.std.proofs.lemmas.List.{replicate_more}
-use Rattle.std.proofs.lemmas.Result.{err_from_is_err_and}
 use Rattle.counter_table.specs.declared.slot.Slot.TheVariants.{Free}
 use Rattle.counter_table.proofs.slots.free_slots.Goals as goal
 
@@ -16,14 +15,6 @@ loop-preserved g c = record {
 
 pub push_reserved-requires : goal.push_reserved-requires
 push_reserved-requires g c = omega (arith, c.loop.invariant.len, c.loop.invariant.room, c.loop-test.true)
-
-pub returns-in_err-slots-clause-ok : goal.returns-in_err-slots-clause-ok
-returns-in_err-slots-clause-ok g c = rw (err_from_is_err_and c.from_residual.result c.from_residual.ensures.1).1 tt
-
-pub returns-in_err-slots-clause-err : goal.returns-in_err-slots-clause-err
-returns-in_err-slots-clause-err g c =
-    let e = err_from_is_err_and c.from_residual.result c.from_residual.ensures.1 in
-    rw e.1 e.2
 
 pub returns-clause-ok : goal.returns-clause-ok
 returns-clause-ok g c =

@@ -1,6 +1,6 @@
 use mathlib.Core.List.{nil-subset}
 use Rattle.std.proofs.Common.{ap, arith, ◌∙◌, not}
-use Rattle.counter_table.proofs.InsertionCounts.{counted_kept, counted_more, written_counted, written_puts}
+use Rattle.counter_table.proofs.InsertionCounts.{counted_kept, counted_more, lent_whole, written_counted, written_puts}
 use Rattle.counter_table.proofs.reverse_purge_item_hash_map.ReversePurgeItemHashMap.adjust_or_put_value.Goals as goal
 
 pub invariant_of-self : goal.invariant_of-self
@@ -16,17 +16,10 @@ invariant_of-self-else-put_in g c =
 pub deref_mut-requires-2 : goal.deref_mut-requires-2
 deref_mut-requires-2 g c κs = (nil-subset _, nil-subset _)
 
-pub put_in-requires-clause-slots : goal.put_in-requires-clause-slots
-put_in-requires-clause-slots g c = rw c.deref_mut.ensures.value c.self.invariant.slots_ok
-
-pub put_in-requires-clause-fingerprints : goal.put_in-requires-clause-fingerprints
-put_in-requires-clause-fingerprints g c = rw (c.deref_mut.ensures.value, c.deref_mut-2.ensures.value) c.self.invariant.fingerprints_ok
-
-pub put_in-requires-clause-room : goal.put_in-requires-clause-room
-put_in-requires-clause-room g c = rw c.deref_mut.ensures.value (rw (← c.self.view_is) at c.requires.room)
-
-pub put_in-requires-clause-fits : goal.put_in-requires-clause-fits
-put_in-requires-clause-fits g c = rw c.deref_mut.ensures.value (rw (← c.self.view_is) at c.requires.fits)
+pub put_in-requires : goal.put_in-requires
+put_in-requires g c =
+    let lent = lent_whole _ _ c.self.invariant c.self.view_is c.deref_mut.ensures.value c.deref_mut-2.ensures.value in
+    record { slots = lent.slots_ok; fingerprints = lent.fingerprints_ok; room = rw (← lent.table) at c.requires.room; fits = rw (← lent.table) at c.requires.fits }
 
 pub overflow_add-self : goal.overflow_add-self
 overflow_add-self g c = omega (arith, c.self.invariant.active_is, c.self.invariant.slots_ok.room, c.self.invariant.slots_ok.size.limit)

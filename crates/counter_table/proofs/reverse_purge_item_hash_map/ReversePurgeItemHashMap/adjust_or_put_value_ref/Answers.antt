@@ -2,7 +2,7 @@ use mathlib.Core.List.{nil-subset}
 use Rattle.std.proofs.Common.{ap, arith, length, ◌≡◌, ◌∙◌, not, refl}
 use Rattle.std.proofs.lemmas.Result.{err_from_is_err_and}
 use Rattle.counter_table.specs.Slots.{entries_of, table_of}
-use Rattle.counter_table.proofs.InsertionCounts.{counted_kept, counted_more, written_counted, written_whole}
+use Rattle.counter_table.proofs.InsertionCounts.{counted_kept, counted_more, lent_whole, written_counted, written_whole}
 use Rattle.counter_table.proofs.InsertionWrites.{tracked_alike}
 use Rattle.counter_table.proofs.reverse_purge_item_hash_map.ReversePurgeItemHashMap.adjust_or_put_value_ref.Given as given
 use Rattle.counter_table.proofs.reverse_purge_item_hash_map.ReversePurgeItemHashMap.adjust_or_put_value_ref.Goals as goal
@@ -26,17 +26,10 @@ invariant_of-self g c =
     written_counted _ _ _ _ _ _ (c.put_clone_in.auto.slots ∙ c.deref_mut.ensures.len) (c.put_clone_in.auto.fingerprints ∙ c.deref_mut-2.ensures.len)
     (rw (w.err ∙ c.deref_mut.ensures.value, w.kept ∙ c.deref_mut-2.ensures.value) c.self.invariant)
 
-pub put_clone_in-requires-clause-slots : goal.put_clone_in-requires-clause-slots
-put_clone_in-requires-clause-slots g c = rw c.deref_mut.ensures.value c.self.invariant.slots_ok
-
-pub put_clone_in-requires-clause-fingerprints : goal.put_clone_in-requires-clause-fingerprints
-put_clone_in-requires-clause-fingerprints g c = rw (c.deref_mut.ensures.value, c.deref_mut-2.ensures.value) c.self.invariant.fingerprints_ok
-
-pub put_clone_in-requires-clause-room : goal.put_clone_in-requires-clause-room
-put_clone_in-requires-clause-room g c = rw c.deref_mut.ensures.value (rw (← c.self.view_is) at c.requires.room)
-
-pub put_clone_in-requires-clause-fits : goal.put_clone_in-requires-clause-fits
-put_clone_in-requires-clause-fits g c = rw c.deref_mut.ensures.value (rw (← c.self.view_is) at c.requires.fits)
+pub put_clone_in-requires : goal.put_clone_in-requires
+put_clone_in-requires g c =
+    let lent = lent_whole _ _ c.self.invariant c.self.view_is c.deref_mut.ensures.value c.deref_mut-2.ensures.value in
+    record { slots = lent.slots_ok; fingerprints = lent.fingerprints_ok; clones = c.requires.clones; room = rw (← lent.table) at c.requires.room; fits = rw (← lent.table) at c.requires.fits }
 
 pub overflow_add-self : goal.overflow_add-self
 overflow_add-self g c = omega (arith, c.self.invariant.active_is, c.self.invariant.slots_ok.room, c.self.invariant.slots_ok.size.limit)
@@ -88,9 +81,6 @@ returns-clause-succeeds g c = λ _. refl
 
 pub returns-clause-distinct : goal.returns-clause-distinct
 returns-clause-distinct g c = rw (table g c) c.put_clone_in.ensures.slots.distinct
-
-pub put_clone_in-requires-clause-clones : goal.put_clone_in-requires-clause-clones
-put_clone_in-requires-clause-clones g c = c.requires.clones
 
 pub returns-in_err-put_clone_in-clause-entries : goal.returns-in_err-put_clone_in-clause-entries
 returns-in_err-put_clone_in-clause-entries g c = rw (err_from_is_err_and c.from_residual.result c.from_residual.ensures.1).1 tt

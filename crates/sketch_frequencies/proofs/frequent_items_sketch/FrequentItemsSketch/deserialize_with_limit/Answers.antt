@@ -83,54 +83,40 @@ returns-clause-budget g c = λ old was h stands keeps. restores_budget g.T.Frequ
 pub returns-in_err-header : goal.returns-in_err-header
 returns-in_err-header g c =
     let p = err_from_is_err_and c.from_residual.result c.from_residual.ensures.1 in
-    let e = c.in_err-header.ensures.err in
-    let image = c.args.image.now in
-    rw (p.1, p.2) (record { image = tt; state = tt; sample = tt; stands = tt; budget = tt; within = tt; err = early_refused _ c.args.most_bytes g.T.FrequentItemValue.codec image _ (e.0, fault_of_header image e.1) })
+    rw (p.1, p.2) (record { image = tt; state = tt; sample = tt; stands = tt; budget = tt; within = tt; err = early_refused _ c.args.most_bytes g.T.FrequentItemValue.codec c.args.image.now _ (c.in_err-header.ensures.err.0, fault_of_header c.args.image.now c.in_err-header.ensures.err.1) })
 
 pub returns-in_err-check_limit : goal.returns-in_err-check_limit
 returns-in_err-check_limit g c =
     let p = err_from_is_err_and c.from_residual-in_err-check_limit.result c.from_residual-in_err-check_limit.ensures.1 in
-    let h = c.in_ok-header.ensures in
-    let empty = sym h.fields.is_empty ∙ c.if-header.true in
-    let image = c.args.image.now in
-    rw (p.1, p.2) (record { image = tt; state = tt; sample = tt; stands = tt; budget = tt; within = tt; err = limit_refused _ c.args.most_bytes g.T.FrequentItemValue.codec image _ (none_of_empty image h.checks empty) (size_of_empty image empty) c.in_err-check_limit.ensures.err })
+    let empty = sym c.in_ok-header.ensures.fields.is_empty ∙ c.if-header.true in
+    rw (p.1, p.2) (record { image = tt; state = tt; sample = tt; stands = tt; budget = tt; within = tt; err = limit_refused _ c.args.most_bytes g.T.FrequentItemValue.codec c.args.image.now _ (none_of_empty c.args.image.now c.in_ok-header.ensures.checks empty) (size_of_empty c.args.image.now empty) c.in_err-check_limit.ensures.err })
 
 pub returns-in_err-map : goal.returns-in_err-map
 returns-in_err-map g c =
     let p = err_from_is_err_and c.from_residual-in_err-map.result c.from_residual-in_err-map.ensures.1 in
-    let h = c.in_ok-header.ensures in
-    let empty = sym h.fields.is_empty ∙ c.if-header.true in
-    let image = c.args.image.now in
-    rw (p.1, p.2) (record { image = tt; state = tt; sample = tt; stands = tt; budget = tt; within = tt; err = memory_refused _ c.args.most_bytes g.T.FrequentItemValue.codec image _ (none_of_empty image h.checks empty) (size_of_empty image empty) c.in_ok-check_limit.ensures.within c.in_err-map.ensures.err })
+    let empty = sym c.in_ok-header.ensures.fields.is_empty ∙ c.if-header.true in
+    rw (p.1, p.2) (record { image = tt; state = tt; sample = tt; stands = tt; budget = tt; within = tt; err = memory_refused _ c.args.most_bytes g.T.FrequentItemValue.codec c.args.image.now _ (none_of_empty c.args.image.now c.in_ok-header.ensures.checks empty) (size_of_empty c.args.image.now empty) c.in_ok-check_limit.ensures.within c.in_err-map.ensures.err })
 
 pub returns-in_err-numbers : goal.returns-in_err-numbers
 returns-in_err-numbers g c =
     let p = err_from_is_err_and c.from_residual-in_err-numbers.result c.from_residual-in_err-numbers.ensures.1 in
-    let h = c.in_ok-header.ensures in
-    let full = sym h.fields.is_empty ∙ c.if-header.false in
-    let image = c.args.image.now in
-    rw (p.1, p.2) (record { image = tt; state = tt; sample = tt; stands = tt; budget = tt; within = tt; err = early_refused _ c.args.most_bytes g.T.FrequentItemValue.codec image _ (c.in_err-numbers.ensures.err.0, counts_of_full image h.checks full c.in_err-numbers.ensures.err.1) })
+    let full = sym c.in_ok-header.ensures.fields.is_empty ∙ c.if-header.false in
+    rw (p.1, p.2) (record { image = tt; state = tt; sample = tt; stands = tt; budget = tt; within = tt; err = early_refused _ c.args.most_bytes g.T.FrequentItemValue.codec c.args.image.now _ (c.in_err-numbers.ensures.err.0, counts_of_full c.args.image.now c.in_ok-header.ensures.checks full c.in_err-numbers.ensures.err.1) })
 
 pub returns-in_err-check_limit-2 : goal.returns-in_err-check_limit-2
 returns-in_err-check_limit-2 g c =
     let p = err_from_is_err_and c.from_residual-in_err-check_limit-2.result c.from_residual-in_err-check_limit-2.ensures.1 in
-    let h = c.in_ok-header.ensures in
-    let full = sym h.fields.is_empty ∙ c.if-header.false in
-    let image = c.args.image.now in
-    rw (p.1, p.2) (record { image = tt; state = tt; sample = tt; stands = tt; budget = tt; within = tt; err = limit_refused _ c.args.most_bytes g.T.FrequentItemValue.codec image _ (counts_of_full image h.checks full c.in_ok-numbers.ensures.checks) (size_of_full image full (c.table_size-size.ensures.value ∙ ap (λ (k : ℕ). 2 ^ k) h.fields.lg_cur)) c.in_err-check_limit-2.ensures.err })
+    let full = sym c.in_ok-header.ensures.fields.is_empty ∙ c.if-header.false in
+    rw (p.1, p.2) (record { image = tt; state = tt; sample = tt; stands = tt; budget = tt; within = tt; err = limit_refused _ c.args.most_bytes g.T.FrequentItemValue.codec c.args.image.now _ (counts_of_full c.args.image.now c.in_ok-header.ensures.checks full c.in_ok-numbers.ensures.checks) (size_of_full c.args.image.now full (c.table_size-size.ensures.value ∙ ap (λ (k : ℕ). 2 ^ k) c.in_ok-header.ensures.fields.lg_cur)) c.in_err-check_limit-2.ensures.err })
 
 pub returns-in_err-check_weights : goal.returns-in_err-check_weights
 returns-in_err-check_weights g c =
     let p = err_from_is_err_and c.from_residual-in_err-check_weights.result c.from_residual-in_err-check_weights.ensures.1 in
-    let h = c.in_ok-header.ensures in
-    let full = sym h.fields.is_empty ∙ c.if-header.false in
-    let image = c.args.image.now in
-    rw (p.1, p.2) (record { image = tt; state = tt; sample = tt; stands = tt; budget = tt; within = tt; err = weights_refused _ c.args.most_bytes g.T.FrequentItemValue.codec image _ (counts_of_full image h.checks full c.in_ok-numbers.ensures.checks) (size_of_full image full (c.table_size-size.ensures.value ∙ ap (λ (k : ℕ). 2 ^ k) h.fields.lg_cur)) c.in_ok-check_limit-2.ensures.within full c.in_err-check_weights.ensures.err })
+    let full = sym c.in_ok-header.ensures.fields.is_empty ∙ c.if-header.false in
+    rw (p.1, p.2) (record { image = tt; state = tt; sample = tt; stands = tt; budget = tt; within = tt; err = weights_refused _ c.args.most_bytes g.T.FrequentItemValue.codec c.args.image.now _ (counts_of_full c.args.image.now c.in_ok-header.ensures.checks full c.in_ok-numbers.ensures.checks) (size_of_full c.args.image.now full (c.table_size-size.ensures.value ∙ ap (λ (k : ℕ). 2 ^ k) c.in_ok-header.ensures.fields.lg_cur)) c.in_ok-check_limit-2.ensures.within full c.in_err-check_weights.ensures.err })
 
 pub returns-in_err-map-2 : goal.returns-in_err-map-2
 returns-in_err-map-2 g c =
     let p = err_from_is_err_and c.from_residual-in_err-map-2.result c.from_residual-in_err-map-2.ensures.1 in
-    let h = c.in_ok-header.ensures in
-    let full = sym h.fields.is_empty ∙ c.if-header.false in
-    let image = c.args.image.now in
-    rw (p.1, p.2) (record { image = tt; state = tt; sample = tt; stands = tt; budget = tt; within = tt; err = items_refused _ c.args.most_bytes g.T.FrequentItemValue.codec image _ (counts_of_full image h.checks full c.in_ok-numbers.ensures.checks) (size_of_full image full (c.table_size-size.ensures.value ∙ ap (λ (k : ℕ). 2 ^ k) h.fields.lg_cur)) c.in_ok-check_limit-2.ensures.within full c.in_ok-check_weights.ensures.checks c.in_err-map-2.ensures.err })
+    let full = sym c.in_ok-header.ensures.fields.is_empty ∙ c.if-header.false in
+    rw (p.1, p.2) (record { image = tt; state = tt; sample = tt; stands = tt; budget = tt; within = tt; err = items_refused _ c.args.most_bytes g.T.FrequentItemValue.codec c.args.image.now _ (counts_of_full c.args.image.now c.in_ok-header.ensures.checks full c.in_ok-numbers.ensures.checks) (size_of_full c.args.image.now full (c.table_size-size.ensures.value ∙ ap (λ (k : ℕ). 2 ^ k) c.in_ok-header.ensures.fields.lg_cur)) c.in_ok-check_limit-2.ensures.within full c.in_ok-check_weights.ensures.checks c.in_err-map-2.ensures.err })
