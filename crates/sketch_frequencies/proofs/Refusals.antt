@@ -12,14 +12,11 @@ use Rattle.sketch_frequencies.specs.Items.{Codec}
 use Rattle.sketch_frequencies.specs.Reading.{IsItemsRefusal}
 use Rattle.sketch_frequencies.proofs.Cases.{by_cases}
 
-first_of : (a b : Option Fault) {fault : Fault} → a ≡ Some fault → or_else a b ≡ Some fault
+pub first_of : (a b : Option Fault) {fault : Fault} → a ≡ Some fault → or_else a b ≡ Some fault
 first_of a b h = rw h refl
 
 behind : (a b : Option Fault) {rest : Option Fault} → a ≡ None → b ≡ rest → or_else a b ≡ rest
 behind a b none h = rw none h
-
-pub fault_of_header : (image : List ℕ) {fault : Fault} → first_failing (header_checks image) ≡ Some fault → early_fault image ≡ Some fault
-fault_of_header image h = first_of _ _ h
 
 module _ (image : List ℕ) (header : first_failing (header_checks image) ≡ None) where
   pub none_of_empty : says_empty image ≡ true → early_fault image ≡ None

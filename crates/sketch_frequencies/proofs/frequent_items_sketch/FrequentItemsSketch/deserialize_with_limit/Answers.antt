@@ -5,7 +5,7 @@ use Rattle.sketch_frequencies.specs.State.{FrequentState, IsSampleSize}
 use Rattle.sketch_frequencies.proofs.EmptySketches.{restored_empty}
 use Rattle.sketch_frequencies.proofs.Images.{image_of_none, state_of_counters, image_of_counters, restores, restores_budget}
 use Rattle.sketch_frequencies.proofs.Powers.{eight_is_power}
-use Rattle.sketch_frequencies.proofs.Refusals.{none_of_empty, counts_of_full, size_of_empty, size_of_full, fault_of_header, early_refused, limit_refused, memory_refused, weights_refused, items_refused}
+use Rattle.sketch_frequencies.proofs.Refusals.{none_of_empty, counts_of_full, size_of_empty, size_of_full, first_of, early_refused, limit_refused, memory_refused, weights_refused, items_refused}
 use Rattle.sketch_frequencies.proofs.SampleSizes.{usual_sample}
 use Rattle.sketch_frequencies.proofs.ImageWeights.{length-weights_at}
 use Rattle.sketch_frequencies.proofs.frequent_items_sketch.FrequentItemsSketch.deserialize_with_limit.Goals as goal
@@ -83,7 +83,7 @@ returns-clause-budget g c = λ old was h stands keeps. restores_budget g.T.Frequ
 pub returns-in_err-header : goal.returns-in_err-header
 returns-in_err-header g c =
     let p = err_from_is_err_and c.from_residual.result c.from_residual.ensures.1 in
-    rw (p.1, p.2) (record { image = tt; state = tt; sample = tt; stands = tt; budget = tt; within = tt; err = early_refused _ c.args.most_bytes g.T.FrequentItemValue.codec c.args.image.now _ (c.in_err-header.ensures.err.0, fault_of_header c.args.image.now c.in_err-header.ensures.err.1) })
+    rw (p.1, p.2) (record { image = tt; state = tt; sample = tt; stands = tt; budget = tt; within = tt; err = early_refused _ c.args.most_bytes g.T.FrequentItemValue.codec c.args.image.now _ (c.in_err-header.ensures.err.0, first_of _ _ c.in_err-header.ensures.err.1) })
 
 pub returns-in_err-check_limit : goal.returns-in_err-check_limit
 returns-in_err-check_limit g c =
