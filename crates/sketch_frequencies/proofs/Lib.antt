@@ -21,6 +21,7 @@ pub mod Purges
 pub mod Puts
 pub mod Refusals
 pub mod Reports
+pub mod Room
 pub mod RoundTrips
 pub mod SameMaps
 pub mod SameMapsByCounts
