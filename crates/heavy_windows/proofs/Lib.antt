@@ -8,3 +8,4 @@ pub mod Tenants
 pub mod Kept
 pub mod Reports
 pub mod Sums
+pub mod Refusals

@@ -1,16 +1,18 @@
-use Rattle.std.proofs.Common.{rules, ◌≡◌, ◌<◌, arith, [], ◌∷◌, unwrap_or, refl, ap, sym, subst}
-use Rattle.std.proofs.lemmas.Grind.{common_steps}
-use Rattle.std.proofs.lemmas.Result.{on_err_weaker}
+use Rattle.std.proofs.Common.{rules, ◌≡◌, ◌<◌, arith, [], ◌∷◌, unwrap_or, refl, ap, sym, ◌∙◌, subst}
+use Rattle.std.proofs.lemmas.Result.{err_from_is_err_and, on_err_weaker}
+use Rattle.sketch_base.specs.Errors.{refusal_of}
+use Rattle.sketch_frequencies.specs.State.{FrequentState}
 use Rattle.sketch_frequencies.specs.Steps.{Steps}
 use Rattle.heavy_windows.specs.Fresh.{fresh_state}
 use Rattle.heavy_windows.specs.Histories.{added_history}
 use Rattle.heavy_windows.specs.Stands.{ExtendsEach}
 use Rattle.heavy_windows.specs.State.{WindowsState, at_tenant}
 use Rattle.heavy_windows.specs.Steps.{AddsToNewest}
-use Rattle.heavy_windows.proofs.Kept.{kept_added_either, kept_first}
+use Rattle.heavy_windows.proofs.Kept.{kept_added_either, kept_first, size_is_good}
+use Rattle.heavy_windows.proofs.Refusals.{fits_none, refused_unknown}
 use Rattle.heavy_windows.proofs.Standing.{fresh_window, first_at}
 use Rattle.heavy_windows.proofs.Steps.{adds_first}
-use Rattle.heavy_windows.proofs.Tenants.{PutsWindows, state_of, kept_of, put_in, put_at, put_kept, put_others_of, put_back, put_none, same_changes}
+use Rattle.heavy_windows.proofs.Tenants.{PutsWindows, state_of, kept_of, put_in, put_at, put_kept, put_others_of, put_back, put_none}
 use Rattle.heavy_windows.proofs.heavy_windows.HeavyWindows.add.Given as given
 use Rattle.heavy_windows.proofs.heavy_windows.HeavyWindows.add.Goals as goal
 
@@ -49,30 +51,29 @@ returns-in-Some-clause-call g c = let is_put = put g c in record {
 
 pub returns-in_err-window-clause-call : goal.returns-in_err-window-clause-call
 returns-in_err-window-clause-call g c =
-    let unknown : at_tenant c.args.tenant (state_of c.self.inside.limit c.self.inside.max_map_size c.self.inside.tenants.entries) ≡ [] = ap (λ o. unwrap_or o []) (sym c.in_default.ensures.value) in
-    grind (arith, common_steps)
+    let p = err_from_is_err_and c.from_residual.result c.from_residual.ensures.1 in
+    refused_unknown g.T.PartialEq.eq c.args.tenant c.args.weight c.args.item (state_of c.self.inside.limit c.self.inside.max_map_size c.self.inside.tenants.entries) c.args.self.now _ c.from_residual.result _
+    c.if-weight-eq0.false c.ranges.weight.fits (ap (λ o. unwrap_or o []) (sym c.in_default.ensures.value)) c.self.view_is
+    (put_none c.self.inside.limit c.self.inside.max_map_size c.self.inside.tenants.entries (c.get_mut.follows.lender-at-none).entries c.args.self.now c.self.view_is (rw c.get_mut.follows.holds-at-none refl)) p.1
+    (p.2 ∙ c.in_err-window.ensures.refused ∙ ap refusal_of (size_is_good c.self.inside.limit c.self.inside.max_map_size c.self.invariant.limits))
 
 pub returns-in_err-update_with_count-clause-call : goal.returns-in_err-update_with_count-clause-call
 returns-in_err-update_with_count-clause-call g c =
-    let unknown : at_tenant c.args.tenant (state_of c.self.inside.limit c.self.inside.max_map_size c.self.inside.tenants.entries) ≡ [] = ap (λ o. unwrap_or o []) (sym c.in_default.ensures.value) in
-    grind (arith, common_steps)
+    let p = err_from_is_err_and c.from_residual-in_err-update_with_count.result c.from_residual-in_err-update_with_count.ensures.1 in
+    let fresh : c.in_ok-window.window.total ≡ 0 = ap (λ (s : FrequentState g.row.T.Denot). s.total) c.in_ok-window.ensures.ok in
+    refused_unknown g.T.PartialEq.eq c.args.tenant c.args.weight c.args.item (state_of c.self.inside.limit c.self.inside.max_map_size c.self.inside.tenants.entries) c.args.self.now _ c.from_residual-in_err-update_with_count.result _
+    c.if-weight-eq0.false c.ranges.weight.fits (ap (λ o. unwrap_or o []) (sym c.in_default.ensures.value)) c.self.view_is
+    (put_none c.self.inside.limit c.self.inside.max_map_size c.self.inside.tenants.entries (c.get_mut.follows.lender-at-none).entries c.args.self.now c.self.view_is (rw c.get_mut.follows.holds-at-none refl)) p.1
+    (p.2 ∙ c.in_err-update_with_count.ensures.memory (fits_none c.in_ok-window.window.total c.args.weight fresh c.ranges.weight.fits))
 
 pub returns-in_err-insert-clause-call : goal.returns-in_err-insert-clause-call
 returns-in_err-insert-clause-call g c =
-    let unknown : at_tenant c.args.tenant (state_of c.self.inside.limit c.self.inside.max_map_size c.self.inside.tenants.entries) ≡ [] = ap (λ o. unwrap_or o []) (sym c.in_default.ensures.value) in
+    let p = err_from_is_err_and c.from_residual-in_err-insert.result c.from_residual-in_err-insert.ensures.1 in
     let old = c.self.inside.tenants.entries in
     let same : c.insert.new.self.entries ≡ old = rw c.get_mut.follows.holds-at-none at c.in_err-insert.ensures.err in
-    let new = state_of c.self.inside.limit c.self.inside.max_map_size c.insert.new.self.entries in
-    record {
-      zero = search rules;
-      adds = grind (arith, common_steps);
-      stands = grind (arith, common_steps);
-      others = same_changes c.args.tenant c.args.self.now new (put_none c.self.inside.limit c.self.inside.max_map_size old c.insert.new.self.entries c.args.self.now c.self.view_is same);
-      err = grind (arith, common_steps);
-      overflow = grind (arith, common_steps);
-      memory = grind (arith, common_steps);
-      succeeds = search rules;
-    }
+    refused_unknown g.T.PartialEq.eq c.args.tenant c.args.weight c.args.item (state_of c.self.inside.limit c.self.inside.max_map_size old) c.args.self.now _ c.from_residual-in_err-insert.result _
+    c.if-weight-eq0.false c.ranges.weight.fits (ap (λ o. unwrap_or o []) (sym c.in_default.ensures.value)) c.self.view_is
+    (put_none c.self.inside.limit c.self.inside.max_map_size old c.insert.new.self.entries c.args.self.now c.self.view_is same) p.1 p.2
 
 -- an unknown tenant got a first window
 put_first : (g : given.Over) (c : goal.Joined-branch-4 g)
