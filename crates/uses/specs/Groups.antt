@@ -1,12 +1,14 @@
 -- Sums of weights by group: what rows weigh, what a sketch says of them, and what a report on it says.
-use Rattle.std.specs.Prelude.{◌≡◌, ℕ, ◌-◌, ◌*◌, ◌<◌, ◌≤◌, max, Bool, true, cond, List, length, All, sum_by}
+use Rattle.std.specs.Prelude.{◌≡◌, ℕ, ◌-◌, ◌*◌, ◌<◌, ◌≤◌, max, Bool, true, cond, List, length, All, sum_by, Result, ⊤, IsOk, OnErr, IfErr, IsErrOf}
 use Rattle.std.specs.List.{list_any}
+use Rattle.sketch_base.specs.Errors.{ErrorValue, invalid_argument, no_memory}
+use Rattle.sketch_base.specs.declared.fault.Fault.TheVariants.{WeightOverflow}
 use Rattle.sketch_frequencies.specs.History.{FrequentHistory, true_weight, total_weight, weight_outside, budget_size}
 use Rattle.sketch_frequencies.specs.Image.{IsSpelledFor}
 use Rattle.sketch_frequencies.specs.Items.{Codec}
 use Rattle.sketch_frequencies.specs.RowValue.{RowValue}
 use Rattle.sketch_frequencies.specs.Stands.{StandsFor, KeepsTailBudget}
-use Rattle.sketch_frequencies.specs.State.{FrequentState}
+use Rattle.sketch_frequencies.specs.State.{FrequentState, Overflows, TotalHasRoom}
 
 module _ {G : Type 0} (eq : G → G → Bool) where
   -- what a group weighs: the weights of the rows whose group is equal to it
@@ -46,3 +48,12 @@ module _ {G : Type 0} (eq : G → G → Bool) where
     pub sums : FrequentState G
     pub spelled : IsSpelledFor codec content image sums
     pub sums_up : SumsUp n sums rows
+
+-- what comes of rows of this weight that are brought in: where they weigh nothing, nothing changes; a refusal changes
+-- nothing either; one of weight comes where the total would pass the greatest u64, and else one of memory
+pub record BringsIn {G : Type 0} (weight : ℕ) (old : FrequentState G) (result : Result ⊤ ErrorValue) (new : FrequentState G)
+    : Type 0 where
+  pub zero : weight ≡ 0 → IsOk result × (new ≡ old)
+  pub err : OnErr result (new ≡ old)
+  pub overflow : Overflows old weight → IsErrOf result (invalid_argument WeightOverflow)
+  pub memory : TotalHasRoom old weight → IfErr result (λ e. e ≡ no_memory)

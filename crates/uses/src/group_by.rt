@@ -2,18 +2,18 @@
 //!
 //! Each shard sums its rows up in a [`GroupSums`], the sums of the shards are merged, in any order and any tree, and the
 //! heavy groups are read off the last one.
-ghost use Rattle.std.specs.Prelude.{◌≡◌, ℕ, ◌+◌, ◌<◌, ◌≤◌, ◌/◌, ◌^◌, min, None, List, [], ◌∷◌, ◌++◌, false, sum_by, IfOk, IfErr, IsOk, IsTrue, OnOk, OnErr, IsErrOf, IsPermutation};
+ghost use Rattle.std.specs.Prelude.{◌≡◌, ℕ, ◌+◌, ◌<◌, ◌≤◌, ◌/◌, ◌^◌, min, None, List, [], ◌∷◌, ◌++◌, false, sum_by, IfOk, IfErr, IsOk, IsTrue, OnOk, IsPermutation};
 ghost use Rattle.sketch_base.specs.Checks.{IsImageRefusal};
-ghost use Rattle.sketch_base.specs.Errors.{invalid_argument, no_memory, refusal_of};
+ghost use Rattle.sketch_base.specs.Errors.{no_memory, refusal_of};
 ghost use Rattle.counter_table.specs.Bytes.{table_bytes};
 ghost use Rattle.sketch_frequencies.specs.Image.{IsImageOf, IsSpelledFor, IsImageWritingRefusal, early_fault_within, first_fault_within};
 ghost use Rattle.sketch_frequencies.specs.Rows.{ShowsExactly, Descends};
 ghost use Rattle.sketch_frequencies.specs.Sizes.{size_fault};
-ghost use Rattle.sketch_frequencies.specs.State.{FrequentState, IsState, Overflows, TotalHasRoom, empty_state, greatest_sample_size, must_double};
+ghost use Rattle.sketch_frequencies.specs.State.{FrequentState, TotalHasRoom, empty_state, greatest_sample_size, must_double};
 ghost use Rattle.sketch_frequencies.specs.Steps.{Steps, JoinsEqual};
-ghost use Rattle.uses.specs.Groups.{SumsUp, ReportsHeavy, CarriesSums};
+ghost use Rattle.uses.specs.Groups.{BringsIn, SumsUp, ReportsHeavy, CarriesSums};
 
-use sketch_base::{Error, Fault};
+use sketch_base::Error;
 use sketch_frequencies::{ErrorType, FrequentItemValue, FrequentItemsSketch, Row, laws};
 use std::alloc::Global;
 use std::hash::Hash;
@@ -55,15 +55,12 @@ impl<G: Eq + Hash + Drop> GroupSums<G> {
     ///
     /// Those of [`update_with_count`](FrequentItemsSketch::update_with_count). The sums are then as they were.
     pub fn add(&mut self, group: G, weight: u64) -> Result<(), Error>
-        ensures zero { weight ≡ 0 → IsOk result × (self.new ≡ self.old) }
+        ensures weight { BringsIn weight self.old result self.new }
         ensures step { OnOk result (0 < weight → Steps G.eq self.old group weight self.new) }
         ensures sums { OnOk result ((n : ℕ) (rows : List (G × ℕ)) → SumsUp G.eq n self.old rows
             → SumsUp G.eq n self.new (rows ++ (group, weight) ∷ [])) }
 
-        // A refusal changes nothing. Memory is refused only where the table must double.
-        ensures err { OnErr result (self.new ≡ self.old) }
-        ensures overflow { Overflows self.old weight → IsErrOf result (invalid_argument Fault.WeightOverflow) }
-        ensures memory { TotalHasRoom self.old weight → IfErr result (λ e. e ≡ no_memory) }
+        // Memory is refused only where the table must double.
         ensures succeeds { TotalHasRoom self.old weight → must_double G.eq self.old group ≡ false → IsOk result }
     {
         self.sketch.update_with_count(group, weight)
@@ -79,17 +76,12 @@ impl<G: Eq + Hash + Drop> GroupSums<G> {
     where
         G: Clone,
         requires clones { (x y : G) → G.is_clone x y → IsTrue (G.eq x y) }
-        ensures nothing { other.now.total ≡ 0 → IsOk result × (self.new ≡ self.old) }
+        ensures weight { BringsIn other.now.total self.old result self.new }
         ensures join { OnOk result (JoinsEqual G.eq self.old other.now self.new) }
 
         // Where one keeps room for m groups that are set aside and the other for n, both keep it for the lesser of them.
         ensures sums { OnOk result ((m n : ℕ) (rows more : List (G × ℕ)) → SumsUp G.eq m self.old rows
             → SumsUp G.eq n other.now more → SumsUp G.eq (min m n) self.new (rows ++ more)) }
-
-        // A refusal changes nothing.
-        ensures err { OnErr result (self.new ≡ self.old) }
-        ensures overflow { Overflows self.old other.now.total → IsErrOf result (invalid_argument Fault.WeightOverflow) }
-        ensures memory { TotalHasRoom self.old other.now.total → IfErr result (λ e. e ≡ no_memory) }
     {
         self.sketch.merge(&other.sketch)
     }

@@ -16,76 +16,66 @@ const MOST_BYTES: usize = 1 << 30;
 /// How long the bar of the heaviest group may be.
 const LONGEST_BAR: u64 = 40;
 
+/// The sums of the shards that lines name, each of so many slots.
+#[derive(Drop)]
+struct Shards {
+    alloc: Global,
+    size: usize,
+    sums: Vec<GroupSums<String>>,
+}
+
 /// Sums the rows of each shard up, merges the sums, and reports the heavy groups.
 pub fn run(alloc: Global, numbers: &[u64], text: &str, report: &mut String) -> Result<()> {
     let [size, threshold] = numbers else {
         bail!("group-by SIZE THRESHOLD");
     };
-    let all = sums_of(alloc, usize::try_from(*size)?, text)?;
+    let mut shards = Shards {
+        alloc,
+        size: usize::try_from(*size)?,
+        sums: Vec::new(alloc),
+    };
+    shards.add_rows(text)?;
+    let all = shards.merged()?;
     write_report(&all, *threshold, report)
 }
 
-/// The sums of all rows.
-fn sums_of(alloc: Global, size: usize, text: &str) -> Result<GroupSums<String>> {
-    let mut shards = Vec::new(alloc);
-    add_rows(alloc, size, &mut shards, text)?;
-    Ok(merged(alloc, size, &shards)?)
-}
-
-/// Adds each line `SHARD WEIGHT GROUP`.
-fn add_rows(
-    alloc: Global,
-    size: usize,
-    shards: &mut Vec<GroupSums<String>>,
-    text: &str,
-) -> Result<()> {
-    for line in text.lines() {
-        add_row(alloc, size, shards, line)?;
+impl Shards {
+    /// Adds each line `SHARD WEIGHT GROUP`.
+    fn add_rows(&mut self, text: &str) -> Result<()> {
+        for line in text.lines() {
+            self.add_row(line)?;
+        }
+        Ok(())
     }
-    Ok(())
-}
 
-fn add_row(
-    alloc: Global,
-    size: usize,
-    shards: &mut Vec<GroupSums<String>>,
-    line: &str,
-) -> Result<()> {
-    let mut words = line.split_whitespace();
-    let shard = next_place(&mut words, MOST_SHARDS)?;
-    let weight = next_number(&mut words)?;
-    let group = words.next().context("a short line")?;
-    make_shards(alloc, size, shards, shard)?;
-    if let Some(sums) = shards.get_mut(shard) {
-        sums.add(String::from_str(alloc, group)?, weight)?;
+    fn add_row(&mut self, line: &str) -> Result<()> {
+        let mut words = line.split_whitespace();
+        let shard = next_place(&mut words, MOST_SHARDS)?;
+        let weight = next_number(&mut words)?;
+        let group = words.next().context("a short line")?;
+        self.make_up_to(shard)?;
+        if let Some(sums) = self.sums.get_mut(shard) {
+            sums.add(String::from_str(self.alloc, group)?, weight)?;
+        }
+        Ok(())
     }
-    Ok(())
-}
 
-/// Makes shards up to one.
-fn make_shards(
-    alloc: Global,
-    size: usize,
-    shards: &mut Vec<GroupSums<String>>,
-    last: usize,
-) -> Result<(), Error> {
-    for _ in shards.len()..=last {
-        shards.push(GroupSums::new(alloc, size)?)?;
+    /// Makes shards up to one.
+    fn make_up_to(&mut self, last: usize) -> Result<(), Error> {
+        for _ in self.sums.len()..=last {
+            self.sums.push(GroupSums::new(self.alloc, self.size)?)?;
+        }
+        Ok(())
     }
-    Ok(())
-}
 
-/// The sums of all shards, each of which comes as an image.
-fn merged(
-    alloc: Global,
-    size: usize,
-    shards: &[GroupSums<String>],
-) -> Result<GroupSums<String>, Error> {
-    let mut all = GroupSums::new(alloc, size)?;
-    for shard in shards {
-        merge_image(alloc, &mut all, &shard.image()?)?;
+    /// The sums of all shards, each of which comes as an image.
+    fn merged(&self) -> Result<GroupSums<String>, Error> {
+        let mut all = GroupSums::new(self.alloc, self.size)?;
+        for sums in &self.sums {
+            merge_image(self.alloc, &mut all, &sums.image()?)?;
+        }
+        Ok(all)
     }
-    Ok(all)
 }
 
 /// Merges the sums of an image.
