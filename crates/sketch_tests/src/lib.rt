@@ -5,14 +5,4 @@
 #![tactic(auto)]
 
 #[cfg(test)]
-mod base;
-#[cfg(test)]
-mod bloom;
-#[cfg(test)]
-mod countmin;
-#[cfg(test)]
-mod frequencies;
-#[cfg(test)]
-mod sessions;
-#[cfg(test)]
-mod sizes;
+mod tests;

@@ -1,6 +1,6 @@
 //! An image of many items. What images say, altered and cut, is lines of the program, in
 //! `tests/loads.py`.
-use crate::frequencies::{numbers, once_each};
+use super::{numbers, once_each};
 use sketch_frequencies::laws;
 use std::test::Fail;
 

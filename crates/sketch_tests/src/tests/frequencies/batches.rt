@@ -1,6 +1,5 @@
 //! Calls for many items.
 use super::once_each;
-use sketch_frequencies::FrequentItemsSketch;
 use std::test::Fail;
 
 /// Items of which all but the last but one stand in a sketch of thousands: more than are hashed at once.
@@ -8,18 +7,13 @@ const ASKED: [i64; 18] = [
     1, 2, 3, 4, 5, 6, 7, 8, 9, 10, 11, 12, 13, 14, 15, 16, 5000, 3072,
 ];
 
-/// Their estimates, by one call.
-fn estimates_of_many(sketch: &FrequentItemsSketch<i64>) -> [u64; 18] {
-    let mut estimates = [0; 18];
-    sketch.estimate_all(&ASKED, &mut estimates);
-    estimates
-}
-
 #[test]
 fn takes_many_items_and_answers_for_many(rt: HostRuntime) -> Result<(), Fail> {
     let mut sketch = once_each(rt.alloc(), 4096, 3072)?;
     sketch.update_all(&ASKED[..16])?;
+    let mut estimates = [0; 18];
+    sketch.estimate_all(&ASKED, &mut estimates);
     let wanted = [2, 2, 2, 2, 2, 2, 2, 2, 2, 2, 2, 2, 2, 2, 2, 2, 0, 1];
-    assert!(rt; estimates_of_many(&sketch) == wanted);
+    assert!(rt; estimates == wanted);
     Ok(())
 }
