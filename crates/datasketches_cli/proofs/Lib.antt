@@ -6,6 +6,7 @@ pub mod Lines
 pub mod Numbers
 pub mod Printed
 pub mod Searching
+pub mod Shapes
 pub mod Transcripts
 pub mod Verbs
 pub mod Words

@@ -1,11 +1,13 @@
 -- The words of a line that are looked at, and the actions that they make.
-use Rattle.std.proofs.Common.{◌≡◌, ℕ, ◌-◌, ◌<◌, ◌≤◌, List, [], ◌∷◌, length, get_or, take, drop, filter, inl, inr, refl, sym, ◌∙◌, ap, subst, arith}
+use Rattle.std.proofs.Common.{◌≡◌, ◌≢◌, ℕ, ◌-◌, ◌^◌, ◌<◌, ◌≤◌, List, [], ◌∷◌, length, get_or, take, drop, filter, inl, inr, refl, sym, ◌∙◌, ap, subst, arith}
 use Rattle.std.specs.Prelude.{codes}
 use Rattle.std.specs.Str.{bytes_eq}
 use Rattle.std.specs.Borrow.{Bor}
 use Rattle.std.specs.Str.{IsUtf8}
 use Rattle.std.specs.String.{string_bytes}
+use Rattle.std.proofs.lemmas.Bool.{false≢true}
 use Rattle.std.proofs.lemmas.List.{take_all, length-take}
+use Rattle.datasketches.specs.ErrorType.{ErrorType}
 use Rattle.datasketches.specs.declared.action.Action.{Action}
 use Rattle.datasketches.specs.declared.action.Action.TheVariants as action
 use Rattle.datasketches.specs.declared.change.Change.{Change}
@@ -17,11 +19,13 @@ use Rattle.datasketches.specs.declared.join.Join.TheVariants as join
 use Rattle.datasketches.specs.declared.shape.Shape.{Shape}
 use Rattle.datasketches.specs.declared.shape.Shape.TheVariants as shape
 use Rattle.datasketches_cli.specs.Texts.{Text}
-use Rattle.datasketches_cli.specs.Grammar.{words_of, join_word, Make, MakeShape, MakeChange, MakeLoad, AreCounts}
+use Rattle.datasketches_cli.specs.Grammar.{words_of, join_word, number_below, report_word, Make, MakeShape, MakeChange, MakeLoad, AreCounts}
 use Rattle.datasketches_cli.specs.Asking.{Ask, Says}
 use Rattle.datasketches_cli.specs.declared.request.Request.{Request}
 use Rattle.datasketches_cli.specs.declared.request.Request.TheVariants as request
-use Rattle.datasketches_cli.specs.Parsing.{texts_of}
+use Rattle.datasketches_cli.specs.declared.parse.OnTwo.{OnTwo}
+use Rattle.datasketches_cli.specs.declared.parse.OnTwo.TheVariants as two
+use Rattle.datasketches_cli.specs.Parsing.{MakeThreshold, MakeTwo, texts_of, two_word}
 
 -- at most three words follow the verb and the name
 short_counts : (words : List (List ℕ)) (hashes buckets seed : ℕ) → AreCounts words hashes buckets seed → length words ≤ 3
@@ -144,6 +148,9 @@ number_made v name rest (action.Load n k image most) (r, digits, e, m, b) = ap (
 same_verb : (v w name name' : List ℕ) (xs ys : List (List ℕ)) → v ∷ name ∷ xs ≡ w ∷ name' ∷ ys → w ≡ v
 same_verb v w name name' xs ys e = sym (ap (λ (l : List (List ℕ)). get_or l 0 []) e)
 
+first_word : {v w : List ℕ} {xs ys : List (List ℕ)} → v ∷ xs ≡ w ∷ ys → v ≡ w
+first_word e = ap (λ (l : List (List ℕ)). get_or l 0 []) e
+
 -- words that make no change make no action, where their verb asks for one
 pub no_change : (v name : List ℕ) (rest : List (List ℕ)) → number_of_verb v ≡ 1 → ((c : Change Text) → ¬ MakeChange v rest c) → (a : Action Text) → ¬ Make (v ∷ name ∷ rest) a
 no_change v name rest is none (action.Change n c) (w, r, e, m) =
@@ -151,6 +158,50 @@ no_change v name rest is none (action.Change n c) (w, r, e, m) =
     let rest_is : r ≡ rest = sym (ap (drop 2) e) in
     none c (rw (verb_is, rest_is) at m)
 no_change v name rest is none a made = omega (arith, is, number_made v name rest a made)
+
+-- words that make nothing of any kind make no action
+pub no_kind : (v name : List ℕ) (rest : List (List ℕ)) → v ≢ codes "image" → v ≢ codes "status" → v ≢ codes "ask" → v ≢ codes "rows" → v ≢ codes "load" → ((c : Change Text) → ¬ MakeChange v rest c)
+    → ((asked : OnTwo) → v ≢ two_word asked) → ((s : Shape) → ¬ MakeShape v rest s) → (a : Action Text) → ¬ Make (v ∷ name ∷ rest) a
+no_kind v name rest i j k l m c t s (action.Create n x) (w, r, e, made) =
+    let verb_is : w ≡ v = same_verb v w name (string_bytes n) rest r e in
+    let rest_is : r ≡ rest = sym (ap (drop 2) e) in
+    s x (rw (verb_is, rest_is) at made)
+no_kind v name rest i j k l m c t s (action.Change n x) (w, r, e, made) =
+    let verb_is : w ≡ v = same_verb v w name (string_bytes n) rest r e in
+    let rest_is : r ≡ rest = sym (ap (drop 2) e) in
+    c x (rw (verb_is, rest_is) at made)
+no_kind v name rest i j k l m c t s (action.Join into other join) e = t (two.Join join) (first_word e)
+no_kind v name rest i j k l m c t s (action.Save n image) e = t two.Save (first_word e)
+no_kind v name rest i j k l m c t s (action.Restore image n) e = t two.Restore (first_word e)
+no_kind v name rest i j k l m c t s (action.ShowImage image) e = i (first_word e)
+no_kind v name rest i j k l m c t s (action.Ask n item) e = k (first_word e)
+no_kind v name rest i j k l m c t s (action.GetStatus n) e = j (first_word e)
+no_kind v name rest i j k l m c t s (action.ListRows n error_type threshold) (x, e, y) = l (first_word e)
+no_kind v name rest i j k l m c t s (action.Load n kind image most) (r, digits, e, x, b) = m (first_word e)
+
+-- words that are no two numbers make no decay
+pub no_decay : (words : List (List ℕ)) → ((n : ℕ × ℕ) → ¬ MakeTwo words n) → (c : Change Text) → ¬ MakeChange (codes "decay") words c
+no_decay words none (change.Decay numerator denominator) (n, d, w, e, x, y) = none (numerator, denominator) (n, d, e, x, y)
+no_decay words none (change.Add item weight) (n, w, e, x) = false≢true (sym (ap (bytes_eq (codes "decay")) w))
+no_decay words none (change.AddSigned item weight) (n, w, e, x) = false≢true (sym (ap (bytes_eq (codes "decay")) w))
+no_decay words none (change.Insert item) (w, e) = false≢true (sym (ap (bytes_eq (codes "decay")) w))
+no_decay words none change.Reset (w, e) = false≢true (sym (ap (bytes_eq (codes "decay")) w))
+no_decay words none change.Halve (w, e) = false≢true (sym (ap (bytes_eq (codes "decay")) w))
+
+-- two words that are no kind of report and no threshold ask for no rows
+rows_of_two : (name first second : List ℕ) → ((made : ErrorType × ℕ) → ¬ MakeThreshold first second made) → (a : Action Text) → ¬ Make (codes "rows" ∷ name ∷ first ∷ second ∷ []) a
+rows_of_two name first second none (action.ListRows n kind threshold) (number, e, x) =
+    let report : first ≡ report_word kind = ap (λ (l : List (List ℕ)). get_or l 2 []) e in
+    let same : second ≡ number = ap (λ (l : List (List ℕ)). get_or l 3 []) e in
+    none (kind, threshold) (report, ap (number_below (2 ^ 64)) same ∙ x)
+rows_of_two name first second none a made = omega (arith, number_made (codes "rows") name (first ∷ second ∷ []) a made)
+
+pub no_rows : (name : List ℕ) (words : List (Bor (List ℕ))) (d d' : Bor (List ℕ)) → 2 ≤ length words → length words < 3 → ((made : ErrorType × ℕ) → ¬ MakeThreshold (get_or words 0 d).now (get_or words 1 d').now made)
+    → (a : Action Text) → ¬ Make (codes "rows" ∷ name ∷ texts_of words) a
+no_rows name [] d d' some few none a made = absurd (omega arith)
+no_rows name (x ∷ []) d d' some few none a made = absurd (omega arith)
+no_rows name (x ∷ y ∷ []) d d' some few none a made = rows_of_two name x.now y.now none a made
+no_rows name (x ∷ y ∷ z ∷ zs) d d' some few none a made = absurd (omega arith)
 
 -- a verb, a name and the words that follow them
 pub split_action : (words : List (Bor (List ℕ))) (first second : Bor (List ℕ)) (v : List ℕ) (n : ℕ) → 2 ≤ length words → n ≡ length words - 2 → (get_or words 0 first).now ≡ v → texts_of words ≡ v ∷ (get_or words 1 second).now ∷ texts_of (take n (drop 2 words))

@@ -1,17 +1,20 @@
 -- What parsing finds in a line.
-use Rattle.std.specs.Prelude.{◌≡◌, ◌≢◌, ℕ, Bool, true, false, List, [], ◌∷◌, map, Option, MatchOption, codes}
+use Rattle.std.specs.Prelude.{◌≡◌, ◌≢◌, ℕ, ◌^◌, Bool, true, false, List, [], ◌∷◌, map, Option, Some, MatchOption, codes}
 use Rattle.std.specs.Borrow.{Bor}
 use Rattle.datasketches.specs.ErrorType.{ErrorType}
 use Rattle.datasketches.specs.declared.action.Action.{Action}
 use Rattle.datasketches.specs.declared.change.Change.{Change}
 use Rattle.datasketches.specs.declared.image_kind.ImageKind.{ImageKind}
-use Rattle.datasketches.specs.declared.join.Join.{Join}
 use Rattle.datasketches.specs.declared.shape.Shape.{Shape}
 use Rattle.datasketches_cli.specs.Texts.{Text}
+use Rattle.datasketches_cli.specs.declared.parse.OnOne.{OnOne}
+use Rattle.datasketches_cli.specs.declared.parse.OnOne.TheVariants as one
+use Rattle.datasketches_cli.specs.declared.parse.OnTwo.{OnTwo}
+use Rattle.datasketches_cli.specs.declared.parse.OnTwo.TheVariants as two
 use Rattle.datasketches_cli.specs.declared.parse.load.Loading.{Loading}
 use Rattle.datasketches_cli.specs.declared.request.Request.{Request}
 use Rattle.datasketches_cli.specs.Asking.{AskOnWindows}
-use Rattle.datasketches_cli.specs.Grammar.{report_word, join_word, MakeShape, MakeChange, MakeLoad, Make}
+use Rattle.datasketches_cli.specs.Grammar.{number_below, report_word, join_word, MakeShape, MakeChange, MakeLoad, Make}
 
 -- the texts of some words
 abbrev pub texts_of : List (Bor (List ℕ)) → List (List ℕ)
@@ -27,6 +30,34 @@ abbrev pub IsReportOf : List ℕ → Option ErrorType → Type 0
 IsReportOf word found =
     MatchOption found ((error_type : ErrorType) → word ≢ report_word error_type)
     (λ error_type. word ≡ report_word error_type)
+
+-- the words are a kind of report and a threshold
+abbrev pub MakeThreshold : List ℕ → List ℕ → ErrorType × ℕ → Type 0
+MakeThreshold report number found = (report ≡ report_word found.0) × (number_below (2 ^ 64) number ≡ Some found.1)
+
+-- these, or none where the words make none
+abbrev pub IsThresholdOf : List ℕ → List ℕ → Option (ErrorType × ℕ) → Type 0
+IsThresholdOf report number found =
+    MatchOption found ((made : ErrorType × ℕ) → ¬ MakeThreshold report number made) (MakeThreshold report number)
+
+-- the words are two, and make these numbers
+abbrev pub MakeTwo : List (List ℕ) → ℕ × ℕ → Type 0
+MakeTwo words found =
+    (a b : List ℕ) × (words ≡ a ∷ b ∷ []) × (number_below (2 ^ 64) a ≡ Some found.0)
+    × (number_below (2 ^ 64) b ≡ Some found.1)
+
+-- the words are three, and make these numbers
+abbrev pub MakeThree : List (List ℕ) → ℕ × ℕ × ℕ → Type 0
+MakeThree words found =
+    (a b c : List ℕ) × (words ≡ a ∷ b ∷ c ∷ []) × (number_below (2 ^ 64) a ≡ Some found.0)
+    × (number_below (2 ^ 64) b ≡ Some found.1) × (number_below (2 ^ 64) c ≡ Some found.2)
+
+-- the numbers, or none where the words make none
+abbrev pub AreTwoNumbers : List (List ℕ) → Option (ℕ × ℕ) → Type 0
+AreTwoNumbers words found = MatchOption found ((made : ℕ × ℕ) → ¬ MakeTwo words made) (MakeTwo words)
+
+abbrev pub AreThreeNumbers : List (List ℕ) → Option (ℕ × ℕ × ℕ) → Type 0
+AreThreeNumbers words found = MatchOption found ((made : ℕ × ℕ × ℕ) → ¬ MakeThree words made) (MakeThree words)
 
 -- the verb that makes a Count-Min sketch of signed counts, or of unsigned ones
 abbrev pub count_verb : Bool → List ℕ
@@ -49,9 +80,20 @@ IsLoadingOf words found =
     ((kind : ImageKind) (most_bytes : ℕ) (digits : List ℕ) → ¬ MakeLoad words kind most_bytes digits)
     (λ loading. MakeLoad words loading.kind loading.most_bytes loading.digits.now)
 
--- the way to join sketches
-abbrev pub IsJoinOf : List ℕ → Option Join → Type 0
-IsJoinOf verb found = MatchOption found ((join : Join) → verb ≢ join_word join) (λ join. verb ≡ join_word join)
+-- the verb before one name
+abbrev pub one_word : OnOne → List ℕ
+one_word one.ShowImage = codes "image"
+one_word one.GetStatus = codes "status"
+
+-- the verb before two names
+abbrev pub two_word : OnTwo → List ℕ
+two_word two.Save = codes "save"
+two_word two.Restore = codes "restore"
+two_word (two.Join join) = join_word join
+
+-- what the verb asks for, or none where it is none of them
+abbrev pub AsksOfTwo : List ℕ → Option OnTwo → Type 0
+AsksOfTwo verb found = MatchOption found ((asked : OnTwo) → verb ≢ two_word asked) (λ asked. verb ≡ two_word asked)
 
 -- the action
 abbrev pub IsActionOf : List (List ℕ) → Option (Action Text) → Type 0

@@ -1,7 +1,7 @@
 -- What the parts of the loop do.
 use Rattle.std.specs.Prelude.{◌≡◌, ℕ, Bool, true, false, List, [], ◌++◌, Option, None, Some, IfSome}
 use Rattle.std.specs.Io.BufRead.{strip_last}
-use Rattle.std.specs.Io.KnownBytes.{Appends}
+use Rattle.std.specs.Io.KnownBytes.{Appends, IsAtEnd}
 use Rattle.std.specs.String.{string_bytes}
 use Rattle.datasketches.specs.declared.action.Action.{Action}
 use Rattle.datasketches.specs.declared.action.Action.TheVariants as action
@@ -12,12 +12,14 @@ use Rattle.datasketches_cli.specs.Texts.{Text}
 use Rattle.datasketches_cli.specs.declared.responder.Responder.{Responder}
 use Rattle.datasketches_cli.specs.declared.responder.LineOutcome.{LineOutcome}
 use Rattle.datasketches_cli.specs.declared.responder.LineOutcome.TheVariants as line
+use Rattle.datasketches_cli.specs.declared.serve.Ended.{Ended}
+use Rattle.datasketches_cli.specs.declared.serve.Ended.TheVariants.{All}
 use Rattle.datasketches_cli.specs.declared.request.Answer.{Answer}
 use Rattle.datasketches_cli.specs.declared.request.Request.{Request}
 use Rattle.datasketches_cli.specs.declared.request.Request.TheVariants as request
 use Rattle.datasketches_cli.specs.Reading.{TakesLine}
 use Rattle.datasketches_cli.specs.Steps.{ServingStep}
-use Rattle.datasketches_cli.specs.Transcript.{answer_line}
+use Rattle.datasketches_cli.specs.Transcript.{answer_line, Serves}
 
 -- the front of what was gathered went to the writer
 abbrev pub WritesFront : Option (List ℕ) → Option (List ℕ) → List ℕ → List ℕ → Type 0
@@ -62,3 +64,9 @@ AnswersNext was is old new None = IfSome was (λ bytes. bytes ≡ []) × IsIdle 
 AnswersNext was is old new (Some became) =
     (line : List ℕ) × TakesLine true was is line
     × IsAnswered (strip_last 13 (strip_last 10 line)) old new became
+
+-- a run of the loop: it served its input and wrote all of it with no failure, and where all lines were read nothing is left
+pub record HasServed (input left held holds : Option (List ℕ)) (before now : ℕ) (ended : Ended) : Type 0 where
+  pub served : Serves input held holds ended
+  pub all_read : ended ≡ All → IsAtEnd left
+  pub all_written : now ≡ before

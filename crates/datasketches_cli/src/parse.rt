@@ -1,7 +1,7 @@
 //! Words to actions.
-ghost use Rattle.std.specs.Prelude.{◌∷◌, IfOk, codes};
-ghost use Rattle.datasketches_cli.specs.Grammar.{join_word};
-ghost use Rattle.datasketches_cli.specs.Parsing.{IsActionOf, IsJoinOf, texts_of};
+ghost use Rattle.std.specs.Prelude.{[], ◌∷◌, IfOk, codes, string_bytes};
+ghost use Rattle.datasketches_cli.specs.Grammar.{Make};
+ghost use Rattle.datasketches_cli.specs.Parsing.{AsksOfTwo, IsActionOf, one_word, texts_of, two_word};
 
 pub mod change;
 mod load;
@@ -13,10 +13,9 @@ pub mod words;
 use change::change_of;
 use datasketches::{Action, Join, Recycled};
 use load::load;
-use number::number_of;
 use shape::shape_of;
 use std::alloc::{AllocError, Global};
-use words::{copied, error_type_of};
+use words::{copied, report_of};
 
 /// The action that some words make, if they make one.
 type ParsedAction = Result<Option<Action<String>>, AllocError>;
@@ -32,11 +31,9 @@ pub fn action_of(
     ensures { IfOk result (IsActionOf (verb.now ∷ name.now ∷ texts_of words.now)) }
 {
     match verb {
-        "save" => save(alloc, name, words),
-        "restore" => restore(alloc, name, words),
-        "image" => show_image(alloc, name, words),
+        "image" => on_one(alloc, OnOne::ShowImage, name, words),
+        "status" => on_one(alloc, OnOne::GetStatus, name, words),
         "ask" => ask(alloc, name, words, recycled),
-        "status" => status(alloc, name, words),
         "rows" => rows(alloc, name, words),
         "load" => load(alloc, name, words),
         _ => {
@@ -44,8 +41,8 @@ pub fn action_of(
                 let name = copied(alloc, name, &mut recycled.name)?;
                 return Ok(Some(Action::Change { name, change }));
             }
-            if let Some(join) = join_of(verb) {
-                return join_named(alloc, join, name, words);
+            if let Some(asked) = two_of(verb) {
+                return on_two(alloc, asked, name, words);
             }
             if let Some(shape) = shape_of(verb, words) {
                 let name = String::from_str(alloc, name)?;
@@ -56,60 +53,81 @@ pub fn action_of(
     }
 }
 
-/// The way to join sketches that a verb is.
-fn join_of(verb: &str) -> Option<Join>
-    ensures { IsJoinOf verb.now result }
+/// What is asked for by a verb and a name alone.
+#[derive(Clone, Copy)]
+enum OnOne {
+    ShowImage,
+    GetStatus,
+}
+
+/// What is asked for by a verb, a name and another name.
+#[derive(Clone, Copy)]
+enum OnTwo {
+    Save,
+    Restore,
+    Join(Join),
+}
+
+/// What a verb asks for that stands before two names.
+fn two_of(verb: &str) -> Option<OnTwo>
+    ensures { AsksOfTwo verb.now result }
 {
     match verb {
-        "merge" => Some(Join::Merge),
-        "union" => Some(Join::Union),
-        "intersect" => Some(Join::Intersect),
-        "difference" => Some(Join::Difference),
+        "save" => Some(OnTwo::Save),
+        "restore" => Some(OnTwo::Restore),
+        "merge" => Some(OnTwo::Join(Join::Merge)),
+        "union" => Some(OnTwo::Join(Join::Union)),
+        "intersect" => Some(OnTwo::Join(Join::Intersect)),
+        "difference" => Some(OnTwo::Join(Join::Difference)),
         _ => None,
     }
 }
 
-fn join_named(alloc: Global, join: Join, into: &str, words: &[&str]) -> ParsedAction
-    ensures { IfOk result (IsActionOf (join_word join ∷ into.now ∷ texts_of words.now)) }
-{
-    let [other] = words else {
-        return Ok(None);
-    };
-    let into = String::from_str(alloc, into)?;
-    let other = String::from_str(alloc, other)?;
-    Ok(Some(Action::Join { into, other, join }))
-}
-
-fn save(alloc: Global, name: &str, words: &[&str]) -> ParsedAction
-    ensures { IfOk result (IsActionOf (codes "save" ∷ name.now ∷ texts_of words.now)) }
-{
-    let [image] = words else {
-        return Ok(None);
-    };
-    let name = String::from_str(alloc, name)?;
-    let image = String::from_str(alloc, image)?;
-    Ok(Some(Action::Save { name, image }))
-}
-
-fn restore(alloc: Global, image: &str, words: &[&str]) -> ParsedAction
-    ensures { IfOk result (IsActionOf (codes "restore" ∷ image.now ∷ texts_of words.now)) }
-{
-    let [name] = words else {
-        return Ok(None);
-    };
-    let image = String::from_str(alloc, image)?;
-    let name = String::from_str(alloc, name)?;
-    Ok(Some(Action::Restore { image, name }))
-}
-
-fn show_image(alloc: Global, image: &str, words: &[&str]) -> ParsedAction
-    ensures { IfOk result (IsActionOf (codes "image" ∷ image.now ∷ texts_of words.now)) }
+fn on_one(alloc: Global, asked: OnOne, name: &str, words: &[&str]) -> ParsedAction
+    ensures { IfOk result (IsActionOf (one_word asked ∷ name.now ∷ texts_of words.now)) }
 {
     if !words.is_empty() {
         return Ok(None);
     }
-    let image = String::from_str(alloc, image)?;
-    Ok(Some(Action::ShowImage { image }))
+    let name = String::from_str(alloc, name)?;
+    Ok(Some(action_on_one(asked, name)))
+}
+
+fn action_on_one(asked: OnOne, name: String) -> Action<String>
+    ensures { Make (one_word asked ∷ string_bytes name ∷ []) result }
+{
+    match asked {
+        OnOne::ShowImage => Action::ShowImage { image: name },
+        OnOne::GetStatus => Action::GetStatus { name },
+    }
+}
+
+fn on_two(alloc: Global, asked: OnTwo, name: &str, words: &[&str]) -> ParsedAction
+    ensures { IfOk result (IsActionOf (two_word asked ∷ name.now ∷ texts_of words.now)) }
+{
+    let [other] = words else {
+        return Ok(None);
+    };
+    let name = String::from_str(alloc, name)?;
+    let other = String::from_str(alloc, other)?;
+    Ok(Some(action_on_two(asked, name, other)))
+}
+
+fn action_on_two(asked: OnTwo, name: String, other: String) -> Action<String>
+    ensures { Make (two_word asked ∷ string_bytes name ∷ string_bytes other ∷ []) result }
+{
+    match asked {
+        OnTwo::Save => Action::Save { name, image: other },
+        OnTwo::Restore => Action::Restore {
+            image: name,
+            name: other,
+        },
+        OnTwo::Join(join) => Action::Join {
+            into: name,
+            other,
+            join,
+        },
+    }
 }
 
 /// The action of `ask`.
@@ -130,29 +148,18 @@ pub fn ask(
     Ok(Some(Action::Ask { name, item }))
 }
 
-fn status(alloc: Global, name: &str, words: &[&str]) -> ParsedAction
-    ensures { IfOk result (IsActionOf (codes "status" ∷ name.now ∷ texts_of words.now)) }
-{
-    if !words.is_empty() {
-        return Ok(None);
-    }
-    let name = String::from_str(alloc, name)?;
-    Ok(Some(Action::GetStatus { name }))
-}
-
 fn rows(alloc: Global, name: &str, words: &[&str]) -> ParsedAction
     ensures { IfOk result (IsActionOf (codes "rows" ∷ name.now ∷ texts_of words.now)) }
 {
     let [report, threshold] = words else {
         return Ok(None);
     };
-    let (Some(error_type), Some(threshold)) = (error_type_of(report), number_of(threshold)) else {
-        return Ok(None);
-    };
-    let name = String::from_str(alloc, name)?;
-    Ok(Some(Action::ListRows {
-        name,
-        error_type,
-        threshold,
-    }))
+    match report_of(report, threshold) {
+        Some((error_type, threshold)) => Ok(Some(Action::ListRows {
+            name: String::from_str(alloc, name)?,
+            error_type,
+            threshold,
+        })),
+        None => Ok(None),
+    }
 }

@@ -4,7 +4,7 @@ ghost use Rattle.std.specs.Prelude.{string_bytes, string_len};
 ghost use Rattle.std.specs.Io.BufRead.{strip_last};
 ghost use Rattle.std.specs.Io.KnownBytes.{Appends, IsAtEnd, prepend_known};
 ghost use Rattle.datasketches_cli.specs.Counts.{HasGrown};
-ghost use Rattle.datasketches_cli.specs.Serving.{AnswersNext, WritesFront};
+ghost use Rattle.datasketches_cli.specs.Serving.{AnswersNext, HasServed, WritesFront};
 ghost use Rattle.datasketches_cli.specs.Steps.{nothing_served};
 ghost use Rattle.datasketches_cli.specs.Transcript.{Serves, bad_line};
 
@@ -88,10 +88,8 @@ fn serve_lines<R: Read, W: Write>(
     reader: &mut Counted<R>,
     writer: &mut Counted<W>,
 ) -> Result<Ended, Stopped>
-    ensures served { IfOk result (Serves (R.remaining reader.old.inner)
-        (W.contents writer.old.inner) (W.contents writer.new.inner)) }
-    ensures all_read { IfOk result (λ ended. ended ≡ Ended.All → IsAtEnd (R.remaining reader.new.inner)) }
-    ensures all_written { OnOk result (writer.new.failures ≡ writer.old.failures) }
+    ensures { IfOk result (HasServed (R.remaining reader.old.inner) (R.remaining reader.new.inner)
+        (W.contents writer.old.inner) (W.contents writer.new.inner) writer.old.failures writer.new.failures) }
 {
     let mut lines = LineReader::new(alloc)?;
     let mut responder = Responder::new(alloc);
@@ -110,10 +108,8 @@ fn answer_lines<R: Read, W: Write>(
     requires serves { responder.old.state ≡ nothing_served }
     requires gathers { string_bytes responder.old.replies ≡ [] }
     requires unread { lines.old ≡ [] }
-    ensures served { IfOk result (Serves (R.remaining reader.old.inner)
-        (W.contents writer.old.inner) (W.contents writer.new.inner)) }
-    ensures all_read { IfOk result (λ ended. ended ≡ Ended.All → IsAtEnd (R.remaining reader.new.inner)) }
-    ensures all_written { OnOk result (writer.new.failures ≡ writer.old.failures) }
+    ensures { IfOk result (HasServed (R.remaining reader.old.inner) (R.remaining reader.new.inner)
+        (W.contents writer.old.inner) (W.contents writer.new.inner) writer.old.failures writer.new.failures) }
 {
     for before in 0..u128::MAX {
         let number = before + 1;

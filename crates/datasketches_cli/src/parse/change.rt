@@ -2,7 +2,7 @@
 ghost use Rattle.std.specs.Prelude.{IfOk, codes};
 ghost use Rattle.datasketches_cli.specs.Parsing.{IsChangeOf, texts_of};
 
-use super::number::{number_of, signed_number};
+use super::number::{number_of, signed_number, two_numbers};
 use super::words::copied;
 use datasketches::Change;
 use std::alloc::{AllocError, Global};
@@ -73,11 +73,9 @@ pub fn insert(alloc: Global, words: &[&str], recycled: &mut Option<String>) -> P
 fn decay(words: &[&str]) -> Option<Change<String>>
     ensures { IsChangeOf (codes "decay") (texts_of words.now) result }
 {
-    let [numerator, denominator] = words else {
-        return None;
-    };
+    let (numerator, denominator) = two_numbers(words)?;
     Some(Change::Decay {
-        numerator: number_of(numerator)?,
-        denominator: number_of(denominator)?,
+        numerator,
+        denominator,
     })
 }

@@ -1,6 +1,7 @@
-//! A word to a number.
+//! Words to numbers.
 ghost use Rattle.std.specs.Prelude.{◌≡◌, ◌^◌, [], ◌∷◌};
 ghost use Rattle.datasketches_cli.specs.Grammar.{number_below, signed_number};
+ghost use Rattle.datasketches_cli.specs.Parsing.{AreTwoNumbers, AreThreeNumbers, texts_of};
 
 /// The number that the digits of a word make, where it is one of 64 bits.
 pub fn number_of(word: &str) -> Option<u64>
@@ -28,25 +29,34 @@ fn digit_of(byte: u8) -> Option<u64>
     }
 }
 
-/// The same of 32 bits.
-pub fn number_of_u32(word: &str) -> Option<u32>
-    ensures { result ≡ number_below (2 ^ 32) word.now }
+/// The numbers that two words make.
+pub fn two_numbers(words: &[&str]) -> Option<(u64, u64)>
+    ensures { AreTwoNumbers (texts_of words.now) result }
 {
-    u32::try_from(number_of(word)?).ok()
+    let [first, second] = words else {
+        return None;
+    };
+    let (Some(first), Some(second)) = (number_of(first), number_of(second)) else {
+        return None;
+    };
+    Some((first, second))
 }
 
-/// The same of 16 bits.
-pub fn number_of_u16(word: &str) -> Option<u16>
-    ensures { result ≡ number_below (2 ^ 16) word.now }
+/// The numbers that three words make.
+pub fn three_numbers(words: &[&str]) -> Option<(u64, u64, u64)>
+    ensures { AreThreeNumbers (texts_of words.now) result }
 {
-    u16::try_from(number_of(word)?).ok()
-}
-
-/// The same of 8 bits.
-pub fn number_of_u8(word: &str) -> Option<u8>
-    ensures { result ≡ number_below (2 ^ 8) word.now }
-{
-    u8::try_from(number_of(word)?).ok()
+    let [first, second, third] = words else {
+        return None;
+    };
+    let (Some(first), Some(second), Some(third)) = (
+        number_of(first),
+        number_of(second),
+        number_of(third),
+    ) else {
+        return None;
+    };
+    Some((first, second, third))
 }
 
 /// The number of 64 bits that the digits of a word make, after a minus sign or none.

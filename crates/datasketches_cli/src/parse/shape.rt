@@ -2,7 +2,7 @@
 ghost use Rattle.std.specs.Prelude.{codes};
 ghost use Rattle.datasketches_cli.specs.Parsing.{IsShapeOf, count_verb, texts_of};
 
-use super::number::{number_of, number_of_u8, number_of_u16, number_of_u32};
+use super::number::{number_of, three_numbers, two_numbers};
 use datasketches::Shape;
 
 /// The shape that a verb and the words behind the name make.
@@ -33,12 +33,10 @@ fn frequent(words: &[&str]) -> Option<Shape>
 fn sampled(words: &[&str]) -> Option<Shape>
     ensures { IsShapeOf (codes "sampled") (texts_of words.now) result }
 {
-    let [max_map_size, sample_size] = words else {
-        return None;
-    };
+    let (max_map_size, sample_size) = two_numbers(words)?;
     Some(Shape::FrequentSampled {
-        max_map_size: number_of(max_map_size)? as usize,
-        sample_size: number_of(sample_size)? as usize,
+        max_map_size: max_map_size as usize,
+        sample_size: sample_size as usize,
     })
 }
 
@@ -46,16 +44,9 @@ fn sampled(words: &[&str]) -> Option<Shape>
 fn counts(signed: bool, words: &[&str]) -> Option<Shape>
     ensures { IsShapeOf (count_verb signed) (texts_of words.now) result }
 {
-    let [num_hashes, num_buckets, seed] = words else {
-        return None;
-    };
-    let (Some(num_hashes), Some(num_buckets), Some(seed)) = (
-        number_of_u8(num_hashes),
-        number_of_u32(num_buckets),
-        number_of(seed),
-    ) else {
-        return None;
-    };
+    let (num_hashes, num_buckets, seed) = three_numbers(words)?;
+    let num_hashes = u8::try_from(num_hashes).ok()?;
+    let num_buckets = u32::try_from(num_buckets).ok()?;
     if signed {
         Some(Shape::CountI64 {
             num_hashes,
@@ -74,19 +65,10 @@ fn counts(signed: bool, words: &[&str]) -> Option<Shape>
 fn bloom(words: &[&str]) -> Option<Shape>
     ensures { IsShapeOf (codes "bloom") (texts_of words.now) result }
 {
-    let [num_bits, num_hashes, seed] = words else {
-        return None;
-    };
-    let (Some(num_bits), Some(num_hashes), Some(seed)) = (
-        number_of(num_bits),
-        number_of_u16(num_hashes),
-        number_of(seed),
-    ) else {
-        return None;
-    };
+    let (num_bits, num_hashes, seed) = three_numbers(words)?;
     Some(Shape::Bloom {
         num_bits,
-        num_hashes,
+        num_hashes: u16::try_from(num_hashes).ok()?,
         seed,
     })
 }

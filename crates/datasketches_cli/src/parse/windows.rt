@@ -2,8 +2,8 @@
 ghost use Rattle.std.specs.Prelude.{◌∷◌, IfOk, codes};
 ghost use Rattle.datasketches_cli.specs.Parsing.{IsWindowsRequestOf, texts_of};
 
-use super::number::number_of;
-use super::words::error_type_of;
+use super::number::{number_of, two_numbers};
+use super::words::report_of;
 use crate::request::Request;
 use std::alloc::{AllocError, Global};
 
@@ -30,12 +30,10 @@ pub fn windows_request_of(alloc: Global, words: &[&str]) -> ParsedRequest
 fn windows(words: &[&str]) -> Option<Request>
     ensures { IsWindowsRequestOf (codes "windows" ∷ texts_of words.now) result }
 {
-    let [windows, max_map_size] = words else {
-        return None;
-    };
+    let (windows, max_map_size) = two_numbers(words)?;
     Some(Request::Windows {
-        windows: number_of(windows)?,
-        max_map_size: number_of(max_map_size)?,
+        windows,
+        max_map_size,
     })
 }
 
@@ -76,13 +74,8 @@ fn hreport(words: &[&str]) -> Option<Request>
     let [tenant, report, threshold] = words else {
         return None;
     };
-    let (Some(tenant), Some(error_type), Some(threshold)) = (
-        number_of(tenant),
-        error_type_of(report),
-        number_of(threshold),
-    ) else {
-        return None;
-    };
+    let tenant = number_of(tenant)?;
+    let (error_type, threshold) = report_of(report, threshold)?;
     Some(Request::Report {
         tenant,
         error_type,

@@ -1,8 +1,9 @@
 //! A line to words, and what a word is.
 ghost use Rattle.std.specs.Prelude.{◌≡◌, ◌≤◌, IfOk, length, string_bytes, take};
 ghost use Rattle.datasketches_cli.specs.Grammar.{words_of};
-ghost use Rattle.datasketches_cli.specs.Parsing.{IsReportOf, texts_of, with_word};
+ghost use Rattle.datasketches_cli.specs.Parsing.{IsReportOf, IsThresholdOf, texts_of, with_word};
 
+use super::number::number_of;
 use crate::search::first_place;
 use datasketches::frequencies::ErrorType;
 use std::alloc::{AllocError, Global};
@@ -58,7 +59,7 @@ pub fn copied(
 }
 
 /// The kind of report that a word names.
-pub fn error_type_of(word: &str) -> Option<ErrorType>
+fn error_type_of(word: &str) -> Option<ErrorType>
     ensures { IsReportOf word.now result }
 {
     match word {
@@ -66,4 +67,14 @@ pub fn error_type_of(word: &str) -> Option<ErrorType>
         "fp" => Some(ErrorType::NoFalsePositives),
         _ => None,
     }
+}
+
+/// The kind of report that a word names, and the threshold that another one makes.
+pub fn report_of(report: &str, threshold: &str) -> Option<(ErrorType, u64)>
+    ensures { IsThresholdOf report.now threshold.now result }
+{
+    let (Some(error_type), Some(threshold)) = (error_type_of(report), number_of(threshold)) else {
+        return None;
+    };
+    Some((error_type, threshold))
 }
