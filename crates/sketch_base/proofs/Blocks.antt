@@ -191,3 +191,14 @@ pub all_pieces : {S : Type 0} (write : S → List ℕ → S) (Fed : List ℕ →
     → (before : List ℕ) (s : S) (pieces : List (List ℕ)) → Fed before s → Fed (before ++ concat pieces) (fold write s pieces)
 all_pieces write Fed one before s [] h = rw append-nil h
 all_pieces write Fed one before s (piece ∷ pieces) h = rw (← append_assoc) (all_pieces write Fed one (before ++ piece) (write s piece) pieces (one before piece s h))
+
+-- ---- a function to which one piece and then another are the same as both at once
+
+module _ {S : Type 0} (write : S → List ℕ → S) (write_more : (s : S) (xs ys : List ℕ) → write (write s xs) ys ≡ write s (xs ++ ys)) where
+  -- one piece more
+  pub fed_more : (start s : S) (before piece : List ℕ) → s ≡ write start before → write s piece ≡ write start (before ++ piece)
+  fed_more start s before piece fed = ap (λ (t : S). write t piece) fed ∙ write_more start before piece
+
+  -- all pieces of an item
+  pub fed_all : (start s t : S) (pieces : List (List ℕ)) → s ≡ write start [] → t ≡ fold write s pieces → t ≡ write start (concat pieces)
+  fed_all start s t pieces none all = all ∙ all_pieces write (λ bytes s. s ≡ write start bytes) (λ before piece s fed. fed_more start s before piece fed) [] s pieces none

@@ -5,7 +5,7 @@ use borrow.Rule.Slice.PartMut.{put_mid, post_of}
 use Rattle.std.specs.List.{concat}
 use Rattle.sketch_base.specs.Murmur3.{block, body, finalization, murmur3_x64_128}
 use Rattle.sketch_base.specs.Murmur3State.{Murmur3State, HasFed, initial, write, finish128}
-use Rattle.sketch_base.proofs.Blocks.{IsBlocks, all_pieces, none_whole, each_filled, tail_filled, each_more, tail_more, length_begun, left_after, left_behind, front_is, front_short, filled, room_filled}
+use Rattle.sketch_base.proofs.Blocks.{IsBlocks, none_whole, each_filled, tail_filled, each_more, tail_more, length_begun, left_after, left_behind, front_is, front_short, filled, room_filled}
 use Rattle.sketch_base.proofs.Blocks.Width.{Sixteen}
 use Rattle.sketch_base.proofs.KeptBytes.{zeros_behind}
 
@@ -42,20 +42,6 @@ write_more s xs ys =
     let total : ((s.total + length xs) % 2 ^ 64 + length ys) % 2 ^ 64 ≡ (s.total + length (xs ++ ys)) % 2 ^ 64 = omega (arith, length-append xs ys) in
     (λ i. fed (halves i) (tail i) (total i))
     ∙ ap (λ (bs : List ℕ). fed (body (length bs / 16) s.halves bs) (drop (16 * (length bs / 16)) bs) ((s.total + length (xs ++ ys)) % 2 ^ 64)) (append_assoc s.tail xs ys)
-
--- a hasher before its first byte
-pub HasFed-initial : (seed : ℕ) → HasFed seed [] (initial seed)
-unfolding write initial body
-HasFed-initial seed = record { state_is = refl }
-
--- one piece more
-pub HasFed-write : (seed : ℕ) (before piece : List ℕ) (s : Murmur3State) → HasFed seed before s → HasFed seed (before ++ piece) (write s piece)
-HasFed-write seed before piece s h =
-    record { state_is = ap (λ (t : Murmur3State). write t piece) h.state_is ∙ write_more (initial seed) before piece }
-
--- all pieces of an item
-pub HasFed-all : (seed : ℕ) (s t : Murmur3State) (pieces : List (List ℕ)) → HasFed seed [] s → t ≡ fold write s pieces → HasFed seed (concat pieces) t
-HasFed-all seed s t pieces h e = subst (HasFed seed (concat pieces)) (sym e) (all_pieces write (HasFed seed) (HasFed-write seed) [] s pieces h)
 
 -- the hash is that of all bytes fed
 pub finish128-HasFed : (seed : ℕ) (fed : List ℕ) (s : Murmur3State) → HasFed seed fed s → finish128 s ≡ murmur3_x64_128 fed seed

@@ -6,7 +6,7 @@ use Rattle.std.specs.List.{concat}
 use Rattle.std.proofs.lemmas.Bool.Decides.{nat_tests}
 use Rattle.sketch_base.specs.Xxh64.{Accumulators, stripe, stripes, xxh64}
 use Rattle.sketch_base.specs.Xxh64State.{Xxh64State, HasFed, initial, write, finish}
-use Rattle.sketch_base.proofs.Blocks.{IsBlocks, all_pieces, none_whole, one_whole, each_filled, tail_filled, blocks_more, each_more, tail_more, length_begun, room_filled, left_after, left_behind, front_is, front_short, filled}
+use Rattle.sketch_base.proofs.Blocks.{IsBlocks, none_whole, one_whole, each_filled, tail_filled, blocks_more, each_more, tail_more, length_begun, room_filled, left_after, left_behind, front_is, front_short, filled}
 use Rattle.sketch_base.proofs.Blocks.Width.{ThirtyTwo}
 
 -- nothing more
@@ -61,20 +61,6 @@ write_more s xs ys =
     let long = or_more s.is_long _ _ _ (sym count) in
     (λ i. fed s.seed (long i) (accumulators i) (tail i) (total i))
     ∙ ap (λ (bs : List ℕ). fed s.seed (s.is_long || nat_lt 0 (length bs / 32)) (stripes (length bs / 32) s.accumulators bs) (drop (32 * (length bs / 32)) bs) ((s.total + length (xs ++ ys)) % 2 ^ 64)) (append_assoc s.tail xs ys)
-
--- a hasher before its first byte
-pub HasFed-initial : (seed : ℕ) → HasFed seed [] (initial seed)
-unfolding write initial stripes
-HasFed-initial seed = record { state_is = refl }
-
--- one piece more
-pub HasFed-write : (seed : ℕ) (before piece : List ℕ) (s : Xxh64State) → HasFed seed before s → HasFed seed (before ++ piece) (write s piece)
-HasFed-write seed before piece s h =
-    record { state_is = ap (λ (t : Xxh64State). write t piece) h.state_is ∙ write_more (initial seed) before piece }
-
--- all pieces of an item
-pub HasFed-all : (seed : ℕ) (s t : Xxh64State) (pieces : List (List ℕ)) → HasFed seed [] s → t ≡ fold write s pieces → HasFed seed (concat pieces) t
-HasFed-all seed s t pieces h e = subst (HasFed seed (concat pieces)) (sym e) (all_pieces write (HasFed seed) (HasFed-write seed) [] s pieces h)
 
 -- the hash is that of all bytes fed
 pub finish-HasFed : (seed : ℕ) (fed : List ℕ) (s : Xxh64State) → HasFed seed fed s → finish s ≡ xxh64 fed seed

@@ -88,6 +88,8 @@ pub enum Fault {
 }
 
 impl Fault {
+    ghost use Rattle.sketch_base.specs.Faults.{fault_words};
+
     /// The text that names the fault to a person.
     pub fn text(self) -> &'static str
         ensures { result.now ≡ fault_text self }
@@ -104,8 +106,7 @@ impl Fault {
 
     /// The name and the text.
     fn words(self) -> (&'static str, &'static str)
-        ensures name { result.0.now ≡ fault_name self }
-        ensures text { result.1.now ≡ fault_text self }
+        ensures { (result.0.now, result.1.now) ≡ fault_words self }
     {
         match self {
             Fault::BadNumBits => ("BadNumBits", "num_bits out of range"),

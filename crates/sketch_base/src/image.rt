@@ -1,8 +1,8 @@
 //! The fields of images, which stand at fixed places, and what all images are checked for.
 //!
 //! Numbers have their lowest byte first. None of these calls takes memory.
-ghost use Rattle.std.specs.Prelude.{◌≡◌, ◌≢◌, ◌+◌, ◌<◌, ◌≤◌, length, take, drop, OnOk, IfErr};
-ghost use Rattle.std.specs.Int.{w16, w32, w64};
+ghost use Rattle.std.specs.Prelude.{◌≡◌, ◌≢◌, ◌+◌, ◌<◌, ◌≤◌, length, OnOk, IfErr};
+ghost use Rattle.std.specs.Int.{Width, w16, w32, w64, byte_len, from_le_bytes};
 ghost use Rattle.sketch_base.specs.Errors.{invalid_data};
 ghost use Rattle.sketch_base.specs.Fields.{le_at, signed_le_at};
 
@@ -43,11 +43,11 @@ pub fn check_version(version: u8) -> Result<(), Error>
     Ok(())
 }
 
-/// The `N` bytes at a place.
+/// The `N` bytes at a place, which are those of the number there.
 #[inline(always)]
 fn array_at<const N: usize>(image: &[u8], place: usize) -> [u8; N]
     requires { place + N ≤ length image.now }
-    ensures { result ≡ take N (drop place image.now) }
+    ensures { (w : Width) → byte_len w ≡ N → from_le_bytes w result ≡ le_at w image.now place }
 {
     let mut bytes = [0; N];
     bytes.copy_from_slice(&image[place..place + N]);
@@ -55,7 +55,6 @@ fn array_at<const N: usize>(image: &[u8], place: usize) -> [u8; N]
 }
 
 /// The unsigned number of two bytes at a place.
-#[tactic(auto, unfolding(crate::specs::Fields::le_at))]
 #[inline]
 pub fn u16_at(image: &[u8], place: usize) -> u16
     requires { place + 2 ≤ length image.now }
@@ -65,7 +64,6 @@ pub fn u16_at(image: &[u8], place: usize) -> u16
 }
 
 /// The unsigned number of four bytes at a place.
-#[tactic(auto, unfolding(crate::specs::Fields::le_at))]
 #[inline]
 pub fn u32_at(image: &[u8], place: usize) -> u32
     requires { place + 4 ≤ length image.now }
@@ -84,7 +82,6 @@ pub fn i32_at(image: &[u8], place: usize) -> i32
 }
 
 /// The unsigned number of eight bytes at a place.
-#[tactic(auto, unfolding(crate::specs::Fields::le_at))]
 #[inline]
 pub fn u64_at(image: &[u8], place: usize) -> u64
     requires { place + 8 ≤ length image.now }

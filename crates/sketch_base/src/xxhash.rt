@@ -1,6 +1,8 @@
 //! XXH64 as a hasher that takes bytes piece by piece.
-ghost use Rattle.std.specs.Prelude.{◌≡◌, ℕ, ◌+◌, ◌/◌, ◌≤◌, List, [], ◌++◌, length};
+ghost use Rattle.std.specs.Prelude.{◌≡◌, ℕ, ◌+◌, ◌/◌, ◌≤◌, List, [], ◌++◌, length, bit_xor};
+ghost use Rattle.std.specs.Int.{w64, rotate_left};
 ghost use Rattle.std.specs.List.{fold};
+ghost use Rattle.sketch_base.specs.MachineWords.{wrapping_mul};
 ghost use Rattle.sketch_base.specs.Xxh64 as spec;
 ghost use Rattle.sketch_base.specs.Xxh64State as pieces;
 
@@ -95,15 +97,20 @@ fn convergence(acc: Accumulators) -> u64
     merge_accumulator(merge_accumulator(h, acc.2), acc.3)
 }
 
+// A hash with a part of the rest taken in, turned and multiplied.
+#[inline(always)]
+fn mixed(h: u64, part: u64, turn: u32, factor: u64) -> u64
+    ensures { result ≡ wrapping_mul (rotate_left w64 (bit_xor h part) turn) factor }
+{
+    (h ^ part).rotate_left(turn).wrapping_mul(factor)
+}
+
 #[tactic(auto, unfolding(crate::specs::Xxh64::consume_word))]
 #[inline(always)]
 fn consume_word(h: u64, lane: u64) -> u64
     ensures { result ≡ spec.consume_word h lane }
 {
-    (h ^ round(0, lane))
-        .rotate_left(27)
-        .wrapping_mul(PRIME64_1)
-        .wrapping_add(PRIME64_4)
+    mixed(h, round(0, lane), 27, PRIME64_1).wrapping_add(PRIME64_4)
 }
 
 #[tactic(auto, unfolding(crate::specs::Xxh64::consume_half_word))]
@@ -111,10 +118,7 @@ fn consume_word(h: u64, lane: u64) -> u64
 fn consume_half_word(h: u64, lane: u64) -> u64
     ensures { result ≡ spec.consume_half_word h lane }
 {
-    (h ^ lane.wrapping_mul(PRIME64_1))
-        .rotate_left(23)
-        .wrapping_mul(PRIME64_2)
-        .wrapping_add(PRIME64_3)
+    mixed(h, lane.wrapping_mul(PRIME64_1), 23, PRIME64_2).wrapping_add(PRIME64_3)
 }
 
 #[tactic(auto, unfolding(crate::specs::Xxh64::consume_byte))]
@@ -122,9 +126,7 @@ fn consume_half_word(h: u64, lane: u64) -> u64
 fn consume_byte(h: u64, lane: u8) -> u64
     ensures { result ≡ spec.consume_byte h lane }
 {
-    (h ^ (lane as u64).wrapping_mul(PRIME64_5))
-        .rotate_left(11)
-        .wrapping_mul(PRIME64_1)
+    mixed(h, (lane as u64).wrapping_mul(PRIME64_5), 11, PRIME64_1)
 }
 
 #[inline(always)]

@@ -1,7 +1,8 @@
-use Rattle.sketch_base.specs.Murmur3State.{initial}
-use Rattle.sketch_base.proofs.Murmur3Pieces.{HasFed-initial}
+use Rattle.std.proofs.Common.{refl}
+use Rattle.sketch_base.specs.Murmur3.{body}
+use Rattle.sketch_base.specs.Murmur3State.{initial, write}
 use Rattle.sketch_base.proofs.murmurhash.MurmurHash3X64128.with_seed.Goals as goal
 
 pub returns : goal.returns
-unfolding initial
-returns c = HasFed-initial c.args.seed
+unfolding initial write body
+returns c = record { state_is = refl }

@@ -1,0 +1,6 @@
+use Rattle.std.proofs.Common.{refl, ◌∙◌}
+use Rattle.std.specs.Int.{w16}
+use Rattle.sketch_base.proofs.image.u16_at.Goals as goal
+
+pub returns : goal.returns
+returns c = c.from_le_bytes.ensures ∙ c.array_at.ensures w16 refl
