@@ -5,8 +5,9 @@
 ghost use Rattle.std.specs.Prelude.{◌≡◌, ◌+◌, ◌*◌, ◌/◌, ◌%◌, ◌<◌, ◌≤◌, ◌==◌, ◌↔◌, true, IsTrue, map, fold, length, take, drop, count_ones};
 ghost use Rattle.std.specs.List.{sum_by};
 ghost use Rattle.std.specs.FinSet as set;
+ghost use Rattle.std.specs.Simd.Lanes.{zip2, chunk, put_chunk};
 ghost use Rattle.sketch_bloom.specs.BitSet.{set_of};
-ghost use Rattle.sketch_bloom.specs.Operations.{on_sets};
+ghost use Rattle.sketch_bloom.specs.Operations.{on_sets, on_words};
 ghost use Rattle.sketch_bloom.specs.Positions.{position, positions};
 ghost use Rattle.sketch_bloom.specs.Pairs.{contains_pair, with_pair};
 
@@ -205,21 +206,13 @@ pub fn combine(words: &mut [u64], other: &[u64], operation: SetOperation) -> u64
     // The labels are there for the prover alone: its goals are named after them.
     'eights: for b in 0..eights {
         let at = 8 * b;
-        let combined = operation.words(
-            u64x8::from_slice(&words[at..]),
-            u64x8::from_slice(&other[at..]),
-        );
-        combined.copy_to_slice(&mut words[at..]);
+        combine_block::<8>(words, other, at, operation);
         size += ones_of_eight(words, at);
     }
     let fours = words.len() / 4;
     'fours: for b in 2 * eights..fours {
         let at = 4 * b;
-        let combined = operation.words(
-            u64x4::from_slice(&words[at..]),
-            u64x4::from_slice(&other[at..]),
-        );
-        combined.copy_to_slice(&mut words[at..]);
+        combine_block::<4>(words, other, at, operation);
         size += ones_of_four(words, at);
     }
     'rest: for i in 4 * fours..words.len() {
@@ -227,6 +220,26 @@ pub fn combine(words: &mut [u64], other: &[u64], operation: SetOperation) -> u64
         size += words[i].count_ones() as u64;
     }
     size
+}
+
+/// Combines the `N` words from a place on.
+#[inline(always)]
+fn combine_block<const N: usize>(
+    words: &mut [u64],
+    other: &[u64],
+    at: usize,
+    operation: SetOperation,
+)
+    requires mine { at + N ≤ length words.old }
+    requires theirs { at + N ≤ length other.now }
+    ensures { words.new
+        ≡ put_chunk at words.old (zip2 (on_words operation) (chunk at N words.old) (chunk at N other.now)) }
+{
+    let combined = operation.words(
+        Simd::<u64, N>::from_slice(&words[at..]),
+        Simd::<u64, N>::from_slice(&other[at..]),
+    );
+    combined.copy_to_slice(&mut words[at..]);
 }
 
 /// How many bits are set in the eight words from a place on.

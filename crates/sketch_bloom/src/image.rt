@@ -134,33 +134,25 @@ pub fn begin_image(
     ensures seed_fits { seed < 2 ^ 64 }
 {
     let mut out = SketchBytes::with_capacity(alloc, room)?;
-    write_preamble(&mut out, longs, flags, num_hashes, seed, num_words)?;
+    out.write(&preamble_bytes(longs, flags, num_hashes, seed, num_words))?;
     Ok(out)
 }
 
-/// Writes the preamble of an image.
-fn write_preamble(
-    out: &mut SketchBytes,
-    longs: u8,
-    flags: u8,
-    num_hashes: u16,
-    seed: u64,
-    num_words: usize,
-) -> Result<(), Error>
+/// The bytes of the preamble of an image.
+fn preamble_bytes(longs: u8, flags: u8, num_hashes: u16, seed: u64, num_words: usize) -> [u8; 24]
     requires { num_words ≤ MAX_NUM_WORDS }
-    ensures ok { OnOk result (out.new.bytes ≡ out.old.bytes ++ preamble longs flags num_hashes seed num_words) }
-    ensures err { IfErr result (λ e. e ≡ no_memory) }
+    ensures { result ≡ preamble longs flags num_hashes seed num_words }
 {
     let version = SERIAL_VERSION;
     let family = Family::BLOOMFILTER.id;
     let hashes = num_hashes.to_le_bytes();
     let seed = seed.to_le_bytes();
     let words = (num_words as u32).to_le_bytes();
-    out.write(&[
+    [
         longs, version, family, flags, hashes[0], hashes[1], 0, 0, seed[0], seed[1], seed[2],
         seed[3], seed[4], seed[5], seed[6], seed[7], words[0], words[1], words[2], words[3], 0, 0,
         0, 0,
-    ])
+    ]
 }
 
 /// How many words are written at once.

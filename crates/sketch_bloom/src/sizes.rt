@@ -10,18 +10,12 @@ ghost use Rattle.sketch_bloom.specs.Sizes.{IsLn2TimesWithin, AreEnoughBits, AreE
 use crate::limits::{MAX_NUM_BITS, MAX_NUM_HASHES};
 use sketch_base::{Error, Fault};
 
-/// What is divided in a fraction just below ln 2, the natural logarithm of 2. By this one and the one just above it whole
-/// numbers are rounded as by ln 2 itself, up to 64 times the most bits of a filter.
-const BELOW_LN2_NUMERATOR: u128 = 5_339_223_998_540;
+/// A fraction just below ln 2, the natural logarithm of 2: what is divided, and by what. By this one and the one just above it
+/// whole numbers are rounded as by ln 2 itself, up to 64 times the most bits of a filter.
+const BELOW_LN2: (u128, u128) = (5_339_223_998_540, 7_702_871_984_889);
 
-/// What it is divided by.
-const BELOW_LN2_DENOMINATOR: u128 = 7_702_871_984_889;
-
-/// What is divided in a fraction just above ln 2.
-const ABOVE_LN2_NUMERATOR: u128 = 11_376_974_060_469;
-
-/// What it is divided by.
-const ABOVE_LN2_DENOMINATOR: u128 = 16_413_504_057_361;
+/// A fraction just above ln 2.
+const ABOVE_LN2: (u128, u128) = (11_376_974_060_469, 16_413_504_057_361);
 
 /// The powers of 2 from 63 on in steps of a 64th, rounded down.
 const POWERS_OF_TWO: [u64; 64] = [
@@ -147,7 +141,7 @@ pub fn suggest_num_bits(num_items: u64, questions: u64) -> Result<u64, Error>
         return Err(Error::invalid_argument(Fault::BadNumBits));
     }
     let bits_of_64 = num_items as u128 * log_in_64ths(questions) as u128;
-    let num_bits = (bits_of_64 * BELOW_LN2_DENOMINATOR).div_ceil(64 * BELOW_LN2_NUMERATOR);
+    let num_bits = (bits_of_64 * BELOW_LN2.1).div_ceil(64 * BELOW_LN2.0);
     if num_bits > MAX_NUM_BITS as u128 {
         return Err(Error::invalid_argument(Fault::BadNumBits));
     }
@@ -181,9 +175,7 @@ pub fn suggest_num_hashes(num_bits: u64, num_items: u64) -> Result<u16, Error>
     if num_items == 0 {
         return Err(Error::invalid_argument(Fault::BadNumHashes));
     }
-    let bits_times_ln2 = (num_bits as u128 * ABOVE_LN2_NUMERATOR).div_ceil(
-        ABOVE_LN2_DENOMINATOR,
-    ) as u64;
+    let bits_times_ln2 = (num_bits as u128 * ABOVE_LN2.0).div_ceil(ABOVE_LN2.1) as u64;
     let num_hashes = bits_times_ln2.div_ceil(num_items);
     if num_hashes > MAX_NUM_HASHES as u64 {
         return Err(Error::invalid_argument(Fault::BadNumHashes));

@@ -1,7 +1,7 @@
 use Rattle.std.proofs.Common.{ℕ, List, ◌+◌, ◌*◌, ◌≡◌, ◌<◌, ◌≤◌, ◌^◌, get_or, set, refl, sym, ap, ◌∙◌, arith}
 use Rattle.std.specs.Int.RustNames.{count_ones}
 use Rattle.std.proofs.lemmas.Nat.{ones-le}
-use lib.Lanes.{zip2, put_chunk}
+use lib.Lanes.{zip2}
 use Rattle.sketch_bloom.specs.BitSet.{set_of}
 use Rattle.sketch_bloom.specs.Operations.{on_words}
 use Rattle.sketch_bloom.proofs.Counting.{len-set_of}
@@ -16,13 +16,13 @@ pub eights-preserved : goal.eights-preserved
 eights-preserved c =
     combined_block (on_words c.args.operation) 8 (8 * c.eights.b) (8 * (c.eights.b + 1)) c.args.words.now c.args.other.now c.eights.words _ c.eights.size c.ones_of_eight-size.result
     (omega arith) c.requires.same (omega arith) (omega arith) c.eights.invariant
-    (ap (put_chunk (8 * c.eights.b) c.eights.words) c.words-combined.ensures) c.ones_of_eight-size.ensures.count c.ones_of_eight-size.ensures.few
+    c.combine_block.ensures c.ones_of_eight-size.ensures.count c.ones_of_eight-size.ensures.few
 
 pub fours-preserved : goal.fours-preserved
 fours-preserved c =
     combined_block (on_words c.args.operation) 4 (4 * c.fours.b) (4 * (c.fours.b + 1)) c.args.words.now c.args.other.now c.fours.words _ c.fours.size c.ones_of_four-size.result
     (omega arith) c.requires.same (omega arith) (omega arith) c.fours.invariant
-    (ap (put_chunk (4 * c.fours.b) c.fours.words) c.words-combined-in-fours.ensures) c.ones_of_four-size.ensures.count c.ones_of_four-size.ensures.few
+    c.combine_block-in-fours.ensures c.ones_of_four-size.ensures.count c.ones_of_four-size.ensures.few
 
 pub overflow_add-size-in-rest : goal.overflow_add-size-in-rest
 overflow_add-size-in-rest c =
