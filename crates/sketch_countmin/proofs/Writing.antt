@@ -4,7 +4,7 @@ use Rattle.std.specs.List.{flat_map}
 use Rattle.std.proofs.Math.Seq.{take-add}
 use Rattle.std.proofs.lemmas.List.{take_more, map-append}
 use Rattle.std.proofs.lemmas.List.Elements.{All-push}
-use Rattle.std.proofs.lemmas.List.Concat.{flat_map-append}
+use Rattle.sketch_base.proofs.Writing.{piece_written}
 use Rattle.sketch_countmin.specs.Values.{bytes_of}
 
 -- the numbers of one value more
@@ -12,15 +12,6 @@ pub numbers_more : {T : Type 0} (number : T → ℤ) (counts : List T) (i : ℕ)
 numbers_more number counts i x lt is =
     ap (map number) (take_more counts i x lt)
     ∙ (ap (λ y. map number (take i counts ++ y ∷ [])) (sym is) ∙ map-append number (take i counts) (x ∷ []))
-
--- the bytes of one number more
-pub bytes_more : (done more : List ℤ) (z : ℤ) (old now new bytes : List ℕ) → more ≡ done ++ z ∷ [] → now ≡ old ++ flat_map bytes_of done → bytes ≡ bytes_of z → new ≡ now ++ bytes → new ≡ old ++ flat_map bytes_of more
-bytes_more done more z old now new bytes more_is now_is bytes_are new_is =
-    new_is
-    ∙ (ap (λ (bs : List ℕ). bs ++ bytes) now_is
-    ∙ (append_assoc old (flat_map bytes_of done) bytes
-    ∙ ap (λ (bs : List ℕ). old ++ bs) (ap (λ (bs : List ℕ). flat_map bytes_of done ++ bs) bytes_are
-    ∙ (sym (flat_map-append bytes_of done (z ∷ [])) ∙ ap (flat_map bytes_of) (sym more_is)))))
 
 -- a number takes eight bytes
 pub bytes_long : (z : ℤ) (bytes : List ℕ) → bytes ≡ bytes_of z → length bytes ≡ 8
@@ -34,19 +25,10 @@ numbers_block number counts part i n le part_is =
     ∙ (ap (map number) (take-add i (n - i) counts)
     ∙ (ap (λ y. map number (take i counts ++ y)) (sym part_is) ∙ map-append number (take i counts) part))
 
--- the bytes of several numbers more
-pub bytes_block : (done part more : List ℤ) (old now new bytes : List ℕ) → more ≡ done ++ part → now ≡ old ++ flat_map bytes_of done → bytes ≡ flat_map bytes_of part → new ≡ now ++ bytes → new ≡ old ++ flat_map bytes_of more
-bytes_block done part more old now new bytes more_is now_is bytes_are new_is =
-    new_is
-    ∙ (ap (λ (bs : List ℕ). bs ++ bytes) now_is
-    ∙ (append_assoc old (flat_map bytes_of done) bytes
-    ∙ ap (λ (bs : List ℕ). old ++ bs) (ap (λ (bs : List ℕ). flat_map bytes_of done ++ bs) bytes_are
-    ∙ (sym (flat_map-append bytes_of done part) ∙ ap (flat_map bytes_of) (sym more_is)))))
-
 -- one value more is written, and it is one of the type
 pub written_more : {T : Type 0} (number : T → ℤ) (range : ℤ → Type 0) (counts : List T) (i : ℕ) (x : T) (old now new bytes : List ℕ) → i < length counts → x ≡ get_or counts i x → bytes ≡ bytes_of (number x) → new ≡ now ++ bytes → range (number x)
     → now ≡ old ++ flat_map bytes_of (map number (take i counts)) → All range (map number (take i counts)) → (new ≡ old ++ flat_map bytes_of (map number (take (i + 1) counts))) × All range (map number (take (i + 1) counts))
 written_more number range counts i x old now new bytes lt is bytes_are new_is fits written in_range =
     let done : List ℤ = map number (take i counts) in
     let more : map number (take (i + 1) counts) ≡ done ++ number x ∷ [] = numbers_more number counts i x lt is in
-    (bytes_more done (map number (take (i + 1) counts)) (number x) old now new bytes more written bytes_are new_is, subst (λ (zs : List ℤ). All range zs) (sym more) (All-push range done (number x) in_range fits))
+    (piece_written bytes_of done (number x ∷ []) (map number (take (i + 1) counts)) old now new bytes more written bytes_are new_is, subst (λ (zs : List ℤ). All range zs) (sym more) (All-push range done (number x) in_range fits))

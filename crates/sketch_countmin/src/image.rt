@@ -180,30 +180,23 @@ pub fn begin_image(
     ensures err { IfErr result (λ e. e ≡ no_memory) }
 {
     let mut out = SketchBytes::with_capacity(alloc, room)?;
-    write_preamble(&mut out, flags, num_buckets, num_hashes, hash)?;
+    out.write(&preamble_bytes(flags, num_buckets, num_hashes, hash))?;
     Ok(out)
 }
 
-/// Writes the preamble of an image.
-fn write_preamble(
-    out: &mut SketchBytes,
-    flags: u8,
-    num_buckets: u32,
-    num_hashes: u8,
-    hash: u16,
-) -> Result<(), Error>
-    ensures ok { OnOk result (out.new.bytes ≡ out.old.bytes ++ preamble flags num_buckets num_hashes hash) }
-    ensures err { IfErr result (λ e. e ≡ no_memory) }
+/// The bytes of the preamble of an image.
+fn preamble_bytes(flags: u8, num_buckets: u32, num_hashes: u8, hash: u16) -> [u8; 16]
+    ensures { result ≡ preamble flags num_buckets num_hashes hash }
 {
     let longs = PREAMBLE_LONGS;
     let version = SERIAL_VERSION;
     let family = Family::COUNTMIN.id;
     let buckets = num_buckets.to_le_bytes();
     let hash = hash.to_le_bytes();
-    out.write(&[
+    [
         longs, version, family, flags, 0, 0, 0, 0, buckets[0], buckets[1], buckets[2], buckets[3],
         num_hashes, hash[0], hash[1], 0,
-    ])
+    ]
 }
 
 /// How many cells are written at once.

@@ -13,11 +13,9 @@ use sketch_base::{Error, Fault};
 /// The greatest number that e times stays below the cells that a sketch stays below.
 const GREATEST_PARTS: u64 = 395_007_541;
 
-/// What is divided in a fraction just above e. Its products with numbers up to the greatest, rounded up, are those of e.
-const ABOVE_E_NUMERATOR: u64 = 438_351_041;
-
-/// What it is divided by.
-const ABOVE_E_DENOMINATOR: u64 = 161_260_336;
+/// A fraction just above e: what is divided, and by what. Its products with numbers up to the greatest, rounded up, are those
+/// of e.
+const ABOVE_E: (u64, u64) = (438_351_041, 161_260_336);
 
 /// The powers of e from 0 up to 44, rounded down.
 const POWERS_OF_E: [u64; 45] = [
@@ -105,7 +103,7 @@ pub fn suggest_num_buckets(parts: u64) -> Result<u32, Error>
     if parts > GREATEST_PARTS {
         return Err(Error::invalid_argument(Fault::TableTooLarge));
     }
-    Ok((parts * ABOVE_E_NUMERATOR).div_ceil(ABOVE_E_DENOMINATOR) as u32)
+    Ok((parts * ABOVE_E.0).div_ceil(ABOVE_E.1) as u32)
 }
 
 /// How many hashes the published formula asks for, so that at most one estimate in `questions` is further above the item's

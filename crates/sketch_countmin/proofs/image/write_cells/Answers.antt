@@ -1,7 +1,8 @@
 use Rattle.std.proofs.Common.{◌≡◌, ℕ, ◌+◌, ◌-◌, ◌*◌, ◌/◌, ◌++◌, List, length, map, take, drop, ℤ, All, refl, sym, subst, arith}
 use Rattle.std.proofs.lemmas.List.Elements.{All-append}
-use Rattle.sketch_countmin.specs.Values.{InRange}
-use Rattle.sketch_countmin.proofs.Writing.{numbers_block, bytes_block, written_more}
+use Rattle.sketch_base.proofs.Writing.{piece_written}
+use Rattle.sketch_countmin.specs.Values.{InRange, bytes_of}
+use Rattle.sketch_countmin.proofs.Writing.{numbers_block, written_more}
 use Rattle.sketch_countmin.proofs.image.write_cells.Goals as goal
 
 pub whole-preserved : goal.whole-preserved
@@ -16,7 +17,7 @@ whole-preserved g c =
     let done : List ℤ = map number (take at counts) in
     let more : map number (take next counts) ≡ done ++ map number part = subst (λ (m : ℕ). map number (take m counts) ≡ done ++ map number part) (sym same) (numbers_block number counts part at (at + 8) (omega arith) refl) in
     record {
-      written = bytes_block done (map number part) (map number (take next counts)) c.args.out.now.bytes c.whole.out.bytes c.write.new.self.bytes c.bytes_of_block.result more c.whole.invariant.written c.bytes_of_block.ensures.bytes c.in_ok-write.ensures.ok;
+      written = piece_written bytes_of done (map number part) (map number (take next counts)) c.args.out.now.bytes c.whole.out.bytes c.write.new.self.bytes c.bytes_of_block.result more c.whole.invariant.written c.bytes_of_block.ensures.bytes c.in_ok-write.ensures.ok;
       in_range = subst (λ (zs : List ℤ). All range zs) (sym more) (All-append range done (map number part) c.whole.invariant.in_range c.bytes_of_block.ensures.in_range);
     }
 
