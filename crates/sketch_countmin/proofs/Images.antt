@@ -60,12 +60,14 @@ pub table_read : (least : ℤ) (greatest : ℕ) (row_seeds : List ℕ) (d seed m
 table_read least greatest row_seeds d seed m n most total cells bytes height width some few wide small seeded right not_negative fits most_is cells_are pass =
     let area : length row_seeds * d ≡ m * n = ap (λ (k : ℕ). k * d) height ∙ ap (λ (k : ℕ). m * k) width in
     record {
-      some_rows = omega (arith, height);
-      few_rows = omega (arith, height);
-      some_buckets = omega (arith, width);
-      few_cells = omega (arith, area);
-      seeded = seeded;
-      seeds = λ r lt. right r (omega (arith, lt, height));
+      shape = record {
+        some_rows = omega (arith, height);
+        few_rows = omega (arith, height);
+        some_buckets = omega (arith, width);
+        few_cells = omega (arith, area);
+        seeded = seeded;
+        seeds = λ r lt. right r (omega (arith, lt, height));
+      };
       size = ap length cells_are ∙ (length-numbers_in least (m * n) bytes ∙ sym area);
       total_is = not_negative;
       fits = fits;

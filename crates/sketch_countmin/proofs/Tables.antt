@@ -9,7 +9,7 @@ use Rattle.sketch_base.specs.Hashes.{seed_hash}
 use Rattle.sketch_countmin.specs.Rows.{cell_at, rows_of}
 use Rattle.sketch_countmin.specs.Buckets.{row_seed}
 use Rattle.sketch_countmin.specs.State.{CountState, IsCountState, empty_state}
-use Rattle.sketch_countmin.specs.Table.{IsTable, state_of}
+use Rattle.sketch_countmin.specs.Table.{IsTable, IsTableShape, state_of}
 
 -- what holds of each row and bucket holds of each place
 pub by_place : (P : ℕ → Type 0) (d rows : ℕ) → 0 < d → ((r : ℕ) → r < rows → (b : ℕ) → b < d → P (r * d + b)) → (k : ℕ) → k < rows * d → P k
@@ -99,12 +99,7 @@ zeros_read n k = ⊎_elim (λ (lt : k < n). get_or-replicate n k (pos 0) (pos 0)
 pub remade : (greatest : ℕ) (row_seeds : List ℕ) (d seed : ℕ) (t t' : ℤ) (old new : List ℤ) → IsTable greatest row_seeds d seed t old → length new ≡ length old
     → t' ≡ pos (unsigned_abs t') → unsigned_abs t' ≤ greatest → ((k : ℕ) → unsigned_abs (get_or new k (pos 0)) ≤ unsigned_abs t') → IsTable greatest row_seeds d seed t' new
 remade greatest row_seeds d seed t t' old new i long total_is fits bounded = record {
-  some_rows = i.some_rows;
-  few_rows = i.few_rows;
-  some_buckets = i.some_buckets;
-  few_cells = i.few_cells;
-  seeded = i.seeded;
-  seeds = i.seeds;
+  shape = i.shape;
   size = long ∙ i.size;
   total_is = total_is;
   fits = fits;
@@ -133,15 +128,9 @@ remade_rows greatest row_seeds d seed t t' old new w i long sum fits grown rest 
     past k le = rw (rest k le) (omega (arith, i.bounded k, total))
 
 -- the parts of an empty sketch
-pub empty_is : (greatest : ℕ) (row_seeds : List ℕ) (d seed : ℕ) (z : ℤ) (cells : List ℤ) → 0 < length row_seeds → length row_seeds ≤ 255 → 3 ≤ d → length row_seeds * d < 2 ^ 30 → seed_hash seed ≢ 0
-    → ((r : ℕ) → r < length row_seeds → slice_index row_seeds r ≡ row_seed r seed) → z ≡ pos 0 → cells ≡ replicate (length row_seeds * d) (pos 0) → IsTable greatest row_seeds d seed z cells
-empty_is greatest row_seeds d seed z cells a b c e f right zero_is cells_are = record {
-  some_rows = a;
-  few_rows = b;
-  some_buckets = c;
-  few_cells = e;
-  seeded = f;
-  seeds = right;
+pub empty_is : (greatest : ℕ) (row_seeds : List ℕ) (d seed : ℕ) (z : ℤ) (cells : List ℤ) → IsTableShape row_seeds d seed → z ≡ pos 0 → cells ≡ replicate (length row_seeds * d) (pos 0) → IsTable greatest row_seeds d seed z cells
+empty_is greatest row_seeds d seed z cells shape zero_is cells_are = record {
+  shape = shape;
   size = ap length cells_are ∙ length-replicate (length row_seeds * d) (pos 0);
   total_is = zero_is ∙ sym (ap (λ (t : ℤ). pos (unsigned_abs t)) zero_is);
   fits = rw (zero_is) (omega arith);

@@ -15,14 +15,19 @@ state_of row_seeds buckets seed total cells = record {
   rows = rows_of (length row_seeds) buckets cells;
 }
 
--- what holds of the parts of every sketch
-pub record IsTable (greatest : ℕ) (row_seeds : List ℕ) (buckets seed : ℕ) (total : ℤ) (cells : List ℤ) : Type 0 where
+-- what holds of the rows and buckets of every sketch, which no call changes
+pub record IsTableShape (row_seeds : List ℕ) (buckets seed : ℕ) : Type 0 where
   pub some_rows : 0 < length row_seeds
   pub few_rows : length row_seeds ≤ 255
   pub some_buckets : 3 ≤ buckets
   pub few_cells : length row_seeds * buckets < 2 ^ 30
   pub seeded : seed_hash seed ≢ 0
   pub seeds : (r : ℕ) → r < length row_seeds → slice_index row_seeds r ≡ row_seed r seed
+
+-- what holds of the parts of every sketch
+pub record IsTable (greatest : ℕ) (row_seeds : List ℕ) (buckets seed : ℕ) (total : ℤ) (cells : List ℤ) : Type 0 where
+  pub shape : IsTableShape row_seeds buckets seed
+  pub open shape use *
   pub size : length cells ≡ length row_seeds * buckets
   pub total_is : total ≡ pos (unsigned_abs total)
   pub fits : unsigned_abs total ≤ greatest

@@ -1,4 +1,4 @@
-use Rattle.std.proofs.Common.{◌≡◌, ℕ, ◌+◌, ◌-◌, ◌*◌, ◌≤◌, List, [], length, map, take, refl, sym, ap, ◌∙◌, arith}
+use Rattle.std.proofs.Common.{◌≡◌, ℕ, ◌+◌, ◌-◌, ◌*◌, ◌≤◌, List, [], length, map, take, All, refl, sym, ap, subst, ◌∙◌, arith}
 use Rattle.std.specs.List.{flat_map}
 use Rattle.std.proofs.lemmas.List.{take_all}
 use Rattle.std.proofs.lemmas.List.Edits.{length-paste}
@@ -33,3 +33,12 @@ returns-clause-bytes g c =
     let all_bytes : take (8 * c.fills.i) bytes ≡ bytes = take_all (8 * c.fills.i) bytes (omega (arith, end, c.fills.invariant.long)) in
     let all_cells : take c.fills.i cells ≡ cells = take_all c.fills.i cells (omega (arith, end, c.requires)) in
     sym all_bytes ∙ (c.fills.invariant.written ∙ ap (λ xs. flat_map bytes_of (map number xs)) all_cells)
+
+pub fills-init : goal.fills-init
+fills-init g c = record { long = refl; written = refl; in_range = λ k z lt. absurd (omega (arith, lt)) }
+
+pub returns-clause-in_range : goal.returns-clause-in_range
+returns-clause-in_range g c =
+    let end : c.fills.i ≡ 8 = omega (arith, c.fills-test.false, c.fills.auto.i-end) in
+    let all_cells : take c.fills.i c.args.cells.now ≡ c.args.cells.now = take_all c.fills.i c.args.cells.now (omega (arith, end, c.requires)) in
+    subst (λ xs. All (InRange g.T.CountMinValue.least g.T.CountMinValue.greatest) (map g.T.CountMinValue.number xs)) all_cells c.fills.invariant.in_range

@@ -1,4 +1,4 @@
-use Rattle.std.proofs.Common.{arith, refl, ap, subst, ◌∙◌, ◌≡◌, ◌+◌, ◌≤◌, map, pos, unsigned_abs}
+use Rattle.std.proofs.Common.{arith, refl, ap, subst, ◌∙◌, ◌≡◌, ◌+◌, ◌≤◌, Err, map, pos, unsigned_abs}
 use Rattle.std.proofs.lemmas.Int.{ints}
 use Rattle.sketch_countmin.specs.State.{CountState, Joins}
 use Rattle.sketch_countmin.specs.Table.{state_of}
@@ -65,3 +65,15 @@ add_all-requires-clause-room g c =
     let sum : number c.in-Some.total ≡ pos (unsigned_abs (number i.total) + unsigned_abs (number o.total)) = omega (arith, ints, c.in-Some.ensures.0, c.self.invariant.total_is, c.other.invariant.total_is) in
     let fits : unsigned_abs (number c.in-Some.total) ≤ g.T.CountMinValue.greatest = omega (arith, ints, sum, c.in-Some.ensures.0, c.in-Some.ensures.1.1) in
     room_for_other _ _ _ _ (number i.total) (number c.in-Some.total) (number o.total) (map number i.counts.items) _ (map number o.counts.items) _ c.self.invariant (ap (map number) c.deref_mut.ensures.value) c.other.invariant.bounded (ap (map number) c.deref.ensures.value) sum fits
+
+pub returns-then-not-has_shape_of-clause-mismatch : goal.returns-then-not-has_shape_of-clause-mismatch
+returns-then-not-has_shape_of-clause-mismatch g c = λ different. ap Err c.invalid_argument.ensures
+
+pub returns-in_default-clause-mismatch : goal.returns-in_default-clause-mismatch
+returns-in_default-clause-mismatch g c = λ different. absurd (different (c.if-not-has_shape_of.ensures.0 refl))
+
+pub returns-in_default-clause-overflow : goal.returns-in_default-clause-overflow
+returns-in_default-clause-overflow g c = λ same above. ap Err c.invalid_argument-in_default.ensures
+
+pub returns-clause-mismatch : goal.returns-clause-mismatch
+returns-clause-mismatch g c = λ different. absurd (different (c.if-not-has_shape_of.ensures.0 refl))
