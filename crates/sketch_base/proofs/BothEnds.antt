@@ -1,7 +1,9 @@
 -- Bytes that are given by the first and the last of them, which meet or overlap.
-use Rattle.std.proofs.Common.{◌≡◌, ◌+◌, ◌-◌, ◌*◌, ◌≤◌, ℕ, List, ◌++◌, length, take, drop, ap, ◌∙◌, append_assoc, refl, arith}
-use Rattle.std.proofs.Math.Seq.{take-append-add}
-use Rattle.std.proofs.lemmas.List.{length-drop, take_all, take-append-drop, take-take}
+use Rattle.std.proofs.Common.{◌≡◌, ◌+◌, ◌-◌, ◌*◌, ◌≤◌, ℕ, List, ◌++◌, length, length-append, take, drop, ap, sym, ◌∙◌, append_assoc, refl, arith}
+use Rattle.std.proofs.Math.Seq.{take-append-add, take-append_seam}
+use Rattle.std.proofs.lemmas.List.{length-drop, length-take-le, take_all, take-append-drop, take-take}
+use Rattle.std.proofs.lemmas.Slice.{take-put_mid}
+use borrow.Rule.Slice.PartMut.{put_mid}
 
 -- the first w of a part, cut back, and then the last w
 pub both_ends : (w : ℕ) (part first last : List ℕ) → w ≤ length part → length part ≤ 2 * w → first ≡ take w part → last ≡ take (length part - (length part - w)) (drop (length part - w) part) → take (length part - length last) first ++ last ≡ part
@@ -26,3 +28,16 @@ prefixed_ends n w prefix part first last size least most first_is last_is =
     ∙ (ap (λ (l : List ℕ). l ++ last) (take-append-add prefix (take w part) k)
     ∙ (append_assoc prefix (take k (take w part)) last
     ∙ ap (λ (l : List ℕ). prefix ++ l) (both_ends w part (take w part) last least most refl last_is))))
+
+-- the front of a buffer into which a prefix of four bytes was put, and the first w of a part behind it
+pub prefixed_front : (w : ℕ) (prefix part before rest start : List ℕ) → length before ≡ 4 → before ≡ prefix → w ≤ length part → start ≡ take w part → take (4 + w) (put_mid 4 (4 + w - 4) (before ++ rest) start) ≡ prefix ++ take w part
+prefixed_front w prefix part before rest start four same least start_is =
+    let many : length start ≡ w = ap length start_is ∙ length-take-le w part least in
+    take-put_mid 4 (4 + w - 4) (before ++ rest) start (4 + w) (omega (arith, many)) (omega (arith, four, length-append before rest))
+    ∙ (ap (λ (l : List ℕ). l ++ start) (ap (λ (n : ℕ). take n (before ++ rest)) (sym four) ∙ take-append_seam before rest ∙ same)
+    ∙ ap (λ (l : List ℕ). prefix ++ l) start_is)
+
+pub length-prefixed_front : (w : ℕ) (prefix part before rest start : List ℕ) → length before ≡ 4 → before ≡ prefix → w ≤ length part → start ≡ take w part → length (take (4 + w) (put_mid 4 (4 + w - 4) (before ++ rest) start)) ≡ 4 + w
+length-prefixed_front w prefix part before rest start four same least start_is =
+    ap length (prefixed_front w prefix part before rest start four same least start_is)
+    ∙ (length-append prefix (take w part) ∙ omega (arith, ap length same, four, length-take-le w part least))
