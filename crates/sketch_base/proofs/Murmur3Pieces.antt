@@ -1,8 +1,7 @@
 -- Bytes that come piece by piece leave the state of the whole list.
-use Rattle.std.proofs.Common.{◌≡◌, ℕ, ◌+◌, ◌-◌, ◌*◌, ◌/◌, ◌%◌, ◌^◌, ◌<◌, ◌≤◌, List, [], ◌++◌, length, take, drop, refl, sym, ap, subst, ◌∙◌, arith, replicate, length-append, zero-add, fold}
+use Rattle.std.proofs.Common.{◌≡◌, ℕ, ◌+◌, ◌-◌, ◌*◌, ◌/◌, ◌%◌, ◌^◌, ◌<◌, ◌≤◌, List, [], ◌++◌, length, take, drop, refl, sym, ap, ◌∙◌, arith, replicate, length-append, zero-add}
 use Rattle.std.proofs.lemmas.List.{append_assoc, drop_at, drop-replicate, take-append-drop}
 use borrow.Rule.Slice.PartMut.{put_mid, post_of}
-use Rattle.std.specs.List.{concat}
 use Rattle.sketch_base.specs.Murmur3.{block, body, finalization, murmur3_x64_128}
 use Rattle.sketch_base.specs.Murmur3State.{Murmur3State, HasFed, initial, write, finish128}
 use Rattle.sketch_base.proofs.Blocks.{IsBlocks, none_whole, each_filled, tail_filled, each_more, tail_more, length_begun, left_after, left_behind, front_is, front_short, filled, room_filled}

@@ -1,8 +1,7 @@
 -- Bytes that come piece by piece leave the state of the whole list.
-use Rattle.std.proofs.Common.{◌≡◌, ℕ, Bool, true, false, ◌||◌, nat_lt, ◌+◌, ◌-◌, ◌*◌, ◌/◌, ◌%◌, ◌^◌, ◌<◌, ◌≤◌, List, [], ◌++◌, length, take, drop, refl, sym, ap, subst, ◌∙◌, arith, length-append, zero-add, fold}
+use Rattle.std.proofs.Common.{◌≡◌, ℕ, Bool, true, false, ◌||◌, nat_lt, ◌+◌, ◌-◌, ◌*◌, ◌/◌, ◌%◌, ◌^◌, ◌<◌, ◌≤◌, List, [], ◌++◌, length, take, drop, refl, sym, ap, ◌∙◌, arith, length-append, zero-add}
 use Rattle.std.proofs.lemmas.List.{append_assoc, take-append-drop}
 use borrow.Rule.Slice.PartMut.{put_mid, post_of}
-use Rattle.std.specs.List.{concat}
 use Rattle.std.proofs.lemmas.Bool.Decides.{nat_tests}
 use Rattle.sketch_base.specs.Xxh64.{Accumulators, stripe, stripes, xxh64}
 use Rattle.sketch_base.specs.Xxh64State.{Xxh64State, HasFed, initial, write, finish}

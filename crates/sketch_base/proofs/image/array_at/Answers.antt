@@ -1,4 +1,4 @@
-use Rattle.std.proofs.Common.{ℕ, ◌+◌, ◌-◌, ◌≡◌, take, drop, sym, ap, ◌∙◌, arith}
+use Rattle.std.proofs.Common.{ℕ, ◌+◌, ◌-◌, ◌≡◌, take, drop, ap, ◌∙◌, arith}
 use Rattle.std.specs.Int.{byte_len, from_le_bytes}
 use Rattle.sketch_base.specs.Fields.{le_at}
 use Rattle.sketch_base.proofs.image.array_at.Goals as goal
