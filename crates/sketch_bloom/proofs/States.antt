@@ -1,5 +1,5 @@
 -- What holds of a filter, from what holds of its fields.
-use Rattle.std.proofs.Common.{◌≡◌, ℕ, ◌*◌, ◌≤◌, List, length, replicate, refl, sym, ap, subst, ◌∙◌, arith}
+use Rattle.std.proofs.Common.{◌≡◌, ℕ, ◌+◌, ◌*◌, ◌≤◌, List, length, replicate, refl, sym, ap, subst, ◌∙◌, arith}
 use Rattle.std.proofs.lemmas.List.{length-replicate}
 use Rattle.std.specs.Global.{Vec}
 use Rattle.std.specs.Vec.{with_items}
@@ -43,6 +43,10 @@ written_filter v new capacity num_hashes bits_used size f len counts =
 pub written_state : (v : Vec ℕ) (new : List ℕ) (capacity num_hashes bits_used seed : ℕ) → IsFilter v.items capacity num_hashes bits_used → length new ≡ length v.items → IsFilterState (state_of (with_items v new).items num_hashes seed)
 written_state v new capacity num_hashes bits_used seed f len =
     filter_state (with_items v new).items capacity num_hashes (set.len (set_of new)) seed (written_filter v new capacity num_hashes bits_used (set.len (set_of new)) f len refl)
+
+-- the count of the bits after some more were set in the words that were lent
+pub count_added : (items lent new : List ℕ) (bits_used added : ℕ) → lent ≡ items → bits_used ≡ set.len (set_of items) → set.len (set_of new) ≡ set.len (set_of lent) + added → bits_used + added ≡ set.len (set_of new)
+count_added items lent new bits_used added same counts more = sym (more ∙ ap (λ (n : ℕ). n + added) (ap (λ (words : List ℕ). set.len (set_of words)) same ∙ sym counts))
 
 -- a filter of words of zeros
 pub zeroed_set : (words : List ℕ) (n : ℕ) → words ≡ replicate n 0 → set_of words ≡ set.empty

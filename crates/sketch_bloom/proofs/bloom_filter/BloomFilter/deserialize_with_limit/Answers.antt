@@ -1,4 +1,5 @@
 use Rattle.std.proofs.Common.{length, drop, sym, ap, ◌∙◌, inl, inr, arith}
+use Rattle.std.proofs.lemmas.Result.{IfOk-from_err}
 use Rattle.sketch_bloom.proofs.Images.{length-words_in, image_of_words, restores}
 use Rattle.sketch_bloom.proofs.States.{filter_state}
 use Rattle.sketch_bloom.proofs.bloom_filter.BloomFilter.deserialize_with_limit.Goals as goal
@@ -36,3 +37,27 @@ pub returns-clause-within : goal.returns-clause-within
 returns-clause-within c =
     let count = ap length c.in_ok-words.ensures.words ∙ length-words_in c.in_ok-preamble.preamble.num_words (drop 32 c.args.image.now) in
     omega (arith, count, c.if-preamble-most_bytes.false)
+
+pub returns-in_err-preamble-clause-image : goal.returns-in_err-preamble-clause-image
+returns-in_err-preamble-clause-image c = IfOk-from_err c.from_residual.result _ c.from_residual.ensures.0
+
+pub returns-in_err-preamble-clause-state : goal.returns-in_err-preamble-clause-state
+returns-in_err-preamble-clause-state c = IfOk-from_err c.from_residual.result _ c.from_residual.ensures.0
+
+pub returns-in_err-preamble-clause-stands : goal.returns-in_err-preamble-clause-stands
+returns-in_err-preamble-clause-stands c = IfOk-from_err c.from_residual.result _ c.from_residual.ensures.0
+
+pub returns-in_err-preamble-clause-within : goal.returns-in_err-preamble-clause-within
+returns-in_err-preamble-clause-within c = IfOk-from_err c.from_residual.result _ c.from_residual.ensures.0
+
+pub returns-in_err-words-clause-image : goal.returns-in_err-words-clause-image
+returns-in_err-words-clause-image c = IfOk-from_err c.from_residual-in_err-words.result _ c.from_residual-in_err-words.ensures.0
+
+pub returns-in_err-words-clause-state : goal.returns-in_err-words-clause-state
+returns-in_err-words-clause-state c = IfOk-from_err c.from_residual-in_err-words.result _ c.from_residual-in_err-words.ensures.0
+
+pub returns-in_err-words-clause-stands : goal.returns-in_err-words-clause-stands
+returns-in_err-words-clause-stands c = IfOk-from_err c.from_residual-in_err-words.result _ c.from_residual-in_err-words.ensures.0
+
+pub returns-in_err-words-clause-within : goal.returns-in_err-words-clause-within
+returns-in_err-words-clause-within c = IfOk-from_err c.from_residual-in_err-words.result _ c.from_residual-in_err-words.ensures.0
