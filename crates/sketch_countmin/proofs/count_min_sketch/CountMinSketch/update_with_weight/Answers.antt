@@ -1,5 +1,6 @@
 use Rattle.std.proofs.Common.{arith, ap, subst, sym, ◌∙◌, ◌≡◌, ℕ, ◌+◌, ◌≤◌, map, length, ℤ, pos, unsigned_abs, List, slice_index}
 use Rattle.std.proofs.lemmas.Int.{ints}
+use Rattle.std.proofs.lemmas.Result.{IfOk-from_err}
 use Rattle.sketch_base.specs.Hashes.{fed_bytes}
 use Rattle.sketch_countmin.specs.Buckets.{bucket_by}
 use Rattle.sketch_countmin.specs.Cells.{RowsAdded}
@@ -77,3 +78,9 @@ returns-then-to_number-eq0-clause-state g c = state_shown _ _ _ _ _ _ _ c.self.v
 
 pub returns-then-to_number-eq0-clause-stands : goal.returns-then-to_number-eq0-clause-stands
 returns-then-to_number-eq0-clause-stands g c = λ h s. stands_counted _ _ (fed_bytes g.I.Hash.hash_input c.args.item) (g.T.CountMinValue.number c.args.weight) h (returns-then-to_number-eq0-clause-counted g c) s
+
+pub returns-in_err-total-clause-counted : goal.returns-in_err-total-clause-counted
+returns-in_err-total-clause-counted g c = IfOk-from_err c.from_residual.result _ c.from_residual.ensures.0
+
+pub returns-in_err-total-clause-stands : goal.returns-in_err-total-clause-stands
+returns-in_err-total-clause-stands g c = IfOk-from_err c.from_residual.result _ c.from_residual.ensures.0
