@@ -1,13 +1,10 @@
 -- A list of cells and the rows that it makes.
-use Rattle.std.proofs.Common.{◌≡◌, ◌≢◌, ℕ, zero, suc, ◌+◌, ◌-◌, ◌*◌, ◌/◌, ◌%◌, ◌<◌, ◌≤◌, ◌^◌, List, ◌∷◌, length, get_or, map, replicate, take, drop, All, ℤ, pos, unsigned_abs, refl, sym, ap, ◌∙◌, subst, arith, ⊎_elim}
-use Rattle.std.specs.Prelude.{slice_index}
+use Rattle.std.proofs.Common.{◌≡◌, ℕ, zero, suc, ◌+◌, ◌-◌, ◌*◌, ◌/◌, ◌%◌, ◌<◌, ◌≤◌, List, ◌∷◌, length, get_or, map, replicate, take, drop, All, ℤ, pos, unsigned_abs, refl, sym, ap, ◌∙◌, subst, arith, ⊎_elim}
 use Rattle.std.proofs.lemmas.Bool.{cases_lt}
 use Rattle.std.proofs.lemmas.List.{get_or-take, get_or-drop, get_or_past, length-take-le, length-take, length-drop, length-replicate, take-map, drop-map, take-replicate, drop-replicate, get_or-replicate, ext_get_or}
 use Rattle.std.proofs.lemmas.List.Elements.{All-cons}
 use Rattle.std.proofs.lemmas.Nat.{div-add-mod', div_below, mod_below}
-use Rattle.sketch_base.specs.Hashes.{seed_hash}
 use Rattle.sketch_countmin.specs.Rows.{cell_at, rows_of}
-use Rattle.sketch_countmin.specs.Buckets.{row_seed}
 use Rattle.sketch_countmin.specs.State.{CountState, IsCountState, empty_state}
 use Rattle.sketch_countmin.specs.Table.{IsTable, IsTableShape, state_of}
 
