@@ -1,4 +1,4 @@
-use Rattle.std.proofs.Common.{arith, subst, ℕ, ◌-◌, map, take, List}
+use Rattle.std.proofs.Common.{arith, subst, ℕ, ◌-◌, map, take, List, ap, Err}
 use Rattle.std.proofs.lemmas.List.{length-take}
 use Rattle.sketch_base.specs.Hashes.{fed_bytes}
 use Rattle.sketch_countmin.specs.State.{CountsAll}
@@ -28,3 +28,12 @@ returns-clause-counted g c = counted g (goal.at.returns-clause-counted g c).Afte
 
 pub returns-clause-stands : goal.returns-clause-stands
 returns-clause-stands g c = λ h. stands_all _ _ _ h (counted g (goal.at.returns-clause-stands g c).After-count_fitting)
+
+pub returns-then-fitting-items-clause-state : goal.returns-then-fitting-items-clause-state
+returns-then-fitting-items-clause-state g c = c.count_fitting.ensures.state
+
+pub returns-then-fitting-items-clause-overflow : goal.returns-then-fitting-items-clause-overflow
+returns-then-fitting-items-clause-overflow g c = λ above. ap Err c.invalid_argument.ensures
+
+pub returns-clause-state : goal.returns-clause-state
+returns-clause-state g c = c.count_fitting.ensures.state
