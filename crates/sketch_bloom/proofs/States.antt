@@ -44,9 +44,10 @@ pub written_state : (v : Vec ℕ) (new : List ℕ) (capacity num_hashes bits_use
 written_state v new capacity num_hashes bits_used seed f len =
     filter_state (with_items v new).items capacity num_hashes (set.len (set_of new)) seed (written_filter v new capacity num_hashes bits_used (set.len (set_of new)) f len refl)
 
--- the count of the bits after some more were set in the words that were lent
-pub count_added : (items lent new : List ℕ) (bits_used added : ℕ) → lent ≡ items → bits_used ≡ set.len (set_of items) → set.len (set_of new) ≡ set.len (set_of lent) + added → bits_used + added ≡ set.len (set_of new)
-count_added items lent new bits_used added same counts more = sym (more ∙ ap (λ (n : ℕ). n + added) (ap (λ (words : List ℕ). set.len (set_of words)) same ∙ sym counts))
+-- the same, where so many bits more were set in the words that were lent
+pub added_filter : (v : Vec ℕ) (lent new : List ℕ) (capacity num_hashes bits_used added : ℕ) → IsFilter v.items capacity num_hashes bits_used → length new ≡ length v.items → lent ≡ v.items → set.len (set_of new) ≡ set.len (set_of lent) + added → IsFilter (with_items v new).items capacity num_hashes (bits_used + added)
+added_filter v lent new capacity num_hashes bits_used added f len same more =
+    written_filter v new capacity num_hashes bits_used (bits_used + added) f len (sym (more ∙ ap (λ (n : ℕ). n + added) (ap (λ (words : List ℕ). set.len (set_of words)) same ∙ sym f.bits_used_is)))
 
 -- a filter of words of zeros
 pub zeroed_set : (words : List ℕ) (n : ℕ) → words ≡ replicate n 0 → set_of words ≡ set.empty

@@ -1,21 +1,18 @@
-use Rattle.std.proofs.Common.{◌==◌, ◌+◌, sym, ap, ◌∙◌, subst, arith}
+use Rattle.std.proofs.Common.{◌==◌, sym, ap, ◌∙◌, subst, arith}
 use Rattle.sketch_base.specs.Hashes.{fed_bytes}
 use Rattle.sketch_bloom.specs.History.BloomHistory.{Insert}
 use Rattle.sketch_bloom.specs.Stands.{StandsFor}
 use Rattle.sketch_bloom.specs.State.{FilterState, contains_item, inserted}
 use Rattle.sketch_bloom.proofs.Counting.{count_fits}
 use Rattle.sketch_bloom.proofs.Inserting.{item_inserted_state, item_contained, inserted_stands}
-use Rattle.sketch_bloom.proofs.States.{count_added, written_filter, written_state}
+use Rattle.sketch_bloom.proofs.States.{added_filter, written_state}
 use Rattle.sketch_bloom.proofs.bloom_filter.BloomFilter.contains_and_insert.Goals as goal
 
 pub overflow_add-self : goal.overflow_add-self
 overflow_add-self g c = record { fits = count_fits _ _ c.self.invariant c.deref_mut.ensures.value c.insert_positions-added.auto.words c.insert_positions-added.ensures.added }
 
 pub invariant_of-self : goal.invariant_of-self
-invariant_of-self g c =
-    let f = c.self.inside in
-    let added = c.insert_positions-added.result in
-    written_filter f.words c.insert_positions-added.new.words f.capacity f.num_hashes f.bits_used (f.bits_used + added) c.self.invariant (omega arith) (count_added f.words.items c.deref_mut.result.now c.insert_positions-added.new.words f.bits_used added c.deref_mut.ensures.value c.self.invariant.bits_used_is c.insert_positions-added.ensures.added)
+invariant_of-self g c = added_filter c.self.inside.words c.deref_mut.result.now c.insert_positions-added.new.words c.self.inside.capacity c.self.inside.num_hashes c.self.inside.bits_used c.insert_positions-added.result c.self.invariant (omega arith) c.deref_mut.ensures.value c.insert_positions-added.ensures.added
 
 pub returns-clause-answer : goal.returns-clause-answer
 returns-clause-answer g c =

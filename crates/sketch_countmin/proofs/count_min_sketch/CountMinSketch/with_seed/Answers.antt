@@ -1,7 +1,6 @@
 use Rattle.std.proofs.Common.{◌≡◌, ◌≢◌, ℕ, Option, None, ◌*◌, ◌<◌, ◌≤◌, ◌^◌, refl, sym, subst, ◌∙◌}
 use Rattle.std.specs.Prelude.{IfErr}
 use Rattle.std.proofs.lemmas.Bool.{ne_eqb, le-ltb, lt-leb}
-use Rattle.std.proofs.lemmas.Result.{IfOk-from_err}
 use Rattle.sketch_base.specs.Errors.{refusal_of}
 use Rattle.sketch_base.specs.Hashes.{seed_hash}
 use Rattle.sketch_base.specs.declared.fault.Fault.{Fault}
@@ -20,15 +19,6 @@ passes g c = no_fault c.args.num_hashes c.args.num_buckets c.args.seed c.if-num_
 
 pub overflow_mul-size : goal.overflow_mul-size
 overflow_mul-size g c = record { fits = cells_fit c.args.num_hashes c.args.num_buckets c.ranges.num_hashes.fits c.ranges.num_buckets.fits }
-
-pub returns-in_err-compute_seed_hash-clause-ok : goal.returns-in_err-compute_seed_hash-clause-ok
-returns-in_err-compute_seed_hash-clause-ok g c = IfOk-from_err c.from_residual.result _ c.from_residual.ensures.0
-
-pub returns-in_err-compute_seed_hash-clause-state : goal.returns-in_err-compute_seed_hash-clause-state
-returns-in_err-compute_seed_hash-clause-state g c = IfOk-from_err c.from_residual.result _ c.from_residual.ensures.0
-
-pub returns-in_err-compute_seed_hash-clause-stands : goal.returns-in_err-compute_seed_hash-clause-stands
-returns-in_err-compute_seed_hash-clause-stands g c = IfOk-from_err c.from_residual.result _ c.from_residual.ensures.0
 
 pub returns-clause-accepted : goal.returns-clause-accepted
 returns-clause-accepted g c = λ made. passes g c
