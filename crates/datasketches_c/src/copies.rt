@@ -1,5 +1,5 @@
-//! Copies of sketches.
-ghost use Rattle.std.specs.Prelude.{◌≡◌, Some, IfSome};
+//! Sketches of any kind that are copied and freed.
+ghost use Rattle.std.specs.Prelude.{◌≡◌, None, Some, IfSome};
 ghost use Rattle.datasketches_c.specs.Copies.{HoldsCopy, IsCopied};
 
 use crate::any_sketch::AnySketch;
@@ -53,4 +53,12 @@ pub extern "C" fn ds_clone(
     let answer = put_copy(alloc, handle, &sketch);
     other.give(sketch);
     answer
+}
+
+/// Frees what the handle has, if anything.
+#[unsafe(no_mangle)]
+pub extern "C" fn ds_free(alloc: Global, handle: &mut SketchHandle)
+    ensures { handle.new.value ≡ None }
+{
+    *handle = SketchHandle::none(alloc);
 }

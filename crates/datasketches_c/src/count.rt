@@ -15,7 +15,6 @@ ghost use Rattle.datasketches_c.specs.Kinds.{OnKind, HoldsKind};
 ghost use Rattle.datasketches_c.specs.Numbers.{OnDone, OnRefused, ok, no_room, bad_offsets, refusal_number};
 ghost use Rattle.datasketches_c.specs.Texts.{AreOffsets, AreTexts, texts_of};
 
-use crate::count_images::write_counts;
 use crate::count_texts::{count_texts, estimate_texts};
 use crate::count_weighted::{count_weighted, count_weighted_texts};
 use crate::handle::SketchHandle;
@@ -40,11 +39,11 @@ pub struct CountStatus {
 
 /// Makes a sketch of so many rows, one for each hash, and cells in each row, in place of what the handle has.
 pub(crate) fn new<V: CountMinValue>(
-    alloc: Global,
-    handle: &mut SketchHandle,
     num_hashes: u8,
     num_buckets: u32,
     seed: u64,
+    alloc: Global,
+    handle: &mut SketchHandle,
 ) -> i32
 where
     CountMinSketch<V>: Kind,
@@ -154,9 +153,9 @@ pub(crate) fn estimate<V: CountMinValue, I: Hash + Drop>(
 ) -> i32
 where
     CountMinSketch<V>: Kind,
-    ensures kept { handle.new.value ≡ handle.old.value }
     ensures estimate { Estimates (⟦<CountMinSketch<V> as Kind>⟧.part) handle.old.value handle.new.value result (fed_bytes I.hash_input item) (V.number estimate.new) }
     ensures untouched { OnRefused result (estimate.new ≡ estimate.old) }
+    ensures kept { handle.new.value ≡ handle.old.value }
 {
     on_kind!(alloc, handle, CountMinSketch<V>, sketch => {
         *estimate = sketch.estimate(item);
@@ -174,9 +173,9 @@ pub(crate) fn upper_bound<V: CountMinValue, I: Hash + Drop>(
 ) -> i32
 where
     CountMinSketch<V>: Kind,
-    ensures kept { handle.new.value ≡ handle.old.value }
     ensures bound { Bounds (⟦<CountMinSketch<V> as Kind>⟧.part) V.greatest handle.old.value handle.new.value result (fed_bytes I.hash_input item) (V.number bound.new) }
     ensures untouched { OnRefused result (bound.new ≡ bound.old) }
+    ensures kept { handle.new.value ≡ handle.old.value }
 {
     on_kind!(alloc, handle, CountMinSketch<V>, sketch => {
         *bound = sketch.upper_bound(item);
@@ -210,80 +209,18 @@ pub(crate) fn estimate_all<V: CountMinValue, I: Hash>(
 ) -> i32
 where
     CountMinSketch<V>: Kind,
-    ensures kept { handle.new.value ≡ handle.old.value }
     ensures length { length estimates.new ≡ length estimates.old }
     ensures no_room { length estimates.old ≢ length items.now
         → (result ≡ no_room) × (estimates.new ≡ estimates.old) }
     ensures estimates { length estimates.old ≡ length items.now
         → EstimatesAll (⟦<CountMinSketch<V> as Kind>⟧.part) handle.old.value handle.new.value result (fed_bytes I.hash_input) items.now (map V.number estimates.new) }
     ensures untouched { OnRefused result (estimates.new ≡ estimates.old) }
+    ensures kept { handle.new.value ≡ handle.old.value }
 {
     if estimates.len() != items.len() {
         return NO_ROOM;
     }
     on_kind!(alloc, handle, CountMinSketch<V>, sketch => estimates_of(sketch, items, estimates))
-}
-
-/// Adds a weight to a text's.
-pub(crate) fn update_text<V: CountMinValue>(
-    alloc: Global,
-    handle: &mut SketchHandle,
-    item: &[u8],
-    weight: V,
-) -> i32
-where
-    CountMinSketch<V>: Kind,
-    ensures text { IsUtf8 item.now
-        → AddsWeight (⟦<CountMinSketch<V> as Kind>⟧.part) V.greatest handle.old.value handle.new.value result (fed_bytes fed.str item.now) (V.number weight) }
-    ensures no_text { ¬ (IsUtf8 item.now) → result ≡ refusal_number Fault.InvalidUtf8 }
-    ensures refused { OnRefused result (handle.new.value ≡ handle.old.value) }
-{
-    let Ok(item) = str::from_utf8(item) else {
-        return refusal_number(Fault::InvalidUtf8);
-    };
-    update(alloc, handle, item, weight)
-}
-
-/// Writes down the estimate of a text's weight.
-pub(crate) fn estimate_text<V: CountMinValue>(
-    alloc: Global,
-    handle: &mut SketchHandle,
-    item: &[u8],
-    estimate: &mut V,
-) -> i32
-where
-    CountMinSketch<V>: Kind,
-    ensures kept { handle.new.value ≡ handle.old.value }
-    ensures text { IsUtf8 item.now
-        → Estimates (⟦<CountMinSketch<V> as Kind>⟧.part) handle.old.value handle.new.value result (fed_bytes fed.str item.now) (V.number estimate.new) }
-    ensures no_text { ¬ (IsUtf8 item.now) → result ≡ refusal_number Fault.InvalidUtf8 }
-    ensures untouched { OnRefused result (estimate.new ≡ estimate.old) }
-{
-    let Ok(item) = str::from_utf8(item) else {
-        return refusal_number(Fault::InvalidUtf8);
-    };
-    crate::count::estimate(alloc, handle, item, estimate)
-}
-
-/// Writes down an upper bound of a text's weight.
-pub(crate) fn upper_bound_text<V: CountMinValue>(
-    alloc: Global,
-    handle: &mut SketchHandle,
-    item: &[u8],
-    bound: &mut V,
-) -> i32
-where
-    CountMinSketch<V>: Kind,
-    ensures kept { handle.new.value ≡ handle.old.value }
-    ensures text { IsUtf8 item.now
-        → Bounds (⟦<CountMinSketch<V> as Kind>⟧.part) V.greatest handle.old.value handle.new.value result (fed_bytes fed.str item.now) (V.number bound.new) }
-    ensures no_text { ¬ (IsUtf8 item.now) → result ≡ refusal_number Fault.InvalidUtf8 }
-    ensures untouched { OnRefused result (bound.new ≡ bound.old) }
-{
-    let Ok(item) = str::from_utf8(item) else {
-        return refusal_number(Fault::InvalidUtf8);
-    };
-    upper_bound(alloc, handle, item, bound)
 }
 
 /// Adds 1 to the weight of each text, as far as the total has room.
@@ -295,10 +232,10 @@ pub(crate) fn update_all_text<V: CountMinValue>(
 ) -> i32
 where
     CountMinSketch<V>: Kind,
-    ensures texts { AreTexts bytes.now offsets.now
-        → AddsEach (⟦<CountMinSketch<V> as Kind>⟧.part) V.greatest handle.old.value handle.new.value result (fed_bytes fed.str) (texts_of bytes.now offsets.now) }
     ensures bad_offsets { ¬ AreOffsets bytes.now offsets.now
         → (result ≡ bad_offsets) × (handle.new.value ≡ handle.old.value) }
+    ensures texts { AreTexts bytes.now offsets.now
+        → AddsEach (⟦<CountMinSketch<V> as Kind>⟧.part) V.greatest handle.old.value handle.new.value result (fed_bytes fed.str) (texts_of bytes.now offsets.now) }
     ensures no_text { AreOffsets bytes.now offsets.now → ¬ All IsUtf8 (texts_of bytes.now offsets.now)
         → (result ≡ refusal_number Fault.InvalidUtf8) × (handle.new.value ≡ handle.old.value) }
 {
@@ -312,21 +249,21 @@ where
 pub(crate) fn estimate_all_text<V: CountMinValue>(
     alloc: Global,
     handle: &mut SketchHandle,
+    estimates: &mut [V],
     bytes: &[u8],
     offsets: &[u64],
-    estimates: &mut [V],
 ) -> i32
 where
     CountMinSketch<V>: Kind,
-    ensures kept { handle.new.value ≡ handle.old.value }
-    ensures length { length estimates.new ≡ length estimates.old }
-    ensures bad_offsets { ¬ AreOffsets bytes.now offsets.now → result ≡ bad_offsets }
-    ensures no_room { AreOffsets bytes.now offsets.now → length estimates.old + 1 ≢ length offsets.now → result ≡ no_room }
-    ensures no_text { AreOffsets bytes.now offsets.now → length estimates.old + 1 ≡ length offsets.now
-        → ¬ All IsUtf8 (texts_of bytes.now offsets.now) → result ≡ refusal_number Fault.InvalidUtf8 }
     ensures estimates { AreTexts bytes.now offsets.now → length estimates.old + 1 ≡ length offsets.now
         → EstimatesAll (⟦<CountMinSketch<V> as Kind>⟧.part) handle.old.value handle.new.value result (fed_bytes fed.str) (texts_of bytes.now offsets.now) (map V.number estimates.new) }
+    ensures no_text { AreOffsets bytes.now offsets.now → length estimates.old + 1 ≡ length offsets.now
+        → ¬ All IsUtf8 (texts_of bytes.now offsets.now) → result ≡ refusal_number Fault.InvalidUtf8 }
+    ensures no_room { AreOffsets bytes.now offsets.now → length estimates.old + 1 ≢ length offsets.now → result ≡ no_room }
+    ensures bad_offsets { ¬ AreOffsets bytes.now offsets.now → result ≡ bad_offsets }
     ensures untouched { OnRefused result (estimates.new ≡ estimates.old) }
+    ensures kept { handle.new.value ≡ handle.old.value }
+    ensures length { length estimates.new ≡ length estimates.old }
 {
     if let Some(refusal) = refusal_of_texts_in(estimates.len(), bytes, offsets) {
         return refusal;
@@ -398,9 +335,9 @@ pub(crate) fn status<V: CountMinValue>(
 ) -> i32
 where
     CountMinSketch<V>: Kind,
-    ensures kept { handle.new.value ≡ handle.old.value }
     ensures untouched { OnRefused result (status.new ≡ status.old) }
     ensures numbers { Describes (⟦<CountMinSketch<V> as Kind>⟧.part) handle.old.value handle.new.value result status.new }
+    ensures kept { handle.new.value ≡ handle.old.value }
 {
     on_kind!(alloc, handle, CountMinSketch<V>, sketch => {
         *status = CountStatus {
@@ -413,31 +350,13 @@ where
     })
 }
 
-/// Writes the sketch's image to the front of the caller's buffer.
-pub(crate) fn to_bytes<V: CountMinValue>(
-    alloc: Global,
-    handle: &mut SketchHandle,
-    out: &mut [u8],
-    written: &mut usize,
-) -> i32
-where
-    CountMinSketch<V>: Kind,
-    ensures kept { handle.new.value ≡ handle.old.value }
-    ensures untouched { OnRefused result (out.new ≡ out.old) }
-    ensures uncounted { result ≢ ok → result ≢ no_room → written.new ≡ written.old }
-    ensures image { OnKind (⟦<CountMinSketch<V> as Kind>⟧.part) handle.old.value handle.new.value result (λ s.
-        WritesImage (λ image. IsSpelled V.least V.greatest image s) out.old out.new written.new result) }
-{
-    on_kind!(alloc, handle, CountMinSketch<V>, sketch => write_counts(sketch, out, written))
-}
-
 /// Makes the sketch of an image that was written under this seed, in place of what the handle has.
 pub(crate) fn from_bytes<V: CountMinValue>(
-    alloc: Global,
-    handle: &mut SketchHandle,
     image: &[u8],
     seed: u64,
     most_bytes: usize,
+    alloc: Global,
+    handle: &mut SketchHandle,
 ) -> i32
 where
     CountMinSketch<V>: Kind,

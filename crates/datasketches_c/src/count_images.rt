@@ -4,12 +4,13 @@ ghost use Rattle.sketch_countmin.specs.Image.{IsSpelled};
 ghost use Rattle.datasketches_c.specs.Images.{WritesImage};
 ghost use Rattle.datasketches_c.specs.Numbers.{OnRefused, ok, no_room};
 
-use crate::images::copy_out;
+use crate::images::{HasImage, copy_out};
+use crate::kind::Kind;
 use crate::status_code::refusal_number;
 use sketch_countmin::{CountMinSketch, CountMinValue};
 
 /// Writes the sketch's image to the front of the caller's buffer.
-pub(crate) fn write_counts<T: CountMinValue>(
+fn write_counts<T: CountMinValue>(
     sketch: &CountMinSketch<T>,
     out: &mut [u8],
     written: &mut usize,
@@ -21,5 +22,16 @@ pub(crate) fn write_counts<T: CountMinValue>(
     match sketch.serialize() {
         Ok(image) => copy_out(&image, out, written),
         Err(error) => refusal_number(error.fault()),
+    }
+}
+
+impl<V: CountMinValue> HasImage for CountMinSketch<V>
+where
+    CountMinSketch<V>: Kind,
+{
+    ghost writes = { λ s. WritesImage (λ image. IsSpelled V.least V.greatest image s) };
+
+    fn write_to(&self, out: &mut [u8], written: &mut usize) -> i32 {
+        write_counts(self, out, written)
     }
 }

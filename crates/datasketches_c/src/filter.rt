@@ -1,7 +1,7 @@
 //! Filters: made, filled, asked, set against others, emptied, described, written and read.
 ghost use Rattle.std.specs.FinSet as set;
 ghost use Rattle.std.specs.Hash as fed;
-ghost use Rattle.std.specs.Prelude.{◌≡◌, ◌≢◌, Some, None, length, map, if◌then◌else◌, ◌+◌, All, ◌*◌, ◌≤◌};
+ghost use Rattle.std.specs.Prelude.{◌≡◌, ◌≢◌, Some, None, length, map, if◌then◌else◌, ◌+◌, ◌*◌, ◌≤◌};
 ghost use Rattle.std.specs.Str.{IsUtf8};
 ghost use Rattle.sketch_base.specs.Errors.{refusal_of};
 ghost use Rattle.sketch_base.specs.Hashes.{fed_bytes};
@@ -11,17 +11,17 @@ ghost use Rattle.sketch_bloom.specs.State.{empty_state, contains_item, inserted,
 ghost use Rattle.datasketches_c.specs.Images.{WritesImage, IsRefusedImage};
 ghost use Rattle.datasketches_c.specs.Joining.{IsCombined, joined};
 ghost use Rattle.datasketches_c.specs.Kinds.{OnFilter, HoldsFilter};
-ghost use Rattle.datasketches_c.specs.Numbers.{OnDone, OnRefused, ok, no, yes, no_room, refusal_number, bad_offsets};
-ghost use Rattle.datasketches_c.specs.Texts.{AreOffsets, AreTexts, texts_of};
+ghost use Rattle.datasketches_c.specs.Numbers.{OnDone, OnRefused, ok, no, yes, no_room, refusal_number};
+ghost use Rattle.datasketches_c.specs.Texts.{AreTexts, texts_of};
 ghost use Rattle.datasketches_c.specs.declared.any_sketch.AnySketch.TheVariants.{Filter};
 
 use crate::any_sketch::AnySketch;
 use crate::handle::SketchHandle;
-use crate::images::copy_out;
+use crate::images::{HasImage, copy_out, to_bytes};
 use crate::join::{Joins, join};
 use crate::kind::on_kind;
 use crate::status_code::{NO, NO_ROOM, OK, YES, refusal_number};
-use crate::texts::{num_texts, refusal_of_texts, refusal_of_texts_in, text_at};
+use crate::texts::{num_texts, on_text, text_at};
 use sketch_base::Fault;
 use sketch_bloom::{BloomFilter, BloomFilterBuilder};
 use std::alloc::Global;
@@ -92,10 +92,7 @@ pub extern "C" fn ds_filter_insert_text(
     ensures no_text { ¬ (IsUtf8 item.now) → (result ≡ refusal_number Fault.InvalidUtf8)
         × (handle.new.value ≡ handle.old.value) }
 {
-    let Ok(item) = str::from_utf8(item) else {
-        return refusal_number(Fault::InvalidUtf8);
-    };
-    insert(alloc, handle, item)
+    on_text!(item => insert(alloc, handle, item))
 }
 
 /// Inserts many items, for the calls below.
@@ -178,10 +175,7 @@ pub extern "C" fn ds_filter_contains_text(
         result ≡ (if contains_item s (fed_bytes fed.str item.now) then yes else no)) }
     ensures no_text { ¬ (IsUtf8 item.now) → result ≡ refusal_number Fault.InvalidUtf8 }
 {
-    let Ok(item) = str::from_utf8(item) else {
-        return refusal_number(Fault::InvalidUtf8);
-    };
-    contains(alloc, handle, &item)
+    on_text!(item => contains(alloc, handle, &item))
 }
 
 /// Writes down for each item whether the filter contains it, for the calls below. There are as many answers as items.
@@ -245,7 +239,7 @@ pub extern "C" fn ds_filter_contains_all_i64(
 }
 
 /// Inserts each text of a buffer.
-fn insert_texts(filter: &mut BloomFilter, bytes: &[u8], offsets: &[u64])
+pub(crate) fn insert_texts(filter: &mut BloomFilter, bytes: &[u8], offsets: &[u64])
     requires { AreTexts bytes.now offsets.now }
     ensures { filter.new ≡ all_inserted filter.old (map (fed_bytes fed.str) (texts_of bytes.now offsets.now)) }
 {
@@ -256,7 +250,12 @@ fn insert_texts(filter: &mut BloomFilter, bytes: &[u8], offsets: &[u64])
 }
 
 /// Writes down for each text of a buffer whether the filter contains it.
-fn contains_texts(filter: &BloomFilter, bytes: &[u8], offsets: &[u64], answers: &mut [bool])
+pub(crate) fn contains_texts(
+    filter: &BloomFilter,
+    bytes: &[u8],
+    offsets: &[u64],
+    answers: &mut [bool],
+)
     requires texts { AreTexts bytes.now offsets.now }
     requires same { length answers.old + 1 ≡ length offsets.now }
     ensures { answers.new ≡ map (λ text. contains_item filter.now (fed_bytes fed.str text)) (texts_of bytes.now offsets.now) }
@@ -266,68 +265,6 @@ fn contains_texts(filter: &BloomFilter, bytes: &[u8], offsets: &[u64], answers: 
         let text = text_at(bytes, offsets, i);
         answers[i] = filter.contains(&text);
     }
-}
-
-/// Inserts many texts, as one after another. They are the bytes between each of the offsets and the next, so there is
-/// one offset more than texts.
-///
-/// Refused with `BAD_OFFSETS` where there is no offset, one is below the one before it, or one passes the end of the
-/// bytes, and with `InvalidUtf8` where some text is not UTF-8. The filter is then as it was.
-#[unsafe(no_mangle)]
-pub extern "C" fn ds_filter_insert_all_text(
-    alloc: Global,
-    handle: &mut SketchHandle,
-    bytes: &[u8],
-    offsets: &[u64],
-) -> i32
-    ensures texts { AreTexts bytes.now offsets.now → OnFilter handle.old.value handle.new.value result (λ s.
-        (result ≡ ok) × (handle.new.value
-        ≡ Some (Filter (all_inserted s (map (fed_bytes fed.str) (texts_of bytes.now offsets.now)))))) }
-    ensures bad_offsets { ¬ AreOffsets bytes.now offsets.now → result ≡ bad_offsets }
-    ensures no_text { AreOffsets bytes.now offsets.now → ¬ All IsUtf8 (texts_of bytes.now offsets.now)
-        → result ≡ refusal_number Fault.InvalidUtf8 }
-    ensures refused { OnRefused result (handle.new.value ≡ handle.old.value) }
-{
-    if let Some(refusal) = refusal_of_texts(bytes, offsets) {
-        return refusal;
-    }
-    on_kind!(alloc, handle, BloomFilter, filter => {
-        insert_texts(filter, bytes, offsets);
-        OK
-    })
-}
-
-/// Writes down for each text whether the filter contains it. The texts are the bytes between each of the offsets and
-/// the next, and there are as many answers as texts.
-///
-/// Refused with `BAD_OFFSETS` where there is no offset, one is below the one before it, or one passes the end of the
-/// bytes, then with `NO_ROOM` where there are more or fewer answers than texts, then with `InvalidUtf8` where some text
-/// is not UTF-8. The answers are then as they were.
-#[unsafe(no_mangle)]
-pub extern "C" fn ds_filter_contains_all_text(
-    alloc: Global,
-    handle: &mut SketchHandle,
-    bytes: &[u8],
-    offsets: &[u64],
-    answers: &mut [bool],
-) -> i32
-    ensures kept { handle.new.value ≡ handle.old.value }
-    ensures bad_offsets { ¬ AreOffsets bytes.now offsets.now → result ≡ bad_offsets }
-    ensures no_room { AreOffsets bytes.now offsets.now → length answers.old + 1 ≢ length offsets.now → result ≡ no_room }
-    ensures no_text { AreOffsets bytes.now offsets.now → length answers.old + 1 ≡ length offsets.now
-        → ¬ All IsUtf8 (texts_of bytes.now offsets.now) → result ≡ refusal_number Fault.InvalidUtf8 }
-    ensures answers { AreTexts bytes.now offsets.now → length answers.old + 1 ≡ length offsets.now
-        → OnFilter handle.old.value handle.new.value result (λ s. (result ≡ ok)
-        × (answers.new ≡ map (λ text. contains_item s (fed_bytes fed.str text)) (texts_of bytes.now offsets.now))) }
-    ensures untouched { OnRefused result (answers.new ≡ answers.old) }
-{
-    if let Some(refusal) = refusal_of_texts_in(answers.len(), bytes, offsets) {
-        return refusal;
-    }
-    on_kind!(alloc, handle, BloomFilter, filter => {
-        contains_texts(filter, bytes, offsets, answers);
-        OK
-    })
 }
 
 /// What becomes of the first of two filters.
@@ -356,10 +293,10 @@ impl Joins<SetOperation> for BloomFilter {
 
 /// Does a set operation on the filter of a handle. The other filter stays.
 fn set_against(
+    operation: SetOperation,
     alloc: Global,
     handle: &mut SketchHandle,
     other: &mut SketchHandle,
-    operation: SetOperation,
 ) -> i32
     ensures other { other.new.value ≡ other.old.value }
     ensures refused { OnRefused result (handle.new.value ≡ handle.old.value) }
@@ -385,7 +322,7 @@ pub extern "C" fn ds_filter_union(
         (IsCompatible a b → (result ≡ ok) × (handle.new.value ≡ Some (Filter (united a b))))
         × (¬ IsCompatible a b → result ≡ refusal_number Fault.Mismatch))) }
 {
-    set_against(alloc, handle, other, SetOperation::Union)
+    set_against(SetOperation::Union, alloc, handle, other)
 }
 
 /// Keeps only the positions that are also in the other filter's set. The other filter stays.
@@ -402,7 +339,7 @@ pub extern "C" fn ds_filter_intersect(
         (IsCompatible a b → (result ≡ ok) × (handle.new.value ≡ Some (Filter (intersected a b))))
         × (¬ IsCompatible a b → result ≡ refusal_number Fault.Mismatch))) }
 {
-    set_against(alloc, handle, other, SetOperation::Intersection)
+    set_against(SetOperation::Intersection, alloc, handle, other)
 }
 
 /// Takes the positions of the other filter's set away. The other filter stays.
@@ -419,7 +356,7 @@ pub extern "C" fn ds_filter_difference(
         (IsCompatible a b → (result ≡ ok) × (handle.new.value ≡ Some (Filter (subtracted a b))))
         × (¬ IsCompatible a b → result ≡ refusal_number Fault.Mismatch))) }
 {
-    set_against(alloc, handle, other, SetOperation::Difference)
+    set_against(SetOperation::Difference, alloc, handle, other)
 }
 
 /// A filter's numbers.
@@ -430,14 +367,6 @@ pub struct FilterStatus {
     pub capacity: u64,
     pub seed: u64,
     pub num_hashes: u16,
-}
-
-/// Frees what the handle has, if anything.
-#[unsafe(no_mangle)]
-pub extern "C" fn ds_free(alloc: Global, handle: &mut SketchHandle)
-    ensures { handle.new.value ≡ None }
-{
-    *handle = SketchHandle::none(alloc);
 }
 
 /// Takes all positions out of the filter's set.
@@ -488,6 +417,14 @@ fn write_filter(filter: &BloomFilter, out: &mut [u8], written: &mut usize) -> i3
     }
 }
 
+impl HasImage for BloomFilter {
+    ghost writes = { λ s. WritesImage (λ image. IsSpelled image s) };
+
+    fn write_to(&self, out: &mut [u8], written: &mut usize) -> i32 {
+        write_filter(self, out, written)
+    }
+}
+
 /// Writes the filter's image to the front of the caller's buffer, and says how long it is, also where there is no room.
 #[unsafe(no_mangle)]
 pub extern "C" fn ds_filter_to_bytes(
@@ -502,7 +439,7 @@ pub extern "C" fn ds_filter_to_bytes(
     ensures image { OnFilter handle.old.value handle.new.value result (λ s.
         WritesImage (λ image. IsSpelled image s) out.old out.new written.new result) }
 {
-    on_kind!(alloc, handle, BloomFilter, filter => write_filter(filter, out, written))
+    to_bytes::<BloomFilter>(alloc, handle, out, written)
 }
 
 /// Makes the filter of an image, whose words take at most so many bytes, in place of what the handle has.

@@ -1,7 +1,6 @@
 //! Frequent-items sketches behind handles, whatever the items.
 ghost use Rattle.std.specs.Ordering.{int_eq};
-ghost use Rattle.std.specs.Prelude.{◌≡◌, ◌≢◌, None, Some, IfOk, IfErr, IsTrue, length, nat_eq};
-ghost use Rattle.sketch_base.specs.Checks.{IsImageRefusal};
+ghost use Rattle.std.specs.Prelude.{◌≡◌, ◌≢◌, None, Some, IsTrue, length, nat_eq};
 ghost use Rattle.sketch_base.specs.Errors.{refusal_of};
 ghost use Rattle.sketch_frequencies.specs.History.FrequentHistory.{New};
 ghost use Rattle.sketch_frequencies.specs.Image.{early_fault_within, first_fault_within};
@@ -13,6 +12,7 @@ ghost use Rattle.datasketches_c.specs.FrequentCalls.{Updates, UpdatesMany, Merge
 ghost use Rattle.datasketches_c.specs.FrequentImages.{WritesFrequent, IsRestored};
 ghost use Rattle.datasketches_c.specs.FrequentRows.{WritesRows, error_type};
 ghost use Rattle.datasketches_c.specs.FrequentTexts.{text_eq};
+ghost use Rattle.datasketches_c.specs.Images.{IsRefusedImage};
 ghost use Rattle.datasketches_c.specs.Kinds.{OnKind, HoldsKind};
 ghost use Rattle.datasketches_c.specs.Numbers.{OnDone, OnRefused, ok, no_room, refusal_number};
 ghost use Rattle.datasketches_c.specs.Weights.{AddsWeights};
@@ -20,11 +20,11 @@ ghost use Rattle.datasketches_c.specs.Weights.{AddsWeights};
 use crate::frequent_rows::write_rows;
 use crate::frequent_weighted::add_weighted;
 use crate::handle::SketchHandle;
-use crate::images::copy_out;
+use crate::images::{HasImage, copy_out};
 use crate::join::Joins;
 use crate::kind::{Kind, on_kind};
 use crate::status_code::{NO_ROOM, OK, refusal_number};
-use sketch_frequencies::{Error, FrequentItemValue, FrequentItemsSketch};
+use sketch_frequencies::{FrequentItemValue, FrequentItemsSketch};
 use std::alloc::Global;
 use std::hash::Hash;
 
@@ -174,10 +174,10 @@ pub(crate) fn bounds<T: Eq + Hash + Drop>(
 ) -> i32
 where
     FrequentItemsSketch<T>: Kind,
-    ensures kept { handle.new.value ≡ handle.old.value }
     ensures bounds { OnKind (⟦<FrequentItemsSketch<T> as Kind>⟧.part) handle.old.value handle.new.value result (λ s.
         (result ≡ ok) × AreBounds T.eq s item.now bounds.new) }
     ensures untouched { OnRefused result (bounds.new ≡ bounds.old) }
+    ensures kept { handle.new.value ≡ handle.old.value }
 {
     on_kind!(alloc, handle, FrequentItemsSketch<T>, sketch => {
         *bounds = bounds_of(sketch, item);
@@ -208,12 +208,12 @@ pub(crate) fn bounds_all<T: Eq + Hash + Drop>(
 ) -> i32
 where
     FrequentItemsSketch<T>: Kind,
-    ensures kept { handle.new.value ≡ handle.old.value }
     ensures no_room { length bounds.old ≢ length items.now → result ≡ no_room }
     ensures bounds { length bounds.old ≡ length items.now
         → OnKind (⟦<FrequentItemsSketch<T> as Kind>⟧.part) handle.old.value handle.new.value result (λ s.
         (result ≡ ok) × AreBoundsOfAll T.eq s items.now bounds.new) }
     ensures untouched { OnRefused result (bounds.new ≡ bounds.old) }
+    ensures kept { handle.new.value ≡ handle.old.value }
 {
     if bounds.len() != items.len() {
         return NO_ROOM;
@@ -267,24 +267,24 @@ impl Joins<()> for FrequentItemsSketch<String> {
 pub(crate) fn rows<T: Eq + Hash + Clone + Copy + Drop>(
     alloc: Global,
     handle: &mut SketchHandle,
-    no_false_negatives: bool,
-    threshold: u64,
     items: &mut [T],
     bounds: &mut [FrequentBounds],
     count: &mut usize,
+    no_false_negatives: bool,
+    threshold: u64,
 ) -> i32
 where
     FrequentItemsSketch<T>: Kind,
     requires clones { (x y : T) → T.is_clone x y → IsTrue (T.eq x y) }
-    ensures kept { handle.new.value ≡ handle.old.value }
     ensures untouched { OnRefused result ((items.new ≡ items.old) × (bounds.new ≡ bounds.old)) }
     ensures uncounted { result ≢ ok → result ≢ no_room → count.new ≡ count.old }
     ensures rows { OnKind (⟦<FrequentItemsSketch<T> as Kind>⟧.part) handle.old.value handle.new.value result (λ s.
         WritesRows T.eq (error_type no_false_negatives) threshold s items.old items.new bounds.old bounds.new count.new
         result) }
+    ensures kept { handle.new.value ≡ handle.old.value }
 {
     on_kind!(alloc, handle, FrequentItemsSketch<T>, sketch => {
-        write_rows(sketch, no_false_negatives, threshold, items, bounds, count)
+        write_rows(items, bounds, count, sketch, no_false_negatives, threshold)
     })
 }
 
@@ -324,10 +324,10 @@ pub(crate) fn status<T: Eq + Hash + Drop>(
 ) -> i32
 where
     FrequentItemsSketch<T>: Kind,
-    ensures kept { handle.new.value ≡ handle.old.value }
     ensures numbers { OnKind (⟦<FrequentItemsSketch<T> as Kind>⟧.part) handle.old.value handle.new.value result (λ s.
         (result ≡ ok) × AreNumbers s status.new) }
     ensures untouched { OnRefused result (status.new ≡ status.old) }
+    ensures kept { handle.new.value ≡ handle.old.value }
 {
     on_kind!(alloc, handle, FrequentItemsSketch<T>, sketch => {
         *status = status_of(sketch);
@@ -351,37 +351,33 @@ fn write_image<T: FrequentItemValue + Drop>(
     }
 }
 
-/// Writes the sketch's image to the front of the caller's buffer, and says how long it is, also where there is no room.
-pub(crate) fn to_bytes<T: FrequentItemValue + Drop>(
+impl<T: FrequentItemValue + Drop> HasImage for FrequentItemsSketch<T>
+where
+    FrequentItemsSketch<T>: Kind,
+{
+    ghost writes = { WritesFrequent T.codec T.content };
+
+    fn write_to(&self, out: &mut [u8], written: &mut usize) -> i32 {
+        write_image(self, out, written)
+    }
+}
+
+/// Makes the sketch of an image, whose table takes at most so many bytes, in place of what the handle has.
+pub(crate) fn from_bytes<T: FrequentItemValue + Drop>(
     alloc: Global,
     handle: &mut SketchHandle,
-    out: &mut [u8],
-    written: &mut usize,
+    image: &[u8],
+    most_bytes: usize,
 ) -> i32
 where
     FrequentItemsSketch<T>: Kind,
-    ensures kept { handle.new.value ≡ handle.old.value }
-    ensures untouched { OnRefused result (out.new ≡ out.old) }
-    ensures uncounted { result ≢ ok → result ≢ no_room → written.new ≡ written.old }
-    ensures image { OnKind (⟦<FrequentItemsSketch<T> as Kind>⟧.part) handle.old.value handle.new.value result (λ s.
-        WritesFrequent T.codec T.content s out.old out.new written.new result) }
+    ensures done { OnDone result ((result ≡ ok) × HoldsKind (⟦<FrequentItemsSketch<T> as Kind>⟧.part) handle.new.value
+        (IsRestored T.row T.eq T.codec T.content image.now most_bytes)) }
+    ensures refused { OnRefused result ((handle.new.value ≡ handle.old.value) × IsRefusedImage
+        (early_fault_within T.row most_bytes image.now) (first_fault_within T.row most_bytes T.codec image.now) result) }
 {
-    on_kind!(alloc, handle, FrequentItemsSketch<T>, sketch => write_image(sketch, out, written))
-}
-
-/// The sketch of an image, whose table takes at most so many bytes.
-pub(crate) fn read_image<T: FrequentItemValue + Drop>(
-    alloc: Global,
-    image: &[u8],
-    most_bytes: usize,
-) -> Result<FrequentItemsSketch<T>, Error>
-    ensures restored { IfOk result (IsRestored T.row T.eq T.codec T.content image.now most_bytes) }
-    ensures sound { IfOk result (λ sketch. early_fault_within T.row most_bytes image.now ≡ None) }
-    ensures err { IfErr result (IsImageRefusal (early_fault_within T.row most_bytes image.now)
-        (first_fault_within T.row most_bytes T.codec image.now)) }
-{
-    match FrequentItemsSketch::deserialize_with_limit(alloc, image, most_bytes) {
-        Ok(sketch) => Ok(sketch),
-        Err(error) => Err(error),
+    match FrequentItemsSketch::<T>::deserialize_with_limit(alloc, image, most_bytes) {
+        Ok(sketch) => handle.put(alloc, sketch.into_any()),
+        Err(error) => refusal_number(error.fault()),
     }
 }

@@ -10,6 +10,19 @@ use crate::status_code::{OK, refusal_number};
 use sketch_base::Fault;
 use sketch_frequencies::suggest_max_map_size;
 
+/// Writes down what was found, and answers the call's number.
+macro_rules! write_down {
+    ($found:expr => $place:ident) => {
+        match $found {
+            Ok(found) => {
+                *$place = found;
+                OK
+            }
+            Err(error) => refusal_number(error.fault()),
+        }
+    };
+}
+
 /// Writes down the least greatest size of a sketch of frequent items that promises an error of at most the weight of all
 /// items over `parts`, for every stream.
 ///
@@ -22,13 +35,7 @@ pub extern "C" fn ds_frequent_map_size_for(parts: usize, max_map_size: &mut usiz
     ensures refused { OnRefused result ((max_map_size.new ≡ max_map_size.old)
         × (result ≡ refusal_number Fault.MapSizeTooLarge) × ((m : ℕ) → usual_budget m < parts)) }
 {
-    match suggest_max_map_size(parts) {
-        Ok(found) => {
-            *max_map_size = found;
-            OK
-        }
-        Err(error) => refusal_number(error.fault()),
-    }
+    write_down!(suggest_max_map_size(parts) => max_map_size)
 }
 
 /// Writes down how many buckets the published formula of Count-Min asks for, so that an estimate is at most the total over
@@ -44,13 +51,7 @@ pub extern "C" fn ds_count_buckets_for(parts: u64, num_buckets: &mut u32) -> i32
         × ((m : ℕ) → IsETimesWithin parts m → 1073741824 ≤ m)) }
     ensures refused { OnRefused result (num_buckets.new ≡ num_buckets.old) }
 {
-    match sketch_countmin::suggest_num_buckets(parts) {
-        Ok(found) => {
-            *num_buckets = found;
-            OK
-        }
-        Err(error) => refusal_number(error.fault()),
-    }
+    write_down!(sketch_countmin::suggest_num_buckets(parts) => num_buckets)
 }
 
 /// Writes down how many hashes the published formula of Count-Min asks for, so that at most one estimate in `questions` is
@@ -65,13 +66,7 @@ pub extern "C" fn ds_count_hashes_for(questions: u64, num_hashes: &mut u8) -> i3
     ensures some { 1 < questions → result ≡ ok }
     ensures refused { OnRefused result (num_hashes.new ≡ num_hashes.old) }
 {
-    match sketch_countmin::suggest_num_hashes(questions) {
-        Ok(found) => {
-            *num_hashes = found;
-            OK
-        }
-        Err(error) => refusal_number(error.fault()),
-    }
+    write_down!(sketch_countmin::suggest_num_hashes(questions) => num_hashes)
 }
 
 /// Writes down how many bits the published formula of filters asks for, so that a filter of so many items answers yes wrongly
@@ -90,13 +85,7 @@ pub extern "C" fn ds_filter_bits_for(num_items: u64, questions: u64, num_bits: &
         × ((m : ℕ) → AreEnoughBitsRounded num_items questions m → 137438953152 < m)) }
     ensures refused { OnRefused result (num_bits.new ≡ num_bits.old) }
 {
-    match sketch_bloom::suggest_num_bits(num_items, questions) {
-        Ok(found) => {
-            *num_bits = found;
-            OK
-        }
-        Err(error) => refusal_number(error.fault()),
-    }
+    write_down!(sketch_bloom::suggest_num_bits(num_items, questions) => num_bits)
 }
 
 /// Writes down how many hashes the published formula of filters asks for: bits over items times the natural logarithm of 2,
@@ -115,11 +104,5 @@ pub extern "C" fn ds_filter_hashes_for(num_bits: u64, num_items: u64, num_hashes
         × ((m : ℕ) → IsLn2TimesWithin num_bits (m * num_items) → 32767 < m)) }
     ensures refused { OnRefused result (num_hashes.new ≡ num_hashes.old) }
 {
-    match sketch_bloom::suggest_num_hashes(num_bits, num_items) {
-        Ok(found) => {
-            *num_hashes = found;
-            OK
-        }
-        Err(error) => refusal_number(error.fault()),
-    }
+    write_down!(sketch_bloom::suggest_num_hashes(num_bits, num_items) => num_hashes)
 }

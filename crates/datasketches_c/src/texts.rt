@@ -1,4 +1,4 @@
-//! Many texts as one buffer of bytes with offsets.
+//! Texts that a call is given: one as bytes, and many as one buffer of bytes with offsets.
 //!
 //! n texts have n + 1 offsets, of 64 bits each, as in Arrow's `large_utf8`: a buffer may then be longer than 2^31 bytes, and a caller
 //! who has 32-bit offsets widens them.
@@ -96,3 +96,15 @@ pub(crate) fn refusal_of_texts_in(places: usize, bytes: &[u8], offsets: &[u64]) 
     }
     None
 }
+
+/// What a call answers that does its work with a text: bytes that are no text are refused.
+macro_rules! on_text {
+    ($item:ident => $work:expr) => {{
+        let Ok($item) = str::from_utf8($item) else {
+            return $crate::status_code::refusal_number(sketch_base::Fault::InvalidUtf8);
+        };
+        $work
+    }};
+}
+
+pub(crate) use on_text;

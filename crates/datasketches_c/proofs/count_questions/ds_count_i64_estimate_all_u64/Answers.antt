@@ -3,7 +3,7 @@ use Rattle.std.specs.Hash as fed
 use Rattle.sketch_base.specs.Hashes.{fed_bytes}
 use Rattle.datasketches_c.specs.Kinds.{count_i64_of}
 use Rattle.datasketches_c.proofs.CountLemmas.{own_numbers}
-use Rattle.datasketches_c.proofs.count_i64.ds_count_i64_estimate_all_u64.Goals as goal
+use Rattle.datasketches_c.proofs.count_questions.ds_count_i64_estimate_all_u64.Goals as goal
 
 pub returns-clause-estimates : goal.returns-clause-estimates
 returns-clause-estimates c =

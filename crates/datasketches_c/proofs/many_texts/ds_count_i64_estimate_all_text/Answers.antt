@@ -4,7 +4,7 @@ use Rattle.sketch_base.specs.Hashes.{fed_bytes}
 use Rattle.datasketches_c.specs.Kinds.{count_i64_of}
 use Rattle.datasketches_c.specs.Texts.{texts_of}
 use Rattle.datasketches_c.proofs.CountLemmas.{own_numbers}
-use Rattle.datasketches_c.proofs.count_i64.ds_count_i64_estimate_all_text.Goals as goal
+use Rattle.datasketches_c.proofs.many_texts.ds_count_i64_estimate_all_text.Goals as goal
 
 pub returns-clause-estimates : goal.returns-clause-estimates
 returns-clause-estimates c =

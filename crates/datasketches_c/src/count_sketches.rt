@@ -1,0 +1,243 @@
+//! Count-Min sketches as wholes: made, merged, halved, decayed, described, written and read.
+ghost use Rattle.std.specs.Prelude.{None, Some, pos, ◌*◌, ◌+◌, ◌<◌, ◌≡◌, ◌≢◌, ◌≤◌};
+ghost use Rattle.sketch_base.specs.Errors.{refusal_of};
+ghost use Rattle.sketch_countmin.specs.Image.{IsImage, IsSpelled, early_fault_within, first_fault_within};
+ghost use Rattle.sketch_countmin.specs.Shapes.{shape_fault};
+ghost use Rattle.sketch_countmin.specs.State.{decayed_state, empty_state, halved_state};
+ghost use Rattle.datasketches_c.specs.CountCalls.{Describes, MergesInto};
+ghost use Rattle.datasketches_c.specs.Images.{IsRefusedImage, WritesImage};
+ghost use Rattle.datasketches_c.specs.Kinds.{HoldsKind, OnCountU64, OnKind, count_i64_of, count_u64_of};
+ghost use Rattle.datasketches_c.specs.Numbers.{OnDone, OnRefused, bad_fraction, greatest_i64, greatest_u64, least_i64, no_room, ok, refusal_number};
+ghost use Rattle.datasketches_c.specs.declared.any_sketch.AnySketch.TheVariants.{CountI64, CountU64};
+
+use crate::count::{self, CountStatus};
+use crate::handle::SketchHandle;
+use crate::images::to_bytes;
+use crate::kind::on_kind;
+use crate::status_code::{BAD_FRACTION, OK};
+use sketch_countmin::CountMinSketch;
+use std::alloc::Global;
+
+/// Makes a Count-Min sketch in `u64` of so many rows, one for each hash, and cells in each row, in place of what the
+/// handle has, which is freed.
+///
+/// Refusals, in this order: `BadNumHashes` for 0 hashes, `BadNumBuckets` below 3 buckets, `TableTooLarge` for 2^30 cells
+/// or more, `ZeroSeedHash`, and `NoMemory`. The handle then has what it had.
+#[unsafe(no_mangle)]
+pub extern "C" fn ds_count_u64_new(
+    alloc: Global,
+    handle: &mut SketchHandle,
+    num_hashes: u8,
+    num_buckets: u32,
+    seed: u64,
+) -> i32
+    ensures done { OnDone result ((result ≡ ok)
+        × (handle.new.value ≡ Some (CountU64 (empty_state num_hashes num_buckets seed)))) }
+    ensures accepted { OnDone result (shape_fault num_hashes num_buckets seed ≡ None) }
+    ensures refused { OnRefused result ((handle.new.value ≡ handle.old.value)
+        × (result ≡ refusal_number (refusal_of (shape_fault num_hashes num_buckets seed)).fault)) }
+{
+    count::new::<u64>(num_hashes, num_buckets, seed, alloc, handle)
+}
+
+/// Makes a Count-Min sketch in `i64` of so many rows, one for each hash, and cells in each row, in place of what the
+/// handle has, which is freed.
+///
+/// Refusals, in this order: `BadNumHashes` for 0 hashes, `BadNumBuckets` below 3 buckets, `TableTooLarge` for 2^30 cells
+/// or more, `ZeroSeedHash`, and `NoMemory`. The handle then has what it had.
+#[unsafe(no_mangle)]
+pub extern "C" fn ds_count_i64_new(
+    alloc: Global,
+    handle: &mut SketchHandle,
+    num_hashes: u8,
+    num_buckets: u32,
+    seed: u64,
+) -> i32
+    ensures done { OnDone result ((result ≡ ok)
+        × (handle.new.value ≡ Some (CountI64 (empty_state num_hashes num_buckets seed)))) }
+    ensures accepted { OnDone result (shape_fault num_hashes num_buckets seed ≡ None) }
+    ensures refused { OnRefused result ((handle.new.value ≡ handle.old.value)
+        × (result ≡ refusal_number (refusal_of (shape_fault num_hashes num_buckets seed)).fault)) }
+{
+    count::new::<i64>(num_hashes, num_buckets, seed, alloc, handle)
+}
+
+/// Adds the other sketch's cells and total. The other sketch stays.
+///
+/// It is refused with `Mismatch` where hashes, buckets or seeds differ, and with `WeightOverflow` where the totals
+/// together pass the greatest `u64`. The sketch is then as it was.
+#[unsafe(no_mangle)]
+pub extern "C" fn ds_count_u64_merge(
+    alloc: Global,
+    handle: &mut SketchHandle,
+    other: &mut SketchHandle,
+) -> i32
+    ensures other { other.new.value ≡ other.old.value }
+    ensures refused { OnRefused result (handle.new.value ≡ handle.old.value) }
+    ensures call { MergesInto count_u64_of greatest_u64 handle.old.value handle.new.value result other.old.value other.new.value }
+{
+    count::merge::<u64>(alloc, handle, other)
+}
+
+/// Adds the other sketch's cells and total. The other sketch stays.
+///
+/// It is refused with `Mismatch` where hashes, buckets or seeds differ, and with `WeightOverflow` where the totals
+/// together pass the greatest `i64`. The sketch is then as it was.
+#[unsafe(no_mangle)]
+pub extern "C" fn ds_count_i64_merge(
+    alloc: Global,
+    handle: &mut SketchHandle,
+    other: &mut SketchHandle,
+) -> i32
+    ensures other { other.new.value ≡ other.old.value }
+    ensures refused { OnRefused result (handle.new.value ≡ handle.old.value) }
+    ensures call { MergesInto count_i64_of greatest_i64 handle.old.value handle.new.value result other.old.value other.new.value }
+{
+    count::merge::<i64>(alloc, handle, other)
+}
+
+/// Halves each cell and the total, rounded down.
+#[unsafe(no_mangle)]
+pub extern "C" fn ds_count_u64_halve(alloc: Global, handle: &mut SketchHandle) -> i32
+    ensures { OnCountU64 handle.old.value handle.new.value result (λ s.
+        (result ≡ ok) × (handle.new.value ≡ Some (CountU64 (halved_state s)))) }
+{
+    on_kind!(alloc, handle, CountMinSketch<u64>, sketch => {
+        sketch.halve();
+        OK
+    })
+}
+
+/// Multiplies each cell and the total by a fraction above 0 and at most 1, rounded down. Another fraction is refused with
+/// `BAD_FRACTION`, and leaves the sketch as it was.
+#[unsafe(no_mangle)]
+pub extern "C" fn ds_count_u64_decay(
+    alloc: Global,
+    handle: &mut SketchHandle,
+    numerator: u64,
+    denominator: u64,
+) -> i32
+    ensures zero { numerator ≡ 0 → (result ≡ bad_fraction) × (handle.new.value ≡ handle.old.value) }
+    ensures above { denominator < numerator → (result ≡ bad_fraction) × (handle.new.value ≡ handle.old.value) }
+    ensures call { 0 < numerator → numerator ≤ denominator
+        → OnCountU64 handle.old.value handle.new.value result (λ s.
+        (result ≡ ok) × (handle.new.value ≡ Some (CountU64 (decayed_state numerator denominator s)))) }
+{
+    if numerator == 0 || numerator > denominator {
+        return BAD_FRACTION;
+    }
+    on_kind!(alloc, handle, CountMinSketch<u64>, sketch => {
+        sketch.decay(numerator, denominator);
+        OK
+    })
+}
+
+/// Writes down the sketch's numbers: the total weight, the seed, the buckets of a row and the hashes, which are as many
+/// as rows. A refusal leaves `status` as it was.
+#[unsafe(no_mangle)]
+pub extern "C" fn ds_count_u64_status(
+    alloc: Global,
+    handle: &mut SketchHandle,
+    status: &mut CountStatus,
+) -> i32
+    ensures kept { handle.new.value ≡ handle.old.value }
+    ensures untouched { OnRefused result (status.new ≡ status.old) }
+    ensures numbers { Describes count_u64_of handle.old.value handle.new.value result status.new }
+{
+    count::status::<u64>(alloc, handle, status)
+}
+
+/// Writes down the sketch's numbers: the total weight, the seed, the buckets of a row and the hashes, which are as many
+/// as rows. A refusal leaves `status` as it was.
+#[unsafe(no_mangle)]
+pub extern "C" fn ds_count_i64_status(
+    alloc: Global,
+    handle: &mut SketchHandle,
+    status: &mut CountStatus,
+) -> i32
+    ensures kept { handle.new.value ≡ handle.old.value }
+    ensures untouched { OnRefused result (status.new ≡ status.old) }
+    ensures numbers { Describes count_i64_of handle.old.value handle.new.value result status.new }
+{
+    count::status::<i64>(alloc, handle, status)
+}
+
+/// Writes the sketch's image to the front of the caller's buffer, and says how long it is in bytes, also where there is
+/// no room. A refusal leaves the buffer as it was: `NO_ROOM` where the image is longer, and `NoMemory`.
+#[unsafe(no_mangle)]
+pub extern "C" fn ds_count_u64_to_bytes(
+    alloc: Global,
+    handle: &mut SketchHandle,
+    out: &mut [u8],
+    written: &mut usize,
+) -> i32
+    ensures kept { handle.new.value ≡ handle.old.value }
+    ensures untouched { OnRefused result (out.new ≡ out.old) }
+    ensures uncounted { result ≢ ok → result ≢ no_room → written.new ≡ written.old }
+    ensures image { OnKind count_u64_of handle.old.value handle.new.value result (λ s.
+        WritesImage (λ image. IsSpelled (pos 0) greatest_u64 image s) out.old out.new written.new result) }
+{
+    to_bytes::<CountMinSketch<u64>>(alloc, handle, out, written)
+}
+
+/// Writes the sketch's image to the front of the caller's buffer, and says how long it is in bytes, also where there is
+/// no room. A refusal leaves the buffer as it was: `NO_ROOM` where the image is longer, and `NoMemory`.
+#[unsafe(no_mangle)]
+pub extern "C" fn ds_count_i64_to_bytes(
+    alloc: Global,
+    handle: &mut SketchHandle,
+    out: &mut [u8],
+    written: &mut usize,
+) -> i32
+    ensures kept { handle.new.value ≡ handle.old.value }
+    ensures untouched { OnRefused result (out.new ≡ out.old) }
+    ensures uncounted { result ≢ ok → result ≢ no_room → written.new ≡ written.old }
+    ensures image { OnKind count_i64_of handle.old.value handle.new.value result (λ s.
+        WritesImage (λ image. IsSpelled least_i64 greatest_i64 image s) out.old out.new written.new result) }
+{
+    to_bytes::<CountMinSketch<i64>>(alloc, handle, out, written)
+}
+
+/// Makes the sketch of an image that was written under this seed, in place of what the handle has, which is freed. The
+/// cells and the rows' seeds, of eight bytes each, take at most so many bytes.
+///
+/// It is refused for the image's first fault (`TableTooLarge` where it would take more bytes), or for memory, and then
+/// the handle is as it was.
+#[unsafe(no_mangle)]
+pub extern "C" fn ds_count_u64_from_bytes(
+    alloc: Global,
+    handle: &mut SketchHandle,
+    image: &[u8],
+    seed: u64,
+    most_bytes: usize,
+) -> i32
+    ensures done { OnDone result ((result ≡ ok) × HoldsKind count_u64_of handle.new.value (λ s.
+        IsImage (pos 0) greatest_u64 seed image.now s × (s.hashes * s.buckets * 8 + 8 * s.hashes ≤ most_bytes))) }
+    ensures refused { OnRefused result ((handle.new.value ≡ handle.old.value) × IsRefusedImage
+        (early_fault_within 8 most_bytes seed image.now)
+        (first_fault_within (pos 0) greatest_u64 8 most_bytes seed image.now) result) }
+{
+    count::from_bytes::<u64>(image, seed, most_bytes, alloc, handle)
+}
+
+/// Makes the sketch of an image that was written under this seed, in place of what the handle has, which is freed. The
+/// cells and the rows' seeds, of eight bytes each, take at most so many bytes.
+///
+/// It is refused for the image's first fault (`TableTooLarge` where it would take more bytes), or for memory, and then
+/// the handle is as it was.
+#[unsafe(no_mangle)]
+pub extern "C" fn ds_count_i64_from_bytes(
+    alloc: Global,
+    handle: &mut SketchHandle,
+    image: &[u8],
+    seed: u64,
+    most_bytes: usize,
+) -> i32
+    ensures done { OnDone result ((result ≡ ok) × HoldsKind count_i64_of handle.new.value (λ s.
+        IsImage least_i64 greatest_i64 seed image.now s × (s.hashes * s.buckets * 8 + 8 * s.hashes ≤ most_bytes))) }
+    ensures refused { OnRefused result ((handle.new.value ≡ handle.old.value) × IsRefusedImage
+        (early_fault_within 8 most_bytes seed image.now)
+        (first_fault_within least_i64 greatest_i64 8 most_bytes seed image.now) result) }
+{
+    count::from_bytes::<i64>(image, seed, most_bytes, alloc, handle)
+}

@@ -1,0 +1,351 @@
+//! Sketches of frequent items as wholes: made, merged, emptied, described, written and read.
+ghost use Rattle.std.specs.Ordering.{int_eq};
+ghost use Rattle.std.specs.Prelude.{None, Some, nat_eq, ◌≡◌, ◌≢◌};
+ghost use Rattle.std.specs.String.{string_bytes};
+ghost use Rattle.sketch_base.specs.Errors.{refusal_of};
+ghost use Rattle.sketch_frequencies.specs.History.FrequentHistory.{New};
+ghost use Rattle.sketch_frequencies.specs.Image.{early_fault_within, first_fault_within};
+ghost use Rattle.sketch_frequencies.specs.Items.{text_codec};
+ghost use Rattle.sketch_frequencies.specs.Sizes.{sizes_fault};
+ghost use Rattle.sketch_frequencies.specs.Stands.{KeepsTailBudget, StandsFor};
+ghost use Rattle.sketch_frequencies.specs.State.{empty_state};
+ghost use Rattle.datasketches_c.specs.FrequentCalls.{AreNumbers, Empties, MergesInto};
+ghost use Rattle.datasketches_c.specs.FrequentImages.{IsRestored, WritesFrequent, i64_codec, i64_row, u64_codec, u64_row};
+ghost use Rattle.datasketches_c.specs.FrequentTextImages.{text_row};
+ghost use Rattle.datasketches_c.specs.FrequentTexts.{text_eq};
+ghost use Rattle.datasketches_c.specs.Images.{IsRefusedImage};
+ghost use Rattle.datasketches_c.specs.Kinds.{HoldsFrequentI64, HoldsFrequentTexts, HoldsFrequentU64, OnFrequentI64, OnFrequentTexts, OnFrequentU64};
+ghost use Rattle.datasketches_c.specs.Numbers.{OnDone, OnRefused, no_room, ok, refusal_number};
+ghost use Rattle.datasketches_c.specs.declared.any_sketch.AnySketch.TheVariants.{FrequentI64, FrequentTexts, FrequentU64};
+
+use crate::frequent::{self, FrequentStatus};
+use crate::handle::SketchHandle;
+use crate::images::to_bytes;
+use crate::join::join;
+use sketch_frequencies::FrequentItemsSketch;
+use std::alloc::Global;
+
+/// Makes a sketch of frequent texts in place of what the handle has, which is freed. Its table may grow to
+/// `max_map_size` slots, a power of two from 8 to 2^30, and its purges sample `sample_size` counters, an even number from
+/// 2 to three quarters of `max_map_size`, at most 1024.
+///
+/// Refused for `MapSizeNotPowerOfTwo`, `MapSizeTooSmall`, `MapSizeTooLarge`, `BadSampleSize` and `NoMemory`; what the
+/// handle has then stays.
+#[unsafe(no_mangle)]
+pub extern "C" fn ds_frequent_text_new(
+    alloc: Global,
+    handle: &mut SketchHandle,
+    max_map_size: usize,
+    sample_size: usize,
+) -> i32
+    ensures done { OnDone result ((result ≡ ok)
+        × (handle.new.value ≡ Some (FrequentTexts (empty_state max_map_size sample_size)))) }
+    ensures stands { OnDone result (StandsFor text_eq (empty_state max_map_size sample_size) (New max_map_size sample_size)) }
+    ensures budget { OnDone result (KeepsTailBudget text_eq (empty_state max_map_size sample_size) (New max_map_size sample_size)) }
+    ensures accepted { OnDone result (sizes_fault max_map_size sample_size ≡ None) }
+    ensures refused { OnRefused result ((handle.new.value ≡ handle.old.value)
+        × (result ≡ refusal_number (refusal_of (sizes_fault max_map_size sample_size)).fault)) }
+{
+    frequent::new::<String>(alloc, handle, max_map_size, sample_size)
+}
+
+/// Makes a sketch of frequent numbers in place of what the handle has, which is freed. Its table may grow to
+/// `max_map_size` slots, a power of two from 8 to 2^30, and its purges sample `sample_size` counters, an even number from
+/// 2 to three quarters of `max_map_size`, at most 1024.
+///
+/// Refused for `MapSizeNotPowerOfTwo`, `MapSizeTooSmall`, `MapSizeTooLarge`, `BadSampleSize` and `NoMemory`; what the
+/// handle has then stays.
+#[unsafe(no_mangle)]
+pub extern "C" fn ds_frequent_u64_new(
+    alloc: Global,
+    handle: &mut SketchHandle,
+    max_map_size: usize,
+    sample_size: usize,
+) -> i32
+    ensures done { OnDone result ((result ≡ ok)
+        × (handle.new.value ≡ Some (FrequentU64 (empty_state max_map_size sample_size)))) }
+    ensures stands { OnDone result (StandsFor nat_eq (empty_state max_map_size sample_size) (New max_map_size sample_size)) }
+    ensures budget { OnDone result (KeepsTailBudget nat_eq (empty_state max_map_size sample_size) (New max_map_size sample_size)) }
+    ensures accepted { OnDone result (sizes_fault max_map_size sample_size ≡ None) }
+    ensures refused { OnRefused result ((handle.new.value ≡ handle.old.value)
+        × (result ≡ refusal_number (refusal_of (sizes_fault max_map_size sample_size)).fault)) }
+{
+    frequent::new::<u64>(alloc, handle, max_map_size, sample_size)
+}
+
+/// Makes a sketch of frequent numbers in place of what the handle has, which is freed. Its table may grow to
+/// `max_map_size` slots, a power of two from 8 to 2^30, and its purges sample `sample_size` counters, an even number from
+/// 2 to three quarters of `max_map_size`, at most 1024.
+///
+/// Refused for `MapSizeNotPowerOfTwo`, `MapSizeTooSmall`, `MapSizeTooLarge`, `BadSampleSize` and `NoMemory`; what the
+/// handle has then stays.
+#[unsafe(no_mangle)]
+pub extern "C" fn ds_frequent_i64_new(
+    alloc: Global,
+    handle: &mut SketchHandle,
+    max_map_size: usize,
+    sample_size: usize,
+) -> i32
+    ensures done { OnDone result ((result ≡ ok)
+        × (handle.new.value ≡ Some (FrequentI64 (empty_state max_map_size sample_size)))) }
+    ensures stands { OnDone result (StandsFor int_eq (empty_state max_map_size sample_size) (New max_map_size sample_size)) }
+    ensures budget { OnDone result (KeepsTailBudget int_eq (empty_state max_map_size sample_size) (New max_map_size sample_size)) }
+    ensures accepted { OnDone result (sizes_fault max_map_size sample_size ≡ None) }
+    ensures refused { OnRefused result ((handle.new.value ≡ handle.old.value)
+        × (result ≡ refusal_number (refusal_of (sizes_fault max_map_size sample_size)).fault)) }
+{
+    frequent::new::<i64>(alloc, handle, max_map_size, sample_size)
+}
+
+/// Merges the other sketch into this one, which then stands for both streams and keeps its own sizes. The other sketch
+/// stays.
+///
+/// Refused for `WeightOverflow` where the weight of both together would pass the greatest `u64`, and for `NoMemory` where
+/// there is no memory for the result. This sketch is then as it was.
+#[unsafe(no_mangle)]
+pub extern "C" fn ds_frequent_text_merge(
+    alloc: Global,
+    handle: &mut SketchHandle,
+    other: &mut SketchHandle,
+) -> i32
+    ensures other { other.new.value ≡ other.old.value }
+    ensures refused { OnRefused result (handle.new.value ≡ handle.old.value) }
+    ensures call { OnFrequentTexts handle.old.value handle.new.value result (λ a.
+        OnFrequentTexts other.old.value other.new.value result (λ b.
+        HoldsFrequentTexts handle.new.value (λ t. MergesInto text_eq a b t result))) }
+{
+    join::<FrequentItemsSketch<String>, ()>(alloc, handle, other, ())
+}
+
+/// Merges the other sketch into this one, which then stands for both streams and keeps its own sizes. The other sketch
+/// stays.
+///
+/// Refused for `WeightOverflow` where the weight of both together would pass the greatest `u64`, and for `NoMemory` where
+/// there is no memory for the result. This sketch is then as it was.
+#[unsafe(no_mangle)]
+pub extern "C" fn ds_frequent_u64_merge(
+    alloc: Global,
+    handle: &mut SketchHandle,
+    other: &mut SketchHandle,
+) -> i32
+    ensures other { other.new.value ≡ other.old.value }
+    ensures refused { OnRefused result (handle.new.value ≡ handle.old.value) }
+    ensures call { OnFrequentU64 handle.old.value handle.new.value result (λ a.
+        OnFrequentU64 other.old.value other.new.value result (λ b.
+        HoldsFrequentU64 handle.new.value (λ t. MergesInto nat_eq a b t result))) }
+{
+    join::<FrequentItemsSketch<u64>, ()>(alloc, handle, other, ())
+}
+
+/// Merges the other sketch into this one, which then stands for both streams and keeps its own sizes. The other sketch
+/// stays.
+///
+/// Refused for `WeightOverflow` where the weight of both together would pass the greatest `u64`, and for `NoMemory` where
+/// there is no memory for the result. This sketch is then as it was.
+#[unsafe(no_mangle)]
+pub extern "C" fn ds_frequent_i64_merge(
+    alloc: Global,
+    handle: &mut SketchHandle,
+    other: &mut SketchHandle,
+) -> i32
+    ensures other { other.new.value ≡ other.old.value }
+    ensures refused { OnRefused result (handle.new.value ≡ handle.old.value) }
+    ensures call { OnFrequentI64 handle.old.value handle.new.value result (λ a.
+        OnFrequentI64 other.old.value other.new.value result (λ b.
+        HoldsFrequentI64 handle.new.value (λ t. MergesInto int_eq a b t result))) }
+{
+    join::<FrequentItemsSketch<i64>, ()>(alloc, handle, other, ())
+}
+
+/// Forgets everything but the greatest size and the sample size.
+#[unsafe(no_mangle)]
+pub extern "C" fn ds_frequent_text_reset(alloc: Global, handle: &mut SketchHandle) -> i32
+    ensures { OnFrequentTexts handle.old.value handle.new.value result (λ s.
+        (result ≡ ok) × HoldsFrequentTexts handle.new.value (Empties text_eq s)) }
+{
+    frequent::reset::<String>(alloc, handle)
+}
+
+/// Forgets everything but the greatest size and the sample size.
+#[unsafe(no_mangle)]
+pub extern "C" fn ds_frequent_u64_reset(alloc: Global, handle: &mut SketchHandle) -> i32
+    ensures { OnFrequentU64 handle.old.value handle.new.value result (λ s.
+        (result ≡ ok) × HoldsFrequentU64 handle.new.value (Empties nat_eq s)) }
+{
+    frequent::reset::<u64>(alloc, handle)
+}
+
+/// Forgets everything but the greatest size and the sample size.
+#[unsafe(no_mangle)]
+pub extern "C" fn ds_frequent_i64_reset(alloc: Global, handle: &mut SketchHandle) -> i32
+    ensures { OnFrequentI64 handle.old.value handle.new.value result (λ s.
+        (result ≡ ok) × HoldsFrequentI64 handle.new.value (Empties int_eq s)) }
+{
+    frequent::reset::<i64>(alloc, handle)
+}
+
+/// Writes down the sketch's numbers. Sizes are in slots, and capacities in counters.
+#[unsafe(no_mangle)]
+pub extern "C" fn ds_frequent_text_status(
+    alloc: Global,
+    handle: &mut SketchHandle,
+    status: &mut FrequentStatus,
+) -> i32
+    ensures kept { handle.new.value ≡ handle.old.value }
+    ensures numbers { OnFrequentTexts handle.old.value handle.new.value result (λ s.
+        (result ≡ ok) × AreNumbers s status.new) }
+    ensures untouched { OnRefused result (status.new ≡ status.old) }
+{
+    frequent::status::<String>(alloc, handle, status)
+}
+
+/// Writes down the sketch's numbers. Sizes are in slots, and capacities in counters.
+#[unsafe(no_mangle)]
+pub extern "C" fn ds_frequent_u64_status(
+    alloc: Global,
+    handle: &mut SketchHandle,
+    status: &mut FrequentStatus,
+) -> i32
+    ensures kept { handle.new.value ≡ handle.old.value }
+    ensures numbers { OnFrequentU64 handle.old.value handle.new.value result (λ s.
+        (result ≡ ok) × AreNumbers s status.new) }
+    ensures untouched { OnRefused result (status.new ≡ status.old) }
+{
+    frequent::status::<u64>(alloc, handle, status)
+}
+
+/// Writes down the sketch's numbers. Sizes are in slots, and capacities in counters.
+#[unsafe(no_mangle)]
+pub extern "C" fn ds_frequent_i64_status(
+    alloc: Global,
+    handle: &mut SketchHandle,
+    status: &mut FrequentStatus,
+) -> i32
+    ensures kept { handle.new.value ≡ handle.old.value }
+    ensures numbers { OnFrequentI64 handle.old.value handle.new.value result (λ s.
+        (result ≡ ok) × AreNumbers s status.new) }
+    ensures untouched { OnRefused result (status.new ≡ status.old) }
+{
+    frequent::status::<i64>(alloc, handle, status)
+}
+
+/// Writes the sketch's image to the front of the caller's buffer, and says how many bytes long it is, also where there is
+/// no room. The sample size is not in it.
+///
+/// Refused with no room where the buffer is shorter than the image, for `NoMemory`, and for `ItemTooLong` where a text has
+/// more than 2^32 - 1 bytes. The buffer is then as it was.
+#[unsafe(no_mangle)]
+pub extern "C" fn ds_frequent_text_to_bytes(
+    alloc: Global,
+    handle: &mut SketchHandle,
+    out: &mut [u8],
+    written: &mut usize,
+) -> i32
+    ensures kept { handle.new.value ≡ handle.old.value }
+    ensures untouched { OnRefused result (out.new ≡ out.old) }
+    ensures uncounted { result ≢ ok → result ≢ no_room → written.new ≡ written.old }
+    ensures image { OnFrequentTexts handle.old.value handle.new.value result (λ s.
+        WritesFrequent text_codec (λ text. string_bytes text) s out.old out.new written.new result) }
+{
+    to_bytes::<FrequentItemsSketch<String>>(alloc, handle, out, written)
+}
+
+/// Writes the sketch's image to the front of the caller's buffer, and says how many bytes long it is, also where there is
+/// no room. The sample size is not in it.
+///
+/// Refused with no room where the buffer is shorter than the image, and for `NoMemory`. The buffer is then as it was.
+#[unsafe(no_mangle)]
+pub extern "C" fn ds_frequent_u64_to_bytes(
+    alloc: Global,
+    handle: &mut SketchHandle,
+    out: &mut [u8],
+    written: &mut usize,
+) -> i32
+    ensures kept { handle.new.value ≡ handle.old.value }
+    ensures untouched { OnRefused result (out.new ≡ out.old) }
+    ensures uncounted { result ≢ ok → result ≢ no_room → written.new ≡ written.old }
+    ensures image { OnFrequentU64 handle.old.value handle.new.value result (λ s.
+        WritesFrequent u64_codec (λ n. n) s out.old out.new written.new result) }
+{
+    to_bytes::<FrequentItemsSketch<u64>>(alloc, handle, out, written)
+}
+
+/// Writes the sketch's image to the front of the caller's buffer, and says how many bytes long it is, also where there is
+/// no room. The sample size is not in it.
+///
+/// Refused with no room where the buffer is shorter than the image, and for `NoMemory`. The buffer is then as it was.
+#[unsafe(no_mangle)]
+pub extern "C" fn ds_frequent_i64_to_bytes(
+    alloc: Global,
+    handle: &mut SketchHandle,
+    out: &mut [u8],
+    written: &mut usize,
+) -> i32
+    ensures kept { handle.new.value ≡ handle.old.value }
+    ensures untouched { OnRefused result (out.new ≡ out.old) }
+    ensures uncounted { result ≢ ok → result ≢ no_room → written.new ≡ written.old }
+    ensures image { OnFrequentI64 handle.old.value handle.new.value result (λ s.
+        WritesFrequent i64_codec (λ n. n) s out.old out.new written.new result) }
+{
+    to_bytes::<FrequentItemsSketch<i64>>(alloc, handle, out, written)
+}
+
+/// Makes the sketch of an image, whose table takes at most so many bytes, in place of what the handle has, which is freed.
+/// Its purges sample as many counters as they may: three quarters of its greatest size, at most 1024.
+///
+/// Refused for the image's first fault, for `TableTooLarge` above the limit, and for `NoMemory`; what the handle has then
+/// stays.
+#[unsafe(no_mangle)]
+pub extern "C" fn ds_frequent_text_from_bytes(
+    alloc: Global,
+    handle: &mut SketchHandle,
+    image: &[u8],
+    most_bytes: usize,
+) -> i32
+    ensures done { OnDone result ((result ≡ ok) × HoldsFrequentTexts handle.new.value
+        (IsRestored text_row text_eq text_codec (λ text. string_bytes text) image.now most_bytes)) }
+    ensures refused { OnRefused result ((handle.new.value ≡ handle.old.value) × IsRefusedImage
+        (early_fault_within text_row most_bytes image.now) (first_fault_within text_row most_bytes text_codec image.now) result) }
+{
+    frequent::from_bytes::<String>(alloc, handle, image, most_bytes)
+}
+
+/// Makes the sketch of an image, whose table takes at most so many bytes, in place of what the handle has, which is freed.
+/// Its purges sample as many counters as they may: three quarters of its greatest size, at most 1024.
+///
+/// Refused for the image's first fault, for `TableTooLarge` above the limit, and for `NoMemory`; what the handle has then
+/// stays.
+#[unsafe(no_mangle)]
+pub extern "C" fn ds_frequent_u64_from_bytes(
+    alloc: Global,
+    handle: &mut SketchHandle,
+    image: &[u8],
+    most_bytes: usize,
+) -> i32
+    ensures done { OnDone result ((result ≡ ok) × HoldsFrequentU64 handle.new.value
+        (IsRestored u64_row nat_eq u64_codec (λ n. n) image.now most_bytes)) }
+    ensures refused { OnRefused result ((handle.new.value ≡ handle.old.value) × IsRefusedImage
+        (early_fault_within u64_row most_bytes image.now) (first_fault_within u64_row most_bytes u64_codec image.now) result) }
+{
+    frequent::from_bytes::<u64>(alloc, handle, image, most_bytes)
+}
+
+/// Makes the sketch of an image, whose table takes at most so many bytes, in place of what the handle has, which is freed.
+/// Its purges sample as many counters as they may: three quarters of its greatest size, at most 1024.
+///
+/// Refused for the image's first fault, for `TableTooLarge` above the limit, and for `NoMemory`; what the handle has then
+/// stays.
+#[unsafe(no_mangle)]
+pub extern "C" fn ds_frequent_i64_from_bytes(
+    alloc: Global,
+    handle: &mut SketchHandle,
+    image: &[u8],
+    most_bytes: usize,
+) -> i32
+    ensures done { OnDone result ((result ≡ ok) × HoldsFrequentI64 handle.new.value
+        (IsRestored i64_row int_eq i64_codec (λ n. n) image.now most_bytes)) }
+    ensures refused { OnRefused result ((handle.new.value ≡ handle.old.value) × IsRefusedImage
+        (early_fault_within i64_row most_bytes image.now) (first_fault_within i64_row most_bytes i64_codec image.now) result) }
+{
+    frequent::from_bytes::<i64>(alloc, handle, image, most_bytes)
+}

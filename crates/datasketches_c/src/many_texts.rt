@@ -1,0 +1,247 @@
+//! Many texts at once, as one buffer with offsets: inserted in a filter, counted, added, and asked for.
+ghost use Rattle.std.specs.Hash as fed;
+ghost use Rattle.std.specs.Prelude.{All, Some, length, map, pos, ◌+◌, ◌≡◌, ◌≢◌};
+ghost use Rattle.std.specs.Str.{IsUtf8};
+ghost use Rattle.sketch_base.specs.Hashes.{fed_bytes};
+ghost use Rattle.sketch_bloom.specs.State.{all_inserted, contains_item};
+ghost use Rattle.datasketches_c.specs.CountCalls.{AddsEach, EstimatesAll};
+ghost use Rattle.datasketches_c.specs.FrequentBatches.{TellsOfTexts};
+ghost use Rattle.datasketches_c.specs.FrequentTexts.{UpdatesText};
+ghost use Rattle.datasketches_c.specs.InTurn.{CallsInTurn};
+ghost use Rattle.datasketches_c.specs.Kinds.{HoldsFrequentTexts, OnFilter, OnFrequentTexts, count_i64_of, count_u64_of};
+ghost use Rattle.datasketches_c.specs.Numbers.{OnRefused, bad_offsets, greatest_i64, greatest_u64, no_room, ok, refusal_number};
+ghost use Rattle.datasketches_c.specs.Texts.{AreOffsets, AreTexts, texts_of};
+ghost use Rattle.datasketches_c.specs.declared.any_sketch.AnySketch.TheVariants.{Filter};
+
+use crate::count;
+use crate::filter::{contains_texts, insert_texts};
+use crate::frequent::FrequentBounds;
+use crate::frequent_text::{bounds_of_texts, update_texts};
+use crate::handle::SketchHandle;
+use crate::kind::on_kind;
+use crate::status_code::OK;
+use crate::texts::{refusal_of_texts, refusal_of_texts_in};
+use sketch_base::Fault;
+use sketch_bloom::BloomFilter;
+use sketch_frequencies::FrequentItemsSketch;
+use std::alloc::Global;
+
+/// Inserts many texts, as one after another. They are the bytes between each of the offsets and the next, so there is
+/// one offset more than texts.
+///
+/// Refused with `BAD_OFFSETS` where there is no offset, one is below the one before it, or one passes the end of the
+/// bytes, and with `InvalidUtf8` where some text is not UTF-8. The filter is then as it was.
+#[unsafe(no_mangle)]
+pub extern "C" fn ds_filter_insert_all_text(
+    alloc: Global,
+    handle: &mut SketchHandle,
+    bytes: &[u8],
+    offsets: &[u64],
+) -> i32
+    ensures texts { AreTexts bytes.now offsets.now → OnFilter handle.old.value handle.new.value result (λ s.
+        (result ≡ ok) × (handle.new.value
+        ≡ Some (Filter (all_inserted s (map (fed_bytes fed.str) (texts_of bytes.now offsets.now)))))) }
+    ensures bad_offsets { ¬ AreOffsets bytes.now offsets.now → result ≡ bad_offsets }
+    ensures no_text { AreOffsets bytes.now offsets.now → ¬ All IsUtf8 (texts_of bytes.now offsets.now)
+        → result ≡ refusal_number Fault.InvalidUtf8 }
+    ensures refused { OnRefused result (handle.new.value ≡ handle.old.value) }
+{
+    if let Some(refusal) = refusal_of_texts(bytes, offsets) {
+        return refusal;
+    }
+    on_kind!(alloc, handle, BloomFilter, filter => {
+        insert_texts(filter, bytes, offsets);
+        OK
+    })
+}
+
+/// Writes down for each text whether the filter contains it. The texts are the bytes between each of the offsets and
+/// the next, and there are as many answers as texts.
+///
+/// Refused with `BAD_OFFSETS` where there is no offset, one is below the one before it, or one passes the end of the
+/// bytes, then with `NO_ROOM` where there are more or fewer answers than texts, then with `InvalidUtf8` where some text
+/// is not UTF-8. The answers are then as they were.
+#[unsafe(no_mangle)]
+pub extern "C" fn ds_filter_contains_all_text(
+    alloc: Global,
+    handle: &mut SketchHandle,
+    bytes: &[u8],
+    offsets: &[u64],
+    answers: &mut [bool],
+) -> i32
+    ensures kept { handle.new.value ≡ handle.old.value }
+    ensures bad_offsets { ¬ AreOffsets bytes.now offsets.now → result ≡ bad_offsets }
+    ensures no_room { AreOffsets bytes.now offsets.now → length answers.old + 1 ≢ length offsets.now → result ≡ no_room }
+    ensures no_text { AreOffsets bytes.now offsets.now → length answers.old + 1 ≡ length offsets.now
+        → ¬ All IsUtf8 (texts_of bytes.now offsets.now) → result ≡ refusal_number Fault.InvalidUtf8 }
+    ensures answers { AreTexts bytes.now offsets.now → length answers.old + 1 ≡ length offsets.now
+        → OnFilter handle.old.value handle.new.value result (λ s. (result ≡ ok)
+        × (answers.new ≡ map (λ text. contains_item s (fed_bytes fed.str text)) (texts_of bytes.now offsets.now))) }
+    ensures untouched { OnRefused result (answers.new ≡ answers.old) }
+{
+    if let Some(refusal) = refusal_of_texts_in(answers.len(), bytes, offsets) {
+        return refusal;
+    }
+    on_kind!(alloc, handle, BloomFilter, filter => {
+        contains_texts(filter, bytes, offsets, answers);
+        OK
+    })
+}
+
+/// Adds 1 to the weight of each text, as far as the total has room: the texts that come first are counted, and where
+/// there are more, the answer is `WeightOverflow`. The texts are the bytes between each of the offsets and the next.
+///
+/// Refused with `BAD_OFFSETS` where there is no offset, one is below the one before it, or one passes the end of the
+/// bytes, and with `InvalidUtf8` where some text is not UTF-8. Then no text is counted.
+#[unsafe(no_mangle)]
+pub extern "C" fn ds_count_u64_update_all_text(
+    alloc: Global,
+    handle: &mut SketchHandle,
+    bytes: &[u8],
+    offsets: &[u64],
+) -> i32
+    ensures texts { AreTexts bytes.now offsets.now
+        → AddsEach count_u64_of greatest_u64 handle.old.value handle.new.value result (fed_bytes fed.str) (texts_of bytes.now offsets.now) }
+    ensures bad_offsets { ¬ AreOffsets bytes.now offsets.now
+        → (result ≡ bad_offsets) × (handle.new.value ≡ handle.old.value) }
+    ensures no_text { AreOffsets bytes.now offsets.now → ¬ All IsUtf8 (texts_of bytes.now offsets.now)
+        → (result ≡ refusal_number Fault.InvalidUtf8) × (handle.new.value ≡ handle.old.value) }
+{
+    count::update_all_text::<u64>(alloc, handle, bytes, offsets)
+}
+
+/// Adds 1 to the weight of each text, as far as the total has room: the texts that come first are counted, and where
+/// there are more, the answer is `WeightOverflow`. The texts are the bytes between each of the offsets and the next.
+///
+/// Refused with `BAD_OFFSETS` where there is no offset, one is below the one before it, or one passes the end of the
+/// bytes, and with `InvalidUtf8` where some text is not UTF-8. Then no text is counted.
+#[unsafe(no_mangle)]
+pub extern "C" fn ds_count_i64_update_all_text(
+    alloc: Global,
+    handle: &mut SketchHandle,
+    bytes: &[u8],
+    offsets: &[u64],
+) -> i32
+    ensures texts { AreTexts bytes.now offsets.now
+        → AddsEach count_i64_of greatest_i64 handle.old.value handle.new.value result (fed_bytes fed.str) (texts_of bytes.now offsets.now) }
+    ensures bad_offsets { ¬ AreOffsets bytes.now offsets.now
+        → (result ≡ bad_offsets) × (handle.new.value ≡ handle.old.value) }
+    ensures no_text { AreOffsets bytes.now offsets.now → ¬ All IsUtf8 (texts_of bytes.now offsets.now)
+        → (result ≡ refusal_number Fault.InvalidUtf8) × (handle.new.value ≡ handle.old.value) }
+{
+    count::update_all_text::<i64>(alloc, handle, bytes, offsets)
+}
+
+/// Adds 1 to the weight of each text, one after another. The texts are the bytes between each of the offsets and the next,
+/// so there is one offset more than texts.
+///
+/// Refused with `BAD_OFFSETS` where there is no offset, one is below the one before it, or one passes the end of the
+/// bytes, and with `InvalidUtf8` where some text is not UTF-8. The sketch is then as it was. Refused as
+/// `ds_frequent_text_update` at the first text that it refuses: the texts before it are added then, and neither it nor those
+/// behind it are.
+#[unsafe(no_mangle)]
+pub extern "C" fn ds_frequent_text_update_all(
+    alloc: Global,
+    handle: &mut SketchHandle,
+    bytes: &[u8],
+    offsets: &[u64],
+) -> i32
+    ensures texts { AreTexts bytes.now offsets.now → OnFrequentTexts handle.old.value handle.new.value result (λ s.
+        HoldsFrequentTexts handle.new.value (λ t.
+        CallsInTurn (λ s text t answer. UpdatesText s text 1 t answer) s (texts_of bytes.now offsets.now) t result)) }
+    ensures bad_offsets { ¬ AreOffsets bytes.now offsets.now
+        → (result ≡ bad_offsets) × (handle.new.value ≡ handle.old.value) }
+    ensures no_text { AreOffsets bytes.now offsets.now → ¬ All IsUtf8 (texts_of bytes.now offsets.now)
+        → (result ≡ refusal_number Fault.InvalidUtf8) × (handle.new.value ≡ handle.old.value) }
+{
+    if let Some(refusal) = refusal_of_texts(bytes, offsets) {
+        return refusal;
+    }
+    on_kind!(alloc, handle, FrequentItemsSketch<String>, sketch => update_texts(alloc, sketch, bytes, offsets))
+}
+
+/// Writes down the estimate of each text's weight. The texts are the bytes between each of the offsets and the next, and
+/// there are as many estimates as texts.
+///
+/// Refused with `BAD_OFFSETS` where there is no offset, one is below the one before it, or one passes the end of the
+/// bytes, then with `NO_ROOM` where there are more or fewer estimates than texts, then with `InvalidUtf8` where some
+/// text is not UTF-8. The estimates are then as they were.
+#[unsafe(no_mangle)]
+pub extern "C" fn ds_count_u64_estimate_all_text(
+    alloc: Global,
+    handle: &mut SketchHandle,
+    bytes: &[u8],
+    offsets: &[u64],
+    estimates: &mut [u64],
+) -> i32
+    ensures kept { handle.new.value ≡ handle.old.value }
+    ensures length { length estimates.new ≡ length estimates.old }
+    ensures bad_offsets { ¬ AreOffsets bytes.now offsets.now → result ≡ bad_offsets }
+    ensures no_room { AreOffsets bytes.now offsets.now → length estimates.old + 1 ≢ length offsets.now → result ≡ no_room }
+    ensures no_text { AreOffsets bytes.now offsets.now → length estimates.old + 1 ≡ length offsets.now
+        → ¬ All IsUtf8 (texts_of bytes.now offsets.now) → result ≡ refusal_number Fault.InvalidUtf8 }
+    ensures estimates { AreTexts bytes.now offsets.now → length estimates.old + 1 ≡ length offsets.now
+        → EstimatesAll count_u64_of handle.old.value handle.new.value result (fed_bytes fed.str) (texts_of bytes.now offsets.now) (map pos estimates.new) }
+    ensures untouched { OnRefused result (estimates.new ≡ estimates.old) }
+{
+    count::estimate_all_text(alloc, handle, estimates, bytes, offsets)
+}
+
+/// Writes down the estimate of each text's weight. The texts are the bytes between each of the offsets and the next, and
+/// there are as many estimates as texts.
+///
+/// Refused with `BAD_OFFSETS` where there is no offset, one is below the one before it, or one passes the end of the
+/// bytes, then with `NO_ROOM` where there are more or fewer estimates than texts, then with `InvalidUtf8` where some
+/// text is not UTF-8. The estimates are then as they were.
+#[unsafe(no_mangle)]
+pub extern "C" fn ds_count_i64_estimate_all_text(
+    alloc: Global,
+    handle: &mut SketchHandle,
+    bytes: &[u8],
+    offsets: &[u64],
+    estimates: &mut [i64],
+) -> i32
+    ensures kept { handle.new.value ≡ handle.old.value }
+    ensures length { length estimates.new ≡ length estimates.old }
+    ensures bad_offsets { ¬ AreOffsets bytes.now offsets.now → result ≡ bad_offsets }
+    ensures no_room { AreOffsets bytes.now offsets.now → length estimates.old + 1 ≢ length offsets.now → result ≡ no_room }
+    ensures no_text { AreOffsets bytes.now offsets.now → length estimates.old + 1 ≡ length offsets.now
+        → ¬ All IsUtf8 (texts_of bytes.now offsets.now) → result ≡ refusal_number Fault.InvalidUtf8 }
+    ensures estimates { AreTexts bytes.now offsets.now → length estimates.old + 1 ≡ length offsets.now
+        → EstimatesAll count_i64_of handle.old.value handle.new.value result (fed_bytes fed.str) (texts_of bytes.now offsets.now) estimates.new }
+    ensures untouched { OnRefused result (estimates.new ≡ estimates.old) }
+{
+    count::estimate_all_text(alloc, handle, estimates, bytes, offsets)
+}
+
+/// Writes down the bounds and the estimate of each text's weight. The texts are the bytes between each of the offsets and
+/// the next, and there are as many bounds as texts.
+///
+/// Refused with `BAD_OFFSETS` where there is no offset, one is below the one before it, or one passes the end of the
+/// bytes, then with `NO_ROOM` where there are more or fewer bounds than texts, then with `InvalidUtf8` where some text is
+/// not UTF-8. The bounds are then as they were. Refused with `NoMemory` at the first text for which there is no memory:
+/// the texts before it have their bounds then, and what is behind these is as it was.
+#[unsafe(no_mangle)]
+pub extern "C" fn ds_frequent_text_bounds_all(
+    alloc: Global,
+    handle: &mut SketchHandle,
+    bytes: &[u8],
+    offsets: &[u64],
+    bounds: &mut [FrequentBounds],
+) -> i32
+    ensures kept { handle.new.value ≡ handle.old.value }
+    ensures bad_offsets { ¬ AreOffsets bytes.now offsets.now → (result ≡ bad_offsets) × (bounds.new ≡ bounds.old) }
+    ensures no_room { AreOffsets bytes.now offsets.now → length bounds.old + 1 ≢ length offsets.now
+        → (result ≡ no_room) × (bounds.new ≡ bounds.old) }
+    ensures no_text { AreOffsets bytes.now offsets.now → length bounds.old + 1 ≡ length offsets.now
+        → ¬ All IsUtf8 (texts_of bytes.now offsets.now)
+        → (result ≡ refusal_number Fault.InvalidUtf8) × (bounds.new ≡ bounds.old) }
+    ensures bounds { AreTexts bytes.now offsets.now → length bounds.old + 1 ≡ length offsets.now
+        → OnFrequentTexts handle.old.value handle.new.value result (λ s.
+        TellsOfTexts s (texts_of bytes.now offsets.now) bounds.old bounds.new result) }
+{
+    if let Some(refusal) = refusal_of_texts_in(bounds.len(), bytes, offsets) {
+        return refusal;
+    }
+    on_kind!(alloc, handle, FrequentItemsSketch<String>, sketch => bounds_of_texts(alloc, sketch, bytes, offsets, bounds))
+}
