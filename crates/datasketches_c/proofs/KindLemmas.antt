@@ -1,7 +1,7 @@
 -- What is said of a handle's sketch of a kind.
 use Rattle.std.proofs.Common.{◌≡◌, Option, None, Some, ℤ, pos, negsuc, sym, ap, ◌∙◌, subst}
 use Rattle.datasketches_c.specs.Kinds.{OnPart, OnKind, OfPart, HoldsKind}
-use Rattle.datasketches_c.specs.Numbers.{OnRefused}
+use Rattle.datasketches_c.specs.Numbers.{OnRefused, no_sketch, wrong_kind}
 use Rattle.datasketches_c.specs.declared.any_sketch.AnySketch.{AnySketch}
 
 module _ {S : Type 0} (part : AnySketch → Option S) where
@@ -26,6 +26,16 @@ module _ {S : Type 0} (part : AnySketch → Option S) where
       → OnKind part old new result P
   on_kind_said old new held s result P is which said =
       subst (λ (h : Option AnySketch). OnKind part h new result P) (sym is) (subst (λ (p : Option S). OnPart part p held new result P) (sym which) said)
+
+  -- of a handle that had none is said that the call was refused
+  pub on_none_said : (old new : Option AnySketch) (result : ℤ) (P : S → Type 0) → old ≡ None → new ≡ None → result ≡ no_sketch → OnKind part old new result P
+  on_none_said old new result P is now refused = subst (λ (h : Option AnySketch). OnKind part h new result P) (sym is) (refused, now)
+
+  -- and the same of one that had a sketch of another kind
+  pub on_other_said : (old new : Option AnySketch) (held : AnySketch) (result : ℤ) (P : S → Type 0) → old ≡ Some held → part held ≡ None → new ≡ Some held → result ≡ wrong_kind
+      → OnKind part old new result P
+  on_other_said old new held result P is which now refused =
+      subst (λ (h : Option AnySketch). OnKind part h new result P) (sym is) (subst (λ (p : Option S). OnPart part p held new result P) (sym which) (refused, now))
 
   -- of a handle whose sketch was changed is said what holds of the sketch before and behind
   pub changed : (R : S → S → Type 0) (old new : Option AnySketch) (held given : AnySketch) (s t : S) (result : ℤ) → old ≡ Some held → part held ≡ Some s → new ≡ Some given → part given ≡ Some t

@@ -1,26 +1,35 @@
 //! Sketches of any kind that are copied and freed.
-ghost use Rattle.std.specs.Prelude.{◌≡◌, None, Some, IfSome};
+ghost use Rattle.std.specs.Prelude.{◌≡◌, None, Some, Ok, IfSome};
 ghost use Rattle.datasketches_c.specs.Copies.{HoldsCopy, IsCopied};
 
 use crate::any_sketch::AnySketch;
 use crate::handle::SketchHandle;
+use crate::kind::Kind;
 use crate::status_code::{NO_SKETCH, refusal_number};
-use sketch_base::Fault;
+use sketch_base::{Error, Fault};
 use std::alloc::Global;
+
+/// What was copied as a sketch of any kind, where there was memory for it.
+fn as_any<K: Kind>(copy: Result<K, Error>) -> Option<AnySketch>
+    ensures { IfSome result (λ any. (s : K) × (copy ≡ Ok s) × (any ≡ K.whole s)) }
+{
+    match copy {
+        Ok(sketch) => Some(sketch.into_any()),
+        Err(_) => None,
+    }
+}
 
 /// A copy of a sketch, where there is memory for one.
 fn copy_of(sketch: &AnySketch) -> Option<AnySketch>
     ensures { IfSome result (λ copy. HoldsCopy sketch.now (Some copy)) }
 {
     match sketch {
-        AnySketch::FrequentTexts(sketch) => Some(AnySketch::FrequentTexts(
-            sketch.try_clone().ok()?,
-        )),
-        AnySketch::FrequentI64(sketch) => Some(AnySketch::FrequentI64(sketch.try_clone().ok()?)),
-        AnySketch::FrequentU64(sketch) => Some(AnySketch::FrequentU64(sketch.try_clone().ok()?)),
-        AnySketch::CountI64(sketch) => Some(AnySketch::CountI64(sketch.try_clone().ok()?)),
-        AnySketch::CountU64(sketch) => Some(AnySketch::CountU64(sketch.try_clone().ok()?)),
-        AnySketch::Filter(sketch) => Some(AnySketch::Filter(sketch.try_clone().ok()?)),
+        AnySketch::FrequentTexts(sketch) => as_any(sketch.try_clone()),
+        AnySketch::FrequentI64(sketch) => as_any(sketch.try_clone()),
+        AnySketch::FrequentU64(sketch) => as_any(sketch.try_clone()),
+        AnySketch::CountI64(sketch) => as_any(sketch.try_clone()),
+        AnySketch::CountU64(sketch) => as_any(sketch.try_clone()),
+        AnySketch::Filter(sketch) => as_any(sketch.try_clone()),
     }
 }
 

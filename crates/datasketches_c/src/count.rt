@@ -327,6 +327,19 @@ where
     join::<CountMinSketch<V>, ()>(alloc, handle, other, ())
 }
 
+/// The sketch's numbers.
+fn status_of<V: CountMinValue>(sketch: &CountMinSketch<V>) -> CountStatus
+    ensures { (result.total_weight ≡ sketch.now.total) × (result.seed ≡ sketch.now.seed)
+        × (result.num_buckets ≡ sketch.now.buckets) × (result.num_hashes ≡ sketch.now.hashes) }
+{
+    CountStatus {
+        total_weight: sketch.total_weight().to_number() as u64,
+        seed: sketch.seed(),
+        num_buckets: sketch.num_buckets(),
+        num_hashes: sketch.num_hashes(),
+    }
+}
+
 /// Writes down the sketch's numbers.
 pub(crate) fn status<V: CountMinValue>(
     alloc: Global,
@@ -340,12 +353,7 @@ where
     ensures kept { handle.new.value ≡ handle.old.value }
 {
     on_kind!(alloc, handle, CountMinSketch<V>, sketch => {
-        *status = CountStatus {
-            total_weight: sketch.total_weight().to_number() as u64,
-            seed: sketch.seed(),
-            num_buckets: sketch.num_buckets(),
-            num_hashes: sketch.num_hashes(),
-        };
+        *status = status_of(sketch);
         OK
     })
 }

@@ -9,8 +9,3 @@ returns-in-Some-part_of-clause-image g c =
     (λ s. g.K.HasImage.writes s c.args.out.now c.write_to-answer.new.out c.write_to-answer.new.written c.write_to-answer.result)
     (c.in-Some.ensures.sketch ∙ ap Some (sym c.deref_mut.ensures.value)) c.in-Some-part_of.ensures.which.0 c.write_to-answer.ensures.image in
     search rules
-
--- the sketch is put back
-pub returns-in-Some-part_of-clause-kept : goal.returns-in-Some-part_of-clause-kept
-returns-in-Some-part_of-clause-kept g c =
-    c.give.ensures ∙ (ap Some (sym c.in-Some-part_of.ensures.which.1) ∙ sym (c.in-Some.ensures.sketch ∙ ap Some (sym c.deref_mut.ensures.value)))
