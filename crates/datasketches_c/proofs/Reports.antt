@@ -1,9 +1,10 @@
 -- Reports on frequent items in buffers.
-use Rattle.std.proofs.Common.{◌≡◌, ℕ, ℤ, ◌<◌, ◌≤◌, Bool, List, length, subst}
+use Rattle.std.proofs.Common.{◌≡◌, ℕ, ℤ, ◌<◌, ◌≤◌, Bool, List, ◌++◌, length, map, drop, ap, ◌∙◌, subst}
+use Rattle.std.proofs.lemmas.List.{drop_at, take_at, length-map}
 use Rattle.sketch_frequencies.specs.RowValue.{RowValue}
 use Rattle.sketch_frequencies.specs.State.{FrequentState}
 use Rattle.sketch_frequencies.specs.declared.error_type.ErrorType.{ErrorType}
-use Rattle.datasketches_c.specs.FrequentRows.{AreRows, Reports, StandAtFront}
+use Rattle.datasketches_c.specs.FrequentRows.{AreRows, Reports, StandAtFront, bounds_in}
 use Rattle.datasketches_c.specs.Numbers.{ok, no_room}
 use Rattle.datasketches_c.specs.declared.frequent.FrequentBounds.{FrequentBounds}
 
@@ -21,3 +22,17 @@ copied_rows eq kind threshold s rows items_old items_new bounds_old bounds_new c
   few_items = λ few. few_items (subst (λ (n : ℕ). length items_old < n) counted few);
   few_bounds = λ few. few_bounds (subst (λ (n : ℕ). length bounds_old < n) counted few);
 }
+
+-- items and bounds that were written in front of what stood in the buffers stand there
+pub rows_stand : {T : Type 0} (rows : List (RowValue T)) (items_old items : List T) (bounds_old bounds : List FrequentBounds) → items ≡ map (λ row. row.item) rows → bounds ≡ map bounds_in rows
+    → StandAtFront rows items_old (items ++ drop (length rows) items_old) bounds_old (bounds ++ drop (length rows) bounds_old)
+rows_stand {T} rows items_old items bounds_old bounds is_items is_bounds =
+    let item : RowValue T → T = λ row. row.item in
+    let long_items : length items ≡ length rows = ap length is_items ∙ length-map rows item in
+    let long_bounds : length bounds ≡ length rows = ap length is_bounds ∙ length-map rows bounds_in in
+    record {
+      items = take_at items (drop (length rows) items_old) (length rows) long_items ∙ is_items;
+      behind_items = drop_at items (drop (length rows) items_old) (length rows) long_items;
+      bounds = take_at bounds (drop (length rows) bounds_old) (length rows) long_bounds ∙ is_bounds;
+      behind_bounds = drop_at bounds (drop (length rows) bounds_old) (length rows) long_bounds;
+    }

@@ -1,0 +1,13 @@
+use Rattle.std.proofs.Common.{refl, arith}
+use Rattle.datasketches_c.proofs.Reports.{rows_stand}
+use Rattle.datasketches_c.proofs.frequent_rows.copy_rows.Goals as goal
+
+-- there was room, and all was written
+pub returns-clause-written : goal.returns-clause-written
+returns-clause-written g c = λ items bounds. (refl, rows_stand c.args.rows.now c.args.items.now c.copy_items.new.items c.args.bounds.now c.copy_bounds.new.bounds c.copy_items.ensures c.copy_bounds.ensures)
+
+pub returns-clause-few_items : goal.returns-clause-few_items
+returns-clause-few_items g c = λ few. absurd (omega arith)
+
+pub returns-clause-few_bounds : goal.returns-clause-few_bounds
+returns-clause-few_bounds g c = λ few. absurd (omega arith)
