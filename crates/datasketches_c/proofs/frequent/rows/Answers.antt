@@ -1,0 +1,17 @@
+use Rattle.std.proofs.Common.{Some, refl, sym, ap, ◌∙◌, rules}
+use Rattle.datasketches_c.specs.FrequentRows.{WritesRows, error_type}
+use Rattle.datasketches_c.specs.Numbers.{no_sketch, wrong_kind}
+use Rattle.datasketches_c.proofs.KindLemmas.{on_kind_said, on_none_said, on_other_said}
+use Rattle.datasketches_c.proofs.frequent.rows.Goals as goal
+
+-- the rows were written, and the sketch is put back
+pub returns-in-Some-part_of-clause-rows : goal.returns-in-Some-part_of-clause-rows
+returns-in-Some-part_of-clause-rows g c =
+    let said = on_kind_said g.bound-5.part c.args.handle.now.value c.give.new.self.value c.deref_mut.result.now c.in-Some-part_of.sketch.now c.write_rows-answer.result (λ s. WritesRows g.T.PartialEq.eq (error_type c.args.no_false_negatives) c.args.threshold s c.args.items.now c.write_rows-answer.new.items c.args.bounds.now c.write_rows-answer.new.bounds c.write_rows-answer.new.count c.write_rows-answer.result) (c.in-Some.ensures.sketch ∙ ap Some (sym c.deref_mut.ensures.value)) c.in-Some-part_of.ensures.which.0 c.write_rows-answer.ensures.rows in search rules
+
+-- there is no sketch, or one of another kind
+pub returns-in_default-clause-rows : goal.returns-in_default-clause-rows
+returns-in_default-clause-rows g c = on_none_said g.bound-5.part c.args.handle.now.value c.take.new.self.value no_sketch _ c.in_default.ensures.sketch c.in_default.ensures.emptied refl
+
+pub returns-in-None-clause-rows : goal.returns-in-None-clause-rows
+returns-in-None-clause-rows g c = on_other_said g.bound-5.part c.args.handle.now.value c.give-in-None.new.self.value c.deref_mut.result.now wrong_kind _ (c.in-Some.ensures.sketch ∙ ap Some (sym c.deref_mut.ensures.value)) c.in-None.ensures.which c.give-in-None.ensures refl
