@@ -1,4 +1,4 @@
-use Rattle.std.proofs.Common.{true, false, ◌+◌, ◌<◌, ◌≤◌, ℕ, length, refl, arith}
+use Rattle.std.proofs.Common.{true, false, ◌+◌, ◌<◌, ◌≤◌, ℕ, refl, arith}
 use Rattle.std.specs.Prelude.{IsTrue, unsigned_abs}
 use Rattle.std.proofs.lemmas.Bool.{false≢true}
 use Rattle.datasketches_c.proofs.WeightLemmas.{one_over, room_more, all_fit}
