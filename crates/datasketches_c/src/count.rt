@@ -4,14 +4,14 @@ ghost use Rattle.std.specs.Hash as fed;
 ghost use Rattle.std.specs.Str.{IsUtf8};
 ghost use Rattle.sketch_base.specs.Errors.{refusal_of};
 ghost use Rattle.sketch_base.specs.Hashes.{fed_bytes};
-ghost use Rattle.sketch_countmin.specs.Image.{IsImage, IsSpelled, early_fault_within, first_fault_within};
+ghost use Rattle.sketch_countmin.specs.Image.{IsImage, early_fault_within, first_fault_within};
 ghost use Rattle.sketch_countmin.specs.Shapes.{shape_fault};
 ghost use Rattle.sketch_countmin.specs.State.{Counts, CountsAll, empty_state};
 ghost use Rattle.datasketches_c.specs.CountCalls.{AddsWeight, AddsEach, AddsWeights, Estimates, EstimatesAll, Bounds, MergesInto, Describes};
 ghost use Rattle.datasketches_c.specs.CountJoins.{IsJoined};
 ghost use Rattle.datasketches_c.specs.Estimates.{AreLeastCells};
-ghost use Rattle.datasketches_c.specs.Images.{WritesImage, IsRefusedImage};
-ghost use Rattle.datasketches_c.specs.Kinds.{OnKind, HoldsKind};
+ghost use Rattle.datasketches_c.specs.Images.{IsRefusedImage};
+ghost use Rattle.datasketches_c.specs.Kinds.{HoldsKind};
 ghost use Rattle.datasketches_c.specs.Numbers.{OnDone, OnRefused, ok, no_room, bad_offsets, refusal_number};
 ghost use Rattle.datasketches_c.specs.Texts.{AreOffsets, AreTexts, texts_of};
 
