@@ -39,11 +39,11 @@ pub struct CountStatus {
 
 /// Makes a sketch of so many rows, one for each hash, and cells in each row, in place of what the handle has.
 pub(crate) fn new<V: CountMinValue>(
+    alloc: Global,
+    handle: &mut SketchHandle,
     num_hashes: u8,
     num_buckets: u32,
     seed: u64,
-    alloc: Global,
-    handle: &mut SketchHandle,
 ) -> i32
 where
     CountMinSketch<V>: Kind,
@@ -153,9 +153,9 @@ pub(crate) fn estimate<V: CountMinValue, I: Hash + Drop>(
 ) -> i32
 where
     CountMinSketch<V>: Kind,
+    ensures kept { handle.new.value ≡ handle.old.value }
     ensures estimate { Estimates (⟦<CountMinSketch<V> as Kind>⟧.part) handle.old.value handle.new.value result (fed_bytes I.hash_input item) (V.number estimate.new) }
     ensures untouched { OnRefused result (estimate.new ≡ estimate.old) }
-    ensures kept { handle.new.value ≡ handle.old.value }
 {
     on_kind!(alloc, handle, CountMinSketch<V>, sketch => {
         *estimate = sketch.estimate(item);
@@ -173,9 +173,9 @@ pub(crate) fn upper_bound<V: CountMinValue, I: Hash + Drop>(
 ) -> i32
 where
     CountMinSketch<V>: Kind,
+    ensures kept { handle.new.value ≡ handle.old.value }
     ensures bound { Bounds (⟦<CountMinSketch<V> as Kind>⟧.part) V.greatest handle.old.value handle.new.value result (fed_bytes I.hash_input item) (V.number bound.new) }
     ensures untouched { OnRefused result (bound.new ≡ bound.old) }
-    ensures kept { handle.new.value ≡ handle.old.value }
 {
     on_kind!(alloc, handle, CountMinSketch<V>, sketch => {
         *bound = sketch.upper_bound(item);
@@ -209,13 +209,13 @@ pub(crate) fn estimate_all<V: CountMinValue, I: Hash>(
 ) -> i32
 where
     CountMinSketch<V>: Kind,
+    ensures kept { handle.new.value ≡ handle.old.value }
     ensures length { length estimates.new ≡ length estimates.old }
     ensures no_room { length estimates.old ≢ length items.now
         → (result ≡ no_room) × (estimates.new ≡ estimates.old) }
     ensures estimates { length estimates.old ≡ length items.now
         → EstimatesAll (⟦<CountMinSketch<V> as Kind>⟧.part) handle.old.value handle.new.value result (fed_bytes I.hash_input) items.now (map V.number estimates.new) }
     ensures untouched { OnRefused result (estimates.new ≡ estimates.old) }
-    ensures kept { handle.new.value ≡ handle.old.value }
 {
     if estimates.len() != items.len() {
         return NO_ROOM;
@@ -232,10 +232,10 @@ pub(crate) fn update_all_text<V: CountMinValue>(
 ) -> i32
 where
     CountMinSketch<V>: Kind,
-    ensures bad_offsets { ¬ AreOffsets bytes.now offsets.now
-        → (result ≡ bad_offsets) × (handle.new.value ≡ handle.old.value) }
     ensures texts { AreTexts bytes.now offsets.now
         → AddsEach (⟦<CountMinSketch<V> as Kind>⟧.part) V.greatest handle.old.value handle.new.value result (fed_bytes fed.str) (texts_of bytes.now offsets.now) }
+    ensures bad_offsets { ¬ AreOffsets bytes.now offsets.now
+        → (result ≡ bad_offsets) × (handle.new.value ≡ handle.old.value) }
     ensures no_text { AreOffsets bytes.now offsets.now → ¬ All IsUtf8 (texts_of bytes.now offsets.now)
         → (result ≡ refusal_number Fault.InvalidUtf8) × (handle.new.value ≡ handle.old.value) }
 {
@@ -249,21 +249,21 @@ where
 pub(crate) fn estimate_all_text<V: CountMinValue>(
     alloc: Global,
     handle: &mut SketchHandle,
-    estimates: &mut [V],
     bytes: &[u8],
     offsets: &[u64],
+    estimates: &mut [V],
 ) -> i32
 where
     CountMinSketch<V>: Kind,
-    ensures estimates { AreTexts bytes.now offsets.now → length estimates.old + 1 ≡ length offsets.now
-        → EstimatesAll (⟦<CountMinSketch<V> as Kind>⟧.part) handle.old.value handle.new.value result (fed_bytes fed.str) (texts_of bytes.now offsets.now) (map V.number estimates.new) }
-    ensures no_text { AreOffsets bytes.now offsets.now → length estimates.old + 1 ≡ length offsets.now
-        → ¬ All IsUtf8 (texts_of bytes.now offsets.now) → result ≡ refusal_number Fault.InvalidUtf8 }
-    ensures no_room { AreOffsets bytes.now offsets.now → length estimates.old + 1 ≢ length offsets.now → result ≡ no_room }
-    ensures bad_offsets { ¬ AreOffsets bytes.now offsets.now → result ≡ bad_offsets }
-    ensures untouched { OnRefused result (estimates.new ≡ estimates.old) }
     ensures kept { handle.new.value ≡ handle.old.value }
     ensures length { length estimates.new ≡ length estimates.old }
+    ensures bad_offsets { ¬ AreOffsets bytes.now offsets.now → result ≡ bad_offsets }
+    ensures no_room { AreOffsets bytes.now offsets.now → length estimates.old + 1 ≢ length offsets.now → result ≡ no_room }
+    ensures no_text { AreOffsets bytes.now offsets.now → length estimates.old + 1 ≡ length offsets.now
+        → ¬ All IsUtf8 (texts_of bytes.now offsets.now) → result ≡ refusal_number Fault.InvalidUtf8 }
+    ensures estimates { AreTexts bytes.now offsets.now → length estimates.old + 1 ≡ length offsets.now
+        → EstimatesAll (⟦<CountMinSketch<V> as Kind>⟧.part) handle.old.value handle.new.value result (fed_bytes fed.str) (texts_of bytes.now offsets.now) (map V.number estimates.new) }
+    ensures untouched { OnRefused result (estimates.new ≡ estimates.old) }
 {
     if let Some(refusal) = refusal_of_texts_in(estimates.len(), bytes, offsets) {
         return refusal;
@@ -348,9 +348,9 @@ pub(crate) fn status<V: CountMinValue>(
 ) -> i32
 where
     CountMinSketch<V>: Kind,
+    ensures kept { handle.new.value ≡ handle.old.value }
     ensures untouched { OnRefused result (status.new ≡ status.old) }
     ensures numbers { Describes (⟦<CountMinSketch<V> as Kind>⟧.part) handle.old.value handle.new.value result status.new }
-    ensures kept { handle.new.value ≡ handle.old.value }
 {
     on_kind!(alloc, handle, CountMinSketch<V>, sketch => {
         *status = status_of(sketch);
@@ -360,11 +360,11 @@ where
 
 /// Makes the sketch of an image that was written under this seed, in place of what the handle has.
 pub(crate) fn from_bytes<V: CountMinValue>(
+    alloc: Global,
+    handle: &mut SketchHandle,
     image: &[u8],
     seed: u64,
     most_bytes: usize,
-    alloc: Global,
-    handle: &mut SketchHandle,
 ) -> i32
 where
     CountMinSketch<V>: Kind,

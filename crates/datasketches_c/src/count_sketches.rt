@@ -37,7 +37,7 @@ pub extern "C" fn ds_count_u64_new(
     ensures refused { OnRefused result ((handle.new.value ≡ handle.old.value)
         × (result ≡ refusal_number (refusal_of (shape_fault num_hashes num_buckets seed)).fault)) }
 {
-    count::new::<u64>(num_hashes, num_buckets, seed, alloc, handle)
+    count::new::<u64>(alloc, handle, num_hashes, num_buckets, seed)
 }
 
 /// Makes a Count-Min sketch in `i64` of so many rows, one for each hash, and cells in each row, in place of what the
@@ -59,7 +59,7 @@ pub extern "C" fn ds_count_i64_new(
     ensures refused { OnRefused result ((handle.new.value ≡ handle.old.value)
         × (result ≡ refusal_number (refusal_of (shape_fault num_hashes num_buckets seed)).fault)) }
 {
-    count::new::<i64>(num_hashes, num_buckets, seed, alloc, handle)
+    count::new::<i64>(alloc, handle, num_hashes, num_buckets, seed)
 }
 
 /// Adds the other sketch's cells and total. The other sketch stays.
@@ -217,7 +217,7 @@ pub extern "C" fn ds_count_u64_from_bytes(
         (early_fault_within 8 most_bytes seed image.now)
         (first_fault_within (pos 0) greatest_u64 8 most_bytes seed image.now) result) }
 {
-    count::from_bytes::<u64>(image, seed, most_bytes, alloc, handle)
+    count::from_bytes::<u64>(alloc, handle, image, seed, most_bytes)
 }
 
 /// Makes the sketch of an image that was written under this seed, in place of what the handle has, which is freed. The
@@ -239,5 +239,5 @@ pub extern "C" fn ds_count_i64_from_bytes(
         (early_fault_within 8 most_bytes seed image.now)
         (first_fault_within least_i64 greatest_i64 8 most_bytes seed image.now) result) }
 {
-    count::from_bytes::<i64>(image, seed, most_bytes, alloc, handle)
+    count::from_bytes::<i64>(alloc, handle, image, seed, most_bytes)
 }

@@ -73,8 +73,8 @@ pub(crate) fn count_weighted_texts<T: CountMinValue>(
     offsets: &[u64],
     weights: &[T],
 ) -> i32
-    requires same { length weights.now + 1 ≡ length offsets.now }
     requires texts { AreTexts bytes.now offsets.now }
+    requires same { length weights.now + 1 ≡ length offsets.now }
     ensures counted { sketch.old.total + sum_by (λ weight. unsigned_abs (T.number weight)) weights.now ≤ T.greatest
         → (result ≡ ok) × CountsWeights (fed_bytes fed.str) T.number sketch.old (texts_of bytes.now offsets.now) weights.now
         sketch.new }

@@ -293,10 +293,10 @@ impl Joins<SetOperation> for BloomFilter {
 
 /// Does a set operation on the filter of a handle. The other filter stays.
 fn set_against(
-    operation: SetOperation,
     alloc: Global,
     handle: &mut SketchHandle,
     other: &mut SketchHandle,
+    operation: SetOperation,
 ) -> i32
     ensures other { other.new.value ≡ other.old.value }
     ensures refused { OnRefused result (handle.new.value ≡ handle.old.value) }
@@ -322,7 +322,7 @@ pub extern "C" fn ds_filter_union(
         (IsCompatible a b → (result ≡ ok) × (handle.new.value ≡ Some (Filter (united a b))))
         × (¬ IsCompatible a b → result ≡ refusal_number Fault.Mismatch))) }
 {
-    set_against(SetOperation::Union, alloc, handle, other)
+    set_against(alloc, handle, other, SetOperation::Union)
 }
 
 /// Keeps only the positions that are also in the other filter's set. The other filter stays.
@@ -339,7 +339,7 @@ pub extern "C" fn ds_filter_intersect(
         (IsCompatible a b → (result ≡ ok) × (handle.new.value ≡ Some (Filter (intersected a b))))
         × (¬ IsCompatible a b → result ≡ refusal_number Fault.Mismatch))) }
 {
-    set_against(SetOperation::Intersection, alloc, handle, other)
+    set_against(alloc, handle, other, SetOperation::Intersection)
 }
 
 /// Takes the positions of the other filter's set away. The other filter stays.
@@ -356,7 +356,7 @@ pub extern "C" fn ds_filter_difference(
         (IsCompatible a b → (result ≡ ok) × (handle.new.value ≡ Some (Filter (subtracted a b))))
         × (¬ IsCompatible a b → result ≡ refusal_number Fault.Mismatch))) }
 {
-    set_against(SetOperation::Difference, alloc, handle, other)
+    set_against(alloc, handle, other, SetOperation::Difference)
 }
 
 /// A filter's numbers.

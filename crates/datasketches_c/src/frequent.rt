@@ -174,10 +174,10 @@ pub(crate) fn bounds<T: Eq + Hash + Drop>(
 ) -> i32
 where
     FrequentItemsSketch<T>: Kind,
+    ensures kept { handle.new.value ≡ handle.old.value }
     ensures bounds { OnKind (⟦<FrequentItemsSketch<T> as Kind>⟧.part) handle.old.value handle.new.value result (λ s.
         (result ≡ ok) × AreBounds T.eq s item.now bounds.new) }
     ensures untouched { OnRefused result (bounds.new ≡ bounds.old) }
-    ensures kept { handle.new.value ≡ handle.old.value }
 {
     on_kind!(alloc, handle, FrequentItemsSketch<T>, sketch => {
         *bounds = bounds_of(sketch, item);
@@ -208,12 +208,12 @@ pub(crate) fn bounds_all<T: Eq + Hash + Drop>(
 ) -> i32
 where
     FrequentItemsSketch<T>: Kind,
+    ensures kept { handle.new.value ≡ handle.old.value }
     ensures no_room { length bounds.old ≢ length items.now → result ≡ no_room }
     ensures bounds { length bounds.old ≡ length items.now
         → OnKind (⟦<FrequentItemsSketch<T> as Kind>⟧.part) handle.old.value handle.new.value result (λ s.
         (result ≡ ok) × AreBoundsOfAll T.eq s items.now bounds.new) }
     ensures untouched { OnRefused result (bounds.new ≡ bounds.old) }
-    ensures kept { handle.new.value ≡ handle.old.value }
 {
     if bounds.len() != items.len() {
         return NO_ROOM;
@@ -267,24 +267,24 @@ impl Joins<()> for FrequentItemsSketch<String> {
 pub(crate) fn rows<T: Eq + Hash + Clone + Copy + Drop>(
     alloc: Global,
     handle: &mut SketchHandle,
+    no_false_negatives: bool,
+    threshold: u64,
     items: &mut [T],
     bounds: &mut [FrequentBounds],
     count: &mut usize,
-    no_false_negatives: bool,
-    threshold: u64,
 ) -> i32
 where
     FrequentItemsSketch<T>: Kind,
     requires clones { (x y : T) → T.is_clone x y → IsTrue (T.eq x y) }
+    ensures kept { handle.new.value ≡ handle.old.value }
     ensures untouched { OnRefused result ((items.new ≡ items.old) × (bounds.new ≡ bounds.old)) }
     ensures uncounted { result ≢ ok → result ≢ no_room → count.new ≡ count.old }
     ensures rows { OnKind (⟦<FrequentItemsSketch<T> as Kind>⟧.part) handle.old.value handle.new.value result (λ s.
         WritesRows T.eq (error_type no_false_negatives) threshold s items.old items.new bounds.old bounds.new count.new
         result) }
-    ensures kept { handle.new.value ≡ handle.old.value }
 {
     on_kind!(alloc, handle, FrequentItemsSketch<T>, sketch => {
-        write_rows(items, bounds, count, sketch, no_false_negatives, threshold)
+        write_rows(sketch, no_false_negatives, threshold, items, bounds, count)
     })
 }
 
@@ -324,10 +324,10 @@ pub(crate) fn status<T: Eq + Hash + Drop>(
 ) -> i32
 where
     FrequentItemsSketch<T>: Kind,
+    ensures kept { handle.new.value ≡ handle.old.value }
     ensures numbers { OnKind (⟦<FrequentItemsSketch<T> as Kind>⟧.part) handle.old.value handle.new.value result (λ s.
         (result ≡ ok) × AreNumbers s status.new) }
     ensures untouched { OnRefused result (status.new ≡ status.old) }
-    ensures kept { handle.new.value ≡ handle.old.value }
 {
     on_kind!(alloc, handle, FrequentItemsSketch<T>, sketch => {
         *status = status_of(sketch);

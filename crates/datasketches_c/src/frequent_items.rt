@@ -310,7 +310,7 @@ pub extern "C" fn ds_frequent_text_rows(
         (record { bytes = bytes.old; offsets = offsets.old; bounds = bounds.old })
         (record { bytes = bytes.new; offsets = offsets.new; bounds = bounds.new }) count.new num_bytes.new result) }
 {
-    on_kind!(alloc, handle, FrequentItemsSketch<String>, sketch => write_rows(sketch, bytes, offsets, bounds, count, num_bytes, no_false_negatives, threshold))
+    on_kind!(alloc, handle, FrequentItemsSketch<String>, sketch => write_rows(sketch, no_false_negatives, threshold, bytes, offsets, bounds, count, num_bytes))
 }
 
 /// Writes down the tracked numbers whose bound is above both the threshold and the error, in rows that descend by
@@ -338,11 +338,11 @@ pub extern "C" fn ds_frequent_u64_rows(
     frequent::rows(
         alloc,
         handle,
+        no_false_negatives,
+        threshold,
         items,
         bounds,
         count,
-        no_false_negatives,
-        threshold,
     )
 }
 
@@ -371,10 +371,10 @@ pub extern "C" fn ds_frequent_i64_rows(
     frequent::rows(
         alloc,
         handle,
+        no_false_negatives,
+        threshold,
         items,
         bounds,
         count,
-        no_false_negatives,
-        threshold,
     )
 }

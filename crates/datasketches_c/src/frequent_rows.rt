@@ -10,12 +10,12 @@ use std::hash::Hash;
 
 /// Writes the report's rows to the front of both buffers, and says how many there are, also where there is no room.
 pub(crate) fn write_rows<T: Eq + Hash + Clone + Copy + Drop>(
-    items: &mut [T],
-    bounds: &mut [FrequentBounds],
-    count: &mut usize,
     sketch: &FrequentItemsSketch<T>,
     no_false_negatives: bool,
     threshold: u64,
+    items: &mut [T],
+    bounds: &mut [FrequentBounds],
+    count: &mut usize,
 ) -> i32
     requires clones { (x y : T) → T.is_clone x y → IsTrue (T.eq x y) }
     ensures rows { WritesRows T.eq (error_type no_false_negatives) threshold sketch.now items.old items.new

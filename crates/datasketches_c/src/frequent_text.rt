@@ -131,11 +131,11 @@ fn copy_texts(rows: &[Row<String>], bytes: &mut [u8], offsets: &mut [u64])
 /// Copies rows to the front of the buffers, where there is room, and says how many rows and bytes there are.
 fn copy_rows(
     rows: &[Row<String>],
-    count: &mut usize,
-    num_bytes: &mut usize,
     bytes: &mut [u8],
     offsets: &mut [u64],
     bounds: &mut [FrequentBounds],
+    count: &mut usize,
+    num_bytes: &mut usize,
 ) -> i32
     ensures report { ReportsTexts rows.now (record { bytes = bytes.old; offsets = offsets.old; bounds = bounds.old })
         (record { bytes = bytes.new; offsets = offsets.new; bounds = bounds.new }) count.new num_bytes.new result
@@ -163,13 +163,13 @@ fn copy_rows(
 /// room.
 pub(crate) fn write_rows(
     sketch: &FrequentItemsSketch<String>,
+    no_false_negatives: bool,
+    threshold: u64,
     bytes: &mut [u8],
     offsets: &mut [u64],
     bounds: &mut [FrequentBounds],
     count: &mut usize,
     num_bytes: &mut usize,
-    no_false_negatives: bool,
-    threshold: u64,
 ) -> i32
     ensures rows { WritesTextRows (error_type no_false_negatives) threshold sketch.now
         (record { bytes = bytes.old; offsets = offsets.old; bounds = bounds.old })
@@ -180,7 +180,7 @@ pub(crate) fn write_rows(
         → (count.new ≡ count.old) × (num_bytes.new ≡ num_bytes.old) }
 {
     match sketch.frequent_items_with_threshold(error_type_of(no_false_negatives), threshold) {
-        Ok(rows) => copy_rows(&rows, count, num_bytes, bytes, offsets, bounds),
+        Ok(rows) => copy_rows(&rows, bytes, offsets, bounds, count, num_bytes),
         Err(error) => refusal_number(error.fault()),
     }
 }

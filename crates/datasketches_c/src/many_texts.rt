@@ -184,7 +184,7 @@ pub extern "C" fn ds_count_u64_estimate_all_text(
         → EstimatesAll count_u64_of handle.old.value handle.new.value result (fed_bytes fed.str) (texts_of bytes.now offsets.now) (map pos estimates.new) }
     ensures untouched { OnRefused result (estimates.new ≡ estimates.old) }
 {
-    count::estimate_all_text(alloc, handle, estimates, bytes, offsets)
+    count::estimate_all_text(alloc, handle, bytes, offsets, estimates)
 }
 
 /// Writes down the estimate of each text's weight. The texts are the bytes between each of the offsets and the next, and
@@ -211,7 +211,7 @@ pub extern "C" fn ds_count_i64_estimate_all_text(
         → EstimatesAll count_i64_of handle.old.value handle.new.value result (fed_bytes fed.str) (texts_of bytes.now offsets.now) estimates.new }
     ensures untouched { OnRefused result (estimates.new ≡ estimates.old) }
 {
-    count::estimate_all_text(alloc, handle, estimates, bytes, offsets)
+    count::estimate_all_text(alloc, handle, bytes, offsets, estimates)
 }
 
 /// Writes down the bounds and the estimate of each text's weight. The texts are the bytes between each of the offsets and

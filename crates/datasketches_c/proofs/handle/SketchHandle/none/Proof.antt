@@ -31,11 +31,10 @@ use Rattle.datasketches_c.proofs.handle.SketchHandle.none.Code as code
 pub none_spec : {M : Type 1} → statement M
 none_spec 𝓤 𝓛 𝓜 𝓡 wired =
     let H = 𝓛.H in let 𝓣 = tables 𝓤 H 𝓜 𝓡 𝓡.env in let c = clauses 𝓛 𝓜.mem 𝓡.returns in let fn = code.function in
-    let y : Option sketch.AnySketch = None in
     let hs : Stays ended.signature.params ended.kept = (stay_dropped (plain (λ _. Heap)) yes, tt) in
     proved_at 𝓛 ended hs c 𝓜 𝓡 (Goes-dropped 𝓛 0 (plain (λ _. Heap)) yes (λ κs x f. refl), tt) #self fn (code.unfolded 𝓤 H 𝓜 𝓡 wired) (λ z are.
     let κs = z.0.0 in let qs = z.0.1 in let Post : Val → SProp 𝓤 = (walk_of 𝓛 ended hs c).post z in let Run : List Val → SProp 𝓤 = λ ws. WpFn 𝓤 H 𝓣.C 𝓣.Λ fn ws Post in
-    let a = z.0.3.0 in let h = one (layout Heap) z.0.4.0 ((heap_row_laws.lawful 𝓛).typed a z.0.4.0 are.0) in let w : Val = pair vnull h.0 in
+    let a = z.0.3.0 in let h = one (layout Heap) z.0.4.0 ((heap_row_laws.lawful 𝓛).typed a z.0.4.0 are.0) in let w : Val = pair vnull h.0 in let y : Option sketch.AnySketch = None in
     qed 𝓛 ((raw (alive 𝓛 ended.signature κs qs) ⊛ ‵ (owns (types_at ended.signature.params κs) z.0.3 z.0.4)) ∷ raw ((c κs z.0.3).requires z.1) ∷ []) ∵
     split ! $ move ! (1 ∷ []) $ fsplit ! $ rewrite ! 0 (λ (us : List Val). ‵ (Heap.own_val a us)) h.1 refl $
     feq_i ! Ptr null_ptr null_ptr refl $ handle_in ! null_ptr h.0 a y $

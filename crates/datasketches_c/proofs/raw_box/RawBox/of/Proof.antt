@@ -52,6 +52,7 @@ of_spec 𝓤 𝓛 𝓜 𝓡 wired T A L LA g d dx dd allocator glue glued =
     let κs = z.0.0 in
     let qs = z.0.1 in
     let boxed = z.0.3.0 in
+    let alloc = boxed.alloc in
     let Post : Val → SProp 𝓤 = (walk_of 𝓛 called stays said).post z in
     let Run : List Val → SProp 𝓤 = λ ws. WpFn 𝓤 𝓛.H tabled.C tabled.Λ fn ws Post in
     let lifetimes = ‵ (flft κs.0 qs.0) ⊛ ‵ (flft κs.1.0 qs.1.0) ⊛ ‵ ftrue in
@@ -70,20 +71,20 @@ of_spec 𝓤 𝓛 𝓜 𝓡 wired T A L LA g d dx dd allocator glue glued =
     sets ! (of_opd ! (get ! refl)) refl word_fits $
     calls_at ! (fm 𝓛 𝓜 𝓡) opens (met 𝓤 𝓛 𝓜 𝓡 (code.calls-std_alloc::boxed::Box::into_raw_with_allocator 𝓡.env wired) T A L LA g d dd dx allocator glued glue) asked (and_then ! (get ! refl) (no_more !)) (λ pair.
     -- it gives back a pair, of which the allocator is the box's and the pointer has what the box owned
-    use1 𝓛 (later (some (λ (r : Ptr × A.Denot). (lifetimes ⊛ ‵ ((Tuple (RawPtr ∷ box.P E ∷ [])).own_val r (pair ∷ []))) ⊛ some (λ (_ : (Unit {0} × (Unit {0} × Unit {0})) × Unit {0}). ‵ (fsep (fsep ftrue (fsep ftrue ftrue)) ftrue) ⊛ (raw (fact 𝓤 (r.1 ≡ boxed.alloc)) ⊛ ‵ (box_owns (token E.al boxed.alloc) (box.R E) r.0 boxed.value)))))) (id⊢ 𝓤 _) $
-    await ! tt $ pick ! (λ r. split ! $ move ! (1 ∷ []) $ pick ! (λ _. split3 ! $ drop ! $ heard ! (r.1 ≡ boxed.alloc) (λ same_alloc.
-    in_a_block ! r.0 (λ p. box_owns (token E.al boxed.alloc) (box.R E) p boxed.value) (fst∗ 𝓤 (never 𝓤) (sem 𝓛 (token E.al boxed.alloc (bare (box.τ E)) null_ptr))) (λ b' o' in_block.
+    use1 𝓛 (later (some (λ (r : Ptr × A.Denot). (lifetimes ⊛ ‵ ((Tuple (RawPtr ∷ box.P E ∷ [])).own_val r (pair ∷ []))) ⊛ some (λ (_ : (Unit {0} × (Unit {0} × Unit {0})) × Unit {0}). ‵ (fsep (fsep ftrue (fsep ftrue ftrue)) ftrue) ⊛ (raw (fact 𝓤 (r.1 ≡ alloc)) ⊛ ‵ (box_owns (token E.al alloc) (box.R E) r.0 boxed.value)))))) (id⊢ 𝓤 _) $
+    await ! tt $ pick ! (λ r. split ! $ move ! (1 ∷ []) $ pick ! (λ _. split3 ! $ drop ! $ heard ! (r.1 ≡ alloc) (λ same_alloc.
+    in_a_block ! r.0 (λ p. box_owns (token E.al alloc) (box.R E) p boxed.value) (fst∗ 𝓤 (never 𝓤) (sem 𝓛 (token E.al alloc (bare (box.τ E)) null_ptr))) (λ b' o' in_block.
     move ! (1 ∷ []) $ split ! $ move ! (1 ∷ []) $ fpick ! (λ vss. fsplit ! $ feq_l ! (λ is_pair. fsplit ! $ feq_l ! (λ is_pointer. fsplit ! $
-    rewrite ! 0 (λ (a : A.Denot). ‵ (A.own_val a vss.1.0)) same_alloc refl $ handle_tells E.al ! boxed.alloc vss.1.0 (λ handle' is_handle handle_fits'.
+    rewrite ! 0 (λ (a : A.Denot). ‵ (A.own_val a vss.1.0)) same_alloc refl $ handle_tells E.al ! alloc vss.1.0 (λ handle' is_handle handle_fits'.
     let raw_fits = box.box_typed E handle' b' o' handle_fits' in
-    let made : (raw_box.the_row (box.R E) (box.P E) g).Denot = record { pointer = block_ptr b' o'; alloc = boxed.alloc; value = boxed.value } in
+    let made : (raw_box.the_row (box.R E) (box.P E) g).Denot = record { pointer = block_ptr b' o'; alloc = alloc; value = boxed.value } in
     lands_as ! (ap only (is_pair ∙ (λ j. vstruct (of_list ((is_pointer ∙ ap (λ (p : Ptr). ptr_val p ∷ []) in_block) j ++ (is_handle j ++ []))) ∷ []))) refl raw_fits $
     sets ! (of_opd ! (get_in ! (fld ! refl (stop !)) (sub ! 0 refl (whole !)))) refl (tt, tt) $
     sets ! (of_opd ! (get_in ! (fld ! refl (stop !)) (sub ! 1 refl (whole !)))) refl handle_fits' $
     sets ! (of_opd ! (get ! refl)) refl handle_fits' $
     sets ! (agg ! (and_then ! (get ! refl) (and_then ! (get ! refl) (no_more !)))) refl raw_fits $
     -- parts own as a box does
-    move ! (3 ∷ []) $ fsplit ! $ box_in E ! (record { ptr = block_ptr b' o'; alloc = boxed.alloc; value = boxed.value }) b' o' boxed.value refl refl $
+    move ! (3 ∷ []) $ fsplit ! $ box_in E ! (record { ptr = block_ptr b' o'; alloc = alloc; value = boxed.value }) b' o' boxed.value refl refl $
     use1 𝓛 (‵ ((raw_box.the_row (box.R E) (box.P E) g).own_val made (box.word E handle' b' o' ∷ []))) (id⊢ 𝓤 _) $
     use0 𝓛 (raw (fact 𝓤 (boxed.value ≡ boxed.value))) (fact_i 𝓤 (boxed.value ≡ boxed.value) (emp 𝓤) refl) $ nothing ! $ nothing ! $ fjoin ! $
     returns ! (look_at ! 0 refl) $ free_all ! refl $ keep ! (4 ∷ 0 ∷ 2 ∷ 1 ∷ []) $ by ! (leaves 𝓛 called stays said z (box.word E handle' b' o') made ((tt, (tt, tt)), tt) (tt, tt))))))))))))))
