@@ -1,5 +1,5 @@
 -- A slot is emptied, and what it held goes to another.
-use Rattle.std.proofs.Common.{◌≡◌, ℕ, ◌+◌, ◌-◌, ◌<◌, ◌≤◌, false, refl, ap, sym, ◌∙◌, subst, arith, List, [], ◌∷◌, ◌++◌, length, get_or, Some, is_some, IsPermutation, length-append}
+use Rattle.std.proofs.Common.{◌≡◌, ℕ, ◌+◌, ◌-◌, ◌<◌, ◌≤◌, true, false, refl, ap, sym, ◌∙◌, subst, arith, List, [], ◌∷◌, ◌++◌, length, get_or, Some, is_some, IsPermutation, length-append}
 use Rattle.std.proofs.Math.ListN.{set}
 use Rattle.std.proofs.lemmas.List.{length-set, set-set, set-get_or}
 use Rattle.std.proofs.lemmas.List.Sorted.{length_permutation}
@@ -58,6 +58,16 @@ settled {T} home old p m s at more place looked new gap made =
       free = λ f. absurd (both_ways _ f (ap is_some at));
       spent = λ t e l. absurd (omega (arith, more, l, ap (λ (q : Held T). q.count) (same t e)));
       left = λ t e l. (refl, subst Q (sym (same t e)) (record { place = place; looked = looked; gap = gap; made = made }));
+    }
+
+-- ---- the turn of an entry that is freed
+pub freed : {T : Type 0} (home : T → ℕ) (old : List (Slot T)) (p m : ℕ) (s : Held T) → slot_at old p ≡ Some s → s.count ≤ m → (new : List (Slot T)) → new ≡ set old p Free → Settles home old p m true new
+freed {T} home old p m s at few new made =
+    let same : (t : Held T) → slot_at old p ≡ Some t → t ≡ s = λ t e. let both : Some t ≡ Some s = sym e ∙ at in cc in
+    record {
+      free = λ f. absurd (both_ways _ f (ap is_some at));
+      spent = λ t e l. (refl, made);
+      left = λ t e l. absurd (omega (arith, few, l, ap (λ (q : Held T). q.count) (same t e)));
     }
 
 -- where its home is

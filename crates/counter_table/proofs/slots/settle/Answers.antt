@@ -9,7 +9,7 @@ use Rattle.counter_table.proofs.ArithmeticRing.{distance_is}
 use Rattle.counter_table.proofs.LookupFingerprints.{fingerprints_freed, fingerprints_set, fingerprint_moves}
 use Rattle.counter_table.proofs.LookupHomes.{some_size, home_of-below}
 use Rattle.counter_table.proofs.LookupProbes.{gap_below}
-use Rattle.counter_table.proofs.PurgeTurns.{room_without, settled, home_back}
+use Rattle.counter_table.proofs.PurgeTurns.{room_without, settled, freed, home_back}
 use Rattle.counter_table.proofs.slots.settle.Given as given
 use Rattle.counter_table.proofs.slots.settle.Goals as goal
 use Rattle.counter_table.proofs.slots.settle.Goals.{Else-count-amount}
@@ -53,6 +53,11 @@ returns-else-count-amount-clause-slots g c =
     let gap = rw (c.replace.ensures.after, length-set slots p Free) at c.find_free_from-to.ensures in
     let made = rw (c.replace.ensures.after) at c.fill.ensures.slots in
     settled (home_in g.T.Hash.hash_input (length slots)) slots p c.args.amount _ (taken_out g (goal.at.returns-else-count-amount-clause-slots g c).Else-count-amount) c.if-count-amount.false _ _ _ gap made
+
+pub returns-then-count-amount-clause-slots : goal.returns-then-count-amount-clause-slots
+returns-then-count-amount-clause-slots g c =
+    let spent = ap held (get_or_default c.args.slots.now c.args.place Free c.index-slots-place.result c.requires.place ∙ sym c.replace.ensures.value ∙ c.in-Taken.is) in
+    freed (home_in g.T.Hash.hash_input (length c.args.slots.now)) c.args.slots.now c.args.place c.args.amount _ spent c.if-count-amount.true _ (ap (λ slot. set c.args.slots.now c.args.place slot) c.replace.ensures.after)
 
 pub find_free_from-to-requires-clause-fingerprints : goal.find_free_from-to-requires-clause-fingerprints
 find_free_from-to-requires-clause-fingerprints g c = rw (c.replace.ensures.after) (fingerprints_freed c.requires.fingerprints c.args.place c.requires.place)

@@ -16,3 +16,9 @@ returns-in-Ok-clause-stands g c = rw c.in-Frequent.is (frequent_back g.T.Partial
 
 pub returns-in-Ok-deserialize_with_limit-clause-stands : goal.returns-in-Ok-deserialize_with_limit-clause-stands
 returns-in-Ok-deserialize_with_limit-clause-stands g c = rw c.in-Bloom.is (filter_back g.T.PartialEq.eq g.T.FrequentItemValue.codec g.T.FrequentItemValue.content c.in-Bloom.bytes c.deref-in-Bloom.ensures.value c.what_images_say-in-Bloom.ensures.spelled c.in-Ok-deserialize_with_limit.ensures.state c.in-Ok-deserialize_with_limit.ensures.stands)
+
+pub returns-in-Ok-deserialize_with_limit-clause-within : goal.returns-in-Ok-deserialize_with_limit-clause-within
+returns-in-Ok-deserialize_with_limit-clause-within g c = c.in-Ok-deserialize_with_limit.ensures.within
+
+pub returns-in-Err-deserialize_with_limit-clause-refused : goal.returns-in-Err-deserialize_with_limit-clause-refused
+returns-in-Err-deserialize_with_limit-clause-refused g c = rw (c.in-Bloom.is, ← c.deref-in-Bloom.ensures.value) c.in-Err-deserialize_with_limit.ensures.err

@@ -1,6 +1,6 @@
-use Rattle.std.proofs.Common.{arith, ap, subst, sym, ◌∙◌, ◌≡◌, ℕ, ◌+◌, ◌≤◌, map, length, ℤ, pos, unsigned_abs, List, slice_index}
+use Rattle.std.proofs.Common.{arith, ap, subst, sym, refl, ◌∙◌, ◌≡◌, ℕ, ◌+◌, ◌≤◌, map, length, ℤ, pos, unsigned_abs, List, slice_index}
 use Rattle.std.proofs.lemmas.Int.{ints}
-use Rattle.std.proofs.lemmas.Result.{IfOk-from_err}
+use Rattle.std.proofs.lemmas.Result.{IfOk-from_err, err_from_is_err_and}
 use Rattle.sketch_base.specs.Hashes.{fed_bytes}
 use Rattle.sketch_countmin.specs.Buckets.{bucket_by}
 use Rattle.sketch_countmin.specs.Cells.{RowsAdded}
@@ -84,3 +84,18 @@ returns-in_err-total-clause-counted g c = IfOk-from_err c.from_residual.result _
 
 pub returns-in_err-total-clause-stands : goal.returns-in_err-total-clause-stands
 returns-in_err-total-clause-stands g c = IfOk-from_err c.from_residual.result _ c.from_residual.ensures.0
+
+-- said here so that a body that changed the sketch before is refused at once
+pub returns-in_err-total-clause-err : goal.returns-in_err-total-clause-err
+returns-in_err-total-clause-err g c =
+    let p = err_from_is_err_and c.from_residual.result c.from_residual.ensures.1 in
+    rw p.1 refl
+
+pub returns-in_err-total-clause-zero : goal.returns-in_err-total-clause-zero
+returns-in_err-total-clause-zero g c = λ zero. absurd (omega (arith, ints, zero, c.in_err-total.ensures.overflow, c.in_err-total.ensures.state.fits))
+
+pub returns-in_err-total-clause-succeeds : goal.returns-in_err-total-clause-succeeds
+returns-in_err-total-clause-succeeds g c = λ fits. absurd (omega (arith, fits, c.in_err-total.ensures.overflow))
+
+pub returns-then-to_number-eq0-clause-zero : goal.returns-then-to_number-eq0-clause-zero
+returns-then-to_number-eq0-clause-zero g c = λ _. (refl, refl)

@@ -120,3 +120,9 @@ returns-in_err-map-2 g c =
     let p = err_from_is_err_and c.from_residual-in_err-map-2.result c.from_residual-in_err-map-2.ensures.1 in
     let full = sym c.in_ok-header.ensures.fields.is_empty ∙ c.if-header.false in
     rw (p.1, p.2) (record { image = tt; state = tt; sample = tt; stands = tt; budget = tt; within = tt; err = items_refused _ c.args.most_bytes g.T.FrequentItemValue.codec c.args.image.now _ (counts_of_full c.args.image.now c.in_ok-header.ensures.checks full c.in_ok-numbers.ensures.checks) (size_of_full c.args.image.now full (c.table_size-size.ensures.value ∙ ap (λ (k : ℕ). 2 ^ k) c.in_ok-header.ensures.fields.lg_cur)) c.in_ok-check_limit-2.ensures.within full c.in_ok-check_weights.ensures.checks c.in_err-map-2.ensures.err })
+
+pub returns-then-header-clause-sample : goal.returns-then-header-clause-sample
+returns-then-header-clause-sample g c = c.greatest_sample_of-sample_size.ensures
+
+pub returns-clause-sample : goal.returns-clause-sample
+returns-clause-sample g c = c.greatest_sample_of-sample_size.ensures

@@ -56,3 +56,10 @@ returns-clause-budget g c =
     let other = c.args.other.now in
     let other_ok : IsState g.T.PartialEq.eq other = subst (λ s. IsState g.T.PartialEq.eq s) c.other.view_is c.other.invariant in
     λ h h' s t keeps more. budget_joins_equal g.met.T.Eq.laws c.args.self.now other _ (subst (λ s. IsState g.T.PartialEq.eq s) c.self.view_is c.self.invariant) other_ok (returns-clause-join g c) h h' s t keeps more
+
+-- the sketch is the merged one, whatever it was
+pub invariant_of-self : goal.invariant_of-self
+invariant_of-self g c = subst (λ s. IsState g.T.PartialEq.eq s) (sym c.merged-2.view_is) c.settle.ensures.state
+
+pub returns-clause-state : goal.returns-clause-state
+returns-clause-state g c = invariant_of-self g c
