@@ -73,3 +73,9 @@ returns-clause-call g c =
           c.turn.ensures.err;
       memory = search rules;
     }
+
+-- an unknown tenant stays unknown
+pub returns-in_default-clause-call : goal.returns-in_default-clause-call
+returns-in_default-clause-call g c =
+    let unknown : at_tenant c.args.tenant c.args.self.now ≡ [] = ap (λ (s : WindowsState g.row.T.Denot). at_tenant c.args.tenant s) (sym c.self.view_is) ∙ ap (λ o. unwrap_or o []) (sym c.in_default.ensures.value) in
+    search rules
