@@ -1,19 +1,28 @@
-use Rattle.std.proofs.Common.{rules, arith}
-use Rattle.std.proofs.lemmas.Grind.{common_steps}
+use Rattle.std.proofs.Common.{rules, ◌<◌, All, max, subst, sym, ◌∙◌}
+use Rattle.sketch_frequencies.specs.History.{true_weight}
+use Rattle.heavy_windows.specs.Histories.{report_history}
 use Rattle.heavy_windows.specs.State.{at_tenant}
 use Rattle.heavy_windows.proofs.Reports.{paid_by_tail, rows_enclose}
 use Rattle.heavy_windows.proofs.heavy_windows.HeavyWindows.report.Goals as goal
 
 pub returns : goal.returns
-returns g c = record {
-  call = record {
-    ok = search rules;
-    total = grind (arith, common_steps);
-    encloses = rows_enclose g.T.PartialEq.eq c.args.error_type c.args.threshold c.args.self.now.max_map_size (at_tenant c.args.tenant c.args.self.now) c.in_ok-merged.merged c.in_ok-rows.rows.items c.in_ok-merged.ensures.merged c.in_ok-rows.ensures.exact;
-    none_missing = grind (arith, common_steps);
-    none_below = grind (arith, common_steps);
-    budget = paid_by_tail g.T.PartialEq.eq c.args.self.now.max_map_size (at_tenant c.args.tenant c.args.self.now) c.in_ok-merged.merged c.in_ok-merged.ensures.merged c.maximum_error.result c.maximum_error.ensures.value;
-    overflow = search rules;
-    memory = search rules;
-  };
-}
+returns g c =
+    let eq = g.T.PartialEq.eq in
+    let size = c.args.self.now.max_map_size in
+    let windows = at_tenant c.args.tenant c.args.self.now in
+    let threshold = c.args.threshold in
+    let merged = c.in_ok-merged.ensures.merged in
+    let rows = c.in_ok-rows.ensures in
+    let error = c.maximum_error.ensures.value in
+    record {
+      call = record {
+        ok = record { merged = c.in_ok-merged.merged; is_merged = merged; rows = rows.exact; descending = rows.descending; error = error; total = c.total_weight.ensures };
+        total = λ hs stand. c.total_weight.ensures ∙ (merged.stands hs stand).encloses.total;
+        encloses = rows_enclose eq c.args.error_type threshold size windows c.in_ok-merged.merged c.in_ok-rows.rows.items merged rows.exact;
+        none_missing = λ kind hs stand x above. rows.none_missing kind (report_history size hs) (merged.stands hs stand).encloses x (subst (λ e. max threshold e < true_weight eq (report_history size hs) x) error above);
+        none_below = λ kind hs stand. subst (λ e. All (λ row. max threshold e < true_weight eq (report_history size hs) row.item) c.in_ok-rows.rows.items) (sym error) (rows.none_below kind (report_history size hs) (merged.stands hs stand).encloses);
+        budget = paid_by_tail eq size windows c.in_ok-merged.merged merged c.maximum_error.result error;
+        overflow = search rules;
+        memory = λ _. tt;
+      };
+    }
