@@ -21,7 +21,6 @@ pub mod Purges
 pub mod Puts
 pub mod Refusals
 pub mod Reports
-pub mod Room
 pub mod RoundTrips
 pub mod SameMaps
 pub mod SameMapsByCounts

@@ -1,10 +1,8 @@
-use Rattle.std.proofs.Common.{subst, sym, ◌∙◌, ◌<◌, arith}
-use Rattle.std.proofs.lemmas.Result.{err_from_is_err_and}
+use Rattle.std.proofs.Common.{subst}
 use Rattle.sketch_frequencies.specs.State.{IsState}
 use Rattle.sketch_frequencies.specs.Steps.{Steps}
 use Rattle.sketch_frequencies.proofs.Enclosure.{stands_after}
 use Rattle.sketch_frequencies.proofs.Tail.{budget_after}
-use Rattle.sketch_frequencies.proofs.Room.{has_room, not_over}
 use Rattle.sketch_frequencies.proofs.frequent_items_sketch.FrequentItemsSketch.update_with_count.Goals as goal
 
 pub returns-then-capacity-num_active-clause-stands : goal.returns-then-capacity-num_active-clause-stands
@@ -27,25 +25,3 @@ returns-clause-stands g c = λ pos h s. stands_after g.met.T.Eq.laws c.args.self
 
 pub returns-clause-budget : goal.returns-clause-budget
 returns-clause-budget g c = λ pos h s keeps. budget_after g.met.T.Eq.laws c.args.self.now c.track.new.self c.args.item c.args.count (subst (λ s. IsState g.T.PartialEq.eq s) c.self.view_is c.self.invariant) (returns-clause-step g c pos) h s keeps
-
-pub put-requires : goal.put-requires
-put-requires g c =
-    let some : 0 < c.args.count = omega (arith, c.if-count-eq0.false) in
-    record {
-      positive = some;
-      fits = has_room _ _ c.self.view_is _ some c.if-count-self.false;
-      room = rw (← c.self.view_is, ← c.num_active.ensures.active, ← c.capacity.ensures) c.if-capacity-num_active.true;
-    }
-
-pub adjust-requires : goal.adjust-requires
-adjust-requires g c =
-    let some : 0 < c.args.count = omega (arith, c.if-count-eq0.false) in
-    record { positive = some; fits = has_room _ _ c.self.view_is _ some c.if-count-self.false }
-
-pub returns-in_err-track-clause-overflow : goal.returns-in_err-track-clause-overflow
-returns-in_err-track-clause-overflow g c = λ over. not_over _ _ c.self.view_is _ (omega (arith, c.if-count-eq0.false)) c.if-count-self.false over
-
-pub returns-in_err-track-clause-succeeds : goal.returns-in_err-track-clause-succeeds
-returns-in_err-track-clause-succeeds g c =
-    let p = err_from_is_err_and c.from_residual.result c.from_residual.ensures.1 in
-    rw p.1 (λ _ no. c.in_err-track.ensures.succeeds (rw (c.adjust.ensures.absent c.if-adjust.false) (rw (sym c.adjust.ensures.tracked ∙ c.if-adjust.false) at no)))
