@@ -108,50 +108,47 @@ impl Fault {
     fn words(self) -> (&'static str, &'static str)
         ensures { (result.0.now, result.1.now) ≡ fault_words self }
     {
-        match self {
-            Fault::BadNumBits => ("BadNumBits", "num_bits out of range"),
-            Fault::BadNumHashes => ("BadNumHashes", "num_hashes out of range"),
-            Fault::BadNumBuckets => ("BadNumBuckets", "num_buckets below 3"),
-            Fault::TableTooLarge => ("TableTooLarge", "table too large"),
-            Fault::ZeroSeedHash => ("ZeroSeedHash", "seed hash is zero"),
-            Fault::Mismatch => ("Mismatch", "shapes or seeds differ"),
-            Fault::WeightOverflow => ("WeightOverflow", "total weight overflow"),
-            Fault::MapSizeNotPowerOfTwo => (
-                "MapSizeNotPowerOfTwo",
-                "map size is not a power of two",
-            ),
-            Fault::MapSizeTooSmall => ("MapSizeTooSmall", "map size below 8"),
-            Fault::MapSizeTooLarge => ("MapSizeTooLarge", "map size above 2^30"),
-            Fault::ItemTooLong => ("ItemTooLong", "item too long"),
-            Fault::InsufficientData => ("InsufficientData", "insufficient data"),
-            Fault::BadFamily => ("BadFamily", "wrong family"),
-            Fault::BadVersion => ("BadVersion", "wrong serial version"),
-            Fault::BadPreamble => ("BadPreamble", "wrong preamble longs"),
-            Fault::BadNumWords => ("BadNumWords", "number of words below 1"),
-            Fault::BadBitCount => ("BadBitCount", "wrong number of set bits"),
-            Fault::SeedHashMismatch => ("SeedHashMismatch", "seed hashes differ"),
-            Fault::ValueOutOfRange => ("ValueOutOfRange", "value out of range"),
-            Fault::NegativeTotal => ("NegativeTotal", "total weight is negative"),
-            Fault::CellAboveTotal => ("CellAboveTotal", "counter exceeds total weight"),
-            Fault::LgCurTooSmall => ("LgCurTooSmall", "current map size below 8"),
-            Fault::LgMaxTooLarge => ("LgMaxTooLarge", "greatest map size above 2^30"),
-            Fault::LgCurAboveMax => ("LgCurAboveMax", "current map size above greatest"),
-            Fault::EmptyFlagMismatch => ("EmptyFlagMismatch", "empty flag does not match preamble"),
-            Fault::TooManyActive => ("TooManyActive", "too many active items"),
-            Fault::ZeroTotal => ("ZeroTotal", "total weight is zero"),
-            Fault::WeightsExceedTotal => ("WeightsExceedTotal", "weights exceed total weight"),
-            Fault::ErrorExceedsTotal => (
-                "ErrorExceedsTotal",
-                "weights and error exceed total weight",
-            ),
-            Fault::InvalidUtf8 => ("InvalidUtf8", "invalid UTF-8"),
-            Fault::BadItem => ("BadItem", "bad item"),
-            Fault::NoMemory => ("NoMemory", "out of memory"),
-            Fault::BadSampleSize => ("BadSampleSize", "sample size out of range"),
-            Fault::BadWindows => ("BadWindows", "windows out of range"),
-        }
+        WORDS[self as usize]
     }
 }
+
+/// The name and the text of each fault, in the order of the faults.
+static WORDS: [(&str, &str); 34] = [
+    ("BadNumBits", "num_bits out of range"),
+    ("BadNumHashes", "num_hashes out of range"),
+    ("BadNumBuckets", "num_buckets below 3"),
+    ("TableTooLarge", "table too large"),
+    ("ZeroSeedHash", "seed hash is zero"),
+    ("Mismatch", "shapes or seeds differ"),
+    ("WeightOverflow", "total weight overflow"),
+    ("MapSizeNotPowerOfTwo", "map size is not a power of two"),
+    ("MapSizeTooSmall", "map size below 8"),
+    ("MapSizeTooLarge", "map size above 2^30"),
+    ("ItemTooLong", "item too long"),
+    ("InsufficientData", "insufficient data"),
+    ("BadFamily", "wrong family"),
+    ("BadVersion", "wrong serial version"),
+    ("BadPreamble", "wrong preamble longs"),
+    ("BadNumWords", "number of words below 1"),
+    ("BadBitCount", "wrong number of set bits"),
+    ("SeedHashMismatch", "seed hashes differ"),
+    ("ValueOutOfRange", "value out of range"),
+    ("NegativeTotal", "total weight is negative"),
+    ("CellAboveTotal", "counter exceeds total weight"),
+    ("LgCurTooSmall", "current map size below 8"),
+    ("LgMaxTooLarge", "greatest map size above 2^30"),
+    ("LgCurAboveMax", "current map size above greatest"),
+    ("EmptyFlagMismatch", "empty flag does not match preamble"),
+    ("TooManyActive", "too many active items"),
+    ("ZeroTotal", "total weight is zero"),
+    ("WeightsExceedTotal", "weights exceed total weight"),
+    ("ErrorExceedsTotal", "weights and error exceed total weight"),
+    ("InvalidUtf8", "invalid UTF-8"),
+    ("BadItem", "bad item"),
+    ("NoMemory", "out of memory"),
+    ("BadSampleSize", "sample size out of range"),
+    ("BadWindows", "windows out of range"),
+];
 
 /// Prints the text of the fault.
 impl fmt::Display for Fault {
