@@ -13,7 +13,7 @@ ghost use Rattle.sketch_frequencies.specs.Writing.{WritesItems};
 
 use crate::frequent_item_value::FrequentItemValue;
 use counter_table::{ReversePurgeItemHashMap, Slot, bytes_of_table, capacity_of};
-use sketch_base::image::{SERIAL_VERSION, check_length, check_version, u32_at, u64_at};
+use sketch_base::image::{SERIAL_VERSION, u32_at, u64_at};
 use sketch_base::{Error, Family, Fault, SketchBytes, SketchSlice};
 use std::alloc::Global;
 
@@ -59,34 +59,48 @@ pub(crate) fn read_header(image: &[u8]) -> Result<Header, Error>
     ensures err { IfErr result
         (λ e. (e ≡ invalid_data e.fault) × (first_failing (header_checks image.now) ≡ Some e.fault)) }
 {
-    check_length(image, 8)?;
-    Family::FREQUENCY.validate_id(image[2])?;
-    check_version(image[1])?;
-    let lg_max = image[3];
-    let lg_cur = image[4];
-    if lg_cur < LEAST_LG_SIZE {
-        return Err(Error::invalid_data(Fault::LgCurTooSmall));
+    if let Some(fault) = header_fault(image) {
+        return Err(Error::invalid_data(fault));
     }
-    if lg_max > GREATEST_LG_SIZE {
-        return Err(Error::invalid_data(Fault::LgMaxTooLarge));
+    Ok(Header {
+        is_empty: image[0] % 64 == PREAMBLE_LONGS_EMPTY,
+        lg_max: image[3],
+        lg_cur: image[4],
+    })
+}
+
+/// The fault of the first check of the first eight bytes that fails.
+fn header_fault(image: &[u8]) -> Option<Fault>
+    ensures { result ≡ first_failing (header_checks image.now) }
+{
+    if image.len() < 8 {
+        return Some(Fault::InsufficientData);
     }
-    if lg_cur > lg_max {
-        return Err(Error::invalid_data(Fault::LgCurAboveMax));
+    if image[2] != Family::FREQUENCY.id {
+        return Some(Fault::BadFamily);
+    }
+    if image[1] != SERIAL_VERSION {
+        return Some(Fault::BadVersion);
+    }
+    if image[4] < LEAST_LG_SIZE {
+        return Some(Fault::LgCurTooSmall);
+    }
+    if image[3] > GREATEST_LG_SIZE {
+        return Some(Fault::LgMaxTooLarge);
+    }
+    if image[4] > image[3] {
+        return Some(Fault::LgCurAboveMax);
     }
     let preamble_longs = image[0] % 64;
     if preamble_longs != PREAMBLE_LONGS_EMPTY && preamble_longs != PREAMBLE_LONGS_NONEMPTY {
-        return Err(Error::invalid_data(Fault::BadPreamble));
+        return Some(Fault::BadPreamble);
     }
     let is_empty = preamble_longs == PREAMBLE_LONGS_EMPTY;
     let has_empty_flag = image[5] & EMPTY_FLAG_MASK != 0;
     if is_empty != has_empty_flag {
-        return Err(Error::invalid_data(Fault::EmptyFlagMismatch));
+        return Some(Fault::EmptyFlagMismatch);
     }
-    Ok(Header {
-        is_empty,
-        lg_max,
-        lg_cur,
-    })
+    None
 }
 
 /// Reads the numbers behind the header, and sees that the weights are there.
@@ -101,24 +115,42 @@ pub(crate) fn read_numbers(image: &[u8], lg_cur: u8) -> Result<Numbers, Error>
     ensures err { IfErr result
         (λ e. (e ≡ invalid_data e.fault) × (first_failing (count_checks image.now) ≡ Some e.fault)) }
 {
-    check_length(image, 12)?;
-    let active = u32_at(image, 8);
-    if active as usize > capacity_of(table_size(lg_cur)) {
-        return Err(Error::invalid_data(Fault::TooManyActive));
+    if let Some(fault) = numbers_fault(image, lg_cur) {
+        return Err(Error::invalid_data(fault));
     }
-    check_length(image, 24)?;
-    let total = u64_at(image, 16);
-    if total == 0 {
-        return Err(Error::invalid_data(Fault::ZeroTotal));
-    }
-    check_length(image, 32)?;
-    let error = u64_at(image, 24);
-    check_length(image, 32 + 8 * active as usize)?;
     Ok(Numbers {
-        active,
-        total,
-        error,
+        active: u32_at(image, 8),
+        total: u64_at(image, 16),
+        error: u64_at(image, 24),
     })
+}
+
+/// The fault of the first check of these numbers that fails.
+fn numbers_fault(image: &[u8], lg_cur: u8) -> Option<Fault>
+    requires size { lg_cur ≡ byte_at image.now 4 }
+    requires small { lg_cur ≤ 30 }
+    ensures { result ≡ first_failing (count_checks image.now) }
+{
+    if image.len() < 12 {
+        return Some(Fault::InsufficientData);
+    }
+    let active = u32_at(image, 8) as usize;
+    if active > capacity_of(table_size(lg_cur)) {
+        return Some(Fault::TooManyActive);
+    }
+    if image.len() < 24 {
+        return Some(Fault::InsufficientData);
+    }
+    if u64_at(image, 16) == 0 {
+        return Some(Fault::ZeroTotal);
+    }
+    if image.len() < 32 {
+        return Some(Fault::InsufficientData);
+    }
+    if image.len() < 32 + 8 * active {
+        return Some(Fault::InsufficientData);
+    }
+    None
 }
 
 /// Whether a table of so many slots takes at most so many bytes, by the formula of `estimated_size`.
