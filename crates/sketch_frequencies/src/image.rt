@@ -292,13 +292,16 @@ pub(crate) fn empty_image(alloc: Global, lg_max: u8) -> Result<SketchBytes, Erro
     ensures err { IfErr result (λ e. e ≡ no_memory) }
 {
     let mut out = SketchBytes::with_capacity(alloc, 8)?;
-    write_header(
-        &mut out,
+    out.write(&[
         PREAMBLE_LONGS_EMPTY,
+        SERIAL_VERSION,
+        Family::FREQUENCY.id,
         lg_max,
         LEAST_LG_SIZE,
         EMPTY_FLAG_MASK,
-    )?;
+        0,
+        0,
+    ])?;
     Ok(out)
 }
 
@@ -318,35 +321,29 @@ pub(crate) fn begin_image(
     ensures total_fits { OnOk result (numbers.now.total < 2 ^ 64) }
 {
     let mut out = SketchBytes::with_capacity(alloc, room)?;
-    write_header(&mut out, PREAMBLE_LONGS_NONEMPTY, lg_max, lg_cur, 0)?;
-    out.write_u32_le(numbers.active)?;
-    out.write_u32_le(0)?;
-    out.write_u64_le(numbers.total)?;
-    out.write_u64_le(numbers.error)?;
+    out.write(&preamble_bytes(lg_max, lg_cur, numbers))?;
     Ok(out)
 }
 
-/// Writes the first eight bytes.
-fn write_header(
-    out: &mut SketchBytes,
-    longs: u8,
-    lg_max: u8,
-    lg_cur: u8,
-    flags: u8,
-) -> Result<(), Error>
-    ensures ok { OnOk result (out.new.bytes ≡ out.old.bytes ++ header longs lg_max lg_cur flags) }
-    ensures err { IfErr result (λ e. e ≡ no_memory) }
+/// The bytes of the preamble of an image.
+fn preamble_bytes(lg_max: u8, lg_cur: u8, numbers: &Numbers) -> [u8; 32]
+    ensures value { result ≡ preamble lg_max lg_cur numbers.now.active numbers.now.total numbers.now.error }
+
+    // What the type says, for the caller's proof.
+    ensures total_fits { numbers.now.total < 2 ^ 64 }
 {
-    out.write(&[
-        longs,
-        SERIAL_VERSION,
-        Family::FREQUENCY.id,
-        lg_max,
-        lg_cur,
-        flags,
-        0,
-        0,
-    ])
+    let longs = PREAMBLE_LONGS_NONEMPTY;
+    let version = SERIAL_VERSION;
+    let family = Family::FREQUENCY.id;
+    let active = numbers.active.to_le_bytes();
+    let total = numbers.total.to_le_bytes();
+    let error = numbers.error.to_le_bytes();
+    [
+        longs, version, family, lg_max, lg_cur, 0, 0, 0, active[0], active[1], active[2],
+        active[3], 0, 0, 0, 0, total[0], total[1], total[2], total[3], total[4], total[5],
+        total[6], total[7], error[0], error[1], error[2], error[3], error[4], error[5], error[6],
+        error[7],
+    ]
 }
 
 /// How many slots are looked at before their weights are written at once.
