@@ -20,20 +20,28 @@ pub record AreTexts (bytes offsets : List ℕ) : Type 0 where
   pub ends : AreOffsets bytes offsets
   pub utf8 : All IsUtf8 (texts_of bytes offsets)
 
--- this answer refuses a buffer that has no such texts
-pub record AreRefused (bytes offsets : List ℕ) (answer : ℤ) : Type 0 where
-  pub not_texts : ¬ AreTexts bytes offsets
+-- what is said of the answer to a buffer that has no such texts
+pub record RefusesTexts (bytes offsets : List ℕ) (answer : ℤ) : Type 0 where
   pub not_offsets : ¬ AreOffsets bytes offsets → answer ≡ bad_offsets
   pub not_utf8 : AreOffsets bytes offsets → ¬ All IsUtf8 (texts_of bytes offsets) → answer ≡ refusal_number InvalidUtf8
 
--- this answer refuses a buffer that has no such texts, or more or fewer than so many places
-pub record AreRefusedIn (places : ℕ) (bytes offsets : List ℕ) (answer : ℤ) : Type 0 where
-  pub not_texts : places + 1 ≡ length offsets → ¬ AreTexts bytes offsets
+-- this answer refuses a buffer that has no such texts
+pub record AreRefused (bytes offsets : List ℕ) (answer : ℤ) : Type 0 where
+  pub not_texts : ¬ AreTexts bytes offsets
+  pub says : RefusesTexts bytes offsets answer
+
+-- what is said of the answer to a buffer that has no such texts, or more or fewer than so many places
+pub record RefusesTextsIn (places : ℕ) (bytes offsets : List ℕ) (answer : ℤ) : Type 0 where
   pub not_offsets : ¬ AreOffsets bytes offsets → answer ≡ bad_offsets
   pub not_placed : AreOffsets bytes offsets → places + 1 ≢ length offsets → answer ≡ no_room
   pub not_utf8 :
       AreOffsets bytes offsets → places + 1 ≡ length offsets → ¬ All IsUtf8 (texts_of bytes offsets) →
       answer ≡ refusal_number InvalidUtf8
+
+-- this answer refuses a buffer that has no such texts, or more or fewer than so many places
+pub record AreRefusedIn (places : ℕ) (bytes offsets : List ℕ) (answer : ℤ) : Type 0 where
+  pub not_texts : places + 1 ≡ length offsets → ¬ AreTexts bytes offsets
+  pub says : RefusesTextsIn places bytes offsets answer
 
 -- the offsets of texts that stand one behind the other from an offset on
 abbrev pub offsets_from : ℕ → List (List ℕ) → List ℕ

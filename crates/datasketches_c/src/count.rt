@@ -1,7 +1,6 @@
 //! Count-Min sketches behind handles, whatever the type of the weights.
-ghost use Rattle.std.specs.Prelude.{◌≡◌, ◌≢◌, ◌+◌, ◌-◌, ◌*◌, ◌<◌, ◌≤◌, None, Some, length, map, take, sum_by, unsigned_abs, All};
+ghost use Rattle.std.specs.Prelude.{◌≡◌, ◌≢◌, ◌+◌, ◌-◌, ◌*◌, ◌<◌, ◌≤◌, None, Some, length, map, take, sum_by, unsigned_abs};
 ghost use Rattle.std.specs.Hash as fed;
-ghost use Rattle.std.specs.Str.{IsUtf8};
 ghost use Rattle.sketch_base.specs.Errors.{refusal_of};
 ghost use Rattle.sketch_base.specs.Hashes.{fed_bytes};
 ghost use Rattle.sketch_countmin.specs.Image.{IsImage, early_fault_within, first_fault_within};
@@ -12,8 +11,8 @@ ghost use Rattle.datasketches_c.specs.CountJoins.{IsJoined};
 ghost use Rattle.datasketches_c.specs.Estimates.{AreLeastCells};
 ghost use Rattle.datasketches_c.specs.Images.{IsRefusedImage};
 ghost use Rattle.datasketches_c.specs.Kinds.{HoldsKind};
-ghost use Rattle.datasketches_c.specs.Numbers.{OnDone, OnRefused, ok, no_room, bad_offsets, refusal_number};
-ghost use Rattle.datasketches_c.specs.Texts.{AreOffsets, AreTexts, texts_of};
+ghost use Rattle.datasketches_c.specs.Numbers.{OnDone, OnRefused, ok, no_room, refusal_number};
+ghost use Rattle.datasketches_c.specs.Texts.{AreTexts, RefusesTexts, RefusesTextsIn, texts_of};
 
 use crate::count_texts::{count_texts, estimate_texts};
 use crate::count_weighted::{count_weighted, count_weighted_texts};
@@ -234,10 +233,8 @@ where
     CountMinSketch<V>: Kind,
     ensures texts { AreTexts bytes.now offsets.now
         → AddsEach (⟦<CountMinSketch<V> as Kind>⟧.part) V.greatest handle.old.value handle.new.value result (fed_bytes fed.str) (texts_of bytes.now offsets.now) }
-    ensures bad_offsets { ¬ AreOffsets bytes.now offsets.now
-        → (result ≡ bad_offsets) × (handle.new.value ≡ handle.old.value) }
-    ensures no_text { AreOffsets bytes.now offsets.now → ¬ All IsUtf8 (texts_of bytes.now offsets.now)
-        → (result ≡ refusal_number Fault.InvalidUtf8) × (handle.new.value ≡ handle.old.value) }
+    ensures no_texts { RefusesTexts bytes.now offsets.now result }
+    ensures refused { ¬ AreTexts bytes.now offsets.now → handle.new.value ≡ handle.old.value }
 {
     if let Some(refusal) = refusal_of_texts(bytes, offsets) {
         return refusal;
@@ -257,10 +254,7 @@ where
     CountMinSketch<V>: Kind,
     ensures kept { handle.new.value ≡ handle.old.value }
     ensures length { length estimates.new ≡ length estimates.old }
-    ensures bad_offsets { ¬ AreOffsets bytes.now offsets.now → result ≡ bad_offsets }
-    ensures no_room { AreOffsets bytes.now offsets.now → length estimates.old + 1 ≢ length offsets.now → result ≡ no_room }
-    ensures no_text { AreOffsets bytes.now offsets.now → length estimates.old + 1 ≡ length offsets.now
-        → ¬ All IsUtf8 (texts_of bytes.now offsets.now) → result ≡ refusal_number Fault.InvalidUtf8 }
+    ensures no_texts { RefusesTextsIn (length estimates.old) bytes.now offsets.now result }
     ensures estimates { AreTexts bytes.now offsets.now → length estimates.old + 1 ≡ length offsets.now
         → EstimatesAll (⟦<CountMinSketch<V> as Kind>⟧.part) handle.old.value handle.new.value result (fed_bytes fed.str) (texts_of bytes.now offsets.now) (map V.number estimates.new) }
     ensures untouched { OnRefused result (estimates.new ≡ estimates.old) }
@@ -284,10 +278,7 @@ pub(crate) fn update_all_weighted_text<V: CountMinValue>(
 ) -> i32
 where
     CountMinSketch<V>: Kind,
-    ensures bad_offsets { ¬ AreOffsets bytes.now offsets.now → result ≡ bad_offsets }
-    ensures no_room { AreOffsets bytes.now offsets.now → length weights.now + 1 ≢ length offsets.now → result ≡ no_room }
-    ensures no_text { AreOffsets bytes.now offsets.now → length weights.now + 1 ≡ length offsets.now
-        → ¬ All IsUtf8 (texts_of bytes.now offsets.now) → result ≡ refusal_number Fault.InvalidUtf8 }
+    ensures no_texts { RefusesTextsIn (length weights.now) bytes.now offsets.now result }
     ensures call { AreTexts bytes.now offsets.now → length weights.now + 1 ≡ length offsets.now
         → AddsWeights (⟦<CountMinSketch<V> as Kind>⟧.part) V.greatest handle.old.value handle.new.value result (fed_bytes fed.str) V.number (texts_of bytes.now offsets.now) weights.now (sum_by (λ weight. unsigned_abs (V.number weight)) weights.now) }
     ensures refused { OnRefused result (handle.new.value ≡ handle.old.value) }

@@ -4,6 +4,7 @@ use Rattle.sketch_base.specs.Hashes.{fed_bytes}
 use Rattle.datasketches_c.specs.Texts.{texts_of}
 use Rattle.datasketches_c.proofs.CountCallLemmas.{each_added}
 use Rattle.datasketches_c.proofs.KindLemmas.{on_none_said, on_other_said}
+use Rattle.datasketches_c.proofs.TextLemmas.{not_refused}
 use Rattle.datasketches_c.specs.Numbers.{no_sketch, wrong_kind}
 use Rattle.datasketches_c.proofs.count.update_all_text.Goals as goal
 
@@ -17,14 +18,14 @@ returns-in-Some-part_of-clause-texts g c =
 
 -- the handle has no sketch, or one of another kind
 pub returns-in_default-take : goal.returns-in_default-take
-returns-in_default-take g c = record { bad_offsets = λ not. absurd (not c.in_default.ensures.ends); texts = λ texts. on_none_said g.bound-7.part c.args.handle.now.value c.take.new.self.value no_sketch _ c.in_default-take.ensures.sketch c.in_default-take.ensures.emptied refl; no_text = λ ends not. absurd (not c.in_default.ensures.utf8) }
+returns-in_default-take g c = record { no_texts = not_refused _ _ _ c.in_default.ensures; texts = λ texts. on_none_said g.bound-7.part c.args.handle.now.value c.take.new.self.value no_sketch _ c.in_default-take.ensures.sketch c.in_default-take.ensures.emptied refl; refused = λ not. absurd (not c.in_default.ensures) }
 
 pub returns-in-None : goal.returns-in-None
-returns-in-None g c = record { bad_offsets = λ not. absurd (not c.in_default.ensures.ends); texts = λ texts. on_other_said g.bound-7.part c.args.handle.now.value c.give-in-None.new.self.value c.deref_mut.result.now wrong_kind _ (c.in-Some-take.ensures.sketch ∙ ap Some (sym c.deref_mut.ensures.value)) c.in-None.ensures.which c.give-in-None.ensures refl; no_text = λ ends not. absurd (not c.in_default.ensures.utf8) }
+returns-in-None g c = record { no_texts = not_refused _ _ _ c.in_default.ensures; texts = λ texts. on_other_said g.bound-7.part c.args.handle.now.value c.give-in-None.new.self.value c.deref_mut.result.now wrong_kind _ (c.in-Some-take.ensures.sketch ∙ ap Some (sym c.deref_mut.ensures.value)) c.in-None.ensures.which c.give-in-None.ensures refl; refused = λ not. absurd (not c.in_default.ensures) }
 
 -- the texts are texts
-pub returns-in-Some-part_of-clause-bad_offsets : goal.returns-in-Some-part_of-clause-bad_offsets
-returns-in-Some-part_of-clause-bad_offsets g c = λ not. absurd (not c.in_default.ensures.ends)
+pub returns-in-Some-part_of-clause-no_texts : goal.returns-in-Some-part_of-clause-no_texts
+returns-in-Some-part_of-clause-no_texts g c = not_refused _ _ _ c.in_default.ensures
 
-pub returns-in-Some-part_of-clause-no_text : goal.returns-in-Some-part_of-clause-no_text
-returns-in-Some-part_of-clause-no_text g c = λ ends not. absurd (not c.in_default.ensures.utf8)
+pub returns-in-Some-part_of-clause-refused : goal.returns-in-Some-part_of-clause-refused
+returns-in-Some-part_of-clause-refused g c = λ not. absurd (not c.in_default.ensures)

@@ -4,6 +4,7 @@ use Rattle.std.specs.Prelude.{sum_by, unsigned_abs}
 use Rattle.sketch_base.specs.Hashes.{fed_bytes}
 use Rattle.datasketches_c.specs.Texts.{texts_of}
 use Rattle.datasketches_c.proofs.CountCallLemmas.{weights_added}
+use Rattle.datasketches_c.proofs.TextLemmas.{not_refused_in}
 use Rattle.datasketches_c.proofs.KindLemmas.{kept_when_refused, on_none_said, on_other_said}
 use Rattle.datasketches_c.specs.Numbers.{no_sketch, wrong_kind}
 use Rattle.datasketches_c.proofs.count.update_all_weighted_text.Goals as goal
@@ -23,14 +24,11 @@ returns-in-Some-part_of-clause-refused g c =
 
 -- the handle has no sketch, or one of another kind
 pub returns-in_default-take : goal.returns-in_default-take
-returns-in_default-take g c = record { bad_offsets = λ not. absurd (not c.in_default.ensures.0.ends); no_room = λ ends other. absurd (other c.in_default.ensures.1); no_text = λ ends same not. absurd (not c.in_default.ensures.0.utf8); call = λ texts same. on_none_said g.bound-7.part c.args.handle.now.value c.take.new.self.value no_sketch _ c.in_default-take.ensures.sketch c.in_default-take.ensures.emptied refl; refused = c.in_default-take.ensures.emptied ∙ sym c.in_default-take.ensures.sketch }
+returns-in_default-take g c = record { no_texts = not_refused_in _ _ _ _ c.in_default.ensures; call = λ texts same. on_none_said g.bound-7.part c.args.handle.now.value c.take.new.self.value no_sketch _ c.in_default-take.ensures.sketch c.in_default-take.ensures.emptied refl; refused = c.in_default-take.ensures.emptied ∙ sym c.in_default-take.ensures.sketch }
 
 pub returns-in-None : goal.returns-in-None
-returns-in-None g c = record { bad_offsets = λ not. absurd (not c.in_default.ensures.0.ends); no_room = λ ends other. absurd (other c.in_default.ensures.1); no_text = λ ends same not. absurd (not c.in_default.ensures.0.utf8); call = λ texts same. on_other_said g.bound-7.part c.args.handle.now.value c.give-in-None.new.self.value c.deref_mut.result.now wrong_kind _ (c.in-Some-take.ensures.sketch ∙ ap Some (sym c.deref_mut.ensures.value)) c.in-None.ensures.which c.give-in-None.ensures refl; refused = c.give-in-None.ensures ∙ sym (c.in-Some-take.ensures.sketch ∙ ap Some (sym c.deref_mut.ensures.value)) }
+returns-in-None g c = record { no_texts = not_refused_in _ _ _ _ c.in_default.ensures; call = λ texts same. on_other_said g.bound-7.part c.args.handle.now.value c.give-in-None.new.self.value c.deref_mut.result.now wrong_kind _ (c.in-Some-take.ensures.sketch ∙ ap Some (sym c.deref_mut.ensures.value)) c.in-None.ensures.which c.give-in-None.ensures refl; refused = c.give-in-None.ensures ∙ sym (c.in-Some-take.ensures.sketch ∙ ap Some (sym c.deref_mut.ensures.value)) }
 
 -- the texts are texts
-pub returns-in-Some-part_of-clause-bad_offsets : goal.returns-in-Some-part_of-clause-bad_offsets
-returns-in-Some-part_of-clause-bad_offsets g c = λ not. absurd (not c.in_default.ensures.0.ends)
-
-pub returns-in-Some-part_of-clause-no_text : goal.returns-in-Some-part_of-clause-no_text
-returns-in-Some-part_of-clause-no_text g c = λ ends same not. absurd (not c.in_default.ensures.0.utf8)
+pub returns-in-Some-part_of-clause-no_texts : goal.returns-in-Some-part_of-clause-no_texts
+returns-in-Some-part_of-clause-no_texts g c = not_refused_in _ _ _ _ c.in_default.ensures
