@@ -4,15 +4,15 @@ use Rattle.std.specs.List.{slice_range, zip, fold}
 use Rattle.std.proofs.lemmas.List.{length-map, get_or-drop, get_or-map, map_more, take_all}
 use Rattle.std.proofs.lemmas.List.Sums.{fold_push}
 use Rattle.std.proofs.lemmas.Slice.Zip.{length-zip, get_or-zip}
-use Rattle.datasketches_c.specs.Texts.{AreTexts, RefusesTexts, RefusesTextsIn, texts_of}
+use Rattle.datasketches_c.specs.Texts.{AreTexts, AreTextsIn, RefusesTexts, RefusesTextsIn, texts_of}
 
 -- nothing is refused where the texts are there, and each has its place
 pub not_refused : (bytes offsets : List ℕ) (answer : ℤ) → AreTexts bytes offsets → RefusesTexts bytes offsets answer
 not_refused bytes offsets answer are = record { not_offsets = λ not. absurd (not are.ends); not_utf8 = λ ends not. absurd (not are.utf8) }
 
-pub not_refused_in : (places : ℕ) (bytes offsets : List ℕ) (answer : ℤ) → AreTexts bytes offsets × (places + 1 ≡ length offsets) → RefusesTextsIn places bytes offsets answer
+pub not_refused_in : (places : ℕ) (bytes offsets : List ℕ) (answer : ℤ) → AreTextsIn places bytes offsets → RefusesTextsIn places bytes offsets answer
 not_refused_in places bytes offsets answer are =
-    record { not_offsets = λ not. absurd (not are.0.ends); not_placed = λ ends other. absurd (other are.1); not_utf8 = λ ends same not. absurd (not are.0.utf8) }
+    record { not_offsets = λ not. absurd (not are.texts.ends); not_placed = λ ends other. absurd (other are.same); not_utf8 = λ ends same not. absurd (not are.texts.utf8) }
 
 -- there is one text fewer than offsets
 pub length-texts_of : (bytes offsets : List ℕ) → length (texts_of bytes offsets) ≡ length offsets - 1

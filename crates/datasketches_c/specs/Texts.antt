@@ -20,6 +20,11 @@ pub record AreTexts (bytes offsets : List ℕ) : Type 0 where
   pub ends : AreOffsets bytes offsets
   pub utf8 : All IsUtf8 (texts_of bytes offsets)
 
+-- and each text has one of so many places
+pub record AreTextsIn (places : ℕ) (bytes offsets : List ℕ) : Type 0 where
+  pub texts : AreTexts bytes offsets
+  pub same : places + 1 ≡ length offsets
+
 -- what is said of the answer to a buffer that has no such texts
 pub record RefusesTexts (bytes offsets : List ℕ) (answer : ℤ) : Type 0 where
   pub not_offsets : ¬ AreOffsets bytes offsets → answer ≡ bad_offsets

@@ -5,7 +5,7 @@ ghost use Rattle.sketch_base.specs.Hashes.{fed_bytes};
 ghost use Rattle.sketch_countmin.specs.State.{CountsAll};
 ghost use Rattle.datasketches_c.specs.Estimates.{AreLeastCells};
 ghost use Rattle.datasketches_c.specs.Numbers.{ok, refusal_number};
-ghost use Rattle.datasketches_c.specs.Texts.{AreTexts, texts_of};
+ghost use Rattle.datasketches_c.specs.Texts.{AreTexts, AreTextsIn, texts_of};
 
 use crate::status_code::{OK, refusal_number};
 use crate::texts::{num_texts, text_at};
@@ -43,8 +43,7 @@ pub(crate) fn estimate_texts<T: CountMinValue>(
     offsets: &[u64],
     estimates: &mut [T],
 )
-    requires texts { AreTexts bytes.now offsets.now }
-    requires same { length estimates.old + 1 ≡ length offsets.now }
+    requires { AreTextsIn (length estimates.old) bytes.now offsets.now }
     ensures length { length estimates.new ≡ length estimates.old }
     ensures estimates { AreLeastCells sketch.now (fed_bytes fed.str) (texts_of bytes.now offsets.now) (map T.number estimates.new) }
 {

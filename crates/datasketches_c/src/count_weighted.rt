@@ -3,7 +3,7 @@ ghost use Rattle.std.specs.Prelude.{◌≡◌, ◌+◌, ◌<◌, ◌≤◌, ◌�
 ghost use Rattle.std.specs.Hash as fed;
 ghost use Rattle.sketch_base.specs.Hashes.{fed_bytes};
 ghost use Rattle.datasketches_c.specs.Numbers.{OnRefused, ok, refusal_number};
-ghost use Rattle.datasketches_c.specs.Texts.{AreTexts, texts_of};
+ghost use Rattle.datasketches_c.specs.Texts.{AreTextsIn, texts_of};
 ghost use Rattle.datasketches_c.specs.Weights.{CountsWeights};
 
 use crate::status_code::{OK, refusal_number};
@@ -73,8 +73,7 @@ pub(crate) fn count_weighted_texts<T: CountMinValue>(
     offsets: &[u64],
     weights: &[T],
 ) -> i32
-    requires texts { AreTexts bytes.now offsets.now }
-    requires same { length weights.now + 1 ≡ length offsets.now }
+    requires { AreTextsIn (length weights.now) bytes.now offsets.now }
     ensures counted { sketch.old.total + sum_by (λ weight. unsigned_abs (T.number weight)) weights.now ≤ T.greatest
         → (result ≡ ok) × CountsWeights (fed_bytes fed.str) T.number sketch.old (texts_of bytes.now offsets.now) weights.now
         sketch.new }

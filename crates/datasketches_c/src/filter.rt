@@ -12,7 +12,7 @@ ghost use Rattle.datasketches_c.specs.Images.{WritesImage, IsRefusedImage};
 ghost use Rattle.datasketches_c.specs.Joining.{IsCombined, joined};
 ghost use Rattle.datasketches_c.specs.Kinds.{OnFilter, HoldsFilter};
 ghost use Rattle.datasketches_c.specs.Numbers.{OnDone, OnRefused, ok, no, yes, no_room, refusal_number};
-ghost use Rattle.datasketches_c.specs.Texts.{AreTexts, texts_of};
+ghost use Rattle.datasketches_c.specs.Texts.{AreTexts, AreTextsIn, texts_of};
 ghost use Rattle.datasketches_c.specs.declared.any_sketch.AnySketch.TheVariants.{Filter};
 
 use crate::any_sketch::AnySketch;
@@ -256,8 +256,7 @@ pub(crate) fn contains_texts(
     offsets: &[u64],
     answers: &mut [bool],
 )
-    requires texts { AreTexts bytes.now offsets.now }
-    requires same { length answers.old + 1 ≡ length offsets.now }
+    requires { AreTextsIn (length answers.old) bytes.now offsets.now }
     ensures { answers.new ≡ map (λ text. contains_item filter.now (fed_bytes fed.str text)) (texts_of bytes.now offsets.now) }
 {
     let count = num_texts(bytes, offsets);
@@ -291,23 +290,6 @@ impl Joins<SetOperation> for BloomFilter {
     }
 }
 
-/// Does a set operation on the filter of a handle. The other filter stays.
-fn set_against(
-    alloc: Global,
-    handle: &mut SketchHandle,
-    other: &mut SketchHandle,
-    operation: SetOperation,
-) -> i32
-    ensures other { other.new.value ≡ other.old.value }
-    ensures refused { OnRefused result (handle.new.value ≡ handle.old.value) }
-    ensures call { OnFilter handle.old.value handle.new.value result (λ a.
-        OnFilter other.old.value other.new.value result (λ b.
-        (IsCompatible a b → (result ≡ ok) × (handle.new.value ≡ Some (Filter (joined operation a b))))
-        × (¬ IsCompatible a b → result ≡ refusal_number Fault.Mismatch))) }
-{
-    join::<BloomFilter, SetOperation>(alloc, handle, other, operation)
-}
-
 /// Adds the positions of the other filter's set. The other filter stays.
 #[unsafe(no_mangle)]
 pub extern "C" fn ds_filter_union(
@@ -322,7 +304,7 @@ pub extern "C" fn ds_filter_union(
         (IsCompatible a b → (result ≡ ok) × (handle.new.value ≡ Some (Filter (united a b))))
         × (¬ IsCompatible a b → result ≡ refusal_number Fault.Mismatch))) }
 {
-    set_against(alloc, handle, other, SetOperation::Union)
+    join::<BloomFilter, SetOperation>(alloc, handle, other, SetOperation::Union)
 }
 
 /// Keeps only the positions that are also in the other filter's set. The other filter stays.
@@ -339,7 +321,7 @@ pub extern "C" fn ds_filter_intersect(
         (IsCompatible a b → (result ≡ ok) × (handle.new.value ≡ Some (Filter (intersected a b))))
         × (¬ IsCompatible a b → result ≡ refusal_number Fault.Mismatch))) }
 {
-    set_against(alloc, handle, other, SetOperation::Intersection)
+    join::<BloomFilter, SetOperation>(alloc, handle, other, SetOperation::Intersection)
 }
 
 /// Takes the positions of the other filter's set away. The other filter stays.
@@ -356,7 +338,7 @@ pub extern "C" fn ds_filter_difference(
         (IsCompatible a b → (result ≡ ok) × (handle.new.value ≡ Some (Filter (subtracted a b))))
         × (¬ IsCompatible a b → result ≡ refusal_number Fault.Mismatch))) }
 {
-    set_against(alloc, handle, other, SetOperation::Difference)
+    join::<BloomFilter, SetOperation>(alloc, handle, other, SetOperation::Difference)
 }
 
 /// A filter's numbers.

@@ -7,7 +7,7 @@ ghost use Rattle.datasketches_c.specs.FrequentTextRows.{ReportsTexts, WritesText
 ghost use Rattle.datasketches_c.specs.FrequentTexts.{UpdatesText, TellsOfText};
 ghost use Rattle.datasketches_c.specs.InTurn.{CallsInTurn};
 ghost use Rattle.datasketches_c.specs.Numbers.{OnDone, OnRefused, ok, refusal_number, no_room};
-ghost use Rattle.datasketches_c.specs.Texts.{AreTexts, texts_of, offsets_from};
+ghost use Rattle.datasketches_c.specs.Texts.{AreTexts, AreTextsIn, texts_of, offsets_from};
 
 use crate::frequent::{FrequentBounds, add, bounds_of};
 use crate::frequent_rows::{copy_bounds, error_type_of};
@@ -81,8 +81,7 @@ pub(crate) fn bounds_of_texts(
     offsets: &[u64],
     bounds: &mut [FrequentBounds],
 ) -> i32
-    requires texts { AreTexts bytes.now offsets.now }
-    requires same { length bounds.old + 1 ≡ length offsets.now }
+    requires { AreTextsIn (length bounds.old) bytes.now offsets.now }
     ensures { TellsOfTexts sketch.now (texts_of bytes.now offsets.now) bounds.old bounds.new result }
 {
     let count = num_texts(bytes, offsets);

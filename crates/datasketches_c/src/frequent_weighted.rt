@@ -3,7 +3,7 @@ ghost use Rattle.std.specs.Prelude.{◌≡◌, ◌+◌, ◌≤◌, ◌↔◌, le
 ghost use Rattle.datasketches_c.specs.FrequentCalls.{Updates};
 ghost use Rattle.datasketches_c.specs.FrequentTexts.{UpdatesText};
 ghost use Rattle.datasketches_c.specs.Numbers.{greatest_u64};
-ghost use Rattle.datasketches_c.specs.Texts.{AreTexts, texts_of};
+ghost use Rattle.datasketches_c.specs.Texts.{AreTextsIn, texts_of};
 ghost use Rattle.datasketches_c.specs.Weights.{AddsWeights};
 
 use crate::frequent::add;
@@ -58,8 +58,7 @@ pub(crate) fn add_weighted_texts(
     offsets: &[u64],
     weights: &[u64],
 ) -> i32
-    requires texts { AreTexts bytes.now offsets.now }
-    requires same { length weights.now + 1 ≡ length offsets.now }
+    requires { AreTextsIn (length weights.now) bytes.now offsets.now }
     ensures { AddsWeights UpdatesText sketch.old (texts_of bytes.now offsets.now) weights.now sketch.new result }
 {
     if !weights_fit(sketch.total_weight(), weights) {

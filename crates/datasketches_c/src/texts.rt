@@ -4,7 +4,7 @@
 //! who has 32-bit offsets widens them.
 ghost use Rattle.std.specs.Prelude.{◌≡◌, ◌+◌, ◌<◌, ◌↔◌, [], length, slice_index_or, All, IsTrue, MatchOption};
 ghost use Rattle.std.specs.Str.{IsUtf8};
-ghost use Rattle.datasketches_c.specs.Texts.{AreOffsets, AreTexts, AreRefused, AreRefusedIn, texts_of};
+ghost use Rattle.datasketches_c.specs.Texts.{AreOffsets, AreTexts, AreTextsIn, AreRefused, AreRefusedIn, texts_of};
 
 use crate::status_code::{BAD_OFFSETS, NO_ROOM, refusal_number};
 use sketch_base::Fault;
@@ -82,7 +82,7 @@ pub(crate) fn refusal_of_texts(bytes: &[u8], offsets: &[u64]) -> Option<i32>
 
 /// The answer that refuses the texts of a buffer, unless each is there and is UTF-8, and has one of so many places.
 pub(crate) fn refusal_of_texts_in(places: usize, bytes: &[u8], offsets: &[u64]) -> Option<i32>
-    ensures { MatchOption result (AreTexts bytes.now offsets.now × (places + 1 ≡ length offsets.now))
+    ensures { MatchOption result (AreTextsIn places bytes.now offsets.now)
         (AreRefusedIn places bytes.now offsets.now) }
 {
     if !are_offsets(bytes, offsets) {

@@ -6,14 +6,14 @@ use Rattle.datasketches_c.proofs.many_texts.ds_frequent_text_bounds_all.Goals as
 
 -- the handle has no sketch, or one of another kind
 pub returns-in_default-take : goal.returns-in_default-take
-returns-in_default-take c = record { kept = c.in_default-take.ensures.emptied ∙ sym c.in_default-take.ensures.sketch; bad_offsets = λ not. absurd (not c.in_default.ensures.0.ends); no_room = λ ends other. absurd (other c.in_default.ensures.1); no_text = λ ends same not. absurd (not c.in_default.ensures.0.utf8); bounds = λ texts same. on_none_said frequent_texts_of c.args.handle.now.value c.take.new.self.value no_sketch _ c.in_default-take.ensures.sketch c.in_default-take.ensures.emptied refl }
+returns-in_default-take c = record { kept = c.in_default-take.ensures.emptied ∙ sym c.in_default-take.ensures.sketch; bad_offsets = λ not. absurd (not c.in_default.ensures.texts.ends); no_room = λ ends other. absurd (other c.in_default.ensures.same); no_text = λ ends same not. absurd (not c.in_default.ensures.texts.utf8); bounds = λ texts same. on_none_said frequent_texts_of c.args.handle.now.value c.take.new.self.value no_sketch _ c.in_default-take.ensures.sketch c.in_default-take.ensures.emptied refl }
 
 pub returns-in-None : goal.returns-in-None
-returns-in-None c = record { kept = c.give-in-None.ensures ∙ sym (c.in-Some-take.ensures.sketch ∙ ap Some (sym c.deref_mut.ensures.value)); bad_offsets = λ not. absurd (not c.in_default.ensures.0.ends); no_room = λ ends other. absurd (other c.in_default.ensures.1); no_text = λ ends same not. absurd (not c.in_default.ensures.0.utf8); bounds = λ texts same. on_other_said frequent_texts_of c.args.handle.now.value c.give-in-None.new.self.value c.deref_mut.result.now wrong_kind _ (c.in-Some-take.ensures.sketch ∙ ap Some (sym c.deref_mut.ensures.value)) c.in-None.ensures.which c.give-in-None.ensures refl }
+returns-in-None c = record { kept = c.give-in-None.ensures ∙ sym (c.in-Some-take.ensures.sketch ∙ ap Some (sym c.deref_mut.ensures.value)); bad_offsets = λ not. absurd (not c.in_default.ensures.texts.ends); no_room = λ ends other. absurd (other c.in_default.ensures.same); no_text = λ ends same not. absurd (not c.in_default.ensures.texts.utf8); bounds = λ texts same. on_other_said frequent_texts_of c.args.handle.now.value c.give-in-None.new.self.value c.deref_mut.result.now wrong_kind _ (c.in-Some-take.ensures.sketch ∙ ap Some (sym c.deref_mut.ensures.value)) c.in-None.ensures.which c.give-in-None.ensures refl }
 
 -- the texts are texts
 pub returns-in-Some-part_of-clause-bad_offsets : goal.returns-in-Some-part_of-clause-bad_offsets
-returns-in-Some-part_of-clause-bad_offsets c = λ not. absurd (not c.in_default.ensures.0.ends)
+returns-in-Some-part_of-clause-bad_offsets c = λ not. absurd (not c.in_default.ensures.texts.ends)
 
 pub returns-in-Some-part_of-clause-no_text : goal.returns-in-Some-part_of-clause-no_text
-returns-in-Some-part_of-clause-no_text c = λ ends same not. absurd (not c.in_default.ensures.0.utf8)
+returns-in-Some-part_of-clause-no_text c = λ ends same not. absurd (not c.in_default.ensures.texts.utf8)
