@@ -1,7 +1,7 @@
 -- What is said of a handle's sketch of a kind.
-use Rattle.std.proofs.Common.{◌≡◌, Option, None, Some, ℤ, pos, negsuc, sym, ap, ◌∙◌, subst}
-use Rattle.datasketches_c.specs.Kinds.{OnPart, OnKind, OfPart, HoldsKind}
-use Rattle.datasketches_c.specs.Numbers.{OnRefused, no_sketch, wrong_kind}
+use Rattle.std.proofs.Common.{◌≡◌, Option, None, Some, ℤ, pos, negsuc, refl, sym, ap, ◌∙◌, subst}
+use Rattle.datasketches_c.specs.Kinds.{OnPart, OnKind, OfPart, HoldsKind, WritesDown}
+use Rattle.datasketches_c.specs.Numbers.{OnRefused, ok, no_sketch, wrong_kind}
 use Rattle.datasketches_c.specs.declared.any_sketch.AnySketch.{AnySketch}
 
 module _ {S : Type 0} (part : AnySketch → Option S) where
@@ -74,3 +74,18 @@ module _ {S : Type 0} (part : AnySketch → Option S) where
       → OnRefused result (t ≡ s) → OnRefused result (new ≡ old)
   kept_when_refused whole old new held s t (pos n) old_is held_is new_is same = tt
   kept_when_refused whole old new held s t (negsuc n) old_is held_is new_is same = new_is ∙ (ap (λ (u : S). Some (whole u)) same ∙ (ap Some (sym held_is) ∙ sym old_is))
+
+  -- a call that asked the handle's sketch, one that found none, and one that found another kind
+  pub wrote_down : {P : Type 0} (old new : Option AnySketch) (held : AnySketch) (s : S) (before now : P) (Said : S → Type 0) → old ≡ Some held → part held ≡ Some s → new ≡ Some held → Said s
+      → WritesDown part old new ok before now Said
+  wrote_down old new held s before now Said is which back said =
+      record { kept = back ∙ sym is; told = on_kind_said old new held s ok (λ a. (ok ≡ ok) × Said a) is which (refl, said); untouched = tt }
+
+  pub none_written : {P : Type 0} (old new : Option AnySketch) (there : P) (Said : S → Type 0) → old ≡ None → new ≡ None → WritesDown part old new no_sketch there there Said
+  none_written old new there Said is now =
+      record { kept = now ∙ sym is; told = on_none_said old new no_sketch (λ a. (no_sketch ≡ ok) × Said a) is now refl; untouched = refl }
+
+  pub other_written : {P : Type 0} (old new : Option AnySketch) (held : AnySketch) (there : P) (Said : S → Type 0) → old ≡ Some held → part held ≡ None → new ≡ Some held
+      → WritesDown part old new wrong_kind there there Said
+  other_written old new held there Said is which now =
+      record { kept = now ∙ sym is; told = on_other_said old new held wrong_kind (λ a. (wrong_kind ≡ ok) × Said a) is which now refl; untouched = refl }

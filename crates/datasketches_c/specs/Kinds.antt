@@ -5,7 +5,7 @@ use Rattle.std.specs.declared.string.String.{String}
 use Rattle.sketch_bloom.specs.State.{FilterState}
 use Rattle.sketch_countmin.specs.State.{CountState}
 use Rattle.sketch_frequencies.specs.State.{FrequentState}
-use Rattle.datasketches_c.specs.Numbers.{no_sketch, wrong_kind}
+use Rattle.datasketches_c.specs.Numbers.{OnRefused, ok, no_sketch, wrong_kind}
 use Rattle.datasketches_c.specs.declared.any_sketch.AnySketch.{AnySketch}
 use Rattle.datasketches_c.specs.declared.any_sketch.AnySketch.TheVariants.{Filter, CountI64, CountU64, FrequentI64, FrequentTexts, FrequentU64}
 
@@ -27,6 +27,14 @@ module _ {S : Type 0} (part : AnySketch → Option S) where
   abbrev pub HoldsKind : Option AnySketch → (S → Type 0) → Type 0
   HoldsKind (Some held) said = OfPart (part held) said
   HoldsKind None said = ⊥
+
+-- a call asks a handle's sketch, and writes the answer down: the handle keeps what it has, and where the call is refused stands what stood
+pub record WritesDown
+    {S P : Type 0} (part : AnySketch → Option S) (old new : Option AnySketch) (result : ℤ) (place_old place_new : P) (said : S → Type 0)
+    : Type 0 where
+  pub kept : new ≡ old
+  pub told : OnKind part old new result (λ s. (result ≡ ok) × said s)
+  pub untouched : OnRefused result (place_new ≡ place_old)
 
 -- the filter that a sketch of any kind is
 abbrev pub filter_of : AnySketch → Option FilterState

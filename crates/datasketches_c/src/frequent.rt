@@ -13,7 +13,7 @@ ghost use Rattle.datasketches_c.specs.FrequentImages.{WritesFrequent, IsRestored
 ghost use Rattle.datasketches_c.specs.FrequentRows.{WritesRows, error_type};
 ghost use Rattle.datasketches_c.specs.FrequentTexts.{text_eq};
 ghost use Rattle.datasketches_c.specs.Images.{IsRefusedImage};
-ghost use Rattle.datasketches_c.specs.Kinds.{OnKind, HoldsKind};
+ghost use Rattle.datasketches_c.specs.Kinds.{OnKind, HoldsKind, WritesDown};
 ghost use Rattle.datasketches_c.specs.Numbers.{OnDone, OnRefused, ok, no_room, refusal_number};
 ghost use Rattle.datasketches_c.specs.Weights.{AddsWeights};
 
@@ -174,10 +174,8 @@ pub(crate) fn bounds<T: Eq + Hash + Drop>(
 ) -> i32
 where
     FrequentItemsSketch<T>: Kind,
-    ensures kept { handle.new.value ≡ handle.old.value }
-    ensures bounds { OnKind (⟦<FrequentItemsSketch<T> as Kind>⟧.part) handle.old.value handle.new.value result (λ s.
-        (result ≡ ok) × AreBounds T.eq s item.now bounds.new) }
-    ensures untouched { OnRefused result (bounds.new ≡ bounds.old) }
+    ensures { WritesDown (⟦<FrequentItemsSketch<T> as Kind>⟧.part) handle.old.value handle.new.value result bounds.old bounds.new (λ s.
+        AreBounds T.eq s item.now bounds.new) }
 {
     on_kind!(alloc, handle, FrequentItemsSketch<T>, sketch => {
         *bounds = bounds_of(sketch, item);
@@ -324,10 +322,8 @@ pub(crate) fn status<T: Eq + Hash + Drop>(
 ) -> i32
 where
     FrequentItemsSketch<T>: Kind,
-    ensures kept { handle.new.value ≡ handle.old.value }
-    ensures numbers { OnKind (⟦<FrequentItemsSketch<T> as Kind>⟧.part) handle.old.value handle.new.value result (λ s.
-        (result ≡ ok) × AreNumbers s status.new) }
-    ensures untouched { OnRefused result (status.new ≡ status.old) }
+    ensures { WritesDown (⟦<FrequentItemsSketch<T> as Kind>⟧.part) handle.old.value handle.new.value result status.old status.new (λ s.
+        AreNumbers s status.new) }
 {
     on_kind!(alloc, handle, FrequentItemsSketch<T>, sketch => {
         *status = status_of(sketch);
