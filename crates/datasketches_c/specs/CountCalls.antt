@@ -23,11 +23,17 @@ EstimatesAll part old new result bytes_of items estimates =
     OnKind part old new result (λ s. (result ≡ ok) × AreLeastCells s bytes_of items estimates)
 
 -- these are the sketch's numbers
+abbrev pub AreCountNumbers : CountStatus → CountState → Type 0
+AreCountNumbers status s =
+    (status.total_weight ≡ s.total) × (status.seed ≡ s.seed)
+    × (status.num_buckets ≡ s.buckets) × (status.num_hashes ≡ s.hashes)
+
 abbrev pub Describes : (part : AnySketch → Option CountState) → (old new : Option AnySketch) → ℤ → CountStatus → Type 0
-Describes part old new result status =
-    OnKind part old new result (λ s. (result ≡ ok)
-    × (status.total_weight ≡ s.total) × (status.seed ≡ s.seed)
-    × (status.num_buckets ≡ s.buckets) × (status.num_hashes ≡ s.hashes))
+Describes part old new result status = OnKind part old new result (λ s. (result ≡ ok) × AreCountNumbers status s)
+
+-- the bound is the estimate and the margin
+abbrev pub IsBound : (greatest : ℕ) → (bytes : List ℕ) → (bound : ℤ) → CountState → Type 0
+IsBound greatest bytes bound s = (estimate : ℤ) → IsLeastCell s bytes estimate → bound ≡ upper_bound_of greatest s estimate
 
 module _ (part : AnySketch → Option CountState) (greatest : ℕ) where
   -- a weight was added to the item's, or the total has no room for it
@@ -53,11 +59,8 @@ module _ (part : AnySketch → Option CountState) (greatest : ℕ) where
       (s.total + together ≤ greatest → (result ≡ ok) × HoldsKind part new (CountsWeights bytes_of number s items weights))
       × (greatest < s.total + together → result ≡ refusal_number WeightOverflow))
 
-  -- the bound is the estimate and the margin
   abbrev pub Bounds : (old new : Option AnySketch) → ℤ → (bytes : List ℕ) → (bound : ℤ) → Type 0
-  Bounds old new result bytes bound =
-      OnKind part old new result (λ s. (result ≡ ok)
-      × ((estimate : ℤ) → IsLeastCell s bytes estimate → bound ≡ upper_bound_of greatest s estimate))
+  Bounds old new result bytes bound = OnKind part old new result (λ s. (result ≡ ok) × IsBound greatest bytes bound s)
 
   -- the other sketch's cells and total were added, or the total has no room for both, or the shapes differ
   abbrev pub MergesInto : (old new : Option AnySketch) → ℤ → (other_old other_new : Option AnySketch) → Type 0

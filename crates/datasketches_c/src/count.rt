@@ -5,12 +5,12 @@ ghost use Rattle.sketch_base.specs.Errors.{refusal_of};
 ghost use Rattle.sketch_base.specs.Hashes.{fed_bytes};
 ghost use Rattle.sketch_countmin.specs.Image.{IsImage, early_fault_within, first_fault_within};
 ghost use Rattle.sketch_countmin.specs.Shapes.{shape_fault};
-ghost use Rattle.sketch_countmin.specs.State.{Counts, CountsAll, empty_state};
-ghost use Rattle.datasketches_c.specs.CountCalls.{AddsWeight, AddsEach, AddsWeights, Estimates, EstimatesAll, Bounds, MergesInto, Describes};
+ghost use Rattle.sketch_countmin.specs.State.{Counts, CountsAll, IsLeastCell, empty_state};
+ghost use Rattle.datasketches_c.specs.CountCalls.{AddsWeight, AddsEach, AddsWeights, EstimatesAll, AreCountNumbers, IsBound, MergesInto};
 ghost use Rattle.datasketches_c.specs.CountJoins.{IsJoined};
 ghost use Rattle.datasketches_c.specs.Estimates.{AreLeastCells};
 ghost use Rattle.datasketches_c.specs.Images.{IsRefusedImage};
-ghost use Rattle.datasketches_c.specs.Kinds.{HoldsKind};
+ghost use Rattle.datasketches_c.specs.Kinds.{HoldsKind, WritesDown};
 ghost use Rattle.datasketches_c.specs.Numbers.{OnDone, OnRefused, ok, no_room, refusal_number};
 ghost use Rattle.datasketches_c.specs.Texts.{AreTexts, RefusesTexts, RefusesTextsIn, texts_of};
 
@@ -152,9 +152,8 @@ pub(crate) fn estimate<V: CountMinValue, I: Hash + Drop>(
 ) -> i32
 where
     CountMinSketch<V>: Kind,
-    ensures kept { handle.new.value ≡ handle.old.value }
-    ensures estimate { Estimates (⟦<CountMinSketch<V> as Kind>⟧.part) handle.old.value handle.new.value result (fed_bytes I.hash_input item) (V.number estimate.new) }
-    ensures untouched { OnRefused result (estimate.new ≡ estimate.old) }
+    ensures { WritesDown (⟦<CountMinSketch<V> as Kind>⟧.part) handle.old.value handle.new.value result estimate.old estimate.new (λ s.
+        IsLeastCell s (fed_bytes I.hash_input item) (V.number estimate.new)) }
 {
     on_kind!(alloc, handle, CountMinSketch<V>, sketch => {
         *estimate = sketch.estimate(item);
@@ -172,9 +171,8 @@ pub(crate) fn upper_bound<V: CountMinValue, I: Hash + Drop>(
 ) -> i32
 where
     CountMinSketch<V>: Kind,
-    ensures kept { handle.new.value ≡ handle.old.value }
-    ensures bound { Bounds (⟦<CountMinSketch<V> as Kind>⟧.part) V.greatest handle.old.value handle.new.value result (fed_bytes I.hash_input item) (V.number bound.new) }
-    ensures untouched { OnRefused result (bound.new ≡ bound.old) }
+    ensures { WritesDown (⟦<CountMinSketch<V> as Kind>⟧.part) handle.old.value handle.new.value result bound.old bound.new
+        (IsBound V.greatest (fed_bytes I.hash_input item) (V.number bound.new)) }
 {
     on_kind!(alloc, handle, CountMinSketch<V>, sketch => {
         *bound = sketch.upper_bound(item);
@@ -320,8 +318,7 @@ where
 
 /// The sketch's numbers.
 fn status_of<V: CountMinValue>(sketch: &CountMinSketch<V>) -> CountStatus
-    ensures { (result.total_weight ≡ sketch.now.total) × (result.seed ≡ sketch.now.seed)
-        × (result.num_buckets ≡ sketch.now.buckets) × (result.num_hashes ≡ sketch.now.hashes) }
+    ensures { AreCountNumbers result sketch.now }
 {
     CountStatus {
         total_weight: sketch.total_weight().to_number() as u64,
@@ -339,9 +336,8 @@ pub(crate) fn status<V: CountMinValue>(
 ) -> i32
 where
     CountMinSketch<V>: Kind,
-    ensures kept { handle.new.value ≡ handle.old.value }
-    ensures untouched { OnRefused result (status.new ≡ status.old) }
-    ensures numbers { Describes (⟦<CountMinSketch<V> as Kind>⟧.part) handle.old.value handle.new.value result status.new }
+    ensures { WritesDown (⟦<CountMinSketch<V> as Kind>⟧.part) handle.old.value handle.new.value result status.old status.new
+        (AreCountNumbers status.new) }
 {
     on_kind!(alloc, handle, CountMinSketch<V>, sketch => {
         *status = status_of(sketch);

@@ -9,7 +9,7 @@ ghost use Rattle.sketch_bloom.specs.Building.{request_fault, words_for};
 ghost use Rattle.sketch_bloom.specs.Image.{IsImage, IsSpelled, early_fault_within, first_fault_within};
 ghost use Rattle.sketch_bloom.specs.State.{empty_state, contains_item, inserted, all_inserted, IsCompatible, united, intersected, subtracted, capacity_of, cleared};
 ghost use Rattle.datasketches_c.specs.Images.{WritesImage, IsRefusedImage};
-ghost use Rattle.datasketches_c.specs.Joining.{IsCombined, joined};
+ghost use Rattle.datasketches_c.specs.Joining.{IsCombined};
 ghost use Rattle.datasketches_c.specs.Kinds.{OnFilter, HoldsFilter};
 ghost use Rattle.datasketches_c.specs.Numbers.{OnDone, OnRefused, ok, no, yes, no_room, refusal_number};
 ghost use Rattle.datasketches_c.specs.Texts.{AreTexts, AreTextsIn, texts_of};
