@@ -11,6 +11,11 @@ pub when_done : (result : ℤ) (P : Type 0) → P → OnDone result P
 when_done (pos n) P said = said
 when_done (negsuc n) P said = tt
 
+-- and of one that is refused
+pub when_refused : (result : ℤ) (P : Type 0) → P → OnRefused result P
+when_refused (pos n) P said = tt
+when_refused (negsuc n) P said = said
+
 -- the handle has the sketch that was made
 pub was_made : (result : ℤ) (new : Option AnySketch) (given made : AnySketch) → given ≡ made → OnDone result ((result ≡ ok) × (new ≡ Some given))
     → OnDone result ((result ≡ ok) × (new ≡ Some made))

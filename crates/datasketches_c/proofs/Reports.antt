@@ -1,12 +1,13 @@
 -- Reports on frequent items in buffers.
-use Rattle.std.proofs.Common.{◌≡◌, ℕ, ℤ, ◌<◌, ◌≤◌, Bool, List, ◌++◌, length, map, drop, ap, ◌∙◌, subst}
+use Rattle.std.proofs.Common.{◌≡◌, ℕ, ℤ, ◌<◌, ◌≤◌, Bool, List, ◌++◌, length, map, drop, refl, ap, ◌∙◌, subst}
 use Rattle.std.proofs.lemmas.List.{drop_at, take_at, length-map}
 use Rattle.sketch_frequencies.specs.RowValue.{RowValue}
 use Rattle.sketch_frequencies.specs.State.{FrequentState}
 use Rattle.sketch_frequencies.specs.declared.error_type.ErrorType.{ErrorType}
-use Rattle.datasketches_c.specs.FrequentRows.{AreRows, Reports, StandAtFront, bounds_in}
+use Rattle.datasketches_c.specs.FrequentRows.{AreRows, LeavesRows, Reports, StandAtFront, bounds_in}
 use Rattle.datasketches_c.specs.Numbers.{ok, no_room}
 use Rattle.datasketches_c.specs.declared.frequent.FrequentBounds.{FrequentBounds}
+use Rattle.datasketches_c.proofs.MakingLemmas.{when_refused}
 
 -- rows that were found and copied are a report
 pub copied_rows : {T : Type 0} (eq : T → T → Bool) (kind : ErrorType) (threshold : ℕ) (s : FrequentState T) (rows : List (RowValue T)) (items_old items_new : List T)
@@ -36,3 +37,7 @@ rows_stand {T} rows items_old items bounds_old bounds is_items is_bounds =
       bounds = take_at bounds (drop (length rows) bounds_old) (length rows) long_bounds ∙ is_bounds;
       behind_bounds = drop_at bounds (drop (length rows) bounds_old) (length rows) long_bounds;
     }
+
+-- a call that wrote nothing left all
+pub rows_left : {T : Type 0} (items : List T) (bounds : List FrequentBounds) (count : ℕ) (result : ℤ) → LeavesRows items items bounds bounds count count result
+rows_left items bounds count result = record { untouched = when_refused result ((items ≡ items) × (bounds ≡ bounds)) (refl, refl); uncounted = λ not other. refl }

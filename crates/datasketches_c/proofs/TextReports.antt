@@ -1,5 +1,5 @@
 -- Reports of texts in buffers.
-use Rattle.std.proofs.Common.{◌≡◌, ℕ, ◌+◌, ◌<◌, [], ◌++◌, List, length, map, take, drop, get_or, sym, ap, ◌∙◌}
+use Rattle.std.proofs.Common.{◌≡◌, ℕ, ℤ, ◌+◌, ◌<◌, [], ◌++◌, List, length, map, take, drop, get_or, refl, sym, ap, ◌∙◌}
 use Rattle.std.specs.Global.{Global}
 use Rattle.std.specs.List.{concat}
 use Rattle.std.specs.String.{string_bytes}
@@ -7,9 +7,10 @@ use Rattle.std.specs.declared.string.String.{String}
 use Rattle.std.proofs.lemmas.List.{take_at, drop_at, length-map, get_or-map}
 use Rattle.sketch_frequencies.specs.RowValue.{RowValue}
 use Rattle.datasketches_c.specs.FrequentRows.{bounds_in}
-use Rattle.datasketches_c.specs.FrequentTextRows.{TextBuffers, TextsStandAtFront, row_texts}
+use Rattle.datasketches_c.specs.FrequentTextRows.{LeavesTextRows, TextBuffers, TextsStandAtFront, row_texts}
 use Rattle.datasketches_c.specs.Texts.{texts_of, offsets_from}
 use Rattle.datasketches_c.specs.declared.frequent.FrequentBounds.{FrequentBounds}
+use Rattle.datasketches_c.proofs.MakingLemmas.{when_refused}
 use Rattle.datasketches_c.proofs.TextRows.{length-offsets_from, read_front}
 
 -- there are as many texts as rows
@@ -49,3 +50,10 @@ texts_stand rows old bytes offsets bounds n size is_bytes is_offsets is_bounds =
       behind_bounds = drop_at bounds (drop (length rows) old.bounds) (length rows) long_bounds;
       read_back = ap (texts_of (bytes ++ drop n old.bytes)) front_offsets ∙ read_front (bytes ++ drop n old.bytes) texts front_bytes;
     }
+
+-- a call that wrote nothing left all
+pub text_rows_left : (there : TextBuffers) (count num_bytes : ℕ) (result : ℤ) → LeavesTextRows there there count count num_bytes num_bytes result
+text_rows_left there count num_bytes result = record {
+  untouched = when_refused result ((there.bytes ≡ there.bytes) × (there.offsets ≡ there.offsets) × (there.bounds ≡ there.bounds)) (refl, refl, refl);
+  uncounted = λ not other. (refl, refl);
+}

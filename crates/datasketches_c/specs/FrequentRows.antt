@@ -1,12 +1,12 @@
 -- What a report on a frequent-items sketch writes into the caller's buffers.
-use Rattle.std.specs.Prelude.{◌≡◌, ◌⊎◌, ℕ, ℤ, ◌<◌, ◌≤◌, Bool, List, length, map, take, drop, if◌then◌else◌}
+use Rattle.std.specs.Prelude.{◌≡◌, ◌≢◌, ◌⊎◌, ℕ, ℤ, ◌<◌, ◌≤◌, Bool, List, length, map, take, drop, if◌then◌else◌}
 use Rattle.sketch_base.specs.declared.fault.Fault.TheVariants.{NoMemory}
 use Rattle.sketch_frequencies.specs.RowValue.{RowValue}
 use Rattle.sketch_frequencies.specs.Rows.{ShowsExactly, Descends, MissesNone, ShowsNoneBelow}
 use Rattle.sketch_frequencies.specs.State.{FrequentState}
 use Rattle.sketch_frequencies.specs.declared.error_type.ErrorType.{ErrorType}
 use Rattle.sketch_frequencies.specs.declared.error_type.ErrorType.TheVariants.{NoFalseNegatives, NoFalsePositives}
-use Rattle.datasketches_c.specs.Numbers.{ok, no_room, refusal_number}
+use Rattle.datasketches_c.specs.Numbers.{OnRefused, ok, no_room, refusal_number}
 use Rattle.datasketches_c.specs.declared.frequent.FrequentBounds.{FrequentBounds}
 
 -- which mistakes a report may make
@@ -25,6 +25,13 @@ pub record StandAtFront
   pub behind_items : drop (length rows) items_new ≡ drop (length rows) items_old
   pub bounds : take (length rows) bounds_new ≡ map bounds_in rows
   pub behind_bounds : drop (length rows) bounds_new ≡ drop (length rows) bounds_old
+
+-- what a report leaves that was refused: the buffers, and the count too unless they have no room
+pub record LeavesRows
+    {T : Type 0} (items_old items_new : List T) (bounds_old bounds_new : List FrequentBounds) (count_old count_new : ℕ) (result : ℤ)
+    : Type 0 where
+  pub untouched : OnRefused result ((items_new ≡ items_old) × (bounds_new ≡ bounds_old))
+  pub uncounted : result ≢ ok → result ≢ no_room → count_new ≡ count_old
 
 module _ {T : Type 0} (eq : T → T → Bool) (kind : ErrorType) (threshold : ℕ) (s : FrequentState T) where
   -- the rows that the report shows: those of the tracked items whose bound is above the threshold and the error

@@ -1,5 +1,5 @@
 -- What a report on a sketch of frequent texts writes into the caller's buffers.
-use Rattle.std.specs.Prelude.{◌≡◌, ◌⊎◌, ℕ, ℤ, ◌+◌, ◌<◌, ◌≤◌, List, length, map, take, drop}
+use Rattle.std.specs.Prelude.{◌≡◌, ◌≢◌, ◌⊎◌, ℕ, ℤ, ◌+◌, ◌<◌, ◌≤◌, List, length, map, take, drop}
 use Rattle.std.specs.List.{concat}
 use Rattle.std.specs.Global.{Global}
 use Rattle.std.specs.String.{string_bytes}
@@ -10,7 +10,7 @@ use Rattle.sketch_frequencies.specs.State.{FrequentState}
 use Rattle.sketch_frequencies.specs.declared.error_type.ErrorType.{ErrorType}
 use Rattle.datasketches_c.specs.FrequentRows.{AreRows, bounds_in}
 use Rattle.datasketches_c.specs.FrequentTexts.{text_eq}
-use Rattle.datasketches_c.specs.Numbers.{ok, no_room, refusal_number}
+use Rattle.datasketches_c.specs.Numbers.{OnRefused, ok, no_room, refusal_number}
 use Rattle.datasketches_c.specs.Texts.{texts_of, offsets_from}
 use Rattle.datasketches_c.specs.declared.frequent.FrequentBounds.{FrequentBounds}
 
@@ -47,6 +47,11 @@ pub record ReportsTexts
   pub few_bytes : length old.bytes < num_bytes → result ≡ no_room
   pub few_offsets : length old.offsets ≤ count → result ≡ no_room
   pub few_bounds : length old.bounds < count → result ≡ no_room
+
+-- what a report leaves that was refused: the buffers, and the counts too unless they have no room
+pub record LeavesTextRows (old new : TextBuffers) (count_old count_new num_bytes_old num_bytes_new : ℕ) (result : ℤ) : Type 0 where
+  pub untouched : OnRefused result ((new.bytes ≡ old.bytes) × (new.offsets ≡ old.offsets) × (new.bounds ≡ old.bounds))
+  pub uncounted : result ≢ ok → result ≢ no_room → (count_new ≡ count_old) × (num_bytes_new ≡ num_bytes_old)
 
 -- a report was made, or there was no memory for it
 abbrev pub WritesTextRows :

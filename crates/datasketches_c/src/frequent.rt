@@ -10,7 +10,7 @@ ghost use Rattle.sketch_frequencies.specs.State.{empty_state};
 ghost use Rattle.datasketches_c.specs.FrequentBatches.{AreBoundsOfAll};
 ghost use Rattle.datasketches_c.specs.FrequentCalls.{Updates, UpdatesMany, MergesInto, Empties, AreBounds, AreNumbers};
 ghost use Rattle.datasketches_c.specs.FrequentImages.{WritesFrequent, IsRestored};
-ghost use Rattle.datasketches_c.specs.FrequentRows.{WritesRows, error_type};
+ghost use Rattle.datasketches_c.specs.FrequentRows.{LeavesRows, WritesRows, error_type};
 ghost use Rattle.datasketches_c.specs.FrequentTexts.{text_eq};
 ghost use Rattle.datasketches_c.specs.Images.{IsRefusedImage};
 ghost use Rattle.datasketches_c.specs.Kinds.{OnKind, HoldsKind, WritesDown};
@@ -275,8 +275,7 @@ where
     FrequentItemsSketch<T>: Kind,
     requires clones { (x y : T) → T.is_clone x y → IsTrue (T.eq x y) }
     ensures kept { handle.new.value ≡ handle.old.value }
-    ensures untouched { OnRefused result ((items.new ≡ items.old) × (bounds.new ≡ bounds.old)) }
-    ensures uncounted { result ≢ ok → result ≢ no_room → count.new ≡ count.old }
+    ensures left { LeavesRows items.old items.new bounds.old bounds.new count.old count.new result }
     ensures rows { OnKind (⟦<FrequentItemsSketch<T> as Kind>⟧.part) handle.old.value handle.new.value result (λ s.
         WritesRows T.eq (error_type no_false_negatives) threshold s items.old items.new bounds.old bounds.new count.new
         result) }

@@ -1,7 +1,7 @@
 //! Reports on frequent items, whatever these are: rows in the caller's buffers.
-ghost use Rattle.std.specs.Prelude.{◌≡◌, ◌≢◌, ◌<◌, ◌≤◌, IsTrue, length, map};
-ghost use Rattle.datasketches_c.specs.FrequentRows.{StandAtFront, WritesRows, bounds_in, error_type};
-ghost use Rattle.datasketches_c.specs.Numbers.{OnRefused, ok, no_room};
+ghost use Rattle.std.specs.Prelude.{◌≡◌, ◌<◌, ◌≤◌, IsTrue, length, map};
+ghost use Rattle.datasketches_c.specs.FrequentRows.{LeavesRows, StandAtFront, WritesRows, bounds_in, error_type};
+ghost use Rattle.datasketches_c.specs.Numbers.{ok, no_room};
 
 use crate::frequent::FrequentBounds;
 use crate::status_code::{NO_ROOM, OK, refusal_number};
@@ -20,8 +20,7 @@ pub(crate) fn write_rows<T: Eq + Hash + Clone + Copy + Drop>(
     requires clones { (x y : T) → T.is_clone x y → IsTrue (T.eq x y) }
     ensures rows { WritesRows T.eq (error_type no_false_negatives) threshold sketch.now items.old items.new
         bounds.old bounds.new count.new result }
-    ensures untouched { OnRefused result ((items.new ≡ items.old) × (bounds.new ≡ bounds.old)) }
-    ensures uncounted { result ≢ ok → result ≢ no_room → count.new ≡ count.old }
+    ensures left { LeavesRows items.old items.new bounds.old bounds.new count.old count.new result }
 {
     match sketch.frequent_items_with_threshold(error_type_of(no_false_negatives), threshold) {
         Ok(rows) => copy_rows(&rows, items, bounds, count),
@@ -52,8 +51,7 @@ fn copy_rows<T: Copy>(
         → (result ≡ ok) × StandAtFront rows.now items.old items.new bounds.old bounds.new }
     ensures few_items { length items.old < length rows.now → result ≡ no_room }
     ensures few_bounds { length bounds.old < length rows.now → result ≡ no_room }
-    ensures untouched { OnRefused result ((items.new ≡ items.old) × (bounds.new ≡ bounds.old)) }
-    ensures uncounted { result ≢ ok → result ≢ no_room → count.new ≡ count.old }
+    ensures left { LeavesRows items.old items.new bounds.old bounds.new count.old count.new result }
 {
     let needed = rows.len();
     *count = needed;

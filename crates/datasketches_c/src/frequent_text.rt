@@ -1,12 +1,12 @@
 //! Sketches of frequent texts: a text is made an item, many texts are added and asked for, and reports have texts.
 ghost use Rattle.std.specs.List.{concat};
-ghost use Rattle.std.specs.Prelude.{◌≡◌, ◌≢◌, ◌+◌, length, ◌≤◌, ◌^◌, ◌⊎◌, MatchOption};
+ghost use Rattle.std.specs.Prelude.{◌≡◌, ◌+◌, length, ◌≤◌, ◌^◌, ◌⊎◌, MatchOption};
 ghost use Rattle.datasketches_c.specs.FrequentBatches.{TellsOfTexts};
 ghost use Rattle.datasketches_c.specs.FrequentRows.{error_type};
-ghost use Rattle.datasketches_c.specs.FrequentTextRows.{ReportsTexts, WritesTextRows, row_texts};
+ghost use Rattle.datasketches_c.specs.FrequentTextRows.{LeavesTextRows, ReportsTexts, WritesTextRows, row_texts};
 ghost use Rattle.datasketches_c.specs.FrequentTexts.{UpdatesText, TellsOfText};
 ghost use Rattle.datasketches_c.specs.InTurn.{CallsInTurn};
-ghost use Rattle.datasketches_c.specs.Numbers.{OnDone, OnRefused, ok, refusal_number, no_room};
+ghost use Rattle.datasketches_c.specs.Numbers.{OnDone, OnRefused, ok, refusal_number};
 ghost use Rattle.datasketches_c.specs.Texts.{AreTexts, AreTextsIn, texts_of, offsets_from};
 
 use crate::frequent::{FrequentBounds, add, bounds_of};
@@ -139,10 +139,8 @@ fn copy_rows(
     ensures report { ReportsTexts rows.now (record { bytes = bytes.old; offsets = offsets.old; bounds = bounds.old })
         (record { bytes = bytes.new; offsets = offsets.new; bounds = bounds.new }) count.new num_bytes.new result
         ⊎ (result ≡ refusal_number Fault.NoMemory) }
-    ensures untouched { OnRefused result
-        ((bytes.new ≡ bytes.old) × (offsets.new ≡ offsets.old) × (bounds.new ≡ bounds.old)) }
-    ensures uncounted { result ≢ ok → result ≢ no_room
-        → (count.new ≡ count.old) × (num_bytes.new ≡ num_bytes.old) }
+    ensures left { LeavesTextRows (record { bytes = bytes.old; offsets = offsets.old; bounds = bounds.old })
+        (record { bytes = bytes.new; offsets = offsets.new; bounds = bounds.new }) count.old count.new num_bytes.old num_bytes.new result }
 {
     let Some(length) = num_bytes_of(rows) else {
         return refusal_number(Fault::NoMemory);
@@ -173,10 +171,8 @@ pub(crate) fn write_rows(
     ensures rows { WritesTextRows (error_type no_false_negatives) threshold sketch.now
         (record { bytes = bytes.old; offsets = offsets.old; bounds = bounds.old })
         (record { bytes = bytes.new; offsets = offsets.new; bounds = bounds.new }) count.new num_bytes.new result }
-    ensures untouched { OnRefused result
-        ((bytes.new ≡ bytes.old) × (offsets.new ≡ offsets.old) × (bounds.new ≡ bounds.old)) }
-    ensures uncounted { result ≢ ok → result ≢ no_room
-        → (count.new ≡ count.old) × (num_bytes.new ≡ num_bytes.old) }
+    ensures left { LeavesTextRows (record { bytes = bytes.old; offsets = offsets.old; bounds = bounds.old })
+        (record { bytes = bytes.new; offsets = offsets.new; bounds = bounds.new }) count.old count.new num_bytes.old num_bytes.new result }
 {
     match sketch.frequent_items_with_threshold(error_type_of(no_false_negatives), threshold) {
         Ok(rows) => copy_rows(&rows, bytes, offsets, bounds, count, num_bytes),

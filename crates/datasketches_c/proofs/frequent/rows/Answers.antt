@@ -2,6 +2,7 @@ use Rattle.std.proofs.Common.{Some, refl, sym, ap, ◌∙◌, rules}
 use Rattle.datasketches_c.specs.FrequentRows.{WritesRows, error_type}
 use Rattle.datasketches_c.specs.Numbers.{no_sketch, wrong_kind}
 use Rattle.datasketches_c.proofs.KindLemmas.{on_kind_said, on_none_said, on_other_said}
+use Rattle.datasketches_c.proofs.Reports.{rows_left}
 use Rattle.datasketches_c.proofs.frequent.rows.Goals as goal
 
 -- the rows were written, and the sketch is put back
@@ -15,3 +16,9 @@ returns-in_default-clause-rows g c = on_none_said g.bound-5.part c.args.handle.n
 
 pub returns-in-None-clause-rows : goal.returns-in-None-clause-rows
 returns-in-None-clause-rows g c = on_other_said g.bound-5.part c.args.handle.now.value c.give-in-None.new.self.value c.deref_mut.result.now wrong_kind _ (c.in-Some.ensures.sketch ∙ ap Some (sym c.deref_mut.ensures.value)) c.in-None.ensures.which c.give-in-None.ensures refl
+
+pub returns-in_default-clause-left : goal.returns-in_default-clause-left
+returns-in_default-clause-left g c = rows_left c.args.items.now c.args.bounds.now c.args.count.now _
+
+pub returns-in-None-clause-left : goal.returns-in-None-clause-left
+returns-in-None-clause-left g c = rows_left c.args.items.now c.args.bounds.now c.args.count.now _

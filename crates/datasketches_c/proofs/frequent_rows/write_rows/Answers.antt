@@ -1,7 +1,7 @@
 use Rattle.std.proofs.Common.{rules, sym, subst}
 use Rattle.sketch_frequencies.specs.declared.error_type.ErrorType.{ErrorType}
 use Rattle.datasketches_c.specs.FrequentRows.{AreRows, error_type}
-use Rattle.datasketches_c.proofs.Reports.{copied_rows}
+use Rattle.datasketches_c.proofs.Reports.{copied_rows, rows_left}
 use Rattle.datasketches_c.proofs.frequent_rows.write_rows.Goals as goal
 
 -- the rows were found, and copied where there was room
@@ -20,3 +20,6 @@ returns-in-Ok-clause-rows g c =
     let said = copied_rows eq kind threshold sketch rows c.args.items.now c.copy_rows.new.items c.args.bounds.now c.copy_rows.new.bounds c.copy_rows.new.count c.copy_rows.result
     (subst (AreRows eq kind threshold sketch) (sym c.deref.ensures.value) are) copied.counted copied.written copied.few_items copied.few_bounds in
     search rules
+
+pub returns-in-Err-clause-left : goal.returns-in-Err-clause-left
+returns-in-Err-clause-left g c = rows_left c.args.items.now c.args.bounds.now c.args.count.now _
