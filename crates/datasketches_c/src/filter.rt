@@ -12,7 +12,6 @@ ghost use Rattle.datasketches_c.specs.Images.{WritesImage, IsRefusedImage};
 ghost use Rattle.datasketches_c.specs.Joining.{IsCombined};
 ghost use Rattle.datasketches_c.specs.Kinds.{OnFilter, HoldsFilter};
 ghost use Rattle.datasketches_c.specs.Numbers.{OnDone, OnRefused, ok, no, yes, no_room, refusal_number};
-ghost use Rattle.datasketches_c.specs.Texts.{AreTexts, AreTextsIn, texts_of};
 ghost use Rattle.datasketches_c.specs.declared.any_sketch.AnySketch.TheVariants.{Filter};
 
 use crate::any_sketch::AnySketch;
@@ -21,7 +20,7 @@ use crate::images::{HasImage, copy_out, to_bytes};
 use crate::join::{Joins, join};
 use crate::kind::on_kind;
 use crate::status_code::{NO, NO_ROOM, OK, YES, refusal_number};
-use crate::texts::{num_texts, on_text, text_at};
+use crate::texts::on_text;
 use sketch_base::Fault;
 use sketch_bloom::{BloomFilter, BloomFilterBuilder};
 use std::alloc::Global;
@@ -236,34 +235,6 @@ pub extern "C" fn ds_filter_contains_all_i64(
     ensures untouched { OnRefused result (answers.new ≡ answers.old) }
 {
     contains_all(alloc, handle, items, answers)
-}
-
-/// Inserts each text of a buffer.
-pub(crate) fn insert_texts(filter: &mut BloomFilter, bytes: &[u8], offsets: &[u64])
-    requires { AreTexts bytes.now offsets.now }
-    ensures { filter.new ≡ all_inserted filter.old (map (fed_bytes fed.str) (texts_of bytes.now offsets.now)) }
-{
-    let count = num_texts(bytes, offsets);
-    'each: for i in 0..count {
-        filter.insert(text_at(bytes, offsets, i));
-    }
-}
-
-/// Writes down for each text of a buffer whether the filter contains it.
-pub(crate) fn contains_texts(
-    filter: &BloomFilter,
-    bytes: &[u8],
-    offsets: &[u64],
-    answers: &mut [bool],
-)
-    requires { AreTextsIn (length answers.old) bytes.now offsets.now }
-    ensures { answers.new ≡ map (λ text. contains_item filter.now (fed_bytes fed.str text)) (texts_of bytes.now offsets.now) }
-{
-    let count = num_texts(bytes, offsets);
-    'each: for i in 0..count {
-        let text = text_at(bytes, offsets, i);
-        answers[i] = filter.contains(&text);
-    }
 }
 
 /// What becomes of the first of two filters.

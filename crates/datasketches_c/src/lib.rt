@@ -11,6 +11,7 @@ mod count_texts;
 mod count_update;
 mod count_weighted;
 mod filter;
+mod filter_texts;
 mod frequent;
 mod frequent_items;
 mod frequent_rows;

@@ -14,7 +14,7 @@ ghost use Rattle.datasketches_c.specs.Texts.{AreOffsets, AreTexts, texts_of};
 ghost use Rattle.datasketches_c.specs.declared.any_sketch.AnySketch.TheVariants.{Filter};
 
 use crate::count;
-use crate::filter::{contains_texts, insert_texts};
+use crate::filter_texts::{contains_texts, insert_texts};
 use crate::frequent::FrequentBounds;
 use crate::frequent_text::{bounds_of_texts, update_texts};
 use crate::handle::SketchHandle;

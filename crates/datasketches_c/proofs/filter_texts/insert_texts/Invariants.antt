@@ -3,7 +3,7 @@ use Rattle.std.specs.Hash as fed
 use Rattle.sketch_base.specs.Hashes.{fed_bytes}
 use Rattle.sketch_bloom.specs.State.{all_inserted}
 use Rattle.datasketches_c.specs.Texts.{texts_of}
-use Rattle.datasketches_c.proofs.filter.insert_texts.Given as goal
+use Rattle.datasketches_c.proofs.filter_texts.insert_texts.Given as goal
 
 -- the texts so far are inserted
 abbrev pub invariant-each : goal.invariant-each

@@ -4,7 +4,7 @@ use Rattle.sketch_base.specs.Batches.{written_more, written_all}
 use Rattle.sketch_base.specs.Hashes.{fed_bytes}
 use Rattle.sketch_bloom.specs.State.{contains_item}
 use Rattle.datasketches_c.specs.Texts.{texts_of}
-use Rattle.datasketches_c.proofs.filter.contains_texts.Goals as goal
+use Rattle.datasketches_c.proofs.filter_texts.contains_texts.Goals as goal
 
 pub each-preserved : goal.each-preserved
 each-preserved c =

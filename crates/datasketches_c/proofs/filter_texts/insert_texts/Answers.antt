@@ -4,7 +4,7 @@ use Rattle.sketch_base.specs.Hashes.{fed_bytes}
 use Rattle.sketch_bloom.specs.State.{inserted}
 use Rattle.datasketches_c.specs.Texts.{texts_of}
 use Rattle.datasketches_c.proofs.TextLemmas.{fold_more_texts, fold_all_texts}
-use Rattle.datasketches_c.proofs.filter.insert_texts.Goals as goal
+use Rattle.datasketches_c.proofs.filter_texts.insert_texts.Goals as goal
 
 pub each-preserved : goal.each-preserved
 each-preserved c =
