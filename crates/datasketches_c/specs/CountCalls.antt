@@ -28,6 +28,7 @@ AreCountNumbers status s =
     (status.total_weight ≡ s.total) × (status.seed ≡ s.seed)
     × (status.num_buckets ≡ s.buckets) × (status.num_hashes ≡ s.hashes)
 
+-- and those of a handle's sketch
 abbrev pub Describes : (part : AnySketch → Option CountState) → (old new : Option AnySketch) → ℤ → CountStatus → Type 0
 Describes part old new result status = OnKind part old new result (λ s. (result ≡ ok) × AreCountNumbers status s)
 
@@ -59,6 +60,7 @@ module _ (part : AnySketch → Option CountState) (greatest : ℕ) where
       (s.total + together ≤ greatest → (result ≡ ok) × HoldsKind part new (CountsWeights bytes_of number s items weights))
       × (greatest < s.total + together → result ≡ refusal_number WeightOverflow))
 
+  -- the bound is that of a handle's sketch
   abbrev pub Bounds : (old new : Option AnySketch) → ℤ → (bytes : List ℕ) → (bound : ℤ) → Type 0
   Bounds old new result bytes bound = OnKind part old new result (λ s. (result ≡ ok) × IsBound greatest bytes bound s)
 

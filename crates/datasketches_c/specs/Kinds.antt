@@ -28,7 +28,7 @@ module _ {S : Type 0} (part : AnySketch → Option S) where
   HoldsKind (Some held) said = OfPart (part held) said
   HoldsKind None said = ⊥
 
--- a call asks a handle's sketch, and writes the answer down: the handle keeps what it has, and where the call is refused stands what stood
+-- a call asks a handle's sketch, which the handle keeps, and writes the answer down; where it is refused, the place is as it was
 pub record WritesDown
     {S P : Type 0} (part : AnySketch → Option S) (old new : Option AnySketch) (result : ℤ) (place_old place_new : P) (said : S → Type 0)
     : Type 0 where
