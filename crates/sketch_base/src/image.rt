@@ -1,12 +1,14 @@
 //! The fields of images, which stand at fixed places, and what all images are checked for.
 //!
 //! Numbers have their lowest byte first. None of these calls takes memory.
-ghost use Rattle.std.specs.Prelude.{◌≡◌, ◌≢◌, ◌+◌, ◌<◌, ◌≤◌, length, OnOk, IfErr};
+ghost use Rattle.std.specs.Prelude.{◌≡◌, ◌≢◌, ◌+◌, ◌<◌, ◌≤◌, Some, length, MatchOption, OnOk, IfErr};
 ghost use Rattle.std.specs.Int.{Width, w16, w32, w64, byte_len, from_le_bytes};
+ghost use Rattle.sketch_base.specs.Checks.{Opens, first_failing, opening_checks};
 ghost use Rattle.sketch_base.specs.Errors.{invalid_data};
 ghost use Rattle.sketch_base.specs.Fields.{le_at, signed_le_at};
 
 use crate::error::Error;
+use crate::family::Family;
 use crate::fault::Fault;
 
 /// The version of the formats, which stands in each image.
@@ -41,6 +43,29 @@ pub fn check_version(version: u8) -> Result<(), Error>
         return Err(Error::invalid_data(Fault::BadVersion));
     }
     Ok(())
+}
+
+/// The fault of the first check that fails, of those with which every image is read: that it has so many bytes, 3 at
+/// least, that it is of this family, and that its version is the one that is read.
+///
+/// They are [`InsufficientData`](Fault::InsufficientData), [`BadFamily`](Fault::BadFamily) and
+/// [`BadVersion`](Fault::BadVersion).
+#[inline]
+pub fn opening_fault(image: &[u8], least: usize, family: Family) -> Option<Fault>
+    requires { 3 ≤ least }
+    ensures { MatchOption result (Opens least family.id image.now)
+        (λ fault. first_failing (opening_checks least family.id image.now) ≡ Some fault) }
+{
+    if image.len() < least {
+        return Some(Fault::InsufficientData);
+    }
+    if image[2] != family.id {
+        return Some(Fault::BadFamily);
+    }
+    if image[1] != SERIAL_VERSION {
+        return Some(Fault::BadVersion);
+    }
+    None
 }
 
 /// The `N` bytes at a place, which are those of the number there.

@@ -8,7 +8,7 @@ ghost use Rattle.sketch_bloom.specs.Image.{early_fault, preamble};
 ghost use Rattle.sketch_bloom.specs.Preamble.{IsPreamble};
 
 use crate::limits::{MAX_NUM_HASHES, MAX_NUM_WORDS};
-use sketch_base::image::{SERIAL_VERSION, u16_at, u32_at, u64_at};
+use sketch_base::image::{SERIAL_VERSION, opening_fault, u16_at, u32_at, u64_at};
 use sketch_base::{Error, Family, Fault, SketchBytes};
 use std::alloc::{AllocError, Global};
 
@@ -59,14 +59,8 @@ pub fn read_preamble(image: &[u8]) -> Result<Preamble, Error>
 fn fault_of(image: &[u8]) -> Option<Fault>
     ensures { result ≡ early_fault image.now }
 {
-    if image.len() < 4 {
-        return Some(Fault::InsufficientData);
-    }
-    if image[2] != Family::BLOOMFILTER.id {
-        return Some(Fault::BadFamily);
-    }
-    if image[1] != SERIAL_VERSION {
-        return Some(Fault::BadVersion);
+    if let Some(fault) = opening_fault(image, 4, Family::BLOOMFILTER) {
+        return Some(fault);
     }
     if image[0] != PREAMBLE_LONGS_EMPTY && image[0] != PREAMBLE_LONGS_NONEMPTY {
         return Some(Fault::BadPreamble);

@@ -10,7 +10,7 @@ ghost use Rattle.sketch_countmin.specs.Values.{InRange, bytes_of};
 
 use crate::count_min_value::CountMinValue;
 use crate::limits::{MAX_TABLE_ENTRIES, MIN_NUM_BUCKETS};
-use sketch_base::image::{SERIAL_VERSION, u16_at, u32_at};
+use sketch_base::image::{SERIAL_VERSION, opening_fault, u16_at, u32_at};
 use sketch_base::{Error, ErrorKind, Family, Fault, SketchBytes, compute_seed_hash};
 use std::alloc::Global;
 
@@ -54,14 +54,8 @@ pub fn read_preamble(image: &[u8], seed: u64) -> Result<Preamble, Error>
 fn fault_of(image: &[u8], seed: u64) -> Option<Fault>
     ensures { result ≡ early_fault seed image.now }
 {
-    if image.len() < 8 {
-        return Some(Fault::InsufficientData);
-    }
-    if image[2] != Family::COUNTMIN.id {
-        return Some(Fault::BadFamily);
-    }
-    if image[1] != SERIAL_VERSION {
-        return Some(Fault::BadVersion);
+    if let Some(fault) = opening_fault(image, 8, Family::COUNTMIN) {
+        return Some(fault);
     }
     if image[0] != PREAMBLE_LONGS {
         return Some(Fault::BadPreamble);

@@ -13,7 +13,7 @@ ghost use Rattle.sketch_frequencies.specs.Writing.{WritesItems};
 
 use crate::frequent_item_value::FrequentItemValue;
 use counter_table::{ReversePurgeItemHashMap, Slot, bytes_of_table, capacity_of};
-use sketch_base::image::{SERIAL_VERSION, u32_at, u64_at};
+use sketch_base::image::{SERIAL_VERSION, opening_fault, u32_at, u64_at};
 use sketch_base::{Error, Family, Fault, SketchBytes, SketchSlice};
 use std::alloc::Global;
 
@@ -73,14 +73,8 @@ pub(crate) fn read_header(image: &[u8]) -> Result<Header, Error>
 fn header_fault(image: &[u8]) -> Option<Fault>
     ensures { result ≡ first_failing (header_checks image.now) }
 {
-    if image.len() < 8 {
-        return Some(Fault::InsufficientData);
-    }
-    if image[2] != Family::FREQUENCY.id {
-        return Some(Fault::BadFamily);
-    }
-    if image[1] != SERIAL_VERSION {
-        return Some(Fault::BadVersion);
+    if let Some(fault) = opening_fault(image, 8, Family::FREQUENCY) {
+        return Some(fault);
     }
     if image[4] < LEAST_LG_SIZE {
         return Some(Fault::LgCurTooSmall);
