@@ -212,7 +212,7 @@ impl<T: FrequentItemValue + Clone + Drop> Session<T> {
                 kind,
                 image,
                 most_bytes,
-            } => self.load(name, Image::new(kind, image), most_bytes),
+            } => self.load(name, &Image::new(kind, image), most_bytes),
             Action::ShowImage { image } => self.show_image(image.as_str()),
             Action::Ask { name, item } => {
                 let told = self.ask(name.as_str(), &item);
@@ -290,15 +290,15 @@ impl<T: FrequentItemValue + Clone + Drop> Session<T> {
     fn load(
         &mut self,
         new_name: String,
-        image: Image,
+        image: &Image,
         most_bytes: usize,
     ) -> Result<Reply<T>, Refusal>
-        ensures { Loads (option_bytes T.row) T.eq T.codec T.content image most_bytes (string_bytes new_name) self.old (told result) self.new }
+        ensures { Loads (option_bytes T.row) T.eq T.codec T.content image.now most_bytes (string_bytes new_name) self.old (told result) self.new }
     {
         if self.sketches.contains_name(new_name.as_str()) {
             return Err(Refusal::NameTaken);
         }
-        let sketch = Sketch::load(self.alloc, &image, most_bytes)?;
+        let sketch = Sketch::load(self.alloc, image, most_bytes)?;
         self.sketches.insert(new_name, sketch)?;
         Ok(Reply::Done)
     }
