@@ -9,7 +9,6 @@ use Rattle.datasketches.specs.declared.command.Recycled.{Recycled}
 use Rattle.datasketches_cli.specs.declared.responder.Responder.{Responder}
 use Rattle.datasketches_cli.specs.declared.request.Request.{Request}
 use Rattle.datasketches_cli.specs.declared.request.Request.TheVariants as request
-use Rattle.datasketches_cli.specs.declared.stopped.Stopped.{Stopped}
 use Rattle.datasketches_cli.specs.Asking.{Ask, AskAction, AskOnWindows}
 use Rattle.datasketches_cli.specs.Grammar.{Make}
 use Rattle.datasketches_cli.specs.Parsing.{IsActionOf, IsChangeOf, texts_of}
@@ -32,7 +31,7 @@ abbrev pub with_recycled : Responder → Recycled Text → Responder
 with_recycled old recycled = record { alloc = old.alloc; state = old.state; recycled = recycled; replies = old.replies }
 
 -- the action that was made of the words and answered is answered to them
-answers : (words : List (List ℕ)) (made : Option (Action Text)) (old new : Responder) (recycled : Recycled Text) (result : Result Bool Stopped) → IsActionOf words made →
+answers : {E : Type 0} (words : List (List ℕ)) (made : Option (Action Text)) (old new : Responder) (recycled : Recycled Text) (result : Result Bool E) → IsActionOf words made →
     IfOk result (λ found. Answers (IsRequest made) found (with_recycled old recycled) new) → IfOk result (λ found. Answers (AskAction words) found old new)
 answers words None old new recycled (Ok true) none (asked, is, done) = absurd is
 answers words None old new recycled (Ok false) none (others, idle) = (no_action words none, idle)
@@ -41,7 +40,7 @@ answers words (Some a) old new recycled (Ok false) makes (others, idle) = absurd
 answers words made old new recycled (Err e) makes done = tt
 
 -- the same of what was made of a verb, a name and the words that follow them
-pub answers_to : (words : List (Bor (List ℕ))) (first second : Bor (List ℕ)) (v : List ℕ) (n : ℕ) (made : Option (Action Text)) (old new : Responder) (recycled : Recycled Text) (result : Result Bool Stopped) →
+pub answers_to : {E : Type 0} (words : List (Bor (List ℕ))) (first second : Bor (List ℕ)) (v : List ℕ) (n : ℕ) (made : Option (Action Text)) (old new : Responder) (recycled : Recycled Text) (result : Result Bool E) →
     2 ≤ length words → n ≡ length words - 2 → (get_or words 0 first).now ≡ v → IsActionOf (v ∷ (get_or words 1 second).now ∷ texts_of (take n (drop 2 words))) made →
     IfOk result (λ found. Answers (IsRequest made) found (with_recycled old recycled) new) → IfOk result (λ found. Answers (AskAction (texts_of words)) found old new)
 answers_to words first second v n made old new recycled result some count is makes done =
@@ -49,7 +48,7 @@ answers_to words first second v n made old new recycled result some count is mak
     answers (texts_of words) made old new recycled result (rw split makes) done
 
 -- the change of a name
-changes : (v name : List ℕ) (rest words : List (List ℕ)) (made : Option (Change Text)) (old new : Responder) (recycled : Recycled Text) (result : Result Bool Stopped) → words ≡ v ∷ name ∷ rest → number_of_verb v ≡ 1 → IsChangeOf v rest made →
+changes : {E : Type 0} (v name : List ℕ) (rest words : List (List ℕ)) (made : Option (Change Text)) (old new : Responder) (recycled : Recycled Text) (result : Result Bool E) → words ≡ v ∷ name ∷ rest → number_of_verb v ≡ 1 → IsChangeOf v rest made →
     IfOk result (λ found. AnswersChange name made found (with_recycled old recycled) new) → IfOk result (λ found. Answers (AskAction words) found old new)
 changes v name rest words None old new recycled (Ok true) split is none (found, idle) = cc
 changes v name rest words None old new recycled (Ok false) split is none (found, idle) = (no_action words (rw split (no_change v name rest is none)), idle)
@@ -57,7 +56,7 @@ changes v name rest words (Some c) old new recycled (Ok true) split is makes (fo
 changes v name rest words (Some c) old new recycled (Ok false) split is makes (found, named, same, done) = cc
 changes v name rest words made old new recycled (Err e) split is makes done = tt
 
-pub changes_to : (words : List (Bor (List ℕ))) (first second : Bor (List ℕ)) (v : List ℕ) (n : ℕ) (made : Option (Change Text)) (old new : Responder) (recycled : Recycled Text) (result : Result Bool Stopped) →
+pub changes_to : {E : Type 0} (words : List (Bor (List ℕ))) (first second : Bor (List ℕ)) (v : List ℕ) (n : ℕ) (made : Option (Change Text)) (old new : Responder) (recycled : Recycled Text) (result : Result Bool E) →
     2 ≤ length words → n ≡ length words - 2 → (get_or words 0 first).now ≡ v → number_of_verb v ≡ 1 → IsChangeOf v (texts_of (take n (drop 2 words))) made →
     IfOk result (λ found. AnswersChange (get_or words 1 second).now made found (with_recycled old recycled) new) → IfOk result (λ found. Answers (AskAction (texts_of words)) found old new)
 changes_to words first second v n made old new recycled result some count is kind makes done =

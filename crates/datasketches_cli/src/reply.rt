@@ -6,31 +6,26 @@ ghost use Rattle.datasketches_cli.specs.Printing.{report_text, reply_text, statu
 ghost use Rattle.datasketches_cli.specs.Transcript.{answer_line};
 
 use crate::request::Answer;
-use crate::stopped::Stopped;
 use datasketches::frequencies::Row;
 use datasketches::{Reply, Status};
 use heavy_windows::Report;
-use std::alloc::Global;
+use std::alloc::{AllocError, Global};
 use std::fmt::Write;
 
 /// Writes an answer's line.
 #[inline(always)]
-pub fn write_answer(alloc: Global, out: &mut String, answer: &Answer) -> Result<(), Stopped>
+pub fn write_answer(alloc: Global, out: &mut String, answer: &Answer) -> Result<(), AllocError>
     ensures { OnOk result (string_bytes out.new ≡ string_bytes out.old ++ answer_line answer.now) }
 {
     match answer {
         Answer::Reply(reply) => write_reply(alloc, out, reply),
-        Answer::Report(report) => {
-            write_report(out, report)?;
-            out.push_str("\n")?;
-            Ok(())
-        }
+        Answer::Report(report) => write_report(out, report),
     }
 }
 
-/// Writes what weighed most in a tenant's windows, without the line's end.
-fn write_report(out: &mut String, report: &Report<String>) -> Result<(), Stopped>
-    ensures { OnOk result (string_bytes out.new ≡ string_bytes out.old ++ report_text report.now) }
+/// Writes the line of what weighed most in a tenant's windows.
+fn write_report(out: &mut String, report: &Report<String>) -> Result<(), AllocError>
+    ensures { OnOk result (string_bytes out.new ≡ string_bytes out.old ++ (report_text report.now ++ codes "\n")) }
 {
     write!(
         out,
@@ -39,44 +34,38 @@ fn write_report(out: &mut String, report: &Report<String>) -> Result<(), Stopped
         report.maximum_error,
         report.rows.len()
     )?;
-    write_rows(out, &report.rows)?;
-    Ok(())
+    write_rows(out, &report.rows)
 }
 
 /// Writes a reply's line.
 #[inline(always)]
-fn write_reply(alloc: Global, out: &mut String, reply: &Reply<String>) -> Result<(), Stopped>
+fn write_reply(alloc: Global, out: &mut String, reply: &Reply<String>) -> Result<(), AllocError>
     ensures { OnOk result (string_bytes out.new ≡ string_bytes out.old ++ (reply_text reply.now ++ codes "\n")) }
 {
     match reply {
-        Reply::Done => out.push_str("ok\n")?,
+        Reply::Done => out.push_str("ok\n"),
         Reply::Bounds {
             estimate,
             lower,
             upper,
-        } => writeln!(out, "estimate {estimate} lower {lower} upper {upper}")?,
-        Reply::Contains(true) => out.push_str("yes\n")?,
-        Reply::Contains(false) => out.push_str("no\n")?,
+        } => writeln!(out, "estimate {estimate} lower {lower} upper {upper}"),
+        Reply::Contains(true) => out.push_str("yes\n"),
+        Reply::Contains(false) => out.push_str("no\n"),
         Reply::Status(status) => {
             write_status(out, status)?;
-            out.push_str("\n")?;
+            out.push_str("\n")
         }
         Reply::Rows(rows) => {
             write!(out, "rows {}", rows.len())?;
-            write_rows(out, rows)?;
-            out.push_str("\n")?;
+            write_rows(out, rows)
         }
-        Reply::Image(bytes) => {
-            write_image(alloc, out, bytes)?;
-            out.push_str("\n")?;
-        }
-        Reply::Refused(refusal) => writeln!(out, "refused {}", refusal.name())?,
+        Reply::Image(bytes) => write_image(alloc, out, bytes),
+        Reply::Refused(refusal) => writeln!(out, "refused {}", refusal.name()),
     }
-    Ok(())
 }
 
-/// Writes a sketch's kind and its numbers.
-fn write_status(out: &mut String, status: &Status) -> Result<(), Stopped>
+/// Writes a sketch's kind and its numbers, without the line's end.
+fn write_status(out: &mut String, status: &Status) -> Result<(), AllocError>
     ensures { OnOk result (string_bytes out.new ≡ string_bytes out.old ++ status_text status.now) }
 {
     match status {
@@ -90,7 +79,7 @@ fn write_status(out: &mut String, status: &Status) -> Result<(), Stopped>
         } => write!(
             out,
             "frequent active {active} error {error} total {total} size {size} max {max} capacity {capacity}"
-        )?,
+        ),
         Status::CountI64 {
             total,
             hashes,
@@ -99,7 +88,7 @@ fn write_status(out: &mut String, status: &Status) -> Result<(), Stopped>
         } => write!(
             out,
             "counti total {total} hashes {hashes} buckets {buckets} seed {seed}"
-        )?,
+        ),
         Status::CountU64 {
             total,
             hashes,
@@ -108,7 +97,7 @@ fn write_status(out: &mut String, status: &Status) -> Result<(), Stopped>
         } => write!(
             out,
             "countu total {total} hashes {hashes} buckets {buckets} seed {seed}"
-        )?,
+        ),
         Status::Bloom {
             bits,
             capacity,
@@ -117,23 +106,21 @@ fn write_status(out: &mut String, status: &Status) -> Result<(), Stopped>
         } => write!(
             out,
             "bloom bits {bits} capacity {capacity} hashes {hashes} seed {seed}"
-        )?,
+        ),
     }
-    Ok(())
 }
 
-/// Writes the bytes of an image as hexadecimal digits.
-fn write_image(alloc: Global, out: &mut String, bytes: &[u8]) -> Result<(), Stopped>
-    ensures { OnOk result (string_bytes out.new ≡ string_bytes out.old ++ codes "image " ++ encode_lower bytes.now) }
+/// Writes the line of an image's bytes, as hexadecimal digits.
+fn write_image(alloc: Global, out: &mut String, bytes: &[u8]) -> Result<(), AllocError>
+    ensures { OnOk result (string_bytes out.new ≡ string_bytes out.old ++ (codes "image " ++ encode_lower bytes.now ++ codes "\n")) }
 {
     let digits = hex::encode(alloc, bytes)?;
-    write!(out, "image {digits}")?;
-    Ok(())
+    writeln!(out, "image {digits}")
 }
 
-/// Writes the items of a report with their numbers.
-fn write_rows(out: &mut String, rows: &[Row<String>]) -> Result<(), Stopped>
-    ensures { OnOk result (string_bytes out.new ≡ string_bytes out.old ++ flat_map row_text rows.now) }
+/// Writes the items of a report with their numbers, and the end of the line.
+fn write_rows(out: &mut String, rows: &[Row<String>]) -> Result<(), AllocError>
+    ensures { OnOk result (string_bytes out.new ≡ string_bytes out.old ++ (flat_map row_text rows.now ++ codes "\n")) }
 {
     for row in rows {
         write!(
@@ -145,5 +132,5 @@ fn write_rows(out: &mut String, rows: &[Row<String>]) -> Result<(), Stopped>
             row.upper_bound()
         )?;
     }
-    Ok(())
+    out.push_str("\n")
 }

@@ -12,9 +12,8 @@ use crate::parse::{action_of, ask};
 use crate::reply::write_answer;
 use crate::request::Request;
 use crate::state::State;
-use crate::stopped::Stopped;
 use datasketches::{Action, Change, Recycled};
-use std::alloc::Global;
+use std::alloc::{AllocError, Global};
 
 /// What became of a line.
 #[derive(Clone, Copy)]
@@ -54,7 +53,7 @@ impl Responder {
     }
 
     /// Does what a line asks for, which stands without its end, and gathers its answer.
-    pub fn answer_line(&mut self, line: &[u8]) -> Result<LineOutcome, Stopped>
+    pub fn answer_line(&mut self, line: &[u8]) -> Result<LineOutcome, AllocError>
         ensures { IfOk result (IsAnswered line.now self.old self.new) }
     {
         let Ok(text) = str::from_utf8(line) else {
@@ -74,7 +73,7 @@ impl Responder {
     }
 
     /// Does what the words ask for, and gathers its answer. Answers whether they ask for something.
-    fn answer_words(&mut self, words: &[&str]) -> Result<bool, Stopped>
+    fn answer_words(&mut self, words: &[&str]) -> Result<bool, AllocError>
         ensures { IfOk result (λ found. Answers (Ask (texts_of words.now)) found self.old self.new) }
     {
         if self.answer_on_sketches(words)? {
@@ -92,7 +91,7 @@ impl Responder {
     /// The same of actions.
     ///
     /// What most lines ask for is made and done in a place of its own, so that it is not copied on its way.
-    fn answer_on_sketches(&mut self, words: &[&str]) -> Result<bool, Stopped>
+    fn answer_on_sketches(&mut self, words: &[&str]) -> Result<bool, AllocError>
         ensures { IfOk result (λ found. Answers (AskAction (texts_of words.now)) found self.old self.new) }
     {
         let [verb, name, rest @ ..] = words else {
@@ -120,7 +119,11 @@ impl Responder {
 
     /// Makes a change of the named sketch, if there is one, and gathers its answer. Answers whether there is one.
     #[inline(always)]
-    fn answer_change(&mut self, name: &str, change: Option<Change<String>>) -> Result<bool, Stopped>
+    fn answer_change(
+        &mut self,
+        name: &str,
+        change: Option<Change<String>>,
+    ) -> Result<bool, AllocError>
         ensures { IfOk result (λ found. AnswersChange name.now change found self.old self.new) }
     {
         match change {
@@ -135,7 +138,7 @@ impl Responder {
 
     /// Does an action, if there is one, and gathers its answer. Answers whether there is one.
     #[inline(always)]
-    fn answer_action(&mut self, action: Option<Action<String>>) -> Result<bool, Stopped>
+    fn answer_action(&mut self, action: Option<Action<String>>) -> Result<bool, AllocError>
         ensures { IfOk result (λ found. Answers (IsRequest action) found self.old self.new) }
     {
         match action {
@@ -149,7 +152,7 @@ impl Responder {
 
     /// Does what is asked for, and gathers its answer.
     #[inline(always)]
-    fn answer(&mut self, request: Request) -> Result<(), Stopped>
+    fn answer(&mut self, request: Request) -> Result<(), AllocError>
         ensures { OnOk result (HasAnswered request self.old self.new) }
     {
         let answer = self.state.apply(self.alloc, request, &mut self.recycled);

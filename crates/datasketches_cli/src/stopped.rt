@@ -1,6 +1,6 @@
 //! What stops the loop.
 use std::alloc::AllocError;
-use std::{fmt, io};
+use std::io;
 
 /// A read, a write or a request for memory failed: which of them it was, the streams' counts tell.
 #[derive(Drop)]
@@ -8,12 +8,6 @@ pub struct Stopped;
 
 impl From<io::Error> for Stopped {
     fn from(_e: io::Error) -> Self {
-        Stopped
-    }
-}
-
-impl From<fmt::Error> for Stopped {
-    fn from(_e: fmt::Error) -> Self {
         Stopped
     }
 }
