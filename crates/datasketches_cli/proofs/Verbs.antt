@@ -6,7 +6,7 @@ use Rattle.std.specs.Borrow.{Bor}
 use Rattle.std.specs.Str.{IsUtf8}
 use Rattle.std.specs.String.{string_bytes}
 use Rattle.std.proofs.lemmas.Bool.{false≢true}
-use Rattle.std.proofs.lemmas.List.{take_all, length-take}
+use Rattle.std.proofs.lemmas.List.{take_all, length-take, length-map}
 use Rattle.datasketches.specs.ErrorType.{ErrorType}
 use Rattle.datasketches.specs.declared.action.Action.{Action}
 use Rattle.datasketches.specs.declared.action.Action.TheVariants as action
@@ -178,6 +178,15 @@ no_kind v name rest i j k l m c t s (action.Ask n item) e = k (first_word e)
 no_kind v name rest i j k l m c t s (action.GetStatus n) e = j (first_word e)
 no_kind v name rest i j k l m c t s (action.ListRows n error_type threshold) (x, e, y) = l (first_word e)
 no_kind v name rest i j k l m c t s (action.Load n kind image most) (r, digits, e, x, b) = m (first_word e)
+
+-- a verb before two names, and no word or several behind the first name, make no action
+pub none_of_others : (asked : OnTwo) (name : List ℕ) (words : List (Bor (List ℕ))) → length words ≢ 1 → (a : Action Text) → ¬ Make (two_word asked ∷ name ∷ texts_of words) a
+none_of_others asked name words others (action.Join into other j) e = others (omega (arith, ap length e, length-map words (λ word. word.now)))
+none_of_others asked name words others (action.Save n image) e = others (omega (arith, ap length e, length-map words (λ word. word.now)))
+none_of_others asked name words others (action.Restore image n) e = others (omega (arith, ap length e, length-map words (λ word. word.now)))
+none_of_others two.Save name words others a made = omega (arith, number_made (codes "save") name (texts_of words) a made)
+none_of_others two.Restore name words others a made = omega (arith, number_made (codes "restore") name (texts_of words) a made)
+none_of_others (two.Join j) name words others a made = omega (arith, number_of_join j, number_made (join_word j) name (texts_of words) a made)
 
 -- words that are no two numbers make no decay
 pub no_decay : (words : List (List ℕ)) → ((n : ℕ × ℕ) → ¬ MakeTwo words n) → (c : Change Text) → ¬ MakeChange (codes "decay") words c
