@@ -47,3 +47,7 @@ returns-clause-ok g c =
 
 pub returns-clause-state : goal.returns-clause-state
 returns-clause-state g c = invariant_of-self-2 g c
+
+-- said here so that a refusal is refused at once
+pub returns-then-size-self-clause-succeeds : goal.returns-then-size-self-clause-succeeds
+returns-then-size-self-clause-succeeds g c = λ _. refl
