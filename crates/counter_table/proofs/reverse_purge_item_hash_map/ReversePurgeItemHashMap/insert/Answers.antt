@@ -1,4 +1,4 @@
-use Rattle.std.proofs.Common.{arith, ap, ◌∙◌}
+use Rattle.std.proofs.Common.{ap, ◌∙◌}
 use Rattle.counter_table.specs.Slots.{entries_of}
 use Rattle.counter_table.specs.Tables.{is_tracked}
 use Rattle.counter_table.proofs.InsertionCounts.{counted_more, lent_whole, written_counted, written_puts}
