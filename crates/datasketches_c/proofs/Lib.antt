@@ -7,7 +7,6 @@ pub mod FrequentLemmas
 pub mod Handles
 pub mod InTurnLemmas
 pub mod KindLemmas
-pub mod MakingLemmas
 pub mod Reading
 pub mod ReadingCounts
 pub mod Reports

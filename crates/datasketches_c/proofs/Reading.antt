@@ -1,5 +1,6 @@
 -- Images that are read, and refusals to write one.
 use Rattle.std.proofs.Common.{◌≡◌, ℕ, ◌*◌, ◌<◌, ◌≤◌, Bool, List, length, take, drop, Option, Some, None, ℤ, pos, negsuc, cond, ap, sym, subst, inl, inr, refl}
+use Rattle.std.specs.Prelude.{Result, Ok, Err, MatchResult, IfOk, IfErr}
 use Rattle.std.proofs.lemmas.Bool.{cases_lt, le-ltb}
 use Rattle.sketch_base.specs.Checks.{or_else, IsImageRefusal}
 use Rattle.sketch_base.specs.Errors.{ErrorValue}
@@ -30,19 +31,13 @@ no_early_fault most_bytes image s is within =
     (ap (λ (t : Bool). cond t (Some TableTooLarge) None) (le-ltb most_bytes (8 * num_words_at image) in_image))
 
 -- the same of an image of frequent items
-pub no_early_fault_of_items : {T C : Type 0} (item : RattleType) (codec : Codec C) (content : T → C) (most_bytes : ℕ) (image : List ℕ) (s : FrequentState T)
+no_early_fault_of_items : {T C : Type 0} (item : RattleType) (codec : Codec C) (content : T → C) (most_bytes : ℕ) (image : List ℕ) (s : FrequentState T)
     → frequent.IsImageOf codec content image s → table_bytes item s.size ≤ most_bytes
     → frequent.early_fault_within item most_bytes image ≡ None
 no_early_fault_of_items item codec content most_bytes image s is within =
     let in_image : table_bytes item (frequent.restored_size image) ≤ most_bytes = subst (λ (n : ℕ). table_bytes item n ≤ most_bytes) is.size within in
     none_before (frequent.early_fault image) (frequent.limit_fault item most_bytes image) _ is.no_fault
     (ap (λ (t : Bool). cond t (Some TableTooLarge) None) (le-ltb most_bytes (table_bytes item (frequent.restored_size image)) in_image))
-
--- where memory alone was refused, that is what an image without an early fault is refused for
-pub refused_for_memory : (result : ℤ) (Kept : Type 0) (before whole : Option Fault) → before ≡ None
-    → OnRefused result ((result ≡ refusal_number NoMemory) × Kept) → OnRefused result (Kept × IsRefusedImage before whole result)
-refused_for_memory (pos n) Kept before whole none said = tt
-refused_for_memory (negsuc n) Kept before whole none said = (said.1, inl (said.0, none))
 
 -- an image that was made and copied out was written
 pub copied_image : (Spelled : List ℕ → Type 0) (image out new : List ℕ) (written : ℕ) (result : ℤ) → Spelled image → written ≡ length image
@@ -67,7 +62,30 @@ refused_to_write codec content s old new written e (inl is) = inl (inr (inr (ap 
 refused_to_write codec content s old new written e (inr is) = inr (e.fault, refl, is.1)
 
 -- a refusal to read one
-pub refused_to_read : (before whole : Option Fault) (e : ErrorValue) → IsImageRefusal before whole e
+refused_to_read : (before whole : Option Fault) (e : ErrorValue) → IsImageRefusal before whole e
     → IsRefusedImage before whole (refusal_number e.fault)
 refused_to_read before whole e (inl is) = inl (ap (λ (x : ErrorValue). refusal_number x.fault) is.0, is.1)
 refused_to_read before whole e (inr is) = inr (e.fault, is.1, refl)
+
+-- why a handle was not given the sketch of an image: memory was refused, or the image
+abbrev pub WhyNotRead : {S : Type 0} → Result S ErrorValue → ℤ → Type 0
+WhyNotRead read result = MatchResult read (λ s. result ≡ refusal_number NoMemory) (λ e. result ≡ refusal_number e.fault)
+
+-- it is the image's first fault, or memory, where an image that was read has none before memory
+pub was_not_read : {S : Type 0} (read : Result S ErrorValue) (Image Within : S → Type 0) (before whole : Option Fault) (result : ℤ) (Kept : Type 0)
+    → ((s : S) → Image s → Within s → before ≡ None) → IfOk read Image → IfOk read Within → IfErr read (IsImageRefusal before whole)
+    → OnRefused result (Kept × WhyNotRead read result) → OnRefused result (Kept × IsRefusedImage before whole result)
+was_not_read read Image Within before whole (pos n) Kept none image within err said = tt
+was_not_read (Ok s) Image Within before whole (negsuc n) Kept none image within err said = (said.0, inl (said.1, none s image within))
+was_not_read (Err e) Image Within before whole (negsuc n) Kept none image within err said =
+    (said.0, subst (λ (z : ℤ). IsRefusedImage before whole z) (sym said.1) (refused_to_read before whole e err))
+
+-- the same of a sketch of frequent items
+pub items_not_read : {T C : Type 0} (item : RattleType) (codec : Codec C) (content : T → C) (most_bytes : ℕ) (image : List ℕ) (read : Result (FrequentState T) ErrorValue) (result : ℤ) (Kept : Type 0)
+    → IfOk read (λ s. frequent.IsImageOf codec content image s) → IfOk read (λ s. table_bytes item s.size ≤ most_bytes)
+    → IfErr read (IsImageRefusal (frequent.early_fault_within item most_bytes image) (frequent.first_fault_within item most_bytes codec image))
+    → OnRefused result (Kept × WhyNotRead read result)
+    → OnRefused result (Kept × IsRefusedImage (frequent.early_fault_within item most_bytes image) (frequent.first_fault_within item most_bytes codec image) result)
+items_not_read {T} {C} item codec content most_bytes image read result Kept =
+    was_not_read read (λ s. frequent.IsImageOf codec content image s) (λ s. table_bytes item s.size ≤ most_bytes) (frequent.early_fault_within item most_bytes image)
+    (frequent.first_fault_within item most_bytes codec image) result Kept (no_early_fault_of_items item codec content most_bytes image)

@@ -1,13 +1,17 @@
 -- Reports on frequent items in buffers.
-use Rattle.std.proofs.Common.{◌≡◌, ℕ, ℤ, ◌<◌, ◌≤◌, Bool, List, ◌++◌, length, map, drop, refl, ap, ◌∙◌, subst}
+use Rattle.std.proofs.Common.{◌≡◌, ℕ, ℤ, pos, negsuc, ◌<◌, ◌≤◌, Bool, List, ◌++◌, length, map, drop, refl, ap, ◌∙◌, subst}
 use Rattle.std.proofs.lemmas.List.{drop_at, take_at, length-map}
 use Rattle.sketch_frequencies.specs.RowValue.{RowValue}
 use Rattle.sketch_frequencies.specs.State.{FrequentState}
 use Rattle.sketch_frequencies.specs.declared.error_type.ErrorType.{ErrorType}
 use Rattle.datasketches_c.specs.FrequentRows.{AreRows, LeavesRows, Reports, StandAtFront, bounds_in}
-use Rattle.datasketches_c.specs.Numbers.{ok, no_room}
+use Rattle.datasketches_c.specs.Numbers.{OnRefused, ok, no_room}
 use Rattle.datasketches_c.specs.declared.frequent.FrequentBounds.{FrequentBounds}
-use Rattle.datasketches_c.proofs.MakingLemmas.{when_refused}
+
+-- what holds anyway is said of a call that is refused
+pub when_refused : (result : ℤ) (P : Type 0) → P → OnRefused result P
+when_refused (pos n) P said = tt
+when_refused (negsuc n) P said = said
 
 -- rows that were found and copied are a report
 pub copied_rows : {T : Type 0} (eq : T → T → Bool) (kind : ErrorType) (threshold : ℕ) (s : FrequentState T) (rows : List (RowValue T)) (items_old items_new : List T)

@@ -10,7 +10,7 @@ use Rattle.datasketches_c.specs.FrequentRows.{bounds_in}
 use Rattle.datasketches_c.specs.FrequentTextRows.{LeavesTextRows, TextBuffers, TextsStandAtFront, row_texts}
 use Rattle.datasketches_c.specs.Texts.{texts_of, offsets_from}
 use Rattle.datasketches_c.specs.declared.frequent.FrequentBounds.{FrequentBounds}
-use Rattle.datasketches_c.proofs.MakingLemmas.{when_refused}
+use Rattle.datasketches_c.proofs.Reports.{when_refused}
 use Rattle.datasketches_c.proofs.TextRows.{length-offsets_from, read_front}
 
 -- there are as many texts as rows

@@ -1,17 +1,13 @@
 //! Count-Min sketches behind handles, whatever the type of the weights.
-ghost use Rattle.std.specs.Prelude.{◌≡◌, ◌≢◌, ◌+◌, ◌-◌, ◌*◌, ◌<◌, ◌≤◌, None, Some, length, map, take, sum_by, unsigned_abs};
+ghost use Rattle.std.specs.Prelude.{◌≡◌, ◌≢◌, ◌+◌, ◌-◌, ◌<◌, ◌≤◌, length, map, take, sum_by, unsigned_abs};
 ghost use Rattle.std.specs.Hash as fed;
-ghost use Rattle.sketch_base.specs.Errors.{refusal_of};
 ghost use Rattle.sketch_base.specs.Hashes.{fed_bytes};
-ghost use Rattle.sketch_countmin.specs.Image.{IsImage, early_fault_within, first_fault_within};
-ghost use Rattle.sketch_countmin.specs.Shapes.{shape_fault};
-ghost use Rattle.sketch_countmin.specs.State.{Counts, CountsAll, IsLeastCell, empty_state};
+ghost use Rattle.sketch_countmin.specs.State.{Counts, CountsAll, IsLeastCell};
 ghost use Rattle.datasketches_c.specs.CountCalls.{AddsWeight, AddsEach, AddsWeights, EstimatesAll, AreCountNumbers, IsBound, MergesInto};
 ghost use Rattle.datasketches_c.specs.CountJoins.{IsJoined};
 ghost use Rattle.datasketches_c.specs.Estimates.{AreLeastCells};
-ghost use Rattle.datasketches_c.specs.Images.{IsRefusedImage};
-ghost use Rattle.datasketches_c.specs.Kinds.{HoldsKind, WritesDown};
-ghost use Rattle.datasketches_c.specs.Numbers.{OnDone, OnRefused, ok, no_room, refusal_number};
+ghost use Rattle.datasketches_c.specs.Kinds.{WritesDown};
+ghost use Rattle.datasketches_c.specs.Numbers.{OnRefused, ok, no_room, refusal_number};
 ghost use Rattle.datasketches_c.specs.Texts.{AreTexts, RefusesTexts, RefusesTextsIn, texts_of};
 
 use crate::count_texts::{count_texts, estimate_texts};
@@ -34,28 +30,6 @@ pub struct CountStatus {
     pub seed: u64,
     pub num_buckets: u32,
     pub num_hashes: u8,
-}
-
-/// Makes a sketch of so many rows, one for each hash, and cells in each row, in place of what the handle has.
-pub(crate) fn new<V: CountMinValue>(
-    alloc: Global,
-    handle: &mut SketchHandle,
-    num_hashes: u8,
-    num_buckets: u32,
-    seed: u64,
-) -> i32
-where
-    CountMinSketch<V>: Kind,
-    ensures done { OnDone result ((result ≡ ok)
-        × (handle.new.value ≡ Some (⟦<CountMinSketch<V> as Kind>⟧.whole (empty_state num_hashes num_buckets seed)))) }
-    ensures accepted { OnDone result (shape_fault num_hashes num_buckets seed ≡ None) }
-    ensures refused { OnRefused result ((handle.new.value ≡ handle.old.value)
-        × (result ≡ refusal_number (refusal_of (shape_fault num_hashes num_buckets seed)).fault)) }
-{
-    match CountMinSketch::<V>::with_seed(alloc, num_hashes, num_buckets, seed) {
-        Ok(sketch) => handle.put(alloc, sketch.into_any()),
-        Err(error) => refusal_number(error.fault()),
-    }
 }
 
 /// Adds a weight to an item's and its distance from 0 to the total of a sketch.
@@ -343,26 +317,4 @@ where
         *status = status_of(sketch);
         OK
     })
-}
-
-/// Makes the sketch of an image that was written under this seed, in place of what the handle has.
-pub(crate) fn from_bytes<V: CountMinValue>(
-    alloc: Global,
-    handle: &mut SketchHandle,
-    image: &[u8],
-    seed: u64,
-    most_bytes: usize,
-) -> i32
-where
-    CountMinSketch<V>: Kind,
-    ensures done { OnDone result ((result ≡ ok) × HoldsKind (⟦<CountMinSketch<V> as Kind>⟧.part) handle.new.value (λ s.
-        IsImage V.least V.greatest seed image.now s × (s.hashes * s.buckets * V.SIZE + 8 * s.hashes ≤ most_bytes))) }
-    ensures refused { OnRefused result ((handle.new.value ≡ handle.old.value) × IsRefusedImage
-        (early_fault_within V.SIZE most_bytes seed image.now)
-        (first_fault_within V.least V.greatest V.SIZE most_bytes seed image.now) result) }
-{
-    match CountMinSketch::<V>::deserialize_with_seed_and_limit(alloc, image, seed, most_bytes) {
-        Ok(sketch) => handle.put(alloc, sketch.into_any()),
-        Err(error) => refusal_number(error.fault()),
-    }
 }

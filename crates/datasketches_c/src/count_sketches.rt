@@ -14,6 +14,7 @@ use crate::count::{self, CountStatus};
 use crate::handle::SketchHandle;
 use crate::images::to_bytes;
 use crate::kind::on_kind;
+use crate::making::put_made;
 use crate::status_code::{BAD_FRACTION, OK};
 use sketch_countmin::CountMinSketch;
 use std::alloc::Global;
@@ -37,7 +38,8 @@ pub extern "C" fn ds_count_u64_new(
     ensures refused { OnRefused result ((handle.new.value ≡ handle.old.value)
         × (result ≡ refusal_number (refusal_of (shape_fault num_hashes num_buckets seed)).fault)) }
 {
-    count::new::<u64>(alloc, handle, num_hashes, num_buckets, seed)
+    let made = CountMinSketch::<u64>::with_seed(alloc, num_hashes, num_buckets, seed);
+    put_made(alloc, handle, made)
 }
 
 /// Makes a Count-Min sketch in `i64` of so many rows, one for each hash, and cells in each row, in place of what the
@@ -59,7 +61,8 @@ pub extern "C" fn ds_count_i64_new(
     ensures refused { OnRefused result ((handle.new.value ≡ handle.old.value)
         × (result ≡ refusal_number (refusal_of (shape_fault num_hashes num_buckets seed)).fault)) }
 {
-    count::new::<i64>(alloc, handle, num_hashes, num_buckets, seed)
+    let made = CountMinSketch::<i64>::with_seed(alloc, num_hashes, num_buckets, seed);
+    put_made(alloc, handle, made)
 }
 
 /// Adds the other sketch's cells and total. The other sketch stays.
@@ -217,7 +220,10 @@ pub extern "C" fn ds_count_u64_from_bytes(
         (early_fault_within 8 most_bytes seed image.now)
         (first_fault_within (pos 0) greatest_u64 8 most_bytes seed image.now) result) }
 {
-    count::from_bytes::<u64>(alloc, handle, image, seed, most_bytes)
+    let read = CountMinSketch::<u64>::deserialize_with_seed_and_limit(
+        alloc, image, seed, most_bytes,
+    );
+    put_made(alloc, handle, read)
 }
 
 /// Makes the sketch of an image that was written under this seed, in place of what the handle has, which is freed. The
@@ -239,5 +245,8 @@ pub extern "C" fn ds_count_i64_from_bytes(
         (early_fault_within 8 most_bytes seed image.now)
         (first_fault_within least_i64 greatest_i64 8 most_bytes seed image.now) result) }
 {
-    count::from_bytes::<i64>(alloc, handle, image, seed, most_bytes)
+    let read = CountMinSketch::<i64>::deserialize_with_seed_and_limit(
+        alloc, image, seed, most_bytes,
+    );
+    put_made(alloc, handle, read)
 }

@@ -14,11 +14,11 @@ ghost use Rattle.datasketches_c.specs.Kinds.{OnFilter, HoldsFilter};
 ghost use Rattle.datasketches_c.specs.Numbers.{OnDone, OnRefused, ok, no, yes, no_room, refusal_number};
 ghost use Rattle.datasketches_c.specs.declared.any_sketch.AnySketch.TheVariants.{Filter};
 
-use crate::any_sketch::AnySketch;
 use crate::handle::SketchHandle;
 use crate::images::{HasImage, copy_out, to_bytes};
 use crate::join::{Joins, join};
 use crate::kind::on_kind;
+use crate::making::put_made;
 use crate::status_code::{NO, NO_ROOM, OK, YES, refusal_number};
 use crate::texts::on_text;
 use sketch_base::Fault;
@@ -43,10 +43,7 @@ pub extern "C" fn ds_filter_new(
         (refusal_of (request_fault (record { num_bits = num_bits; num_hashes = num_hashes; seed = seed }))).fault)) }
 {
     let builder = BloomFilterBuilder::with_size(num_bits, num_hashes).seed(seed);
-    match builder.build(alloc) {
-        Ok(filter) => handle.put(alloc, AnySketch::Filter(filter)),
-        Err(error) => refusal_number(error.fault()),
-    }
+    put_made(alloc, handle, builder.build(alloc))
 }
 
 /// Inserts an item, for the calls below.
@@ -408,8 +405,6 @@ pub extern "C" fn ds_filter_from_bytes(
     ensures refused { OnRefused result ((handle.new.value ≡ handle.old.value) × IsRefusedImage
         (early_fault_within most_bytes image.now) (first_fault_within most_bytes image.now) result) }
 {
-    match BloomFilter::deserialize_with_limit(alloc, image, most_bytes) {
-        Ok(filter) => handle.put(alloc, AnySketch::Filter(filter)),
-        Err(error) => refusal_number(error.fault()),
-    }
+    let read = BloomFilter::deserialize_with_limit(alloc, image, most_bytes);
+    put_made(alloc, handle, read)
 }

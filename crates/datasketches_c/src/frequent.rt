@@ -1,20 +1,13 @@
 //! Frequent-items sketches behind handles, whatever the items.
 ghost use Rattle.std.specs.Ordering.{int_eq};
-ghost use Rattle.std.specs.Prelude.{◌≡◌, ◌≢◌, None, Some, IsTrue, length, nat_eq};
-ghost use Rattle.sketch_base.specs.Errors.{refusal_of};
-ghost use Rattle.sketch_frequencies.specs.History.FrequentHistory.{New};
-ghost use Rattle.sketch_frequencies.specs.Image.{early_fault_within, first_fault_within};
-ghost use Rattle.sketch_frequencies.specs.Sizes.{sizes_fault};
-ghost use Rattle.sketch_frequencies.specs.Stands.{StandsFor, KeepsTailBudget};
-ghost use Rattle.sketch_frequencies.specs.State.{empty_state};
+ghost use Rattle.std.specs.Prelude.{◌≡◌, ◌≢◌, IsTrue, length, nat_eq};
 ghost use Rattle.datasketches_c.specs.FrequentBatches.{AreBoundsOfAll};
 ghost use Rattle.datasketches_c.specs.FrequentCalls.{Updates, UpdatesMany, MergesInto, Empties, AreBounds, AreNumbers};
-ghost use Rattle.datasketches_c.specs.FrequentImages.{WritesFrequent, IsRestored};
+ghost use Rattle.datasketches_c.specs.FrequentImages.{WritesFrequent};
 ghost use Rattle.datasketches_c.specs.FrequentRows.{LeavesRows, WritesRows, error_type};
 ghost use Rattle.datasketches_c.specs.FrequentTexts.{text_eq};
-ghost use Rattle.datasketches_c.specs.Images.{IsRefusedImage};
 ghost use Rattle.datasketches_c.specs.Kinds.{OnKind, HoldsKind, WritesDown};
-ghost use Rattle.datasketches_c.specs.Numbers.{OnDone, OnRefused, ok, no_room, refusal_number};
+ghost use Rattle.datasketches_c.specs.Numbers.{OnRefused, ok, no_room, refusal_number};
 ghost use Rattle.datasketches_c.specs.Weights.{AddsWeights};
 
 use crate::frequent_rows::write_rows;
@@ -48,29 +41,6 @@ pub struct FrequentStatus {
     pub current_map_capacity: u64,
     pub max_map_size: u64,
     pub sample_size: u64,
-}
-
-/// Makes a sketch whose table may grow to so many slots, in place of what the handle has.
-pub(crate) fn new<T: Eq + Hash + Drop>(
-    alloc: Global,
-    handle: &mut SketchHandle,
-    max_map_size: usize,
-    sample_size: usize,
-) -> i32
-where
-    FrequentItemsSketch<T>: Kind,
-    ensures done { OnDone result ((result ≡ ok)
-        × (handle.new.value ≡ Some (⟦<FrequentItemsSketch<T> as Kind>⟧.whole (empty_state max_map_size sample_size)))) }
-    ensures stands { OnDone result (StandsFor T.eq (empty_state max_map_size sample_size) (New max_map_size sample_size)) }
-    ensures budget { OnDone result (KeepsTailBudget T.eq (empty_state max_map_size sample_size) (New max_map_size sample_size)) }
-    ensures accepted { OnDone result (sizes_fault max_map_size sample_size ≡ None) }
-    ensures refused { OnRefused result ((handle.new.value ≡ handle.old.value)
-        × (result ≡ refusal_number (refusal_of (sizes_fault max_map_size sample_size)).fault)) }
-{
-    match FrequentItemsSketch::<T>::with_sample_size(alloc, max_map_size, sample_size) {
-        Ok(sketch) => handle.put(alloc, sketch.into_any()),
-        Err(error) => refusal_number(error.fault()),
-    }
 }
 
 /// Adds a weight to an item's in a sketch.
@@ -354,25 +324,5 @@ where
 
     fn write_to(&self, out: &mut [u8], written: &mut usize) -> i32 {
         write_image(self, out, written)
-    }
-}
-
-/// Makes the sketch of an image, whose table takes at most so many bytes, in place of what the handle has.
-pub(crate) fn from_bytes<T: FrequentItemValue + Drop>(
-    alloc: Global,
-    handle: &mut SketchHandle,
-    image: &[u8],
-    most_bytes: usize,
-) -> i32
-where
-    FrequentItemsSketch<T>: Kind,
-    ensures done { OnDone result ((result ≡ ok) × HoldsKind (⟦<FrequentItemsSketch<T> as Kind>⟧.part) handle.new.value
-        (IsRestored T.row T.eq T.codec T.content image.now most_bytes)) }
-    ensures refused { OnRefused result ((handle.new.value ≡ handle.old.value) × IsRefusedImage
-        (early_fault_within T.row most_bytes image.now) (first_fault_within T.row most_bytes T.codec image.now) result) }
-{
-    match FrequentItemsSketch::<T>::deserialize_with_limit(alloc, image, most_bytes) {
-        Ok(sketch) => handle.put(alloc, sketch.into_any()),
-        Err(error) => refusal_number(error.fault()),
     }
 }

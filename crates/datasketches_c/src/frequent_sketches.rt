@@ -22,6 +22,7 @@ use crate::frequent::{self, FrequentStatus};
 use crate::handle::SketchHandle;
 use crate::images::to_bytes;
 use crate::join::join;
+use crate::making::put_made;
 use sketch_frequencies::FrequentItemsSketch;
 use std::alloc::Global;
 
@@ -46,7 +47,8 @@ pub extern "C" fn ds_frequent_text_new(
     ensures refused { OnRefused result ((handle.new.value ≡ handle.old.value)
         × (result ≡ refusal_number (refusal_of (sizes_fault max_map_size sample_size)).fault)) }
 {
-    frequent::new::<String>(alloc, handle, max_map_size, sample_size)
+    let made = FrequentItemsSketch::<String>::with_sample_size(alloc, max_map_size, sample_size);
+    put_made(alloc, handle, made)
 }
 
 /// Makes a sketch of frequent numbers in place of what the handle has, which is freed. Its table may grow to
@@ -70,7 +72,8 @@ pub extern "C" fn ds_frequent_u64_new(
     ensures refused { OnRefused result ((handle.new.value ≡ handle.old.value)
         × (result ≡ refusal_number (refusal_of (sizes_fault max_map_size sample_size)).fault)) }
 {
-    frequent::new::<u64>(alloc, handle, max_map_size, sample_size)
+    let made = FrequentItemsSketch::<u64>::with_sample_size(alloc, max_map_size, sample_size);
+    put_made(alloc, handle, made)
 }
 
 /// Makes a sketch of frequent numbers in place of what the handle has, which is freed. Its table may grow to
@@ -94,7 +97,8 @@ pub extern "C" fn ds_frequent_i64_new(
     ensures refused { OnRefused result ((handle.new.value ≡ handle.old.value)
         × (result ≡ refusal_number (refusal_of (sizes_fault max_map_size sample_size)).fault)) }
 {
-    frequent::new::<i64>(alloc, handle, max_map_size, sample_size)
+    let made = FrequentItemsSketch::<i64>::with_sample_size(alloc, max_map_size, sample_size);
+    put_made(alloc, handle, made)
 }
 
 /// Merges the other sketch into this one, which then stands for both streams and keeps its own sizes. The other sketch
@@ -307,7 +311,8 @@ pub extern "C" fn ds_frequent_text_from_bytes(
     ensures refused { OnRefused result ((handle.new.value ≡ handle.old.value) × IsRefusedImage
         (early_fault_within text_row most_bytes image.now) (first_fault_within text_row most_bytes text_codec image.now) result) }
 {
-    frequent::from_bytes::<String>(alloc, handle, image, most_bytes)
+    let read = FrequentItemsSketch::<String>::deserialize_with_limit(alloc, image, most_bytes);
+    put_made(alloc, handle, read)
 }
 
 /// Makes the sketch of an image, whose table takes at most so many bytes, in place of what the handle has, which is freed.
@@ -327,7 +332,8 @@ pub extern "C" fn ds_frequent_u64_from_bytes(
     ensures refused { OnRefused result ((handle.new.value ≡ handle.old.value) × IsRefusedImage
         (early_fault_within u64_row most_bytes image.now) (first_fault_within u64_row most_bytes u64_codec image.now) result) }
 {
-    frequent::from_bytes::<u64>(alloc, handle, image, most_bytes)
+    let read = FrequentItemsSketch::<u64>::deserialize_with_limit(alloc, image, most_bytes);
+    put_made(alloc, handle, read)
 }
 
 /// Makes the sketch of an image, whose table takes at most so many bytes, in place of what the handle has, which is freed.
@@ -347,5 +353,6 @@ pub extern "C" fn ds_frequent_i64_from_bytes(
     ensures refused { OnRefused result ((handle.new.value ≡ handle.old.value) × IsRefusedImage
         (early_fault_within i64_row most_bytes image.now) (first_fault_within i64_row most_bytes i64_codec image.now) result) }
 {
-    frequent::from_bytes::<i64>(alloc, handle, image, most_bytes)
+    let read = FrequentItemsSketch::<i64>::deserialize_with_limit(alloc, image, most_bytes);
+    put_made(alloc, handle, read)
 }

@@ -22,6 +22,7 @@ mod handle;
 mod images;
 mod join;
 mod kind;
+mod making;
 mod many_texts;
 mod raw_box;
 mod sizes;

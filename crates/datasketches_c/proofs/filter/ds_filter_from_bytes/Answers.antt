@@ -1,11 +1,13 @@
-use Rattle.std.proofs.Common.{rules}
-use Rattle.sketch_bloom.specs.Image.{early_fault_within, first_fault_within}
-use Rattle.datasketches_c.proofs.Reading.{no_early_fault, refused_for_memory}
+use Rattle.std.proofs.Common.{◌*◌, ◌≤◌, rules}
+use Rattle.sketch_bloom.specs.Image.{IsImage, early_fault_within, first_fault_within}
+use Rattle.datasketches_c.proofs.Reading.{no_early_fault, was_not_read}
 use Rattle.datasketches_c.proofs.filter.ds_filter_from_bytes.Goals as goal
 
--- the image was read, and the handle found no memory
-pub returns-in-Ok-clause-refused : goal.returns-in-Ok-clause-refused
-returns-in-Ok-clause-refused c =
-    let none = no_early_fault c.args.most_bytes c.args.image.now c.in-Ok.filter c.in-Ok.ensures.image c.in-Ok.ensures.within in
-    let said = refused_for_memory c.put.result _ (early_fault_within c.args.most_bytes c.args.image.now) (first_fault_within c.args.most_bytes c.args.image.now) none c.put.ensures.refused in
+-- the image was refused, or the handle found no memory
+pub returns-clause-refused : goal.returns-clause-refused
+returns-clause-refused c =
+    let read = c.deserialize_with_limit-read in
+    let most = c.args.most_bytes in
+    let image = c.args.image.now in
+    let said = was_not_read read.result (λ s. IsImage image s) (λ s. 8 * s.num_words ≤ most) (early_fault_within most image) (first_fault_within most image) c.put_made.result _ (no_early_fault most image) read.ensures.image read.ensures.within read.ensures.err c.put_made.ensures.refused in
     search rules

@@ -1,0 +1,25 @@
+//! Sketches that were made, or read from images, put in a handle.
+ghost use Rattle.std.specs.Prelude.{◌≡◌, Some, Ok, MatchResult};
+ghost use Rattle.datasketches_c.specs.Numbers.{OnDone, OnRefused, ok, refusal_number};
+
+use crate::handle::SketchHandle;
+use crate::kind::Kind;
+use crate::status_code::refusal_number;
+use sketch_base::{Error, Fault};
+use std::alloc::Global;
+
+/// Puts a sketch, where it was made, in place of what the handle has, which is freed, and else answers why it was not.
+pub(crate) fn put_made<K: Kind>(
+    alloc: Global,
+    handle: &mut SketchHandle,
+    made: Result<K, Error>,
+) -> i32
+    ensures done { OnDone result ((result ≡ ok) × ((s : K) × (made ≡ Ok s) × (handle.new.value ≡ Some (K.whole s)))) }
+    ensures refused { OnRefused result ((handle.new.value ≡ handle.old.value)
+        × MatchResult made (λ s. result ≡ refusal_number Fault.NoMemory) (λ e. result ≡ refusal_number e.fault)) }
+{
+    match made {
+        Ok(sketch) => handle.put(alloc, sketch.into_any()),
+        Err(error) => refusal_number(error.fault()),
+    }
+}
