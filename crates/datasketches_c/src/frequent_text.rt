@@ -1,12 +1,12 @@
 //! Sketches of frequent texts: a text is made an item, many texts are added and asked for, and reports have texts.
 ghost use Rattle.std.specs.List.{concat};
-ghost use Rattle.std.specs.Prelude.{◌≡◌, ◌+◌, length, ◌≤◌, ◌^◌, ◌⊎◌, MatchOption};
+ghost use Rattle.std.specs.Prelude.{◌≡◌, ◌+◌, length, ◌≤◌, ◌^◌, MatchOption};
 ghost use Rattle.datasketches_c.specs.FrequentBatches.{TellsOfTexts};
 ghost use Rattle.datasketches_c.specs.FrequentRows.{error_type};
 ghost use Rattle.datasketches_c.specs.FrequentTextRows.{LeavesTextRows, ReportsTexts, WritesTextRows, row_texts};
 ghost use Rattle.datasketches_c.specs.FrequentTexts.{UpdatesText, TellsOfText};
 ghost use Rattle.datasketches_c.specs.InTurn.{CallsInTurn};
-ghost use Rattle.datasketches_c.specs.Numbers.{OnDone, OnRefused, ok, refusal_number};
+ghost use Rattle.datasketches_c.specs.Numbers.{OnDone, OnRefused, ok, no_room, refusal_number};
 ghost use Rattle.datasketches_c.specs.Texts.{AreTexts, AreTextsIn, texts_of, offsets_from};
 
 use crate::frequent::{FrequentBounds, add, bounds_of};
@@ -127,31 +127,26 @@ fn copy_texts(rows: &[Row<String>], bytes: &mut [u8], offsets: &mut [u64])
     }
 }
 
-/// Copies rows to the front of the buffers, where there is room, and says how many rows and bytes there are.
+/// Copies rows, whose texts have so many bytes, to the front of the buffers, where there is room.
 fn copy_rows(
     rows: &[Row<String>],
+    num_bytes: usize,
     bytes: &mut [u8],
     offsets: &mut [u64],
     bounds: &mut [FrequentBounds],
-    count: &mut usize,
-    num_bytes: &mut usize,
 ) -> i32
+    requires { num_bytes ≡ length (concat (row_texts rows.now)) }
     ensures report { ReportsTexts rows.now (record { bytes = bytes.old; offsets = offsets.old; bounds = bounds.old })
-        (record { bytes = bytes.new; offsets = offsets.new; bounds = bounds.new }) count.new num_bytes.new result
-        ⊎ (result ≡ refusal_number Fault.NoMemory) }
-    ensures left { LeavesTextRows (record { bytes = bytes.old; offsets = offsets.old; bounds = bounds.old })
-        (record { bytes = bytes.new; offsets = offsets.new; bounds = bounds.new }) count.old count.new num_bytes.old num_bytes.new result }
+        (record { bytes = bytes.new; offsets = offsets.new; bounds = bounds.new }) (length rows.now) num_bytes result }
+    ensures no_room { OnRefused result (result ≡ no_room) }
+    ensures done { OnDone result (result ≡ ok) }
+    ensures untouched { OnRefused result ((bytes.new ≡ bytes.old) × (offsets.new ≡ offsets.old) × (bounds.new ≡ bounds.old)) }
 {
-    let Some(length) = num_bytes_of(rows) else {
-        return refusal_number(Fault::NoMemory);
-    };
     let needed = rows.len();
-    *count = needed;
-    *num_bytes = length;
-    if bytes.len() < length || offsets.len() <= needed || bounds.len() < needed {
+    if bytes.len() < num_bytes || offsets.len() <= needed || bounds.len() < needed {
         return NO_ROOM;
     }
-    copy_texts(rows, &mut bytes[..length], &mut offsets[..needed + 1]);
+    copy_texts(rows, &mut bytes[..num_bytes], &mut offsets[..needed + 1]);
     copy_bounds(rows, &mut bounds[..needed]);
     OK
 }
@@ -175,7 +170,14 @@ pub(crate) fn write_rows(
         (record { bytes = bytes.new; offsets = offsets.new; bounds = bounds.new }) count.old count.new num_bytes.old num_bytes.new result }
 {
     match sketch.frequent_items_with_threshold(error_type_of(no_false_negatives), threshold) {
-        Ok(rows) => copy_rows(&rows, bytes, offsets, bounds, count, num_bytes),
+        Ok(rows) => {
+            let Some(length) = num_bytes_of(&rows) else {
+                return refusal_number(Fault::NoMemory);
+            };
+            *count = rows.len();
+            *num_bytes = length;
+            copy_rows(&rows, length, bytes, offsets, bounds)
+        }
         Err(error) => refusal_number(error.fault()),
     }
 }

@@ -1,15 +1,15 @@
-use Rattle.std.proofs.Common.{inl, refl, arith}
+use Rattle.std.proofs.Common.{refl, arith}
 use Rattle.datasketches_c.proofs.TextReports.{texts_stand}
 use Rattle.datasketches_c.proofs.frequent_text.copy_rows.Goals as goal
 
 -- there was room, and all was written
 pub returns-clause-report : goal.returns-clause-report
 returns-clause-report c =
-    inl (record {
+    record {
       counted = refl;
-      measured = c.in-Some.ensures;
-      written = λ bytes offsets bounds. (refl, texts_stand c.args.rows.now (record { bytes = c.args.bytes.now; offsets = c.args.offsets.now; bounds = c.args.bounds.now }) c.copy_texts.new.bytes c.copy_texts.new.offsets c.copy_bounds.new.bounds c.in-Some.length c.in-Some.ensures c.copy_texts.ensures.bytes c.copy_texts.ensures.offsets c.copy_bounds.ensures);
+      measured = c.requires;
+      written = λ bytes offsets bounds. (refl, texts_stand c.args.rows.now (record { bytes = c.args.bytes.now; offsets = c.args.offsets.now; bounds = c.args.bounds.now }) c.copy_texts.new.bytes c.copy_texts.new.offsets c.copy_bounds.new.bounds c.args.num_bytes c.requires c.copy_texts.ensures.bytes c.copy_texts.ensures.offsets c.copy_bounds.ensures);
       few_bytes = λ few. absurd (omega arith);
       few_offsets = λ few. absurd (omega arith);
       few_bounds = λ few. absurd (omega arith);
-    })
+    }
