@@ -1,11 +1,11 @@
 -- What a call for one kind of sketch says of a handle that may hold any.
-use Rattle.std.specs.Prelude.{◌≡◌, ℕ, ℤ, Option, Some, None}
+use Rattle.std.specs.Prelude.{◌≡◌, ◌≢◌, ℕ, ℤ, List, Option, Some, None, length}
 use Rattle.std.specs.Global.{Global}
 use Rattle.std.specs.declared.string.String.{String}
 use Rattle.sketch_bloom.specs.State.{FilterState}
 use Rattle.sketch_countmin.specs.State.{CountState}
 use Rattle.sketch_frequencies.specs.State.{FrequentState}
-use Rattle.datasketches_c.specs.Numbers.{OnRefused, ok, no_sketch, wrong_kind}
+use Rattle.datasketches_c.specs.Numbers.{OnRefused, ok, no_room, no_sketch, wrong_kind}
 use Rattle.datasketches_c.specs.declared.any_sketch.AnySketch.{AnySketch}
 use Rattle.datasketches_c.specs.declared.any_sketch.AnySketch.TheVariants.{Filter, CountI64, CountU64, FrequentI64, FrequentTexts, FrequentU64}
 
@@ -35,6 +35,15 @@ pub record WritesDown
   pub kept : new ≡ old
   pub told : OnKind part old new result (λ s. (result ≡ ok) × said s)
   pub untouched : OnRefused result (place_new ≡ place_old)
+
+-- a call asks about many items, and has a place for the answer to each: with more or fewer places it is refused
+pub record WritesDownEach
+    {P : Type 0} (items : ℕ) (old new : Option AnySketch) (result : ℤ) (places_old places_new : List P) (Told : Type 0)
+    : Type 0 where
+  pub kept : new ≡ old
+  pub other_length : length places_old ≢ items → result ≡ no_room
+  pub told : length places_old ≡ items → Told
+  pub untouched : OnRefused result (places_new ≡ places_old)
 
 -- the filter that a sketch of any kind is
 abbrev pub filter_of : AnySketch → Option FilterState

@@ -6,7 +6,7 @@ ghost use Rattle.datasketches_c.specs.FrequentCalls.{Updates, UpdatesMany, Merge
 ghost use Rattle.datasketches_c.specs.FrequentImages.{WritesFrequent};
 ghost use Rattle.datasketches_c.specs.FrequentRows.{LeavesRows, WritesRows, error_type};
 ghost use Rattle.datasketches_c.specs.FrequentTexts.{text_eq};
-ghost use Rattle.datasketches_c.specs.Kinds.{OnKind, HoldsKind, WritesDown};
+ghost use Rattle.datasketches_c.specs.Kinds.{OnKind, HoldsKind, WritesDown, WritesDownEach};
 ghost use Rattle.datasketches_c.specs.Numbers.{OnRefused, ok, no_room, refusal_number};
 ghost use Rattle.datasketches_c.specs.Weights.{AddsWeights};
 
@@ -176,12 +176,9 @@ pub(crate) fn bounds_all<T: Eq + Hash + Drop>(
 ) -> i32
 where
     FrequentItemsSketch<T>: Kind,
-    ensures kept { handle.new.value ≡ handle.old.value }
-    ensures no_room { length bounds.old ≢ length items.now → result ≡ no_room }
-    ensures bounds { length bounds.old ≡ length items.now
-        → OnKind (⟦<FrequentItemsSketch<T> as Kind>⟧.part) handle.old.value handle.new.value result (λ s.
-        (result ≡ ok) × AreBoundsOfAll T.eq s items.now bounds.new) }
-    ensures untouched { OnRefused result (bounds.new ≡ bounds.old) }
+    ensures { WritesDownEach (length items.now) handle.old.value handle.new.value result bounds.old bounds.new
+        (OnKind (⟦<FrequentItemsSketch<T> as Kind>⟧.part) handle.old.value handle.new.value result (λ s.
+        (result ≡ ok) × AreBoundsOfAll T.eq s items.now bounds.new)) }
 {
     if bounds.len() != items.len() {
         return NO_ROOM;
