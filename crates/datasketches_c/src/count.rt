@@ -6,7 +6,7 @@ ghost use Rattle.sketch_countmin.specs.State.{Counts, CountsAll, IsLeastCell};
 ghost use Rattle.datasketches_c.specs.CountCalls.{AddsWeight, AddsEach, AddsWeights, EstimatesAll, AreCountNumbers, IsBound, MergesInto};
 ghost use Rattle.datasketches_c.specs.CountJoins.{IsJoined};
 ghost use Rattle.datasketches_c.specs.Estimates.{AreLeastCells};
-ghost use Rattle.datasketches_c.specs.Kinds.{WritesDown};
+ghost use Rattle.datasketches_c.specs.Kinds.{WritesDown, WritesDownEach};
 ghost use Rattle.datasketches_c.specs.Numbers.{OnRefused, ok, no_room, refusal_number};
 ghost use Rattle.datasketches_c.specs.Texts.{AreTexts, RefusesTexts, RefusesTextsIn, texts_of};
 
@@ -180,13 +180,9 @@ pub(crate) fn estimate_all<V: CountMinValue, I: Hash>(
 ) -> i32
 where
     CountMinSketch<V>: Kind,
-    ensures kept { handle.new.value ≡ handle.old.value }
     ensures length { length estimates.new ≡ length estimates.old }
-    ensures no_room { length estimates.old ≢ length items.now
-        → (result ≡ no_room) × (estimates.new ≡ estimates.old) }
-    ensures estimates { length estimates.old ≡ length items.now
-        → EstimatesAll (⟦<CountMinSketch<V> as Kind>⟧.part) handle.old.value handle.new.value result (fed_bytes I.hash_input) items.now (map V.number estimates.new) }
-    ensures untouched { OnRefused result (estimates.new ≡ estimates.old) }
+    ensures each { WritesDownEach (length items.now) handle.old.value handle.new.value result estimates.old estimates.new
+        (EstimatesAll (⟦<CountMinSketch<V> as Kind>⟧.part) handle.old.value handle.new.value result (fed_bytes I.hash_input) items.now (map V.number estimates.new)) }
 {
     if estimates.len() != items.len() {
         return NO_ROOM;

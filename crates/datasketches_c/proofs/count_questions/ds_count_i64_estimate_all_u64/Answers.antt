@@ -7,4 +7,4 @@ use Rattle.datasketches_c.proofs.count_questions.ds_count_i64_estimate_all_u64.G
 
 pub returns-clause-estimates : goal.returns-clause-estimates
 returns-clause-estimates c =
-    λ same. let said = own_numbers count_i64_of c.args.handle.now.value c.estimate_all.new.handle.value c.estimate_all.result (fed_bytes fed.u64) c.args.items.now c.estimate_all.new.estimates (c.estimate_all.ensures.estimates same) in search rules
+    λ same. let said = own_numbers count_i64_of c.args.handle.now.value c.estimate_all.new.handle.value c.estimate_all.result (fed_bytes fed.u64) c.args.items.now c.estimate_all.new.estimates (c.estimate_all.ensures.each.told same) in search rules
