@@ -43,6 +43,12 @@ pub fn hashes_of_both_rows(user: u64, seeds: (u64, u64)) -> (u64, u64) {
     (item.murmur3(seeds.0).0, item.murmur3(seeds.1).0)
 }
 
+/// How many bytes a number feeds, which are few enough to be kept.
+pub fn kept_bytes(user: u64) -> Option<usize> {
+    let item = SeedlessItem::new(&user);
+    item.short().map(|bytes| bytes.len())
+}
+
 /// The bucket of a hash, of 128 buckets.
 pub fn bucket(hash: u64) -> u64 {
     let buckets = Divisor::new(128);

@@ -58,6 +58,15 @@ pub fn heavier_pages(
     Ok((surely.len(), perhaps.len()))
 }
 
+/// The kind of a report that may miss an item, or else of one that misses none.
+pub fn kind_of_report(may_miss_items: bool) -> ErrorType {
+    if may_miss_items {
+        ErrorType::NoFalsePositives
+    } else {
+        ErrorType::NoFalseNegatives
+    }
+}
+
 /// Whether one item surely weighs more than another.
 pub fn surely_weighs_more(one: &Row<u64>, other: &Row<u64>) -> bool {
     one.lower_bound() > other.upper_bound()

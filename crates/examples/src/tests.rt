@@ -1,7 +1,7 @@
 //! What the examples answer.
 use crate::bytes::{
-    bucket, halves_of, hash_of_both, hashes_of_both_rows, is_cut_short, is_of_a_filter, reason,
-    there_and_back, version_and_seed,
+    bucket, halves_of, hash_of_both, hashes_of_both_rows, is_cut_short, is_of_a_filter, kept_bytes,
+    reason, there_and_back, version_and_seed,
 };
 use crate::callers::{aged_estimate, is_in_union, surely_weighs};
 use crate::counts::{
@@ -13,9 +13,9 @@ use crate::filters::{
     still_refused,
 };
 use crate::frequent_items::{
-    apples_of_both_shops, bytes_of, counts_visit, heavier_pages, heaviest, longest_look_up,
-    most_visited, sent_pages, sketch_of_visitors, surely_weighs_more, visits_of_four,
-    visits_within_a_percent, weights_of_four,
+    apples_of_both_shops, bytes_of, counts_visit, heavier_pages, heaviest, kind_of_report,
+    longest_look_up, most_visited, sent_pages, sketch_of_visitors, surely_weighs_more,
+    visits_of_four, visits_within_a_percent, weights_of_four,
 };
 use crate::images::sent;
 use crate::session::{
@@ -71,6 +71,7 @@ fn bytes_are_as_the_docs_say(rt: HostRuntime) -> Result<(), Fail> {
     assert!(rt; hash_of_both(b"app", b"le") == hash_of_both(b"", b"apple"));
     assert!(rt; halves_of(&7u64) == halves_of(&7u64));
     assert!(rt; bucket(300) == 44);
+    assert!(rt; kept_bytes(7) == Some(8));
     assert!(rt; hashes_of_both_rows(7, (9001, 9001)).1 == 0xF987_0733_D517_E9C1);
     Ok(())
 }
@@ -205,6 +206,7 @@ fn weights_of_pages(alloc: Global) -> Result<[u64; 4], Error> {
 fn frequent_items_are_as_the_docs_say(rt: HostRuntime) -> Result<(), Fail> {
     assert!(rt; heavier_than_three(rt.alloc())? == (1, 1));
     assert!(rt; is_above_itself(rt.alloc())? == Some(false));
+    assert!(rt; kind_of_report(true) == ErrorType::NoFalsePositives);
     assert!(rt; weights_of_pages(rt.alloc())? == [2, 1, 0, 2]);
     assert!(rt; bytes_of(rt.alloc(), &1u64)?.as_slice() == [1u8, 0, 0, 0, 0, 0, 0, 0].as_slice());
     Ok(())

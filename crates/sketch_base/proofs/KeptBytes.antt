@@ -25,14 +25,19 @@ padded_full kept = omega (arith, length-append kept (replicate (16 - length kept
 
 -- one piece more
 keeps_more : (before piece kept : List ℕ) → Keeps before kept → Keeps (before ++ piece) (keep kept piece)
-keeps_more before piece kept keeps = elim (cases_lt (length kept + length piece) 16) [
-  | inl short ↦ λ few. keep_short kept piece short ∙ ap (λ xs. xs ++ piece) (keeps (omega arith))
-  | inr long ↦ λ few. absurd (omega (arith, few, ap length (keep_long kept piece long), padded_full kept))
-]
+keeps_more before piece kept keeps = record {
+  all = elim (cases_lt (length kept + length piece) 16) [
+    | inl short ↦ λ few. keep_short kept piece short ∙ ap (λ xs. xs ++ piece) (keeps.all (omega arith))
+    | inr long ↦ λ few. absurd (omega (arith, few, ap length (keep_long kept piece long), padded_full kept))
+  ];
+  few = λ few.
+      let same : kept ≡ before = keeps.few (omega (arith, few, length-append before piece)) in
+      keep_short kept piece (omega (arith, few, length-append before piece, ap length same)) ∙ ap (λ xs. xs ++ piece) same;
+}
 
 -- all pieces of an item
 pub keeps_all : (start kept : List ℕ) (pieces : List (List ℕ)) → start ≡ [] → kept ≡ fold keep start pieces → Keeps (concat pieces) kept
-keeps_all start kept pieces none e = subst (Keeps (concat pieces)) (sym e) (all_pieces keep Keeps keeps_more [] start pieces (λ few. none))
+keeps_all start kept pieces none e = subst (Keeps (concat pieces)) (sym e) (all_pieces keep Keeps keeps_more [] start pieces (record { all = λ few. none; few = λ few. none }))
 
 -- ---- the fields under the view
 

@@ -6,6 +6,7 @@ use Rattle.sketch_base.specs.Murmur3.{padded}
 unfoldable pub keep : List ℕ → List ℕ → List ℕ
 keep kept piece = if nat_lt (length kept + length piece) 16 then kept ++ piece else padded kept
 
--- what is kept is all that was fed, where that is fewer bytes than a block
-abbrev pub Keeps : List ℕ → List ℕ → Type 0
-Keeps fed kept = length kept < 16 → kept ≡ fed
+-- what is kept is all that was fed, where either is fewer bytes than a block
+pub record Keeps (fed kept : List ℕ) : Type 0 where
+  pub all : length kept < 16 → kept ≡ fed
+  pub few : length fed < 16 → kept ≡ fed

@@ -1,5 +1,5 @@
 //! An item that is hashed under several seeds.
-ghost use Rattle.std.specs.Prelude.{◌≡◌, ◌<◌, IfSome, length};
+ghost use Rattle.std.specs.Prelude.{◌≡◌, ◌<◌, ◌≤◌, IfSome, IfNone, length};
 ghost use Rattle.sketch_base.specs.Hashes.{fed_bytes};
 ghost use Rattle.sketch_base.specs.Murmur3.{murmur3_x64_128};
 
@@ -57,6 +57,7 @@ impl<'a, T: Hash> SeedlessItem<'a, T> {
     pub fn short(&self) -> Option<&ShortBytes>
         ensures bytes { IfSome result (λ bytes. bytes.now ≡ self.now) }
         ensures few { IfSome result (λ bytes. length bytes.now < 16) }
+        ensures many { IfNone result (16 ≤ length self.now) }
     {
         if self.short.len() < 16 {
             Some(&self.short)

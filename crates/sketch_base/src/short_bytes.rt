@@ -8,7 +8,19 @@ use crate::short_copy::copy_short;
 use std::hash::Hasher;
 use std::marker::Model;
 
-/// The bytes that an item feeds, kept while they are fewer than 16. It hashes nothing by itself.
+/// The bytes that an item feeds, kept while they are fewer than 16, as [`SeedlessItem::short`](crate::SeedlessItem::short)
+/// answers them. It hashes nothing by itself.
+///
+/// # Examples
+///
+/// ```
+/// use sketch_base::SeedlessItem;
+///
+/// fn kept_bytes(user: u64) -> Option<usize> {
+///     let item = SeedlessItem::new(&user);
+///     item.short().map(|bytes| bytes.len())
+/// }
+/// ```
 #[derive(Drop)]
 pub struct ShortBytes {
     // The bytes, and zeros.

@@ -4,6 +4,20 @@ ghost use Rattle.std.specs.Prelude.{◌≡◌};
 /// Which mistakes a report may make, since a sketch knows each weight only up to its error.
 ///
 /// [`frequent_items_with_threshold`](crate::FrequentItemsSketch::frequent_items_with_threshold) shows both.
+///
+/// # Examples
+///
+/// ```
+/// use sketch_frequencies::ErrorType;
+///
+/// fn kind_of_report(may_miss_items: bool) -> ErrorType {
+///     if may_miss_items {
+///         ErrorType::NoFalsePositives
+///     } else {
+///         ErrorType::NoFalseNegatives
+///     }
+/// }
+/// ```
 #[derive(Clone, Copy, Debug, PartialEq, Eq)]
 pub enum ErrorType {
     /// No item above the threshold is missing: items whose upper bound is above it are shown.
