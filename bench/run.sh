@@ -16,7 +16,7 @@ compile() {
 }
 
 # Each function of the loops and of what they call begins at a multiple of 64: an edit elsewhere would else move a loop by 16 bytes,
-# and a jump across 32 bytes, where some processors take a tenth longer. Of the plain side a word of the compiler sees to it.
+# and its time by a tenth. Of the plain side a word of the compiler sees to it.
 align() { # the static library of a crate, into out/aligned
     mkdir -p out/aligned
     (cd out/aligned && rm -f ./* && ar x "../crates/$1/out/lib$1.a" && objcopy --set-section-alignment '.text*=64' "$1.o" \
