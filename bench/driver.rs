@@ -1,18 +1,24 @@
 //! Times the proved crates beside plain Rust, in one process, and prints a table. Words choose the rows whose names
-//! have each of them; `--names` prints only the names.
+//! have each of them; `--names` prints only the names, and `--once` runs each row once.
 
 mod plain;
 mod rows;
 mod timing;
 
+use timing::Task;
+
 fn main() {
     let mut words: Vec<String> = std::env::args().skip(1).collect();
-    let names_only = words.first().is_some_and(|word| word == "--names");
-    if names_only {
+    let task = match words.first().map(String::as_str) {
+        Some("--names") => Task::Name,
+        Some("--once") => Task::RunOnce,
+        _ => Task::Time,
+    };
+    if task != Task::Time {
         words.remove(0);
     }
     timing::keep_memory();
-    let table = timing::Table::new(words, names_only);
+    let table = timing::Table::new(words, task);
     rows::hashes::rows(&table);
     rows::filters::rows(&table);
     rows::count_min::rows(&table);

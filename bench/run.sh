@@ -1,6 +1,6 @@
 #!/usr/bin/env bash
 # Prints one table of what the operations of the proved crates take, beside plain Rust. Words choose its rows: those whose
-# names have each of them.
+# names have each of them. A number as ORDER links the functions in an order that goes by it.
 set -eu
 cd "$(dirname "$0")"
 crates=out/crates
@@ -42,7 +42,7 @@ prove bench_loops lib
 align bench_loops
 # The heap of the proved side is the C library's, as that of the plain side.
 compile -C llvm-args=-align-all-functions=6 driver.rs -o out/driver -L out/aligned -l static=bench_loops \
-    -C link-arg="$(dirname "$(rt doc)")/c/liblibc_c.a"
+    -C link-arg="$(dirname "$(rt doc)")/c/liblibc_c.a" ${ORDER:+-C link-arg="-Wl,--shuffle-sections=*=$ORDER"}
 case $(out/driver --names "$@") in
 *'program, '*)
     prove datasketches_cli run

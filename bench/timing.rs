@@ -63,29 +63,39 @@ pub type Loop = unsafe extern "C" fn(*const c_void, *const c_void, usize, *const
 /// A loop in plain Rust, which is given the same.
 pub type PlainLoop<Shape, Item> = dyn Fn(&Shape, &[Item], &[Item], u64) -> u64;
 
+/// What is done with the rows that were asked for.
+#[derive(Clone, Copy, PartialEq)]
+pub enum Task {
+    /// They are timed.
+    Time,
+    /// They are only named.
+    Name,
+    /// They are run once, for a tool that counts what they do.
+    RunOnce,
+}
+
 /// The rows that were asked for: those whose names have each of the words.
 pub struct Table {
     words: Vec<String>,
-    /// Whether rows are only to be named.
-    names_only: bool,
+    task: Task,
 }
 
 impl Table {
-    /// Prints the head of the table, unless rows are only to be named.
-    pub fn new(words: Vec<String>, names_only: bool) -> Self {
-        if !names_only {
+    /// Prints the head of the table, if there is to be one.
+    pub fn new(words: Vec<String>, task: Task) -> Self {
+        if task == Task::Time {
             println!("| operation | here | plain | ratio |\n|---|---|---|---|");
         }
-        Table { words, names_only }
+        Table { words, task }
     }
 
-    /// Whether a row is to be timed.
+    /// Whether a row is to be run.
     pub fn has(&self, name: &str) -> bool {
         let chosen = self.words.iter().all(|word| name.contains(word));
-        if chosen && self.names_only {
+        if chosen && self.task == Task::Name {
             println!("{name}");
         }
-        chosen && !self.names_only
+        chosen && self.task != Task::Name
     }
 
     /// Times a row of so many calls a turn, here and in plain Rust, unless it is not asked for. Both sides answer what
@@ -120,7 +130,7 @@ impl Table {
         );
     }
 
-    /// The same where the sides take their own times, in seconds, and the caller has seen that the row is to be timed.
+    /// The same where the sides take their own times, in seconds, and the caller has seen that the row is to be run.
     pub fn timed_row(
         &self,
         name: &str,
@@ -129,6 +139,10 @@ impl Table {
         here: &dyn Fn(u64) -> (f64, u64),
         plain: &dyn Fn(u64) -> (f64, u64),
     ) {
+        if self.task == Task::RunOnce {
+            assert_eq!(here(turns).1, plain(turns).1, "{name}");
+            return;
+        }
         // a side's least times with no turn and with all
         let mut least = [[f64::MAX; 2]; 2];
         for round in 0..ROUNDS {
