@@ -1,7 +1,7 @@
 #!/usr/bin/env bash
 # Prints how many instructions each row takes on the proved side, as valgrind counts them, of what `run.sh` has built: the same
 # at each run, whatever else the machine does. Words choose rows as there.
-set -eu
+set -euo pipefail
 cd "$(dirname "$0")"
 
 count() { # the instructions of a command

@@ -1,6 +1,7 @@
 #!/usr/bin/env bash
 # Prints one table of what the operations of the proved crates take, beside plain Rust. Words choose its rows: those whose
-# names have each of them. A number as ORDER links the functions in an order that goes by it.
+# names have each of them. With ORDER=1, or another number, the functions are linked in an order that goes by it (by lld, with which
+# rustc links here).
 set -eu
 cd "$(dirname "$0")"
 crates=out/crates

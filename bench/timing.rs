@@ -70,7 +70,7 @@ pub enum Task {
     Time,
     /// They are only named.
     Name,
-    /// They are run once, for a tool that counts what they do.
+    /// The one of that very name is run once, for a tool that counts what it does.
     RunOnce,
 }
 
@@ -91,7 +91,10 @@ impl Table {
 
     /// Whether a row is to be run.
     pub fn has(&self, name: &str) -> bool {
-        let chosen = self.words.iter().all(|word| name.contains(word));
+        let chosen = match self.task {
+            Task::RunOnce => self.words == [name],
+            _ => self.words.iter().all(|word| name.contains(word)),
+        };
         if chosen && self.task == Task::Name {
             println!("{name}");
         }
