@@ -3,8 +3,9 @@
     python3 tests/must_fail.py [--after 'N passed, M failed'] [CRATE..]
 
 tries those of every crate, or of the crates that are named, over the libraries that `rt ci` or `rt check` left in `out/rlib`. A check
-first has to prove those functions as they stand, with all that they call, and each edit is checked over what that check kept. Prints a
-line for each edit, and then 'N passed, M failed', which counts on from the numbers behind `--after`.
+first has to prove those functions as they stand, with all that they call, and edits are checked over what that check kept. A check tries
+edits of functions that do not call one another at once: each function is judged by the contracts of what it calls. Prints a line for
+each edit, and then 'N passed, M failed', which counts on from the numbers behind `--after`.
 
 An edit is a file of lines `file: PATH`, pairs of `old: TEXT` and `new: TEXT`, where each old text stands in that file exactly once,
 and `refused: FUNCTION` for each function that no longer meets its contract.
@@ -20,8 +21,7 @@ import tempfile
 TOP = os.path.dirname(os.path.dirname(os.path.abspath(__file__)))
 KIT = os.path.dirname(subprocess.run(["rt", "doc"], check=True, capture_output=True, text=True).stdout.strip())
 
-# What the prover says of a goal that it refuses, and of a name that an edit took away, which says nothing of a contract.
-REFUSALS = re.compile(r"^(?:note: \S+:\d+:\d+: it is not proved|\S+:\d+:\d+: error:).*", re.MULTILINE)
+# An error that says nothing of a contract: a proof names what the edit took away.
 NAMES = re.compile(r"has no field|is not in scope|has no `|was not admitted")
 
 
@@ -48,6 +48,40 @@ class Edit:
                     file.write(before.replace(old, text))
 
 
+def one_a_function(edits):
+    """The first of those that name a function, for each function."""
+    found, functions = [], set()
+    for edit in edits:
+        if not edit.refused & functions:
+            found.append(edit)
+            functions |= edit.refused
+    return found
+
+
+class Verdicts:
+    """What a check says of the functions of a crate."""
+
+    def __init__(self, crate, said):
+        self.said = said
+        self.of = dict(re.findall(rf"^fn {crate}::(.*?): (.*)$", said, re.MULTILINE))
+
+    def callers(self):
+        """Those of which nothing is known, since they call what is refused."""
+        return {function for function, verdict in self.of.items() if " it calls " in verdict}
+
+    def refused(self):
+        return {function for function, verdict in self.of.items() if verdict != "proved"} - self.callers()
+
+    def goal(self, function):
+        """The goal of the function that the prover refuses, or nothing."""
+        verdict = self.of.get(function, "")
+        if verdict != "not proved":
+            return re.search(r"did not prove `(.*?)`|$", verdict)[1]
+        place = re.escape(f"./proofs/{function.replace('::', '/')}/")
+        errors = re.findall(rf"^{place}\S+: error: `(.*?)`: (.*)", self.said, re.MULTILINE)
+        return next((goal for goal, why in errors if not NAMES.search(why)), None)
+
+
 class Crate:
     def __init__(self, name, stands_on):
         """`stands_on` has the libraries of each crate, as `crates.txt` has them."""
@@ -61,13 +95,13 @@ class Crate:
         edits = f"{TOP}/must-fail/{name}"
         self.edits = [Edit(f"{edits}/{it}") for it in sorted(os.listdir(edits))] if os.path.isdir(edits) else []
 
-    def check(self, functions, kept, edit=None):
-        """What a check says of these functions and of those that they call, by their names, and all that it says. It checks a copy of
-        the crate, as the edit leaves it, over what an earlier check left in `kept`."""
+    def check(self, functions, kept, edits=()):
+        """Checks these functions, and those that they call, of a copy of the crate as the edits leave it, over what an earlier check left in
+        `kept`."""
         with tempfile.TemporaryDirectory() as copy:
             for part in ("src", "specs", "proofs"):
                 shutil.copytree(f"{self.folder}/{part}", f"{copy}/{part}")
-            if edit:
+            for edit in edits:
                 edit.apply(copy)
             root = "src/main.rt" if os.path.exists(f"{copy}/src/main.rt") else "src/lib.rt"
             words = ["--crate-name", self.name, root, "--links", f"{self.name}=", "--jobs", "1", "--incremental", kept]
@@ -79,28 +113,38 @@ class Crate:
             for function in sorted(functions):
                 words += ["--only", f"{self.name}::{function}"]
             ran = subprocess.run([f"{KIT}/bin/rattle", "check", *words], cwd=copy, stdout=subprocess.PIPE, stderr=subprocess.STDOUT, text=True)
-        return dict(re.findall(rf"^fn {self.name}::(.*?): (.*)$", ran.stdout, re.MULTILINE)), ran.stdout
+        return Verdicts(self.name, ran.stdout)
 
     def tried(self):
         """Whether each edit was refused as it has to be, and a line that says so."""
-        functions = set().union(*[edit.refused for edit in self.edits])
-        if not functions:
+        if not self.edits:
             return
+        functions = set().union(*[edit.refused for edit in self.edits])
         with tempfile.TemporaryDirectory() as work:
-            verdicts, said = self.check(functions, f"{work}/as it stands")
-            if not functions <= set(verdicts) or set(verdicts.values()) != {"proved"}:
-                yield False, f"{self.name}: NOT PROVED as it stands: {said[-2000:]}"
+            verdicts = self.check(functions, f"{work}/as it stands")
+            if not functions <= set(verdicts.of) or set(verdicts.of.values()) != {"proved"}:
+                yield False, f"{self.name}: NOT PROVED as it stands: {verdicts.said[-2000:]}"
                 return
-            for edit in self.edits:
-                shutil.copytree(f"{work}/as it stands", f"{work}/{edit.name}")
-                verdicts, said = self.check(edit.refused, f"{work}/{edit.name}", edit)
-                refused = {it for it, verdict in verdicts.items() if verdict == "not proved" or "did not prove" in verdict}
-                proved = {it for it, verdict in verdicts.items() if verdict == "proved"}
-                goals = [it for it in REFUSALS.findall(said) if not NAMES.search(it)]
-                if edit.refused and refused == edit.refused and refused | proved == set(verdicts) and goals:
-                    yield True, f"{self.name}: {edit.name}: refused, as it must be: {goals[0][:160]}"
-                else:
-                    yield False, f"{self.name}: {edit.name}: NOT REFUSED as it must be: {said[-2000:]}"
+            waiting, callers = self.edits, []
+            while waiting:
+                at_once = one_a_function(waiting)
+                with tempfile.TemporaryDirectory(dir=work) as over:
+                    shutil.copytree(f"{work}/as it stands", over, dirs_exist_ok=True)
+                    functions = set().union(*[edit.refused for edit in at_once])
+                    verdicts = self.check(functions, over, at_once)
+                strays = verdicts.refused() - functions
+                # (an edit is tried again later where a function of it calls that of another)
+                judged = [edit for edit in at_once if not edit.refused & verdicts.callers()] or at_once
+                for edit in judged:
+                    goals = {function: verdicts.goal(function) for function in sorted(edit.refused)}
+                    if goals and all(goals.values()) and not strays:
+                        yield True, f"{self.name}: {edit.name}: refused, as it must be: {', '.join(map(': '.join, goals.items()))}"
+                    else:
+                        yield False, f"{self.name}: {edit.name}: NOT REFUSED as it must be: {verdicts.said[-2000:]}"
+                callers += [edit for edit in at_once if edit not in judged]
+                waiting = [edit for edit in waiting if edit not in at_once]
+                if not waiting:
+                    waiting, callers = callers, []
 
 
 def main():

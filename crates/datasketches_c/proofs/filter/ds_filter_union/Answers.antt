@@ -5,3 +5,7 @@ use Rattle.datasketches_c.proofs.filter.ds_filter_union.Goals as goal
 
 pub returns-clause-call : goal.returns-clause-call
 returns-clause-call c = let said = was_set_against Union c.args.handle.now.value c.join.new.handle.value c.args.other.now.value c.join.new.other.value c.join.result c.join.ensures.call in search rules
+
+-- the other handle keeps its sketch
+pub returns-clause-other : goal.returns-clause-other
+returns-clause-other c = search rules

@@ -9,7 +9,7 @@ loop-command-preserved g c =
 
 pub returns-clause-run : goal.returns-clause-run
 returns-clause-run g c =
-    let none : c.loop-command.command-iterator.rest.items ≡ [] = nothing_left _ _ c.loop-command.command-iterator.rest.ok.0 c.in-None.ensures.steps.0 in
+    let none : c.loop-command.command-iterator.rest.items ≡ [] = nothing_left _ _ c.loop-command.command-iterator.rest.ok.0 (search rules) in
     ends _ g.T.PartialEq.eq g.T.Hash.hash_input g.T.FrequentItemValue.codec g.T.FrequentItemValue.content _ _ _ _ _ _ c.loop-command.invariant none
 
 pub returns-clause-fits : goal.returns-clause-fits
