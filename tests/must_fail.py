@@ -156,6 +156,9 @@ def main():
     with open(f"{TOP}/crates.txt", encoding="utf-8") as file:
         lines = [line.split(":") for line in file if not line.startswith("#")]
     stands_on = {crate.split()[0]: libraries.split() for crate, libraries in lines}
+    for stranger in sorted(set(os.listdir(f"{TOP}/must-fail")) - set(stands_on)):
+        print(f"must-fail/{stranger}: NOT TRIED: no crate has this name")
+        failed += 1
     with concurrent.futures.ThreadPoolExecutor(int(os.environ.get("RT_JOBS", "2"))) as lanes:
         for tried in lanes.map(lambda name: list(Crate(name, stands_on).tried()), words or stands_on):
             for holds, line in tried:
