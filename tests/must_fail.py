@@ -73,7 +73,7 @@ class Verdicts:
         return {function for function, verdict in self.of.items() if verdict != "proved"} - self.callers()
 
     def goal(self, function):
-        """The goal of the function that the prover refuses, or nothing."""
+        """The goal of the function that the prover refuses, or a step to one in its answers, or nothing."""
         verdict = self.of.get(function, "")
         if verdict != "not proved":
             return re.search(r"did not prove `(.*?)`|$", verdict)[1]
