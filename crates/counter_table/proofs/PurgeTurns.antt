@@ -70,6 +70,15 @@ freed {T} home old p m s at few new made =
       left = λ t e l. absurd (omega (arith, few, l, ap (λ (q : Held T). q.count) (same t e)));
     }
 
+-- ---- the turn of a free slot
+pub stayed : {T : Type 0} (home : T → ℕ) (old : List (Slot T)) (p m : ℕ) → is_taken old p ≡ false → (new : List (Slot T)) → new ≡ set old p Free → Settles home old p m false new
+stayed home old p m none new made =
+    record {
+      free = λ _. (refl, made ∙ set_free old p none);
+      spent = λ t e l. absurd (both_ways _ none (ap is_some e));
+      left = λ t e l. absurd (both_ways _ none (ap is_some e));
+    }
+
 -- where its home is
 pub home_back : (n h p d place : ℕ) → h < n → p < n → d ≡ distance n h p + 1 → place ≡ ahead n p (n - (d - 1)) → place ≡ h
 home_back n h p d place l k far is =

@@ -18,3 +18,6 @@ pub returns : goal.returns
 returns g c =
     let f : g.row.T.Denot → ℕ = count_of g.T.PartialEq.eq (entries_of c.args.slots.now) in
     written_all f c.args.items.now c.each.counts c.each.i c.each-test.false (omega arith) c.each.invariant
+
+pub count_in-requires-clause-fingerprints : goal.count_in-requires-clause-fingerprints
+count_in-requires-clause-fingerprints g c = c.requires.fingerprints

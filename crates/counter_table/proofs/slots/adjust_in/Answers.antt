@@ -1,7 +1,8 @@
-use Rattle.std.proofs.Common.{ap, sym, ◌∙◌, is_some}
+use Rattle.std.proofs.Common.{ap, sym, ◌∙◌, is_some, length}
 use Rattle.counter_table.proofs.LookupFingerprints.{fingerprints_found}
-use Rattle.counter_table.proofs.LookupProbes.{answers, fits_from_probe}
+use Rattle.counter_table.proofs.LookupProbes.{answers, fits_from_probe, probe_below}
 use Rattle.counter_table.proofs.InsertionWrites.{wrote_found}
+use Rattle.counter_table.proofs.LookupHomes.{some_size, home_of-below}
 use Rattle.counter_table.proofs.slots.adjust_in.Goals as goal
 
 pub add_at-requires-clause-fits : goal.add_at-requires-clause-fits
@@ -27,3 +28,9 @@ returns-in-None-clause-tracked g c =
 
 pub returns-in-Some-clause-fingerprints : goal.returns-in-Some-clause-fingerprints
 returns-in-Some-clause-fingerprints g c = fingerprints_found c.requires.fingerprints c.find-probe.ensures c.in-Some.is c.args.amount c.add_at.ensures
+
+pub add_at-requires-clause-place : goal.add_at-requires-clause-place
+add_at-requires-clause-place g c = probe_below (home_of-below _ (length c.args.slots.now) (some_size _ c.requires.slots.size)) c.find-probe.ensures
+
+pub find-probe-requires-clause-fingerprints : goal.find-probe-requires-clause-fingerprints
+find-probe-requires-clause-fingerprints g c = c.requires.fingerprints

@@ -42,3 +42,6 @@ probe-preserved g c =
       stands = stands_next g.T.Hash.hash_input c.args._item.now n c.requires.size c.probe.place c.next-place.result c.probe.looked c.probe.invariant.stands c.next-place.ensures below;
       taken = more;
     })
+
+pub next-place-requires-clause-place : goal.next-place-requires-clause-place
+next-place-requires-clause-place g c = stands_within g.T.Hash.hash_input c.args._item.now _ c.requires.size c.probe.place c.probe.looked c.probe.invariant.stands

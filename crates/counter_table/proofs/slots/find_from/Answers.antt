@@ -37,3 +37,9 @@ probe-preserved g c =
       stands = stands_next g.T.Hash.hash_input c.args.item.now n c.requires.size c.probe.place c.next-place.result c.probe.looked c.probe.invariant.stands c.next-place.ensures below;
       passed = more;
     })
+
+pub next-place-requires-clause-place : goal.next-place-requires-clause-place
+next-place-requires-clause-place g c = stands_within g.T.Hash.hash_input c.args.item.now _ c.requires.size c.probe.place c.probe.looked c.probe.invariant.stands
+
+pub count_at-found-requires-clause-fingerprints : goal.count_at-found-requires-clause-fingerprints
+count_at-found-requires-clause-fingerprints g c = c.requires.fingerprints

@@ -53,3 +53,10 @@ returns-after-loop-slot g c =
     let all : length (entries_of (take i slots)) ≡ length (entries_of slots) = ap (λ l. length (entries_of l)) (take_all i slots c.loop-slot-test.false) in
     let many = ap length c.loop-slot.invariant.counts ∙ length-map (entries_of (take i slots)) num in
     gathered_all slots c.loop-slot.counts (length c.args.counts.now) c.loop-slot.gathered i c.loop-slot.auto.counts c.loop-slot.invariant.counts (omega (arith, all, many, length-take c.loop-slot.gathered c.loop-slot.counts, c.loop-slot.invariant.short, c.loop-slot.auto.counts, c.requires))
+
+pub overflow_add-gathered : goal.overflow_add-gathered
+overflow_add-gathered g c =
+    elim c.match-slot.branch [
+      | in-Taken w ↦ omega (arith, ap (λ p. p.1) w.taken-is, c.if-gathered-counts.false)
+      | in-Free w ↦ omega (arith, ap (λ p. p.1) w.taken-is, c.if-gathered-counts.false)
+    ]

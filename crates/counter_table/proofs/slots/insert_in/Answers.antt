@@ -24,3 +24,6 @@ pub returns-clause-fingerprints : goal.returns-clause-fingerprints
 returns-clause-fingerprints g c =
     let below = gap_below (home_of-below _ (length c.args.slots.now) (some_size _ c.requires.slots.size)) c.find_free-gap.ensures in
     fingerprints_set c.requires.fingerprints c.find_free-gap.result.place (Taken c.find_free-gap.result.looked c.args.amount c.args.item) c.fingerprint.result c.fill.new.slots c.fill.new.fingerprints below (c.fingerprint.ensures ∙ ap fingerprint_of c.hash_of-hash.ensures) c.fill.ensures.slots c.fill.ensures.fingerprints
+
+pub find_free-gap-requires-clause-fingerprints : goal.find_free-gap-requires-clause-fingerprints
+find_free-gap-requires-clause-fingerprints g c = c.requires.fingerprints

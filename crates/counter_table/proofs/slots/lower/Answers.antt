@@ -42,3 +42,9 @@ returns-clause-entries g c = (sweep_ends c.loop-on.invariant.sweep c.loop-on-tes
 
 pub returns-clause-removed : goal.returns-clause-removed
 returns-clause-removed g c = (sweep_ends c.loop-on.invariant.sweep c.loop-on-test.false).2
+
+pub settle-requires-clause-size : goal.settle-requires-clause-size
+settle-requires-clause-size g c = rw c.loop-on.auto.slots c.requires.slots.size
+
+pub settle-requires-clause-fingerprints : goal.settle-requires-clause-fingerprints
+settle-requires-clause-fingerprints g c = c.loop-on.invariant.fingerprints_ok

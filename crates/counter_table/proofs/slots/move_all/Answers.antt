@@ -1,7 +1,8 @@
-use Rattle.std.proofs.Common.{arith, sym}
+use Rattle.std.proofs.Common.{arith, sym, ◌∙◌}
 use Rattle.std.proofs.lemmas.List.Sorted.{IsPermutation-refl}
 use Rattle.counter_table.specs.Slots.{Held, taken}
 use Rattle.counter_table.proofs.GrowthMoves.{IsSlots-free, next_of, entries_of-push_free, split_on, split_more}
+use Rattle.std.proofs.lemmas.List.{append-nil, nil_from_length}
 use Rattle.counter_table.proofs.slots.move_all.Goals as goal
 
 pub loop-slot-init : goal.loop-slot-init
@@ -45,3 +46,17 @@ loop-slot-preserved g c = record {
   fingerprints_ok = c.loop-slot.invariant.fingerprints_ok;
   split = split_more _ _ _ _ _ c.loop-slot.invariant.split c.in-Some.ensures.steps.0;
 }
+
+-- no slot is left
+pub returns : goal.returns
+returns g c =
+    let left = c.loop-slot.slot-iterator.rest in
+    let none = nil_from_length left.items (sym left.ok.0 ∙ c.in-None.ensures.steps.0) in
+    record {
+      slots = c.loop-slot.invariant.slots_ok;
+      entries = rw (c.loop-slot.invariant.split, none, append-nil c.loop-slot.yielded) c.loop-slot.invariant.entries;
+      fingerprints = c.loop-slot.invariant.fingerprints_ok;
+    }
+
+pub insert_in-requires-clause-fingerprints : goal.insert_in-requires-clause-fingerprints
+insert_in-requires-clause-fingerprints g c = c.loop-slot.invariant.fingerprints_ok

@@ -72,3 +72,9 @@ returns-in_ok-clone-in-None-clause-fingerprints g c =
     let alike = hash_alike g.T.Hash.hash_input g.met.T.Hash.respects_eq x y same in
     let below = probe_below (home_of-below _ (length c.args.slots.now) (some_size _ c.requires.slots.size)) c.find_from-probe.ensures in
     fingerprints_set c.requires.fingerprints c.find_from-probe.result.place (Taken c.find_from-probe.result.looked c.args.amount y) c.fingerprint.result c.fill.new.slots c.fill.new.fingerprints below (c.fingerprint.ensures ∙ ap fingerprint_of (c.hash_of-hash.ensures ∙ alike)) c.fill.ensures.slots c.fill.ensures.fingerprints
+
+pub add_at-requires-clause-place : goal.add_at-requires-clause-place
+add_at-requires-clause-place g c = probe_below (home_of-below _ (length c.args.slots.now) (some_size _ c.requires.slots.size)) c.find_from-probe.ensures
+
+pub find_from-probe-requires-clause-fingerprints : goal.find_from-probe-requires-clause-fingerprints
+find_from-probe-requires-clause-fingerprints g c = c.requires.fingerprints

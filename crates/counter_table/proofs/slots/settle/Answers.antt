@@ -1,4 +1,4 @@
-use Rattle.std.proofs.Common.{◌≡◌, ◌<◌, ap, sym, ◌∙◌, arith, length, Some, get_or, refl, ◌-◌}
+use Rattle.std.proofs.Common.{◌≡◌, ◌<◌, ap, sym, ◌∙◌, arith, length, Some, get_or, refl, is_some, ◌-◌}
 use Rattle.std.proofs.Math.ListN.{set}
 use Rattle.std.proofs.lemmas.List.{get_or_default, length-set}
 use Rattle.sketch_base.specs.Hashes.{fed_bytes}
@@ -9,9 +9,10 @@ use Rattle.counter_table.proofs.ArithmeticRing.{distance_is}
 use Rattle.counter_table.proofs.LookupFingerprints.{fingerprints_freed, fingerprints_set, fingerprint_moves}
 use Rattle.counter_table.proofs.LookupHomes.{some_size, home_of-below}
 use Rattle.counter_table.proofs.LookupProbes.{gap_below}
-use Rattle.counter_table.proofs.PurgeTurns.{room_without, settled, freed, home_back}
+use Rattle.counter_table.proofs.PurgeTurns.{room_without, settled, freed, stayed, home_back}
 use Rattle.counter_table.proofs.slots.settle.Given as given
 use Rattle.counter_table.proofs.slots.settle.Goals as goal
+use borrow.Author.Rules.{scaled_Fits}
 use Rattle.counter_table.proofs.slots.settle.Goals.{Else-count-amount}
 
 -- the slot that was taken out
@@ -83,3 +84,19 @@ returns-else-count-amount-clause-fingerprints g c =
     (gap_below (home_of-below (fed_bytes g.T.Hash.hash_input c.in-Taken.item) (length (set slots p Free)) some) gap)
     (fingerprint_moves c.requires.fingerprints p _ moving looked left (taken_out g (goal.at.returns-else-count-amount-clause-fingerprints g c).Else-count-amount) refl)
     made c.fill.ensures.fingerprints
+
+pub overflow_cast-slot : goal.overflow_cast-slot
+overflow_cast-slot g c = omega (arith, c.find_free_from-to.ensures.short, length-set c.args.slots.now c.args.place c.replace.new.dest, c.requires.size.limit)
+
+pub fill-requires-clause-same : goal.fill-requires-clause-same
+fill-requires-clause-same g c = length-set c.args.fingerprints.now c.args.place 0 ∙ c.requires.fingerprints.long ∙ sym (length-set c.args.slots.now c.args.place c.replace.new.dest)
+
+-- the slot was free
+pub returns-in-Free-clause-slots : goal.returns-in-Free-clause-slots
+returns-in-Free-clause-slots g c =
+    let stood = ap held (get_or_default c.args.slots.now c.args.place Free c.index-slots-place.result c.requires.place ∙ sym c.replace.ensures.value ∙ c.in-Free.is) in
+    stayed (home_in g.T.Hash.hash_input (length c.args.slots.now)) c.args.slots.now c.args.place c.args.amount (ap is_some stood) _ (ap (λ slot. set c.args.slots.now c.args.place slot) c.replace.ensures.after)
+
+-- the slice has room
+pub offset_bounds-slots-place : goal.offset_bounds-slots-place
+offset_bounds-slots-place g c = scaled_Fits c.args.place (length c.args.slots.now) _ c.requires.place (search)

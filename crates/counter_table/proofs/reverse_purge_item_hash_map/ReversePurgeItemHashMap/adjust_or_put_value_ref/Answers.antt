@@ -1,5 +1,6 @@
 use mathlib.Core.List.{nil-subset}
 use Rattle.std.proofs.Common.{ap, arith, length, ◌≡◌, ◌∙◌, not, refl}
+use Rattle.std.proofs.lemmas.Bool.{false≢true}
 use Rattle.std.proofs.lemmas.Result.{err_from_is_err_and}
 use Rattle.counter_table.specs.Slots.{entries_of, table_of}
 use Rattle.counter_table.proofs.InsertionCounts.{counted_kept, counted_more, lent_whole, written_counted, written_whole}
@@ -84,3 +85,15 @@ returns-clause-distinct g c = rw (table g c) c.put_clone_in.ensures.slots.distin
 
 pub returns-in_err-put_clone_in-clause-entries : goal.returns-in_err-put_clone_in-clause-entries
 returns-in_err-put_clone_in-clause-entries g c = rw (err_from_is_err_and c.from_residual.result c.from_residual.ensures.1).1 tt
+
+pub returns-in_err-put_clone_in-clause-size : goal.returns-in_err-put_clone_in-clause-size
+returns-in_err-put_clone_in-clause-size g c =
+    let same = written_whole _ _ _ (c.put_clone_in.auto.slots ∙ c.deref_mut.ensures.len) ∙ (c.in_err-put_clone_in.ensures.err ∙ c.deref_mut.ensures.value) in
+    ap (λ t. t.size) (ap table_of same ∙ c.self.view_is)
+
+-- an item that is tracked is not cloned
+pub returns-in_err-put_clone_in-clause-succeeds : goal.returns-in_err-put_clone_in-clause-succeeds
+returns-in_err-put_clone_in-clause-succeeds g c =
+    λ there.
+    let lent = lent_whole _ _ c.self.invariant c.self.view_is c.deref_mut.ensures.value c.deref_mut-2.ensures.value in
+    absurd (false≢true (c.in_err-put_clone_in.ensures.succeeds (rw (← lent.table) at there)))

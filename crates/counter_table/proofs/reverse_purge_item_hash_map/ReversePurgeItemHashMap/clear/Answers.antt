@@ -1,5 +1,5 @@
 use Rattle.std.proofs.Common.{arith, ap, sym, ◌≡◌, ◌≤◌, ◌^◌, ◌∙◌, length, replicate, vec_len}
-use Rattle.counter_table.proofs.InsertionCounts.{table_size_of, written_whole}
+use Rattle.counter_table.proofs.InsertionCounts.{table_is, table_size_of, written_whole}
 use Rattle.counter_table.proofs.GrowthMoves.{IsSlots-free}
 use Rattle.counter_table.proofs.LookupFingerprints.{fingerprints_free}
 use Rattle.counter_table.proofs.reverse_purge_item_hash_map.ReversePurgeItemHashMap.clear.Goals as goal
@@ -17,3 +17,10 @@ invariant_of-self g c =
       fingerprints_ok = fingerprints_free g.T.Hash.hash_input new c.fill.new.self.items c.args.size c.free_all.ensures long (c.fill.ensures.items (λ y e. e) ∙ ap (λ n. replicate n 0) kept);
       active_is = sym (ap length c.free_all.ensures);
     })
+
+pub returns : goal.returns
+returns g c =
+    let cut = c.truncate.new.self in
+    let size = ap (λ t. t.size) c.self.view_is in
+    let back : length c.free_all.new.slots ≡ cut.len = omega (arith, c.free_all.auto.slots, c.deref_mut.ensures.len) in
+    rw (written_whole cut.len c.free_all.new.slots cut.items back) (table_is _ c.args.size c.free_all.ensures (omega (arith, c.free_all.auto.slots, c.deref_mut.ensures.len, c.truncate.ensures.len, size, c.requires.within)))

@@ -1,6 +1,7 @@
 use Rattle.std.proofs.Common.{ap, sym, ◌∙◌, unwrap_or}
 use Rattle.counter_table.proofs.LookupProbes.{Answers, answers_lent}
 use Rattle.counter_table.proofs.reverse_purge_item_hash_map.ReversePurgeItemHashMap.get_counted.Given as given
+use Rattle.counter_table.proofs.InsertionCounts.{lent_whole}
 use Rattle.counter_table.proofs.reverse_purge_item_hash_map.ReversePurgeItemHashMap.get_counted.Goals as goal
 
 -- what the look-up answers of the map
@@ -21,3 +22,8 @@ returns-clause-looked g c = (answered g c).few
 
 pub returns-clause-within : goal.returns-clause-within
 returns-clause-within g c = (answered g c).within
+
+pub find-probe-requires : goal.find-probe-requires
+find-probe-requires g c =
+    let lent = lent_whole _ _ c.self.invariant c.self.view_is c.deref.ensures.value c.deref-2.ensures.value in
+    record { size = lent.slots_ok.size; room = lent.slots_ok.room; placed = lent.slots_ok.placed; fingerprints = lent.fingerprints_ok }

@@ -1,4 +1,4 @@
-use Rattle.std.proofs.Common.{[], ◌∷◌, ◌++◌, subst}
+use Rattle.std.proofs.Common.{[], ◌∷◌, ◌++◌, subst, arith}
 use Rattle.std.proofs.lemmas.Result.{err_from_is_err_and}
 use Rattle.std.specs.VecDeque.Iter.{deque_iter_rest}
 use Rattle.heavy_windows.proofs.Merging.{Continues, goes_on, next_fits, one_left, ends_so, chain_merged}
@@ -44,3 +44,16 @@ returns-in_err-merge-2-clause-memory g c = λ below.
     let left = one_left eq first c.loop-window.merged newest windows (deque_iter_rest c.loop-window.window-iterator) c.in-None.ensures.steps.0 c.loop-window.invariant.2 in
     let p = err_from_is_err_and c.from_residual-in_err-merge-2.result c.from_residual-in_err-merge-2.ensures.1 in
     rw (p.1, p.2) (c.in_err-merge-2.ensures.memory (next_fits eq c.args.max_map_size first c.loop-window.merged newest windows [] c.in_ok-merged.ensures.ok below left))
+
+-- the windows' total was found to fit before
+pub returns-in_err-merged-clause-overflow : goal.returns-in_err-merged-clause-overflow
+returns-in_err-merged-clause-overflow g c = λ passes. absurd (omega (arith, passes, c.in_ok-check_total.ensures.ok))
+
+pub returns-in_err-merge-clause-overflow : goal.returns-in_err-merge-clause-overflow
+returns-in_err-merge-clause-overflow g c = λ passes. absurd (omega (arith, passes, c.in_ok-check_total.ensures.ok))
+
+pub returns-in_err-merge-2-clause-overflow : goal.returns-in_err-merge-2-clause-overflow
+returns-in_err-merge-2-clause-overflow g c = λ passes. absurd (omega (arith, passes, c.in_ok-check_total.ensures.ok))
+
+pub returns-clause-overflow : goal.returns-clause-overflow
+returns-clause-overflow g c = λ passes. absurd (omega (arith, passes, c.in_ok-check_total.ensures.ok))
