@@ -3,10 +3,13 @@ use Rattle.std.proofs.Common.{◌≡◌, ◌≢◌, ℕ, ◌+◌, ◌<◌, ◌�
 use lib.Signed.{mag}
 use mir.Syntax.{w32}
 use mir.Val.{of_z, to_z}
+use Rattle.std.specs.Prelude.{Err, IsErrOf}
 use Rattle.std.proofs.lemmas.Int.{to_z-of_z}
 use Rattle.std.proofs.lemmas.List.{take-append-drop, drop_more, take_all, take_more}
+use Rattle.sketch_base.specs.Errors.{ErrorValue}
+use Rattle.sketch_base.specs.declared.fault.Fault.{Fault}
 use Rattle.datasketches_c.specs.InTurn.{InTurn, StopsInTurn, CallsInTurn}
-use Rattle.datasketches_c.specs.Numbers.{OnDone, OnRefused, ok}
+use Rattle.datasketches_c.specs.Numbers.{OnDone, OnRefused, ok, refusal_number}
 
 -- one step more
 pub in_turn_more : {S X : Type 0} (step : S → X → S → Type 0) (old : S) (items : List X) (mid : S) (x : X) (new : S)
@@ -66,6 +69,18 @@ from_refused (negsuc n) P done other p = p
 -- an answer that was handed on
 pub same_answer : (answer : ℤ) → mag answer < 2147483648 → to_z w32 (of_z w32 answer) ≡ answer
 same_answer answer small = to_z-of_z w32 answer (record { sfits = small })
+
+-- what holds is said of a refusal, too
+pub if_refused : (answer : ℤ) (P : Type 0) → P → OnRefused answer P
+if_refused (pos n) P p = tt
+if_refused (negsuc n) P p = p
+
+-- the number of a call that was refused for a fault
+pub refused_for : {V : Type 0} (error of : ErrorValue) (fault : Fault) (answer : ℤ) → mag answer < 2147483648 → fault ≡ error.fault
+    → answer ≡ refusal_number fault → IsErrOf {T = V} (Err error) of → to_z w32 (of_z w32 answer) ≡ refusal_number of.fault
+refused_for error of fault answer small is number for =
+    let same : error ≡ of = cc in
+    same_answer answer small ∙ (number ∙ ap refusal_number (is ∙ ap (λ (e : ErrorValue). e.fault) same))
 
 -- a loop's call that was refused
 pub refused_here : {S X : Type 0} (call : S → X → S → ℤ → Type 0) (old : S) (items : List X) (i : ℕ) (d : X) (mid new : S) (answer : ℤ)

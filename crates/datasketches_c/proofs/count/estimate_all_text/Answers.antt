@@ -4,6 +4,7 @@ use Rattle.sketch_base.specs.Hashes.{fed_bytes}
 use Rattle.datasketches_c.specs.Numbers.{ok, no_sketch, wrong_kind}
 use Rattle.datasketches_c.specs.Texts.{texts_of}
 use Rattle.datasketches_c.proofs.CountCallLemmas.{all_estimated}
+use Rattle.datasketches_c.proofs.InTurnLemmas.{if_refused}
 use Rattle.datasketches_c.proofs.TextLemmas.{not_refused_in}
 use Rattle.datasketches_c.proofs.KindLemmas.{on_none_said, on_other_said}
 use Rattle.datasketches_c.proofs.count.estimate_all_text.Goals as goal
@@ -30,3 +31,10 @@ returns-in-None g c = record { estimates = λ texts same. on_other_said g.bound-
 -- the texts are texts
 pub returns-in-Some-part_of-clause-no_texts : goal.returns-in-Some-part_of-clause-no_texts
 returns-in-Some-part_of-clause-no_texts g c = not_refused_in _ _ _ _ c.in_default.ensures
+
+-- the texts were refused
+pub returns-in-Some-clause-estimates : goal.returns-in-Some-clause-estimates
+returns-in-Some-clause-estimates g c = λ texts same. absurd (c.in-Some.ensures.not_texts same texts)
+
+pub returns-in-Some-clause-untouched : goal.returns-in-Some-clause-untouched
+returns-in-Some-clause-untouched g c = if_refused _ _ refl

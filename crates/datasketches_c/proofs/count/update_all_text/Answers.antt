@@ -29,3 +29,7 @@ returns-in-Some-part_of-clause-no_texts g c = not_refused _ _ _ c.in_default.ens
 
 pub returns-in-Some-part_of-clause-refused : goal.returns-in-Some-part_of-clause-refused
 returns-in-Some-part_of-clause-refused g c = λ not. absurd (not c.in_default.ensures)
+
+-- the texts were refused
+pub returns-in-Some-clause-texts : goal.returns-in-Some-clause-texts
+returns-in-Some-clause-texts g c = λ texts. absurd (c.in-Some.ensures.not_texts texts)

@@ -1,4 +1,5 @@
-use Rattle.std.proofs.Common.{◌<◌, [], length, arith}
+use Rattle.std.proofs.Common.{◌<◌, [], length, arith, rules}
+use borrow.Author.Rules.{scaled_Fits}
 use Rattle.std.specs.Hash as fed
 use Rattle.sketch_base.specs.Hashes.{fed_bytes}
 use Rattle.datasketches_c.specs.Texts.{texts_of}
@@ -12,3 +13,6 @@ each-preserved g c =
     let room : c.each.i < length c.each.estimates = omega arith in
     estimates_more g.T.CountMinValue.number c.args.sketch.now (fed_bytes fed.str) texts c.each.estimates c.each.i [] c.text_at.result.now c.estimate.result there room c.text_at.ensures
     c.each.invariant c.estimate.ensures.least
+
+pub offset_bounds-estimates-i : goal.offset_bounds-estimates-i
+offset_bounds-estimates-i g c = scaled_Fits c.each.i (length c.each.estimates) _ (omega arith) (search rules)

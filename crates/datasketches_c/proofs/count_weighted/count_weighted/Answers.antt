@@ -1,8 +1,10 @@
-use Rattle.std.proofs.Common.{◌+◌, ◌<◌, ◌≤◌, ℕ, length, refl, arith}
+use Rattle.std.proofs.Common.{◌+◌, ◌∙◌, ◌<◌, ◌≤◌, ℕ, length, refl, arith}
 use Rattle.std.specs.Prelude.{unsigned_abs, sum_by}
+use Rattle.std.proofs.lemmas.Bool.{false≢true}
 use Rattle.sketch_base.specs.Hashes.{fed_bytes}
 use Rattle.sketch_countmin.specs.State.{CountState, Counts}
 use Rattle.datasketches_c.proofs.CountLemmas.{ok_said}
+use Rattle.datasketches_c.proofs.InTurnLemmas.{same_answer}
 use Rattle.datasketches_c.proofs.WeightLemmas.{one_fits, one_more, pair_more, pairs_all}
 use Rattle.datasketches_c.proofs.count_weighted.count_weighted.Goals as goal
 
@@ -32,3 +34,17 @@ returns-clause-counted g c =
     let step : CountState → g.row.I.Denot × g.row.T.Denot → CountState → Type 0 = λ s pair t. Counts s (fed_bytes g.I.Hash.hash_input pair.0) (number pair.1) t in
     let here : length c.args.items.now ≤ c.each.i = c.each-test.false in
     λ fits. (refl, pairs_all step c.args.items.now c.args.weights.now c.each.i c.args.sketch.now c.each.sketch c.requires here c.each.invariant.counted)
+
+-- the total has no room for all
+pub returns-then-not-weights_fit-clause-counted : goal.returns-then-not-weights_fit-clause-counted
+returns-then-not-weights_fit-clause-counted g c = λ fits. absurd (false≢true (c.if-not-weights_fit.ensures.1 fits))
+
+pub returns-then-not-weights_fit-clause-overflow : goal.returns-then-not-weights_fit-clause-overflow
+returns-then-not-weights_fit-clause-overflow g c = λ over. same_answer _ c.refusal_number.type_inv ∙ c.refusal_number.ensures
+
+-- the place of an item, and of its weight
+pub offset_bounds-items-i : goal.offset_bounds-items-i
+offset_bounds-items-i g c = c.each.auto.i-end
+
+pub offset_bounds-weights-i : goal.offset_bounds-weights-i
+offset_bounds-weights-i g c = omega arith

@@ -37,3 +37,6 @@ returns-clause-counted g c =
     let same : length c.args.weights.now ≡ length texts = omega arith in
     let here : length texts ≤ c.each.i = omega arith in
     λ fits. (refl, pairs_all step texts c.args.weights.now c.each.i c.args.sketch.now c.each.sketch same here c.each.invariant.counted)
+
+pub offset_bounds-weights-i : goal.offset_bounds-weights-i
+offset_bounds-weights-i g c = omega arith
