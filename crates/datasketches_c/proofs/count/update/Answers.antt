@@ -1,11 +1,11 @@
-use Rattle.std.proofs.Common.{Some, ◌+◌, ◌<◌, ◌≤◌, ◌≡◌, ℤ, sym, ap, ◌∙◌, rules}
+use Rattle.std.proofs.Common.{Some, ◌+◌, ◌<◌, ◌≤◌, ◌≡◌, ℤ, sym, ap, ◌∙◌, refl, rules}
 use Rattle.std.specs.Prelude.{unsigned_abs}
 use Rattle.sketch_base.specs.Hashes.{fed_bytes}
 use Rattle.sketch_base.specs.declared.fault.Fault.TheVariants.{WeightOverflow}
 use Rattle.sketch_countmin.specs.State.{CountState, Counts}
 use Rattle.datasketches_c.specs.Kinds.{HoldsKind}
-use Rattle.datasketches_c.specs.Numbers.{ok, refusal_number}
-use Rattle.datasketches_c.proofs.KindLemmas.{on_kind_said, holds_kind, kept_when_refused}
+use Rattle.datasketches_c.specs.Numbers.{ok, no_sketch, refusal_number, wrong_kind}
+use Rattle.datasketches_c.proofs.KindLemmas.{on_kind_said, on_none_said, on_other_said, holds_kind, kept_when_refused}
 use Rattle.datasketches_c.proofs.count.update.Goals as goal
 
 -- the sketch was changed, and the handle has it again
@@ -30,3 +30,10 @@ returns-in-Some-part_of-clause-call g c =
 pub returns-in-Some-part_of-clause-refused : goal.returns-in-Some-part_of-clause-refused
 returns-in-Some-part_of-clause-refused g c =
     let said = kept_when_refused g.bound-10.part g.bound-10.whole c.args.handle.now.value c.give.new.self.value c.deref_mut.result.now c.in-Some-part_of.sketch.now c.count-answer.new.sketch c.count-answer.result (c.in-Some.ensures.sketch ∙ ap Some (sym c.deref_mut.ensures.value)) c.in-Some-part_of.ensures.which.1 c.give.ensures c.count-answer.ensures.refused in search rules
+
+-- the handle has no sketch, or one of another kind
+pub returns-in_default : goal.returns-in_default
+returns-in_default g c = record { call = on_none_said g.bound-10.part c.args.handle.now.value c.take.new.self.value no_sketch _ c.in_default.ensures.sketch c.in_default.ensures.emptied refl; refused = c.in_default.ensures.emptied ∙ sym c.in_default.ensures.sketch }
+
+pub returns-in-None : goal.returns-in-None
+returns-in-None g c = record { call = on_other_said g.bound-10.part c.args.handle.now.value c.give-in-None.new.self.value c.deref_mut.result.now wrong_kind _ (c.in-Some.ensures.sketch ∙ ap Some (sym c.deref_mut.ensures.value)) c.in-None.ensures.which c.give-in-None.ensures refl; refused = c.give-in-None.ensures ∙ sym (c.in-Some.ensures.sketch ∙ ap Some (sym c.deref_mut.ensures.value)) }

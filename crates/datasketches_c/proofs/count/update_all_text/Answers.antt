@@ -4,6 +4,7 @@ use Rattle.sketch_base.specs.Hashes.{fed_bytes}
 use Rattle.datasketches_c.specs.Texts.{texts_of}
 use Rattle.datasketches_c.proofs.CountCallLemmas.{each_added}
 use Rattle.datasketches_c.proofs.KindLemmas.{on_none_said, on_other_said}
+use Rattle.datasketches_c.proofs.InTurnLemmas.{same_answer}
 use Rattle.datasketches_c.proofs.TextLemmas.{not_refused}
 use Rattle.datasketches_c.specs.Numbers.{no_sketch, wrong_kind}
 use Rattle.datasketches_c.proofs.count.update_all_text.Goals as goal
@@ -33,3 +34,6 @@ returns-in-Some-part_of-clause-refused g c = λ not. absurd (not c.in_default.en
 -- the texts were refused
 pub returns-in-Some-clause-texts : goal.returns-in-Some-clause-texts
 returns-in-Some-clause-texts g c = λ texts. absurd (c.in-Some.ensures.not_texts texts)
+
+pub returns-in-Some-clause-no_texts : goal.returns-in-Some-clause-no_texts
+returns-in-Some-clause-no_texts g c = rw (same_answer c.in-Some.refusal (search rules)) c.in-Some.ensures.says

@@ -1,8 +1,10 @@
-use Rattle.std.proofs.Common.{Some, sym, ap, ◌∙◌, rules}
+use Rattle.std.proofs.Common.{Some, sym, ap, ◌∙◌, refl, rules}
 use Rattle.std.specs.Prelude.{sum_by, unsigned_abs}
 use Rattle.sketch_base.specs.Hashes.{fed_bytes}
 use Rattle.datasketches_c.proofs.CountCallLemmas.{weights_added}
-use Rattle.datasketches_c.proofs.KindLemmas.{kept_when_refused}
+use Rattle.datasketches_c.proofs.KindLemmas.{kept_when_refused, on_none_said, on_other_said}
+use Rattle.datasketches_c.proofs.InTurnLemmas.{if_refused}
+use Rattle.datasketches_c.specs.Numbers.{no_sketch, wrong_kind}
 use Rattle.datasketches_c.proofs.count.update_all_weighted.Goals as goal
 
 -- the sketch was changed, and the handle has it again
@@ -17,3 +19,13 @@ returns-in-Some-part_of-clause-call g c =
 pub returns-in-Some-part_of-clause-refused : goal.returns-in-Some-part_of-clause-refused
 returns-in-Some-part_of-clause-refused g c =
     let said = kept_when_refused g.bound-11.part g.bound-11.whole c.args.handle.now.value c.give.new.self.value c.deref_mut.result.now c.in-Some-part_of.sketch.now c.count_weighted-answer.new.sketch c.count_weighted-answer.result (c.in-Some.ensures.sketch ∙ ap Some (sym c.deref_mut.ensures.value)) c.in-Some-part_of.ensures.which.1 c.give.ensures c.count_weighted-answer.ensures.refused in search rules
+
+-- the handle has no sketch, or one of another kind
+pub returns-in_default-clause-call : goal.returns-in_default-clause-call
+returns-in_default-clause-call g c = λ same. on_none_said g.bound-11.part c.args.handle.now.value c.take.new.self.value no_sketch _ c.in_default.ensures.sketch c.in_default.ensures.emptied refl
+
+pub returns-in-None-clause-call : goal.returns-in-None-clause-call
+returns-in-None-clause-call g c = λ same. on_other_said g.bound-11.part c.args.handle.now.value c.give-in-None.new.self.value c.deref_mut.result.now wrong_kind _ (c.in-Some.ensures.sketch ∙ ap Some (sym c.deref_mut.ensures.value)) c.in-None.ensures.which c.give-in-None.ensures refl
+
+pub returns-in-None-clause-refused : goal.returns-in-None-clause-refused
+returns-in-None-clause-refused g c = if_refused wrong_kind _ (c.give-in-None.ensures ∙ sym (c.in-Some.ensures.sketch ∙ ap Some (sym c.deref_mut.ensures.value)))
