@@ -1,3 +1,4 @@
+pub mod AnswerLemmas
 pub mod BoundsLemmas
 pub mod CountCallLemmas
 pub mod CountJoinLemmas

@@ -1,7 +1,13 @@
-use Rattle.std.proofs.Common.{Some, refl, sym, ap, ◌∙◌}
+use Rattle.std.proofs.Common.{◌≡◌, Some, length, map, refl, sym, ap, ◌∙◌}
+use Rattle.std.specs.Hash as fed
+use Rattle.sketch_base.specs.Hashes.{fed_bytes}
+use Rattle.sketch_bloom.specs.State.{FilterState, contains_item}
 use Rattle.datasketches_c.specs.Kinds.{filter_of}
-use Rattle.datasketches_c.specs.Numbers.{no_sketch, wrong_kind}
-use Rattle.datasketches_c.proofs.KindLemmas.{on_none_said, on_other_said}
+use Rattle.datasketches_c.specs.Numbers.{ok, no_sketch, wrong_kind}
+use Rattle.datasketches_c.specs.Texts.{RefusesTextsIn, texts_of}
+use Rattle.datasketches_c.proofs.AnswerLemmas.{handed_on}
+use Rattle.datasketches_c.proofs.KindLemmas.{on_kind_said, on_none_said, on_other_said}
+use Rattle.datasketches_c.proofs.Reports.{when_refused}
 use Rattle.datasketches_c.proofs.many_texts.ds_filter_contains_all_text.Goals as goal
 
 -- the handle has no sketch, or one of another kind
@@ -17,3 +23,22 @@ returns-in-Some-part_of-clause-bad_offsets c = λ not. absurd (not c.in_default.
 
 pub returns-in-Some-part_of-clause-no_text : goal.returns-in-Some-part_of-clause-no_text
 returns-in-Some-part_of-clause-no_text c = λ ends same not. absurd (not c.in_default.ensures.texts.utf8)
+
+pub returns-in-Some-part_of-clause-kept : goal.returns-in-Some-part_of-clause-kept
+returns-in-Some-part_of-clause-kept c =
+    c.give.ensures ∙ (ap Some (sym c.in-Some-part_of.ensures.which.1) ∙ sym (c.in-Some-take.ensures.sketch ∙ ap Some (sym c.deref_mut.ensures.value)))
+
+pub returns-in-Some-part_of-clause-no_room : goal.returns-in-Some-part_of-clause-no_room
+returns-in-Some-part_of-clause-no_room c = λ ends other. absurd (other c.in_default.ensures.same)
+
+pub returns-in-Some-part_of-clause-answers : goal.returns-in-Some-part_of-clause-answers
+returns-in-Some-part_of-clause-answers c =
+    let answered : FilterState → Type 0 = λ s. (ok ≡ ok) × (c.contains_texts.new.answers ≡ map (λ text. contains_item s (fed_bytes fed.str text)) (texts_of c.args.bytes.now c.args.offsets.now)) in
+    λ texts same. on_kind_said filter_of c.args.handle.now.value c.give.new.self.value c.deref_mut.result.now c.in-Some-part_of.filter.now ok answered
+    (c.in-Some-take.ensures.sketch ∙ ap Some (sym c.deref_mut.ensures.value)) c.in-Some-part_of.ensures.which.0 (refl, c.contains_texts.ensures)
+
+-- the texts were refused
+pub returns-in-Some : goal.returns-in-Some
+returns-in-Some c =
+    let says = handed_on (RefusesTextsIn (length c.args.answers.now) c.args.bytes.now c.args.offsets.now) c.in-Some.refusal (rw c.in-Some.is at c.refusal_of_texts_in.type_inv) c.in-Some.ensures.says in
+    record { kept = refl; bad_offsets = says.not_offsets; no_room = says.not_placed; no_text = says.not_utf8; answers = λ texts same. absurd (c.in-Some.ensures.not_texts same texts); untouched = when_refused _ _ refl }
