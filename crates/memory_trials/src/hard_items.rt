@@ -109,7 +109,10 @@ fn write_restored<const KIND: u8>(trial: &mut Trial, sketch: &Sketch<KIND>) -> R
 }
 
 /// Updates by value and by reference, a merge, a clone, rows and an image, of items that are not marked.
-fn change_all<const KIND: u8>(trial: &mut Trial, sketch: &mut Sketch<KIND>) -> Result<(), Error> {
+fn change_all<const KIND: u8>(
+    trial: &mut Trial,
+    sketch: &mut Sketch<KIND>,
+) -> Result<(), SetupFailed> {
     update_all(sketch)?;
     write_asked(trial, sketch);
     merge_one(trial.alloc, sketch, 2 + NUM_LETTERS, 20)?;
@@ -123,7 +126,7 @@ fn change_all<const KIND: u8>(trial: &mut Trial, sketch: &mut Sketch<KIND>) -> R
 /// The same of a sketch of one item.
 fn sketch<const KIND: u8>(trial: &mut Trial) -> Result<(), SetupFailed> {
     let mut sketch = of_one::<KIND>(trial.alloc, 1, 1)?;
-    Ok(change_all(trial, &mut sketch)?)
+    change_all(trial, &mut sketch)
 }
 
 /// An update and a merge that clone a marked item.
@@ -151,17 +154,17 @@ fn marked<const KIND: u8>(trial: &mut Trial) -> Result<(), SetupFailed> {
 }
 
 /// What a table says, also of a purge of its clone, and in more slots.
-fn write_tables<const KIND: u8>(trial: &mut Trial, map: &mut Map<KIND>) -> Result<(), Error> {
+fn write_tables<const KIND: u8>(trial: &mut Trial, map: &mut Map<KIND>) -> Result<(), SetupFailed> {
     write_table(trial, map)?;
     write_purged(trial, map)?;
     grow(map, 32)?;
-    write_table(trial, map)
+    Ok(write_table(trial, map)?)
 }
 
 /// The calls of the table.
 fn table<const KIND: u8>(trial: &mut Trial) -> Result<(), SetupFailed> {
     let mut map = filled::<KIND>(trial.alloc)?;
-    Ok(write_tables(trial, &mut map)?)
+    write_tables(trial, &mut map)
 }
 
 /// A table of five items, two of them added to by reference, and a sixth.
@@ -180,7 +183,7 @@ fn filled<const KIND: u8>(alloc: Global) -> Result<Map<KIND>, Error> {
 fn write_purged<const KIND: u8>(trial: &mut Trial, map: &Map<KIND>) -> Result<(), Error> {
     match map.try_clone() {
         Ok(mut clone) => {
-            write_line!(trial, "purged {}", purge(&mut clone));
+            write_values(trial, "purged", &[purge(&mut clone)]);
             write_table(trial, &clone)
         }
         Err(e) => {

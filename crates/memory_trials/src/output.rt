@@ -94,7 +94,7 @@ pub fn write_bytes(trial: &mut Trial, bytes: &[u8]) {
     for byte in bytes {
         sum = sum.wrapping_add(*byte as u64);
     }
-    write_line!(trial, "bytes {} {}", bytes.len(), sum);
+    write_values(trial, "bytes", &[bytes.len() as u64, sum]);
 }
 
 /// Rows up to the end of a line: each item and its estimate.
@@ -121,7 +121,7 @@ fn write_reply(trial: &mut Trial, reply: &Reply<String>) {
             lower,
             upper,
         } => write_values(trial, "bounds", &[*estimate, *lower, *upper]),
-        Reply::Contains(found) => write_line!(trial, "contains {found}"),
+        Reply::Contains(found) => write_values(trial, "contains", &[*found]),
         Reply::Status(status) => write_line!(trial, "{status:?}"),
         Reply::Rows(rows) => {
             write_words!(trial, "rows");

@@ -21,10 +21,20 @@ pub fn sketch_of(
     items: &[(&str, u64)],
 ) -> Result<FrequentItemsSketch<String>, SetupFailed> {
     let mut sketch = FrequentItemsSketch::new(alloc, max_map_size)?;
+    add_all(alloc, &mut sketch, items)?;
+    Ok(sketch)
+}
+
+/// Adds texts with these weights.
+fn add_all(
+    alloc: Global,
+    sketch: &mut FrequentItemsSketch<String>,
+    items: &[(&str, u64)],
+) -> Result<(), SetupFailed> {
     for (item, weight) in items {
         sketch.update_with_count(text(alloc, item)?, *weight)?;
     }
-    Ok(sketch)
+    Ok(())
 }
 
 /// A sketch's numbers, and for each of the texts its estimate and bounds.
@@ -35,10 +45,20 @@ pub fn write_sketch(
 ) -> Result<(), AllocError> {
     begin_frequent(trial, sketch);
     for item in asked {
-        let item = text(trial.alloc, item)?;
-        write_bounds(trial, sketch, &item);
+        write_bounds_of_text(trial, sketch, item)?;
     }
     write_line!(trial);
+    Ok(())
+}
+
+/// A text's estimate and bounds.
+fn write_bounds_of_text(
+    trial: &mut Trial,
+    sketch: &FrequentItemsSketch<String>,
+    asked: &str,
+) -> Result<(), AllocError> {
+    let asked = text(trial.alloc, asked)?;
+    write_bounds(trial, sketch, &asked);
     Ok(())
 }
 
@@ -46,7 +66,6 @@ pub fn write_sketch(
 #[derive(Clone, Copy)]
 pub enum UpdateBy {
     Value,
-    ValueWithCount(u64),
     Reference,
     ReferenceWithCount(u64),
 }
@@ -59,7 +78,6 @@ pub fn update(
 ) -> Result<(), Error> {
     match by {
         UpdateBy::Value => sketch.update(item),
-        UpdateBy::ValueWithCount(count) => sketch.update_with_count(item, count),
         UpdateBy::Reference => sketch.update_ref(&item),
         UpdateBy::ReferenceWithCount(count) => sketch.update_with_count_ref(&item, count),
     }

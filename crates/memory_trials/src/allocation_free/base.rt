@@ -9,9 +9,7 @@ use std::fmt::Write;
 
 /// Writes the texts of a refusal, one for users and two for programmers. Answers whether there was room.
 fn write_texts(texts: &mut String, error: Error) -> bool {
-    writeln!(texts, "{error}").is_ok()
-        && writeln!(texts, "{error:?}").is_ok()
-        && writeln!(texts, "{error:#?}").is_ok()
+    writeln!(texts, "{error}\n{error:?}\n{error:#?}").is_ok()
 }
 
 /// The texts of a refusal, in memory that is there.
@@ -69,11 +67,11 @@ pub fn items(trial: &mut Trial) -> Result<(), SetupFailed> {
     let text = text(trial.alloc, "ab")?;
     let sizes = counted!(trial, sizes_of(&text));
     write_values(trial, "sizes", &sizes);
-    Ok(write_items_counted(trial, &text)?)
+    write_items_counted(trial, &text)
 }
 
 /// Writes the items with their requests for memory counted, and then the bytes.
-fn write_items_counted(trial: &mut Trial, text: &String) -> Result<(), Error> {
+fn write_items_counted(trial: &mut Trial, text: &String) -> Result<(), SetupFailed> {
     let mut bytes = SketchBytes::with_capacity(trial.alloc, 22)?;
     let faults = counted!(trial, write_items(&mut bytes, text));
     write_values(trial, "writes", &faults);

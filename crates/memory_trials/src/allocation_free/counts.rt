@@ -1,8 +1,7 @@
 //! Calls of Count-Min sketches that take no memory, and that neither a session nor the library for C makes.
 use crate::output::write_values;
-use crate::trial::{SetupFailed, Trial, counted, write_line};
+use crate::trial::{SetupFailed, Trial, counted};
 use datasketches::countmin::CountMinSketch;
-use std::fmt::Write;
 
 /// What an empty sketch says of itself, and whether an update is refused.
 fn answers(sketch: &mut CountMinSketch<u8>) -> [bool; 3] {
@@ -18,6 +17,6 @@ pub fn counts(trial: &mut Trial) -> Result<(), SetupFailed> {
     let answers = counted!(trial, answers(&mut sketch));
     let size = counted!(trial, sketch.estimated_size());
     write_values(trial, "answers", &answers);
-    write_line!(trial, "size {size}");
+    write_values(trial, "size", &[size]);
     Ok(())
 }

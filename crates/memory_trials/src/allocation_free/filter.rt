@@ -1,8 +1,7 @@
 //! Calls of filters that take no memory, and that neither a session nor the library for C makes.
 use crate::output::write_values;
-use crate::trial::{SetupFailed, Trial, counted, write_line};
+use crate::trial::{SetupFailed, Trial, counted};
 use datasketches::bloom::{BloomFilter, BloomFilterBuilder};
-use std::fmt::Write;
 
 /// What an empty filter says of itself, and whether an item was there before it was inserted.
 fn answers(filter: &mut BloomFilter) -> [bool; 4] {
@@ -25,6 +24,6 @@ pub fn filter(trial: &mut Trial) -> Result<(), SetupFailed> {
     let answers = counted!(trial, answers(&mut filter));
     let size = counted!(trial, filter.estimated_size());
     write_values(trial, "answers", &answers);
-    write_line!(trial, "size {size}");
+    write_values(trial, "size", &[size]);
     Ok(())
 }

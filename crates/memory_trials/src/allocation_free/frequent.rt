@@ -37,8 +37,8 @@ fn update_counted(
     Ok(())
 }
 
-/// The updates of a sketch, and what it says then of the item `a`.
-fn play_updates(
+/// Makes updates, on a line of their own.
+fn write_updates(
     trial: &mut Trial,
     sketch: &mut Texts,
     updates: &[(&str, UpdateBy)],
@@ -48,7 +48,17 @@ fn play_updates(
         update_counted(trial, sketch, item, *by)?;
     }
     write_line!(trial);
-    write_sketch(trial, sketch, &["a"])
+    Ok(())
+}
+
+/// The updates of a sketch, and what it says then of the item `a`.
+fn play_updates(
+    trial: &mut Trial,
+    sketch: &mut Texts,
+    updates: &[(&str, UpdateBy)],
+) -> Result<(), SetupFailed> {
+    write_updates(trial, sketch, updates)?;
+    Ok(write_sketch(trial, sketch, &["a"])?)
 }
 
 /// The updates of a sketch of one item of this weight.
@@ -58,7 +68,7 @@ fn play_updates_of_one(
     updates: &[(&str, UpdateBy)],
 ) -> Result<(), SetupFailed> {
     let mut sketch = sketch_of(trial.alloc, 8, &[("a", weight)])?;
-    Ok(play_updates(trial, &mut sketch, updates)?)
+    play_updates(trial, &mut sketch, updates)
 }
 
 pub fn updates_by_reference(trial: &mut Trial) -> Result<(), SetupFailed> {

@@ -22,7 +22,7 @@ pub fn changes(trial: &mut Trial) -> Result<(), SetupFailed> {
     counted!(trial, add_all(&mut map))?;
     write_table(trial, &map, &[1, 2, 5]);
     let middle = counted!(trial, purge(&mut map));
-    write_line!(trial, "purged {middle}");
+    write_values(trial, "purged", &[middle]);
     write_table(trial, &map, &[1, 2, 5]);
     Ok(())
 }
@@ -113,6 +113,6 @@ pub fn walk<const KIND: u8>(trial: &mut Trial) -> Result<(), SetupFailed> {
     let map = three::<KIND>(trial.alloc)?;
     let [to_come, looked_at, sum, behind, left, looked] = counted!(trial, walk_past_end(&map));
     write_values(trial, "walk", &[to_come, looked_at, sum, behind, left]);
-    write_line!(trial, "looked {}", 3 <= looked && looked <= 8);
+    write_values(trial, "looked", &[3 <= looked && looked <= 8]);
     Ok(())
 }

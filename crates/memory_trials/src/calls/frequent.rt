@@ -33,16 +33,16 @@ fn add_seventh(trial: &mut Trial, sketch: &mut Sketch, by: UpdateBy) -> Result<(
 }
 
 /// What a sketch says before and after it is updated.
-fn write_update(trial: &mut Trial, sketch: &mut Sketch, by: UpdateBy) -> Result<(), AllocError> {
+fn write_update(trial: &mut Trial, sketch: &mut Sketch, by: UpdateBy) -> Result<(), SetupFailed> {
     write_sketch(trial, sketch, &ASKED)?;
     add_seventh(trial, sketch, by)?;
     write_line!(trial, "after");
-    write_sketch(trial, sketch, &ASKED)
+    Ok(write_sketch(trial, sketch, &ASKED)?)
 }
 
 fn play_update(trial: &mut Trial, by: UpdateBy) -> Result<(), SetupFailed> {
     let mut sketch = sketch_of(trial.alloc, 64, &SIX)?;
-    Ok(write_update(trial, &mut sketch, by)?)
+    write_update(trial, &mut sketch, by)
 }
 
 /// The rows of a sketch of one text.

@@ -1,12 +1,11 @@
 //! The call of a table of six numbers that no sketch makes.
 use crate::calls::refusable;
-use crate::output::write_error;
+use crate::output::{write_error, write_values};
 use crate::table::{free_table, put};
-use crate::trial::{SetupFailed, Trial, write_line};
+use crate::trial::{SetupFailed, Trial};
 use datasketches::error::Error;
 use datasketches::frequencies::ReversePurgeItemHashMap;
 use std::alloc::Global;
-use std::fmt::Write;
 
 /// A table of numbers.
 type Table = ReversePurgeItemHashMap<i64>;
@@ -31,7 +30,7 @@ fn of_six(alloc: Global) -> Result<Table, Error> {
 /// How long the list of entries is, or why there is none.
 fn write_entries(trial: &mut Trial, map: &Table) {
     match refusable!(trial, map.active_entries()) {
-        Ok(entries) => write_line!(trial, "entries {}", entries.len()),
+        Ok(entries) => write_values(trial, "entries", &[entries.len()]),
         Err(e) => write_error(trial, e),
     }
 }
