@@ -26,10 +26,20 @@ fn do_line(alloc: Global, list: &mut TakedownList, line: &str, report: &mut Stri
     let mut words = line.split_whitespace();
     let kind = words.next();
     let items = words.collect::<Vec<_>>(alloc)?;
+    do_to_items(list, kind, &items, report)
+}
+
+/// Does to the items what the word in front of them says.
+fn do_to_items(
+    list: &mut TakedownList,
+    kind: Option<&str>,
+    items: &[&str],
+    report: &mut String,
+) -> Result<()> {
     match kind {
-        Some("refuse") => refuse(list, &items),
-        Some("back") => list.take_back(&items)?,
-        Some("ask") => answer(list, &items, report)?,
+        Some("refuse") => refuse(list, items),
+        Some("back") => list.take_back(items)?,
+        Some("ask") => answer(list, items, report)?,
         _ => bail!("neither refuse nor back nor ask"),
     }
     Ok(())
