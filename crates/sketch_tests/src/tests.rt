@@ -5,3 +5,12 @@ mod countmin;
 mod frequencies;
 mod sessions;
 mod sizes;
+
+use std::alloc::Global;
+use std::fmt::Debug;
+use std::test::Fail;
+
+/// What is printed of a value for programmers.
+pub fn text_of<V: Debug>(alloc: Global, value: &V) -> Result<String, Fail> {
+    Ok(format!(in alloc; "{value:?}")?)
+}

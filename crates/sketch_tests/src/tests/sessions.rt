@@ -1,4 +1,5 @@
 //! What is printed. Rows of commands of each kind are lines of the program, in `tests/sessions.py`.
+use super::text_of;
 use datasketches::{Command, Refusal, Session};
 use sketch_base::{Error, Fault};
 use std::alloc::Global;
@@ -22,15 +23,13 @@ fn of_visits(alloc: Global) -> Result<Session<i64>, Error> {
 
 /// What is printed of a session.
 fn text_of_session(alloc: Global) -> Result<String, Fail> {
-    let session = of_visits(alloc)?;
-    Ok(format!(in alloc; "{session:?}")?)
+    text_of(alloc, &of_visits(alloc)?)
 }
 
 /// What is printed of a command.
 fn text_of_command(alloc: Global) -> Result<String, Fail> {
     let name = visits(alloc)?;
-    let insertion = Command::Insert { name, item: 7i64 };
-    Ok(format!(in alloc; "{insertion:?}")?)
+    text_of(alloc, &Command::Insert { name, item: 7i64 })
 }
 
 #[test]
