@@ -14,8 +14,8 @@ use sketch_frequencies::ErrorType;
 /// use std::alloc::Global;
 ///
 /// fn refusal_of_an_unknown_name(alloc: Global) -> Result<Option<Refusal>, Error> {
-///     let mut session = Session::new(alloc);
 ///     let name = String::from_str(alloc, "visits")?;
+///     let mut session = Session::new(alloc);
 ///     match session.apply(Command::Insert { name, item: 7_u64 }) {
 ///         Reply::Refused(refusal) => Ok(Some(refusal)),
 ///         _ => Ok(None),

@@ -38,14 +38,18 @@ pub fn weights_of_four(visits: &FrequentItemsSketch<u64>, pages: &[u64; 4]) -> [
     weights
 }
 
+/// A sketch of so many apples.
+fn shop(alloc: Global, apples: u64) -> Result<FrequentItemsSketch<&'static str>, Error> {
+    let mut shop = FrequentItemsSketch::with_sample_size(alloc, 1024, 100)?;
+    shop.update_with_count("apple", apples)?;
+    Ok(shop)
+}
+
 /// Between which bounds the apples of both shops lie.
 pub fn apples_of_both_shops(alloc: Global) -> Result<(u64, u64), Error> {
-    let mut north = FrequentItemsSketch::with_sample_size(alloc, 1024, 100)?;
-    let mut south = FrequentItemsSketch::with_sample_size(alloc, 1024, 100)?;
-    north.update_with_count("apple", 30)?;
-    south.update_with_count("apple", 12)?;
-    north.merge(&south)?;
-    Ok((north.lower_bound(&"apple"), north.upper_bound(&"apple")))
+    let mut both = shop(alloc, 30)?;
+    both.merge(&shop(alloc, 12)?)?;
+    Ok((both.lower_bound(&"apple"), both.upper_bound(&"apple")))
 }
 
 /// How many pages surely weigh more than the threshold, and how many may.

@@ -7,30 +7,34 @@ use std::alloc::Global;
 
 /// Whether a filter of a session has seen the number 7.
 pub fn has_seen_seven(alloc: Global) -> Result<bool, Error> {
-    let mut session = Session::new(alloc);
-    let made = session.apply(Command::CreateBloom {
-        name: String::from_str(alloc, "seen")?,
+    insert_and_ask(alloc, &mut Session::new(alloc))
+}
+
+/// Makes a filter, inserts the number, and asks for it.
+fn insert_and_ask(alloc: Global, session: &mut Session<u64>) -> Result<bool, Error> {
+    let name = String::from_str(alloc, "seen")?;
+    if let Reply::Refused(_) = session.apply(Command::CreateBloom {
+        name,
         num_bits: 959,
         num_hashes: 7,
         seed: 9001,
-    });
-    if let Reply::Refused(_) = made {
+    }) {
         return Ok(false);
     }
-    let _ = session.apply(Command::Insert {
-        name: String::from_str(alloc, "seen")?,
-        item: 7_u64,
-    });
-    let told = session.apply(Command::Ask {
-        name: String::from_str(alloc, "seen")?,
-        item: 7,
-    });
+    let name = String::from_str(alloc, "seen")?;
+    session.apply(Command::Insert { name, item: 7 });
+    let name = String::from_str(alloc, "seen")?;
+    let told = session.apply(Command::Ask { name, item: 7 });
     Ok(matches!(told, Reply::Contains(true)))
 }
 
 /// What a session says of the visits by 7.
 pub fn visits_by_seven(alloc: Global) -> Result<Reply<u64>, Error> {
-    let mut session = Session::new(alloc);
+    count_and_ask(alloc, &mut Session::new(alloc))
+}
+
+/// Makes a sketch, counts visits in it, and asks for them.
+fn count_and_ask(alloc: Global, session: &mut Session<u64>) -> Result<Reply<u64>, Error> {
     let name = String::from_str(alloc, "visits")?;
     session.apply(Command::CreateFrequent {
         name,
@@ -48,8 +52,8 @@ pub fn visits_by_seven(alloc: Global) -> Result<Reply<u64>, Error> {
 
 /// Why nothing is inserted where no sketch has the name.
 pub fn refusal_of_an_unknown_name(alloc: Global) -> Result<Option<Refusal>, Error> {
-    let mut session = Session::new(alloc);
     let name = String::from_str(alloc, "visits")?;
+    let mut session = Session::new(alloc);
     match session.apply(Command::Insert { name, item: 7_u64 }) {
         Reply::Refused(refusal) => Ok(Some(refusal)),
         _ => Ok(None),
