@@ -1,4 +1,4 @@
-use Rattle.std.proofs.Common.{refl, arith}
+use Rattle.std.proofs.Common.{length, refl, arith}
 use Rattle.datasketches_c.proofs.AnswerLemmas.{long_front}
 use Rattle.datasketches_c.proofs.Reports.{rows_stand}
 use Rattle.datasketches_c.proofs.frequent_rows.copy_rows.Goals as goal

@@ -1,6 +1,7 @@
-use Rattle.std.proofs.Common.{rules, sym, subst}
+use Rattle.std.proofs.Common.{inl, sym, subst}
 use Rattle.sketch_frequencies.specs.declared.error_type.ErrorType.{ErrorType}
-use Rattle.datasketches_c.specs.FrequentRows.{AreRows, error_type}
+use Rattle.datasketches_c.specs.FrequentRows.{AreRows, LeavesRows, WritesRows, error_type}
+use Rattle.datasketches_c.proofs.AnswerLemmas.{handed_on}
 use Rattle.datasketches_c.proofs.Reports.{copied_rows, rows_left}
 use Rattle.datasketches_c.proofs.frequent_rows.write_rows.Goals as goal
 
@@ -17,9 +18,14 @@ returns-in-Ok-clause-rows g c =
     subst (λ (k : ErrorType). AreRows eq k threshold sketch c.in-Ok.rows.items) c.error_type_of.ensures
     (record { exact = found.exact; descending = found.descending; none_missing = found.none_missing; none_below = found.none_below }) in
     let copied = c.copy_rows.ensures in
-    let said = copied_rows eq kind threshold sketch rows c.args.items.now c.copy_rows.new.items c.args.bounds.now c.copy_rows.new.bounds c.copy_rows.new.count c.copy_rows.result
-    (subst (AreRows eq kind threshold sketch) (sym c.deref.ensures.value) are) copied.counted copied.written copied.few_items copied.few_bounds in
-    search rules
+    handed_on (WritesRows eq kind threshold sketch c.args.items.now c.copy_rows.new.items c.args.bounds.now c.copy_rows.new.bounds c.copy_rows.new.count) c.copy_rows.result c.copy_rows.type_inv
+    (inl (copied_rows eq kind threshold sketch rows c.args.items.now c.copy_rows.new.items c.args.bounds.now c.copy_rows.new.bounds c.copy_rows.new.count c.copy_rows.result
+    (subst (AreRows eq kind threshold sketch) (sym c.deref.ensures.value) are) copied.counted copied.written copied.few_items copied.few_bounds))
 
 pub returns-in-Err-clause-left : goal.returns-in-Err-clause-left
 returns-in-Err-clause-left g c = rows_left c.args.items.now c.args.bounds.now c.args.count.now _
+
+pub returns-in-Ok-clause-left : goal.returns-in-Ok-clause-left
+returns-in-Ok-clause-left g c =
+    let copied = c.copy_rows in
+    handed_on (LeavesRows c.args.items.now copied.new.items c.args.bounds.now copied.new.bounds c.args.count.now copied.new.count) copied.result copied.type_inv copied.ensures.left

@@ -4,8 +4,7 @@ use Rattle.sketch_base.specs.Hashes.{fed_bytes}
 use Rattle.sketch_bloom.specs.State.{FilterState, contains_item}
 use Rattle.datasketches_c.specs.Kinds.{filter_of}
 use Rattle.datasketches_c.specs.Numbers.{ok, no_sketch, wrong_kind}
-use Rattle.datasketches_c.specs.Texts.{RefusesTextsIn, texts_of}
-use Rattle.datasketches_c.proofs.AnswerLemmas.{handed_on}
+use Rattle.datasketches_c.specs.Texts.{texts_of}
 use Rattle.datasketches_c.proofs.KindLemmas.{on_kind_said, on_none_said, on_other_said}
 use Rattle.datasketches_c.proofs.Reports.{when_refused}
 use Rattle.datasketches_c.proofs.many_texts.ds_filter_contains_all_text.Goals as goal
@@ -38,7 +37,8 @@ returns-in-Some-part_of-clause-answers c =
     (c.in-Some-take.ensures.sketch ∙ ap Some (sym c.deref_mut.ensures.value)) c.in-Some-part_of.ensures.which.0 (refl, c.contains_texts.ensures)
 
 -- the texts were refused
-pub returns-in-Some : goal.returns-in-Some
-returns-in-Some c =
-    let says = handed_on (RefusesTextsIn (length c.args.answers.now) c.args.bytes.now c.args.offsets.now) c.in-Some.refusal (rw c.in-Some.is at c.refusal_of_texts_in.type_inv) c.in-Some.ensures.says in
-    record { kept = refl; bad_offsets = says.not_offsets; no_room = says.not_placed; no_text = says.not_utf8; answers = λ texts same. absurd (c.in-Some.ensures.not_texts same texts); untouched = when_refused _ _ refl }
+pub returns-in-Some-clause-answers : goal.returns-in-Some-clause-answers
+returns-in-Some-clause-answers c = λ texts same. absurd (c.in-Some.ensures.not_texts same texts)
+
+pub returns-in-Some-clause-untouched : goal.returns-in-Some-clause-untouched
+returns-in-Some-clause-untouched c = when_refused _ _ refl

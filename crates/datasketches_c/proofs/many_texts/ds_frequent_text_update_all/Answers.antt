@@ -1,7 +1,12 @@
-use Rattle.std.proofs.Common.{Some, refl, sym, ap, ◌∙◌}
-use Rattle.datasketches_c.specs.Kinds.{frequent_texts_of}
+use Rattle.std.proofs.Common.{ℤ, Some, refl, sym, ap, ◌∙◌}
+use Rattle.datasketches_c.specs.FrequentTexts.{UpdatesText}
+use Rattle.datasketches_c.specs.InTurn.{CallsInTurn}
+use Rattle.datasketches_c.specs.Kinds.{HoldsFrequentTexts, OnFrequentTexts, frequent_texts_of}
 use Rattle.datasketches_c.specs.Numbers.{no_sketch, wrong_kind}
-use Rattle.datasketches_c.proofs.KindLemmas.{on_none_said, on_other_said}
+use Rattle.datasketches_c.specs.Texts.{texts_of}
+use Rattle.datasketches_c.specs.declared.any_sketch.AnySketch.TheVariants.{FrequentTexts}
+use Rattle.datasketches_c.proofs.AnswerLemmas.{handed_on}
+use Rattle.datasketches_c.proofs.KindLemmas.{changed, on_none_said, on_other_said}
 use Rattle.datasketches_c.proofs.many_texts.ds_frequent_text_update_all.Goals as goal
 
 -- the handle has no sketch, or one of another kind
@@ -17,3 +22,15 @@ returns-in-Some-part_of-clause-bad_offsets c = λ not. absurd (not c.in_default.
 
 pub returns-in-Some-part_of-clause-no_text : goal.returns-in-Some-part_of-clause-no_text
 returns-in-Some-part_of-clause-no_text c = λ ends not. absurd (not c.in_default.ensures.utf8)
+
+pub returns-in-Some-part_of-clause-texts : goal.returns-in-Some-part_of-clause-texts
+returns-in-Some-part_of-clause-texts c =
+    let texts = texts_of c.args.bytes.now c.args.offsets.now in
+    let new = c.update_texts-answer.new.sketch in
+    let answer = c.update_texts-answer.result in
+    let call : ℤ → Type 0 = λ z. OnFrequentTexts c.args.handle.now.value c.give.new.self.value z (λ s. HoldsFrequentTexts c.give.new.self.value (λ t. CallsInTurn (λ s text t answer. UpdatesText s text 1 t answer) s texts t z)) in
+    λ are. handed_on call answer c.update_texts-answer.type_inv (changed frequent_texts_of (λ s t. CallsInTurn (λ s text t answer. UpdatesText s text 1 t answer) s texts t answer) c.args.handle.now.value c.give.new.self.value c.deref_mut.result.now (FrequentTexts new) c.in-Some-part_of.sketch.now new answer
+    (c.in-Some-take.ensures.sketch ∙ ap Some (sym c.deref_mut.ensures.value)) c.in-Some-part_of.ensures.which.0 c.give.ensures refl c.update_texts-answer.ensures)
+
+pub returns-in-Some-clause-texts : goal.returns-in-Some-clause-texts
+returns-in-Some-clause-texts c = λ texts. absurd (c.in-Some.ensures.not_texts texts)
