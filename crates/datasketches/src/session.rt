@@ -40,10 +40,7 @@ use std::marker::Model;
 /// use std::alloc::Global;
 ///
 /// fn visits_by_seven(alloc: Global) -> Result<Reply<u64>, Error> {
-///     count_and_ask(alloc, &mut Session::new(alloc))
-/// }
-///
-/// fn count_and_ask(alloc: Global, session: &mut Session<u64>) -> Result<Reply<u64>, Error> {
+///     let mut session = Session::new(alloc);
 ///     let name = String::from_str(alloc, "visits")?;
 ///     session.apply(Command::CreateFrequent {
 ///         name,

@@ -30,11 +30,7 @@ fn insert_and_ask(alloc: Global, session: &mut Session<u64>) -> Result<bool, Err
 
 /// What a session says of the visits by 7.
 pub fn visits_by_seven(alloc: Global) -> Result<Reply<u64>, Error> {
-    count_and_ask(alloc, &mut Session::new(alloc))
-}
-
-/// Makes a sketch, counts visits in it, and asks for them.
-fn count_and_ask(alloc: Global, session: &mut Session<u64>) -> Result<Reply<u64>, Error> {
+    let mut session = Session::new(alloc);
     let name = String::from_str(alloc, "visits")?;
     session.apply(Command::CreateFrequent {
         name,
