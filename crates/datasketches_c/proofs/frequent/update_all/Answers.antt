@@ -1,4 +1,4 @@
-use Rattle.std.proofs.Common.{◌≡◌, ℤ, Some, sym, ap, ◌∙◌}
+use Rattle.std.proofs.Common.{ℤ, Some, sym, ap, ◌∙◌}
 use Rattle.datasketches_c.specs.FrequentCalls.{UpdatesMany}
 use Rattle.datasketches_c.specs.Kinds.{OnKind, HoldsKind}
 use Rattle.datasketches_c.proofs.AnswerLemmas.{handed_on}

@@ -1,4 +1,4 @@
-use Rattle.std.proofs.Common.{◌≡◌, ℤ, Some, sym, ap, ◌∙◌}
+use Rattle.std.proofs.Common.{ℤ, Some, sym, ap, ◌∙◌}
 use Rattle.datasketches_c.specs.FrequentCalls.{Updates}
 use Rattle.datasketches_c.specs.Weights.{AddsWeights}
 use Rattle.datasketches_c.specs.Kinds.{OnKind, HoldsKind}
