@@ -1,5 +1,5 @@
 -- Numbers that calls hand on, images that are copied, and rows that are written one by one.
-use Rattle.std.proofs.Common.{◌≡◌, ◌+◌, ◌<◌, ◌≤◌, ℤ, ℕ, List, length, map, take, drop, set, get_or, ap, ◌∙◌, sym, subst, inl, inr, rules}
+use Rattle.std.proofs.Common.{◌≡◌, ◌+◌, ◌<◌, ◌≤◌, ℤ, ℕ, List, length, map, take, drop, set, get_or, ap, ◌∙◌, sym, subst, inl, inr}
 use Rattle.std.proofs.lemmas.Bool.{cases_lt}
 use lib.Signed.{mag}
 use mir.Syntax.{w32}
@@ -27,7 +27,3 @@ not_copied image out new answer small copied few =
 pub place_written : {A B : Type 0} (f : A → B) (xs : List A) (ys : List B) (i : ℕ) (x : A) (y : B) → i < length xs → i < length ys → x ≡ get_or xs i x → y ≡ f x
     → take i ys ≡ map f (take i xs) → take (i + 1) (set ys i y) ≡ map f (take (i + 1) xs)
 place_written f xs ys i x y there room is made so_far = ap (λ z. take (i + 1) (set ys i z)) (made ∙ ap f is) ∙ written_more f xs ys i x there room so_far
-
--- the front of a list has the length that was asked for
-pub long_front : {A : Type 0} (n : ℕ) (xs : List A) → n ≤ length xs → n ≡ length (take n xs)
-long_front n xs here = search rules

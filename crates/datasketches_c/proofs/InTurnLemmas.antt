@@ -70,11 +70,6 @@ from_refused (negsuc n) P done other p = p
 pub same_answer : (answer : ℤ) → mag answer < 2147483648 → to_z w32 (of_z w32 answer) ≡ answer
 same_answer answer small = to_z-of_z w32 answer (record { sfits = small })
 
--- what holds is said of a refusal, too
-pub if_refused : (answer : ℤ) (P : Type 0) → P → OnRefused answer P
-if_refused (pos n) P p = tt
-if_refused (negsuc n) P p = p
-
 -- the number of a call that was refused for a fault
 pub refused_for : {V : Type 0} (error of : ErrorValue) (fault : Fault) (answer : ℤ) → mag answer < 2147483648 → fault ≡ error.fault
     → answer ≡ refusal_number fault → IsErrOf {T = V} (Err error) of → to_z w32 (of_z w32 answer) ≡ refusal_number of.fault

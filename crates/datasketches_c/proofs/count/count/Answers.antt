@@ -1,11 +1,12 @@
 use Rattle.std.proofs.lemmas.Bool.{false≢true}
-use Rattle.datasketches_c.proofs.InTurnLemmas.{if_refused, refused_for}
+use Rattle.datasketches_c.proofs.InTurnLemmas.{refused_for}
+use Rattle.datasketches_c.proofs.Reports.{when_refused}
 use Rattle.datasketches_c.proofs.count.count.Goals as goal
 
 -- the total has no room
 pub returns-in-Err : goal.returns-in-Err
 returns-in-Err g c = record {
-  refused = if_refused _ _ c.in-Err.ensures.err;
+  refused = when_refused _ _ c.in-Err.ensures.err;
   overflow = λ over. refused_for c.in-Err.error _ _ _ c.refusal_number.type_inv c.fault.ensures c.refusal_number.ensures (c.in-Err.ensures.overflow over);
   counted = λ fits. absurd (false≢true (c.in-Err.ensures.succeeds fits));
 }

@@ -4,7 +4,8 @@ use Rattle.sketch_base.specs.Hashes.{fed_bytes}
 use Rattle.datasketches_c.specs.Numbers.{ok, no_sketch, wrong_kind}
 use Rattle.datasketches_c.specs.Texts.{texts_of}
 use Rattle.datasketches_c.proofs.CountCallLemmas.{all_estimated}
-use Rattle.datasketches_c.proofs.InTurnLemmas.{if_refused, same_answer}
+use Rattle.datasketches_c.proofs.InTurnLemmas.{same_answer}
+use Rattle.datasketches_c.proofs.Reports.{when_refused}
 use Rattle.datasketches_c.proofs.TextLemmas.{not_refused_in}
 use Rattle.datasketches_c.proofs.KindLemmas.{on_none_said, on_other_said}
 use Rattle.datasketches_c.proofs.count.estimate_all_text.Goals as goal
@@ -37,7 +38,7 @@ pub returns-in-Some-clause-estimates : goal.returns-in-Some-clause-estimates
 returns-in-Some-clause-estimates g c = λ texts same. absurd (c.in-Some.ensures.not_texts same texts)
 
 pub returns-in-Some-clause-untouched : goal.returns-in-Some-clause-untouched
-returns-in-Some-clause-untouched g c = if_refused _ _ refl
+returns-in-Some-clause-untouched g c = when_refused _ _ refl
 
 pub returns-in-Some-clause-no_texts : goal.returns-in-Some-clause-no_texts
 returns-in-Some-clause-no_texts g c = rw (same_answer c.in-Some.refusal (search rules)) c.in-Some.ensures.says

@@ -3,7 +3,7 @@ use Rattle.std.specs.Prelude.{sum_by, unsigned_abs}
 use Rattle.sketch_base.specs.Hashes.{fed_bytes}
 use Rattle.datasketches_c.proofs.CountCallLemmas.{weights_added}
 use Rattle.datasketches_c.proofs.KindLemmas.{kept_when_refused, on_none_said, on_other_said}
-use Rattle.datasketches_c.proofs.InTurnLemmas.{if_refused}
+use Rattle.datasketches_c.proofs.Reports.{when_refused}
 use Rattle.datasketches_c.specs.Numbers.{no_sketch, wrong_kind}
 use Rattle.datasketches_c.proofs.count.update_all_weighted.Goals as goal
 
@@ -28,4 +28,4 @@ pub returns-in-None-clause-call : goal.returns-in-None-clause-call
 returns-in-None-clause-call g c = λ same. on_other_said g.bound-11.part c.args.handle.now.value c.give-in-None.new.self.value c.deref_mut.result.now wrong_kind _ (c.in-Some.ensures.sketch ∙ ap Some (sym c.deref_mut.ensures.value)) c.in-None.ensures.which c.give-in-None.ensures refl
 
 pub returns-in-None-clause-refused : goal.returns-in-None-clause-refused
-returns-in-None-clause-refused g c = if_refused wrong_kind _ (c.give-in-None.ensures ∙ sym (c.in-Some.ensures.sketch ∙ ap Some (sym c.deref_mut.ensures.value)))
+returns-in-None-clause-refused g c = when_refused wrong_kind _ (c.give-in-None.ensures ∙ sym (c.in-Some.ensures.sketch ∙ ap Some (sym c.deref_mut.ensures.value)))

@@ -4,7 +4,8 @@ use Rattle.std.specs.Prelude.{sum_by, unsigned_abs}
 use Rattle.sketch_base.specs.Hashes.{fed_bytes}
 use Rattle.datasketches_c.specs.Texts.{texts_of}
 use Rattle.datasketches_c.proofs.CountCallLemmas.{weights_added}
-use Rattle.datasketches_c.proofs.InTurnLemmas.{if_refused, same_answer}
+use Rattle.datasketches_c.proofs.InTurnLemmas.{same_answer}
+use Rattle.datasketches_c.proofs.Reports.{when_refused}
 use Rattle.datasketches_c.proofs.TextLemmas.{not_refused_in}
 use Rattle.datasketches_c.proofs.KindLemmas.{kept_when_refused, on_none_said, on_other_said}
 use Rattle.datasketches_c.specs.Numbers.{no_sketch, wrong_kind}
@@ -36,7 +37,7 @@ returns-in-Some-part_of-clause-no_texts g c = not_refused_in _ _ _ _ c.in_defaul
 
 -- the texts were refused
 pub returns-in-Some-clause-refused : goal.returns-in-Some-clause-refused
-returns-in-Some-clause-refused g c = if_refused _ _ refl
+returns-in-Some-clause-refused g c = when_refused _ _ refl
 
 pub returns-in-Some-clause-call : goal.returns-in-Some-clause-call
 returns-in-Some-clause-call g c = λ texts same. absurd (c.in-Some.ensures.not_texts same texts)

@@ -1,6 +1,6 @@
 use Rattle.std.proofs.Common.{List, ℕ, refl, sym, subst, rules}
 use Rattle.sketch_countmin.specs.Image.{IsSpelled}
-use Rattle.datasketches_c.proofs.InTurnLemmas.{if_refused}
+use Rattle.datasketches_c.proofs.Reports.{when_refused}
 use Rattle.datasketches_c.proofs.Reading.{copied_image}
 use Rattle.datasketches_c.proofs.count_images.write_counts.Goals as goal
 
@@ -13,4 +13,4 @@ returns-in-Ok-clause-image g c =
 
 -- it was not made
 pub returns-in-Err-clause-untouched : goal.returns-in-Err-clause-untouched
-returns-in-Err-clause-untouched g c = if_refused _ _ refl
+returns-in-Err-clause-untouched g c = when_refused _ _ refl

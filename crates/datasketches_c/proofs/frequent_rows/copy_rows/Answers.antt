@@ -1,5 +1,5 @@
-use Rattle.std.proofs.Common.{length, refl, arith}
-use Rattle.datasketches_c.proofs.AnswerLemmas.{long_front}
+use Rattle.std.proofs.Common.{length, refl, sym, arith}
+use Rattle.std.proofs.lemmas.List.{length-take-le}
 use Rattle.datasketches_c.proofs.Reports.{rows_stand}
 use Rattle.datasketches_c.proofs.frequent_rows.copy_rows.Goals as goal
 
@@ -17,13 +17,13 @@ pub slice_bounds-copy_items-end : goal.slice_bounds-copy_items-end
 slice_bounds-copy_items-end g c = omega arith
 
 pub slice_bounds-copy_items-end-2 : goal.slice_bounds-copy_items-end-2
-slice_bounds-copy_items-end-2 g c = long_front (length c.args.rows.now) c.args.items.now (omega arith)
+slice_bounds-copy_items-end-2 g c = sym (length-take-le (length c.args.rows.now) c.args.items.now (omega arith))
 
 pub slice_bounds-copy_bounds-end : goal.slice_bounds-copy_bounds-end
 slice_bounds-copy_bounds-end g c = omega arith
 
 pub slice_bounds-copy_bounds-end-2 : goal.slice_bounds-copy_bounds-end-2
-slice_bounds-copy_bounds-end-2 g c = long_front (length c.args.rows.now) c.args.bounds.now (omega arith)
+slice_bounds-copy_bounds-end-2 g c = sym (length-take-le (length c.args.rows.now) c.args.bounds.now (omega arith))
 
 pub returns-clause-left : goal.returns-clause-left
 returns-clause-left g c = record { untouched = tt; uncounted = λ other none. absurd (other refl) }

@@ -1,5 +1,6 @@
 use Rattle.std.proofs.lemmas.Bool.{false≢true}
-use Rattle.datasketches_c.proofs.InTurnLemmas.{if_refused, refused_for}
+use Rattle.datasketches_c.proofs.InTurnLemmas.{refused_for}
+use Rattle.datasketches_c.proofs.Reports.{when_refused}
 use Rattle.datasketches_c.proofs.count.CountMinSketchJoinsUnit.join_with.Goals as goal
 
 -- the shapes differ, or the total has no room for both
@@ -14,5 +15,5 @@ returns-in-Err g c =
         overflow = λ same over. refused_for c.in-Err.error _ _ _ small c.fault.ensures number (said.overflow same over);
         mismatch = λ other. refused_for c.in-Err.error _ _ _ small c.fault.ensures number (said.mismatch other);
       };
-      refused = if_refused _ _ said.err;
+      refused = when_refused _ _ said.err;
     }
