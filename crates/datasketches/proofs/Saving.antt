@@ -1,13 +1,14 @@
 -- Commands that make a sketch or an image, by the clauses of the calls beneath.
-use Rattle.std.proofs.Common.{◌≡◌, ℕ, Bool, List, Option, Some, None, inl, inr, refl, sym, ◌∙◌, ap, subst}
+use Rattle.std.proofs.Common.{◌≡◌, ℕ, Bool, true, false, List, Option, Some, None, inl, inr, refl, sym, ◌∙◌, ap, subst}
 use Rattle.std.specs.Prelude.{Result, IsErrAnd}
-use Rattle.std.specs.Option.{MatchOption}
+use Rattle.std.specs.Option.{MatchOption, is_some}
 use Rattle.std.proofs.lemmas.Result.{err_from_is_err_and}
 use Rattle.sketch_base.specs.Errors.{ErrorValue, invalid_argument, no_memory, refusal_of}
 use Rattle.sketch_base.specs.declared.fault.Fault.{Fault}
 use Rattle.datasketches.specs.Histories.{begun}
 use Rattle.datasketches.specs.Images.{IsWrittenBy, IsReadFrom, IsReadRefusal, GivesBack, TakesWithin}
 use Rattle.sketch_frequencies.specs.Items.{Codec}
+use Rattle.datasketches.proofs.Names.{free_name}
 use Rattle.datasketches.proofs.Saved.{read_first, load_first}
 use Rattle.datasketches.specs.Names.{at_name, Puts, AreSame}
 use Rattle.datasketches.specs.Replies.{told, refused}
@@ -26,6 +27,13 @@ use Rattle.datasketches.specs.declared.sketch.Sketch.{Sketch}
 -- a refusal that was passed on
 pub told_call : {T : Type 0} (result : Result (Reply T) Refusal) (error : ErrorValue) → IsErrAnd result (λ refusal. refusal ≡ Call error) → told result ≡ refused error
 told_call result error from = let p = err_from_is_err_and result from in ap told p.1 ∙ ap Refused p.2
+
+-- whether an image has the name, asked of a session that is seen as its parts
+pub free_image : {T : Type 0} (asked name : List ℕ) (seen old : SessionState T) (contained : Bool) → contained ≡ false → contained ≡ is_some (at_name asked seen.images) → asked ≡ name → seen ≡ old → at_name name old.images ≡ None
+free_image asked name seen old contained not is same view = subst (λ s. at_name name s.images ≡ None) view (free_name asked name seen.images contained not is same)
+
+pub taken_image : {T : Type 0} (asked name : List ℕ) (seen old : SessionState T) (contained : Bool) → contained ≡ true → contained ≡ is_some (at_name asked seen.images) → asked ≡ name → seen ≡ old → is_some (at_name name old.images) ≡ true
+taken_image asked name seen old contained so is same view = subst (λ s. is_some (at_name name s.images) ≡ true) view (subst (λ n. is_some (at_name n seen.images) ≡ true) same (sym is ∙ so))
 
 module _ {T : Type 0} (eq : T → T → Bool) where
   refused_case : (name : List ℕ) (shape : Shape) (old : List (List ℕ × Sketch T)) (reply : Reply T) (error : ErrorValue) (fault : Option Fault) → reply ≡ refused error → error ≡ refusal_of fault →
