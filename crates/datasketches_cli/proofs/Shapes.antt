@@ -78,12 +78,6 @@ no_bloom_past words m makes past = no_filter words (λ n made less. past (omega 
 makes_numbers : (words : List (List ℕ)) (n : ℕ × ℕ × ℕ) → MakeThree words n → n.0 < 2 ^ 8 → n.1 < 2 ^ 32 → AreCounts words n.0 n.1 n.2
 makes_numbers words n (h, b, s, e, p, q, r) few less = (h, b, s, e, narrow (2 ^ 8) h n.0 few p, narrow (2 ^ 32) b n.1 less q, r)
 
-pub makes_signed : (words : List (List ℕ)) (n : ℕ × ℕ × ℕ) → MakeThree words n → n.0 < 2 ^ 8 → n.1 < 2 ^ 32 → MakeShape (count_verb true) words (shape.CountI64 n.0 n.1 n.2)
-makes_signed words n makes few less = (refl, makes_numbers words n makes few less)
-
-pub makes_unsigned : (words : List (List ℕ)) (n : ℕ × ℕ × ℕ) → MakeThree words n → n.0 < 2 ^ 8 → n.1 < 2 ^ 32 → MakeShape (count_verb false) words (shape.CountU64 n.0 n.1 n.2)
-makes_unsigned words n makes few less = (refl, makes_numbers words n makes few less)
-
 -- numbers of which two were narrowed
 pub makes_counts : {E F : Type 0} (words : List (List ℕ)) (n : ℕ × ℕ × ℕ) (hashes buckets : ℕ) (r : Result ℕ E) (q : Result ℕ F) (h b : Option ℕ) → MakeThree words n →
     OkIff r (n.0 < 2 ^ 8) n.0 → h ≡ result_ok r → h ≡ Some hashes → OkIff q (n.1 < 2 ^ 32) n.1 → b ≡ result_ok q → b ≡ Some buckets → AreCounts words hashes buckets n.2

@@ -5,9 +5,6 @@ use Rattle.datasketches_cli.proofs.parse.number.three_numbers.Goals as goal
 pub returns-in_default : goal.returns-in_default
 returns-in_default c = not_three c.args.words.now (λ e. omega (arith, c.in_default.len_below))
 
-pub returns-in_default-3 : goal.returns-in_default-3
-returns-in_default-3 c = not_three c.args.words.now (λ e. omega (arith, c.in_default.len_at_least))
-
 pub returns-in_default-2 : goal.returns-in_default-2
 returns-in_default-2 c = no_third_of_three c.args.words.now _ _ c.number_of-3.ensures c.in_default-2.is-2
 
