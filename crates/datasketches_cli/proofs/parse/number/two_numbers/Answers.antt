@@ -1,4 +1,3 @@
-use Rattle.std.proofs.Common.{arith}
 use Rattle.datasketches_cli.proofs.Places.{makes_two, no_first_of_two, no_second_of_two}
 use Rattle.datasketches_cli.proofs.parse.number.two_numbers.Goals as goal
 
