@@ -1,7 +1,5 @@
 use Rattle.std.proofs.Common.{◌≡◌, ℕ, eqb, length, [], true, false, refl, sym, ◌∙◌, ap, arith}
 use Rattle.std.specs.Io.BufRead.{take_through}
-use Rattle.std.proofs.lemmas.Bool.{false≢true}
-use Rattle.std.proofs.lemmas.Result.{IfOk-from_err}
 use Rattle.datasketches_cli.proofs.LineReading.{takes_some, taken, begins}
 use Rattle.datasketches_cli.proofs.serve.answer_next.Goals as goal
 
@@ -20,24 +18,3 @@ returns-clause-answered g c =
       rw some at c.in_ok-more.ensures.line,
       rw (c.without_end-2.ensures, c.deref.ensures.value) at c.in_ok-became-2.ensures,
     )
-
-pub returns-in_err-became-clause-answered : goal.returns-in_err-became-clause-answered
-returns-in_err-became-clause-answered g c = IfOk-from_err _ _ c.from_residual.ensures.0
-
-pub returns-in_err-more-clause-answered : goal.returns-in_err-more-clause-answered
-returns-in_err-more-clause-answered g c = IfOk-from_err _ _ c.from_residual-in_err-more.ensures.0
-
-pub returns-in_err-became-2-clause-answered : goal.returns-in_err-became-2-clause-answered
-returns-in_err-became-2-clause-answered g c = IfOk-from_err _ _ c.from_residual-in_err-became-2.ensures.0
-
-pub returns-in_err-more-clause-alone : goal.returns-in_err-more-clause-alone
-returns-in_err-more-clause-alone g c = λ has. absurd (false≢true (sym c.if-has_line.false ∙ c.has_line.ensures.1 has))
-
-pub returns-then-is_empty-clause-alone : goal.returns-then-is_empty-clause-alone
-returns-then-is_empty-clause-alone g c = λ has. absurd (false≢true (sym c.if-has_line.false ∙ c.has_line.ensures.1 has))
-
-pub returns-in_err-became-2-clause-alone : goal.returns-in_err-became-2-clause-alone
-returns-in_err-became-2-clause-alone g c = λ has. absurd (false≢true (sym c.if-has_line.false ∙ c.has_line.ensures.1 has))
-
-pub returns-clause-alone : goal.returns-clause-alone
-returns-clause-alone g c = λ has. absurd (false≢true (sym c.if-has_line.false ∙ c.has_line.ensures.1 has))
