@@ -1,8 +1,9 @@
 -- The requests on windows that words make.
-use Rattle.std.proofs.Common.{◌≡◌, ℕ, ◌-◌, ◌^◌, ◌<◌, ◌≤◌, List, [], ◌∷◌, length, get_or, take, drop, Option, sym, ◌∙◌, ap, arith}
+use Rattle.std.proofs.Common.{◌≡◌, ℕ, ◌-◌, ◌^◌, ◌<◌, ◌≤◌, List, [], ◌∷◌, length, get_or, take, drop, Option, Some, sym, ◌∙◌, ap, arith}
 use Rattle.std.specs.Prelude.{codes}
 use Rattle.std.specs.Borrow.{Bor}
 use Rattle.std.specs.Str.{bytes_eq}
+use Rattle.std.specs.String.{string_bytes}
 use Rattle.std.proofs.lemmas.Bool.{false≢true}
 use Rattle.std.proofs.lemmas.List.{take_all}
 use Rattle.datasketches.specs.ErrorType.{ErrorType}
@@ -11,6 +12,8 @@ use Rattle.datasketches_cli.specs.declared.request.Request.TheVariants as reques
 use Rattle.datasketches_cli.specs.Asking.{AskOnWindows}
 use Rattle.datasketches_cli.specs.Grammar.{number_below, report_word}
 use Rattle.datasketches_cli.specs.Parsing.{MakeThreshold, MakeTwo, texts_of, IsWindowsRequestOf}
+use Rattle.datasketches_cli.specs.Texts.{Text}
+use Rattle.datasketches_cli.proofs.Places.{three_texts}
 
 -- a verb, and the words that follow it
 split_verb : (words : List (Bor (List ℕ))) (other : Bor (List ℕ)) (verb : List ℕ) (n : ℕ) → 1 ≤ length words → n ≡ length words - 1 → (get_or words 0 other).now ≡ verb → texts_of words ≡ verb ∷ texts_of (take n (drop 1 words))
@@ -31,6 +34,13 @@ no_windows words none (request.Add tenant weight item) (t, w, e, x, y) = false�
 no_windows words none (request.Turn tenant) (t, e, x) = false≢true (sym (ap (λ (l : List (List ℕ)). bytes_eq (codes "windows") (get_or l 0 [])) e))
 no_windows words none (request.Report tenant kind threshold) (t, n, e, x, y) = false≢true (sym (ap (λ (l : List (List ℕ)). bytes_eq (codes "windows") (get_or l 0 [])) e))
 no_windows words none _ made = absurd made
+
+-- three words of which two are numbers ask for an addition
+pub makes_add : (words : List (Bor (List ℕ))) (d d' d'' : Bor (List ℕ)) (item : Text) (tenant weight : ℕ) → 3 ≤ length words → length words < 4 → string_bytes item ≡ (get_or words 2 d'').now →
+    Some tenant ≡ number_below (2 ^ 64) (get_or words 0 d).now → Some weight ≡ number_below (2 ^ 64) (get_or words 1 d').now → AskOnWindows (codes "hadd" ∷ texts_of words) (request.Add tenant weight item)
+makes_add words d d' d'' item tenant weight some few named t w =
+    let all = ap (λ (l : List (List ℕ)). codes "hadd" ∷ l) (three_texts words d d' d'' some few) in
+    (_, _, all ∙ ap (λ (v : List ℕ). codes "hadd" ∷ (get_or words 0 d).now ∷ (get_or words 1 d').now ∷ v ∷ []) (sym named), sym t, sym w)
 
 -- two words that are no kind of report and no threshold ask for no report
 report_of_three : (tenant first second : List ℕ) → ((made : ErrorType × ℕ) → ¬ MakeThreshold first second made) → (asked : Request) → ¬ AskOnWindows (codes "hreport" ∷ tenant ∷ first ∷ second ∷ []) asked

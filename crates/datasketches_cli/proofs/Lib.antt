@@ -4,6 +4,7 @@ pub mod Digits
 pub mod LineReading
 pub mod Lines
 pub mod Numbers
+pub mod Places
 pub mod Printed
 pub mod Searching
 pub mod Shapes

@@ -1,6 +1,7 @@
 -- The shapes that three numbers make, and words that make none.
-use Rattle.std.proofs.Common.{◌≡◌, ℕ, ◌^◌, ◌<◌, Bool, true, false, List, [], ◌∷◌, get_or, filter, refl, sym, ◌∙◌, ap, arith}
+use Rattle.std.proofs.Common.{◌≡◌, ℕ, ◌^◌, ◌<◌, Bool, true, false, List, [], ◌∷◌, get_or, filter, Option, Some, None, Result, Ok, Err, refl, sym, ◌∙◌, ap, arith}
 use Rattle.std.specs.Prelude.{codes}
+use Rattle.std.specs.Result.{OkIff, result_ok}
 use Rattle.std.specs.Str.{bytes_eq}
 use Rattle.datasketches.specs.declared.shape.Shape.{Shape}
 use Rattle.datasketches.specs.declared.shape.Shape.TheVariants as shape
@@ -39,6 +40,16 @@ first_same : (words : List (List ℕ)) (m n : ℕ × ℕ × ℕ) → MakeThree w
 first_same words m n (a, b, c, e, p, q, r) (a', b', c', e', p', q', r') =
     let same : a ≡ a' = ap (λ (l : List (List ℕ)). get_or l 0 []) (sym e ∙ e') in cc
 
+-- a number that was narrowed was below the limit, and is as it was
+was_below : {E : Type 0} (limit n m : ℕ) (r : Result ℕ E) → OkIff r (n < limit) n → result_ok r ≡ Some m → (n < limit) × (n ≡ m)
+was_below limit n m (Ok k) h e = (h.0, cc)
+was_below limit n m (Err x) h e = absurd (cc e)
+
+-- one that was not was above it
+pub was_past : {E : Type 0} (limit n : ℕ) (r : Result ℕ E) → OkIff r (n < limit) n → result_ok r ≡ None → ¬ (n < limit)
+was_past limit n (Ok k) h e = absurd (cc e)
+was_past limit n (Err x) h e = h
+
 -- ---- samples
 
 pub no_sampled : (words : List (List ℕ)) → ((n : ℕ × ℕ) → ¬ MakeTwo words n) → (s : Shape) → ¬ MakeShape (codes "sampled") words s
@@ -67,11 +78,13 @@ no_bloom_past words m makes past = no_filter words (λ n made less. past (omega 
 makes_numbers : (words : List (List ℕ)) (n : ℕ × ℕ × ℕ) → MakeThree words n → n.0 < 2 ^ 8 → n.1 < 2 ^ 32 → AreCounts words n.0 n.1 n.2
 makes_numbers words n (h, b, s, e, p, q, r) few less = (h, b, s, e, narrow (2 ^ 8) h n.0 few p, narrow (2 ^ 32) b n.1 less q, r)
 
-pub makes_signed : (words : List (List ℕ)) (n : ℕ × ℕ × ℕ) → MakeThree words n → n.0 < 2 ^ 8 → n.1 < 2 ^ 32 → MakeShape (count_verb true) words (shape.CountI64 n.0 n.1 n.2)
-makes_signed words n makes few less = (refl, makes_numbers words n makes few less)
-
-pub makes_unsigned : (words : List (List ℕ)) (n : ℕ × ℕ × ℕ) → MakeThree words n → n.0 < 2 ^ 8 → n.1 < 2 ^ 32 → MakeShape (count_verb false) words (shape.CountU64 n.0 n.1 n.2)
-makes_unsigned words n makes few less = (refl, makes_numbers words n makes few less)
+-- numbers of which two were narrowed
+pub makes_counts : {E F : Type 0} (words : List (List ℕ)) (n : ℕ × ℕ × ℕ) (hashes buckets : ℕ) (r : Result ℕ E) (q : Result ℕ F) (h b : Option ℕ) → MakeThree words n →
+    OkIff r (n.0 < 2 ^ 8) n.0 → h ≡ result_ok r → h ≡ Some hashes → OkIff q (n.1 < 2 ^ 32) n.1 → b ≡ result_ok q → b ≡ Some buckets → AreCounts words hashes buckets n.2
+makes_counts words n hashes buckets r q h b makes few is some less is' some' =
+    let (below, same) = was_below (2 ^ 8) n.0 hashes r few (sym is ∙ some) in
+    let (below', same') = was_below (2 ^ 32) n.1 buckets q less (sym is' ∙ some') in
+    rw (← same, ← same') (makes_numbers words n makes below below')
 
 -- words that make no three such numbers
 abbrev pub NoCounts : List (List ℕ) → Type 0

@@ -1,11 +1,12 @@
 -- The words of a line that are looked at, and the actions that they make.
-use Rattle.std.proofs.Common.{◌≡◌, ◌≢◌, ℕ, ◌-◌, ◌^◌, ◌<◌, ◌≤◌, List, [], ◌∷◌, length, get_or, take, drop, filter, inl, inr, refl, sym, ◌∙◌, ap, subst, arith}
+use Rattle.std.proofs.Common.{◌≡◌, ◌≢◌, ℕ, ◌-◌, ◌^◌, ◌<◌, ◌≤◌, Bool, true, false, eqb, ◌||◌, List, [], ◌∷◌, length, get_or, take, drop, filter, inl, inr, refl, sym, ◌∙◌, ap, subst, arith}
 use Rattle.std.specs.Prelude.{codes}
+use Rattle.std.specs.Bool.{then_some}
 use Rattle.std.specs.Str.{bytes_eq}
 use Rattle.std.specs.Borrow.{Bor}
 use Rattle.std.specs.Str.{IsUtf8}
 use Rattle.std.specs.String.{string_bytes}
-use Rattle.std.proofs.lemmas.Bool.{false≢true}
+use Rattle.std.proofs.lemmas.Bool.{false≢true, ne_eqb}
 use Rattle.std.proofs.lemmas.List.{take_all, length-take, length-map}
 use Rattle.datasketches.specs.ErrorType.{ErrorType}
 use Rattle.datasketches.specs.declared.action.Action.{Action}
@@ -25,7 +26,7 @@ use Rattle.datasketches_cli.specs.declared.request.Request.{Request}
 use Rattle.datasketches_cli.specs.declared.request.Request.TheVariants as request
 use Rattle.datasketches_cli.specs.declared.parse.OnTwo.{OnTwo}
 use Rattle.datasketches_cli.specs.declared.parse.OnTwo.TheVariants as two
-use Rattle.datasketches_cli.specs.Parsing.{MakeThreshold, MakeTwo, texts_of, two_word}
+use Rattle.datasketches_cli.specs.Parsing.{IsChangeOf, MakeThreshold, MakeTwo, texts_of, two_word}
 
 -- at most three words follow the verb and the name
 short_counts : (words : List (List ℕ)) (hashes buckets seed : ℕ) → AreCounts words hashes buckets seed → length words ≤ 3
@@ -197,6 +198,25 @@ no_decay words none (change.Insert item) (w, e) = false≢true (sym (ap (bytes_e
 no_decay words none change.Reset (w, e) = false≢true (sym (ap (bytes_eq (codes "decay")) w))
 no_decay words none change.Halve (w, e) = false≢true (sym (ap (bytes_eq (codes "decay")) w))
 
+-- the verbs of changes that no word follows
+abbrev pub stands_alone : List ℕ → Bool
+stands_alone verb = bytes_eq verb (codes "reset") || bytes_eq verb (codes "halve")
+
+not_alone : (v word : List ℕ) (words : List (List ℕ)) (c : Change Text) → MakeChange v (word ∷ words) c → stands_alone v ≡ false
+not_alone v word words (change.Add item weight) (n, w, e, x) = ap stands_alone w
+not_alone v word words (change.AddSigned item weight) (n, w, e, x) = ap stands_alone w
+not_alone v word words (change.Insert item) (w, e) = ap stands_alone w
+not_alone v word words change.Reset (w, e) = absurd (omega (arith, ap length e))
+not_alone v word words change.Halve (w, e) = absurd (omega (arith, ap length e))
+not_alone v word words (change.Decay numerator denominator) (n, d, w, e, x, y) = ap stands_alone w
+
+-- they make their change where none does
+pub alone : (v : List ℕ) (words : List (Bor (List ℕ))) (none : Bool) (c : Change Text) → stands_alone v ≡ true → MakeChange v [] c → none ≡ eqb (length words) 0 → IsChangeOf v (texts_of words) (then_some none c)
+alone v [] none c is makes e = rw e makes
+alone v (x ∷ xs) none c is makes e =
+    let some : eqb (length (x ∷ xs)) 0 ≡ false = ne_eqb (length (x ∷ xs)) 0 (λ h. omega arith) in
+    rw (e ∙ some) (λ other long. false≢true (sym (not_alone v x.now (texts_of xs) other long) ∙ is))
+
 -- two words that are no kind of report and no threshold ask for no rows
 rows_of_two : (name first second : List ℕ) → ((made : ErrorType × ℕ) → ¬ MakeThreshold first second made) → (a : Action Text) → ¬ Make (codes "rows" ∷ name ∷ first ∷ second ∷ []) a
 rows_of_two name first second none (action.ListRows n kind threshold) (number, e, x) =
@@ -211,6 +231,14 @@ no_rows name [] d d' some few none a made = absurd (omega arith)
 no_rows name (x ∷ []) d d' some few none a made = absurd (omega arith)
 no_rows name (x ∷ y ∷ []) d d' some few none a made = rows_of_two name x.now y.now none a made
 no_rows name (x ∷ y ∷ z ∷ zs) d d' some few none a made = absurd (omega arith)
+
+-- and two that are some ask for them
+pub makes_rows : (words : List (Bor (List ℕ))) (d d' : Bor (List ℕ)) (name : List ℕ) (of : Text) (kind : ErrorType) (threshold : ℕ) → 2 ≤ length words → length words < 3 → string_bytes of ≡ name →
+    MakeThreshold (get_or words 0 d).now (get_or words 1 d').now (kind, threshold) → Make (codes "rows" ∷ name ∷ texts_of words) (action.ListRows of kind threshold)
+makes_rows [] d d' name of kind threshold some few named makes = absurd (omega arith)
+makes_rows (x ∷ []) d d' name of kind threshold some few named makes = absurd (omega arith)
+makes_rows (x ∷ y ∷ []) d d' name of kind threshold some few named (report, number) = (y.now, rw (named, report) refl, number)
+makes_rows (x ∷ y ∷ z ∷ zs) d d' name of kind threshold some few named makes = absurd (omega arith)
 
 -- a verb, a name and the words that follow them
 pub split_action : (words : List (Bor (List ℕ))) (first second : Bor (List ℕ)) (v : List ℕ) (n : ℕ) → 2 ≤ length words → n ≡ length words - 2 → (get_or words 0 first).now ≡ v → texts_of words ≡ v ∷ (get_or words 1 second).now ∷ texts_of (take n (drop 2 words))
