@@ -7,12 +7,12 @@ use Rattle.datasketches_c.proofs.AnswerLemmas.{handed_on, not_copied}
 use Rattle.datasketches_c.proofs.InTurnLemmas.{same_answer}
 use Rattle.datasketches_c.proofs.Reading.{copied_image}
 use Rattle.datasketches_c.proofs.Reports.{when_refused}
-use Rattle.datasketches_c.proofs.filter.write_filter.Goals as goal
+use Rattle.datasketches_c.proofs.filter.BloomFilterHasImage.write_to.Goals as goal
 
 -- the image was made, and copied where there was room
 pub returns-in-Ok-clause-image : goal.returns-in-Ok-clause-image
 returns-in-Ok-clause-image c =
-    let Spelled : List ℕ → Type 0 = λ image. IsSpelled image c.args.filter.now in
+    let Spelled : List ℕ → Type 0 = λ image. IsSpelled image c.args.self.now in
     handed_on (WritesImage Spelled c.args.out.now c.copy_out.new.out c.copy_out.new.written) c.copy_out.result c.copy_out.type_inv
     (copied_image Spelled c.deref.result.now c.args.out.now c.copy_out.new.out c.copy_out.new.written c.copy_out.result (subst Spelled (sym c.deref.ensures.value) c.in-Ok.ensures.image) c.copy_out.ensures.length c.copy_out.ensures.copied c.copy_out.ensures.no_room)
 
