@@ -5,9 +5,7 @@ use lib.Signed.{mag}
 use mir.Syntax.{w32}
 use mir.Val.{of_z, to_z}
 use Rattle.sketch_base.specs.Batches.{written_more}
-use Rattle.sketch_base.specs.Errors.{ErrorValue}
-use Rattle.sketch_base.specs.declared.fault.Fault.{Fault}
-use Rattle.datasketches_c.specs.Numbers.{OnRefused, ok, no_room, refusal_number}
+use Rattle.datasketches_c.specs.Numbers.{OnRefused, ok, no_room}
 use Rattle.datasketches_c.proofs.InTurnLemmas.{same_answer}
 
 -- what is said of a call's number is said of that number handed on
@@ -17,11 +15,6 @@ handed_on P answer small said = subst P (sym (same_answer answer small)) said
 -- a number that is known is handed on as it is
 pub number_handed_on : {z : ℤ} (answer : ℤ) → answer ≡ z → to_z w32 (of_z w32 answer) ≡ to_z w32 (of_z w32 z)
 number_handed_on answer is = ap (λ (x : ℤ). to_z w32 (of_z w32 x)) is
-
--- the number of a refusal that is known
-pub refused_as : (error of : ErrorValue) (fault : Fault) (answer : ℤ) → mag answer < 2147483648 → fault ≡ error.fault → answer ≡ refusal_number fault → error ≡ of
-    → to_z w32 (of_z w32 answer) ≡ refusal_number of.fault
-refused_as error of fault answer small is number same = same_answer answer small ∙ (number ∙ ap refusal_number (is ∙ ap (λ (e : ErrorValue). e.fault) same))
 
 -- a buffer is as it was where an image was not copied to it
 pub not_copied : (image out new : List ℕ) (answer : ℤ) → mag answer < 2147483648

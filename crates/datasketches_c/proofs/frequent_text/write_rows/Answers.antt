@@ -3,7 +3,8 @@ use Rattle.sketch_frequencies.specs.declared.error_type.ErrorType.{ErrorType}
 use Rattle.datasketches_c.specs.FrequentRows.{AreRows, error_type}
 use Rattle.datasketches_c.specs.FrequentTextRows.{LeavesTextRows, TextBuffers, WritesTextRows}
 use Rattle.datasketches_c.specs.FrequentTexts.{text_eq}
-use Rattle.datasketches_c.proofs.AnswerLemmas.{handed_on, number_handed_on, refused_as}
+use Rattle.datasketches_c.proofs.AnswerLemmas.{handed_on, number_handed_on}
+use Rattle.datasketches_c.proofs.InTurnLemmas.{refused_as}
 use Rattle.datasketches_c.proofs.TextReports.{text_rows_counted, text_rows_left, texts_reported}
 use Rattle.datasketches_c.proofs.frequent_text.write_rows.Goals as goal
 

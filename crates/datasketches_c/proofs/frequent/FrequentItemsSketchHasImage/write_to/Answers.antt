@@ -1,7 +1,7 @@
-use Rattle.std.proofs.Common.{◌≡◌, ◌≢◌, List, ℕ, refl, sym, subst, inl, rules}
+use Rattle.std.proofs.Common.{◌≡◌, ◌≢◌, List, ℕ, refl, sym, subst, inl, ℤ, ap, ◌∙◌}
 use Rattle.sketch_frequencies.specs.Image.{IsSpelledFor}
 use Rattle.datasketches_c.specs.FrequentImages.{WritesFrequent}
-use Rattle.datasketches_c.specs.Numbers.{ok, no_room}
+use Rattle.datasketches_c.specs.Numbers.{ok, no_room, refusal_number}
 use Rattle.datasketches_c.proofs.AnswerLemmas.{handed_on, not_copied}
 use Rattle.datasketches_c.proofs.Reading.{copied_image, refused_to_write}
 use Rattle.datasketches_c.proofs.Reports.{when_refused}
@@ -19,8 +19,9 @@ returns-in-Ok-clause-image g c =
 pub returns-in-Err-clause-image : goal.returns-in-Err-clause-image
 returns-in-Err-clause-image g c =
     let item = g.T.FrequentItemValue in
-    let said = refused_to_write item.codec item.content c.args.self.now c.args.out.now c.args.out.now c.args.written.now c.in-Err.error c.in-Err.ensures.err in
-    rw c.refusal_number.ensures (search rules)
+    let Written : ℤ → Type 0 = WritesFrequent item.codec item.content c.args.self.now c.args.out.now c.args.out.now c.args.written.now in
+    handed_on Written c.refusal_number.result c.refusal_number.type_inv
+    (subst Written (sym (c.refusal_number.ensures ∙ ap refusal_number c.fault.ensures)) (refused_to_write item.codec item.content c.args.self.now c.args.out.now c.args.out.now c.args.written.now c.in-Err.error c.in-Err.ensures.err))
 
 pub returns-in-Ok-clause-untouched : goal.returns-in-Ok-clause-untouched
 returns-in-Ok-clause-untouched g c =
