@@ -29,3 +29,6 @@ pub returns-in-Some-part_of-clause-uncounted : goal.returns-in-Some-part_of-clau
 returns-in-Some-part_of-clause-uncounted c =
     let written = c.write_rows-answer in
     handed_on (λ z. z ≢ ok → z ≢ no_room → (written.new.count ≡ c.args.count.now) × (written.new.num_bytes ≡ c.args.num_bytes.now)) written.result written.type_inv written.ensures.left.uncounted
+
+pub returns-in-Some-part_of-clause-kept : goal.returns-in-Some-part_of-clause-kept
+returns-in-Some-part_of-clause-kept c = c.give.ensures ∙ (ap Some (sym c.in-Some-part_of.ensures.which.1) ∙ sym (c.in-Some.ensures.sketch ∙ ap Some (sym c.deref_mut.ensures.value)))
