@@ -30,6 +30,3 @@ pub returns-in-Some-part_of-clause-left : goal.returns-in-Some-part_of-clause-le
 returns-in-Some-part_of-clause-left g c =
     let written = c.write_rows-answer in
     handed_on (LeavesRows c.args.items.now written.new.items c.args.bounds.now written.new.bounds c.args.count.now written.new.count) written.result written.type_inv written.ensures.left
-
-pub returns-in-Some-part_of-clause-kept : goal.returns-in-Some-part_of-clause-kept
-returns-in-Some-part_of-clause-kept g c = c.give.ensures ∙ (ap Some (sym c.in-Some-part_of.ensures.which.1) ∙ sym (c.in-Some.ensures.sketch ∙ ap Some (sym c.deref_mut.ensures.value)))

@@ -1,5 +1,4 @@
-use Rattle.std.proofs.Common.{refl, arith, ◌+◌, length, sym}
-use Rattle.std.proofs.lemmas.List.{length-take-le}
+use Rattle.std.proofs.Common.{refl, arith}
 use Rattle.datasketches_c.proofs.TextReports.{texts_stand}
 use Rattle.datasketches_c.proofs.frequent_text.copy_rows.Goals as goal
 
@@ -14,13 +13,3 @@ returns-clause-report c =
       few_offsets = λ few. absurd (omega arith);
       few_bounds = λ few. absurd (omega arith);
     }
-
--- the parts of the buffers are as long as what they are given
-pub slice_bounds-copy_texts-end-2 : goal.slice_bounds-copy_texts-end-2
-slice_bounds-copy_texts-end-2 c = sym (length-take-le c.args.num_bytes c.args.bytes.now (omega arith))
-
-pub slice_bounds-copy_texts-end-4 : goal.slice_bounds-copy_texts-end-4
-slice_bounds-copy_texts-end-4 c = sym (length-take-le (length c.args.rows.now + 1) c.args.offsets.now (omega arith))
-
-pub slice_bounds-copy_bounds-end-2 : goal.slice_bounds-copy_bounds-end-2
-slice_bounds-copy_bounds-end-2 c = sym (length-take-le (length c.args.rows.now) c.args.bounds.now (omega arith))
