@@ -12,6 +12,10 @@ use Rattle.datasketches_c.proofs.InTurnLemmas.{same_answer}
 pub handed_on : (P : ℤ → Type 0) (answer : ℤ) → mag answer < 2147483648 → P answer → P (to_z w32 (of_z w32 answer))
 handed_on P answer small said = subst P (sym (same_answer answer small)) said
 
+-- a number that is known is handed on as it is
+pub number_handed_on : {z : ℤ} (answer : ℤ) → answer ≡ z → to_z w32 (of_z w32 answer) ≡ to_z w32 (of_z w32 z)
+number_handed_on answer is = ap (λ (x : ℤ). to_z w32 (of_z w32 x)) is
+
 -- a buffer is as it was where an image was not copied to it
 pub not_copied : (image out new : List ℕ) (answer : ℤ) → mag answer < 2147483648
     → (length image ≤ length out → (answer ≡ ok) × (take (length image) new ≡ image) × (drop (length image) new ≡ drop (length image) out))

@@ -7,7 +7,7 @@ use Rattle.std.specs.declared.string.String.{String}
 use lib.Signed.{mag}
 use mir.Syntax.{w32}
 use mir.Val.{of_z, to_z}
-use Rattle.sketch_base.specs.declared.fault.Fault.TheVariants.{NoMemory}
+use Rattle.sketch_base.specs.declared.fault.Fault.TheVariants.{NoMemory, WeightOverflow}
 use Rattle.sketch_frequencies.specs.State.{FrequentState, TotalHasRoom}
 use Rattle.datasketches_c.specs.FrequentCalls.{Updates}
 use Rattle.datasketches_c.specs.FrequentTexts.{UpdatesText, text_eq}
@@ -76,3 +76,12 @@ adds_done {T} {I} call old items weights i new same here fits all =
       calls = λ room. calls_done each old (zip items weights) i new whole all;
       memory = λ room. tt;
     }
+
+-- none was added where the total has no room for all
+pub adds_none : {T I : Type 0} (call : FrequentState T → I → ℕ → FrequentState T → ℤ → Type 0) (old : FrequentState T) (items : List I) (weights : List ℕ) (answer : ℤ) → mag answer < 2147483648
+    → answer ≡ refusal_number WeightOverflow → ¬ (old.total + sum weights ≤ greatest_u64) → AddsWeights call old items weights old (to_z w32 (of_z w32 answer))
+adds_none call old items weights answer small number none = record {
+  overflow = λ over. (same_answer answer small ∙ number, refl);
+  calls = λ room. absurd (none (omega arith));
+  memory = λ room. absurd (none (omega arith));
+}

@@ -70,12 +70,17 @@ from_refused (negsuc n) P done other p = p
 pub same_answer : (answer : ℤ) → mag answer < 2147483648 → to_z w32 (of_z w32 answer) ≡ answer
 same_answer answer small = to_z-of_z w32 answer (record { sfits = small })
 
--- the number of a call that was refused for a fault
+-- the number of a refusal that is known
+pub refused_as : (error of : ErrorValue) (fault : Fault) (answer : ℤ) → mag answer < 2147483648 → fault ≡ error.fault → answer ≡ refusal_number fault → error ≡ of
+    → to_z w32 (of_z w32 answer) ≡ refusal_number of.fault
+refused_as error of fault answer small is number same = same_answer answer small ∙ (number ∙ ap refusal_number (is ∙ ap (λ (e : ErrorValue). e.fault) same))
+
+-- the same where it is said of the result
 pub refused_for : {V : Type 0} (error of : ErrorValue) (fault : Fault) (answer : ℤ) → mag answer < 2147483648 → fault ≡ error.fault
     → answer ≡ refusal_number fault → IsErrOf {T = V} (Err error) of → to_z w32 (of_z w32 answer) ≡ refusal_number of.fault
 refused_for error of fault answer small is number for =
     let same : error ≡ of = cc in
-    same_answer answer small ∙ (number ∙ ap refusal_number (is ∙ ap (λ (e : ErrorValue). e.fault) same))
+    refused_as error of fault answer small is number same
 
 -- a loop's call that was refused
 pub refused_here : {S X : Type 0} (call : S → X → S → ℤ → Type 0) (old : S) (items : List X) (i : ℕ) (d : X) (mid new : S) (answer : ℤ)

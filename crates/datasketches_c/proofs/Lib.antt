@@ -10,6 +10,7 @@ pub mod InTurnLemmas
 pub mod KindLemmas
 pub mod Reading
 pub mod ReadingCounts
+pub mod Refusals
 pub mod Reports
 pub mod TextLemmas
 pub mod TextReports

@@ -4,7 +4,10 @@ use Rattle.std.specs.List.{slice_range, zip, fold}
 use Rattle.std.proofs.lemmas.List.{length-map, get_or-drop, get_or-map, map_more, take_all}
 use Rattle.std.proofs.lemmas.List.Sums.{fold_push}
 use Rattle.std.proofs.lemmas.Slice.Zip.{length-zip, get_or-zip}
+use mir.Syntax.{w32}
+use mir.Val.{of_z, to_z}
 use Rattle.datasketches_c.specs.Texts.{AreTexts, AreTextsIn, RefusesTexts, RefusesTextsIn, texts_of}
+use Rattle.datasketches_c.proofs.AnswerLemmas.{number_handed_on}
 
 -- nothing is refused where the texts are there, and each has its place
 pub not_refused : (bytes offsets : List ℕ) (answer : ℤ) → AreTexts bytes offsets → RefusesTexts bytes offsets answer
@@ -13,6 +16,19 @@ not_refused bytes offsets answer are = record { not_offsets = λ not. absurd (no
 pub not_refused_in : (places : ℕ) (bytes offsets : List ℕ) (answer : ℤ) → AreTextsIn places bytes offsets → RefusesTextsIn places bytes offsets answer
 not_refused_in places bytes offsets answer are =
     record { not_offsets = λ not. absurd (not are.texts.ends); not_placed = λ ends other. absurd (other are.same); not_utf8 = λ ends same not. absurd (not are.texts.utf8) }
+
+-- what a refusal says is said of its number handed on
+pub refused_handed_on : (bytes offsets : List ℕ) (answer : ℤ) → RefusesTexts bytes offsets answer → RefusesTexts bytes offsets (to_z w32 (of_z w32 answer))
+refused_handed_on bytes offsets answer says =
+    record { not_offsets = λ not. number_handed_on answer (says.not_offsets not); not_utf8 = λ ends not. number_handed_on answer (says.not_utf8 ends not) }
+
+pub refused_in_handed_on : (places : ℕ) (bytes offsets : List ℕ) (answer : ℤ) → RefusesTextsIn places bytes offsets answer
+    → RefusesTextsIn places bytes offsets (to_z w32 (of_z w32 answer))
+refused_in_handed_on places bytes offsets answer says = record {
+  not_offsets = λ not. number_handed_on answer (says.not_offsets not);
+  not_placed = λ ends other. number_handed_on answer (says.not_placed ends other);
+  not_utf8 = λ ends same not. number_handed_on answer (says.not_utf8 ends same not);
+}
 
 -- there is one text fewer than offsets
 pub length-texts_of : (bytes offsets : List ℕ) → length (texts_of bytes offsets) ≡ length offsets - 1

@@ -1,13 +1,17 @@
 -- Reports of texts in buffers.
-use Rattle.std.proofs.Common.{◌≡◌, ℕ, ℤ, ◌+◌, ◌<◌, [], ◌++◌, List, length, map, take, drop, get_or, refl, sym, ap, ◌∙◌}
+use Rattle.std.proofs.Common.{◌≡◌, ℕ, ℤ, ◌+◌, ◌<◌, [], ◌++◌, List, length, map, take, drop, get_or, refl, sym, ap, subst, inl, pos, negsuc, ◌∙◌}
 use Rattle.std.specs.Global.{Global}
 use Rattle.std.specs.List.{concat}
 use Rattle.std.specs.String.{string_bytes}
 use Rattle.std.specs.declared.string.String.{String}
 use Rattle.std.proofs.lemmas.List.{take_at, drop_at, length-map, get_or-map}
 use Rattle.sketch_frequencies.specs.RowValue.{RowValue}
-use Rattle.datasketches_c.specs.FrequentRows.{bounds_in}
-use Rattle.datasketches_c.specs.FrequentTextRows.{LeavesTextRows, TextBuffers, TextsStandAtFront, row_texts}
+use Rattle.sketch_frequencies.specs.State.{FrequentState}
+use Rattle.sketch_frequencies.specs.declared.error_type.ErrorType.{ErrorType}
+use Rattle.datasketches_c.specs.FrequentRows.{AreRows, bounds_in}
+use Rattle.datasketches_c.specs.FrequentTextRows.{LeavesTextRows, ReportsTexts, TextBuffers, TextsStandAtFront, WritesTextRows, row_texts}
+use Rattle.datasketches_c.specs.FrequentTexts.{text_eq}
+use Rattle.datasketches_c.specs.Numbers.{OnDone, OnRefused, ok, no_room}
 use Rattle.datasketches_c.specs.Texts.{texts_of, offsets_from}
 use Rattle.datasketches_c.specs.declared.frequent.FrequentBounds.{FrequentBounds}
 use Rattle.datasketches_c.proofs.Reports.{when_refused}
@@ -57,3 +61,17 @@ text_rows_left there count num_bytes result = record {
   untouched = when_refused result ((there.bytes ≡ there.bytes) × (there.offsets ≡ there.offsets) × (there.bounds ≡ there.bounds)) (refl, refl, refl);
   uncounted = λ not other. (refl, refl);
 }
+
+-- nor did one that found no room, apart from the counts
+pub text_rows_counted : (old new : TextBuffers) (count_old count_new num_bytes_old num_bytes_new : ℕ) (result : ℤ) → OnRefused result (result ≡ no_room) → OnDone result (result ≡ ok)
+    → OnRefused result ((new.bytes ≡ old.bytes) × (new.offsets ≡ old.offsets) × (new.bounds ≡ old.bounds))
+    → LeavesTextRows old new count_old count_new num_bytes_old num_bytes_new result
+text_rows_counted old new count_old count_new num_bytes_old num_bytes_new (pos n) few done left = record { untouched = left; uncounted = λ other none. absurd (other done) }
+text_rows_counted old new count_old count_new num_bytes_old num_bytes_new (negsuc n) few done left = record { untouched = left; uncounted = λ other none. absurd (none few) }
+
+-- rows that were found and copied are a report
+pub texts_reported : (kind : ErrorType) (threshold : ℕ) (s : FrequentState (String Global)) (rows copied : List (RowValue (String Global))) (old new : TextBuffers) (count num_bytes : ℕ) (result : ℤ)
+    → AreRows text_eq kind threshold s rows → copied ≡ rows → count ≡ length rows → ReportsTexts copied old new (length copied) num_bytes result
+    → WritesTextRows kind threshold s old new count num_bytes result
+texts_reported kind threshold s rows copied old new count num_bytes result are is counted report =
+    inl (rows, are, subst (λ (n : ℕ). ReportsTexts rows old new n num_bytes result) (sym counted) (subst (λ rs. ReportsTexts rs old new (length rs) num_bytes result) is report))

@@ -5,7 +5,6 @@ ghost use Rattle.sketch_base.specs.Hashes.{fed_bytes};
 ghost use Rattle.sketch_countmin.specs.State.{Counts, CountsAll, IsLeastCell};
 ghost use Rattle.datasketches_c.specs.CountCalls.{AddsWeight, AddsEach, AddsWeights, EstimatesAll, AreCountNumbers, IsBound, MergesInto};
 ghost use Rattle.datasketches_c.specs.CountJoins.{IsJoined};
-ghost use Rattle.datasketches_c.specs.Estimates.{AreLeastCells};
 ghost use Rattle.datasketches_c.specs.Kinds.{WritesDown, WritesDownEach};
 ghost use Rattle.datasketches_c.specs.Numbers.{OnRefused, ok, no_room, refusal_number};
 ghost use Rattle.datasketches_c.specs.Texts.{AreTexts, RefusesTexts, RefusesTextsIn, texts_of};
@@ -154,22 +153,6 @@ where
     })
 }
 
-/// Writes down the estimate of each item's weight in a sketch, and answers the call's number.
-#[inline]
-fn estimates_of<V: CountMinValue, I: Hash>(
-    sketch: &CountMinSketch<V>,
-    items: &[I],
-    estimates: &mut [V],
-) -> i32
-    requires { length estimates.old ≡ length items.now }
-    ensures done { result ≡ ok }
-    ensures length { length estimates.new ≡ length estimates.old }
-    ensures estimates { AreLeastCells sketch.now (fed_bytes I.hash_input) items.now (map V.number estimates.new) }
-{
-    sketch.estimate_all(items, estimates);
-    OK
-}
-
 /// Writes down the estimate of each item's weight. There are as many estimates as items.
 #[inline]
 pub(crate) fn estimate_all<V: CountMinValue, I: Hash>(
@@ -187,7 +170,10 @@ where
     if estimates.len() != items.len() {
         return NO_ROOM;
     }
-    on_kind!(alloc, handle, CountMinSketch<V>, sketch => estimates_of(sketch, items, estimates))
+    on_kind!(alloc, handle, CountMinSketch<V>, sketch => {
+        sketch.estimate_all(items, estimates);
+        OK
+    })
 }
 
 /// Adds 1 to the weight of each text, as far as the total has room.

@@ -17,7 +17,7 @@ use std::hash::Hash;
 fn room_of<T: CountMinValue>(sketch: &CountMinSketch<T>) -> u64
     ensures { sketch.now.total + result ≡ T.greatest }
 {
-    (T::MAX.to_number() - sketch.total_weight().to_number()) as u64
+    T::MAX.to_number() as u64 - sketch.total_weight().to_number() as u64
 }
 
 /// A weight's distance from 0.

@@ -355,23 +355,14 @@ pub extern "C" fn ds_filter_status(
     })
 }
 
-/// Writes the image of a filter to the front of the caller's buffer, for the call below.
-fn write_filter(filter: &BloomFilter, out: &mut [u8], written: &mut usize) -> i32
-    ensures image { WritesImage (λ image. IsSpelled image filter.now) out.old out.new written.new result }
-    ensures untouched { OnRefused result (out.new ≡ out.old) }
-    ensures uncounted { result ≢ ok → result ≢ no_room → written.new ≡ written.old }
-{
-    match filter.serialize() {
-        Ok(image) => copy_out(&image, out, written),
-        Err(error) => refusal_number(error.fault()),
-    }
-}
-
 impl HasImage for BloomFilter {
     ghost writes = { λ s. WritesImage (λ image. IsSpelled image s) };
 
     fn write_to(&self, out: &mut [u8], written: &mut usize) -> i32 {
-        write_filter(self, out, written)
+        match self.serialize() {
+            Ok(image) => copy_out(&image, out, written),
+            Err(error) => refusal_number(error.fault()),
+        }
     }
 }
 

@@ -297,22 +297,6 @@ where
     })
 }
 
-/// Writes a sketch's image to the front of the caller's buffer.
-fn write_image<T: FrequentItemValue + Drop>(
-    sketch: &FrequentItemsSketch<T>,
-    out: &mut [u8],
-    written: &mut usize,
-) -> i32
-    ensures image { WritesFrequent T.codec T.content sketch.now out.old out.new written.new result }
-    ensures untouched { OnRefused result (out.new ≡ out.old) }
-    ensures uncounted { result ≢ ok → result ≢ no_room → written.new ≡ written.old }
-{
-    match sketch.serialize() {
-        Ok(image) => copy_out(&image, out, written),
-        Err(error) => refusal_number(error.fault()),
-    }
-}
-
 impl<T: FrequentItemValue + Drop> HasImage for FrequentItemsSketch<T>
 where
     FrequentItemsSketch<T>: Kind,
@@ -320,6 +304,9 @@ where
     ghost writes = { WritesFrequent T.codec T.content };
 
     fn write_to(&self, out: &mut [u8], written: &mut usize) -> i32 {
-        write_image(self, out, written)
+        match self.serialize() {
+            Ok(image) => copy_out(&image, out, written),
+            Err(error) => refusal_number(error.fault()),
+        }
     }
 }

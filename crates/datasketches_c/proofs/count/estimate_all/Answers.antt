@@ -1,30 +1,27 @@
-use Rattle.std.proofs.Common.{Some, map, refl, sym, ap, ◌∙◌, rules}
+use Rattle.std.proofs.Common.{Some, map, sym, ap, ◌∙◌, arith}
 use Rattle.sketch_base.specs.Hashes.{fed_bytes}
-use Rattle.datasketches_c.specs.Numbers.{no_sketch, wrong_kind}
-use Rattle.datasketches_c.proofs.CountCallLemmas.{all_estimated}
-use Rattle.datasketches_c.proofs.KindLemmas.{on_none_said, on_other_said}
+use Rattle.sketch_countmin.specs.State.{CountState}
+use Rattle.datasketches_c.specs.Estimates.{AreLeastCells}
+use Rattle.datasketches_c.proofs.KindLemmas.{wrote_down, none_written, other_written, each_written}
 use Rattle.datasketches_c.proofs.count.estimate_all.Goals as goal
 
 -- each has its estimate
 pub returns-in-Some-part_of-clause-each : goal.returns-in-Some-part_of-clause-each
 returns-in-Some-part_of-clause-each g c =
-    let said = all_estimated g.bound-10.part c.args.handle.now.value c.give.new.self.value c.deref_mut.result.now c.in-Some-part_of.sketch.now c.estimates_of-answer.result (c.in-Some.ensures.sketch ∙ ap Some (sym c.deref_mut.ensures.value)) c.in-Some-part_of.ensures.which.0
-    (fed_bytes g.I.Hash.hash_input) c.args.items.now (map g.V.CountMinValue.number c.estimates_of-answer.new.estimates) c.estimates_of-answer.ensures.done c.estimates_of-answer.ensures.estimates in
-    record { kept = search rules; other_length = search rules; told = λ same. search rules; untouched = search rules }
+    let estimates = c.estimate_all.new.estimates in
+    let are : CountState → Type 0 = λ s. AreLeastCells s (fed_bytes g.I.Hash.hash_input) c.args.items.now (map g.V.CountMinValue.number estimates) in
+    each_written _ _ _ _ _ _ _ _ (omega arith)
+    (wrote_down _ c.args.handle.now.value c.give.new.self.value c.deref_mut.result.now c.in-Some-part_of.sketch.now c.args.estimates.now estimates are (c.in-Some.ensures.sketch ∙ ap Some (sym c.deref_mut.ensures.value)) c.in-Some-part_of.ensures.which.0 (c.give.ensures ∙ ap Some (sym c.in-Some-part_of.ensures.which.1)) (record { least = c.estimate_all.ensures.least }))
 
 -- there is no sketch, or one of another kind
 pub returns-in-None-clause-each : goal.returns-in-None-clause-each
-returns-in-None-clause-each g c = record {
-  kept = search rules;
-  other_length = search rules;
-  told = λ same. on_other_said g.bound-10.part c.args.handle.now.value c.give-in-None.new.self.value c.deref_mut.result.now wrong_kind _ (c.in-Some.ensures.sketch ∙ ap Some (sym c.deref_mut.ensures.value)) c.in-None.ensures.which c.give-in-None.ensures refl;
-  untouched = refl;
-}
+returns-in-None-clause-each g c =
+    let are : CountState → Type 0 = λ s. AreLeastCells s (fed_bytes g.I.Hash.hash_input) c.args.items.now (map g.V.CountMinValue.number c.args.estimates.now) in
+    each_written _ _ _ _ _ _ _ _ (omega arith)
+    (other_written _ c.args.handle.now.value c.give-in-None.new.self.value c.deref_mut.result.now c.args.estimates.now are (c.in-Some.ensures.sketch ∙ ap Some (sym c.deref_mut.ensures.value)) c.in-None.ensures.which c.give-in-None.ensures)
 
 pub returns-in_default-clause-each : goal.returns-in_default-clause-each
-returns-in_default-clause-each g c = record {
-  kept = search rules;
-  other_length = search rules;
-  told = λ same. on_none_said g.bound-10.part c.args.handle.now.value c.take.new.self.value no_sketch _ c.in_default.ensures.sketch c.in_default.ensures.emptied refl;
-  untouched = refl;
-}
+returns-in_default-clause-each g c =
+    let are : CountState → Type 0 = λ s. AreLeastCells s (fed_bytes g.I.Hash.hash_input) c.args.items.now (map g.V.CountMinValue.number c.args.estimates.now) in
+    each_written _ _ _ _ _ _ _ _ (omega arith)
+    (none_written _ c.args.handle.now.value c.take.new.self.value c.args.estimates.now are c.in_default.ensures.sketch c.in_default.ensures.emptied)

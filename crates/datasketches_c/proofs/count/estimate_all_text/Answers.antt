@@ -1,12 +1,11 @@
-use Rattle.std.proofs.Common.{Some, map, refl, sym, ap, ◌∙◌, rules}
+use Rattle.std.proofs.Common.{Some, map, refl, sym, ap, ◌∙◌}
 use Rattle.std.specs.Hash as fed
 use Rattle.sketch_base.specs.Hashes.{fed_bytes}
 use Rattle.datasketches_c.specs.Numbers.{ok, no_sketch, wrong_kind}
 use Rattle.datasketches_c.specs.Texts.{texts_of}
 use Rattle.datasketches_c.proofs.CountCallLemmas.{all_estimated}
-use Rattle.datasketches_c.proofs.InTurnLemmas.{same_answer}
 use Rattle.datasketches_c.proofs.Reports.{when_refused}
-use Rattle.datasketches_c.proofs.TextLemmas.{not_refused_in}
+use Rattle.datasketches_c.proofs.TextLemmas.{not_refused_in, refused_in_handed_on}
 use Rattle.datasketches_c.proofs.KindLemmas.{on_none_said, on_other_said}
 use Rattle.datasketches_c.proofs.count.estimate_all_text.Goals as goal
 
@@ -41,4 +40,4 @@ pub returns-in-Some-clause-untouched : goal.returns-in-Some-clause-untouched
 returns-in-Some-clause-untouched g c = when_refused _ _ refl
 
 pub returns-in-Some-clause-no_texts : goal.returns-in-Some-clause-no_texts
-returns-in-Some-clause-no_texts g c = rw (same_answer c.in-Some.refusal (search rules)) c.in-Some.ensures.says
+returns-in-Some-clause-no_texts g c = refused_in_handed_on _ _ _ _ c.in-Some.ensures.says

@@ -1,10 +1,12 @@
-use Rattle.std.proofs.Common.{Some, sym, ap, ◌∙◌, refl, rules}
+use Rattle.std.proofs.Common.{Some, sym, ap, ◌∙◌, refl, ◌≡◌}
 use Rattle.std.specs.Prelude.{sum_by, unsigned_abs}
 use Rattle.sketch_base.specs.Hashes.{fed_bytes}
+use Rattle.datasketches_c.specs.Numbers.{no_sketch, wrong_kind, OnRefused}
+use Rattle.datasketches_c.proofs.AnswerLemmas.{handed_on}
 use Rattle.datasketches_c.proofs.CountCallLemmas.{weights_added}
+use Rattle.datasketches_c.proofs.InTurnLemmas.{same_answer}
 use Rattle.datasketches_c.proofs.KindLemmas.{kept_when_refused, on_none_said, on_other_said}
 use Rattle.datasketches_c.proofs.Reports.{when_refused}
-use Rattle.datasketches_c.specs.Numbers.{no_sketch, wrong_kind}
 use Rattle.datasketches_c.proofs.count.update_all_weighted.Goals as goal
 
 -- the sketch was changed, and the handle has it again
@@ -14,11 +16,11 @@ returns-in-Some-part_of-clause-call g c =
     let said = weights_added g.bound-11.part c.args.handle.now.value c.give.new.self.value c.deref_mut.result.now c.in-Some-part_of.sketch.now c.count_weighted-answer.result
     (c.in-Some.ensures.sketch ∙ ap Some (sym c.deref_mut.ensures.value)) c.in-Some-part_of.ensures.which.0 g.V.CountMinValue.greatest (g.bound-11.whole c.count_weighted-answer.new.sketch) c.count_weighted-answer.new.sketch c.give.ensures (g.bound-11-met.back c.count_weighted-answer.new.sketch)
     (fed_bytes g.I.Hash.hash_input) g.V.CountMinValue.number c.args.items.now c.args.weights.now (sum_by (λ (w : g.row.V.Denot). unsigned_abs (g.V.CountMinValue.number w)) c.args.weights.now) counted.counted counted.overflow in
-    search rules
+    λ same. rw (same_answer c.count_weighted-answer.result c.count_weighted-answer.type_inv) said
 
 pub returns-in-Some-part_of-clause-refused : goal.returns-in-Some-part_of-clause-refused
 returns-in-Some-part_of-clause-refused g c =
-    let said = kept_when_refused g.bound-11.part g.bound-11.whole c.args.handle.now.value c.give.new.self.value c.deref_mut.result.now c.in-Some-part_of.sketch.now c.count_weighted-answer.new.sketch c.count_weighted-answer.result (c.in-Some.ensures.sketch ∙ ap Some (sym c.deref_mut.ensures.value)) c.in-Some-part_of.ensures.which.1 c.give.ensures c.count_weighted-answer.ensures.refused in search rules
+    handed_on (λ z. OnRefused z (c.give.new.self.value ≡ c.args.handle.now.value)) c.count_weighted-answer.result c.count_weighted-answer.type_inv (kept_when_refused g.bound-11.part g.bound-11.whole c.args.handle.now.value c.give.new.self.value c.deref_mut.result.now c.in-Some-part_of.sketch.now c.count_weighted-answer.new.sketch c.count_weighted-answer.result (c.in-Some.ensures.sketch ∙ ap Some (sym c.deref_mut.ensures.value)) c.in-Some-part_of.ensures.which.1 c.give.ensures c.count_weighted-answer.ensures.refused)
 
 -- the handle has no sketch, or one of another kind
 pub returns-in_default-clause-call : goal.returns-in_default-clause-call

@@ -1,6 +1,7 @@
 use Rattle.std.proofs.Common.{◌≡◌, ◌+◌, ◌<◌, ◌≤◌, ℕ, List, [], length, refl, arith}
 use Rattle.std.specs.Hash as fed
 use Rattle.std.specs.Prelude.{unsigned_abs, sum_by}
+use Rattle.std.proofs.lemmas.Bool.{false≢true}
 use Rattle.sketch_base.specs.Hashes.{fed_bytes}
 use Rattle.sketch_countmin.specs.State.{CountState, Counts}
 use Rattle.datasketches_c.specs.Texts.{texts_of}
@@ -40,3 +41,7 @@ returns-clause-counted g c =
 
 pub offset_bounds-weights-i : goal.offset_bounds-weights-i
 offset_bounds-weights-i g c = omega arith
+
+-- the total has no room for all
+pub returns-then-not-weights_fit-clause-counted : goal.returns-then-not-weights_fit-clause-counted
+returns-then-not-weights_fit-clause-counted g c = λ fits. absurd (false≢true (c.if-not-weights_fit.ensures.1 fits))

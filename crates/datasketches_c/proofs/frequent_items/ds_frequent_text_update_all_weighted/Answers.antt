@@ -5,7 +5,7 @@ use Rattle.datasketches_c.specs.Numbers.{no_sketch, wrong_kind}
 use Rattle.datasketches_c.specs.Texts.{texts_of}
 use Rattle.datasketches_c.specs.Weights.{AddsWeights}
 use Rattle.datasketches_c.specs.declared.any_sketch.AnySketch.TheVariants.{FrequentTexts}
-use Rattle.datasketches_c.proofs.AnswerLemmas.{handed_on}
+use Rattle.datasketches_c.proofs.AnswerLemmas.{handed_on, number_handed_on}
 use Rattle.datasketches_c.proofs.KindLemmas.{changed, on_none_said, on_other_said}
 use Rattle.datasketches_c.proofs.frequent_items.ds_frequent_text_update_all_weighted.Goals as goal
 
@@ -30,6 +30,9 @@ returns-in-Some-part_of-clause-no_room c = λ ends other. absurd (other c.in_def
 
 pub returns-in-Some-clause-call : goal.returns-in-Some-clause-call
 returns-in-Some-clause-call c = λ texts same. absurd (c.in-Some.ensures.not_texts same texts)
+
+pub returns-in-Some-clause-no_text : goal.returns-in-Some-clause-no_text
+returns-in-Some-clause-no_text c = λ ends same not. (number_handed_on c.in-Some.refusal (c.in-Some.ensures.says.not_utf8 ends same not), refl)
 
 -- the texts are texts
 pub returns-in-Some-part_of-clause-bad_offsets : goal.returns-in-Some-part_of-clause-bad_offsets

@@ -27,3 +27,7 @@ slice_bounds-copy_bounds-end-2 g c = sym (length-take-le (length c.args.rows.now
 
 pub returns-clause-left : goal.returns-clause-left
 returns-clause-left g c = record { untouched = tt; uncounted = λ other none. absurd (other refl) }
+
+-- there was no room
+pub returns-then-items-needed-clause-left : goal.returns-then-items-needed-clause-left
+returns-then-items-needed-clause-left g c = record { untouched = (refl, refl); uncounted = λ other none. absurd (none refl) }

@@ -1,9 +1,10 @@
-use Rattle.std.proofs.Common.{◌≡◌, ◌+◌, ◌<◌, ◌≤◌, ℕ, ℤ, length, get_or, refl, subst, arith}
+use Rattle.std.proofs.Common.{◌≡◌, ◌+◌, ◌<◌, ◌≤◌, ℕ, ℤ, length, get_or, refl, subst, arith, sym}
 use Rattle.std.specs.Prelude.{sum}
+use Rattle.std.proofs.lemmas.Bool.{false≢true}
 use Rattle.sketch_frequencies.specs.State.{FrequentState, TotalHasRoom}
 use Rattle.datasketches_c.specs.FrequentCalls.{Updates}
 use Rattle.datasketches_c.specs.Numbers.{ok, greatest_u64}
-use Rattle.datasketches_c.proofs.FrequentLemmas.{total_of_update, on_done_first, adds_refused, adds_done}
+use Rattle.datasketches_c.proofs.FrequentLemmas.{total_of_update, on_done_first, adds_refused, adds_done, adds_none}
 use Rattle.datasketches_c.proofs.InTurnLemmas.{is_done}
 use Rattle.datasketches_c.proofs.WeightLemmas.{one_fits, one_more, pair_more}
 use Rattle.datasketches_c.proofs.frequent_weighted.add_weighted.Goals as goal
@@ -48,3 +49,17 @@ returns g c =
     let fits : c.args.sketch.now.total + sum weights ≤ greatest_u64 = subst (λ (n : ℕ). n + sum weights ≤ greatest_u64) total (c.if-not-weights_fit.ensures.0 refl) in
     let here : length c.args.items.now ≤ c.each.i = c.each-test.false in
     adds_done (Updates g.T.PartialEq.eq) c.args.sketch.now c.args.items.now weights c.each.i c.each.sketch c.requires here fits c.each.invariant.added
+
+-- the place of an item, and of its weight
+pub offset_bounds-items-i : goal.offset_bounds-items-i
+offset_bounds-items-i g c = c.each.auto.i-end
+
+pub offset_bounds-weights-i : goal.offset_bounds-weights-i
+offset_bounds-weights-i g c = omega arith
+
+-- the total has no room for all
+pub returns-then-not-weights_fit : goal.returns-then-not-weights_fit
+returns-then-not-weights_fit g c =
+    let total : c.total_weight.result ≡ c.args.sketch.now.total = c.total_weight.ensures in
+    adds_none (Updates g.T.PartialEq.eq) c.args.sketch.now c.args.items.now c.args.weights.now c.refusal_number.result c.refusal_number.type_inv c.refusal_number.ensures
+    (λ fits. false≢true (c.if-not-weights_fit.ensures.1 (subst (λ (n : ℕ). n + sum c.args.weights.now ≤ greatest_u64) (sym total) fits)))

@@ -1,12 +1,13 @@
-use Rattle.std.proofs.Common.{◌≡◌, ◌+◌, ◌<◌, ◌≤◌, ℕ, ℤ, List, [], length, get_or, refl, subst, arith}
+use Rattle.std.proofs.Common.{◌≡◌, ◌+◌, ◌<◌, ◌≤◌, ℕ, ℤ, List, [], length, get_or, refl, subst, arith, sym}
 use Rattle.std.specs.Global.{Global}
 use Rattle.std.specs.Prelude.{sum}
 use Rattle.std.specs.declared.string.String.{String}
+use Rattle.std.proofs.lemmas.Bool.{false≢true}
 use Rattle.sketch_frequencies.specs.State.{FrequentState, TotalHasRoom}
 use Rattle.datasketches_c.specs.FrequentTexts.{UpdatesText}
 use Rattle.datasketches_c.specs.Numbers.{ok, greatest_u64}
 use Rattle.datasketches_c.specs.Texts.{texts_of}
-use Rattle.datasketches_c.proofs.FrequentLemmas.{total_of_text, memory_of_text, adds_refused, adds_done}
+use Rattle.datasketches_c.proofs.FrequentLemmas.{total_of_text, memory_of_text, adds_refused, adds_done, adds_none}
 use Rattle.datasketches_c.proofs.InTurnLemmas.{is_done}
 use Rattle.datasketches_c.proofs.WeightLemmas.{one_fits, one_more, pair_more}
 use Rattle.datasketches_c.proofs.frequent_weighted.add_weighted_texts.Goals as goal
@@ -57,3 +58,13 @@ returns c =
     let fits : c.args.sketch.now.total + sum weights ≤ greatest_u64 = subst (λ (n : ℕ). n + sum weights ≤ greatest_u64) total (c.if-not-weights_fit.ensures.0 refl) in
     let here : length texts ≤ c.each.i = omega arith in
     adds_done UpdatesText c.args.sketch.now texts weights c.each.i c.each.sketch same here fits c.each.invariant.added
+
+pub offset_bounds-weights-i : goal.offset_bounds-weights-i
+offset_bounds-weights-i c = omega arith
+
+-- the total has no room for all
+pub returns-then-not-weights_fit : goal.returns-then-not-weights_fit
+returns-then-not-weights_fit c =
+    let total : c.total_weight.result ≡ c.args.sketch.now.total = c.total_weight.ensures in
+    adds_none UpdatesText c.args.sketch.now (texts_of c.args.bytes.now c.args.offsets.now) c.args.weights.now c.refusal_number.result c.refusal_number.type_inv c.refusal_number.ensures
+    (λ fits. false≢true (c.if-not-weights_fit.ensures.1 (subst (λ (n : ℕ). n + sum c.args.weights.now ≤ greatest_u64) (sym total) fits)))

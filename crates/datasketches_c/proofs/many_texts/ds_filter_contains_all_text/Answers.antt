@@ -7,6 +7,7 @@ use Rattle.datasketches_c.specs.Numbers.{ok, no_sketch, wrong_kind}
 use Rattle.datasketches_c.specs.Texts.{texts_of}
 use Rattle.datasketches_c.proofs.KindLemmas.{on_kind_said, on_none_said, on_other_said}
 use Rattle.datasketches_c.proofs.Reports.{when_refused}
+use Rattle.datasketches_c.proofs.AnswerLemmas.{number_handed_on}
 use Rattle.datasketches_c.proofs.many_texts.ds_filter_contains_all_text.Goals as goal
 
 -- the handle has no sketch, or one of another kind
@@ -42,3 +43,6 @@ returns-in-Some-clause-answers c = λ texts same. absurd (c.in-Some.ensures.not_
 
 pub returns-in-Some-clause-untouched : goal.returns-in-Some-clause-untouched
 returns-in-Some-clause-untouched c = when_refused _ _ refl
+
+pub returns-in-Some-clause-no_text : goal.returns-in-Some-clause-no_text
+returns-in-Some-clause-no_text c = λ ends same not. number_handed_on c.in-Some.refusal (c.in-Some.ensures.says.not_utf8 ends same not)

@@ -2,6 +2,7 @@ use Rattle.std.proofs.Common.{Some, refl, sym, ap, ◌∙◌}
 use Rattle.datasketches_c.specs.Kinds.{filter_of}
 use Rattle.datasketches_c.specs.Numbers.{no_sketch, wrong_kind}
 use Rattle.datasketches_c.proofs.KindLemmas.{on_none_said, on_other_said}
+use Rattle.datasketches_c.proofs.AnswerLemmas.{number_handed_on}
 use Rattle.datasketches_c.proofs.many_texts.ds_filter_insert_all_text.Goals as goal
 
 -- the handle has no sketch, or one of another kind
@@ -17,3 +18,6 @@ returns-in-Some-part_of-clause-bad_offsets c = λ not. absurd (not c.in_default.
 
 pub returns-in-Some-part_of-clause-no_text : goal.returns-in-Some-part_of-clause-no_text
 returns-in-Some-part_of-clause-no_text c = λ ends not. absurd (not c.in_default.ensures.utf8)
+
+pub returns-in-Some-clause-no_text : goal.returns-in-Some-clause-no_text
+returns-in-Some-clause-no_text c = λ ends not. number_handed_on c.in-Some.refusal (c.in-Some.ensures.says.not_utf8 ends not)

@@ -5,7 +5,7 @@ use Rattle.datasketches_c.specs.Kinds.{HoldsFrequentTexts, OnFrequentTexts, freq
 use Rattle.datasketches_c.specs.Numbers.{no_sketch, wrong_kind}
 use Rattle.datasketches_c.specs.Texts.{texts_of}
 use Rattle.datasketches_c.specs.declared.any_sketch.AnySketch.TheVariants.{FrequentTexts}
-use Rattle.datasketches_c.proofs.AnswerLemmas.{handed_on}
+use Rattle.datasketches_c.proofs.AnswerLemmas.{handed_on, number_handed_on}
 use Rattle.datasketches_c.proofs.KindLemmas.{changed, on_none_said, on_other_said}
 use Rattle.datasketches_c.proofs.many_texts.ds_frequent_text_update_all.Goals as goal
 
@@ -34,3 +34,6 @@ returns-in-Some-part_of-clause-texts c =
 
 pub returns-in-Some-clause-texts : goal.returns-in-Some-clause-texts
 returns-in-Some-clause-texts c = λ texts. absurd (c.in-Some.ensures.not_texts texts)
+
+pub returns-in-Some-clause-no_text : goal.returns-in-Some-clause-no_text
+returns-in-Some-clause-no_text c = λ ends not. (number_handed_on c.in-Some.refusal (c.in-Some.ensures.says.not_utf8 ends not), refl)

@@ -1,18 +1,17 @@
-use Rattle.std.proofs.Common.{◌≡◌, ◌≢◌, List, ℕ, refl, ap, ◌∙◌, inr, sym, subst}
-use Rattle.sketch_base.specs.Errors.{ErrorValue}
+use Rattle.std.proofs.Common.{◌≡◌, ◌≢◌, List, ℕ, refl, inr, sym, subst}
 use Rattle.sketch_bloom.specs.Image.{IsSpelled}
 use Rattle.datasketches_c.specs.Images.{WritesImage}
-use Rattle.datasketches_c.specs.Numbers.{ok, no_room, refusal_number}
+use Rattle.datasketches_c.specs.Numbers.{ok, no_room}
 use Rattle.datasketches_c.proofs.AnswerLemmas.{handed_on, not_copied}
-use Rattle.datasketches_c.proofs.InTurnLemmas.{same_answer}
+use Rattle.datasketches_c.proofs.InTurnLemmas.{refused_as}
 use Rattle.datasketches_c.proofs.Reading.{copied_image}
 use Rattle.datasketches_c.proofs.Reports.{when_refused}
-use Rattle.datasketches_c.proofs.filter.write_filter.Goals as goal
+use Rattle.datasketches_c.proofs.filter.BloomFilterHasImage.write_to.Goals as goal
 
 -- the image was made, and copied where there was room
 pub returns-in-Ok-clause-image : goal.returns-in-Ok-clause-image
 returns-in-Ok-clause-image c =
-    let Spelled : List ℕ → Type 0 = λ image. IsSpelled image c.args.filter.now in
+    let Spelled : List ℕ → Type 0 = λ image. IsSpelled image c.args.self.now in
     handed_on (WritesImage Spelled c.args.out.now c.copy_out.new.out c.copy_out.new.written) c.copy_out.result c.copy_out.type_inv
     (copied_image Spelled c.deref.result.now c.args.out.now c.copy_out.new.out c.copy_out.new.written c.copy_out.result (subst Spelled (sym c.deref.ensures.value) c.in-Ok.ensures.image) c.copy_out.ensures.length c.copy_out.ensures.copied c.copy_out.ensures.no_room)
 
@@ -25,8 +24,7 @@ returns-in-Ok-clause-uncounted c =
     handed_on (λ z. z ≢ ok → z ≢ no_room → c.copy_out.new.written ≡ c.args.written.now) c.copy_out.result c.copy_out.type_inv c.copy_out.ensures.uncounted
 
 pub returns-in-Err-clause-image : goal.returns-in-Err-clause-image
-returns-in-Err-clause-image c =
-    inr (inr (same_answer c.refusal_number.result c.refusal_number.type_inv ∙ c.refusal_number.ensures ∙ ap refusal_number (c.fault.ensures ∙ ap (λ (e : ErrorValue). e.fault) c.in-Err.ensures.err)))
+returns-in-Err-clause-image c = inr (inr (refused_as c.in-Err.error _ _ _ c.refusal_number.type_inv c.fault.ensures c.refusal_number.ensures c.in-Err.ensures.err))
 
 pub returns-in-Err-clause-untouched : goal.returns-in-Err-clause-untouched
 returns-in-Err-clause-untouched c = when_refused _ _ refl

@@ -1,26 +1,27 @@
-use Rattle.std.proofs.Common.{◌≡◌, ◌≢◌, List, ℕ, refl, sym, subst, inl, rules}
+use Rattle.std.proofs.Common.{◌≡◌, ◌≢◌, List, ℕ, refl, sym, subst, inl, ℤ, ap, ◌∙◌}
 use Rattle.sketch_frequencies.specs.Image.{IsSpelledFor}
 use Rattle.datasketches_c.specs.FrequentImages.{WritesFrequent}
-use Rattle.datasketches_c.specs.Numbers.{ok, no_room}
+use Rattle.datasketches_c.specs.Numbers.{ok, no_room, refusal_number}
 use Rattle.datasketches_c.proofs.AnswerLemmas.{handed_on, not_copied}
 use Rattle.datasketches_c.proofs.Reading.{copied_image, refused_to_write}
 use Rattle.datasketches_c.proofs.Reports.{when_refused}
-use Rattle.datasketches_c.proofs.frequent.write_image.Goals as goal
+use Rattle.datasketches_c.proofs.frequent.FrequentItemsSketchHasImage.write_to.Goals as goal
 
 -- the image was made, and copied where there was room
 pub returns-in-Ok-clause-image : goal.returns-in-Ok-clause-image
 returns-in-Ok-clause-image g c =
     let item = g.T.FrequentItemValue in
-    let Spelled : List ℕ → Type 0 = λ image. IsSpelledFor item.codec item.content image c.args.sketch.now in
-    handed_on (WritesFrequent item.codec item.content c.args.sketch.now c.args.out.now c.copy_out.new.out c.copy_out.new.written) c.copy_out.result c.copy_out.type_inv
+    let Spelled : List ℕ → Type 0 = λ image. IsSpelledFor item.codec item.content image c.args.self.now in
+    handed_on (WritesFrequent item.codec item.content c.args.self.now c.args.out.now c.copy_out.new.out c.copy_out.new.written) c.copy_out.result c.copy_out.type_inv
     (inl (copied_image Spelled c.deref.result.now c.args.out.now c.copy_out.new.out c.copy_out.new.written c.copy_out.result (subst Spelled (sym c.deref.ensures.value) c.in-Ok.ensures.image) c.copy_out.ensures.length c.copy_out.ensures.copied c.copy_out.ensures.no_room))
 
 -- the library refused to write
 pub returns-in-Err-clause-image : goal.returns-in-Err-clause-image
 returns-in-Err-clause-image g c =
     let item = g.T.FrequentItemValue in
-    let said = refused_to_write item.codec item.content c.args.sketch.now c.args.out.now c.args.out.now c.args.written.now c.in-Err.error c.in-Err.ensures.err in
-    rw c.refusal_number.ensures (search rules)
+    let Written : ℤ → Type 0 = WritesFrequent item.codec item.content c.args.self.now c.args.out.now c.args.out.now c.args.written.now in
+    handed_on Written c.refusal_number.result c.refusal_number.type_inv
+    (subst Written (sym (c.refusal_number.ensures ∙ ap refusal_number c.fault.ensures)) (refused_to_write item.codec item.content c.args.self.now c.args.out.now c.args.out.now c.args.written.now c.in-Err.error c.in-Err.ensures.err))
 
 pub returns-in-Ok-clause-untouched : goal.returns-in-Ok-clause-untouched
 returns-in-Ok-clause-untouched g c =

@@ -1,0 +1,49 @@
+-- The number of a refusal is that of no call that was done.
+use Rattle.std.proofs.Common.{◌≡◌, ◌<◌, ℤ, ◌∙◌, sym, subst}
+use lib.Signed.{mag}
+use mir.Syntax.{w32}
+use mir.Val.{of_z, to_z}
+use Rattle.sketch_base.specs.declared.fault.Fault.{Fault}
+use Rattle.sketch_base.specs.declared.fault.Fault.TheVariants as fault
+use Rattle.datasketches_c.specs.Numbers.{OnDone, refusal_number}
+use Rattle.datasketches_c.proofs.InTurnLemmas.{same_answer}
+
+below_zero : (of : Fault) (P : Type 0) → OnDone (refusal_number of) P
+below_zero fault.BadNumBits P = tt
+below_zero fault.BadNumHashes P = tt
+below_zero fault.BadNumBuckets P = tt
+below_zero fault.TableTooLarge P = tt
+below_zero fault.ZeroSeedHash P = tt
+below_zero fault.Mismatch P = tt
+below_zero fault.WeightOverflow P = tt
+below_zero fault.MapSizeNotPowerOfTwo P = tt
+below_zero fault.MapSizeTooSmall P = tt
+below_zero fault.MapSizeTooLarge P = tt
+below_zero fault.ItemTooLong P = tt
+below_zero fault.InsufficientData P = tt
+below_zero fault.BadFamily P = tt
+below_zero fault.BadVersion P = tt
+below_zero fault.BadPreamble P = tt
+below_zero fault.BadNumWords P = tt
+below_zero fault.BadBitCount P = tt
+below_zero fault.SeedHashMismatch P = tt
+below_zero fault.ValueOutOfRange P = tt
+below_zero fault.NegativeTotal P = tt
+below_zero fault.CellAboveTotal P = tt
+below_zero fault.LgCurTooSmall P = tt
+below_zero fault.LgMaxTooLarge P = tt
+below_zero fault.LgCurAboveMax P = tt
+below_zero fault.EmptyFlagMismatch P = tt
+below_zero fault.TooManyActive P = tt
+below_zero fault.ZeroTotal P = tt
+below_zero fault.WeightsExceedTotal P = tt
+below_zero fault.ErrorExceedsTotal P = tt
+below_zero fault.InvalidUtf8 P = tt
+below_zero fault.BadItem P = tt
+below_zero fault.NoMemory P = tt
+below_zero fault.BadSampleSize P = tt
+below_zero fault.BadWindows P = tt
+
+-- so nothing has to hold where it is handed on
+pub refused_not_done : (of : Fault) (answer : ℤ) (P : Type 0) → mag answer < 2147483648 → answer ≡ refusal_number of → OnDone (to_z w32 (of_z w32 answer)) P
+refused_not_done of answer P small number = subst (λ (z : ℤ). OnDone z P) (sym (same_answer answer small ∙ number)) (below_zero of P)
