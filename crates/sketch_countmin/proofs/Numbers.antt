@@ -25,8 +25,8 @@ whole_is z n e small = omega (arith, ints)
 pub quotient_is : (q : ℕ) → q < 2 ^ 64 → to_z w128 q ≡ pos q
 quotient_is q small = omega (arith, ints)
 
--- a number of 65 bits and a sign fits 128 bits
-small_fits : (z : ℤ) → unsigned_abs z < 2 ^ 65 → SFits w128 z
+-- a number of 127 bits and a sign fits 128 bits
+small_fits : (z : ℤ) → unsigned_abs z < 2 ^ 127 → SFits w128 z
 small_fits (pos n) h = record { sfits = omega (arith, ints) }
 small_fits (negsuc n) h = record { sfits = omega (arith, ints) }
 
@@ -52,6 +52,10 @@ cells_fit rows width h k = omega (arith, mul-le rows width 255 4294967295 (omega
 -- the sum of two numbers of 64 bits, through the casts of the code
 pub sum_fits : (x y : ℤ) → unsigned_abs x < 2 ^ 64 → unsigned_abs y < 2 ^ 64 → SFits w128 (to_z w128 (of_z w128 x) +ℤ to_z w128 (of_z w128 y))
 sum_fits x y h k = small_fits (to_z w128 (of_z w128 x) +ℤ to_z w128 (of_z w128 y)) (omega (arith, ints))
+
+-- and of one of them and a number of 126 bits
+pub gain_fits : (x : ℤ) (n : ℕ) → unsigned_abs x < 2 ^ 64 → n < 2 ^ 126 → SFits w128 (to_z w128 (of_z w128 x) +ℤ to_z w128 n)
+gain_fits x n h k = small_fits (to_z w128 (of_z w128 x) +ℤ to_z w128 n) (omega (arith, ints))
 
 -- the low half of a number of 128 bits
 pub low_word : (x : ℕ) (y z : ℤ) → x ≡ of_z w128 (to_z w128 (of_z w128 y)) → y ≡ z → unsigned_abs y < 2 ^ 64 → bit_and x 18446744073709551615 ≡ of_z w64 z

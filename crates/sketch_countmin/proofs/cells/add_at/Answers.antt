@@ -1,9 +1,10 @@
-use Rattle.std.proofs.Common.{arith, subst, sym, ◌≡◌, ◌≤◌, ℤ, ◌+ℤ◌, unsigned_abs, to_z, of_z}
+use Rattle.std.proofs.Common.{arith, subst, sym, ◌≡◌, ◌≤◌, ℤ, ◌+ℤ◌, unsigned_abs, to_z, of_z, length}
 use Rattle.std.specs.Int.{w128}
 use Rattle.std.proofs.lemmas.Int.{ints}
 use Rattle.sketch_countmin.specs.Values.{InRange}
 use Rattle.sketch_countmin.proofs.Numbers.{sum_fits}
 use Rattle.sketch_countmin.proofs.RowSteps.{read_cell, added_at}
+use borrow.Author.Rules.{scaled_Fits}
 use Rattle.sketch_countmin.proofs.cells.add_at.Goals as goal
 
 pub from_number_in_range-requires : goal.from_number_in_range-requires
@@ -22,3 +23,16 @@ returns g c =
 
 pub overflow_add-sum : goal.overflow_add-sum
 overflow_add-sum g c = sum_fits c.to_number.result c.to_number-2.result c.to_number.ensures.narrow c.to_number-2.ensures.narrow
+
+-- the slice has room
+pub offset_bounds-counts-place : goal.offset_bounds-counts-place
+offset_bounds-counts-place g c = scaled_Fits c.args.place (length c.args.counts.now) _ c.requires.bounds (search)
+
+pub offset_bounds-counts-place-2 : goal.offset_bounds-counts-place-2
+offset_bounds-counts-place-2 g c = scaled_Fits c.args.place (length c.args.counts.now) _ c.requires.bounds (search)
+
+pub bounds-counts-place : goal.bounds-counts-place
+bounds-counts-place g c = c.requires.bounds
+
+pub bounds-counts-place-2 : goal.bounds-counts-place-2
+bounds-counts-place-2 g c = c.requires.bounds

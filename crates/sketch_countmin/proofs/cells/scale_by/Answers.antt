@@ -1,8 +1,21 @@
-use Rattle.std.proofs.Common.{ℤ, ◌≡◌, ◌≤◌, arith, unsigned_abs, to_z, of_z}
+use Rattle.std.proofs.Common.{ℤ, pos, ◌≡◌, ◌≤◌, ◌<◌, ◌*◌, ◌/◌, ◌^◌, ap, sym, ◌∙◌, arith, unsigned_abs, to_z, of_z}
 use Rattle.std.specs.Int.{w128}
 use Rattle.std.proofs.lemmas.Int.{ints}
-use Rattle.sketch_countmin.proofs.Numbers.{scaled_below}
+use Rattle.sketch_countmin.specs.Values.{scaled}
+use Rattle.sketch_countmin.proofs.Numbers.{scaled_below, whole_is, quotient_is}
+use Rattle.sketch_countmin.proofs.cells.scale_by.Given as given
 use Rattle.sketch_countmin.proofs.cells.scale_by.Goals as goal
+use Rattle.sketch_countmin.proofs.cells.scale_by.Goals.{After-to_number}
+
+-- the value is a number of 64 bits
+own : (g : given.Over) (c : After-to_number g) → g.T.CountMinValue.number c.args.value ≡ pos (unsigned_abs (g.T.CountMinValue.number c.args.value))
+own g c = omega (arith, ints, g.met.T.UnsignedCountMinValue.unsigned c.args.value)
+
+small : (g : given.Over) (c : After-to_number g) → unsigned_abs (g.T.CountMinValue.number c.args.value) < 2 ^ 64
+small g c = omega (arith, ints, c.to_number.ensures.value, c.to_number.ensures.narrow)
+
+whole : (g : given.Over) (c : After-to_number g) → to_z w128 (of_z w128 c.to_number.result) ≡ pos (unsigned_abs (g.T.CountMinValue.number c.args.value))
+whole g c = whole_is c.to_number.result _ (c.to_number.ensures.value ∙ own g c) (small g c)
 
 pub from_number_in_range-requires : goal.from_number_in_range-requires
 from_number_in_range-requires g c =
@@ -11,3 +24,15 @@ from_number_in_range-requires g c =
     let high : unsigned_abs z ≤ g.T.CountMinValue.greatest = omega (arith, ints, whole, c.to_number.ensures.in_range.1, g.met.T.UnsignedCountMinValue.unsigned c.args.value) in
     let less = scaled_below (unsigned_abs z) c.args.fraction.now.0 c.args.fraction.now.1 c.requires.positive (omega (arith, c.requires.below_one)) in
     (omega (arith, ints, g.met.T.CountMinValue.zero_fits), omega (arith, ints, less, high, c.of-scaled.ensures))
+
+pub returns : goal.returns
+returns g c =
+    let now = (goal.at.returns g c).After-to_number in
+    let v = unsigned_abs (g.T.CountMinValue.number c.args.value) in
+    let n = c.args.fraction.now.0 in
+    let d = c.args.fraction.now.1 in
+    let below : v * n / d < 2 ^ 64 = omega (arith, small g now, scaled_below v n d c.requires.positive (omega (arith, c.requires.below_one))) in
+    c.from_number_in_range.ensures ∙ rw (c.of-scaled.ensures, whole g now) (quotient_is (v * n / d) below ∙ ap (scaled n d) (sym (own g now)))
+
+pub overflow_cast-to_number : goal.overflow_cast-to_number
+overflow_cast-to_number g c = rw (whole g c) (tt, record { fits = small g c })

@@ -7,6 +7,7 @@ use Rattle.sketch_countmin.specs.Cells.{RowsCounted}
 use Rattle.sketch_countmin.specs.State.{CountState, CountsAll}
 use Rattle.sketch_countmin.specs.Table.{state_of}
 use Rattle.sketch_countmin.proofs.Places.{lent_shape, room_for_items}
+use Rattle.sketch_countmin.proofs.Numbers.{gain_fits}
 use Rattle.sketch_countmin.proofs.Tables.{is_state}
 use Rattle.sketch_countmin.proofs.Updates.{written_back, length_own}
 use Rattle.sketch_countmin.proofs.BatchUpdates.{rows_counted_own, all_counted, counts_all_here}
@@ -68,3 +69,6 @@ from_number_in_range-self-inside-requires g c =
     let own : unsigned_abs (g.T.CountMinValue.number c.self.inside.total) ≡ c.args.self.now.total = ap (λ (s : CountState). s.total) c.self.view_is in
     let total : c.to_number.result ≡ pos c.args.self.now.total = c.to_number.ensures.value ∙ (c.self.invariant.total_is ∙ ap pos own) in
     (omega (arith, ints, total, c.to_number.ensures.narrow, g.met.T.CountMinValue.zero_fits), omega (arith, ints, total, c.to_number.ensures.narrow, c.requires))
+
+pub overflow_add-to_number : goal.overflow_add-to_number
+overflow_add-to_number g c = gain_fits c.to_number.result (length c.args.items.now) c.to_number.ensures.narrow (omega arith)

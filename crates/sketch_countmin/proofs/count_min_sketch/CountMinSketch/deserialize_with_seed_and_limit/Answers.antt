@@ -66,3 +66,6 @@ returns-then-preamble-clause-stands g c = IfOk-weaker c.empty.result _ _ (restor
 
 pub returns-else-preamble-clause-stands : goal.returns-else-preamble-clause-stands
 returns-else-preamble-clause-stands g c = IfOk-weaker c.with_cells_of.result _ _ (restores g.T.CountMinValue.least g.T.CountMinValue.greatest c.args.seed c.args.image.now) (returns-else-preamble-clause-image g c)
+
+pub with_cells_of-requires-clause-cells : goal.with_cells_of-requires-clause-cells
+with_cells_of-requires-clause-cells g c = c.in_ok-preamble.ensures.cells c.if-preamble.false
