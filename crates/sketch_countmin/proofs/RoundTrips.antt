@@ -2,7 +2,7 @@
 use Rattle.std.proofs.Common.{◌≡◌, ◌≢◌, ℕ, ◌+◌, ◌*◌, ◌<◌, ◌≤◌, ◌^◌, ◌==◌, Bool, true, false, leb, List, [], ◌∷◌, ◌++◌, All, length, take, drop, get_or, replicate, Option, None, ℤ, pos, unsigned_abs, ◌≤ℤ◌, refl, sym, ap, subst, ◌∙◌, arith, length-append, eq-eqb, eqb-true}
 use Rattle.std.specs.Prelude.{nat_le, nat_lt, int_le}
 use Rattle.std.specs.List.{flat_map}
-use Rattle.std.proofs.lemmas.Bool.{le-leb, lt-ltb, ne_eqb, and_from, false≢true}
+use Rattle.std.proofs.lemmas.Bool.{le-leb, lt-ltb, ne_eqb, false≢true}
 use Rattle.std.proofs.lemmas.Int.{ints}
 use Rattle.std.proofs.lemmas.List.{length-replicate, get_or-replicate}
 use Rattle.std.proofs.lemmas.List.Concat.{flat_map-cons}
