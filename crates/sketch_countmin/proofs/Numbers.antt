@@ -1,5 +1,5 @@
 -- Numbers scaled by a fraction.
-use Rattle.std.proofs.Common.{◌≡◌, ℕ, ◌-◌, ◌*◌, ◌/◌, ◌^◌, ◌<◌, ◌≤◌, ℤ, pos, negsuc, ◌≤ℤ◌, unsigned_abs, to_z, of_z, bit_and, ◌∙◌, arith}
+use Rattle.std.proofs.Common.{◌≡◌, ℕ, ◌+◌, ◌-◌, ◌*◌, ◌/◌, ◌^◌, ◌<◌, ◌≤◌, ℤ, pos, negsuc, ◌≤ℤ◌, unsigned_abs, to_z, of_z, bit_and, ◌∙◌, arith}
 use Rattle.std.specs.Prelude.{◌+ℤ◌, ◌-ℤ◌}
 use Rattle.std.specs.Int.{w64, w128}
 use mir.Val.{SFits}
@@ -53,9 +53,15 @@ cells_fit rows width h k = omega (arith, mul-le rows width 255 4294967295 (omega
 pub sum_fits : (x y : ℤ) → unsigned_abs x < 2 ^ 64 → unsigned_abs y < 2 ^ 64 → SFits w128 (to_z w128 (of_z w128 x) +ℤ to_z w128 (of_z w128 y))
 sum_fits x y h k = small_fits (to_z w128 (of_z w128 x) +ℤ to_z w128 (of_z w128 y)) (omega (arith, ints))
 
+pub sum_is : (x y a b : ℤ) → x ≡ a → y ≡ b → unsigned_abs x < 2 ^ 64 → unsigned_abs y < 2 ^ 64 → to_z w128 (of_z w128 (to_z w128 (of_z w128 x) +ℤ to_z w128 (of_z w128 y))) ≡ a +ℤ b
+sum_is x y a b e f h k = omega (arith, ints)
+
 -- and of one of them and a number of 126 bits
 pub gain_fits : (x : ℤ) (n : ℕ) → unsigned_abs x < 2 ^ 64 → n < 2 ^ 126 → SFits w128 (to_z w128 (of_z w128 x) +ℤ to_z w128 n)
 gain_fits x n h k = small_fits (to_z w128 (of_z w128 x) +ℤ to_z w128 n) (omega (arith, ints))
+
+pub gain_is : (x : ℤ) (t n : ℕ) → x ≡ pos t → unsigned_abs x < 2 ^ 64 → n < 2 ^ 64 → to_z w128 (of_z w128 (to_z w128 (of_z w128 x) +ℤ to_z w128 n)) ≡ pos (t + n)
+gain_is x t n e h k = omega (arith, ints)
 
 -- the low half of a number of 128 bits
 pub low_word : (x : ℕ) (y z : ℤ) → x ≡ of_z w128 (to_z w128 (of_z w128 y)) → y ≡ z → unsigned_abs y < 2 ^ 64 → bit_and x 18446744073709551615 ≡ of_z w64 z

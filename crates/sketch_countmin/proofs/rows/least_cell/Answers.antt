@@ -20,44 +20,14 @@ returns-in-Some-3 g c = by_item c.args.buckets (map g.T.CountMinValue.number c.a
 pub returns-in-None : goal.returns-in-None
 returns-in-None g c = c.least_long.ensures
 
-pub least_of_each-requires-clause-shape : goal.least_of_each-requires-clause-shape
-least_of_each-requires-clause-shape g c = c.requires.shape
+pub least_of_each-requires : goal.least_of_each-requires
+least_of_each-requires g c = record { masked = λ masked. absurd (false≢true masked); short = c.in-Some.ensures.few; rows = c.requires.rows; shape = c.requires.shape }
 
-pub least_of_each-requires-clause-rows : goal.least_of_each-requires-clause-rows
-least_of_each-requires-clause-rows g c = c.requires.rows
+pub least_of_each-requires-in-Some-3 : goal.least_of_each-requires-in-Some-3
+least_of_each-requires-in-Some-3 g c = record { masked = λ _. sym c.if-not-is_power_of_two.ensures; short = c.in-Some.ensures.few; rows = c.requires.rows; shape = c.requires.shape }
 
-pub least_of_each-requires-in-Some-3-clause-shape : goal.least_of_each-requires-in-Some-3-clause-shape
-least_of_each-requires-in-Some-3-clause-shape g c = c.requires.shape
+pub least_of_four-requires : goal.least_of_four-requires
+least_of_four-requires g c = record { power = sym c.if-not-is_power_of_two.ensures; short = c.in-Some.ensures.few; four = c.if-row_seeds-eq4.true; shape = c.requires.shape }
 
-pub least_of_each-requires-in-Some-3-clause-rows : goal.least_of_each-requires-in-Some-3-clause-rows
-least_of_each-requires-in-Some-3-clause-rows g c = c.requires.rows
-
-pub least_long-requires-clause-shape : goal.least_long-requires-clause-shape
-least_long-requires-clause-shape g c = c.requires.shape
-
-pub least_long-requires-clause-rows : goal.least_long-requires-clause-rows
-least_long-requires-clause-rows g c = c.requires.rows
-
-pub least_of_four-requires-clause-shape : goal.least_of_four-requires-clause-shape
-least_of_four-requires-clause-shape g c = c.requires.shape
-
-pub least_of_four-requires-clause-power : goal.least_of_four-requires-clause-power
-least_of_four-requires-clause-power g c = sym c.if-not-is_power_of_two.ensures
-
-pub least_of_four-requires-clause-four : goal.least_of_four-requires-clause-four
-least_of_four-requires-clause-four g c = c.if-row_seeds-eq4.true
-
-pub least_of_each-requires-in-Some-3-clause-masked : goal.least_of_each-requires-in-Some-3-clause-masked
-least_of_each-requires-in-Some-3-clause-masked g c = λ _. sym c.if-not-is_power_of_two.ensures
-
-pub least_of_each-requires-clause-masked : goal.least_of_each-requires-clause-masked
-least_of_each-requires-clause-masked g c = λ masked. absurd (false≢true masked)
-
-pub least_of_four-requires-clause-short : goal.least_of_four-requires-clause-short
-least_of_four-requires-clause-short g c = c.in-Some.ensures.few
-
-pub least_of_each-requires-in-Some-3-clause-short : goal.least_of_each-requires-in-Some-3-clause-short
-least_of_each-requires-in-Some-3-clause-short g c = c.in-Some.ensures.few
-
-pub least_of_each-requires-clause-short : goal.least_of_each-requires-clause-short
-least_of_each-requires-clause-short g c = c.in-Some.ensures.few
+pub least_long-requires : goal.least_long-requires
+least_long-requires g c = record { shape = c.requires.shape; rows = c.requires.rows }
