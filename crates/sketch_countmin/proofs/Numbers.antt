@@ -22,6 +22,13 @@ product_fits m n h k = omega (arith, mul-le m n 18446744073709551615 18446744073
 pub whole_is : (z : ℤ) (n : ℕ) → z ≡ pos n → n < 2 ^ 64 → to_z w128 (of_z w128 z) ≡ pos n
 whole_is z n e small = omega (arith, ints)
 
+-- how far it is from zero
+pub size_is : (x z : ℤ) (n : ℕ) → n ≡ unsigned_abs (to_z w128 (of_z w128 x)) → x ≡ z → unsigned_abs x < 2 ^ 64 → n ≡ unsigned_abs z
+size_is x z n size same small = omega (arith, ints)
+
+pub size_fits : (x : ℤ) (n : ℕ) → n ≡ unsigned_abs (to_z w128 (of_z w128 x)) → unsigned_abs x < 2 ^ 64 → n < 2 ^ 64
+size_fits x n size small = omega (arith, ints)
+
 pub quotient_is : (q : ℕ) → q < 2 ^ 64 → to_z w128 q ≡ pos q
 quotient_is q small = omega (arith, ints)
 

@@ -36,18 +36,6 @@ loop-i-preserved g c =
       start = c.loop-i.invariant.start;
     }
 
-pub overflow_add-place : goal.overflow_add-place
-overflow_add-place g c = omega (arith, c.loop-i.invariant.start, c.rem.ensures.below, c.requires.shape)
-
-pub bounds-counts-place : goal.bounds-counts-place
-bounds-counts-place g c = omega (arith, c.loop-i.invariant.start, c.rem.ensures.below, c.requires.shape)
-
-pub offset_bounds-counts-place : goal.offset_bounds-counts-place
-offset_bounds-counts-place g c = omega (arith, c.loop-i.invariant.start, c.rem.ensures.below, c.requires.shape)
-
-pub bounds-least-i : goal.bounds-least-i
-bounds-least-i g c = omega (arith, c.loop-i-test.true, c.loop-i.auto.least, c.requires.same)
-
 pub offset_bounds-least-i : goal.offset_bounds-least-i
 offset_bounds-least-i g c = scaled_Fits c.loop-i.i (length c.args.least.now) _ (omega (arith, c.loop-i-test.true, c.requires.same)) (search)
 
@@ -56,8 +44,3 @@ bounds-least-i-in-loop-i g c = omega (arith, c.loop-i-test.true, c.loop-i.auto.l
 
 pub offset_bounds-least-i-in-loop-i : goal.offset_bounds-least-i-in-loop-i
 offset_bounds-least-i-in-loop-i g c = scaled_Fits c.loop-i.i (length c.args.least.now) _ (omega (arith, c.loop-i-test.true, c.requires.same)) (search)
-
-pub overflow_mul-start : goal.overflow_mul-start
-overflow_mul-start g c =
-    let start : c.args.row * c.divisor.result ≡ c.args.row * c.args.buckets = ap (λ (k : ℕ). c.args.row * k) c.divisor.ensures.value in
-    omega (arith, start, c.requires.shape)

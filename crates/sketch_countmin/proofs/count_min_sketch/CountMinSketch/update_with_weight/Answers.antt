@@ -99,6 +99,3 @@ returns-in_err-total-clause-succeeds g c = λ fits. absurd (omega (arith, fits, 
 
 pub returns-then-to_number-eq0-clause-zero : goal.returns-then-to_number-eq0-clause-zero
 returns-then-to_number-eq0-clause-zero g c = λ _. (refl, refl)
-
-pub returns-clause-zero : goal.returns-clause-zero
-returns-clause-zero g c = λ zero. absurd (c.if-to_number-eq0.false (omega (arith, ints, zero, c.to_number.ensures.value)))
