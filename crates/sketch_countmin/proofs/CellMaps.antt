@@ -1,6 +1,6 @@
 -- What one function of each cell leaves.
-use Rattle.std.proofs.Common.{◌≡◌, ℕ, ◌+◌, ◌<◌, ◌++◌, List, [], ◌∷◌, length, get_or, set, take, drop, map, ℤ, pos, refl, sym, ap, ◌∙◌, arith, zero, suc}
-use Rattle.std.proofs.lemmas.List.{map-set, length-map, take_at}
+use Rattle.std.proofs.Common.{◌≡◌, ℕ, ◌+◌, ◌<◌, ◌≤◌, ◌++◌, List, [], ◌∷◌, length, get_or, set, take, drop, map, ℤ, pos, refl, sym, ap, ◌∙◌, arith, zero, suc}
+use Rattle.std.proofs.lemmas.List.{map-set, length-map, take_at, take_all, drop_all, append-nil}
 use Rattle.sketch_countmin.proofs.RowSteps.{read_cell}
 
 -- the first i elements are mapped: what is read next
@@ -25,6 +25,13 @@ map_more_here number f counts initial i x v below long e value inv =
     let step : set (map number counts) i (number v) ≡ map f (take (suc i) old) ++ drop (suc i) old = ap (λ (l : List ℤ). set l i (number v)) inv ∙ (ap (λ (z : ℤ). set (map f (take i old) ++ drop i old) i z) (value ∙ ap (λ y. f (number y)) (sym e) ∙ ap f read) ∙ set_rest f old i lt) in
     let next : suc i ≡ i + 1 = omega arith in
     map-set number counts i v ∙ (step ∙ ap (λ (j : ℕ). map f (take j old) ++ drop j old) next)
+
+-- and behind the last all are
+pub mapped_all : {T : Type 0} (number : T → ℤ) (f : ℤ → ℤ) (initial : List T) (i : ℕ) → length initial ≤ i → map f (take i (map number initial)) ++ drop i (map number initial) ≡ map f (map number initial)
+mapped_all number f initial i end =
+    let old : List ℤ = map number initial in
+    let long : length old ≤ i = omega (arith, length-map initial number, end) in
+    ap (λ (rest : List ℤ). map f (take i old) ++ rest) (drop_all i old long) ∙ (append-nil (map f (take i old)) ∙ ap (map f) (take_all i old long))
 
 -- what a loop did to the cells that it was lent, it did to the sketch's own
 pub mapped_own : {T : Type 0} (number : T → ℤ) (f : ℤ → ℤ) (items before after : List T) (len : ℕ) → length after ≡ len → before ≡ items → map number after ≡ map f (map number before)

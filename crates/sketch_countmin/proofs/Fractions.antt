@@ -78,6 +78,9 @@ fits n d lt small =
     cancel m (2 ^ 128) d (omega (arith, over.1, over.3))
 
 -- its halves
+pub multiplier_fits : (n d : ℕ) → n < d → d < 2 ^ 64 → n * 2 ^ 64 / d * 2 ^ 64 + n * 2 ^ 64 % d * 2 ^ 64 / d + 1 < 2 ^ 128
+multiplier_fits n d lt small = omega (arith, by_digits n d (omega arith), fits n d lt small)
+
 pub upper_fits : (n d : ℕ) → n < d → d < 2 ^ 64 → (n * 2 ^ 64 / d * 2 ^ 64 + n * 2 ^ 64 % d * 2 ^ 64 / d + 1) / 2 ^ 64 < 2 ^ 64
 upper_fits n d lt small = omega (arith, by_digits n d (omega arith), fits n d lt small)
 

@@ -20,7 +20,7 @@ use Rattle.sketch_countmin.specs.Preamble.{IsPreamble}
 use Rattle.sketch_countmin.specs.Rows.{cell_at}
 use Rattle.sketch_countmin.specs.Stands.{StandsFor}
 use Rattle.sketch_countmin.specs.State.{CountState, IsCountState, empty_state}
-use Rattle.sketch_countmin.specs.Table.{IsTable}
+use Rattle.sketch_countmin.specs.Table.{IsTable, state_of}
 use Rattle.sketch_countmin.specs.declared.image.Preamble.{Preamble}
 use Rattle.sketch_countmin.proofs.Reading.{first_failing-append}
 use Rattle.sketch_countmin.proofs.Tables.{length-rows_of, rows_width, rows_all, rows_of-replicate, zeros_read}
@@ -89,6 +89,25 @@ pub total_fault : (least : ℤ) (greatest : ℕ) (image : List ℕ) (p : Preambl
 total_fault least greatest image p fault fields full fails =
     late_is least greatest image p fields full
     ∙ ap (λ (o : Option Fault). or_else o (first_failing (cells_checks least greatest (unsigned_abs (total_at least image)) (numbers_in least (p.num_hashes * p.num_buckets) (drop 24 image))))) fails
+
+module _ (least : ℤ) (greatest : ℕ) (image : List ℕ) (p : Preamble) (fields : IsPreamble image p) (full : p.is_empty ≡ false) where
+  module _ (most : ℕ) (most_is : most ≡ unsigned_abs (total_at least image)) (passes : first_failing (total_checks least greatest (total_at least image)) ≡ None) where
+    -- where the total passes, the first of them is a cell's
+    by_cells : late_fault least greatest image ≡ first_failing (cells_checks least greatest most (numbers_in least (p.num_hashes * p.num_buckets) (drop 24 image)))
+    by_cells = late_is least greatest image p fields full ∙ rw (passes, sym most_is) refl
+
+    pub late_passes : first_failing (cells_checks least greatest most (numbers_in least (p.num_hashes * p.num_buckets) (drop 24 image))) ≡ None → late_fault least greatest image ≡ None
+    late_passes h = by_cells ∙ h
+
+    pub cells_refusal : (e : ErrorValue) → IsImageRefusal None (first_failing (cells_checks least greatest most (numbers_in least (p.num_hashes * p.num_buckets) (drop 24 image)))) e → IsImageRefusal None (late_fault least greatest image) e
+    cells_refusal e h = subst (λ (o : Option Fault). IsImageRefusal None o e) (sym by_cells) h
+
+-- what was read is what an image says that has a total and cells
+pub value_read : (least : ℤ) (image : List ℕ) (p : Preamble) → IsPreamble image p → p.is_empty ≡ false → (row_seeds : List ℕ) (d seed : ℕ) (total : ℤ) (cells : List ℤ) → length row_seeds ≡ p.num_hashes → d ≡ p.num_buckets → total ≡ total_at least image
+    → cells ≡ numbers_in least (p.num_hashes * p.num_buckets) (drop 24 image) → state_of row_seeds d seed total cells ≡ value_at least seed image
+value_read least image p fields full row_seeds d seed total cells height width total_is cells_are =
+    let not_empty : says_empty image ≡ false = sym fields.is_empty ∙ full in
+    rw (not_empty, cells_are, height, width, total_is, fields.num_hashes, fields.num_buckets) refl
 
 -- where no check of a list fails, each passes
 each_passes : (checks : List (Bool × Fault)) → first_failing checks ≡ None → All (λ check. check.0 ≡ true) checks

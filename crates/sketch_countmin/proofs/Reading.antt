@@ -1,11 +1,28 @@
 -- How cells are read: those that are left, and the first fault among them.
-use Rattle.std.proofs.Common.{◌≡◌, ℕ, suc, ◌+◌, Bool, true, false, List, [], ◌∷◌, ◌++◌, drop, map, Option, Some, None, ℤ, refl, sym, ap, ◌∙◌, arith, append_assoc, drop-drop}
-use Rattle.std.specs.Prelude.{if◌then◌else◌}
+use Rattle.std.proofs.Common.{◌≡◌, ℕ, suc, ◌+◌, Bool, true, false, List, [], ◌∷◌, ◌++◌, drop, map, Option, Some, None, ℤ, pos, unsigned_abs, ◌≤◌, ◌≤ℤ◌, refl, sym, ap, ◌∙◌, arith, append_assoc, drop-drop}
+use Rattle.std.specs.Prelude.{if◌then◌else◌, int_le}
+use Rattle.std.proofs.lemmas.Bool.{le-leb, and_from}
+use Rattle.std.proofs.lemmas.Int.{ints}
 use Rattle.std.proofs.lemmas.List.{map-append}
 use Rattle.std.proofs.lemmas.List.Concat.{flat_map-cons}
 use Rattle.sketch_base.specs.Checks.{first_failing, or_else}
 use Rattle.sketch_base.specs.declared.fault.Fault.{Fault}
-use Rattle.sketch_countmin.specs.Image.{number_at, numbers_in, cell_checks, cells_checks}
+use Rattle.sketch_countmin.specs.Image.{number_at, numbers_in, is_in_range, cell_checks, cells_checks}
+use Rattle.sketch_countmin.specs.Values.{InRange}
+
+-- ---- the checks of one number
+
+pub passes_test : (a b : ℤ) → a ≤ℤ b → int_le a b ≡ true
+passes_test a b h = grind (arith, ints)
+
+pub in_range_test : (least : ℤ) (greatest : ℕ) (z : ℤ) → InRange least greatest z → is_in_range least greatest z ≡ true
+in_range_test least greatest z h = and_from _ _ (passes_test least z h.0) (passes_test z (pos greatest) h.1)
+
+-- a cell that the type has, and that is no further from zero than the total
+pub cell_passes : (least : ℤ) (greatest total : ℕ) (z : ℤ) → InRange least greatest z → unsigned_abs z ≤ total → first_failing (cell_checks least greatest total z) ≡ None
+cell_passes least greatest total z fits within = rw (in_range_test least greatest z fits, le-leb _ _ within) refl
+
+-- ---- lists of checks
 
 -- one check more, in front
 one_more : (b : Bool) (fault : Fault) (rest first last : Option Fault) → rest ≡ or_else first last → (if b then rest else Some fault) ≡ or_else (if b then first else Some fault) last

@@ -2,7 +2,7 @@
 use Rattle.std.proofs.Common.{◌≡◌, ◌≢◌, ℕ, ◌+◌, ◌*◌, ◌<◌, ◌≤◌, ◌^◌, ◌==◌, Bool, true, false, leb, List, [], ◌∷◌, ◌++◌, All, length, take, drop, get_or, replicate, Option, None, ℤ, pos, unsigned_abs, ◌≤ℤ◌, refl, sym, ap, subst, ◌∙◌, arith, length-append, eq-eqb, eqb-true}
 use Rattle.std.specs.Prelude.{nat_le, nat_lt, int_le}
 use Rattle.std.specs.List.{flat_map}
-use Rattle.std.proofs.lemmas.Bool.{le-leb, lt-ltb, ne_eqb, and_from, false≢true}
+use Rattle.std.proofs.lemmas.Bool.{le-leb, lt-ltb, ne_eqb, false≢true}
 use Rattle.std.proofs.lemmas.Int.{ints}
 use Rattle.std.proofs.lemmas.List.{length-replicate, get_or-replicate}
 use Rattle.std.proofs.lemmas.List.Concat.{flat_map-cons}
@@ -18,7 +18,7 @@ use Rattle.sketch_countmin.specs.Image.{IsImage, IsSpelled, preamble, all_cells,
 use Rattle.sketch_countmin.specs.Rows.{cell_at, rows_of}
 use Rattle.sketch_countmin.specs.State.{CountState, IsCountState}
 use Rattle.sketch_countmin.specs.Values.{InRange, bytes_of, number_in}
-use Rattle.sketch_countmin.proofs.Reading.{first_failing-append}
+use Rattle.sketch_countmin.proofs.Reading.{first_failing-append, passes_test, in_range_test, cell_passes}
 use Rattle.sketch_countmin.proofs.States.{rows_same, zero_cells}
 use Rattle.sketch_countmin.proofs.Tables.{by_place, read_rows}
 
@@ -90,12 +90,6 @@ zero_rows m d rows height wide none = rows_same m d rows (replicate m (replicate
 
 -- ---- the checks pass
 
-passes_test : (a b : ℤ) → a ≤ℤ b → int_le a b ≡ true
-passes_test a b h = grind (arith, ints)
-
-in_range_test : (least : ℤ) (greatest : ℕ) (z : ℤ) → InRange least greatest z → is_in_range least greatest z ≡ true
-in_range_test least greatest z h = and_from _ _ (passes_test least z h.0) (passes_test z (pos greatest) h.1)
-
 total_passes : (least : ℤ) (greatest t : ℕ) → least ≤ℤ pos 0 → t ≤ greatest → first_failing (total_checks least greatest (pos t)) ≡ None
 total_passes least greatest t low fits =
     let range : is_in_range least greatest (pos t) ≡ true = in_range_test least greatest (pos t) (omega (arith, ints), omega (arith, ints)) in
@@ -105,10 +99,8 @@ total_passes least greatest t low fits =
 cells_pass : (least : ℤ) (greatest total : ℕ) (zs : List ℤ) → All (InRange least greatest) zs → All (λ z. unsigned_abs z ≤ total) zs → first_failing (cells_checks least greatest total zs) ≡ None
 cells_pass least greatest total [] fit small = refl
 cells_pass least greatest total (z ∷ zs) fit small =
-    let range : is_in_range least greatest z ≡ true = in_range_test least greatest z (All-head (InRange least greatest) z zs fit) in
-    let near : nat_le (unsigned_abs z) total ≡ true = le-leb _ _ (All-head (λ (x : ℤ). unsigned_abs x ≤ total) z zs small) in
     let rest = cells_pass least greatest total zs (All-tail (InRange least greatest) z zs fit) (All-tail (λ (x : ℤ). unsigned_abs x ≤ total) z zs small) in
-    let here : first_failing (cell_checks least greatest total z) ≡ None = rw (range, near) refl in
+    let here : first_failing (cell_checks least greatest total z) ≡ None = cell_passes least greatest total z (All-head (InRange least greatest) z zs fit) (All-head (λ (x : ℤ). unsigned_abs x ≤ total) z zs small) in
     ap first_failing (flat_map-cons (cell_checks least greatest total) z zs)
     ∙ (first_failing-append (cell_checks least greatest total z) (cells_checks least greatest total zs)
     ∙ (ap (λ (o : Option Fault). or_else o (first_failing (cells_checks least greatest total zs))) here ∙ rest))

@@ -1,7 +1,8 @@
-use Rattle.std.proofs.Common.{arith, ap, ◌∙◌, ◌≡◌, ℕ, ◌+◌, ◌*◌, ◌<◌, List, [], map, length, get_or, set, ℤ, pos, ◌+ℤ◌}
-use Rattle.std.proofs.lemmas.List.{length-map}
+use Rattle.std.proofs.Common.{arith, ap, subst, take, ◌∙◌, ◌≡◌, ℕ, ◌+◌, ◌*◌, ◌<◌, List, [], map, length, get_or, set, ℤ, pos, ◌+ℤ◌}
+use Rattle.std.proofs.lemmas.List.{length-map, take_all}
 use Rattle.sketch_base.specs.Hashes.{fed_bytes}
 use Rattle.sketch_countmin.specs.Buckets.{bucket_by}
+use Rattle.sketch_countmin.specs.Cells.{RowCounted}
 use Rattle.sketch_countmin.proofs.RowSteps.{bucket_found}
 use Rattle.sketch_countmin.proofs.RowCounts.{row_start, row_counted, room_in_row, read_item}
 use Rattle.sketch_countmin.proofs.cells.count_in_row.Given as given
@@ -61,3 +62,10 @@ overflow_add-place g c = omega (arith, c.loop-item.invariant.start, c.rem.ensure
 
 pub add_at-requires-clause-bounds : goal.add_at-requires-clause-bounds
 add_at-requires-clause-bounds g c = omega (arith, c.loop-item.invariant.start, c.rem.ensures.below, c.requires.shape, c.loop-item.auto.counts)
+
+pub returns : goal.returns
+returns g c =
+    let number = g.T.CountMinValue.number in
+    let items : List (List ℕ) = map (fed_bytes g.I.Hash.hash_input) c.args.items.now in
+    let all : take c.loop-item.item-index items ≡ items = take_all c.loop-item.item-index items (omega (arith, length-map c.args.items.now (fed_bytes g.I.Hash.hash_input), c.loop-item-test.false)) in
+    subst (λ (items : List (List ℕ)). RowCounted c.args.buckets (bucket_by c.args.buckets c.args.seed) items c.args.row (map number c.args.counts.now) (map number c.loop-item.counts)) all c.loop-item.invariant.counted

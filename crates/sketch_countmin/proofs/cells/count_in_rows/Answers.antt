@@ -1,4 +1,7 @@
-use Rattle.std.proofs.Common.{arith, sym, subst, ℕ, ◌+◌, ◌*◌, ◌≤◌, length, ℤ, unsigned_abs}
+use Rattle.std.proofs.Common.{arith, sym, subst, ◌≡◌, ℕ, map, slice_index, ◌+◌, ◌*◌, ◌≤◌, length, ℤ, unsigned_abs}
+use Rattle.sketch_base.specs.Hashes.{fed_bytes}
+use Rattle.sketch_countmin.specs.Buckets.{bucket_by}
+use Rattle.sketch_countmin.specs.Cells.{RowsCounted}
 use Rattle.sketch_countmin.proofs.RowCounts.{rows_start, rows_counted, row_fits}
 use Rattle.sketch_countmin.proofs.cells.count_in_rows.Goals as goal
 
@@ -16,3 +19,9 @@ count_in_row-requires-clause-room g c = λ b lb.
 
 pub loop-row-preserved : goal.loop-row-preserved
 loop-row-preserved g c = rows_counted _ _ _ _ _ _ _ c.loop-row.invariant c.count_in_row.ensures
+
+pub returns : goal.returns
+returns g c =
+    let number = g.T.CountMinValue.number in
+    let all : c.loop-row.row ≡ length c.args.row_seeds.now = omega (arith, c.loop-row-test.false, c.loop-row.auto.row-end) in
+    subst (λ (n : ℕ). RowsCounted c.args.buckets (λ r. bucket_by c.args.buckets (slice_index c.args.row_seeds.now r)) (map (fed_bytes g.I.Hash.hash_input) c.args.items.now) n (map number c.args.counts.now) (map number c.loop-row.counts)) all c.loop-row.invariant

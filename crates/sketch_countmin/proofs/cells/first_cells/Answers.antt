@@ -4,6 +4,7 @@ use Rattle.sketch_countmin.specs.Buckets.{bucket_by}
 use Rattle.sketch_countmin.proofs.RowSteps.{bucket_found, read_cell}
 use Rattle.sketch_countmin.proofs.RowCounts.{read_item}
 use Rattle.sketch_countmin.proofs.Estimates.{estimates_more}
+use borrow.Author.Rules.{scaled_Fits}
 use Rattle.sketch_countmin.proofs.cells.first_cells.Goals as goal
 
 pub loop-i-preserved : goal.loop-i-preserved
@@ -20,3 +21,6 @@ loop-i-preserved g c =
     sym (read_cell number c.args.counts.now c.rem-bucket.result c.index-counts-bucket.result fits c.index-counts-bucket.is) ∙ ap (λ (k : ℕ). get_or (map number c.args.counts.now) k (pos 0)) at in
     estimates_more number (λ j z. z ≡ get_or (map number c.args.counts.now) (bucket_by d c.args.seed (get_or items j [])) (pos 0)) c.loop-i.cells n c.index-counts-bucket.result
     (omega (arith, c.loop-i-test.true, c.loop-i.auto.cells, c.requires.same)) c.loop-i.invariant here
+
+pub offset_bounds-cells-i : goal.offset_bounds-cells-i
+offset_bounds-cells-i g c = scaled_Fits c.loop-i.i (length c.args.cells.now) _ (omega (arith, c.loop-i-test.true, c.requires.same)) (search)

@@ -5,6 +5,7 @@ use Rattle.sketch_countmin.specs.Cells.{flat_at, IsLesser}
 use Rattle.sketch_countmin.proofs.RowSteps.{bucket_found, read_cell, lesser_here}
 use Rattle.sketch_countmin.proofs.RowCounts.{read_item}
 use Rattle.sketch_countmin.proofs.Estimates.{estimates_more, behind_stay}
+use borrow.Author.Rules.{scaled_Fits}
 use Rattle.sketch_countmin.proofs.cells.lesser_cells.Goals as goal
 
 pub loop-i-init : goal.loop-i-init
@@ -34,3 +35,12 @@ loop-i-preserved g c =
       rest = λ j le. behind_stay number c.loop-i.least n c.min.result j le ∙ c.loop-i.invariant.rest j (omega arith);
       start = c.loop-i.invariant.start;
     }
+
+pub offset_bounds-least-i : goal.offset_bounds-least-i
+offset_bounds-least-i g c = scaled_Fits c.loop-i.i (length c.args.least.now) _ (omega (arith, c.loop-i-test.true, c.requires.same)) (search)
+
+pub bounds-least-i-in-loop-i : goal.bounds-least-i-in-loop-i
+bounds-least-i-in-loop-i g c = omega (arith, c.loop-i-test.true, c.loop-i.auto.least, c.requires.same)
+
+pub offset_bounds-least-i-in-loop-i : goal.offset_bounds-least-i-in-loop-i
+offset_bounds-least-i-in-loop-i g c = scaled_Fits c.loop-i.i (length c.args.least.now) _ (omega (arith, c.loop-i-test.true, c.requires.same)) (search)

@@ -31,3 +31,8 @@ returns g c =
     let num = g.T.CountMinValue.number in
     let long : length (map num c.args.first.now) ≡ length (map num c.args.second.now) = omega (arith, length-map c.args.first.now num, length-map c.args.second.now num, c.if-first-second.false) in
     (λ _. ext_get_or (pos 0) (map num c.args.first.now) (map num c.args.second.now) long (λ k lt. c.loop-place.invariant k (omega (arith, lt, length-map c.args.first.now num, c.loop-place-test.false))), λ _. refl)
+
+pub returns-then-first-second : goal.returns-then-first-second
+returns-then-first-second g c =
+    let num = g.T.CountMinValue.number in
+    (λ h. absurd (false≢true h), λ e. absurd (c.if-first-second.true (sym (length-map c.args.first.now num) ∙ (ap length e ∙ length-map c.args.second.now num))))

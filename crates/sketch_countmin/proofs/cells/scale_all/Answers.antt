@@ -1,7 +1,8 @@
-use Rattle.std.proofs.Common.{ℕ, ap, ◌∙◌, arith, get_or}
+use Rattle.std.proofs.Common.{ℕ, ap, ◌∙◌, arith, get_or, length}
 use Rattle.sketch_countmin.specs.Values.{scaled}
-use Rattle.sketch_countmin.proofs.CellMaps.{map_more_here}
+use Rattle.sketch_countmin.proofs.CellMaps.{map_more_here, mapped_all}
 use Rattle.sketch_countmin.proofs.Decays.{scaled_whole}
+use borrow.Author.Rules.{scaled_Fits}
 use Rattle.sketch_countmin.proofs.cells.scale_all.Goals as goal
 
 pub loop-value-preserved : goal.loop-value-preserved
@@ -12,3 +13,9 @@ loop-value-preserved g c =
 pub returns-then-numerator-denominator : goal.returns-then-numerator-denominator
 returns-then-numerator-denominator g c =
     scaled_whole g.T.CountMinValue.number g.met.T.UnsignedCountMinValue.unsigned c.args.numerator c.args.denominator c.requires.positive c.if-numerator-denominator.true c.args.counts.now
+
+pub returns : goal.returns
+returns g c = c.loop-value.invariant ∙ mapped_all g.T.CountMinValue.number (scaled c.args.numerator c.args.denominator) c.args.counts.now c.loop-value.value-index c.loop-value-test.false
+
+pub offset_bounds-counts-value-index : goal.offset_bounds-counts-value-index
+offset_bounds-counts-value-index g c = scaled_Fits c.loop-value.value-index (length c.args.counts.now) _ c.loop-value-test.true (search)

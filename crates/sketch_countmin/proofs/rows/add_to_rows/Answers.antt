@@ -1,4 +1,5 @@
-use Rattle.std.proofs.Common.{◌≡◌, ℕ, List, ℤ, length, map, subst, ◌∙◌}
+use Rattle.std.proofs.Common.{◌≡◌, ℕ, List, ℤ, length, map, sym, subst, ◌∙◌}
+use Rattle.std.proofs.lemmas.Bool.{false≢true}
 use Rattle.sketch_countmin.specs.Buckets.{buckets_by}
 use Rattle.sketch_countmin.specs.Cells.{RowsAdded}
 use Rattle.sketch_countmin.proofs.rows.add_to_rows.Goals as goal
@@ -27,3 +28,39 @@ returns-in-Some-3 g c = by_item c.args.buckets (g.T.CountMinValue.number c.args.
 
 pub returns-in-None : goal.returns-in-None
 returns-in-None g c = c.add_long.ensures
+
+pub add_to_each-requires-clause-shape : goal.add_to_each-requires-clause-shape
+add_to_each-requires-clause-shape g c = c.requires.shape
+
+pub add_to_each-requires-clause-room : goal.add_to_each-requires-clause-room
+add_to_each-requires-clause-room g c = c.requires.room
+
+pub add_to_four-requires-clause-shape : goal.add_to_four-requires-clause-shape
+add_to_four-requires-clause-shape g c = c.requires.shape
+
+pub add_to_four-requires-clause-room : goal.add_to_four-requires-clause-room
+add_to_four-requires-clause-room g c = c.requires.room
+
+pub add_to_each-requires-in-Some-3-clause-shape : goal.add_to_each-requires-in-Some-3-clause-shape
+add_to_each-requires-in-Some-3-clause-shape g c = c.requires.shape
+
+pub add_to_each-requires-in-Some-3-clause-room : goal.add_to_each-requires-in-Some-3-clause-room
+add_to_each-requires-in-Some-3-clause-room g c = c.requires.room
+
+pub add_long-requires-clause-shape : goal.add_long-requires-clause-shape
+add_long-requires-clause-shape g c = c.requires.shape
+
+pub add_long-requires-clause-room : goal.add_long-requires-clause-room
+add_long-requires-clause-room g c = c.requires.room
+
+pub add_to_four-requires-clause-power : goal.add_to_four-requires-clause-power
+add_to_four-requires-clause-power g c = sym c.if-not-is_power_of_two.ensures
+
+pub add_to_four-requires-clause-four : goal.add_to_four-requires-clause-four
+add_to_four-requires-clause-four g c = c.if-row_seeds-eq4.true
+
+pub add_to_each-requires-in-Some-3-clause-masked : goal.add_to_each-requires-in-Some-3-clause-masked
+add_to_each-requires-in-Some-3-clause-masked g c = λ _. sym c.if-not-is_power_of_two.ensures
+
+pub add_to_each-requires-clause-masked : goal.add_to_each-requires-clause-masked
+add_to_each-requires-clause-masked g c = λ masked. absurd (false≢true masked)

@@ -1,4 +1,5 @@
-use Rattle.std.proofs.Common.{◌≡◌, ℕ, List, ℤ, length, map, subst, ◌∙◌}
+use Rattle.std.proofs.Common.{◌≡◌, ℕ, List, ℤ, length, map, sym, subst, ◌∙◌}
+use Rattle.std.proofs.lemmas.Bool.{false≢true}
 use Rattle.sketch_countmin.specs.Buckets.{buckets_by}
 use Rattle.sketch_countmin.specs.Cells.{IsLeastOf}
 use Rattle.sketch_countmin.proofs.rows.least_cell.Goals as goal
@@ -18,3 +19,15 @@ returns-in-Some-3 g c = by_item c.args.buckets (map g.T.CountMinValue.number c.a
 
 pub returns-in-None : goal.returns-in-None
 returns-in-None g c = c.least_long.ensures
+
+pub least_of_each-requires : goal.least_of_each-requires
+least_of_each-requires g c = record { masked = λ masked. absurd (false≢true masked); short = c.in-Some.ensures.few; rows = c.requires.rows; shape = c.requires.shape }
+
+pub least_of_each-requires-in-Some-3 : goal.least_of_each-requires-in-Some-3
+least_of_each-requires-in-Some-3 g c = record { masked = λ _. sym c.if-not-is_power_of_two.ensures; short = c.in-Some.ensures.few; rows = c.requires.rows; shape = c.requires.shape }
+
+pub least_of_four-requires : goal.least_of_four-requires
+least_of_four-requires g c = record { power = sym c.if-not-is_power_of_two.ensures; short = c.in-Some.ensures.few; four = c.if-row_seeds-eq4.true; shape = c.requires.shape }
+
+pub least_long-requires : goal.least_long-requires
+least_long-requires g c = record { shape = c.requires.shape; rows = c.requires.rows }

@@ -59,3 +59,8 @@ returns g c =
     let bucket = λ (r : ℕ). bucket_by c.args.buckets (slice_index c.args.row_seeds.now r) (fed_bytes g.I.Hash.hash_input c.args.item.now) in
     let all : c.loop-row.row ≡ length c.args.row_seeds.now = omega (arith, c.requires.rows) in
     subst (λ (n : ℕ). IsLeastOf c.args.buckets (map g.T.CountMinValue.number c.args.counts.now) bucket n (g.T.CountMinValue.number c.loop-row.least)) all c.loop-row.invariant.least
+
+pub offset_bounds-counts-first : goal.offset_bounds-counts-first
+offset_bounds-counts-first g c =
+    let place : c.rem-first.result < length c.args.counts.now = inside_first c.args.buckets (length c.args.row_seeds.now) c.rem-first.result (length c.args.counts.now) c.requires.shape c.requires.rows c.rem-first.ensures.below in
+    omega (arith, place)

@@ -1,4 +1,5 @@
-use Rattle.std.proofs.Common.{arith, ap, subst, ◌∙◌, ◌≡◌, ℕ, ◌+◌, ◌≤◌, map, length, ℤ, pos, unsigned_abs, List, slice_index}
+use Rattle.std.proofs.Common.{arith, ap, subst, ◌∙◌, ◌≡◌, ℕ, ◌+◌, ◌≤◌, map, length, ℤ, pos, unsigned_abs, to_z, of_z, ◌+ℤ◌, List, slice_index}
+use Rattle.std.specs.Int.{w128}
 use Rattle.std.proofs.lemmas.Int.{ints}
 use Rattle.std.proofs.lemmas.List.{length-map}
 use Rattle.sketch_base.specs.Hashes.{fed_bytes}
@@ -7,12 +8,13 @@ use Rattle.sketch_countmin.specs.Cells.{RowsCounted}
 use Rattle.sketch_countmin.specs.State.{CountState, CountsAll}
 use Rattle.sketch_countmin.specs.Table.{state_of}
 use Rattle.sketch_countmin.proofs.Places.{lent_shape, room_for_items}
+use Rattle.sketch_countmin.proofs.Numbers.{gain_fits, gain_is}
 use Rattle.sketch_countmin.proofs.Tables.{is_state}
 use Rattle.sketch_countmin.proofs.Updates.{written_back, length_own}
 use Rattle.sketch_countmin.proofs.BatchUpdates.{rows_counted_own, all_counted, counts_all_here}
 use Rattle.sketch_countmin.proofs.count_min_sketch.CountMinSketch.count_fitting.Given as given
 use Rattle.sketch_countmin.proofs.count_min_sketch.CountMinSketch.count_fitting.Goals as goal
-use Rattle.sketch_countmin.proofs.count_min_sketch.CountMinSketch.count_fitting.Goals.{After-count_in_rows}
+use Rattle.sketch_countmin.proofs.count_min_sketch.CountMinSketch.count_fitting.Goals.{After-count_in_rows, After-to_number}
 
 -- the bytes of all items
 abbrev fed : (g : given.Over) → After-count_in_rows g → List (List ℕ)
@@ -32,12 +34,16 @@ total g c t e =
     let own : unsigned_abs (g.T.CountMinValue.number c.self.inside.total) ≡ c.args.self.now.total = ap (λ (s : CountState). s.total) c.self.view_is in
     (omega (arith, ints, e, length-map c.args.items.now (fed_bytes g.I.Hash.hash_input)), omega (arith, ints, e, own, c.requires))
 
+-- what the code computes, without the casts
+gain : (g : given.Over) (c : After-to_number g) → to_z w128 (of_z w128 (to_z w128 (of_z w128 c.to_number.result) +ℤ to_z w128 (length c.args.items.now))) ≡ pos (unsigned_abs (g.T.CountMinValue.number c.self.inside.total) + length c.args.items.now)
+gain g c = gain_is c.to_number.result _ _ (c.to_number.ensures.value ∙ c.self.invariant.total_is) c.to_number.ensures.narrow (omega arith)
+
 pub invariant_of-self : goal.invariant_of-self
 invariant_of-self g c =
     let number = g.T.CountMinValue.number in
     let i = c.self.inside in
     let now = (goal.at.invariant_of-self g c).After-count_in_rows in
-    let sum = total g now (number c.from_number_in_range-self-inside.result) (omega (arith, ints, c.from_number_in_range-self-inside.ensures, c.to_number.ensures.value, c.to_number.ensures.narrow, c.self.invariant.total_is)) in
+    let sum = total g now (number c.from_number_in_range-self-inside.result) (c.from_number_in_range-self-inside.ensures ∙ gain g (goal.at.invariant_of-self g c).After-to_number) in
     rw (written_back i.counts.len c.count_in_rows.new.counts i.counts.items (c.count_in_rows.auto.counts ∙ c.deref_mut.ensures.len))
     (all_counted _ _ _ _ (number i.total) (number c.from_number_in_range-self-inside.result) (map number i.counts.items) _ _ (fed g now) c.self.invariant (counted g now)
     (length_own number i.counts.items c.deref_mut.result.now _ c.deref_mut.ensures.value c.count_in_rows.auto.counts) sum.0 sum.1)
@@ -47,7 +53,7 @@ returns-clause-counted g c =
     let number = g.T.CountMinValue.number in
     let i = c.self.inside in
     let now = (goal.at.returns-clause-counted g c).After-count_in_rows in
-    let sum = total g now (number c.from_number_in_range-self-inside.result) (omega (arith, ints, c.from_number_in_range-self-inside.ensures, c.to_number.ensures.value, c.to_number.ensures.narrow, c.self.invariant.total_is)) in
+    let sum = total g now (number c.from_number_in_range-self-inside.result) (c.from_number_in_range-self-inside.ensures ∙ gain g (goal.at.returns-clause-counted g c).After-to_number) in
     rw (written_back i.counts.len c.count_in_rows.new.counts i.counts.items (c.count_in_rows.auto.counts ∙ c.deref_mut.ensures.len))
     (subst (λ (s : CountState). CountsAll s (fed g now) (state_of i.row_seeds.items i.buckets i.seed (number c.from_number_in_range-self-inside.result) (map number c.count_in_rows.new.counts))) c.self.view_is
     (counts_all_here _ _ _ _ (number i.total) (number c.from_number_in_range-self-inside.result) (map number i.counts.items) _ (fed g now) c.self.invariant (counted g now) (ap unsigned_abs sum.0)))
@@ -66,5 +72,7 @@ count_in_rows-requires-clause-room g c =
 pub from_number_in_range-self-inside-requires : goal.from_number_in_range-self-inside-requires
 from_number_in_range-self-inside-requires g c =
     let own : unsigned_abs (g.T.CountMinValue.number c.self.inside.total) ≡ c.args.self.now.total = ap (λ (s : CountState). s.total) c.self.view_is in
-    let total : c.to_number.result ≡ pos c.args.self.now.total = c.to_number.ensures.value ∙ (c.self.invariant.total_is ∙ ap pos own) in
-    (omega (arith, ints, total, c.to_number.ensures.narrow, g.met.T.CountMinValue.zero_fits), omega (arith, ints, total, c.to_number.ensures.narrow, c.requires))
+    rw (gain g c) (omega (arith, ints, g.met.T.CountMinValue.zero_fits), omega (arith, ints, own, c.requires))
+
+pub overflow_add-to_number : goal.overflow_add-to_number
+overflow_add-to_number g c = gain_fits c.to_number.result (length c.args.items.now) c.to_number.ensures.narrow (omega arith)

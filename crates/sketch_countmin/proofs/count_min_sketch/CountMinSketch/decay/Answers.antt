@@ -34,3 +34,6 @@ returns-clause-state g c = is_state _ _ _ _ _ _ (invariant_of-self g c)
 
 pub returns-clause-stands : goal.returns-clause-stands
 returns-clause-stands g c = λ h s. subst (λ (new : CountState). StandsFor new (Decay h c.args.numerator c.args.denominator)) (sym (returns-clause-value g c)) (stands_decayed c.args.self.now c.args.numerator c.args.denominator h s)
+
+pub scale_nonnegative-self-inside-requires-clause-nonnegative : goal.scale_nonnegative-self-inside-requires-clause-nonnegative
+scale_nonnegative-self-inside-requires-clause-nonnegative g c = g.met.T.UnsignedCountMinValue.unsigned c.self.inside.total

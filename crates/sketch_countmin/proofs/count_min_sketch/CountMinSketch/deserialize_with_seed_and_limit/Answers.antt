@@ -66,3 +66,13 @@ returns-then-preamble-clause-stands g c = IfOk-weaker c.empty.result _ _ (restor
 
 pub returns-else-preamble-clause-stands : goal.returns-else-preamble-clause-stands
 returns-else-preamble-clause-stands g c = IfOk-weaker c.with_cells_of.result _ _ (restores g.T.CountMinValue.least g.T.CountMinValue.greatest c.args.seed c.args.image.now) (returns-else-preamble-clause-image g c)
+
+pub with_cells_of-requires : goal.with_cells_of-requires
+with_cells_of-requires g c =
+    let read = c.in_ok-preamble.ensures in
+    record { fields = read.fields; full = c.if-preamble.false; cells = read.cells c.if-preamble.false; some_hashes = read.some_hashes; some_buckets = read.some_buckets; few_cells = read.few_cells; seeded = read.seeded }
+
+pub empty-requires : goal.empty-requires
+empty-requires g c =
+    let read = c.in_ok-preamble.ensures in
+    record { some_hashes = read.some_hashes; some_buckets = read.some_buckets; few_cells = read.few_cells; seeded = read.seeded }

@@ -2,6 +2,7 @@ use Rattle.std.proofs.Common.{arith, subst, ℕ, ◌<◌, List}
 use Rattle.sketch_base.specs.Hashes.{fed_bytes}
 use Rattle.sketch_countmin.specs.State.{CountState, IsLeastCell}
 use Rattle.sketch_countmin.proofs.Estimates.{least_own, least_here}
+use Rattle.sketch_countmin.proofs.Places.{lent_shape}
 use Rattle.sketch_countmin.proofs.Histories.{enclosed, raised_by_others}
 use Rattle.sketch_countmin.proofs.count_min_sketch.CountMinSketch.estimate.Goals as goal
 
@@ -23,3 +24,6 @@ pub returns-clause-raised : goal.returns-clause-raised
 returns-clause-raised g c =
     let buckets : 0 < c.args.self.now.buckets = subst (λ (s : CountState). 0 < s.buckets) c.self.view_is (omega (arith, c.self.invariant.some_buckets)) in
     λ h stands exact. raised_by_others c.args.self.now h (fed_bytes g.I.Hash.hash_input c.args.item) (g.T.CountMinValue.number c.least_cell.result) buckets (returns-clause-least g c) stands exact
+
+pub least_cell-requires-clause-shape : goal.least_cell-requires-clause-shape
+least_cell-requires-clause-shape g c = lent_shape g.T.CountMinValue.number c.self.inside.buckets c.self.inside.counts.items _ c.self.inside.row_seeds.items _ c.deref.ensures.value c.deref-2.ensures.value c.self.invariant.size

@@ -77,3 +77,12 @@ returns-in_default-clause-overflow g c = λ same above. ap Err c.invalid_argumen
 
 pub returns-clause-mismatch : goal.returns-clause-mismatch
 returns-clause-mismatch g c = λ different. absurd (different (c.if-not-has_shape_of.ensures.0 refl))
+
+pub returns-in_default-clause-succeeds : goal.returns-in_default-clause-succeeds
+returns-in_default-clause-succeeds g c = λ same fits.
+    let own : unsigned_abs (g.T.CountMinValue.number c.self.inside.total) ≡ c.args.self.now.total = ap (λ (s : CountState). s.total) c.self.view_is in
+    let others : unsigned_abs (g.T.CountMinValue.number c.other.inside.total) ≡ c.args.other.now.total = ap (λ (s : CountState). s.total) c.other.view_is in
+    absurd (c.in_default.ensures (omega (arith, ints, g.met.T.CountMinValue.zero_fits, c.self.invariant.total_is, c.other.invariant.total_is), omega (arith, ints, own, others, fits, c.self.invariant.total_is, c.other.invariant.total_is)))
+
+pub returns-then-not-has_shape_of-clause-succeeds : goal.returns-then-not-has_shape_of-clause-succeeds
+returns-then-not-has_shape_of-clause-succeeds g c = λ same fits. c.if-not-has_shape_of.ensures.1 same

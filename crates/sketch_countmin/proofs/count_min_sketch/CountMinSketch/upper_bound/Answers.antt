@@ -7,9 +7,10 @@ use Rattle.sketch_base.specs.Hashes.{fed_bytes}
 use Rattle.sketch_countmin.specs.Values.{InRange}
 use Rattle.sketch_countmin.specs.State.{IsLeastCell, margin}
 use Rattle.sketch_countmin.proofs.Estimates.{least_unique, min_below, min_above}
+use Rattle.sketch_countmin.proofs.Numbers.{whole_is, gain_fits}
 use Rattle.sketch_countmin.proofs.count_min_sketch.CountMinSketch.upper_bound.Given as given
 use Rattle.sketch_countmin.proofs.count_min_sketch.CountMinSketch.upper_bound.Goals as goal
-use Rattle.sketch_countmin.proofs.count_min_sketch.CountMinSketch.upper_bound.Goals.{After-from_number}
+use Rattle.sketch_countmin.proofs.count_min_sketch.CountMinSketch.upper_bound.Goals.{After-from_number, After-to_number}
 
 -- what the code computes, without the casts
 sum_is : (x y : ℤ) (t d : ℕ) → x ≡ pos t → unsigned_abs x < 2 ^ 64 → unsigned_abs y < 2 ^ 64
@@ -49,3 +50,30 @@ returns-in-None g c = λ estimate least.
     let low : g.T.CountMinValue.least ≤ℤ (estimate +ℤ pos (margin c.args.self.now)) = omega (arith, ints, found g now estimate least, c.to_number-2.ensures.in_range.0, c.to_number-2.ensures.value) in
     ap g.T.CountMinValue.number c.MAX.ensures ∙ (g.met.T.CountMinValue.max_is
     ∙ min_above g.T.CountMinValue.least (estimate +ℤ pos (margin c.args.self.now)) g.T.CountMinValue.greatest low (λ fits. c.in-None.ensures (subst (λ (z : ℤ). InRange g.T.CountMinValue.least g.T.CountMinValue.greatest z) (sym (sum g now estimate least)) fits)))
+
+-- the total is a number of 64 bits
+small : (g : given.Over) (c : After-to_number g) → unsigned_abs (g.T.CountMinValue.number c.self.inside.total) < 2 ^ 64
+small g c = omega (arith, ints, c.to_number.ensures.value, c.to_number.ensures.narrow)
+
+whole : (g : given.Over) (c : After-to_number g) → to_z w128 (of_z w128 c.to_number.result) ≡ pos (unsigned_abs (g.T.CountMinValue.number c.self.inside.total))
+whole g c = whole_is c.to_number.result _ (c.to_number.ensures.value ∙ c.self.invariant.total_is) (small g c)
+
+-- and the margin one of 126
+margin_fits : (g : given.Over) (c : After-to_number g) → unsigned_abs (g.T.CountMinValue.number c.self.inside.total) * 2718281828459045235 / (1000000000000000000 * c.divisor.result) < 2 ^ 126
+margin_fits g c = omega (arith, small g c, div-le_self (unsigned_abs (g.T.CountMinValue.number c.self.inside.total) * 2718281828459045235) (1000000000000000000 * c.divisor.result))
+
+pub overflow_add-bound : goal.overflow_add-bound
+overflow_add-bound g c =
+    let now = (goal.at.overflow_add-bound g c).After-to_number in
+    rw (whole g now) (gain_fits c.to_number-2.result _ c.to_number-2.ensures.narrow (margin_fits g now))
+
+pub overflow_cast-bound : goal.overflow_cast-bound
+overflow_cast-bound g c =
+    let now = (goal.at.overflow_cast-bound g c).After-to_number in
+    rw (whole g now) (record { sfits = omega (arith, margin_fits g now) })
+
+pub overflow_cast-margin : goal.overflow_cast-margin
+overflow_cast-margin g c = rw (whole g c) (tt, record { fits = omega (arith, small g c) })
+
+pub overflow_mul-margin : goal.overflow_mul-margin
+overflow_mul-margin g c = rw (whole g c) (record { fits = omega (arith, small g c) })

@@ -1,4 +1,4 @@
-use Rattle.std.proofs.Common.{◌≡◌, ◌≢◌, ℕ, Option, None, ◌*◌, ◌<◌, ◌≤◌, ◌^◌, refl, sym, subst, ◌∙◌}
+use Rattle.std.proofs.Common.{◌≡◌, ◌≢◌, ℕ, Option, None, ◌*◌, ◌<◌, ◌≤◌, ◌^◌, refl, sym, subst, ◌∙◌, arith}
 use Rattle.std.specs.Prelude.{IfErr}
 use Rattle.std.proofs.lemmas.Bool.{ne_eqb, le-ltb, lt-leb}
 use Rattle.sketch_base.specs.Errors.{refusal_of}
@@ -25,3 +25,20 @@ returns-clause-accepted g c = λ made. passes g c
 
 pub returns-clause-refused : goal.returns-clause-refused
 returns-clause-refused g c = subst (λ (fault : Option Fault). IfErr c.empty.result (λ e. e ≡ refusal_of fault)) (sym (passes g c)) c.empty.ensures.err
+
+pub empty-requires : goal.empty-requires
+empty-requires g c = record {
+  some_hashes = omega (arith, c.if-num_hashes-eq0.false);
+  some_buckets = c.if-num_buckets-lt-MIN_NUM_BUCKETS.false;
+  few_cells = c.if-size-ge-MAX_TABLE_ENTRIES.false;
+  seeded = λ zero. c.in_ok-compute_seed_hash.ensures.value.1 (c.in_ok-compute_seed_hash.ensures.value.0 ∙ zero);
+}
+
+pub returns-clause-ok : goal.returns-clause-ok
+returns-clause-ok g c = c.empty.ensures.ok
+
+pub returns-clause-state : goal.returns-clause-state
+returns-clause-state g c = c.empty.ensures.state
+
+pub returns-clause-stands : goal.returns-clause-stands
+returns-clause-stands g c = c.empty.ensures.stands
