@@ -17,7 +17,10 @@ pub fn play(trial: &mut Trial, calls: &str) -> Result<(), SetupFailed> {
         "frequent" => frequent::questions(trial),
         "filter" => filter::filter(trial),
         "counts" => counts::counts(trial),
-        "session" => session::session(trial),
+        "session" => {
+            session::session(trial);
+            Ok(())
+        }
         _ => play_parts(trial, calls),
     }
 }

@@ -4,11 +4,10 @@ use crate::output::{
     begin_frequent, begin_values, write_bounds, write_error, write_outcome, write_values,
 };
 use crate::table::{Map, free_table, grow, purge, put, put_ref};
-use crate::trial::{SetupFailed, Trial, counted, write_line, write_words};
+use crate::trial::{SetupFailed, Trial, counted};
 use datasketches::error::Error;
 use datasketches::frequencies::{ErrorType, FrequentItemsSketch, Row};
 use std::alloc::Global;
-use std::fmt::Write;
 use test_items::{Item, MARKED, NUM_LETTERS};
 
 /// A sketch of items of a kind.
@@ -37,7 +36,7 @@ fn write_asked<const KIND: u8>(trial: &mut Trial, sketch: &Sketch<KIND>) {
     for number in ASKED {
         write_bounds(trial, sketch, &Item::of(number));
     }
-    write_line!(trial);
+    trial.write("\n");
 }
 
 /// A sketch of one item.
@@ -48,10 +47,10 @@ fn of_one<const KIND: u8>(alloc: Global, number: u64, count: u64) -> Result<Sket
 }
 
 /// Updates of a sketch by value and by reference.
-fn update_all<const KIND: u8>(sketch: &mut Sketch<KIND>) -> Result<(), Error> {
-    sketch.update_with_count(Item::of(2), 5)?;
-    sketch.update_ref(&Item::of(1 + NUM_LETTERS))?;
-    sketch.update_with_count_ref(&Item::of(3), 9)
+fn update_all<const KIND: u8>(trial: &mut Trial, sketch: &mut Sketch<KIND>) {
+    trial.check(sketch.update_with_count(Item::of(2), 5));
+    trial.check(sketch.update_ref(&Item::of(1 + NUM_LETTERS)));
+    trial.check(sketch.update_with_count_ref(&Item::of(3), 9));
 }
 
 /// Merges a sketch of one item.
@@ -77,22 +76,22 @@ fn restored<const KIND: u8>(alloc: Global, sketch: &Sketch<KIND>) -> Result<Sket
 }
 
 /// Seven items of weight 2: the seventh is one counter too many.
-fn purged<const KIND: u8>(sketch: &mut Sketch<KIND>) -> Result<(), Error> {
+fn update_to_purge<const KIND: u8>(trial: &mut Trial, sketch: &mut Sketch<KIND>) {
     sketch.reset();
     for number in 1..=7 {
-        sketch.update_with_count(Item::of(number), 2)?;
+        trial.check(sketch.update_with_count(Item::of(number), 2));
     }
-    Ok(())
 }
 
 /// The items whose lower bound is above 1.
 fn write_rows<const KIND: u8>(trial: &mut Trial, sketch: &Sketch<KIND>) -> Result<(), Error> {
     let rows = sketch.frequent_items_with_threshold(ErrorType::NoFalsePositives, 1)?;
-    write_words!(trial, "rows");
+    trial.write("rows");
     for row in &rows {
-        write_words!(trial, " {}={}", row.item().number(), row.estimate());
+        trial.write_value(" ", &row.item().number());
+        trial.write_value("=", &row.estimate());
     }
-    write_line!(trial);
+    trial.write("\n");
     Ok(())
 }
 
@@ -109,24 +108,23 @@ fn write_restored<const KIND: u8>(trial: &mut Trial, sketch: &Sketch<KIND>) -> R
 }
 
 /// Updates by value and by reference, a merge, a clone, rows and an image, of items that are not marked.
-fn change_all<const KIND: u8>(
-    trial: &mut Trial,
-    sketch: &mut Sketch<KIND>,
-) -> Result<(), SetupFailed> {
-    update_all(sketch)?;
+fn change_all<const KIND: u8>(trial: &mut Trial, sketch: &mut Sketch<KIND>) {
+    update_all(trial, sketch);
     write_asked(trial, sketch);
-    merge_one(trial.alloc, sketch, 2 + NUM_LETTERS, 20)?;
+    let merged = merge_one(trial.alloc, sketch, 2 + NUM_LETTERS, 20);
+    trial.check(merged);
     write_asked(trial, sketch);
-    write_restored(trial, sketch)?;
-    purged(sketch)?;
+    let restored = write_restored(trial, sketch);
+    trial.check(restored);
+    update_to_purge(trial, sketch);
     write_asked(trial, sketch);
-    Ok(())
 }
 
 /// The same of a sketch of one item.
 fn sketch<const KIND: u8>(trial: &mut Trial) -> Result<(), SetupFailed> {
     let mut sketch = of_one::<KIND>(trial.alloc, 1, 1)?;
-    change_all(trial, &mut sketch)
+    change_all(trial, &mut sketch);
+    Ok(())
 }
 
 /// An update and a merge that clone a marked item.
@@ -154,42 +152,39 @@ fn marked<const KIND: u8>(trial: &mut Trial) -> Result<(), SetupFailed> {
 }
 
 /// What a table says, also of a purge of its clone, and in more slots.
-fn write_tables<const KIND: u8>(trial: &mut Trial, map: &mut Map<KIND>) -> Result<(), SetupFailed> {
-    write_table(trial, map)?;
-    write_purged(trial, map)?;
-    grow(map, 32)?;
-    Ok(write_table(trial, map)?)
+fn write_tables<const KIND: u8>(trial: &mut Trial, map: &mut Map<KIND>) {
+    write_table(trial, map);
+    write_purged(trial, map);
+    trial.check(grow(map, 32));
+    write_table(trial, map);
 }
 
 /// The calls of the table.
 fn table<const KIND: u8>(trial: &mut Trial) -> Result<(), SetupFailed> {
-    let mut map = filled::<KIND>(trial.alloc)?;
-    write_tables(trial, &mut map)
+    let mut map = free_table(trial.alloc, 8)?;
+    fill::<KIND>(trial, &mut map);
+    write_tables(trial, &mut map);
+    Ok(())
 }
 
-/// A table of five items, two of them added to by reference, and a sixth.
-fn filled<const KIND: u8>(alloc: Global) -> Result<Map<KIND>, Error> {
-    let mut map = free_table(alloc, 8)?;
+/// Puts five items into a table, two of them added to by reference, and a sixth.
+fn fill<const KIND: u8>(trial: &mut Trial, map: &mut Map<KIND>) {
     for number in [1, 2, 1 + NUM_LETTERS, 4, MARKED] {
-        put(&mut map, Item::of(number), 2);
+        put(map, Item::of(number), 2);
     }
     for number in [2, 5, MARKED] {
-        put_ref(&mut map, &Item::of(number), 1)?;
+        trial.check(put_ref(map, &Item::of(number), 1));
     }
-    Ok(map)
 }
 
 /// A purge of a clone.
-fn write_purged<const KIND: u8>(trial: &mut Trial, map: &Map<KIND>) -> Result<(), Error> {
+fn write_purged<const KIND: u8>(trial: &mut Trial, map: &Map<KIND>) {
     match map.try_clone() {
         Ok(mut clone) => {
             write_values(trial, "purged", &[purge(&mut clone)]);
-            write_table(trial, &clone)
+            write_table(trial, &clone);
         }
-        Err(e) => {
-            write_error(trial, e);
-            Ok(())
-        }
+        Err(e) => write_error(trial, e),
     }
 }
 
@@ -203,24 +198,29 @@ fn sum_of_counts<const KIND: u8>(map: &Map<KIND>) -> u64 {
 }
 
 /// How long the list of entries is.
-fn num_entries<const KIND: u8>(map: &Map<KIND>) -> Result<usize, Error> {
-    Ok(map.active_entries()?.len())
+fn num_entries<const KIND: u8>(trial: &mut Trial, map: &Map<KIND>) -> u64 {
+    match map.active_entries() {
+        Ok(entries) => entries.len() as u64,
+        Err(_) => {
+            trial.failed = true;
+            0
+        }
+    }
 }
 
 /// How many entries there are, the sum of a walk, how long the list of entries is, and some counts.
-fn write_table<const KIND: u8>(trial: &mut Trial, map: &Map<KIND>) -> Result<(), Error> {
+fn write_table<const KIND: u8>(trial: &mut Trial, map: &Map<KIND>) {
     let numbers = [
         map.num_active() as u64,
         map.len() as u64,
         sum_of_counts(map),
-        num_entries(map)? as u64,
+        num_entries(trial, map),
     ];
     begin_values(trial, "table", &numbers);
     for number in ASKED {
-        write_words!(trial, " {}", map.get_counted(&Item::of(number)).0);
+        trial.write_value(" ", &map.get_counted(&Item::of(number)).0);
     }
-    write_line!(trial);
-    Ok(())
+    trial.write("\n");
 }
 
 /// The rows of a sketch of seven items from this number on, of which the last two are heavy: the seventh takes 1 from all.

@@ -39,16 +39,15 @@ fn main(rt: HostRuntime) -> ExitCode {
     };
     let mut places = Vec::new(rt.alloc());
     for word in words {
-        let Ok(place) = word.parse::<usize>() else {
-            return ExitCode::from(3);
-        };
-        if places.push(place).is_err() {
-            return ExitCode::from(3);
+        match word.parse::<usize>() {
+            Ok(place) => trial.check(places.push(place)),
+            Err(_) => trial.failed = true,
         }
     }
     let played = play(&mut trial, name.as_str(), &places);
+    trial.check(played);
     match trial.text() {
-        Ok(text) if played.is_ok() && rt.print(text).is_ok() => ExitCode::SUCCESS,
+        Ok(text) if rt.print(text).is_ok() => ExitCode::SUCCESS,
         _ => ExitCode::from(3),
     }
 }
@@ -56,7 +55,10 @@ fn main(rt: HostRuntime) -> ExitCode {
 /// Plays the trial of the name.
 fn play(trial: &mut Trial, name: &str, places: &[usize]) -> Result<(), SetupFailed> {
     match name {
-        "session" => session::session(trial, places),
+        "session" => {
+            session::session(trial, places);
+            Ok(())
+        }
         _ => match name.split_once('_') {
             Some((subject, call)) => play_subject(trial, subject, call),
             None => Err(SetupFailed),

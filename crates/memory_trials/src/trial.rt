@@ -1,7 +1,7 @@
 //! What a trial writes, and which of its requests for memory are counted.
 use datasketches::error::Error;
 use std::alloc::{AllocError, AllocFailed, Global};
-use std::fmt;
+use std::fmt::Display;
 
 /// A request for this many bytes says that what follows is counted, and may be refused.
 const BEGIN: usize = 7919;
@@ -33,14 +33,14 @@ impl From<Error> for SetupFailed {
 
 /// A trial under way.
 ///
-/// What is written for it and the marks of its calls answer no failure: it keeps that there was one.
+/// What is written for it, its steps and the marks of its calls answer no failure: it keeps that there was one.
 #[derive(Drop)]
 pub struct Trial {
     pub alloc: Global,
     text: String,
     // They are kept, so that no compiler takes a request and its return for nothing.
     marks: Vec<Vec<u8>>,
-    failed: bool,
+    pub failed: bool,
 }
 
 impl Trial {
@@ -53,10 +53,33 @@ impl Trial {
         }
     }
 
-    /// Says that a call follows that may answer want of memory.
-    pub fn announce_call(&mut self) {
-        if self.text.push_str("call\n").is_err() {
+    /// Writes a text.
+    pub fn write(&mut self, text: &str) {
+        let written = self.text.push_str(text);
+        self.check(written);
+    }
+
+    /// Writes a value behind a text.
+    pub fn write_value<V: Display>(&mut self, before: &str, value: &V) {
+        let written = write!(self.text, "{before}{value}");
+        self.check(written);
+    }
+
+    /// A step that has to succeed.
+    pub fn check<E: Drop>(&mut self, step: Result<(), E>) {
+        if step.is_err() {
             self.failed = true;
+        }
+    }
+
+    /// A text with memory of its own.
+    pub fn string(&mut self, text: &str) -> String {
+        match String::from_str(self.alloc, text) {
+            Ok(string) => string,
+            Err(_) => {
+                self.failed = true;
+                String::new(self.alloc)
+            }
         }
     }
 
@@ -88,32 +111,6 @@ impl Trial {
     }
 }
 
-impl fmt::Write for Trial {
-    fn write_str(&mut self, text: &str) -> fmt::Result {
-        if self.text.write_str(text).is_err() {
-            self.failed = true;
-        }
-        Ok(())
-    }
-}
-
-/// Writes for a trial.
-macro_rules! write_words {
-    ($trial:expr, $($words:tt)*) => {{
-        let _ = write!($trial, $($words)*);
-    }};
-}
-
-/// The same with the end of a line.
-macro_rules! write_line {
-    ($trial:expr) => {{
-        let _ = writeln!($trial);
-    }};
-    ($trial:expr, $($words:tt)*) => {{
-        let _ = writeln!($trial, $($words)*);
-    }};
-}
-
 /// The answer of a call whose requests for memory are counted.
 macro_rules! counted {
     ($trial:expr, $call:expr) => {{
@@ -125,5 +122,3 @@ macro_rules! counted {
 }
 
 pub(crate) use counted;
-pub(crate) use write_line;
-pub(crate) use write_words;

@@ -1,7 +1,6 @@
 //! Calls of the layer under the sketches that take no memory: those that write.
 use crate::output::{fault_of, write_bytes, write_values};
-use crate::texts::text;
-use crate::trial::{SetupFailed, Trial, counted, write_line};
+use crate::trial::{SetupFailed, Trial, counted};
 use datasketches::codec::SketchBytes;
 use datasketches::error::{Error, Fault};
 use datasketches::frequencies::FrequentItemValue;
@@ -17,7 +16,8 @@ pub fn texts(trial: &mut Trial) -> Result<(), SetupFailed> {
     let error = Error::invalid_data(Fault::BadFamily);
     let mut texts = String::with_capacity(trial.alloc, 256)?;
     let written = counted!(trial, write_texts(&mut texts, error));
-    write_line!(trial, "{texts}{written}");
+    trial.write_value(texts.as_str(), &written);
+    trial.write("\n");
     Ok(())
 }
 
@@ -62,18 +62,13 @@ fn write_items(bytes: &mut SketchBytes, text: &String) -> [&'static str; 3] {
     ]
 }
 
-/// The sizes of items, and their writes.
+/// The sizes of items, their writes, and the bytes.
 pub fn items(trial: &mut Trial) -> Result<(), SetupFailed> {
-    let text = text(trial.alloc, "ab")?;
+    let mut bytes = SketchBytes::with_capacity(trial.alloc, 22)?;
+    let text = trial.string("ab");
     let sizes = counted!(trial, sizes_of(&text));
     write_values(trial, "sizes", &sizes);
-    write_items_counted(trial, &text)
-}
-
-/// Writes the items with their requests for memory counted, and then the bytes.
-fn write_items_counted(trial: &mut Trial, text: &String) -> Result<(), SetupFailed> {
-    let mut bytes = SketchBytes::with_capacity(trial.alloc, 22)?;
-    let faults = counted!(trial, write_items(&mut bytes, text));
+    let faults = counted!(trial, write_items(&mut bytes, &text));
     write_values(trial, "writes", &faults);
     write_bytes(trial, &bytes.into_bytes());
     Ok(())

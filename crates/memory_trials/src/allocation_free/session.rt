@@ -1,7 +1,6 @@
 //! A session of no name.
 use crate::output::write_replies;
-use crate::texts::text;
-use crate::trial::{SetupFailed, Trial, counted};
+use crate::trial::{Trial, counted};
 use datasketches::{Command, Reply, Session};
 use std::alloc::Global;
 
@@ -11,10 +10,9 @@ fn reply_of_new(alloc: Global, name: String) -> Reply<String> {
     session.apply(Command::GetStatus { name })
 }
 
-pub fn session(trial: &mut Trial) -> Result<(), SetupFailed> {
+pub fn session(trial: &mut Trial) {
     let alloc = trial.alloc;
-    let name = text(alloc, "f")?;
+    let name = trial.string("f");
     let reply = counted!(trial, reply_of_new(alloc, name));
     write_replies(trial, &[reply]);
-    Ok(())
 }

@@ -1,11 +1,10 @@
 //! Calls of the table of counters that take no memory.
 use crate::output::{write_table, write_values};
 use crate::table::{Map, free_table, purge, put, put_ref};
-use crate::trial::{SetupFailed, Trial, counted, write_line};
+use crate::trial::{SetupFailed, Trial, counted};
 use datasketches::error::Error;
 use datasketches::frequencies::{ReversePurgeItemHashMap, ReversePurgeItemIter};
 use std::alloc::Global;
-use std::fmt::Write;
 use test_items::{FEEDS_NOTHING, Item};
 
 /// Adds amounts for new items and tracked ones, one of them by reference.
@@ -19,7 +18,8 @@ fn add_all(map: &mut ReversePurgeItemHashMap<i64>) -> Result<(), Error> {
 /// Amounts for new items and tracked ones, and a purge.
 pub fn changes(trial: &mut Trial) -> Result<(), SetupFailed> {
     let mut map = free_table(trial.alloc, 8)?;
-    counted!(trial, add_all(&mut map))?;
+    let added = counted!(trial, add_all(&mut map));
+    trial.check(added);
     write_table(trial, &map, &[1, 2, 5]);
     let middle = counted!(trial, purge(&mut map));
     write_values(trial, "purged", &[middle]);
@@ -76,7 +76,9 @@ pub fn questions<const KIND: u8>(trial: &mut Trial) -> Result<(), SetupFailed> {
 pub fn looks(trial: &mut Trial) -> Result<(), SetupFailed> {
     let map = three::<FEEDS_NOTHING>(trial.alloc)?;
     let (absent, looked) = counted!(trial, map.get_counted(&Item::of(4)));
-    write_line!(trial, "{absent} looked {looked}");
+    trial.write_value("", &absent);
+    trial.write_value(" looked ", &looked);
+    trial.write("\n");
     Ok(())
 }
 

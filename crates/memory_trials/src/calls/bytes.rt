@@ -1,11 +1,9 @@
 //! Calls of bytes that are written, and texts that are written and read.
 use crate::calls::refusable;
-use crate::output::{write_bytes, write_error, write_outcome};
-use crate::texts::text;
-use crate::trial::{SetupFailed, Trial, write_line};
+use crate::output::{write_bytes, write_error, write_outcome, write_values};
+use crate::trial::{SetupFailed, Trial};
 use datasketches::codec::{SketchBytes, SketchSlice};
 use datasketches::frequencies::FrequentItemValue;
-use std::fmt::Write;
 
 /// Plays the trial of the name.
 pub fn play(trial: &mut Trial, call: &str) -> Result<(), SetupFailed> {
@@ -28,7 +26,7 @@ fn new(trial: &mut Trial) -> Result<(), SetupFailed> {
 /// A write beyond the capacity.
 fn beyond(trial: &mut Trial) -> Result<(), SetupFailed> {
     let mut bytes = SketchBytes::with_capacity(trial.alloc, 4)?;
-    bytes.write_u32_le(7)?;
+    trial.check(bytes.write_u32_le(7));
     let beyond = refusable!(trial, bytes.write_u64_le(9));
     write_outcome(trial, beyond);
     write_bytes(trial, &bytes.into_bytes());
@@ -37,8 +35,8 @@ fn beyond(trial: &mut Trial) -> Result<(), SetupFailed> {
 
 /// A text, written where there is room for its length alone.
 fn write_text(trial: &mut Trial) -> Result<(), SetupFailed> {
-    let item = text(trial.alloc, "abcdef")?;
     let mut bytes = SketchBytes::with_capacity(trial.alloc, 4)?;
+    let item = trial.string("abcdef");
     let written = refusable!(trial, item.serialize_value(&mut bytes));
     write_outcome(trial, written);
     write_bytes(trial, &bytes.into_bytes());
@@ -49,7 +47,7 @@ fn read_text(trial: &mut Trial) -> Result<(), SetupFailed> {
     let alloc = trial.alloc;
     let mut slice = SketchSlice::new(b"\x06\0\0\0abcdefgh");
     match refusable!(trial, String::deserialize_value(alloc, &mut slice)) {
-        Ok(text) => write_line!(trial, "text {text}"),
+        Ok(text) => write_values(trial, "text", &[text]),
         Err(e) => write_error(trial, e),
     }
     Ok(())
