@@ -4,7 +4,7 @@ use crate::output::{
     begin_frequent, begin_values, write_bounds, write_error, write_outcome, write_values,
 };
 use crate::table::{Map, free_table, grow, purge, put, put_ref};
-use crate::trial::{SetupFailed, Trial, counted};
+use crate::trial::{Trial, counted};
 use datasketches::error::Error;
 use datasketches::frequencies::{ErrorType, FrequentItemsSketch, Row};
 use std::alloc::Global;
@@ -14,7 +14,7 @@ use test_items::{Item, MARKED, NUM_LETTERS};
 type Sketch<const KIND: u8> = FrequentItemsSketch<Item<KIND>>;
 
 /// Plays the trial of the name with items of a kind.
-pub fn play<const KIND: u8>(trial: &mut Trial, calls: &str) -> Result<(), SetupFailed> {
+pub fn play<const KIND: u8>(trial: &mut Trial, calls: &str) {
     match calls {
         "sketch" => sketch::<KIND>(trial),
         "clones" => clones::<KIND>(trial),
@@ -23,7 +23,7 @@ pub fn play<const KIND: u8>(trial: &mut Trial, calls: &str) -> Result<(), SetupF
         "walk" => allocation_free::table::walk::<KIND>(trial),
         "marked" => marked::<KIND>(trial),
         "table" => table::<KIND>(trial),
-        _ => Err(SetupFailed),
+        _ => trial.fail(),
     }
 }
 
@@ -64,14 +64,9 @@ fn merge_one<const KIND: u8>(
     sketch.merge(&other)
 }
 
-/// The image of a clone.
-fn image_of_clone<const KIND: u8>(sketch: &Sketch<KIND>) -> Result<Vec<u8>, Error> {
-    sketch.try_clone()?.serialize()
-}
-
 /// A clone of the sketch, as its image gives it back.
 fn restored<const KIND: u8>(alloc: Global, sketch: &Sketch<KIND>) -> Result<Sketch<KIND>, Error> {
-    let image = image_of_clone(sketch)?;
+    let image = sketch.try_clone()?.serialize()?;
     FrequentItemsSketch::deserialize(alloc, &image)
 }
 
@@ -95,76 +90,65 @@ fn write_rows<const KIND: u8>(trial: &mut Trial, sketch: &Sketch<KIND>) -> Resul
     Ok(())
 }
 
-/// What a sketch says, and its rows.
-fn write_whole<const KIND: u8>(trial: &mut Trial, sketch: &Sketch<KIND>) -> Result<(), Error> {
-    write_asked(trial, sketch);
-    write_rows(trial, sketch)
-}
-
-/// The same of what the sketch's image gives back.
+/// What a sketch's image gives back says, and its rows.
 fn write_restored<const KIND: u8>(trial: &mut Trial, sketch: &Sketch<KIND>) -> Result<(), Error> {
     let copy = restored(trial.alloc, sketch)?;
-    write_whole(trial, &copy)
+    write_asked(trial, &copy);
+    write_rows(trial, &copy)
 }
 
 /// Updates by value and by reference, a merge, a clone, rows and an image, of items that are not marked.
-fn change_all<const KIND: u8>(trial: &mut Trial, sketch: &mut Sketch<KIND>) {
-    update_all(trial, sketch);
-    write_asked(trial, sketch);
-    let merged = merge_one(trial.alloc, sketch, 2 + NUM_LETTERS, 20);
+fn sketch<const KIND: u8>(trial: &mut Trial) {
+    let Ok(mut sketch) = of_one::<KIND>(trial.alloc, 1, 1) else {
+        return trial.fail();
+    };
+    update_all(trial, &mut sketch);
+    write_asked(trial, &sketch);
+    let merged = merge_one(trial.alloc, &mut sketch, 2 + NUM_LETTERS, 20);
     trial.check(merged);
-    write_asked(trial, sketch);
-    let restored = write_restored(trial, sketch);
+    write_asked(trial, &sketch);
+    let restored = write_restored(trial, &sketch);
     trial.check(restored);
-    update_to_purge(trial, sketch);
-    write_asked(trial, sketch);
-}
-
-/// The same of a sketch of one item.
-fn sketch<const KIND: u8>(trial: &mut Trial) -> Result<(), SetupFailed> {
-    let mut sketch = of_one::<KIND>(trial.alloc, 1, 1)?;
-    change_all(trial, &mut sketch);
-    Ok(())
+    update_to_purge(trial, &mut sketch);
+    write_asked(trial, &sketch);
 }
 
 /// An update and a merge that clone a marked item.
-fn clones<const KIND: u8>(trial: &mut Trial) -> Result<(), SetupFailed> {
-    let mut sketch = of_one::<KIND>(trial.alloc, 2, 1)?;
+fn clones<const KIND: u8>(trial: &mut Trial) {
+    let Ok(mut sketch) = of_one::<KIND>(trial.alloc, 2, 1) else {
+        return trial.fail();
+    };
     let updated = sketch.update_with_count_ref(&Item::of(MARKED), 4);
     write_outcome(trial, updated);
     write_asked(trial, &sketch);
     let merged = merge_one(trial.alloc, &mut sketch, MARKED, 2);
     write_outcome(trial, merged);
     write_asked(trial, &sketch);
-    Ok(())
 }
 
 /// The calls that clone or write, of a sketch of a marked item, which is not cloned for an update where it is tracked.
-fn marked<const KIND: u8>(trial: &mut Trial) -> Result<(), SetupFailed> {
-    let mut sketch = of_one::<KIND>(trial.alloc, MARKED, 1)?;
+fn marked<const KIND: u8>(trial: &mut Trial) {
+    let Ok(mut sketch) = of_one::<KIND>(trial.alloc, MARKED, 1) else {
+        return trial.fail();
+    };
     let updated = sketch.update_ref(&Item::of(MARKED));
     write_outcome(trial, updated);
     write_outcome(trial, sketch.try_clone());
     write_outcome(trial, sketch.frequent_items(ErrorType::NoFalseNegatives));
     write_outcome(trial, sketch.serialize());
     write_asked(trial, &sketch);
-    Ok(())
 }
 
-/// What a table says, also of a purge of its clone, and in more slots.
-fn write_tables<const KIND: u8>(trial: &mut Trial, map: &mut Map<KIND>) {
-    write_table(trial, map);
-    write_purged(trial, map);
-    trial.check(grow(map, 32));
-    write_table(trial, map);
-}
-
-/// The calls of the table.
-fn table<const KIND: u8>(trial: &mut Trial) -> Result<(), SetupFailed> {
-    let mut map = free_table(trial.alloc, 8)?;
+/// The calls of the table: what it says, also of a purge of its clone, and in more slots.
+fn table<const KIND: u8>(trial: &mut Trial) {
+    let Ok(mut map) = free_table(trial.alloc, 8) else {
+        return trial.fail();
+    };
     fill::<KIND>(trial, &mut map);
-    write_tables(trial, &mut map);
-    Ok(())
+    write_table(trial, &map);
+    write_purged(trial, &map);
+    trial.check(grow(&mut map, 32));
+    write_table(trial, &map);
 }
 
 /// Puts five items into a table, two of them added to by reference, and a sixth.
@@ -202,7 +186,7 @@ fn num_entries<const KIND: u8>(trial: &mut Trial, map: &Map<KIND>) -> u64 {
     match map.active_entries() {
         Ok(entries) => entries.len() as u64,
         Err(_) => {
-            trial.failed = true;
+            trial.fail();
             0
         }
     }
@@ -232,19 +216,17 @@ fn heavy_rows<const KIND: u8>(alloc: Global, first: u64) -> Result<Vec<Row<Item<
     sketch.frequent_items(ErrorType::NoFalsePositives)
 }
 
-/// A row's item, its bounds and its estimate.
-fn row_numbers<const KIND: u8>(row: &Row<Item<KIND>>) -> [u64; 4] {
-    [
-        row.item().number(),
-        row.lower_bound(),
-        row.estimate(),
-        row.upper_bound(),
-    ]
-}
-
-/// The same on a line, with the requests for memory counted.
+/// A row's item, its bounds and its estimate on a line, with the requests for memory counted.
 fn write_row<const KIND: u8>(trial: &mut Trial, row: &Row<Item<KIND>>) {
-    let numbers = counted!(trial, row_numbers(row));
+    let numbers = counted!(
+        trial,
+        [
+            row.item().number(),
+            row.lower_bound(),
+            row.estimate(),
+            row.upper_bound(),
+        ]
+    );
     write_values(trial, "row", &numbers);
 }
 
@@ -253,21 +235,26 @@ fn write_clone<const KIND: u8>(
     trial: &mut Trial,
     rows: &[Row<Item<KIND>>],
     others: &[Row<Item<KIND>>],
-) -> Result<(), SetupFailed> {
+) {
     let ([first, second], [_, other]) = (rows, others) else {
-        return Err(SetupFailed);
+        return trial.fail();
     };
-    let copy = second.try_clone()?;
+    let Ok(copy) = second.try_clone() else {
+        return trial.fail();
+    };
     write_row(trial, first);
     write_row(trial, &copy);
     let equal = counted!(trial, [copy == *first, copy == *second, copy == *other]);
     write_values(trial, "equal", &equal);
-    Ok(())
 }
 
 /// The rows of two items, a clone of the second, and whether it equals the rows and that of an item that may equal its own.
-fn rows<const KIND: u8>(trial: &mut Trial) -> Result<(), SetupFailed> {
-    let rows = heavy_rows::<KIND>(trial.alloc, 1)?;
-    let others = heavy_rows::<KIND>(trial.alloc, 1 + NUM_LETTERS)?;
+fn rows<const KIND: u8>(trial: &mut Trial) {
+    let Ok(rows) = heavy_rows::<KIND>(trial.alloc, 1) else {
+        return trial.fail();
+    };
+    let Ok(others) = heavy_rows::<KIND>(trial.alloc, 1 + NUM_LETTERS) else {
+        return trial.fail();
+    };
     write_clone(trial, &rows, &others)
 }

@@ -83,17 +83,6 @@ const ALL: [Row; 68] = [
     ("f", Does::ListRows, ""),
 ];
 
-/// What is asked of one sketch in the end.
-fn questions_of(name: &'static str) -> [Row; 5] {
-    [
-        (name, Does::GetStatus, ""),
-        (name, Does::Ask, "p"),
-        (name, Does::Ask, "q"),
-        (name, Does::Ask, "r"),
-        (name, Does::Ask, LONG),
-    ]
-}
-
 /// What is asked of the images, and a report.
 const IMAGES_AND_ROWS: [Row; 6] = [
     ("f", Does::ShowImage, ""),
@@ -131,14 +120,21 @@ fn ask(trial: &mut Trial, session: &mut Session<String>, questions: &[Row]) {
     let questions = commands(trial, questions);
     match session.run(questions) {
         Ok(replies) => write_replies(trial, &replies),
-        Err(_) => trial.failed = true,
+        Err(_) => trial.fail(),
     }
 }
 
 /// Asks the session all questions.
 fn ask_all(trial: &mut Trial, session: &mut Session<String>) {
     for name in ["f", "g", "c", "i", "b", "d", "f2", "g2", "c2", "i2", "b2"] {
-        ask(trial, session, &questions_of(name));
+        let questions = [
+            (name, Does::GetStatus, ""),
+            (name, Does::Ask, "p"),
+            (name, Does::Ask, "q"),
+            (name, Does::Ask, "r"),
+            (name, Does::Ask, LONG),
+        ];
+        ask(trial, session, &questions);
     }
     ask(trial, session, &IMAGES_AND_ROWS);
 }

@@ -1,6 +1,5 @@
 //! What a trial writes, and which of its requests for memory are counted.
-use datasketches::error::Error;
-use std::alloc::{AllocError, AllocFailed, Global};
+use std::alloc::Global;
 use std::fmt::Display;
 
 /// A request for this many bytes says that what follows is counted, and may be refused.
@@ -9,38 +8,17 @@ const BEGIN: usize = 7919;
 /// A request for this many bytes says that the rest is not.
 const END: usize = 7927;
 
-/// Something that no trial is about went wrong.
-#[derive(Drop)]
-pub struct SetupFailed;
-
-impl From<AllocError> for SetupFailed {
-    fn from(_e: AllocError) -> Self {
-        SetupFailed
-    }
-}
-
-impl<V: Drop> From<AllocFailed<V>> for SetupFailed {
-    fn from(_e: AllocFailed<V>) -> Self {
-        SetupFailed
-    }
-}
-
-impl From<Error> for SetupFailed {
-    fn from(_e: Error) -> Self {
-        SetupFailed
-    }
-}
-
 /// A trial under way.
 ///
-/// What is written for it, its steps and the marks of its calls answer no failure: it keeps that there was one.
+/// What is written for it, its steps and the marks of its calls answer no failure: it keeps that something went wrong
+/// that no trial is about.
 #[derive(Drop)]
 pub struct Trial {
     pub alloc: Global,
     text: String,
     // They are kept, so that no compiler takes a request and its return for nothing.
     marks: Vec<Vec<u8>>,
-    pub failed: bool,
+    failed: bool,
 }
 
 impl Trial {
@@ -65,6 +43,11 @@ impl Trial {
         self.check(written);
     }
 
+    /// Something that no trial is about went wrong.
+    pub fn fail(&mut self) {
+        self.failed = true;
+    }
+
     /// A step that has to succeed.
     pub fn check<E: Drop>(&mut self, step: Result<(), E>) {
         if step.is_err() {
@@ -85,29 +68,33 @@ impl Trial {
 
     /// Requests for memory are counted from here on.
     pub fn begin(&mut self) {
-        if self.marks.reserve(1).is_err() || self.mark(BEGIN).is_err() {
-            self.failed = true;
-        }
+        let reserved = self.marks.reserve(1);
+        self.check(reserved);
+        self.mark(BEGIN);
     }
 
     /// Requests for memory are counted no longer.
     pub fn end(&mut self) {
-        if self.mark(END).is_err() {
-            self.failed = true;
-        }
+        self.mark(END);
     }
 
-    fn mark(&mut self, size: usize) -> Result<(), SetupFailed> {
-        self.marks.push(Vec::with_capacity(self.alloc, size)?)?;
-        Ok(())
+    fn mark(&mut self, size: usize) {
+        match Vec::with_capacity(self.alloc, size) {
+            Ok(mark) => {
+                let kept = self.marks.push(mark);
+                self.check(kept);
+            }
+            Err(_) => self.failed = true,
+        }
     }
 
     /// What was written for it, where nothing went wrong.
-    pub fn text(&self) -> Result<&str, SetupFailed> {
+    pub fn text(&self) -> Option<&str> {
         if self.failed {
-            return Err(SetupFailed);
+            None
+        } else {
+            Some(self.text.as_str())
         }
-        Ok(self.text.as_str())
     }
 }
 

@@ -1,14 +1,14 @@
 //! Calls of the sketches of frequent items that take no memory, and that neither a session nor the library for C makes.
 use crate::output::{fault_of, write_values};
 use crate::texts::{UpdateBy, sketch_of, update, write_sketch};
-use crate::trial::{SetupFailed, Trial, counted};
+use crate::trial::{Trial, counted};
 use datasketches::frequencies::FrequentItemsSketch;
 
 /// A sketch of texts.
 type Texts = FrequentItemsSketch<String>;
 
 /// Updates of an item that is tracked, and updates of weight 0 by reference.
-const BY_REFERENCE: [(&str, UpdateBy); 4] = [
+pub const BY_REFERENCE: [(&str, UpdateBy); 4] = [
     ("a", UpdateBy::Reference),
     ("a", UpdateBy::ReferenceWithCount(2)),
     ("h", UpdateBy::ReferenceWithCount(0)),
@@ -16,7 +16,7 @@ const BY_REFERENCE: [(&str, UpdateBy); 4] = [
 ];
 
 /// Updates that would pass the greatest total.
-const TOO_HEAVY: [(&str, UpdateBy); 3] = [
+pub const TOO_HEAVY: [(&str, UpdateBy); 3] = [
     ("b", UpdateBy::Reference),
     ("a", UpdateBy::ReferenceWithCount(1)),
     ("b", UpdateBy::Value),
@@ -34,24 +34,12 @@ fn write_updates(trial: &mut Trial, sketch: &mut Texts, updates: &[(&str, Update
 }
 
 /// The updates of a sketch of one item `a` of this weight, and what it says then of the item.
-fn play_updates(
-    trial: &mut Trial,
-    weight: u64,
-    updates: &[(&str, UpdateBy)],
-) -> Result<(), SetupFailed> {
-    let mut sketch = sketch_of(trial, 8, &[("a", weight)])?;
+pub fn play_updates(trial: &mut Trial, weight: u64, updates: &[(&str, UpdateBy)]) {
+    let Ok(mut sketch) = sketch_of(trial, 8, &[("a", weight)]) else {
+        return trial.fail();
+    };
     write_updates(trial, &mut sketch, updates);
     write_sketch(trial, &sketch, &["a"]);
-    Ok(())
-}
-
-pub fn updates_by_reference(trial: &mut Trial) -> Result<(), SetupFailed> {
-    play_updates(trial, 1, &BY_REFERENCE)
-}
-
-/// Updates that would pass the greatest total.
-pub fn refused_references(trial: &mut Trial) -> Result<(), SetupFailed> {
-    play_updates(trial, u64::MAX, &TOO_HEAVY)
 }
 
 /// A sketch's sizes, whether it is empty, and the estimates of two items by one call.
@@ -69,10 +57,11 @@ fn numbers(sketch: &FrequentItemsSketch<i64>) -> [u64; 6] {
 }
 
 /// Questions to a sketch of one item.
-pub fn questions(trial: &mut Trial) -> Result<(), SetupFailed> {
-    let mut sketch = FrequentItemsSketch::new(trial.alloc, 64)?;
+pub fn questions(trial: &mut Trial) {
+    let Ok(mut sketch) = FrequentItemsSketch::new(trial.alloc, 64) else {
+        return trial.fail();
+    };
     trial.check(sketch.update_with_count(3, 7));
     let numbers = counted!(trial, numbers(&sketch));
     write_values(trial, "numbers", &numbers);
-    Ok(())
 }

@@ -2,18 +2,18 @@
 use crate::calls::refusable;
 use crate::output::{write_error, write_outcome, write_rows};
 use crate::texts::{SIX, UpdateBy, sketch_of, update, write_sketch};
-use crate::trial::{SetupFailed, Trial};
+use crate::trial::Trial;
 use datasketches::error::Error;
 use datasketches::frequencies::{ErrorType, Row};
 
 /// Plays the trial of the name.
-pub fn play(trial: &mut Trial, call: &str) -> Result<(), SetupFailed> {
+pub fn play(trial: &mut Trial, call: &str) {
     match call {
         "update" => play_update(trial, UpdateBy::Value),
         "update_ref" => play_update(trial, UpdateBy::Reference),
         "update_with_count_ref" => play_update(trial, UpdateBy::ReferenceWithCount(5)),
         "clone_row" => clone_row(trial),
-        _ => Err(SetupFailed),
+        _ => trial.fail(),
     }
 }
 
@@ -21,15 +21,16 @@ pub fn play(trial: &mut Trial, call: &str) -> Result<(), SetupFailed> {
 const ASKED: [&str; 4] = ["a", "b", "c", "g"];
 
 /// What a sketch says before and after it is updated with a seventh text.
-fn play_update(trial: &mut Trial, by: UpdateBy) -> Result<(), SetupFailed> {
-    let mut sketch = sketch_of(trial, 64, &SIX)?;
+fn play_update(trial: &mut Trial, by: UpdateBy) {
+    let Ok(mut sketch) = sketch_of(trial, 64, &SIX) else {
+        return trial.fail();
+    };
     write_sketch(trial, &sketch, &ASKED);
     let seventh = trial.string("g");
     let updated = refusable!(trial, update(&mut sketch, by, seventh));
     write_outcome(trial, updated);
     trial.write("after\n");
     write_sketch(trial, &sketch, &ASKED);
-    Ok(())
 }
 
 /// The rows of a sketch of one text.
@@ -49,10 +50,11 @@ fn write_clone_of_row(trial: &mut Trial, row: &Row<String>) {
     }
 }
 
-fn clone_row(trial: &mut Trial) -> Result<(), SetupFailed> {
-    let rows = one_row(trial)?;
+fn clone_row(trial: &mut Trial) {
+    let Ok(rows) = one_row(trial) else {
+        return trial.fail();
+    };
     for row in &rows {
         write_clone_of_row(trial, row);
     }
-    Ok(())
 }
