@@ -33,13 +33,6 @@ use sketch_frequencies::{ErrorType, FrequentItemsSketch};
 use std::alloc::Global;
 use std::test::Fail;
 
-#[test]
-fn answers_are_as_the_readme_says(rt: HostRuntime) {
-    assert!(rt; heaviest(rt.alloc(), &[3, 1, 3, 3, 2, 3]) == Ok(Some(4)));
-    assert!(rt; bytes_of_apple(rt.alloc()) == Ok(45));
-    assert!(rt; seen_by_both(rt.alloc()) == Ok(true));
-}
-
 /// The estimate and the lower bound of the first row.
 fn row_of_a_customer(alloc: Global) -> Result<Option<(u64, u64)>, Error> {
     let report = load_of_a_customer(alloc)?;
@@ -55,7 +48,10 @@ fn comes_back(alloc: Global) -> Result<bool, Error> {
 }
 
 #[test]
-fn reports_and_images_are_as_the_readme_says(rt: HostRuntime) {
+fn answers_are_as_the_readme_says(rt: HostRuntime) {
+    assert!(rt; heaviest(rt.alloc(), &[3, 1, 3, 3, 2, 3]) == Ok(Some(4)));
+    assert!(rt; bytes_of_apple(rt.alloc()) == Ok(45));
+    assert!(rt; seen_by_both(rt.alloc()) == Ok(true));
     assert!(rt; row_of_a_customer(rt.alloc()) == Ok(Some((6500, 6500))));
     assert!(rt; comes_back(rt.alloc()) == Ok(true));
 }
@@ -66,6 +62,10 @@ fn bytes_are_as_the_docs_say(rt: HostRuntime) {
     assert!(rt; version_and_seed(&[1, 2, 0, 0, 0, 0, 0, 0, 0]) == Ok((1, 2)));
     assert!(rt; version_and_seed(&[1]).is_err_and(|e| is_cut_short(&e)));
     assert!(rt; is_of_a_filter(21) && !is_of_a_filter(10));
+}
+
+#[test]
+fn hashes_are_as_the_docs_say(rt: HostRuntime) {
     assert!(rt; hash_of_both(b"app", b"le") == hash_of_both(b"", b"apple"));
     assert!(rt; halves_of(&7u64) == halves_of(&7u64));
     assert!(rt; bucket(300) == 44);
@@ -73,18 +73,12 @@ fn bytes_are_as_the_docs_say(rt: HostRuntime) {
     assert!(rt; hashes_of_both_rows(7, (9001, 9001)).1 == 0xF987_0733_D517_E9C1);
 }
 
-/// Whether a visitor is new, and then no more.
-fn visits(alloc: Global) -> Result<(bool, bool), Error> {
+/// Whether a visitor is new, and then no more, and which of four visitors are known.
+fn visits(alloc: Global) -> Result<(bool, bool, [bool; 4]), Error> {
     let mut seen = filter_of_visitors(alloc)?;
     let first = is_first_visit(&mut seen, 7);
-    Ok((first, is_first_visit(&mut seen, 7)))
-}
-
-/// Which of four visitors are known once the first came.
-fn known_visitors(alloc: Global) -> Result<[bool; 4], Error> {
-    let mut seen = filter_of_visitors(alloc)?;
-    is_first_visit(&mut seen, 7);
-    Ok(known_of_four(&seen, &[7, 8, 9, 10]))
+    let again = is_first_visit(&mut seen, 7);
+    Ok((first, again, known_of_four(&seen, &[7, 8, 9, 10])))
 }
 
 /// A sketch of ten apples, aged.
@@ -111,8 +105,7 @@ fn batch_of_visits(alloc: Global) -> Result<[u32; 2], Error> {
 
 #[test]
 fn sketches_are_as_the_docs_say(rt: HostRuntime) {
-    assert!(rt; visits(rt.alloc()) == Ok((true, false)));
-    assert!(rt; known_visitors(rt.alloc()) == Ok([true, false, false, false]));
+    assert!(rt; visits(rt.alloc()) == Ok((true, false, [true, false, false, false])));
     assert!(rt; counts_come_back(rt.alloc()) == Ok((9, true)));
     assert!(rt; apples_of_both_days(rt.alloc()) == Ok((10, 10)));
     assert!(rt; batch_of_visits(rt.alloc()) == Ok([2, 1]));
@@ -152,44 +145,33 @@ fn of_two_pages(alloc: Global) -> Result<FrequentItemsSketch<u64>, Error> {
     Ok(pages)
 }
 
-/// The two pages, from a sketch that comes back.
-fn pages_come_back(alloc: Global) -> Result<FrequentItemsSketch<u64>, Error> {
-    let pages = of_two_pages(alloc)?;
-    sent_pages(alloc, &pages)
-}
-
-/// How many pages are heavier than 3.
+/// How many of two pages are heavier than 3, in a sketch that comes back.
 fn heavier_than_three(alloc: Global) -> Result<(usize, usize), Error> {
-    let pages = pages_come_back(alloc)?;
-    heavier_pages(&pages, 3)
+    let pages = of_two_pages(alloc)?;
+    heavier_pages(&sent_pages(alloc, &pages)?, 3)
 }
 
 /// Whether the first row of a sketch surely weighs more than itself.
 fn is_above_itself(alloc: Global) -> Result<Option<bool>, Error> {
-    let mut pages = FrequentItemsSketch::new(alloc, 8)?;
-    pages.update(1)?;
-    let rows = pages.frequent_items(ErrorType::NoFalsePositives)?;
+    let rows = of_two_pages(alloc)?.frequent_items(ErrorType::NoFalsePositives)?;
     Ok(rows.first().map(|row| surely_weighs_more(row, row)))
 }
 
-/// A table of so many slots, a power of two, in which a visit was counted.
-fn of_a_visit(alloc: Global, size: usize) -> Result<Option<ReversePurgeItemHashMap<u64>>, Error> {
+/// Whether a visit is counted in a table of so many slots, a power of two, the visits of four pages then, the page
+/// that was visited most, and the longest look-up.
+fn visit(alloc: Global, size: usize) -> Result<(bool, [u64; 4], Option<u64>, u32), Error> {
     if !size.is_power_of_two() || size > 8 {
-        return Ok(None);
+        return Err(Error::invalid_argument(Fault::MapSizeNotPowerOfTwo));
     }
     let mut visits = ReversePurgeItemHashMap::new(alloc, size)?;
     let counted = counts_visit(&mut visits, 7);
-    Ok(if counted { Some(visits) } else { None })
-}
-
-#[test]
-fn tables_are_as_the_docs_say(rt: HostRuntime) -> Result<(), Fail> {
-    let Some(visits) = of_a_visit(rt.alloc(), 8)? else {
-        return Err(Fail::from("no visit was counted"));
-    };
-    assert!(rt; visits_of_four(&visits, &[7, 8, 7, 9]) == [1, 0, 1, 0]);
-    assert!(rt; most_visited(&visits) == Some(7) && longest_look_up(&visits) == 1);
-    Ok(())
+    let counts = visits_of_four(&visits, &[7, 8, 7, 9]);
+    Ok((
+        counted,
+        counts,
+        most_visited(&visits),
+        longest_look_up(&visits),
+    ))
 }
 
 /// The weights of four pages, of which two visitors came.
@@ -198,49 +180,51 @@ fn weights_of_pages(alloc: Global) -> Result<[u64; 4], Error> {
 }
 
 #[test]
-fn frequent_items_are_as_the_docs_say(rt: HostRuntime) -> Result<(), Fail> {
+fn frequent_items_and_tables_are_as_the_docs_say(rt: HostRuntime) {
     assert!(rt; heavier_than_three(rt.alloc()) == Ok((1, 1)));
     assert!(rt; is_above_itself(rt.alloc()) == Ok(Some(false)));
     assert!(rt; kind_of_report(true) == ErrorType::NoFalsePositives);
     assert!(rt; weights_of_pages(rt.alloc()) == Ok([2, 1, 0, 2]));
-    assert!(rt; bytes_of(rt.alloc(), &1u64)?.as_slice() == [1u8, 0, 0, 0, 0, 0, 0, 0].as_slice());
-    Ok(())
+    assert!(rt; visit(rt.alloc(), 8) == Ok((true, [1, 0, 1, 0], Some(7), 1)));
 }
 
 #[test]
-fn calls_answer_as_the_readme_of_each_crate_says(rt: HostRuntime) -> Result<(), Fail> {
+fn calls_answer_as_the_readme_of_each_crate_says(rt: HostRuntime) {
     assert!(rt; apples_of_both_shops(rt.alloc()) == Ok((42, 42)));
     assert!(rt; still_refused(rt.alloc()) == Ok((true, false)));
     assert!(rt; apples_in_store(rt.alloc()) == Ok(70));
     assert!(rt; weight_of_the_first(rt.alloc()) == Ok(5));
     assert!(rt; has_seen_seven(rt.alloc()) == Ok(true));
+}
+
+#[test]
+fn lists_are_as_the_docs_say(rt: HostRuntime) -> Result<(), Fail> {
+    assert!(rt; bytes_of(rt.alloc(), &1u64)?.as_slice() == [1u8, 0, 0, 0, 0, 0, 0, 0].as_slice());
     let kept = orders_to_join(rt.alloc(), &[7, 9], &[1, 7, 9, 7, 2])?;
     assert!(rt; kept.as_slice() == [7u64, 9, 7].as_slice());
     Ok(())
 }
 
-/// The shape of a command that makes a sketch.
-fn shape_of_visits(alloc: Global) -> Result<Option<Shape>, Error> {
-    let name = String::from_str(alloc, "visits")?;
-    Ok(made_shape(Command::CreateFrequent {
-        name,
+/// The shape of a command that makes a sketch of an empty name.
+fn shape_of_visits(alloc: Global) -> Option<Shape> {
+    made_shape(Command::CreateFrequent {
+        name: String::new(alloc),
         max_map_size: 64,
-    }))
+    })
 }
 
 #[test]
-fn sessions_are_as_the_docs_say(rt: HostRuntime) -> Result<(), Fail> {
+fn sessions_are_as_the_docs_say(rt: HostRuntime) {
     assert!(rt; refusal_of_an_unknown_name(rt.alloc()) == Ok(Some(Refusal::NoSuchName)));
-    assert!(rt; shape_of_visits(rt.alloc()) == Ok(Some(Shape::Frequent { max_map_size: 64 })));
-    let told = visits_by_seven(rt.alloc())?;
+    assert!(rt; shape_of_visits(rt.alloc()) == Some(Shape::Frequent { max_map_size: 64 }));
     assert!(rt;
-        told == Reply::Bounds {
-            estimate: 5,
-            lower: 5,
-            upper: 5
-        }
+        visits_by_seven(rt.alloc())
+            == Ok(Reply::Bounds {
+                estimate: 5,
+                lower: 5,
+                upper: 5
+            })
     );
-    Ok(())
 }
 
 /// Half of a weight of 16.
@@ -252,45 +236,36 @@ fn half_of_sixteen(alloc: Global) -> Result<u64, Error> {
 }
 
 /// Whether an item and a name make an insertion.
-fn inserts(alloc: Global) -> Result<bool, Error> {
-    let name = String::from_str(alloc, "a")?;
-    Ok(matches!(insertion(name, 7), Action::Change { .. }))
+fn inserts(alloc: Global) -> bool {
+    matches!(insertion(String::new(alloc), 7), Action::Change { .. })
 }
 
 /// Whether two names make a union.
-fn unites(alloc: Global) -> Result<bool, Error> {
-    let into = String::from_str(alloc, "a")?;
-    let other = String::from_str(alloc, "b")?;
-    Ok(matches!(union(into, other), Action::Join { .. }))
+fn unites(alloc: Global) -> bool {
+    matches!(
+        union(String::new(alloc), String::new(alloc)),
+        Action::Join { .. }
+    )
 }
 
 /// Whether the name of a refused insertion can be used again.
-fn recycles_a_name(alloc: Global) -> Result<bool, Error> {
-    let name = String::from_str(alloc, "a")?;
+fn recycles_a_name(alloc: Global) -> bool {
     let mut session = Session::new(alloc);
-    Ok(recycles(&mut session, name, 7))
+    recycles(&mut session, String::new(alloc), 7)
 }
 
-/// An empty filter's image.
-fn image_of_a_filter(alloc: Global) -> Result<Vec<u8>, Error> {
-    let filter = BloomFilterBuilder::with_size(64, 1).build(alloc)?;
-    filter.serialize()
-}
-
-/// Whether a session takes the image under a name.
+/// Whether a session takes an empty filter's image under an empty name.
 fn takes_image(alloc: Global, session: &mut Session<u64>) -> Result<bool, Error> {
-    let name = String::from_str(alloc, "a")?;
-    let image = image_of_a_filter(alloc)?;
-    Ok(takes_filter(session, name, image))
+    let filter = BloomFilterBuilder::with_size(64, 1).build(alloc)?;
+    let image = filter.serialize()?;
+    Ok(takes_filter(session, String::new(alloc), image))
 }
 
 /// Whether an image is taken under a name, and whether it is once more under the same.
-fn takes_a_filter_once(alloc: Global) -> Result<[bool; 2], Error> {
+fn takes_a_filter_once(alloc: Global) -> (Result<bool, Error>, Result<bool, Error>) {
     let mut session = Session::new(alloc);
-    Ok([
-        takes_image(alloc, &mut session)?,
-        takes_image(alloc, &mut session)?,
-    ])
+    let first = takes_image(alloc, &mut session);
+    (first, takes_image(alloc, &mut session))
 }
 
 #[test]
@@ -302,9 +277,8 @@ fn types_are_as_their_docs_say(rt: HostRuntime) {
         seed: 9001,
     };
     assert!(rt; half_of_sixteen(rt.alloc()) == Ok(8));
-    assert!(rt; inserts(rt.alloc()) == Ok(true) && unites(rt.alloc()) == Ok(true));
-    assert!(rt; recycles_a_name(rt.alloc()) == Ok(true));
-    assert!(rt; takes_a_filter_once(rt.alloc()) == Ok([true, false]));
+    assert!(rt; inserts(rt.alloc()) && unites(rt.alloc()) && recycles_a_name(rt.alloc()));
+    assert!(rt; takes_a_filter_once(rt.alloc()) == (Ok(true), Ok(false)));
     assert!(rt; most_slots(status) == None);
     assert!(rt; word_for(Refusal::NameTaken) == "NameTaken");
     assert!(rt; reason(&Error::invalid_data(Fault::BadFamily)) == "wrong family");

@@ -6,14 +6,15 @@ pub mod frequent;
 pub mod session;
 pub mod table;
 
-use crate::trial::{SetupFailed, Trial};
+use crate::trial::Trial;
+use frequent::{BY_REFERENCE, TOO_HEAVY};
 use test_items::FEEDS_NOTHING;
 
 /// Plays the trial of the name: of the sketches, or of what they are made of.
-pub fn play(trial: &mut Trial, calls: &str) -> Result<(), SetupFailed> {
+pub fn play(trial: &mut Trial, calls: &str) {
     match calls {
-        "updates_by_reference" => frequent::updates_by_reference(trial),
-        "refused_references" => frequent::refused_references(trial),
+        "updates_by_reference" => frequent::play_updates(trial, 1, &BY_REFERENCE),
+        "refused_references" => frequent::play_updates(trial, u64::MAX, &TOO_HEAVY),
         "frequent" => frequent::questions(trial),
         "filter" => filter::filter(trial),
         "counts" => counts::counts(trial),
@@ -22,7 +23,7 @@ pub fn play(trial: &mut Trial, calls: &str) -> Result<(), SetupFailed> {
     }
 }
 
-fn play_parts(trial: &mut Trial, calls: &str) -> Result<(), SetupFailed> {
+fn play_parts(trial: &mut Trial, calls: &str) {
     match calls {
         "writes" => base::writes(trial),
         "items" => base::items(trial),
@@ -31,6 +32,6 @@ fn play_parts(trial: &mut Trial, calls: &str) -> Result<(), SetupFailed> {
         "table_questions" => table::questions::<FEEDS_NOTHING>(trial),
         "table_looks" => table::looks(trial),
         "table_walk" => table::walk::<FEEDS_NOTHING>(trial),
-        _ => Err(SetupFailed),
+        _ => trial.fail(),
     }
 }

@@ -6,7 +6,7 @@ pub mod table;
 /// The answer of a call that may answer want of memory, with its requests for memory counted.
 macro_rules! refusable {
     ($trial:ident, $call:expr) => {{
-        $trial.announce_call();
+        $trial.write("call\n");
         $crate::trial::counted!($trial, $call)
     }};
 }

@@ -1,8 +1,7 @@
 //! Commands of a session as rows of tables.
-use crate::texts::text;
+use crate::trial::Trial;
 use datasketches::Command;
 use datasketches::frequencies::ErrorType;
-use std::alloc::{AllocError, Global};
 
 /// The seed of all sketches here.
 const SEED: u64 = 9001;
@@ -40,12 +39,14 @@ pub enum Does {
 pub type Row = (&'static str, Does, &'static str);
 
 /// The commands of the rows.
-pub fn commands(alloc: Global, rows: &[Row]) -> Result<Vec<Command<String>>, AllocError> {
-    let mut commands = Vec::new(alloc);
+pub fn commands(trial: &mut Trial, rows: &[Row]) -> Vec<Command<String>> {
+    let mut commands = Vec::new(trial.alloc);
     for (first, does, second) in rows {
-        commands.push(command(*does, text(alloc, first)?, text(alloc, second)?))?;
+        let first = trial.string(first);
+        let second = trial.string(second);
+        trial.check(commands.push(command(*does, first, second)));
     }
-    Ok(commands)
+    commands
 }
 
 /// The command of two texts.

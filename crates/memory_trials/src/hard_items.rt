@@ -4,18 +4,17 @@ use crate::output::{
     begin_frequent, begin_values, write_bounds, write_error, write_outcome, write_values,
 };
 use crate::table::{Map, free_table, grow, purge, put, put_ref};
-use crate::trial::{SetupFailed, Trial, counted, write_line, write_words};
+use crate::trial::{Trial, counted};
 use datasketches::error::Error;
 use datasketches::frequencies::{ErrorType, FrequentItemsSketch, Row};
 use std::alloc::Global;
-use std::fmt::Write;
 use test_items::{Item, MARKED, NUM_LETTERS};
 
 /// A sketch of items of a kind.
 type Sketch<const KIND: u8> = FrequentItemsSketch<Item<KIND>>;
 
 /// Plays the trial of the name with items of a kind.
-pub fn play<const KIND: u8>(trial: &mut Trial, calls: &str) -> Result<(), SetupFailed> {
+pub fn play<const KIND: u8>(trial: &mut Trial, calls: &str) {
     match calls {
         "sketch" => sketch::<KIND>(trial),
         "clones" => clones::<KIND>(trial),
@@ -24,7 +23,7 @@ pub fn play<const KIND: u8>(trial: &mut Trial, calls: &str) -> Result<(), SetupF
         "walk" => allocation_free::table::walk::<KIND>(trial),
         "marked" => marked::<KIND>(trial),
         "table" => table::<KIND>(trial),
-        _ => Err(SetupFailed),
+        _ => trial.fail(),
     }
 }
 
@@ -37,7 +36,7 @@ fn write_asked<const KIND: u8>(trial: &mut Trial, sketch: &Sketch<KIND>) {
     for number in ASKED {
         write_bounds(trial, sketch, &Item::of(number));
     }
-    write_line!(trial);
+    trial.write("\n");
 }
 
 /// A sketch of one item.
@@ -48,10 +47,10 @@ fn of_one<const KIND: u8>(alloc: Global, number: u64, count: u64) -> Result<Sket
 }
 
 /// Updates of a sketch by value and by reference.
-fn update_all<const KIND: u8>(sketch: &mut Sketch<KIND>) -> Result<(), Error> {
-    sketch.update_with_count(Item::of(2), 5)?;
-    sketch.update_ref(&Item::of(1 + NUM_LETTERS))?;
-    sketch.update_with_count_ref(&Item::of(3), 9)
+fn update_all<const KIND: u8>(trial: &mut Trial, sketch: &mut Sketch<KIND>) {
+    trial.check(sketch.update_with_count(Item::of(2), 5));
+    trial.check(sketch.update_ref(&Item::of(1 + NUM_LETTERS)));
+    trial.check(sketch.update_with_count_ref(&Item::of(3), 9));
 }
 
 /// Merges a sketch of one item.
@@ -65,131 +64,111 @@ fn merge_one<const KIND: u8>(
     sketch.merge(&other)
 }
 
-/// The image of a clone.
-fn image_of_clone<const KIND: u8>(sketch: &Sketch<KIND>) -> Result<Vec<u8>, Error> {
-    sketch.try_clone()?.serialize()
-}
-
 /// A clone of the sketch, as its image gives it back.
 fn restored<const KIND: u8>(alloc: Global, sketch: &Sketch<KIND>) -> Result<Sketch<KIND>, Error> {
-    let image = image_of_clone(sketch)?;
+    let image = sketch.try_clone()?.serialize()?;
     FrequentItemsSketch::deserialize(alloc, &image)
 }
 
 /// Seven items of weight 2: the seventh is one counter too many.
-fn purged<const KIND: u8>(sketch: &mut Sketch<KIND>) -> Result<(), Error> {
+fn update_to_purge<const KIND: u8>(trial: &mut Trial, sketch: &mut Sketch<KIND>) {
     sketch.reset();
     for number in 1..=7 {
-        sketch.update_with_count(Item::of(number), 2)?;
+        trial.check(sketch.update_with_count(Item::of(number), 2));
     }
-    Ok(())
 }
 
 /// The items whose lower bound is above 1.
 fn write_rows<const KIND: u8>(trial: &mut Trial, sketch: &Sketch<KIND>) -> Result<(), Error> {
     let rows = sketch.frequent_items_with_threshold(ErrorType::NoFalsePositives, 1)?;
-    write_words!(trial, "rows");
+    trial.write("rows");
     for row in &rows {
-        write_words!(trial, " {}={}", row.item().number(), row.estimate());
+        trial.write_value(" ", &row.item().number());
+        trial.write_value("=", &row.estimate());
     }
-    write_line!(trial);
+    trial.write("\n");
     Ok(())
 }
 
-/// What a sketch says, and its rows.
-fn write_whole<const KIND: u8>(trial: &mut Trial, sketch: &Sketch<KIND>) -> Result<(), Error> {
-    write_asked(trial, sketch);
-    write_rows(trial, sketch)
-}
-
-/// The same of what the sketch's image gives back.
+/// What a sketch's image gives back says, and its rows.
 fn write_restored<const KIND: u8>(trial: &mut Trial, sketch: &Sketch<KIND>) -> Result<(), Error> {
     let copy = restored(trial.alloc, sketch)?;
-    write_whole(trial, &copy)
+    write_asked(trial, &copy);
+    write_rows(trial, &copy)
 }
 
 /// Updates by value and by reference, a merge, a clone, rows and an image, of items that are not marked.
-fn change_all<const KIND: u8>(
-    trial: &mut Trial,
-    sketch: &mut Sketch<KIND>,
-) -> Result<(), SetupFailed> {
-    update_all(sketch)?;
-    write_asked(trial, sketch);
-    merge_one(trial.alloc, sketch, 2 + NUM_LETTERS, 20)?;
-    write_asked(trial, sketch);
-    write_restored(trial, sketch)?;
-    purged(sketch)?;
-    write_asked(trial, sketch);
-    Ok(())
-}
-
-/// The same of a sketch of one item.
-fn sketch<const KIND: u8>(trial: &mut Trial) -> Result<(), SetupFailed> {
-    let mut sketch = of_one::<KIND>(trial.alloc, 1, 1)?;
-    change_all(trial, &mut sketch)
+fn sketch<const KIND: u8>(trial: &mut Trial) {
+    let Ok(mut sketch) = of_one::<KIND>(trial.alloc, 1, 1) else {
+        return trial.fail();
+    };
+    update_all(trial, &mut sketch);
+    write_asked(trial, &sketch);
+    let merged = merge_one(trial.alloc, &mut sketch, 2 + NUM_LETTERS, 20);
+    trial.check(merged);
+    write_asked(trial, &sketch);
+    let restored = write_restored(trial, &sketch);
+    trial.check(restored);
+    update_to_purge(trial, &mut sketch);
+    write_asked(trial, &sketch);
 }
 
 /// An update and a merge that clone a marked item.
-fn clones<const KIND: u8>(trial: &mut Trial) -> Result<(), SetupFailed> {
-    let mut sketch = of_one::<KIND>(trial.alloc, 2, 1)?;
+fn clones<const KIND: u8>(trial: &mut Trial) {
+    let Ok(mut sketch) = of_one::<KIND>(trial.alloc, 2, 1) else {
+        return trial.fail();
+    };
     let updated = sketch.update_with_count_ref(&Item::of(MARKED), 4);
     write_outcome(trial, updated);
     write_asked(trial, &sketch);
     let merged = merge_one(trial.alloc, &mut sketch, MARKED, 2);
     write_outcome(trial, merged);
     write_asked(trial, &sketch);
-    Ok(())
 }
 
 /// The calls that clone or write, of a sketch of a marked item, which is not cloned for an update where it is tracked.
-fn marked<const KIND: u8>(trial: &mut Trial) -> Result<(), SetupFailed> {
-    let mut sketch = of_one::<KIND>(trial.alloc, MARKED, 1)?;
+fn marked<const KIND: u8>(trial: &mut Trial) {
+    let Ok(mut sketch) = of_one::<KIND>(trial.alloc, MARKED, 1) else {
+        return trial.fail();
+    };
     let updated = sketch.update_ref(&Item::of(MARKED));
     write_outcome(trial, updated);
     write_outcome(trial, sketch.try_clone());
     write_outcome(trial, sketch.frequent_items(ErrorType::NoFalseNegatives));
     write_outcome(trial, sketch.serialize());
     write_asked(trial, &sketch);
-    Ok(())
 }
 
-/// What a table says, also of a purge of its clone, and in more slots.
-fn write_tables<const KIND: u8>(trial: &mut Trial, map: &mut Map<KIND>) -> Result<(), SetupFailed> {
-    write_table(trial, map)?;
-    write_purged(trial, map)?;
-    grow(map, 32)?;
-    Ok(write_table(trial, map)?)
+/// The calls of the table: what it says, also of a purge of its clone, and in more slots.
+fn table<const KIND: u8>(trial: &mut Trial) {
+    let Ok(mut map) = free_table(trial.alloc, 8) else {
+        return trial.fail();
+    };
+    fill::<KIND>(trial, &mut map);
+    write_table(trial, &map);
+    write_purged(trial, &map);
+    trial.check(grow(&mut map, 32));
+    write_table(trial, &map);
 }
 
-/// The calls of the table.
-fn table<const KIND: u8>(trial: &mut Trial) -> Result<(), SetupFailed> {
-    let mut map = filled::<KIND>(trial.alloc)?;
-    write_tables(trial, &mut map)
-}
-
-/// A table of five items, two of them added to by reference, and a sixth.
-fn filled<const KIND: u8>(alloc: Global) -> Result<Map<KIND>, Error> {
-    let mut map = free_table(alloc, 8)?;
+/// Puts five items into a table, two of them added to by reference, and a sixth.
+fn fill<const KIND: u8>(trial: &mut Trial, map: &mut Map<KIND>) {
     for number in [1, 2, 1 + NUM_LETTERS, 4, MARKED] {
-        put(&mut map, Item::of(number), 2);
+        put(map, Item::of(number), 2);
     }
     for number in [2, 5, MARKED] {
-        put_ref(&mut map, &Item::of(number), 1)?;
+        trial.check(put_ref(map, &Item::of(number), 1));
     }
-    Ok(map)
 }
 
 /// A purge of a clone.
-fn write_purged<const KIND: u8>(trial: &mut Trial, map: &Map<KIND>) -> Result<(), Error> {
+fn write_purged<const KIND: u8>(trial: &mut Trial, map: &Map<KIND>) {
     match map.try_clone() {
         Ok(mut clone) => {
             write_values(trial, "purged", &[purge(&mut clone)]);
-            write_table(trial, &clone)
+            write_table(trial, &clone);
         }
-        Err(e) => {
-            write_error(trial, e);
-            Ok(())
-        }
+        Err(e) => write_error(trial, e),
     }
 }
 
@@ -203,24 +182,29 @@ fn sum_of_counts<const KIND: u8>(map: &Map<KIND>) -> u64 {
 }
 
 /// How long the list of entries is.
-fn num_entries<const KIND: u8>(map: &Map<KIND>) -> Result<usize, Error> {
-    Ok(map.active_entries()?.len())
+fn num_entries<const KIND: u8>(trial: &mut Trial, map: &Map<KIND>) -> u64 {
+    match map.active_entries() {
+        Ok(entries) => entries.len() as u64,
+        Err(_) => {
+            trial.fail();
+            0
+        }
+    }
 }
 
 /// How many entries there are, the sum of a walk, how long the list of entries is, and some counts.
-fn write_table<const KIND: u8>(trial: &mut Trial, map: &Map<KIND>) -> Result<(), Error> {
+fn write_table<const KIND: u8>(trial: &mut Trial, map: &Map<KIND>) {
     let numbers = [
         map.num_active() as u64,
         map.len() as u64,
         sum_of_counts(map),
-        num_entries(map)? as u64,
+        num_entries(trial, map),
     ];
     begin_values(trial, "table", &numbers);
     for number in ASKED {
-        write_words!(trial, " {}", map.get_counted(&Item::of(number)).0);
+        trial.write_value(" ", &map.get_counted(&Item::of(number)).0);
     }
-    write_line!(trial);
-    Ok(())
+    trial.write("\n");
 }
 
 /// The rows of a sketch of seven items from this number on, of which the last two are heavy: the seventh takes 1 from all.
@@ -232,19 +216,17 @@ fn heavy_rows<const KIND: u8>(alloc: Global, first: u64) -> Result<Vec<Row<Item<
     sketch.frequent_items(ErrorType::NoFalsePositives)
 }
 
-/// A row's item, its bounds and its estimate.
-fn row_numbers<const KIND: u8>(row: &Row<Item<KIND>>) -> [u64; 4] {
-    [
-        row.item().number(),
-        row.lower_bound(),
-        row.estimate(),
-        row.upper_bound(),
-    ]
-}
-
-/// The same on a line, with the requests for memory counted.
+/// A row's item, its bounds and its estimate on a line, with the requests for memory counted.
 fn write_row<const KIND: u8>(trial: &mut Trial, row: &Row<Item<KIND>>) {
-    let numbers = counted!(trial, row_numbers(row));
+    let numbers = counted!(
+        trial,
+        [
+            row.item().number(),
+            row.lower_bound(),
+            row.estimate(),
+            row.upper_bound(),
+        ]
+    );
     write_values(trial, "row", &numbers);
 }
 
@@ -253,21 +235,26 @@ fn write_clone<const KIND: u8>(
     trial: &mut Trial,
     rows: &[Row<Item<KIND>>],
     others: &[Row<Item<KIND>>],
-) -> Result<(), SetupFailed> {
+) {
     let ([first, second], [_, other]) = (rows, others) else {
-        return Err(SetupFailed);
+        return trial.fail();
     };
-    let copy = second.try_clone()?;
+    let Ok(copy) = second.try_clone() else {
+        return trial.fail();
+    };
     write_row(trial, first);
     write_row(trial, &copy);
     let equal = counted!(trial, [copy == *first, copy == *second, copy == *other]);
     write_values(trial, "equal", &equal);
-    Ok(())
 }
 
 /// The rows of two items, a clone of the second, and whether it equals the rows and that of an item that may equal its own.
-fn rows<const KIND: u8>(trial: &mut Trial) -> Result<(), SetupFailed> {
-    let rows = heavy_rows::<KIND>(trial.alloc, 1)?;
-    let others = heavy_rows::<KIND>(trial.alloc, 1 + NUM_LETTERS)?;
+fn rows<const KIND: u8>(trial: &mut Trial) {
+    let Ok(rows) = heavy_rows::<KIND>(trial.alloc, 1) else {
+        return trial.fail();
+    };
+    let Ok(others) = heavy_rows::<KIND>(trial.alloc, 1 + NUM_LETTERS) else {
+        return trial.fail();
+    };
     write_clone(trial, &rows, &others)
 }

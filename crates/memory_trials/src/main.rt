@@ -26,7 +26,7 @@ mod trial;
 
 use std::process::ExitCode;
 use test_items::{FEEDS_NOTHING, LETTER, UNCLONABLE, UNWRITABLE};
-use trial::{SetupFailed, Trial};
+use trial::Trial;
 
 fn main(rt: HostRuntime) -> ExitCode {
     let mut trial = Trial::new(rt.alloc());
@@ -39,33 +39,31 @@ fn main(rt: HostRuntime) -> ExitCode {
     };
     let mut places = Vec::new(rt.alloc());
     for word in words {
-        let Ok(place) = word.parse::<usize>() else {
-            return ExitCode::from(3);
-        };
-        if places.push(place).is_err() {
-            return ExitCode::from(3);
+        match word.parse::<usize>() {
+            Ok(place) => trial.check(places.push(place)),
+            Err(_) => trial.fail(),
         }
     }
-    let played = play(&mut trial, name.as_str(), &places);
+    play(&mut trial, name.as_str(), &places);
     match trial.text() {
-        Ok(text) if played.is_ok() && rt.print(text).is_ok() => ExitCode::SUCCESS,
+        Some(text) if rt.print(text).is_ok() => ExitCode::SUCCESS,
         _ => ExitCode::from(3),
     }
 }
 
 /// Plays the trial of the name.
-fn play(trial: &mut Trial, name: &str, places: &[usize]) -> Result<(), SetupFailed> {
+fn play(trial: &mut Trial, name: &str, places: &[usize]) {
     match name {
         "session" => session::session(trial, places),
         _ => match name.split_once('_') {
             Some((subject, call)) => play_subject(trial, subject, call),
-            None => Err(SetupFailed),
+            None => trial.fail(),
         },
     }
 }
 
 /// Plays the trial of a subject.
-fn play_subject(trial: &mut Trial, subject: &str, call: &str) -> Result<(), SetupFailed> {
+fn play_subject(trial: &mut Trial, subject: &str, call: &str) {
     match subject {
         "frequent" => calls::frequent::play(trial, call),
         "table" => calls::table::play(trial, call),
@@ -75,6 +73,6 @@ fn play_subject(trial: &mut Trial, subject: &str, call: &str) -> Result<(), Setu
         "unclonable" => hard_items::play::<UNCLONABLE>(trial, call),
         "unwritable" => hard_items::play::<UNWRITABLE>(trial, call),
         "letter" => hard_items::play::<LETTER>(trial, call),
-        _ => Err(SetupFailed),
+        _ => trial.fail(),
     }
 }

@@ -1,23 +1,25 @@
 //! What sketches and answers say, in words.
-use crate::trial::{Trial, write_line, write_words};
+use crate::trial::Trial;
 use datasketches::error::{Error, ErrorKind};
 use datasketches::frequencies::{FrequentItemsSketch, ReversePurgeItemHashMap, Row};
 use datasketches::{Refusal, Reply};
-use std::fmt;
-use std::fmt::Write;
+use std::fmt::{Debug, Display};
 use std::hash::Hash;
 
 /// Whether a call was accepted, and what refused it.
 pub fn write_outcome<V: Drop>(trial: &mut Trial, answer: Result<V, Error>) {
     match answer {
-        Ok(_) => write_line!(trial, "accepted"),
+        Ok(_) => trial.write("accepted\n"),
         Err(e) => write_error(trial, e),
     }
 }
 
 /// What refused a call.
 pub fn write_error(trial: &mut Trial, error: Error) {
-    write_line!(trial, "refused {} {}", kind_of(error), error.fault().name());
+    trial.write("refused ");
+    trial.write(kind_of(error));
+    trial.write_value(" ", &error.fault().name());
+    trial.write("\n");
 }
 
 /// The kind of a refusal.
@@ -38,16 +40,16 @@ pub fn fault_of<V: Drop>(answer: Result<V, Error>) -> &'static str {
 }
 
 /// Values on a line of their own, behind a word.
-pub fn write_values<V: fmt::Display>(trial: &mut Trial, word: &str, values: &[V]) {
+pub fn write_values<V: Display>(trial: &mut Trial, word: &str, values: &[V]) {
     begin_values(trial, word, values);
-    write_line!(trial);
+    trial.write("\n");
 }
 
 /// The same on a line that goes on.
-pub fn begin_values<V: fmt::Display>(trial: &mut Trial, word: &str, values: &[V]) {
-    write_words!(trial, "{word}");
+pub fn begin_values<V: Display>(trial: &mut Trial, word: &str, values: &[V]) {
+    trial.write(word);
     for value in values {
-        write_words!(trial, " {value}");
+        trial.write_value(" ", value);
     }
 }
 
@@ -69,10 +71,9 @@ pub fn write_bounds<T: Eq + Hash + Drop>(
     sketch: &FrequentItemsSketch<T>,
     item: &T,
 ) {
-    let estimate = sketch.estimate(item);
-    let lower = sketch.lower_bound(item);
-    let upper = sketch.upper_bound(item);
-    write_words!(trial, " {estimate}/{lower}/{upper}");
+    trial.write_value(" ", &sketch.estimate(item));
+    trial.write_value("/", &sketch.lower_bound(item));
+    trial.write_value("/", &sketch.upper_bound(item));
 }
 
 /// A table's numbers, and the counts of the items.
@@ -83,9 +84,9 @@ pub fn write_table<T: Eq + Hash + Drop>(
 ) {
     begin_values(trial, "table", &[map.num_active(), map.len()]);
     for item in items {
-        write_words!(trial, " {}", map.get(item));
+        trial.write_value(" ", &map.get(item));
     }
-    write_line!(trial);
+    trial.write("\n");
 }
 
 /// How many bytes there are, and their sum.
@@ -100,9 +101,10 @@ pub fn write_bytes(trial: &mut Trial, bytes: &[u8]) {
 /// Rows up to the end of a line: each item and its estimate.
 pub fn write_rows(trial: &mut Trial, rows: &[Row<String>]) {
     for row in rows {
-        write_words!(trial, " {}={}", row.item(), row.estimate());
+        trial.write_value(" ", row.item());
+        trial.write_value("=", &row.estimate());
     }
-    write_line!(trial);
+    trial.write("\n");
 }
 
 /// The replies to commands.
@@ -115,20 +117,25 @@ pub fn write_replies(trial: &mut Trial, replies: &[Reply<String>]) {
 /// The reply to a command.
 fn write_reply(trial: &mut Trial, reply: &Reply<String>) {
     match reply {
-        Reply::Done => write_line!(trial, "done"),
+        Reply::Done => trial.write("done\n"),
         Reply::Bounds {
             estimate,
             lower,
             upper,
         } => write_values(trial, "bounds", &[*estimate, *lower, *upper]),
         Reply::Contains(found) => write_values(trial, "contains", &[*found]),
-        Reply::Status(status) => write_line!(trial, "{status:?}"),
+        Reply::Status(status) => write_debug(trial, "", status),
         Reply::Rows(rows) => {
-            write_words!(trial, "rows");
+            trial.write("rows");
             write_rows(trial, rows);
         }
         Reply::Image(bytes) => write_bytes(trial, bytes),
         Reply::Refused(Refusal::Call(error)) => write_error(trial, *error),
-        Reply::Refused(refusal) => write_line!(trial, "refused {refusal:?}"),
+        Reply::Refused(refusal) => write_debug(trial, "refused ", refusal),
     }
+}
+
+/// A value as it is printed for programmers, on a line behind a text.
+fn write_debug<V: Debug>(trial: &mut Trial, before: &str, value: &V) {
+    trial.write_value(before, &format_args!("{value:?}\n"));
 }

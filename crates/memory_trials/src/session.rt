@@ -1,10 +1,8 @@
 //! A run of a session over commands of all kinds.
 use crate::commands::{Does, Row, commands};
 use crate::output::{write_error, write_replies};
-use crate::trial::{SetupFailed, Trial, counted, write_line, write_words};
+use crate::trial::{Trial, counted};
 use datasketches::{Command, Session};
-use std::alloc::{AllocError, Global};
-use std::fmt::Write;
 
 /// A text that is kept on the heap.
 const LONG: &str = "a longer item, not kept in place";
@@ -85,17 +83,6 @@ const ALL: [Row; 68] = [
     ("f", Does::ListRows, ""),
 ];
 
-/// What is asked of one sketch in the end.
-fn questions_of(name: &'static str) -> [Row; 5] {
-    [
-        (name, Does::GetStatus, ""),
-        (name, Does::Ask, "p"),
-        (name, Does::Ask, "q"),
-        (name, Does::Ask, "r"),
-        (name, Does::Ask, LONG),
-    ]
-}
-
 /// What is asked of the images, and a report.
 const IMAGES_AND_ROWS: [Row; 6] = [
     ("f", Does::ShowImage, ""),
@@ -107,14 +94,14 @@ const IMAGES_AND_ROWS: [Row; 6] = [
 ];
 
 /// All commands but those of the given places.
-fn all_but(alloc: Global, left_out: &[usize]) -> Result<Vec<Command<String>>, AllocError> {
-    let mut kept = Vec::new(alloc);
+fn all_but(trial: &mut Trial, left_out: &[usize]) -> Vec<Command<String>> {
+    let mut kept = Vec::new(trial.alloc);
     for (place, row) in ALL.iter().enumerate() {
         if !left_out.contains(&place) {
-            kept.push(*row)?;
+            trial.check(kept.push(*row));
         }
     }
-    commands(alloc, &kept)
+    commands(trial, &kept)
 }
 
 /// Runs the commands with their requests for memory counted.
@@ -122,37 +109,41 @@ fn run(trial: &mut Trial, session: &mut Session<String>, commands: Vec<Command<S
     match counted!(trial, session.run(commands)) {
         Ok(replies) => write_replies(trial, &replies),
         Err(e) => {
-            write_words!(trial, "run ");
+            trial.write("run ");
             write_error(trial, e);
         }
     }
 }
 
 /// Asks the session.
-fn ask(
-    trial: &mut Trial,
-    session: &mut Session<String>,
-    questions: &[Row],
-) -> Result<(), SetupFailed> {
-    let questions = commands(trial.alloc, questions)?;
-    let replies = session.run(questions)?;
-    write_replies(trial, &replies);
-    Ok(())
+fn ask(trial: &mut Trial, session: &mut Session<String>, questions: &[Row]) {
+    let questions = commands(trial, questions);
+    match session.run(questions) {
+        Ok(replies) => write_replies(trial, &replies),
+        Err(_) => trial.fail(),
+    }
 }
 
 /// Asks the session all questions.
-fn ask_all(trial: &mut Trial, session: &mut Session<String>) -> Result<(), SetupFailed> {
+fn ask_all(trial: &mut Trial, session: &mut Session<String>) {
     for name in ["f", "g", "c", "i", "b", "d", "f2", "g2", "c2", "i2", "b2"] {
-        ask(trial, session, &questions_of(name))?;
+        let questions = [
+            (name, Does::GetStatus, ""),
+            (name, Does::Ask, "p"),
+            (name, Does::Ask, "q"),
+            (name, Does::Ask, "r"),
+            (name, Does::Ask, LONG),
+        ];
+        ask(trial, session, &questions);
     }
-    ask(trial, session, &IMAGES_AND_ROWS)
+    ask(trial, session, &IMAGES_AND_ROWS);
 }
 
 /// Runs the commands but for those of the given places, and then asks.
-pub fn session(trial: &mut Trial, left_out: &[usize]) -> Result<(), SetupFailed> {
-    let commands = all_but(trial.alloc, left_out)?;
+pub fn session(trial: &mut Trial, left_out: &[usize]) {
+    let commands = all_but(trial, left_out);
     let mut session = Session::new(trial.alloc);
     run(trial, &mut session, commands);
-    write_line!(trial, "then");
-    ask_all(trial, &mut session)
+    trial.write("then\n");
+    ask_all(trial, &mut session);
 }

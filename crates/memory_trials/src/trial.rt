@@ -1,7 +1,6 @@
 //! What a trial writes, and which of its requests for memory are counted.
-use datasketches::error::Error;
-use std::alloc::{AllocError, AllocFailed, Global};
-use std::fmt;
+use std::alloc::Global;
+use std::fmt::Display;
 
 /// A request for this many bytes says that what follows is counted, and may be refused.
 const BEGIN: usize = 7919;
@@ -9,31 +8,10 @@ const BEGIN: usize = 7919;
 /// A request for this many bytes says that the rest is not.
 const END: usize = 7927;
 
-/// Something that no trial is about went wrong.
-#[derive(Drop)]
-pub struct SetupFailed;
-
-impl From<AllocError> for SetupFailed {
-    fn from(_e: AllocError) -> Self {
-        SetupFailed
-    }
-}
-
-impl<V: Drop> From<AllocFailed<V>> for SetupFailed {
-    fn from(_e: AllocFailed<V>) -> Self {
-        SetupFailed
-    }
-}
-
-impl From<Error> for SetupFailed {
-    fn from(_e: Error) -> Self {
-        SetupFailed
-    }
-}
-
 /// A trial under way.
 ///
-/// What is written for it and the marks of its calls answer no failure: it keeps that there was one.
+/// What is written for it, its steps and the marks of its calls answer no failure: it keeps that something went wrong
+/// that no trial is about.
 #[derive(Drop)]
 pub struct Trial {
     pub alloc: Global,
@@ -53,65 +31,71 @@ impl Trial {
         }
     }
 
-    /// Says that a call follows that may answer want of memory.
-    pub fn announce_call(&mut self) {
-        if self.text.push_str("call\n").is_err() {
+    /// Writes a text.
+    pub fn write(&mut self, text: &str) {
+        let written = self.text.push_str(text);
+        self.check(written);
+    }
+
+    /// Writes a value behind a text.
+    pub fn write_value<V: Display>(&mut self, before: &str, value: &V) {
+        let written = write!(self.text, "{before}{value}");
+        self.check(written);
+    }
+
+    /// Something that no trial is about went wrong.
+    pub fn fail(&mut self) {
+        self.failed = true;
+    }
+
+    /// A step that has to succeed.
+    pub fn check<E: Drop>(&mut self, step: Result<(), E>) {
+        if step.is_err() {
             self.failed = true;
+        }
+    }
+
+    /// A text with memory of its own.
+    pub fn string(&mut self, text: &str) -> String {
+        match String::from_str(self.alloc, text) {
+            Ok(string) => string,
+            Err(_) => {
+                self.failed = true;
+                String::new(self.alloc)
+            }
         }
     }
 
     /// Requests for memory are counted from here on.
     pub fn begin(&mut self) {
-        if self.marks.reserve(1).is_err() || self.mark(BEGIN).is_err() {
-            self.failed = true;
-        }
+        let reserved = self.marks.reserve(1);
+        self.check(reserved);
+        self.mark(BEGIN);
     }
 
     /// Requests for memory are counted no longer.
     pub fn end(&mut self) {
-        if self.mark(END).is_err() {
-            self.failed = true;
-        }
+        self.mark(END);
     }
 
-    fn mark(&mut self, size: usize) -> Result<(), SetupFailed> {
-        self.marks.push(Vec::with_capacity(self.alloc, size)?)?;
-        Ok(())
+    fn mark(&mut self, size: usize) {
+        match Vec::with_capacity(self.alloc, size) {
+            Ok(mark) => {
+                let kept = self.marks.push(mark);
+                self.check(kept);
+            }
+            Err(_) => self.failed = true,
+        }
     }
 
     /// What was written for it, where nothing went wrong.
-    pub fn text(&self) -> Result<&str, SetupFailed> {
+    pub fn text(&self) -> Option<&str> {
         if self.failed {
-            return Err(SetupFailed);
+            None
+        } else {
+            Some(self.text.as_str())
         }
-        Ok(self.text.as_str())
     }
-}
-
-impl fmt::Write for Trial {
-    fn write_str(&mut self, text: &str) -> fmt::Result {
-        if self.text.write_str(text).is_err() {
-            self.failed = true;
-        }
-        Ok(())
-    }
-}
-
-/// Writes for a trial.
-macro_rules! write_words {
-    ($trial:expr, $($words:tt)*) => {{
-        let _ = write!($trial, $($words)*);
-    }};
-}
-
-/// The same with the end of a line.
-macro_rules! write_line {
-    ($trial:expr) => {{
-        let _ = writeln!($trial);
-    }};
-    ($trial:expr, $($words:tt)*) => {{
-        let _ = writeln!($trial, $($words)*);
-    }};
 }
 
 /// The answer of a call whose requests for memory are counted.
@@ -125,5 +109,3 @@ macro_rules! counted {
 }
 
 pub(crate) use counted;
-pub(crate) use write_line;
-pub(crate) use write_words;

@@ -20,7 +20,7 @@ use std::hash::Hash;
 use std::marker::Model;
 
 /// The sums of weights by group of the rows of one shard, or of several that were merged.
-#[derive(Debug, Drop)]
+#[derive(Drop)]
 pub struct GroupSums<G: Eq + Hash + Drop> {
     sketch: FrequentItemsSketch<G>,
 }

@@ -1,24 +1,23 @@
 //! Calls of the layer under the sketches that take no memory: those that write.
 use crate::output::{fault_of, write_bytes, write_values};
-use crate::texts::text;
-use crate::trial::{SetupFailed, Trial, counted, write_line};
+use crate::trial::{Trial, counted};
 use datasketches::codec::SketchBytes;
 use datasketches::error::{Error, Fault};
 use datasketches::frequencies::FrequentItemValue;
 use std::fmt::Write;
 
-/// Writes the texts of a refusal, one for users and two for programmers. Answers whether there was room.
-fn write_texts(texts: &mut String, error: Error) -> bool {
-    writeln!(texts, "{error}\n{error:?}\n{error:#?}").is_ok()
-}
-
-/// The texts of a refusal, in memory that is there.
-pub fn texts(trial: &mut Trial) -> Result<(), SetupFailed> {
+/// The texts of a refusal, one for users and two for programmers, in memory that is there, and whether there was room.
+pub fn texts(trial: &mut Trial) {
     let error = Error::invalid_data(Fault::BadFamily);
-    let mut texts = String::with_capacity(trial.alloc, 256)?;
-    let written = counted!(trial, write_texts(&mut texts, error));
-    write_line!(trial, "{texts}{written}");
-    Ok(())
+    let Ok(mut texts) = String::with_capacity(trial.alloc, 256) else {
+        return trial.fail();
+    };
+    let written = counted!(
+        trial,
+        writeln!(texts, "{error}\n{error:?}\n{error:#?}").is_ok()
+    );
+    trial.write_value(texts.as_str(), &written);
+    trial.write("\n");
 }
 
 /// Writes of each width within the capacity.
@@ -35,13 +34,14 @@ fn write_all(bytes: &mut SketchBytes) -> [&'static str; 7] {
 }
 
 /// Writes of each width, and the bytes.
-pub fn writes(trial: &mut Trial) -> Result<(), SetupFailed> {
-    let mut bytes = SketchBytes::with_capacity(trial.alloc, 29)?;
+pub fn writes(trial: &mut Trial) {
+    let Ok(mut bytes) = SketchBytes::with_capacity(trial.alloc, 29) else {
+        return trial.fail();
+    };
     let faults = counted!(trial, write_all(&mut bytes));
     let bytes = counted!(trial, bytes.into_bytes());
     write_values(trial, "writes", &faults);
     write_bytes(trial, &bytes);
-    Ok(())
 }
 
 /// The sizes of items.
@@ -62,19 +62,15 @@ fn write_items(bytes: &mut SketchBytes, text: &String) -> [&'static str; 3] {
     ]
 }
 
-/// The sizes of items, and their writes.
-pub fn items(trial: &mut Trial) -> Result<(), SetupFailed> {
-    let text = text(trial.alloc, "ab")?;
+/// The sizes of items, their writes, and the bytes.
+pub fn items(trial: &mut Trial) {
+    let Ok(mut bytes) = SketchBytes::with_capacity(trial.alloc, 22) else {
+        return trial.fail();
+    };
+    let text = trial.string("ab");
     let sizes = counted!(trial, sizes_of(&text));
     write_values(trial, "sizes", &sizes);
-    write_items_counted(trial, &text)
-}
-
-/// Writes the items with their requests for memory counted, and then the bytes.
-fn write_items_counted(trial: &mut Trial, text: &String) -> Result<(), SetupFailed> {
-    let mut bytes = SketchBytes::with_capacity(trial.alloc, 22)?;
-    let faults = counted!(trial, write_items(&mut bytes, text));
+    let faults = counted!(trial, write_items(&mut bytes, &text));
     write_values(trial, "writes", &faults);
     write_bytes(trial, &bytes.into_bytes());
-    Ok(())
 }

@@ -1,16 +1,14 @@
 //! Calls of the sketches of frequent items that take no memory, and that neither a session nor the library for C makes.
 use crate::output::{fault_of, write_values};
-use crate::texts::{UpdateBy, sketch_of, text, update, write_sketch};
-use crate::trial::{SetupFailed, Trial, counted, write_line, write_words};
+use crate::texts::{UpdateBy, sketch_of, update, write_sketch};
+use crate::trial::{Trial, counted};
 use datasketches::frequencies::FrequentItemsSketch;
-use std::alloc::AllocError;
-use std::fmt::Write;
 
 /// A sketch of texts.
 type Texts = FrequentItemsSketch<String>;
 
 /// Updates of an item that is tracked, and updates of weight 0 by reference.
-const BY_REFERENCE: [(&str, UpdateBy); 4] = [
+pub const BY_REFERENCE: [(&str, UpdateBy); 4] = [
     ("a", UpdateBy::Reference),
     ("a", UpdateBy::ReferenceWithCount(2)),
     ("h", UpdateBy::ReferenceWithCount(0)),
@@ -18,66 +16,30 @@ const BY_REFERENCE: [(&str, UpdateBy); 4] = [
 ];
 
 /// Updates that would pass the greatest total.
-const TOO_HEAVY: [(&str, UpdateBy); 3] = [
+pub const TOO_HEAVY: [(&str, UpdateBy); 3] = [
     ("b", UpdateBy::Reference),
     ("a", UpdateBy::ReferenceWithCount(1)),
     ("b", UpdateBy::Value),
 ];
 
-/// Makes an update with its requests for memory counted, and writes why it is refused, if it is.
-fn update_counted(
-    trial: &mut Trial,
-    sketch: &mut Texts,
-    item: &str,
-    by: UpdateBy,
-) -> Result<(), AllocError> {
-    let item = text(trial.alloc, item)?;
-    let updated = counted!(trial, update(sketch, by, item));
-    write_words!(trial, " {}", fault_of(updated));
-    Ok(())
-}
-
-/// Makes updates, on a line of their own.
-fn write_updates(
-    trial: &mut Trial,
-    sketch: &mut Texts,
-    updates: &[(&str, UpdateBy)],
-) -> Result<(), AllocError> {
-    write_words!(trial, "updates");
+/// Makes updates with their requests for memory counted, and writes on a line why each is refused, if it is.
+fn write_updates(trial: &mut Trial, sketch: &mut Texts, updates: &[(&str, UpdateBy)]) {
+    trial.write("updates");
     for (item, by) in updates {
-        update_counted(trial, sketch, item, *by)?;
+        let item = trial.string(item);
+        let updated = counted!(trial, update(sketch, *by, item));
+        trial.write_value(" ", &fault_of(updated));
     }
-    write_line!(trial);
-    Ok(())
+    trial.write("\n");
 }
 
-/// The updates of a sketch, and what it says then of the item `a`.
-fn play_updates(
-    trial: &mut Trial,
-    sketch: &mut Texts,
-    updates: &[(&str, UpdateBy)],
-) -> Result<(), SetupFailed> {
-    write_updates(trial, sketch, updates)?;
-    Ok(write_sketch(trial, sketch, &["a"])?)
-}
-
-/// The updates of a sketch of one item of this weight.
-fn play_updates_of_one(
-    trial: &mut Trial,
-    weight: u64,
-    updates: &[(&str, UpdateBy)],
-) -> Result<(), SetupFailed> {
-    let mut sketch = sketch_of(trial.alloc, 8, &[("a", weight)])?;
-    play_updates(trial, &mut sketch, updates)
-}
-
-pub fn updates_by_reference(trial: &mut Trial) -> Result<(), SetupFailed> {
-    play_updates_of_one(trial, 1, &BY_REFERENCE)
-}
-
-/// Updates that would pass the greatest total.
-pub fn refused_references(trial: &mut Trial) -> Result<(), SetupFailed> {
-    play_updates_of_one(trial, u64::MAX, &TOO_HEAVY)
+/// The updates of a sketch of one item `a` of this weight, and what it says then of the item.
+pub fn play_updates(trial: &mut Trial, weight: u64, updates: &[(&str, UpdateBy)]) {
+    let Ok(mut sketch) = sketch_of(trial, 8, &[("a", weight)]) else {
+        return trial.fail();
+    };
+    write_updates(trial, &mut sketch, updates);
+    write_sketch(trial, &sketch, &["a"]);
 }
 
 /// A sketch's sizes, whether it is empty, and the estimates of two items by one call.
@@ -95,10 +57,11 @@ fn numbers(sketch: &FrequentItemsSketch<i64>) -> [u64; 6] {
 }
 
 /// Questions to a sketch of one item.
-pub fn questions(trial: &mut Trial) -> Result<(), SetupFailed> {
-    let mut sketch = FrequentItemsSketch::new(trial.alloc, 64)?;
-    sketch.update_with_count(3, 7)?;
+pub fn questions(trial: &mut Trial) {
+    let Ok(mut sketch) = FrequentItemsSketch::new(trial.alloc, 64) else {
+        return trial.fail();
+    };
+    trial.check(sketch.update_with_count(3, 7));
     let numbers = counted!(trial, numbers(&sketch));
     write_values(trial, "numbers", &numbers);
-    Ok(())
 }

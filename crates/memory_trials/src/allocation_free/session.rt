@@ -1,20 +1,15 @@
 //! A session of no name.
 use crate::output::write_replies;
-use crate::texts::text;
-use crate::trial::{SetupFailed, Trial, counted};
-use datasketches::{Command, Reply, Session};
-use std::alloc::Global;
+use crate::trial::{Trial, counted};
+use datasketches::{Command, Session};
 
 /// What a new session says of a name.
-fn reply_of_new(alloc: Global, name: String) -> Reply<String> {
-    let mut session = Session::new(alloc);
-    session.apply(Command::GetStatus { name })
-}
-
-pub fn session(trial: &mut Trial) -> Result<(), SetupFailed> {
+pub fn session(trial: &mut Trial) {
     let alloc = trial.alloc;
-    let name = text(alloc, "f")?;
-    let reply = counted!(trial, reply_of_new(alloc, name));
+    let name = trial.string("f");
+    let reply = counted!(
+        trial,
+        Session::new(alloc).apply(Command::GetStatus { name })
+    );
     write_replies(trial, &[reply]);
-    Ok(())
 }

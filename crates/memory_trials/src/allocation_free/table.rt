@@ -1,11 +1,10 @@
 //! Calls of the table of counters that take no memory.
 use crate::output::{write_table, write_values};
 use crate::table::{Map, free_table, purge, put, put_ref};
-use crate::trial::{SetupFailed, Trial, counted, write_line};
+use crate::trial::{Trial, counted};
 use datasketches::error::Error;
 use datasketches::frequencies::{ReversePurgeItemHashMap, ReversePurgeItemIter};
 use std::alloc::Global;
-use std::fmt::Write;
 use test_items::{FEEDS_NOTHING, Item};
 
 /// Adds amounts for new items and tracked ones, one of them by reference.
@@ -17,14 +16,16 @@ fn add_all(map: &mut ReversePurgeItemHashMap<i64>) -> Result<(), Error> {
 }
 
 /// Amounts for new items and tracked ones, and a purge.
-pub fn changes(trial: &mut Trial) -> Result<(), SetupFailed> {
-    let mut map = free_table(trial.alloc, 8)?;
-    counted!(trial, add_all(&mut map))?;
+pub fn changes(trial: &mut Trial) {
+    let Ok(mut map) = free_table(trial.alloc, 8) else {
+        return trial.fail();
+    };
+    let added = counted!(trial, add_all(&mut map));
+    trial.check(added);
     write_table(trial, &map, &[1, 2, 5]);
     let middle = counted!(trial, purge(&mut map));
     write_values(trial, "purged", &[middle]);
     write_table(trial, &map, &[1, 2, 5]);
-    Ok(())
 }
 
 /// A table of three items.
@@ -62,22 +63,26 @@ fn counts<const KIND: u8>(map: &Map<KIND>) -> [u64; 6] {
 }
 
 /// All questions.
-pub fn questions<const KIND: u8>(trial: &mut Trial) -> Result<(), SetupFailed> {
-    let map = three::<KIND>(trial.alloc)?;
+pub fn questions<const KIND: u8>(trial: &mut Trial) {
+    let Ok(map) = three::<KIND>(trial.alloc) else {
+        return trial.fail();
+    };
     let numbers = counted!(trial, numbers(&map));
     let counts = counted!(trial, counts(&map));
     write_values(trial, "numbers", &numbers);
     write_values(trial, "counts", &counts);
-    Ok(())
 }
 
 /// Of items that feed a hasher nothing all have one home: a question for an absent one looks at the three and a free
 /// slot.
-pub fn looks(trial: &mut Trial) -> Result<(), SetupFailed> {
-    let map = three::<FEEDS_NOTHING>(trial.alloc)?;
+pub fn looks(trial: &mut Trial) {
+    let Ok(map) = three::<FEEDS_NOTHING>(trial.alloc) else {
+        return trial.fail();
+    };
     let (absent, looked) = counted!(trial, map.get_counted(&Item::of(4)));
-    write_line!(trial, "{absent} looked {looked}");
-    Ok(())
+    trial.write_value("", &absent);
+    trial.write_value(" looked ", &looked);
+    trial.write("\n");
 }
 
 /// The count of the next entry, and 0 behind the last.
@@ -109,10 +114,11 @@ fn walk_past_end<const KIND: u8>(map: &Map<KIND>) -> [u64; 6] {
 }
 
 /// A walk past its end, and whether it looked at as many slots as it may.
-pub fn walk<const KIND: u8>(trial: &mut Trial) -> Result<(), SetupFailed> {
-    let map = three::<KIND>(trial.alloc)?;
+pub fn walk<const KIND: u8>(trial: &mut Trial) {
+    let Ok(map) = three::<KIND>(trial.alloc) else {
+        return trial.fail();
+    };
     let [to_come, looked_at, sum, behind, left, looked] = counted!(trial, walk_past_end(&map));
     write_values(trial, "walk", &[to_come, looked_at, sum, behind, left]);
     write_values(trial, "looked", &[3 <= looked && looked <= 8]);
-    Ok(())
 }

@@ -2,41 +2,27 @@
 use crate::calls::refusable;
 use crate::output::{write_error, write_values};
 use crate::table::{free_table, put};
-use crate::trial::{SetupFailed, Trial};
-use datasketches::error::Error;
-use datasketches::frequencies::ReversePurgeItemHashMap;
-use std::alloc::Global;
-
-/// A table of numbers.
-type Table = ReversePurgeItemHashMap<i64>;
+use crate::trial::Trial;
 
 /// Plays the trial of the name.
-pub fn play(trial: &mut Trial, call: &str) -> Result<(), SetupFailed> {
+pub fn play(trial: &mut Trial, call: &str) {
     match call {
         "entries" => entries(trial),
-        _ => Err(SetupFailed),
+        _ => trial.fail(),
     }
 }
 
-/// A table of six numbers, as many as a sketch keeps in 8 slots, with a count of 3 each.
-fn of_six(alloc: Global) -> Result<Table, Error> {
-    let mut map = free_table(alloc, 8)?;
+/// How long the list of entries is, or why there is none, of a table of six numbers, as many as a sketch keeps in 8 slots,
+/// with a count of 3 each.
+fn entries(trial: &mut Trial) {
+    let Ok(mut map) = free_table(trial.alloc, 8) else {
+        return trial.fail();
+    };
     for item in 0..6i64 {
         put(&mut map, item, 3);
     }
-    Ok(map)
-}
-
-/// How long the list of entries is, or why there is none.
-fn write_entries(trial: &mut Trial, map: &Table) {
     match refusable!(trial, map.active_entries()) {
         Ok(entries) => write_values(trial, "entries", &[entries.len()]),
         Err(e) => write_error(trial, e),
     }
-}
-
-fn entries(trial: &mut Trial) -> Result<(), SetupFailed> {
-    let map = of_six(trial.alloc)?;
-    write_entries(trial, &map);
-    Ok(())
 }

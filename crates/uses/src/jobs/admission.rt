@@ -23,15 +23,7 @@ struct Trial {
 /// Uses the items of the lines, and reports how often each cache had them.
 pub fn run(alloc: Global, numbers: &[u64], text: &str, report: &mut String) -> Result<()> {
     let mut trial = trial_of(alloc, numbers)?;
-    trial.touch_each(text)?;
-    let hits = trial.choosy_hits;
-    let plain_hits = trial.plain_hits;
-    writeln!(
-        report,
-        "uses {} hits {hits} without {plain_hits}",
-        trial.uses
-    )?;
-    Ok(())
+    trial.touch_each(text, report)
 }
 
 /// A trial with these numbers of hashes and buckets, this window and caches of this size.
@@ -40,11 +32,13 @@ fn trial_of(alloc: Global, numbers: &[u64]) -> Result<Trial> {
         bail!("admission HASHES BUCKETS WINDOW CAPACITY");
     };
     let window = window_of(*window)?;
-    let capacity = capacity_of(*capacity)?;
+    let Some(capacity) = NonZeroUsize::new(usize::try_from(*capacity)?) else {
+        bail!("an empty cache");
+    };
     let hashes = u8::try_from(*hashes)?;
     let buckets = u32::try_from(*buckets)?;
     let admission = Admission::new(alloc, hashes, buckets, window)?;
-    Ok(Trial::new(alloc, admission, capacity)?)
+    Trial::new(alloc, admission, capacity)
 }
 
 /// A window of so many uses.
@@ -56,21 +50,9 @@ fn window_of(uses: u64) -> Result<u32>
     Ok(window)
 }
 
-/// Caches of so many places.
-fn capacity_of(places: u64) -> Result<NonZeroUsize> {
-    match NonZeroUsize::new(usize::try_from(places)?) {
-        Some(capacity) => Ok(capacity),
-        None => bail!("an empty cache"),
-    }
-}
-
 impl Trial {
     /// Empty caches of this size.
-    fn new(
-        alloc: Global,
-        admission: Admission,
-        capacity: NonZeroUsize,
-    ) -> Result<Self, AllocError> {
+    fn new(alloc: Global, admission: Admission, capacity: NonZeroUsize) -> Result<Self> {
         let choosy = LruCache::sparse(alloc, capacity)?;
         let plain = LruCache::sparse(alloc, capacity)?;
         Ok(Trial {
@@ -83,11 +65,15 @@ impl Trial {
         })
     }
 
-    /// Uses the item of each line.
-    fn touch_each(&mut self, text: &str) -> Result<()> {
+    /// Uses the item of each line, and reports how often each cache had it.
+    fn touch_each(&mut self, text: &str, report: &mut String) -> Result<()> {
         for line in text.lines() {
             self.touch(line.trim().parse::<u64>()?)?;
         }
+        let uses = self.uses;
+        let hits = self.choosy_hits;
+        let plain_hits = self.plain_hits;
+        writeln!(report, "uses {uses} hits {hits} without {plain_hits}")?;
         Ok(())
     }
 

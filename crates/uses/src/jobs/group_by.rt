@@ -72,15 +72,20 @@ impl Shards {
     fn merged(&self) -> Result<GroupSums<String>, Error> {
         let mut all = GroupSums::new(self.alloc, self.size)?;
         for sums in &self.sums {
-            merge_image(self.alloc, &mut all, &sums.image()?)?;
+            merge_image_of(self.alloc, &mut all, sums)?;
         }
         Ok(all)
     }
 }
 
-/// Merges the sums of an image.
-fn merge_image(alloc: Global, all: &mut GroupSums<String>, image: &[u8]) -> Result<(), Error> {
-    let shard = GroupSums::from_image(alloc, image, MOST_BYTES)?;
+/// Merges the sums of a shard, from its image.
+fn merge_image_of(
+    alloc: Global,
+    all: &mut GroupSums<String>,
+    shard: &GroupSums<String>,
+) -> Result<(), Error> {
+    let image = shard.image()?;
+    let shard = GroupSums::from_image(alloc, &image, MOST_BYTES)?;
     all.merge(&shard)
 }
 
@@ -111,6 +116,5 @@ fn write_row(row: &Row<String>, most: u64, report: &mut String) -> Result<(), Al
     for _ in 0..lower_bound / (most / LONGEST_BAR + 1) {
         report.push('#')?;
     }
-    report.push('\n')?;
-    Ok(())
+    report.push('\n')
 }

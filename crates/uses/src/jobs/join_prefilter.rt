@@ -27,7 +27,9 @@ pub fn run(alloc: Global, numbers: &[u64], text: &str, report: &mut String) -> R
         parts: Vec::new(alloc),
         rows: Vec::new(alloc),
     };
-    sides.add_lines(alloc, text)?;
+    for line in text.lines() {
+        sides.add_line(alloc, line)?;
+    }
     let before = sides.rows.len();
     sides.prune(alloc, *bits, hashes)?;
     write_rows(&sides.rows, before, report)?;
@@ -35,13 +37,6 @@ pub fn run(alloc: Global, numbers: &[u64], text: &str, report: &mut String) -> R
 }
 
 impl Sides {
-    fn add_lines(&mut self, alloc: Global, text: &str) -> Result<()> {
-        for line in text.lines() {
-            self.add_line(alloc, line)?;
-        }
-        Ok(())
-    }
-
     /// Adds a line `key PART KEY` or `row KEY VALUE`.
     fn add_line(&mut self, alloc: Global, line: &str) -> Result<()> {
         let mut words = line.split_whitespace();

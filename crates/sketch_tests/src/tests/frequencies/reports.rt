@@ -13,10 +13,16 @@ fn rows_of_text(alloc: Global) -> Result<Vec<Row<String>>, Error> {
     sketch.frequent_items(ErrorType::NoFalsePositives)
 }
 
-/// A row's clone, where it is equal to it.
-fn equal_clone(row: &Row<String>) -> Result<Option<Row<String>>, Error> {
-    let cloned = row.try_clone()?;
-    Ok(if cloned == *row { Some(cloned) } else { None })
+/// Whether a row's clone is equal to it, its lower bound, and whether it has the item "ab" and is printed with its bounds.
+fn cloned(alloc: Global, row: &Row<String>) -> Result<(bool, u64, bool, bool), Fail> {
+    let clone = row.try_clone()?;
+    let text = format!(in alloc; "{clone}")?;
+    Ok((
+        clone == *row,
+        clone.lower_bound(),
+        clone.item().as_str() == "ab",
+        text.as_str() == "ab 3 3 3",
+    ))
 }
 
 #[test]
@@ -25,10 +31,6 @@ fn clones_texts(rt: HostRuntime) -> Result<(), Fail> {
     let [row] = rows.as_slice() else {
         return Err(Fail::from("not one row"));
     };
-    let Some(cloned) = equal_clone(row)? else {
-        return Err(Fail::from("not an equal row"));
-    };
-    assert!(rt; cloned.lower_bound() == 3 && cloned.item().as_str() == "ab");
-    assert!(rt; format!(in rt.alloc(); "{cloned}")?.as_str() == "ab 3 3 3");
+    assert!(rt; cloned(rt.alloc(), row)? == (true, 3, true, true));
     Ok(())
 }

@@ -56,19 +56,13 @@ fn resize(
 /// The first six items whose home is the last of eight slots.
 const ITEMS_OF_THE_LAST_SLOT: [i64; 6] = [25, 30, 43, 44, 47, 54];
 
-/// A table of the numbers from 1 on, each as often as it says, below this one.
-fn counted_below(rt: &impl Abort, alloc: Global, end: u8) -> Result<Table, Error> {
-    let mut map = table(rt, alloc, 8)?;
-    for count in 1..end {
-        add(rt, &mut map, Item::of(count as u64), count);
-    }
-    Ok(map)
-}
-
 // The middle one of the counts 1 to 7 is 4.
 #[test]
 fn seven_items_that_feed_nothing(rt: HostRuntime) -> Result<(), Fail> {
-    let mut map = counted_below(&rt, rt.alloc(), 8)?;
+    let mut map: Table = table(&rt, rt.alloc(), 8)?;
+    for count in 1u8..8 {
+        add(&rt, &mut map, Item::of(count as u64), count);
+    }
     assert!(rt; purge(&rt, &mut map, 7) == 4 && map.num_active() == 3);
     for count in 1u8..8 {
         assert!(rt; map.get(&Item::of(count as u64)) == count.saturating_sub(4) as u64);
