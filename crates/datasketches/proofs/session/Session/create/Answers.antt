@@ -9,6 +9,9 @@ returns-in_err-sketch g c =
     let free = free_name _ _ c.self.inside.sketches _ c.if-contains_name.false c.contains_name.ensures c.as_str.ensures.value in
     creates_refused g.T.PartialEq.eq c.args.shape (string_bytes c.args.name) _ c.args.self.now _ _ c.self.view_is free (told_call _ _ c.from_residual.ensures.1) c.in_err-sketch.ensures.refused
 
+pub insert-requires : goal.insert-requires
+insert-requires g c = record { free = free_name _ _ c.self.inside.sketches _ c.if-contains_name.false c.contains_name.ensures c.as_str.ensures.value }
+
 pub returns-in_err-insert : goal.returns-in_err-insert
 returns-in_err-insert g c =
     let free = free_name _ _ c.self.inside.sketches _ c.if-contains_name.false c.contains_name.ensures c.as_str.ensures.value in

@@ -4,6 +4,9 @@ use Rattle.datasketches.proofs.Names.{free_name}
 use Rattle.datasketches.proofs.Saving.{told_call, loads_refused, loads_done}
 use Rattle.datasketches.proofs.session.Session.load.Goals as goal
 
+pub insert-requires : goal.insert-requires
+insert-requires g c = record { free = free_name _ _ c.self.inside.sketches _ c.if-contains_name.false c.contains_name.ensures c.as_str.ensures.value }
+
 pub returns-in_err-insert : goal.returns-in_err-insert
 returns-in_err-insert g c =
     let free = free_name _ _ c.self.inside.sketches _ c.if-contains_name.false c.contains_name.ensures c.as_str.ensures.value in

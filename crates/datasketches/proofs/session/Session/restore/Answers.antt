@@ -11,6 +11,9 @@ returns-in_err-sketch g c =
     restores_failed g.T.PartialEq.eq g.T.FrequentItemValue.codec g.T.FrequentItemValue.content c.args.image.now (string_bytes c.args.name) _ c.args.self.now _ _ c.in_ok-saved.saved.now c.self.view_is
     c.in_ok-saved.ensures.found free c.in_err-sketch.ensures.refused (told_call _ _ c.from_residual-in_err-sketch.ensures.1)
 
+pub insert-requires : goal.insert-requires
+insert-requires g c = record { free = free_name _ _ c.self.inside.sketches _ c.if-contains_name.false c.contains_name.ensures c.as_str.ensures.value }
+
 pub returns-in_err-insert : goal.returns-in_err-insert
 returns-in_err-insert g c =
     let free = free_name _ _ c.self.inside.sketches _ c.if-contains_name.false c.contains_name.ensures c.as_str.ensures.value in

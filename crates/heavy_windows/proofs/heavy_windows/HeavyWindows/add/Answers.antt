@@ -6,7 +6,7 @@ use Rattle.sketch_frequencies.specs.Steps.{Steps}
 use Rattle.heavy_windows.specs.Fresh.{fresh_state}
 use Rattle.heavy_windows.specs.Histories.{added_history}
 use Rattle.heavy_windows.specs.Stands.{ExtendsEach}
-use Rattle.heavy_windows.specs.State.{WindowsState, at_tenant}
+use Rattle.heavy_windows.specs.State.{IsWindows, WindowsState, at_tenant}
 use Rattle.heavy_windows.specs.Steps.{AddsToNewest}
 use Rattle.heavy_windows.proofs.Kept.{kept_added_either, kept_first, size_is_good}
 use Rattle.heavy_windows.proofs.Refusals.{fits_none, refused_unknown}
@@ -74,6 +74,23 @@ returns-in_err-insert-clause-call g c =
     refused_unknown g.T.PartialEq.eq c.args.tenant c.args.weight c.args.item (state_of c.self.inside.limit c.self.inside.max_map_size old) c.args.self.now _ c.from_residual-in_err-insert.result _
     c.if-weight-eq0.false c.ranges.weight.fits (ap (λ o. unwrap_or o []) (sym c.in_default.ensures.value)) c.self.view_is
     (put_none c.self.inside.limit c.self.inside.max_map_size old c.insert.new.self.entries c.args.self.now c.self.view_is same) p.1 p.2
+
+-- in each of these the windows are as they were
+
+pub invariant_of-self-in_err-window : goal.invariant_of-self-in_err-window
+invariant_of-self-in_err-window g c =
+    let same : (c.get_mut.follows.lender-at-none).entries ≡ c.self.inside.tenants.entries = rw c.get_mut.follows.holds-at-none refl in
+    subst (λ es. IsWindows (state_of c.self.inside.limit c.self.inside.max_map_size es)) (sym same) c.self.invariant
+
+pub invariant_of-self-in_err-update_with_count : goal.invariant_of-self-in_err-update_with_count
+invariant_of-self-in_err-update_with_count g c =
+    let same : (c.get_mut.follows.lender-at-none).entries ≡ c.self.inside.tenants.entries = rw c.get_mut.follows.holds-at-none refl in
+    subst (λ es. IsWindows (state_of c.self.inside.limit c.self.inside.max_map_size es)) (sym same) c.self.invariant
+
+pub invariant_of-self-in_err-insert : goal.invariant_of-self-in_err-insert
+invariant_of-self-in_err-insert g c =
+    let same : c.insert.new.self.entries ≡ c.self.inside.tenants.entries = rw c.get_mut.follows.holds-at-none at c.in_err-insert.ensures.err in
+    subst (λ es. IsWindows (state_of c.self.inside.limit c.self.inside.max_map_size es)) (sym same) c.self.invariant
 
 -- an unknown tenant got a first window
 put_first : (g : given.Over) (c : goal.Joined-branch-4 g)

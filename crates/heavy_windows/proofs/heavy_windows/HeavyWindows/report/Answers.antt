@@ -1,4 +1,5 @@
 use Rattle.std.proofs.Common.{rules, ◌<◌, All, max, subst, sym, ◌∙◌}
+use Rattle.std.proofs.lemmas.Result.{err_from_is_err_and}
 use Rattle.sketch_frequencies.specs.History.{true_weight}
 use Rattle.heavy_windows.specs.Histories.{report_history}
 use Rattle.heavy_windows.specs.State.{at_tenant}
@@ -26,3 +27,18 @@ returns g c =
         memory = λ _. tt;
       };
     }
+
+-- there was no memory for the rows
+pub returns-in_err-rows : goal.returns-in_err-rows
+returns-in_err-rows g c =
+    let p = err_from_is_err_and c.from_residual-in_err-rows.result c.from_residual-in_err-rows.ensures.1 in
+    rw p.1 (record { call = record {
+      ok = tt;
+      total = tt;
+      encloses = tt;
+      none_missing = tt;
+      none_below = tt;
+      budget = tt;
+      overflow = λ over. absurd (cc (c.in_ok-merged.ensures.overflow over));
+      memory = λ room. p.2 ∙ c.in_err-rows.ensures.err;
+    } })

@@ -1,5 +1,6 @@
 use Rattle.std.proofs.Common.{arith, ap, sym, subst, ◌+◌, ◌∙◌}
-use Rattle.sketch_frequencies.specs.State.{FrequentState, state_of}
+use Rattle.std.proofs.lemmas.Bool.{false≢true}
+use Rattle.sketch_frequencies.specs.State.{FrequentState, IsState, state_of}
 use Rattle.sketch_frequencies.specs.Steps.{Steps}
 use Rattle.sketch_frequencies.proofs.UpdateParts.{adds_tracked, step_tracked}
 use Rattle.sketch_frequencies.proofs.Puts.{count_le_sum}
@@ -8,6 +9,20 @@ use Rattle.sketch_frequencies.proofs.frequent_items_sketch.FrequentItemsSketch.a
 
 pub adjust-requires : goal.adjust-requires
 adjust-requires g c = λ _. omega (arith, count_le_sum g.T.PartialEq.eq c.self.inside.map.entries c.args.item.now, c.self.invariant.sum, c.requires.fits, ap (λ s. s.total) c.self.view_is)
+
+-- nothing is tracked, and nothing was done
+
+pub invariant_of-self : goal.invariant_of-self
+invariant_of-self g c =
+    subst (λ t. IsState g.T.PartialEq.eq (state_of t c.self.inside.error c.self.inside.total c.self.inside.max_size c.self.inside.sample_size)) (sym (c.adjust.ensures.absent c.if-not-adjust.true)) c.self.invariant
+
+pub returns-then-not-adjust-clause-state : goal.returns-then-not-adjust-clause-state
+returns-then-not-adjust-clause-state g c = invariant_of-self g c
+
+pub returns-then-not-adjust-clause-present : goal.returns-then-not-adjust-clause-present
+returns-then-not-adjust-clause-present g c = λ found. absurd (false≢true found)
+
+-- its count was raised
 
 pub returns-clause-present : goal.returns-clause-present
 returns-clause-present g c = λ _.

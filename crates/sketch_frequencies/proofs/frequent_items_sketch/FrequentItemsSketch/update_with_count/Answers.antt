@@ -1,4 +1,4 @@
-use Rattle.std.proofs.Common.{subst}
+use Rattle.std.proofs.Common.{arith, subst}
 use Rattle.sketch_frequencies.specs.State.{IsState}
 use Rattle.sketch_frequencies.specs.Steps.{Steps}
 use Rattle.sketch_frequencies.proofs.Enclosure.{stands_after}
@@ -10,6 +10,12 @@ returns-then-capacity-num_active-clause-stands g c = λ pos h s. stands_after g.
 
 pub returns-then-capacity-num_active-clause-budget : goal.returns-then-capacity-num_active-clause-budget
 returns-then-capacity-num_active-clause-budget g c = λ pos h s keeps. budget_after g.met.T.Eq.laws c.args.self.now c.put.new.self c.args.item c.args.count (subst (λ s. IsState g.T.PartialEq.eq s) c.self.view_is c.self.invariant) c.put.ensures.step h s keeps
+
+pub returns-then-count-eq0-clause-step : goal.returns-then-count-eq0-clause-step
+returns-then-count-eq0-clause-step g c = λ some. absurd (omega (arith, c.if-count-eq0.true))
+
+pub returns-then-adjust-clause-step : goal.returns-then-adjust-clause-step
+returns-then-adjust-clause-step g c = λ _. c.adjust.ensures.present c.if-adjust.true
 
 pub returns-then-adjust-clause-stands : goal.returns-then-adjust-clause-stands
 returns-then-adjust-clause-stands g c = λ pos h s. stands_after g.met.T.Eq.laws c.args.self.now c.adjust.new.self c.args.item c.args.count pos (subst (λ s. IsState g.T.PartialEq.eq s) c.self.view_is c.self.invariant) (c.adjust.ensures.present c.if-adjust.true) h s
