@@ -7,7 +7,7 @@ use Rattle.std.proofs.lemmas.List.{take_more, take_all}
 use Rattle.std.proofs.lemmas.List.Sums.{sum_by_push, sum_by-take-le}
 use Rattle.sketch_base.specs.Checks.{first_failing}
 use Rattle.sketch_base.specs.Fields.{le_at, words_in}
-use Rattle.sketch_base.specs.declared.fault.Fault.TheVariants.{ErrorExceedsTotal}
+use Rattle.sketch_base.specs.declared.fault.Fault.TheVariants.{ErrorExceedsTotal, WeightsExceedTotal}
 use Rattle.sketch_frequencies.specs.Image.{weight_checks, active_at, weights_at, total_at, error_at}
 
 pub length-words_in : (n : ℕ) (bytes : List ℕ) → length (words_in n bytes) ≡ n
@@ -39,7 +39,13 @@ sum_next ws k lt = ap sum (take_more ws k 0 lt) ∙ sum_by_push (λ (n : ℕ). n
 pub sum_take-le : (ws : List ℕ) (k : ℕ) → sum (take k ws) ≤ sum ws
 sum_take-le ws k = sum_by-take-le (λ (n : ℕ). n) ws k
 
--- the weights are within the total, and with the error they are not
+-- the weights are not within the total
+pub over_total : (image : List ℕ) → total_at image < sum (weights_at image) → first_failing (weight_checks image) ≡ Some WeightsExceedTotal
+over_total image over =
+    let fails : leb (sum (weights_at image)) (total_at image) ≡ false = lt-leb _ _ over in
+    rw fails refl
+
+-- they are, and with the error they are not
 pub over_error : (image : List ℕ) → sum (weights_at image) ≤ total_at image → total_at image < sum (weights_at image) + error_at image → first_failing (weight_checks image) ≡ Some ErrorExceedsTotal
 over_error image within over =
     let ws = weights_at image in

@@ -1,7 +1,23 @@
-use Rattle.std.proofs.Common.{arith, ◌≡◌, ◌≤◌, ◌∙◌, sum, refl}
+use Rattle.std.proofs.Common.{arith, ◌≡◌, ◌+◌, ◌<◌, ◌≤◌, ◌∙◌, length, sum, refl}
 use Rattle.sketch_frequencies.specs.Image.{active_at, weights_at}
-use Rattle.sketch_frequencies.proofs.ImageWeights.{over_error, weights_pass, sum_whole}
+use Rattle.sketch_frequencies.proofs.ImageWeights.{length-weights_at, sum_next, sum_take-le, over_total, over_error, weights_pass, sum_whole}
 use Rattle.sketch_frequencies.proofs.image.check_weights.Goals as goal
+
+pub loop-i-preserved : goal.loop-i-preserved
+loop-i-preserved c =
+    let ws = weights_at c.args.image.now in
+    let here : c.loop-i.i < length ws = omega (arith, c.loop-i-test.true, c.requires.fields.active, length-weights_at c.args.image.now) in
+    record {
+      sum = omega (arith, c.loop-i.invariant.sum, c.weight_at-weight.ensures, sum_next ws c.loop-i.i here);
+      within = omega (arith, c.loop-i.invariant.within, c.if-weight-total.false);
+    }
+
+pub returns-then-weight-total-clause-err : goal.returns-then-weight-total-clause-err
+returns-then-weight-total-clause-err c =
+    let image = c.args.image.now in
+    let ws = weights_at image in
+    let here : c.loop-i.i < length ws = omega (arith, c.loop-i-test.true, c.requires.fields.active, length-weights_at image) in
+    rw c.invalid_data.ensures (refl, over_total image (omega (arith, c.loop-i.invariant.sum, c.loop-i.invariant.within, c.weight_at-weight.ensures, sum_next ws c.loop-i.i here, sum_take-le ws (c.loop-i.i + 1), c.requires.fields.total, c.if-weight-total.true)))
 
 pub returns-then-numbers-total-clause-err : goal.returns-then-numbers-total-clause-err
 returns-then-numbers-total-clause-err c =

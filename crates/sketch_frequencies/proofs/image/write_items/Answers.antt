@@ -1,6 +1,9 @@
-use Rattle.std.proofs.Common.{◌≡◌, ◌∙◌, sym, inl, inr, Err, take}
+use Rattle.std.proofs.Common.{◌≡◌, ◌∙◌, sym, subst, inl, inr, Err, take}
+use Rattle.std.proofs.lemmas.List.{take_all}
 use Rattle.std.proofs.lemmas.Result.{err_from_is_err_and}
 use Rattle.counter_table.specs.Slots.{entries_of}
+use Rattle.sketch_frequencies.specs.Image.{contents_of}
+use Rattle.sketch_frequencies.specs.Writing.{WritesItems}
 use Rattle.sketch_frequencies.proofs.Cases.{by_cases}
 use Rattle.sketch_frequencies.proofs.SlotEntries.{entries_taken, entries_passed}
 use Rattle.sketch_frequencies.proofs.Spellings.{ok_and, any_entry, items_push}
@@ -33,3 +36,9 @@ loop-slot-preserved g c =
           let more = entries_passed slots i c.slot-item.result c.loop-slot-test.true (sym c.slot-item.is ∙ w.in_default.is) in
           rw (more, w.out-is) c.loop-slot.invariant
     ]
+
+pub returns-clause-ok : goal.returns-clause-ok
+returns-clause-ok g c =
+    let slots = c.args.slots.now in
+    let all : take c.loop-slot.slot-index slots ≡ slots = take_all c.loop-slot.slot-index slots c.loop-slot-test.false in
+    subst (λ slots. WritesItems g.T.FrequentItemValue.codec (contents_of g.T.FrequentItemValue.content (entries_of slots)) c.args.out.now.bytes c.loop-slot.out.bytes) all c.loop-slot.invariant
