@@ -3,7 +3,7 @@ use Rattle.std.specs.Option.{is_some}
 use Rattle.std.specs.Vec.{with_items}
 use Rattle.std.proofs.lemmas.List.{length-set, with_items_is}
 use Rattle.datasketches.specs.declared.sketch.Sketch.{Sketch}
-use Rattle.datasketches.specs.Names.{listed, Puts}
+use Rattle.datasketches.specs.Names.{ArePlaces, listed, Puts}
 use Rattle.datasketches.proofs.Names.{value_missing, is_named, one_place, placed_at, written}
 use Rattle.datasketches.proofs.Steps.{joins_into_none, joins_from_none, joins_itself, joins_two}
 use Rattle.datasketches.proofs.named_sketches.NameMap+Sketch+T.join.Goals as goal
@@ -22,6 +22,13 @@ returns-then-place-from g c =
     let other = is_named _ _ _ c.args.other.now c.self.invariant c.self.view_is ∙ sym (ap is_some c.in-Some-place_of.ensures) in
     let same = c.self.invariant.apart c.args.into.now c.args.other.now c.in-Some.place (sym c.in-Some.ensures) (sym c.in-Some-place_of.ensures ∙ ap Some (sym c.if-place-from.true)) in
     joins_itself g.T.PartialEq.eq c.args.join c.args.into.now c.args.other.now c.args.self.now into other same
+
+pub invariant_of-self : goal.invariant_of-self
+invariant_of-self g c =
+    let joined = rw c.deref_mut.ensures.value at c.join_at.ensures in
+    let as_long : length c.join_at.new.sketches ≡ length c.self.inside.values.items = ap length joined.new_is ∙ length-set _ _ _ in
+    let items = with_items_is c.self.inside.values c.join_at.new.sketches (as_long ∙ sym c.self.inside.values.ok.0) in
+    subst (λ n. ArePlaces c.self.inside.places.entries n) (sym (ap length items ∙ as_long)) c.self.invariant
 
 pub returns : goal.returns
 returns g c =

@@ -32,13 +32,15 @@ returns g c =
 pub returns-in_err-rows : goal.returns-in_err-rows
 returns-in_err-rows g c =
     let p = err_from_is_err_and c.from_residual-in_err-rows.result c.from_residual-in_err-rows.ensures.1 in
-    rw p.1 (record { call = record {
-      ok = tt;
-      total = tt;
-      encloses = tt;
-      none_missing = tt;
-      none_below = tt;
-      budget = tt;
-      overflow = λ over. absurd (cc (c.in_ok-merged.ensures.overflow over));
-      memory = λ room. p.2 ∙ c.in_err-rows.ensures.err;
-    } })
+    rw p.1 (record {
+      call = record {
+        ok = tt;
+        total = tt;
+        encloses = tt;
+        none_missing = tt;
+        none_below = tt;
+        budget = tt;
+        overflow = λ over. absurd (cc (c.in_ok-merged.ensures.overflow over));
+        memory = λ room. p.2 ∙ c.in_err-rows.ensures.err;
+      };
+    })

@@ -32,3 +32,6 @@ invariant_of-result g c =
 
 pub returns-clause-state : goal.returns-clause-state
 returns-clause-state g c = invariant_of-result g c
+
+pub returns-clause-ok : goal.returns-clause-ok
+returns-clause-ok g c = rw c.in_ok-map.ensures.ok refl
