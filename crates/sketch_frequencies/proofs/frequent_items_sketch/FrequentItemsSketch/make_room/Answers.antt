@@ -1,6 +1,6 @@
 use Rattle.std.proofs.Common.{◌<◌, ◌*◌, arith, ap, sym, ◌∙◌, refl, subst}
 use Rattle.std.proofs.lemmas.Bool.{false≢true}
-use Rattle.sketch_frequencies.specs.State.{FrequentState, must_grow, state_of}
+use Rattle.sketch_frequencies.specs.State.{FrequentState, IsState, must_grow, state_of}
 use Rattle.sketch_frequencies.specs.Growth.{MakesRoom}
 use Rattle.sketch_frequencies.proofs.UpdateParts.{grow_from_parts}
 use Rattle.sketch_frequencies.proofs.Powers.{power_twice, doubled_fits}
@@ -51,3 +51,11 @@ returns-clause-state g c = invariant_of-self-2 g c
 -- said here so that a refusal is refused at once
 pub returns-then-size-self-clause-succeeds : goal.returns-then-size-self-clause-succeeds
 returns-then-size-self-clause-succeeds g c = λ _. refl
+
+-- where there is room already, or no more slots, the sketch is as it was
+
+pub returns-then-num_active-capacity-clause-state : goal.returns-then-num_active-capacity-clause-state
+returns-then-num_active-capacity-clause-state g c = subst (λ s. IsState g.T.PartialEq.eq s) c.self.view_is c.self.invariant
+
+pub returns-then-size-self-clause-state : goal.returns-then-size-self-clause-state
+returns-then-size-self-clause-state g c = subst (λ s. IsState g.T.PartialEq.eq s) c.self.view_is c.self.invariant

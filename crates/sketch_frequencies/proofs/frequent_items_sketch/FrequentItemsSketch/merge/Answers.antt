@@ -5,6 +5,14 @@ use Rattle.sketch_frequencies.specs.Steps.{JoinsEqual}
 use Rattle.sketch_frequencies.proofs.Merges.{settle_fits, joins_equal, joins_nothing, stands_joins_equal, budget_joins_equal}
 use Rattle.sketch_frequencies.proofs.frequent_items_sketch.FrequentItemsSketch.merge.Goals as goal
 
+-- the other is too heavy, or empty
+
+pub returns-then-other-self-clause-state : goal.returns-then-other-self-clause-state
+returns-then-other-self-clause-state g c = subst (λ s. IsState g.T.PartialEq.eq s) c.self.view_is c.self.invariant
+
+pub returns-then-other-eq0-clause-state : goal.returns-then-other-eq0-clause-state
+returns-then-other-eq0-clause-state g c = subst (λ s. IsState g.T.PartialEq.eq s) c.self.view_is c.self.invariant
+
 pub returns-then-other-eq0-clause-join : goal.returns-then-other-eq0-clause-join
 returns-then-other-eq0-clause-join g c = joins_nothing g.met.T.Eq.laws c.args.self.now c.args.other.now (sym (ap (λ s. s.total) c.other.view_is) ∙ c.if-other-eq0.true)
 
@@ -63,3 +71,6 @@ invariant_of-self g c = subst (λ s. IsState g.T.PartialEq.eq s) (sym c.merged-2
 
 pub returns-clause-state : goal.returns-clause-state
 returns-clause-state g c = invariant_of-self g c
+
+pub returns-clause-nothing : goal.returns-clause-nothing
+returns-clause-nothing g c = λ none. absurd (c.if-other-eq0.false (ap (λ s. s.total) c.other.view_is ∙ none))

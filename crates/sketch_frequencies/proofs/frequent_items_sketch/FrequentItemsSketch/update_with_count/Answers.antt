@@ -5,14 +5,32 @@ use Rattle.sketch_frequencies.proofs.Enclosure.{stands_after}
 use Rattle.sketch_frequencies.proofs.Tail.{budget_after}
 use Rattle.sketch_frequencies.proofs.frequent_items_sketch.FrequentItemsSketch.update_with_count.Goals as goal
 
+-- it is put where there is room, added to what is tracked, or tracked
+
 pub returns-then-capacity-num_active-clause-stands : goal.returns-then-capacity-num_active-clause-stands
 returns-then-capacity-num_active-clause-stands g c = λ pos h s. stands_after g.met.T.Eq.laws c.args.self.now c.put.new.self c.args.item c.args.count pos (subst (λ s. IsState g.T.PartialEq.eq s) c.self.view_is c.self.invariant) c.put.ensures.step h s
 
 pub returns-then-capacity-num_active-clause-budget : goal.returns-then-capacity-num_active-clause-budget
 returns-then-capacity-num_active-clause-budget g c = λ pos h s keeps. budget_after g.met.T.Eq.laws c.args.self.now c.put.new.self c.args.item c.args.count (subst (λ s. IsState g.T.PartialEq.eq s) c.self.view_is c.self.invariant) c.put.ensures.step h s keeps
 
+-- where it is refused, or the count is 0, the sketch is as it was
+
+pub returns-then-count-self-clause-state : goal.returns-then-count-self-clause-state
+returns-then-count-self-clause-state g c = subst (λ s. IsState g.T.PartialEq.eq s) c.self.view_is c.self.invariant
+
+pub returns-then-count-eq0-clause-state : goal.returns-then-count-eq0-clause-state
+returns-then-count-eq0-clause-state g c = subst (λ s. IsState g.T.PartialEq.eq s) c.self.view_is c.self.invariant
+
 pub returns-then-count-eq0-clause-step : goal.returns-then-count-eq0-clause-step
 returns-then-count-eq0-clause-step g c = λ some. absurd (omega (arith, c.if-count-eq0.true))
+
+-- else it is not 0
+
+pub returns-then-adjust-clause-zero : goal.returns-then-adjust-clause-zero
+returns-then-adjust-clause-zero g c = λ none. absurd (c.if-count-eq0.false none)
+
+pub returns-clause-zero : goal.returns-clause-zero
+returns-clause-zero g c = λ none. absurd (c.if-count-eq0.false none)
 
 pub returns-then-adjust-clause-step : goal.returns-then-adjust-clause-step
 returns-then-adjust-clause-step g c = λ _. c.adjust.ensures.present c.if-adjust.true

@@ -6,6 +6,25 @@ use Rattle.sketch_frequencies.proofs.SameStates.{stands_step, budget_step_equal}
 use Rattle.sketch_frequencies.proofs.Lookups.{tracked_alike}
 use Rattle.sketch_frequencies.proofs.frequent_items_sketch.FrequentItemsSketch.update_with_count_ref.Goals as goal
 
+-- where it is refused, or the count is 0, the sketch is as it was
+
+pub returns-then-count-self-clause-state : goal.returns-then-count-self-clause-state
+returns-then-count-self-clause-state g c = subst (λ s. IsState g.T.PartialEq.eq s) c.self.view_is c.self.invariant
+
+pub returns-then-count-eq0-clause-state : goal.returns-then-count-eq0-clause-state
+returns-then-count-eq0-clause-state g c = subst (λ s. IsState g.T.PartialEq.eq s) c.self.view_is c.self.invariant
+
+-- else it is not 0
+
+pub returns-then-current_map_capacity-num_active_items-clause-zero : goal.returns-then-current_map_capacity-num_active_items-clause-zero
+returns-then-current_map_capacity-num_active_items-clause-zero g c = λ none. absurd (c.if-count-eq0.false none)
+
+pub returns-then-adjust-clause-zero : goal.returns-then-adjust-clause-zero
+returns-then-adjust-clause-zero g c = λ none. absurd (c.if-count-eq0.false none)
+
+pub returns-clause-zero : goal.returns-clause-zero
+returns-clause-zero g c = λ none. absurd (c.if-count-eq0.false none)
+
 pub returns-then-current_map_capacity-num_active_items-clause-stands : goal.returns-then-current_map_capacity-num_active_items-clause-stands
 returns-then-current_map_capacity-num_active_items-clause-stands g c = λ pos h s. stands_step g.met.T.Eq.laws c.args.self.now c.put_ref.new.self c.args.item.now c.args.count pos (subst (λ s. IsState g.T.PartialEq.eq s) c.self.view_is c.self.invariant) c.in_ok-put_ref.ensures.step h s
 
