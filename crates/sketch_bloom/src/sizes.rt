@@ -131,11 +131,11 @@ pub fn suggest_num_bits(num_items: u64, questions: u64) -> Result<u64, Error>
     ensures formula { IfOk result (λ bits. AreEnoughBits num_items questions bits) }
     ensures enough { IfOk result (λ bits. AreEnoughBitsRounded num_items questions bits) }
     ensures least { IfOk result (λ bits. (m : ℕ) → AreEnoughBitsRounded num_items questions m → bits ≤ m) }
-    ensures allowed { IfOk result (λ bits. (1 ≤ bits) × (bits ≤ MAX_NUM_BITS)) }
+    ensures allowed { IfOk result (λ bits. (1 ≤ bits) × (bits ≤ 137438953152)) }
     ensures no_items { num_items ≡ 0 → IsErrOf result (invalid_argument Fault.BadNumBits) }
     ensures no_questions { questions ≤ 1 → IsErrOf result (invalid_argument Fault.BadNumBits) }
     ensures too_many { 0 < num_items → 1 < questions → IfErr result (λ e. (e ≡ invalid_argument Fault.BadNumBits)
-        × ((m : ℕ) → AreEnoughBitsRounded num_items questions m → MAX_NUM_BITS < m)) }
+        × ((m : ℕ) → AreEnoughBitsRounded num_items questions m → 137438953152 < m)) }
 {
     if num_items == 0 || questions <= 1 {
         return Err(Error::invalid_argument(Fault::BadNumBits));
@@ -162,12 +162,12 @@ pub fn suggest_num_bits(num_items: u64, questions: u64) -> Result<u64, Error>
 pub fn suggest_num_hashes(num_bits: u64, num_items: u64) -> Result<u16, Error>
     ensures enough { IfOk result (λ hashes. IsLn2TimesWithin num_bits (hashes * num_items)) }
     ensures least { IfOk result (λ hashes. (m : ℕ) → IsLn2TimesWithin num_bits (m * num_items) → hashes ≤ m) }
-    ensures allowed { IfOk result (λ hashes. (1 ≤ hashes) × (hashes ≤ MAX_NUM_HASHES)) }
+    ensures allowed { IfOk result (λ hashes. (1 ≤ hashes) × (hashes ≤ 32767)) }
     ensures no_bits { num_bits ≡ 0 → IsErrOf result (invalid_argument Fault.BadNumBits) }
-    ensures many_bits { MAX_NUM_BITS < num_bits → IsErrOf result (invalid_argument Fault.BadNumBits) }
-    ensures too_many { 0 < num_bits → num_bits ≤ MAX_NUM_BITS → IfErr result (λ e.
+    ensures many_bits { 137438953152 < num_bits → IsErrOf result (invalid_argument Fault.BadNumBits) }
+    ensures too_many { 0 < num_bits → num_bits ≤ 137438953152 → IfErr result (λ e.
         (e ≡ invalid_argument Fault.BadNumHashes)
-        × ((m : ℕ) → IsLn2TimesWithin num_bits (m * num_items) → MAX_NUM_HASHES < m)) }
+        × ((m : ℕ) → IsLn2TimesWithin num_bits (m * num_items) → 32767 < m)) }
 {
     if num_bits == 0 || num_bits > MAX_NUM_BITS {
         return Err(Error::invalid_argument(Fault::BadNumBits));

@@ -3,7 +3,7 @@
 //! That the numbers are exactly those of the formulas is proved, of e by its series. What they buy is no theorem here,
 //! since it rests on ideal hashes: where no weight is below zero, an estimate passes the item's own weight by more than
 //! the total over `parts` for at most one question in `questions`.
-ghost use Rattle.std.specs.Prelude.{◌≡◌, ℕ, ◌<◌, ◌≤◌, IfOk, IfErr, IsOk, IsErrOf};
+ghost use Rattle.std.specs.Prelude.{◌≡◌, ℕ, ◌<◌, ◌≤◌, ◌^◌, IfOk, IfErr, IsOk, IsErrOf};
 ghost use Rattle.sketch_base.specs.Errors.{invalid_argument};
 ghost use Rattle.sketch_countmin.specs.Sizes.{IsETimesWithin, IsWithinPowerOfE};
 
@@ -92,10 +92,10 @@ const POWERS_OF_E: [u64; 45] = [
 pub fn suggest_num_buckets(parts: u64) -> Result<u32, Error>
     ensures enough { IfOk result (λ buckets. IsETimesWithin parts buckets) }
     ensures least { IfOk result (λ buckets. (m : ℕ) → IsETimesWithin parts m → buckets ≤ m) }
-    ensures allowed { IfOk result (λ buckets. (MIN_NUM_BUCKETS ≤ buckets) × (buckets < MAX_TABLE_ENTRIES)) }
+    ensures allowed { IfOk result (λ buckets. (3 ≤ buckets) × (buckets < 2 ^ 30)) }
     ensures none { parts ≡ 0 → IsErrOf result (invalid_argument Fault.BadNumBuckets) }
     ensures too_many { 0 < parts → IfErr result (λ e. (e ≡ invalid_argument Fault.TableTooLarge)
-        × ((m : ℕ) → IsETimesWithin parts m → MAX_TABLE_ENTRIES ≤ m)) }
+        × ((m : ℕ) → IsETimesWithin parts m → 2 ^ 30 ≤ m)) }
 {
     if parts == 0 {
         return Err(Error::invalid_argument(Fault::BadNumBuckets));
