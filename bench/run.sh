@@ -2,7 +2,7 @@
 # Prints one table of what the operations of the proved crates take, beside plain Rust. Words choose its rows: those whose
 # names have each of them. With ORDER=1, or another number, the functions are linked in an order that goes by it (by lld, with which
 # rustc links here).
-set -eu
+set -euo pipefail
 cd "$(dirname "$0")"
 crates=out/crates
 libraries='sketch_base counter_table sketch_frequencies sketch_bloom sketch_countmin'
@@ -50,4 +50,15 @@ case $(out/driver --names "$@") in
     compile plain_program.rs -o out/plain_program
     ;;
 esac
-out/driver "$@"
+if [ $# -gt 0 ]; then
+    out/driver "$@"
+    exit
+fi
+table="results/$(date +%F).md"
+out/driver | tee out/table
+{
+    printf '# %s\n\nBy `bench/run.sh`, on %s processors (%s). `plain` does as the published crate does.\n\n' \
+        "$(date +%F)" "$(nproc)" "$(sed -n 's/^model name[^:]*: //p;T;q' /proc/cpuinfo)"
+    cat out/table
+} >"$table"
+echo "written to bench/$table"
