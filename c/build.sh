@@ -12,7 +12,8 @@ mkdir -p "$out"
 if [ -z "$archive" ]; then
     archive="$crate/out/libdatasketches_c.a"
     log="$(cd "$out" && pwd)/build.log"
-    (cd "$crate" && rt lib >"$log" 2>&1) || {
+    echo "proving and building crates/datasketches_c: some ten minutes, if nothing is built yet (all output: $log)"
+    (cd "$crate" && rt lib 2>&1) | tee "$log" | awk '/^(so far|crate )/ { print "  " $0; fflush() }' || {
         tail -n 20 "$log" >&2
         exit 1
     }
@@ -24,3 +25,4 @@ ln -sf libdatasketches.so.0 "$out/libdatasketches.so"
 rm -f "$out/libdatasketches.a"
 printf 'create %s\naddlib %s\naddlib %s\nsave\nend\n' \
     "$out/libdatasketches.a" "$archive" "$heap" | ar -M
+echo "built $out/libdatasketches.so.0 and $out/libdatasketches.a"

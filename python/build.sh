@@ -9,9 +9,13 @@ crate="$here/../crates/datasketches_c"
 archive="${2:-$crate/out/libdatasketches_c.a}"
 python="${PYTHON:-/usr/bin/python3}"
 mkdir -p "$out/datasketches_rattle"
-if [ $# -lt 2 ] && ! (cd "$crate" && rt lib) >"$out/build.log" 2>&1; then
-    tail -n 20 "$out/build.log" >&2
-    exit 1
+if [ $# -lt 2 ]; then
+    log="$(cd "$out" && pwd)/build.log"
+    echo "proving and building crates/datasketches_c: some ten minutes, if nothing is built yet (all output: $log)"
+    (cd "$crate" && rt lib 2>&1) | tee "$log" | awk '/^(so far|crate )/ { print "  " $0; fflush() }' || {
+        tail -n 20 "$log" >&2
+        exit 1
+    }
 fi
 cp "$here"/datasketches_rattle/{__init__.py,__init__.pyi,py.typed} "$out/datasketches_rattle/"
 suffix="$("$python" -c 'import sysconfig; print(sysconfig.get_config_var("EXT_SUFFIX"))')"
@@ -20,3 +24,4 @@ include="$("$python" -c 'import sysconfig; print(sysconfig.get_path("include"))'
 "${CC:-cc}" -std=c11 -O2 -Wall -Wextra -Werror -fPIC -fvisibility=hidden -shared \
     -I"$here/../include" -isystem "$include" ${CFLAGS:-} "$here"/src/*.c "$archive" \
     -Wl,--version-script="$here/sketches.map" -Wl,-z,relro,-z,now -o "$out/datasketches_rattle/_sketches$suffix"
+echo "built $out/datasketches_rattle: PYTHONPATH=$out finds it"
