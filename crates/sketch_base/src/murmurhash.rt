@@ -57,7 +57,7 @@ fn body(start: (u64, u64), bytes: &[u8]) -> (u64, u64)
 {
     let mut h = start;
     let count = bytes.len() / 16;
-    // the label names the loop in its proof
+    // The label is for the prover.
     'each: for i in 0..count {
         h = block(h, &bytes[16 * i..16 * i + 16]);
     }

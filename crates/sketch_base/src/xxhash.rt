@@ -65,7 +65,7 @@ fn stripes(start: Accumulators, bytes: &[u8]) -> Accumulators
 {
     let mut acc = start;
     let count = bytes.len() / 32;
-    // the label names the loop in its proof
+    // The label is for the prover.
     'each: for i in 0..count {
         acc = stripe(acc, &bytes[32 * i..32 * i + 32]);
     }
@@ -158,7 +158,7 @@ fn consume_words(h: u64, rest: &[u8]) -> u64
 {
     let mut h = h;
     let count = rest.len() / 8;
-    // the label names the loop in its proof
+    // The label is for the prover.
     'each: for i in 0..count {
         h = consume_word(h, word_at(rest, 8 * i));
     }

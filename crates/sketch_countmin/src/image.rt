@@ -204,7 +204,7 @@ fn bytes_of_block<T: CountMinValue>(cells: &[T]) -> [u8; 64]
     ensures in_range { All (InRange T.least T.greatest) (map T.number cells.now) }
 {
     let mut bytes = [0; 64];
-    // The label is there for the prover alone.
+    // The label is for the prover.
     'fills: for i in 0..BLOCK {
         bytes[8 * i..8 * i + 8].copy_from_slice(&cells[i].to_bytes());
     }
@@ -220,7 +220,7 @@ pub fn write_cells<T: CountMinValue>(out: &mut SketchBytes, counts: &[T]) -> Res
     ensures in_range { OnOk result (All (InRange T.least T.greatest) (map T.number counts.now)) }
 {
     let blocks = counts.len() / BLOCK;
-    // The labels are there for the prover alone: its goals are named after them.
+    // The labels are for the prover.
     'whole: for b in 0..blocks {
         let at = BLOCK * b;
         out.write(&bytes_of_block(&counts[at..at + BLOCK]))?;
