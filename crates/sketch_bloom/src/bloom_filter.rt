@@ -37,8 +37,8 @@ use std::marker::Model;
 ///   2^64.
 ///
 /// A filter contains an item if all positions of the item are in the set. So an inserted item is contained until
-/// [`reset`](Self::reset), [`intersect`](Self::intersect) or [`difference`](Self::difference) removes positions. An item
-/// that was not inserted may be contained too, a false positive. How rare these are is not proved: see
+/// [`reset`](Self::reset), [`intersect`](Self::intersect) or [`difference`](Self::difference) removes positions. An
+/// item that was not inserted may be contained too, a false positive. How rare these are is not proved: see
 /// [`suggest_num_bits`](crate::suggest_num_bits).
 ///
 /// # Examples
