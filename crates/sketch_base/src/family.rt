@@ -27,21 +27,21 @@ pub struct Family {
 }
 
 impl Family {
-    /// Frequent items.
+    /// The family of frequent items.
     pub const FREQUENCY: Family = Family {
         id: 10,
         min_pre_longs: 1,
         max_pre_longs: 4,
     };
 
-    /// Count-Min sketches.
+    /// The family of Count-Min sketches.
     pub const COUNTMIN: Family = Family {
         id: 18,
         min_pre_longs: 2,
         max_pre_longs: 2,
     };
 
-    /// Bloom filters.
+    /// The family of Bloom filters.
     pub const BLOOMFILTER: Family = Family {
         id: 21,
         min_pre_longs: 3,

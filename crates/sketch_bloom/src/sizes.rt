@@ -108,7 +108,8 @@ fn log_in_64ths(n: u64) -> u32
 /// The formula is `num_items * ln(questions) / (ln 2)^2`. The binary logarithm of `questions` is rounded up to 64ths,
 /// and the result is rounded up to a whole number. It is proved that the result is never below the formula (`formula`),
 /// and that it is the minimum for the rounded logarithm (`enough`, `least`). By calculation, not by proof, it is at
-/// most 0.6 percent above the formula before the last rounding, and equal to it if `questions` is a power of two.
+/// most 0.6 percent above the formula before the last rounding. If `questions` is a power of two, it equals the formula
+/// before that rounding.
 ///
 /// The false-positive rate is not proved. Under ideal hashes it is about 1/`questions` with the hashes of
 /// [`suggest_num_hashes`] (Bloom 1970; for double hashing Kirsch & Mitzenmacher 2008).

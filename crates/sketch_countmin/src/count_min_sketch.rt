@@ -335,8 +335,8 @@ impl<T: CountMinValue> CountMinSketch<T> {
             → (own_value h (fed_bytes I.hash_input item) ≤ℤ T.number result)
             × (T.number result ≤ℤ pos self.now.total) }
 
-        // If nothing was halved or decayed, the estimate minus the own share is the minimum, over the rows, of the
-        // share of the other items in the item's bucket.
+        // If nothing was halved or decayed, the estimate exceeds the own share by the minimum, over the rows, of the
+        // other items' share of the bucket.
         ensures raised { (h : CountHistory) → StandsFor self.now h → IsExact h
             → let bytes = fed_bytes I.hash_input item in
             IsLeast self.now.hashes (others_share self.now.buckets self.now.seed h bytes)

@@ -15,8 +15,8 @@ use std::alloc::Global;
 
 /// Merges two sketches, and returns whether the result equals the sketch of one stream.
 ///
-/// If the merge succeeds, nothing in the second history was halved or decayed, and `stream` stands for the first
-/// history followed by the second, the result is `true`.
+/// It returns `true` if nothing in the second history was halved or decayed, and `stream` stands for the first history
+/// followed by the second.
 ///
 /// # Errors
 ///
@@ -46,8 +46,8 @@ pub fn merge_as_one_stream<T: CountMinValue>(
 ///
 /// - If no weight is negative, it is at least the item's own share of the history and at most the total, also after
 ///   halving and decay.
-/// - If nothing was halved or decayed, it exceeds the own share by the minimum, over the rows, of the share of the
-///   other items in the item's bucket.
+/// - If nothing was halved or decayed, it exceeds the own share by the minimum, over the rows, of the other items'
+///   share of the bucket.
 /// - If the total is 0, every cell is 0.
 pub fn what_the_least_cell_says()
     ensures encloses { (s : CountState) (h : CountHistory) (bytes : List ℕ) (least : ℤ)
