@@ -1,4 +1,4 @@
--- What each call does, in one piece.
+-- The effect of each call, as one record for each.
 use Rattle.std.specs.Prelude.{◌≡◌, ◌≢◌, ℕ, ◌<◌, ◌≤◌, ◌^◌, Bool, false, [], None, Result, ⊤, IsOk, IfOk, IfErr, OnOk, OnErr, IsErrOf}
 use Rattle.sketch_base.specs.Errors.{ErrorValue, invalid_argument, no_memory, refusal_of}
 use Rattle.sketch_base.specs.declared.fault.Fault.TheVariants.{WeightOverflow}
@@ -16,7 +16,7 @@ use Rattle.heavy_windows.specs.Steps.{AddsToNewest}
 use Rattle.heavy_windows.specs.declared.report.Report.{Report}
 
 module _ {T : Type 0} where
-  -- windows were made, or what was asked for was refused
+  -- empty windows were created, or the limits were rejected
   pub record IsMade (windows max_map_size : ℕ) (result : Result (WindowsState T) ErrorValue) : Type 0 where
     pub ok : IfOk result (λ made. made ≡ nothing_added windows max_map_size)
     pub limits : OnOk result (limits_fault windows max_map_size ≡ None)
@@ -24,14 +24,14 @@ module _ {T : Type 0} where
     pub refused : IfErr result (λ e. e ≡ refusal_of (limits_fault windows max_map_size))
 
 module _ {T : Type 0} (eq : T → T → Bool) where
-  -- a weight was added to an item of a tenant, or refused
+  -- a weight was added to an item of a tenant, or an error returned
   pub record IsAddition (tenant weight : ℕ) (item : T) (old : WindowsState T) (result : Result ⊤ ErrorValue)
       (new : WindowsState T) : Type 0 where
     pub zero : weight ≡ 0 → IsOk result × (new ≡ old)
     pub adds : OnOk result (0 < weight → AddsToNewest eq (fresh_state old.max_map_size) (at_tenant tenant old) item weight (at_tenant tenant new))
-    -- what the windows stood for, they stand for with the weight added to the newest
+    -- if the old windows stand for histories, the new ones stand for these with the weight added to the newest
     pub stands : OnOk result (0 < weight → ExtendsWindows eq tenant old new (added_history old.max_map_size item weight))
-    -- no other tenant's windows change, and a refusal changes nothing
+    -- no other tenant's windows change, and an error changes nothing
     pub others : OnlyChanges tenant old new
     pub err : OnErr result (new ≡ old)
     pub overflow : 0 < weight → Overflows (newest_of tenant old) weight → IsErrOf result (invalid_argument WeightOverflow)
@@ -40,23 +40,24 @@ module _ {T : Type 0} (eq : T → T → Bool) where
         TotalHasRoom (newest_of tenant old) weight → must_double eq (newest_of tenant old) item ≡ false →
         at_tenant tenant old ≢ [] → IsOk result
 
-  -- an empty window was opened for a tenant, or refused
+  -- an empty window was opened for a tenant, or an error returned
   pub record IsTurn (tenant : ℕ) (old : WindowsState T) (result : Result ⊤ ErrorValue) (new : WindowsState T) :
       Type 0 where
     pub turned : OnOk result (at_tenant tenant new ≡ turned old.limit (fresh_state old.max_map_size) (at_tenant tenant old))
-    -- what the windows stood for, they stand for with an empty one behind them, and without the dropped one
+    -- if the old windows stand for histories, the new ones stand for these with an empty one after them, and without
+    -- the dropped one
     pub stands : OnOk result (ExtendsWindows eq tenant old new (turned_history old.limit old.max_map_size))
-    -- no other tenant's windows change, and a refusal changes nothing
+    -- no other tenant's windows change, and an error changes nothing
     pub others : OnlyChanges tenant old new
     pub unknown : at_tenant tenant old ≡ [] → IsOk result × (new ≡ old)
     pub err : OnErr result (new ≡ old)
     pub memory : IfErr result (λ e. e ≡ no_memory)
 
-  -- a report on a tenant was given, or refused
+  -- a report on a tenant was returned, or an error
   pub record IsReport (tenant : ℕ) (kind : ErrorType) (threshold : ℕ) (windows : WindowsState T)
       (result : Result (Report T) ErrorValue) : Type 0 where
     pub ok : IfOk result (Reports eq kind threshold windows.max_map_size (at_tenant tenant windows))
-    -- what the report says of whatever the tenant's windows stand for
+    -- what the report guarantees for all histories that the tenant's windows stand for
     pub total : IfOk result (HasTotal eq windows.max_map_size (at_tenant tenant windows))
     pub encloses : IfOk result (EnclosesEach eq windows.max_map_size (at_tenant tenant windows))
     pub none_missing :
@@ -64,7 +65,7 @@ module _ {T : Type 0} (eq : T → T → Bool) where
     pub none_below :
         IfOk result (λ report. kind ≡ NoFalsePositives → ShowsNoneBelow eq windows.max_map_size (at_tenant tenant windows) threshold report)
     pub budget : IfOk result (IsPaidByTail eq windows.max_map_size (at_tenant tenant windows))
-    -- an overflow is refused before memory
+    -- an overflow is returned before any allocation
     pub overflow :
         2 ^ 64 ≤ windows_total (at_tenant tenant windows) → IsErrOf result (invalid_argument WeightOverflow)
     pub memory : windows_total (at_tenant tenant windows) < 2 ^ 64 → IfErr result (λ e. e ≡ no_memory)

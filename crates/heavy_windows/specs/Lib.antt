@@ -9,5 +9,5 @@ pub mod Merging
 pub mod Reports
 pub mod Laws
 pub mod Calls
--- what a crate above names of those below
+-- names of lower crates that crates above this one use
 pub use Rattle.sketch_base.specs.Errors

@@ -1,4 +1,4 @@
--- Windows merged into one sketch, oldest first.
+-- Windows merged into one sketch, oldest first (mergeable summaries, Agarwal et al. 2012).
 use Rattle.std.specs.Prelude.{◌≡◌, ℕ, Bool, List, [], ◌∷◌}
 use Rattle.sketch_frequencies.specs.History.{FrequentHistory}
 use Rattle.sketch_frequencies.specs.Stands.{StandsFor, KeepsTailBudget}
@@ -9,14 +9,14 @@ use Rattle.heavy_windows.specs.Histories.{report_history}
 use Rattle.heavy_windows.specs.Stands.{WindowsStandFor}
 
 module _ {T : Type 0} (eq : T → T → Bool) where
-  -- one after another was merged into the sketch
+  -- the windows were merged into the sketch one after another
   abbrev pub MergesAll : FrequentState T → List (FrequentState T) → FrequentState T → Type 0
   MergesAll old [] new = new ≡ old
   MergesAll old (window ∷ windows) new =
       (mid : FrequentState T) × JoinsEqual eq old window mid × MergesAll mid windows new
 
-  -- the windows were merged into a new sketch of this greatest size, oldest first: whatever they stand for, it stands
-  -- for that, merged so
+  -- the windows were merged into a new sketch of this maximum size, oldest first; it stands for the merged histories
+  -- and keeps their tail budget
   pub record IsMerged (max_map_size : ℕ) (windows : List (FrequentState T)) (merged : FrequentState T) : Type 0 where
     pub merges : MergesAll (fresh_state max_map_size) windows merged
     pub state : IsState eq merged

@@ -1,4 +1,4 @@
--- A report on the windows of a tenant, and what it says of their histories.
+-- A report on the windows of a tenant, and what it guarantees for their histories.
 use Rattle.std.specs.Prelude.{◌≡◌, ℕ, ◌-◌, ◌*◌, ◌<◌, ◌≤◌, max, Bool, true, List, length, All}
 use Rattle.std.specs.List.{list_any}
 use Rattle.sketch_frequencies.specs.History.{FrequentHistory, true_weight, total_weight, weight_outside}
@@ -12,7 +12,7 @@ use Rattle.heavy_windows.specs.Stands.{WindowsStandFor}
 use Rattle.heavy_windows.specs.declared.report.Report.{Report}
 
 module _ {T : Type 0} (eq : T → T → Bool) where
-  -- the rows, the error and the total of the windows merged into one sketch
+  -- the report has the rows, the error and the total of the windows merged into one sketch
   pub record Reports (kind : ErrorType) (threshold max_map_size : ℕ) (windows : List (FrequentState T))
       (report : Report T) : Type 0 where
     pub merged : FrequentState T
@@ -23,7 +23,7 @@ module _ {T : Type 0} (eq : T → T → Bool) where
     pub total : report.total_weight ≡ merged.total
 
   module _ (max_map_size : ℕ) (windows : List (FrequentState T)) where
-    -- this holds of whatever the windows stand for, merged
+    -- P holds of the merged history of all histories that the windows stand for
     abbrev pub OfWhatTheyStandFor : (FrequentHistory T → Type 0) → Type 0
     OfWhatTheyStandFor P =
         (hs : List (FrequentHistory T)) → WindowsStandFor eq max_map_size windows hs →
@@ -33,24 +33,25 @@ module _ {T : Type 0} (eq : T → T → Bool) where
     abbrev pub HasTotal : Report T → Type 0
     HasTotal report = OfWhatTheyStandFor (λ h. report.total_weight ≡ total_weight h)
 
-    -- no item of a true weight above the threshold and the error is missing
+    -- no item with a true weight above both the threshold and the error is missing
     abbrev pub MissesNone : ℕ → Report T → Type 0
     MissesNone threshold report = OfWhatTheyStandFor (λ h.
         (x : T) → max threshold report.maximum_error < true_weight eq h x →
         list_any (λ row. eq x row.item) report.rows.items ≡ true)
 
-    -- every item that is shown has a true weight above the threshold and the error
+    -- every item in the rows has a true weight above both the threshold and the error
     abbrev pub ShowsNoneBelow : ℕ → Report T → Type 0
     ShowsNoneBelow threshold report = OfWhatTheyStandFor (λ h.
         All (λ row. max threshold report.maximum_error < true_weight eq h row.item) report.rows.items)
 
-    -- the true weight of each item that is shown lies between its bounds
+    -- the true weight of each item in the rows is within its bounds
     abbrev pub EnclosesEach : Report T → Type 0
     EnclosesEach report = OfWhatTheyStandFor (λ h.
         All (λ row. (row.lower_bound ≤ true_weight eq h row.item) × (true_weight eq h row.item ≤ row.upper_bound))
         report.rows.items)
 
-    -- whichever few items are set aside, the error for each place that is left is at most the weight of the others
+    -- the tail budget (Berinde et al. 2009): for each set of at most h items, (h - size of the set) * error is at most
+    -- the weight outside the set; h is the window budget
     abbrev pub IsPaidByTail : Report T → Type 0
     IsPaidByTail report = OfWhatTheyStandFor (λ h.
         (set : List T) → length set ≤ window_budget max_map_size →

@@ -6,8 +6,8 @@ use Rattle.heavy_windows.specs.Fresh.{fresh_state}
 use Rattle.heavy_windows.specs.Newest.{newest}
 use Rattle.heavy_windows.specs.Sizes.{limits_fault}
 
--- how many windows a tenant may have, the greatest table size of each, and the windows of each tenant, oldest first, in
--- some order of the tenants
+-- the maximum number of windows, the maximum table size, and the windows of each known tenant, oldest first, in some
+-- order of the tenants
 pub record WindowsState (T : Type 0) : Type 0 where
   pub limit : ℕ
   pub max_map_size : ℕ
@@ -18,11 +18,11 @@ module _ {T : Type 0} where
   abbrev pub known : ℕ → WindowsState T → Option (List (FrequentState T))
   known tenant s = lookup (λ key. tenant == key) s.tenants
 
-  -- the same; an unknown tenant has none
+  -- the windows of a tenant, oldest first; an unknown tenant has none
   abbrev pub at_tenant : ℕ → WindowsState T → List (FrequentState T)
   at_tenant tenant s = unwrap_or (known tenant s) []
 
-  -- the newest of them, or a fresh one
+  -- the newest window of a tenant, or a fresh one
   abbrev pub newest_of : ℕ → WindowsState T → FrequentState T
   newest_of tenant s = newest (fresh_state s.max_map_size) (at_tenant tenant s)
 
@@ -34,18 +34,18 @@ module _ {T : Type 0} where
   abbrev pub windows_total : List (FrequentState T) → ℕ
   windows_total windows = sum_by (λ window. window.total) windows
 
-  -- one window or more, at most so many, and each of this greatest size
+  -- there is at least one window, at most the limit, and each has this maximum size
   pub record AreKept (limit max_map_size : ℕ) (windows : List (FrequentState T)) : Type 0 where
     pub some : 0 < length windows
     pub few : length windows ≤ limit
     pub sizes : All (λ window. window.max_size ≡ max_map_size) windows
 
-  -- what holds of the windows of all tenants
+  -- the invariant of the windows of all tenants
   pub record IsWindows (s : WindowsState T) : Type 0 where
     pub limits : limits_fault s.limit s.max_map_size ≡ None
     pub each : (tenant : ℕ) → IfSome (known tenant s) (AreKept s.limit s.max_map_size)
 
-  -- no windows changed but those of this tenant
+  -- only this tenant's windows change
   pub record OnlyChanges (tenant : ℕ) (old new : WindowsState T) : Type 0 where
     pub limit : new.limit ≡ old.limit
     pub max_map_size : new.max_map_size ≡ old.max_map_size

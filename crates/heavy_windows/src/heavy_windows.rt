@@ -1,4 +1,4 @@
-//! Windows of many tenants.
+//! The windows of all tenants.
 ghost use Rattle.std.specs.Prelude.{◌≡◌, ℕ, ◌<◌, ◌≤◌, ◌^◌, [], None, IfOk, IfErr, IsOk, IsTrue, OnOk, IsErrOf};
 ghost use Rattle.sketch_base.specs.Errors.{invalid_argument, no_memory, refusal_of};
 ghost use Rattle.heavy_windows.specs.Calls.{IsMade, IsAddition, IsTurn, IsReport};
@@ -16,14 +16,15 @@ use std::collections::HashMap;
 use std::hash::Hash;
 use std::marker::Model;
 
-/// The most windows that a tenant may have.
+/// The maximum number of windows of a tenant.
 const MOST_WINDOWS: usize = 1024;
 
-/// The items that weighed most, for each tenant, over the last so many windows.
+/// The heavy hitters of each tenant over its last windows.
 ///
-/// A tenant is a number, and is unknown until a weight above 0 is added. Each window of a tenant is a sketch of what
-/// was added while it was the newest. A call on one tenant leaves the windows of all others as they are, and costs no
-/// more where there are many of them.
+/// A tenant is a number. It is known once a weight above 0 was added for it. Each window of a tenant is a sketch of the
+/// weights that were added while it was the newest. A call for one tenant leaves the windows of all others unchanged:
+/// this is proved. Its cost does not grow with the number of tenants, except if the hash map of tenants has to grow for
+/// a new one: this is not proved.
 ///
 /// # Examples
 ///
@@ -59,12 +60,19 @@ impl<T: Eq + Hash + Drop> Model for HeavyWindows<T> {
 }
 
 impl<T: Eq + Hash + Drop> HeavyWindows<T> {
-    /// No tenant. Each is to have at most so many windows, 1 to 1024, and each window a table of at most
-    /// `max_map_size` slots, a power of two from 8 to 2^30. It takes no memory.
+    /// Creates an empty store with no known tenant. Does not allocate.
+    ///
+    /// Each tenant may have up to `windows` windows, from 1 to 1024. Each window may have a table of up to
+    /// `max_map_size` slots, a power of two from 8 to 2^30.
     ///
     /// # Errors
     ///
-    /// `BadWindows`, `MapSizeNotPowerOfTwo`, `MapSizeTooSmall` below 8 and `MapSizeTooLarge` above 2^30, in this order.
+    /// The first of these that applies:
+    ///
+    /// - `BadWindows` unless `windows` is from 1 to 1024;
+    /// - `MapSizeNotPowerOfTwo` unless `max_map_size` is a power of two;
+    /// - `MapSizeTooSmall` if it is below 8;
+    /// - `MapSizeTooLarge` if it is above 2^30.
     pub fn new(alloc: Global, windows: usize, max_map_size: usize) -> Result<Self, Error>
         ensures call { IsMade windows max_map_size result }
         ensures state { IfOk result IsWindows }
@@ -79,19 +87,23 @@ impl<T: Eq + Hash + Drop> HeavyWindows<T> {
         })
     }
 
-    /// Adds `weight` to the weight of the item in the tenant's newest window, which is a first one for an unknown
-    /// tenant. A weight of 0 changes nothing, makes no tenant known and succeeds.
+    /// Adds `weight` to the item in the tenant's newest window. An unknown tenant becomes known, and gets a first
+    /// window.
+    ///
+    /// A weight of 0 changes nothing, makes no tenant known and succeeds.
     ///
     /// # Errors
     ///
-    /// `WeightOverflow` where the weight of all items of the window would pass the greatest `u64`, and `NoMemory` where
-    /// there is no memory for a first window, or for a table of twice the size where the newest's must double. All
-    /// windows are then as they were, and an unknown tenant is still unknown.
+    /// All windows are unchanged after an error, and an unknown tenant is still unknown.
+    ///
+    /// - `WeightOverflow` if the total weight of the window would exceed the maximum of `u64`;
+    /// - `NoMemory` if a first window with its entry, or a table of twice the size for the newest window, cannot be
+    ///   allocated.
     pub fn add(&mut self, tenant: u64, item: T, weight: u64) -> Result<(), Error>
         ensures call { IsAddition T.eq tenant weight item self.old result self.new }
         ensures state { IsWindows self.new }
     {
-        // for the prover: a look at a field brings in what holds of all windows
+        // For the prover: this read brings in what holds of all windows.
         let _ = &self.tenants;
         if weight == 0 {
             return Ok(());
@@ -106,12 +118,13 @@ impl<T: Eq + Hash + Drop> HeavyWindows<T> {
         Ok(())
     }
 
-    /// Opens an empty window for the tenant, and drops the oldest where there are then more than there may be. An
-    /// unknown tenant stays unknown.
+    /// Opens an empty window for the tenant, and drops the oldest if there are then more than the maximum.
+    ///
+    /// For an unknown tenant it does nothing and succeeds.
     ///
     /// # Errors
     ///
-    /// `NoMemory` where there is no memory for a window. All windows are then as they were.
+    /// `NoMemory` if the window, or the room to append it, cannot be allocated. All windows are then unchanged.
     pub fn turn(&mut self, tenant: u64) -> Result<(), Error>
         ensures call { IsTurn T.eq tenant self.old result self.new }
         ensures state { IsWindows self.new }
@@ -123,15 +136,28 @@ impl<T: Eq + Hash + Drop> HeavyWindows<T> {
         windows.turn(window, self.limit)
     }
 
-    /// What weighed most in the tenant's windows: those of the items whose bound is above both the threshold and the
-    /// error, as [`frequent_items_with_threshold`](FrequentItemsSketch::frequent_items_with_threshold) has them of the
-    /// windows merged into one sketch, oldest first. No row, and 0 and 0, for an unknown tenant. Each row's
-    /// bounds enclose what its item weighed in the windows together. Clones of the items have to equal them.
+    /// Returns the heavy hitters of the tenant over all its windows.
+    ///
+    /// The windows are merged into one new sketch, oldest first (mergeable summaries, Agarwal et al. 2012). The report
+    /// has the rows that [`frequent_items_with_threshold`](FrequentItemsSketch::frequent_items_with_threshold) returns
+    /// for it, its error and its total weight. The rows are those of the items whose bound is above both the threshold
+    /// and the error. For an unknown tenant there are no rows, and error and total are 0. Clones of items have to equal
+    /// the items.
+    ///
+    /// It is proved that
+    ///
+    /// - each row's bounds enclose the weight of its item in the windows together;
+    /// - with `NoFalseNegatives` no item with a weight above both the threshold and the error is missing;
+    /// - with `NoFalsePositives` each item in the rows has a weight above both;
+    /// - for each set of at most h items, (h - size of the set) * error is at most the weight of all other items
+    ///   (Berinde, Indyk, Cormode & Strauss 2009). Here h is half of the maximum sample of a purge, min(1024, 3/4 of
+    ///   `max_map_size`).
     ///
     /// # Errors
     ///
-    /// `WeightOverflow` where the weight of all items of the windows together would pass the greatest `u64`, and
-    /// `NoMemory` where there is no memory for the merged sketch or the rows.
+    /// - `WeightOverflow` if the total weight of the windows together exceeds the maximum of `u64`; nothing is then
+    ///   allocated;
+    /// - `NoMemory` if the merged sketch or the rows cannot be allocated.
     pub fn report(
         &self,
         tenant: u64,
@@ -152,7 +178,7 @@ impl<T: Eq + Hash + Drop> HeavyWindows<T> {
         })
     }
 
-    /// The tenant's windows merged into a new sketch, oldest first.
+    /// Merges the tenant's windows into a new sketch, oldest first.
     fn merged(&self, tenant: u64) -> Result<FrequentItemsSketch<T>, Error>
     where
         T: Clone,
@@ -170,7 +196,7 @@ impl<T: Eq + Hash + Drop> HeavyWindows<T> {
     }
 }
 
-/// Refuses a number of windows or a greatest table size that is out of range.
+/// Checks the number of windows and the maximum table size.
 fn check_limits(windows: usize, max_map_size: usize) -> Result<(), Error>
     ensures ok { OnOk result (limits_fault windows max_map_size ≡ None) }
     ensures accepted { limits_fault windows max_map_size ≡ None → IsOk result }

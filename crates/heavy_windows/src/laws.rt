@@ -1,9 +1,10 @@
-//! What a report's history says. The function here does nothing: what it ensures is the law.
+//! The weights in a report's history, as theorems. The function here does nothing: its clauses are the laws.
 ghost use Rattle.heavy_windows.specs.Laws.{ItemsWeighAsInWindows, TotalIsOfWindows, OthersWeighAsInWindows};
 
-/// What [`report`](crate::HeavyWindows::report) ensures speaks of the history in which a tenant's windows were merged
-/// into a new sketch. In it each item weighs what it weighs in the windows together, and so do all items, and all but
-/// those of a set.
+/// States what items weigh in the history of a [`report`](crate::HeavyWindows::report).
+///
+/// In this history a tenant's windows are merged into a new sketch. The weight of each item is the sum of its weights
+/// in the windows. The same holds for the total weight, and for the weight of all items outside a set.
 pub fn what_a_report_weighs<T: Eq>()
     ensures items { ItemsWeighAsInWindows T.eq }
     ensures total { TotalIsOfWindows T.eq }

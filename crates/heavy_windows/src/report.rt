@@ -1,7 +1,7 @@
 //! Reports on a tenant.
 use sketch_frequencies::Row;
 
-/// What weighed most in the windows of a tenant.
+/// The heavy hitters in the windows of a tenant.
 ///
 /// # Examples
 ///
@@ -19,10 +19,10 @@ use sketch_frequencies::Row;
 /// ```
 #[derive(Debug, Drop)]
 pub struct Report<T> {
-    /// The items that are shown, in rows that descend by estimate.
+    /// The rows of the items, in descending order of their estimates.
     pub rows: Vec<Row<T>>,
-    /// By how much each row's upper bound is above its lower bound, which enclose the item's true weight.
+    /// The difference between the upper and the lower bound of each row, which enclose the item's true weight.
     pub maximum_error: u64,
-    /// The weight of all items of the windows together.
+    /// The total weight of the windows together.
     pub total_weight: u64,
 }

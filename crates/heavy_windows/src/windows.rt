@@ -35,7 +35,7 @@ impl<T: Eq + Hash + Drop> Model for Windows<T> {
 }
 
 impl<T: Eq + Hash + Drop> Windows<T> {
-    /// One window.
+    /// Creates windows with one window.
     pub(crate) fn new(alloc: Global, window: FrequentItemsSketch<T>) -> Self
         ensures { result ≡ window ∷ [] }
     {
@@ -45,7 +45,7 @@ impl<T: Eq + Hash + Drop> Windows<T> {
         }
     }
 
-    /// Adds a weight above 0 to the newest window.
+    /// Adds a weight above 0 to the item in the newest window.
     pub(crate) fn add(&mut self, item: T, weight: u64) -> Result<(), Error>
         requires some { 0 < weight }
         ensures adds { OnOk result ((fresh : FrequentState T) → AddsToNewest T.eq fresh self.old item weight self.new) }
@@ -62,7 +62,7 @@ impl<T: Eq + Hash + Drop> Windows<T> {
         self.newest.update_with_count(item, weight)
     }
 
-    /// Makes this window the newest, and drops the oldest where there are more than the limit.
+    /// Makes `window` the newest, and drops the oldest if there are more than the limit.
     pub(crate) fn turn(&mut self, window: FrequentItemsSketch<T>, limit: usize) -> Result<(), Error>
         ensures turned { OnOk result (self.new ≡ turned limit window self.old) }
         ensures err { OnErr result (self.new ≡ self.old) }
@@ -78,7 +78,7 @@ impl<T: Eq + Hash + Drop> Windows<T> {
         Ok(())
     }
 
-    /// Refuses windows whose weights together would pass the greatest `u64`.
+    /// Returns `WeightOverflow` if the total weight of the windows together exceeds the maximum of `u64`.
     fn check_total(&self) -> Result<(), Error>
         ensures ok { OnOk result (windows_total self.now < 2 ^ 64) }
         ensures err { IfErr result (λ e. e ≡ invalid_argument Fault.WeightOverflow) }
@@ -97,7 +97,7 @@ impl<T: Eq + Hash + Drop> Windows<T> {
 }
 
 impl<T: Eq + Hash + Clone + Drop> Windows<T> {
-    /// The windows merged into a new sketch, oldest first.
+    /// Merges the windows into a new sketch, oldest first.
     pub(crate) fn merged(
         &self,
         alloc: Global,

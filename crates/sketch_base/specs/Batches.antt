@@ -1,5 +1,5 @@
--- What loops over many items, one by one or block by block, have written down so far. No clause cites this module: it is for the
--- proofs of crates that have such loops.
+-- What a loop over many items has written so far, item by item or block by block. No clause cites this module: the
+-- proofs of crates with such loops use it.
 use Rattle.std.proofs.Common.{◌≡◌, ℕ, ◌+◌, ◌-◌, ◌<◌, ◌≤◌, [], ◌∷◌, ◌++◌, List, length, map, take, drop, get_or, set, inl, inr, sym, ap, ◌∙◌, arith}
 use Rattle.std.proofs.lemmas.List.{map-append, length-map, length-take-le, length-drop, take_more, take_more_set, take_all}
 use Rattle.std.proofs.lemmas.Slice.{take-put_mid}
@@ -7,7 +7,7 @@ use borrow.Rule.Slice.PartMut.{put_mid, same_len_mid}
 use Rattle.std.proofs.Math.Seq.{take-add}
 use Rattle.std.proofs.lemmas.Bool.{cases_lt}
 
--- one more is written
+-- one more result is written
 pub written_more : {A B : Type 0} (f : A → B) (xs : List A) (ys : List B) (i : ℕ) (d : A) → i < length xs → i < length ys
     → take i ys ≡ map f (take i xs) → take (i + 1) (set ys i (f (get_or xs i d))) ≡ map f (take (i + 1) xs)
 written_more f xs ys i d x y e =
@@ -15,12 +15,12 @@ written_more f xs ys i d x y e =
     ∙ ap (λ zs. zs ++ f (get_or xs i d) ∷ []) e
     ∙ sym (ap (map f) (take_more xs i d x) ∙ map-append f (take i xs) (get_or xs i d ∷ []))
 
--- all are written
+-- all results are written
 pub written_all : {A B : Type 0} (f : A → B) (xs : List A) (ys : List B) (i : ℕ) → length xs ≤ i → length ys ≤ i
     → take i ys ≡ map f (take i xs) → ys ≡ map f xs
 written_all f xs ys i x y e = sym (take_all i ys y) ∙ e ∙ ap (map f) (take_all i xs x)
 
--- the items before a block and those of the block, which ends at `next` or where the items end
+-- the items before a block and those of the block; the block ends at `next`, or at the end of the items
 pub block_more : {A : Type 0} (xs : List A) (from to next : ℕ) → from ≤ to → to ≤ next → (to < next → length xs ≤ to)
     → take next xs ≡ take from xs ++ take (to - from) (drop from xs)
 block_more xs from to next a b ends =
@@ -30,7 +30,7 @@ block_more xs from to next a b ends =
       | inr l ↦ ap (λ n. take n xs) (omega arith)
     ]) ∙ ap (λ n. take n xs) sum ∙ take-add from (to - from) xs
 
--- a block's answers are written behind those of the items before it
+-- the results of a block are written after those of the items before it
 pub written_block : {A B : Type 0} (h : A → B) (xs : List A) (ys new : List B) (from to next k : ℕ)
     → from ≤ to → to ≤ next → (to < next → length xs ≤ to) → to ≤ length xs → length ys ≡ length xs → k ≡ to - from
     → new ≡ map h (take (to - from) (drop from xs)) → take from ys ≡ map h (take from xs)

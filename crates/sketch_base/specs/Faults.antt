@@ -1,9 +1,9 @@
--- What faults print, and their names.
+-- The names and messages of faults.
 use Rattle.std.specs.Prelude.{ℕ, List, codes}
 use Rattle.sketch_base.specs.declared.fault.Fault.{Fault}
 use Rattle.sketch_base.specs.declared.fault.Fault.TheVariants as fault
 
--- a fault's name, and what it prints
+-- a fault's name and its message
 abbrev pub fault_words : Fault → List ℕ × List ℕ
 fault_words fault.BadNumBits = (codes "BadNumBits", codes "num_bits out of range")
 fault_words fault.BadNumHashes = (codes "BadNumHashes", codes "num_hashes out of range")
@@ -40,7 +40,7 @@ fault_words fault.NoMemory = (codes "NoMemory", codes "out of memory")
 fault_words fault.BadSampleSize = (codes "BadSampleSize", codes "sample size out of range")
 fault_words fault.BadWindows = (codes "BadWindows", codes "windows out of range")
 
--- what a fault prints
+-- a fault's message, which it prints
 abbrev pub fault_text : Fault → List ℕ
 fault_text f = (fault_words f).1
 

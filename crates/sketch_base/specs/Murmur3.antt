@@ -1,5 +1,5 @@
--- MurmurHash3 by Austin Appleby, the variant of 128 bits for machines of 64 bits (x64 128), with a seed of 64 bits,
--- as a function on a whole list of bytes. The steps have the names of its source, MurmurHash3.cpp.
+-- MurmurHash3 x64 128 by Austin Appleby, with a seed of 64 bits, as a function of a whole list of bytes.
+-- The steps are named as in its source, MurmurHash3.cpp.
 use Rattle.std.specs.Prelude.{ℕ, zero, suc, ◌-◌, ◌*◌, ◌/◌, ◌%◌, ◌^◌, List, ◌++◌, length, take, drop, replicate, bit_xor}
 use Rattle.std.specs.Int.{w64, rotate_left}
 use Rattle.sketch_base.specs.MachineWords.{wrapping_add, wrapping_mul, word_at}
@@ -10,7 +10,7 @@ c1 = 0x87C37B91114253D5
 abbrev pub c2 : ℕ
 c2 = 0x4CF5AD432745937F
 
--- what the two words of a block come to, before they meet the halves
+-- the mix of a block's two words, before they are combined with the halves
 unfoldable pub mix_k1 : ℕ → ℕ
 mix_k1 k = wrapping_mul (rotate_left w64 (wrapping_mul k c1) 31) c2
 
@@ -42,7 +42,8 @@ fmix64 k =
 abbrev pub padded : List ℕ → List ℕ
 padded rest = rest ++ replicate (16 - length rest) 0
 
--- tail and finalization: the answer, from the halves after all whole blocks, the padded rest and the length
+-- tail and finalization: both halves of the hash, from the halves after all whole blocks, the padded rest and the
+-- length
 unfoldable pub finalization : ℕ × ℕ → List ℕ → ℕ → ℕ × ℕ
 finalization h rest len =
     let h1 = bit_xor (bit_xor h.0 (mix_k1 (word_at rest 0))) len in
@@ -51,7 +52,7 @@ finalization h rest len =
     let b = fmix64 (wrapping_add h2 (wrapping_add h1 h2)) in
     (wrapping_add a b, wrapping_add b (wrapping_add a b))
 
--- the two halves of the hash of a whole list under a seed
+-- both halves of the hash of a whole list under a seed
 unfoldable pub murmur3_x64_128 : List ℕ → ℕ → ℕ × ℕ
 murmur3_x64_128 bytes seed =
     let n = length bytes / 16 in

@@ -1,7 +1,7 @@
 -- The multiplier of a divisor.
 use Rattle.std.specs.Prelude.{◌≡◌, ℕ, ◌-◌, ◌/◌, ◌^◌, ◌<◌}
 
--- 2 ^ 64 - 1 over the divisor, rounded down
+-- 2 ^ 64 - 1 divided by the divisor, rounded down
 abbrev pub reciprocal : ℕ → ℕ
 reciprocal divisor = (2 ^ 64 - 1) / divisor
 

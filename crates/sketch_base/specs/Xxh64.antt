@@ -1,5 +1,5 @@
--- XXH64 by Yann Collet as a function on a whole list of bytes.
--- The steps have the names of its description, 'xxHash fast digest algorithm'.
+-- XXH64 by Yann Collet as a function of a whole list of bytes.
+-- The steps are named as in its description, 'xxHash fast digest algorithm'.
 use Rattle.std.specs.Prelude.{ℕ, zero, suc, ◌-◌, ◌*◌, ◌/◌, ◌%◌, ◌^◌, nat_lt, nat_le, if◌then◌else◌, List, length, take, drop, bit_xor}
 use Rattle.std.specs.List.{fold}
 use Rattle.std.specs.Int.{w64, rotate_left}
@@ -69,12 +69,12 @@ consume_half_word h lane =
 unfoldable pub consume_byte : ℕ → ℕ → ℕ
 consume_byte h lane = wrapping_mul (rotate_left w64 (bit_xor h (wrapping_mul lane prime64_5)) 11) prime64_1
 
--- after the first n words of the rest
+-- the hash after the first n words of the rest
 unfoldable pub consume_words : ℕ → ℕ → List ℕ → ℕ
 consume_words zero h rest = h
 consume_words (suc n) h rest = consume_word (consume_words n h rest) (word_at rest (8 * n))
 
--- after fewer than eight bytes
+-- the hash after the last bytes, fewer than eight
 unfoldable pub consume_bytes : ℕ → List ℕ → ℕ
 consume_bytes h rest =
     if nat_le 4 (length rest) then fold consume_byte (consume_half_word h (half_word_at rest 0)) (drop 4 rest)
@@ -87,7 +87,7 @@ avalanche h =
     let b = wrapping_mul (bit_xor a (a / 2 ^ 29)) prime64_3 in
     bit_xor b (b / 2 ^ 32)
 
--- the answer, from the converged number with the length added, and fewer than 32 bytes
+-- the hash, from the converged number plus the length, and the rest of fewer than 32 bytes
 unfoldable pub finalization : ℕ → List ℕ → ℕ
 finalization h rest =
     avalanche (consume_bytes (consume_words (length rest / 8) h rest) (drop (8 * (length rest / 8)) rest))

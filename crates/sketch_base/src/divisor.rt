@@ -1,16 +1,19 @@
-//! Remainders by a divisor that is known before, without a division.
+//! Remainders by a precomputed divisor, without a division.
 ghost use Rattle.std.specs.Prelude.{◌≡◌, ◌%◌, ◌<◌, IsTrue};
 ghost use Rattle.std.specs.Int.{is_power_of_two};
 ghost use Rattle.sketch_base.specs.Reciprocal.{reciprocal};
 
 use std::marker::Model;
 
-/// A divisor above 1, with a multiplier of 64 bits by which a remainder takes two products and no division.
-/// A contract sees it as the number. The remainder by a power of two is a mask.
+/// A divisor above 1 with a precomputed multiplier of 64 bits, which computes remainders without a division.
 ///
-/// The multiplier is 2^64 - 1 over the divisor, rounded down. The upper half of its product with a number is then the
-/// quotient or one less, so that the number without so many divisors is below twice the divisor, and one subtraction
-/// gives the remainder where it is due. It holds for each divisor and each number of 64 bits.
+/// Contracts see the divisor as a number. A remainder by a power of two is a mask. Any other remainder takes two
+/// products.
+///
+/// The multiplier is 2^64 - 1 divided by the divisor, rounded down. The upper half of its product with `a` is the
+/// quotient or one less. So `a` minus this estimate times the divisor is below twice the divisor, and at most one
+/// subtraction remains. It is proved for every divisor above 1 and every `u64` that [`rem`](Self::rem) returns the
+/// remainder. On remainders without a division see Lemire, Kaser & Kurz 2019.
 ///
 /// # Examples
 ///
@@ -44,7 +47,7 @@ impl Model for Divisor {
 }
 
 impl Divisor {
-    /// A divisor above 1.
+    /// Creates a divisor, which is above 1.
     pub fn new(divisor: u64) -> Self
         requires { 1 < divisor }
         ensures { result ≡ divisor }
@@ -55,7 +58,7 @@ impl Divisor {
         }
     }
 
-    /// The divisor as a number.
+    /// Returns the divisor as a number.
     #[inline(always)]
     pub fn divisor(self) -> u64
         ensures value { result ≡ self }
@@ -64,7 +67,7 @@ impl Divisor {
         self.divisor
     }
 
-    /// The remainder of `a`.
+    /// Returns `a` modulo the divisor.
     #[inline(always)]
     pub fn rem(self, a: u64) -> u64
         ensures value { result ≡ a % self }
@@ -77,7 +80,10 @@ impl Divisor {
         }
     }
 
-    /// Whether it is a power of two. Who takes many remainders asks it once, and then takes the one that fits.
+    /// Returns whether the divisor is a power of two.
+    ///
+    /// In a loop, test this once and call [`rem_by_mask`](Self::rem_by_mask) or
+    /// [`rem_by_products`](Self::rem_by_products).
     #[inline(always)]
     pub fn is_power_of_two(self) -> bool
         ensures { result ≡ is_power_of_two self }
@@ -85,7 +91,7 @@ impl Divisor {
         self.divisor.is_power_of_two()
     }
 
-    /// The remainder of `a` by a power of two.
+    /// Returns `a` modulo the divisor by a mask. The divisor is a power of two.
     #[inline(always)]
     pub fn rem_by_mask(self, a: u64) -> u64
         requires { IsTrue (is_power_of_two self) }
@@ -95,7 +101,7 @@ impl Divisor {
         a & self.divisor - 1
     }
 
-    /// The remainder of `a`, by two products for each divisor.
+    /// Returns `a` modulo the divisor by two products. Every divisor is allowed.
     #[inline(always)]
     pub fn rem_by_products(self, a: u64) -> u64
         ensures value { result ≡ a % self }
@@ -105,10 +111,10 @@ impl Divisor {
     }
 }
 
-/// The remainder by the multiplier.
+/// Returns the remainder from the multiplier, without a division.
 ///
-/// The subtraction goes round where it is not due, so that the lesser of the two numbers is the remainder. This compiles
-/// to a move, where a test by `if` became a branch that no processor predicts.
+/// The subtraction wraps if it is not needed, and the minimum of both numbers is the remainder. This compiles to a
+/// conditional move, and an `if` to a branch that no processor predicts.
 #[inline(always)]
 fn direct_remainder(a: u64, multiplier: u64, divisor: u64) -> u64
     requires positive { 0 < divisor }

@@ -1,4 +1,4 @@
-//! Refusals: a kind, and what was wrong.
+//! Errors: a kind and a fault.
 ghost use Rattle.std.specs.Prelude.{◌≡◌};
 ghost use Rattle.sketch_base.specs.Errors.{refusal, invalid_argument, invalid_data};
 
@@ -7,7 +7,7 @@ use std::alloc::{AllocError, AllocFailed};
 use std::fmt;
 use std::marker::Model;
 
-/// The kind of a refusal.
+/// The kind of an [`Error`].
 ///
 /// # Examples
 ///
@@ -20,15 +20,15 @@ use std::marker::Model;
 /// ```
 #[derive(Clone, Copy, Debug, PartialEq, Eq)]
 pub enum ErrorKind {
-    /// A call was given an argument that it does not take.
+    /// A call rejected an argument.
     InvalidArgument,
-    /// Bytes that were read are not what they have to be.
+    /// A call rejected bytes that it read.
     InvalidData,
-    /// No memory was to be had.
+    /// An allocation failed.
     OutOfMemory,
 }
 
-/// A refusal: its kind and its fault.
+/// An error: its [`kind`](Self::kind) and its [`fault`](Self::fault). It prints its fault's message.
 ///
 /// # Examples
 ///
@@ -56,35 +56,35 @@ impl Model for Error {
 }
 
 impl Error {
-    /// A refusal of this kind with this fault.
+    /// Creates an error of a kind with a fault.
     pub fn new(kind: ErrorKind, fault: Fault) -> Self
         ensures { result ≡ refusal kind fault }
     {
         Error { kind, fault }
     }
 
-    /// An argument is refused, for this fault.
+    /// Creates an error of the kind [`InvalidArgument`](ErrorKind::InvalidArgument) with a fault.
     pub fn invalid_argument(fault: Fault) -> Self
         ensures { result ≡ invalid_argument fault }
     {
         Error::new(ErrorKind::InvalidArgument, fault)
     }
 
-    /// Bytes that were read are refused, for this fault.
+    /// Creates an error of the kind [`InvalidData`](ErrorKind::InvalidData) with a fault.
     pub fn invalid_data(fault: Fault) -> Self
         ensures { result ≡ invalid_data fault }
     {
         Error::new(ErrorKind::InvalidData, fault)
     }
 
-    /// The kind of the refusal.
+    /// Returns the kind.
     pub fn kind(&self) -> ErrorKind
         ensures { result ≡ self.now.kind }
     {
         self.kind
     }
 
-    /// What was wrong.
+    /// Returns the fault, which names the cause.
     pub fn fault(&self) -> Fault
         ensures { result ≡ self.now.fault }
     {
@@ -92,7 +92,7 @@ impl Error {
     }
 }
 
-/// Prints the text of the fault.
+/// Writes the fault's message.
 impl fmt::Display for Error {
     ghost use Rattle.std.specs.Prelude.{Some};
     ghost use Rattle.sketch_base.specs.Faults.{fault_text};

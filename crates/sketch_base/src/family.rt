@@ -1,11 +1,11 @@
-//! The families of sketches that have images.
+//! The families of sketches in images.
 ghost use Rattle.std.specs.Prelude.{◌≡◌, ◌≢◌, OnOk, IfErr};
 ghost use Rattle.sketch_base.specs.Errors.{invalid_data};
 
 use crate::error::Error;
 use crate::fault::Fault;
 
-/// A family of sketches: the number that names it in an image, and how many longs its preamble may have.
+/// A family of sketches: its id in an image, and the range of its preamble's length.
 ///
 /// # Examples
 ///
@@ -18,40 +18,41 @@ use crate::fault::Fault;
 /// ```
 #[derive(Clone, Copy, Debug, PartialEq, Eq)]
 pub struct Family {
-    /// The number of the family in an image.
+    /// The id of the family in an image.
     pub id: u8,
-    /// The least number of longs, of 8 bytes each, in a preamble.
+    /// The minimum length of a preamble in longs, of 8 bytes each.
     pub min_pre_longs: u8,
-    /// The greatest number of longs in a preamble.
+    /// The maximum length of a preamble in longs, of 8 bytes each.
     pub max_pre_longs: u8,
 }
 
 impl Family {
-    /// Frequent items.
+    /// The family of frequent items.
     pub const FREQUENCY: Family = Family {
         id: 10,
         min_pre_longs: 1,
         max_pre_longs: 4,
     };
 
-    /// Count-Min sketches.
+    /// The family of Count-Min sketches.
     pub const COUNTMIN: Family = Family {
         id: 18,
         min_pre_longs: 2,
         max_pre_longs: 2,
     };
 
-    /// Bloom filters.
+    /// The family of Bloom filters.
     pub const BLOOMFILTER: Family = Family {
         id: 21,
         min_pre_longs: 3,
         max_pre_longs: 4,
     };
 
-    /// Whether `id`, which was read from an image, is this family's.
+    /// Checks that `id`, which was read from an image, is the id of this family. Does not allocate.
     ///
-    /// Where it is not, this answers [`BadFamily`](Fault::BadFamily) of the kind
-    /// [`InvalidData`](crate::ErrorKind::InvalidData). It takes no memory.
+    /// # Errors
+    ///
+    /// [`BadFamily`](Fault::BadFamily) of the kind [`InvalidData`](crate::ErrorKind::InvalidData) if it is another.
     #[inline]
     pub fn validate_id(&self, id: u8) -> Result<(), Error>
         ensures ok { OnOk result (id ≡ self.now.id) }

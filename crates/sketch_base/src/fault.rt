@@ -1,10 +1,10 @@
-//! What was wrong with a refused call.
+//! The causes of errors.
 ghost use Rattle.std.specs.Prelude.{◌≡◌};
 ghost use Rattle.sketch_base.specs.Faults.{fault_text, fault_name};
 
 use std::fmt;
 
-/// What was wrong.
+/// The cause of an [`Error`](crate::Error).
 ///
 /// # Examples
 ///
@@ -23,13 +23,13 @@ pub enum Fault {
     BadNumHashes,
     /// The number of buckets is below 3.
     BadNumBuckets,
-    /// Hashes times buckets are 2^30 or more.
+    /// Hashes times buckets is 2^30 or more.
     TableTooLarge,
     /// The 16-bit hash of the seed is 0.
     ZeroSeedHash,
     /// Two sketches differ in shape or seed.
     Mismatch,
-    /// The total weight would pass the greatest number of its type.
+    /// The total weight would exceed the maximum of its type.
     WeightOverflow,
     /// A map size is not a power of two.
     MapSizeNotPowerOfTwo,
@@ -37,49 +37,49 @@ pub enum Fault {
     MapSizeTooSmall,
     /// A map size is above 2^30.
     MapSizeTooLarge,
-    /// An item is too long to be written.
+    /// An item is too long to be written to an image.
     ItemTooLong,
     /// There are too few bytes.
     InsufficientData,
-    /// The bytes are of another family of sketches.
+    /// The bytes are an image of another family of sketches.
     BadFamily,
-    /// The serial version is not the one that is read.
+    /// The serial version of an image is not supported.
     BadVersion,
-    /// The number of preamble longs is not one of the family.
+    /// The number of preamble longs is not one of the family's.
     BadPreamble,
     /// A filter has no words.
     BadNumWords,
-    /// The number of set bits is not the one that is stored.
+    /// The stored number of set bits is wrong.
     BadBitCount,
-    /// The stored seed hash is not that of the seed.
+    /// The stored hash of the seed is not that of the given seed.
     SeedHashMismatch,
-    /// A number is not one of its type.
+    /// A number is out of the range of its type.
     ValueOutOfRange,
     /// The total weight is negative.
     NegativeTotal,
-    /// A counter is above the total weight.
+    /// A counter exceeds the total weight.
     CellAboveTotal,
     /// The current map size is below 8.
     LgCurTooSmall,
-    /// The greatest map size is above 2^30.
+    /// The maximum map size is above 2^30.
     LgMaxTooLarge,
-    /// The current map size is above the greatest.
+    /// The current map size is above the maximum.
     LgCurAboveMax,
     /// The empty flag does not match the preamble.
     EmptyFlagMismatch,
-    /// There are more active items than the map takes.
+    /// There are more active items than the map can hold.
     TooManyActive,
-    /// The total weight is 0 where it may not be.
+    /// The total weight is 0 in an image that is not marked empty.
     ZeroTotal,
-    /// The weights together are above the total weight.
+    /// The sum of the weights exceeds the total weight.
     WeightsExceedTotal,
-    /// The weights and the error together are above the total weight.
+    /// The weights and the error together exceed the total weight.
     ErrorExceedsTotal,
-    /// A text is not UTF-8.
+    /// A string is not valid UTF-8.
     InvalidUtf8,
-    /// An item is bad, for item types of a user.
+    /// An item is invalid. This is for the item types of users.
     BadItem,
-    /// No memory was to be had.
+    /// An allocation failed.
     NoMemory,
     /// The number of counters that a purge samples is out of range.
     BadSampleSize,
@@ -90,21 +90,21 @@ pub enum Fault {
 impl Fault {
     ghost use Rattle.sketch_base.specs.Faults.{fault_words};
 
-    /// The text that names the fault to a person.
+    /// Returns the message, for people to read.
     pub fn text(self) -> &'static str
         ensures { result.now ≡ fault_text self }
     {
         self.words().1
     }
 
-    /// The fault's own name, such as `MapSizeTooSmall`.
+    /// Returns the name of the variant, such as `MapSizeTooSmall`.
     pub fn name(self) -> &'static str
         ensures { result.now ≡ fault_name self }
     {
         self.words().0
     }
 
-    /// The name and the text.
+    /// Returns the name and the message.
     fn words(self) -> (&'static str, &'static str)
         ensures { (result.0.now, result.1.now) ≡ fault_words self }
     {
@@ -112,7 +112,7 @@ impl Fault {
     }
 }
 
-/// The name and the text of each fault, in the order of the faults.
+/// The name and the message of each fault, in the order of the variants.
 static WORDS: [(&str, &str); 34] = [
     ("BadNumBits", "num_bits out of range"),
     ("BadNumHashes", "num_hashes out of range"),
@@ -150,7 +150,7 @@ static WORDS: [(&str, &str); 34] = [
     ("BadWindows", "windows out of range"),
 ];
 
-/// Prints the text of the fault.
+/// Writes the message of the fault.
 impl fmt::Display for Fault {
     ghost use Rattle.std.specs.Prelude.{Some};
     ghost use Rattle.sketch_base.specs.Faults.{fault_text};

@@ -1,6 +1,6 @@
-//! The fields of images, which stand at fixed places, and what all images are checked for.
+//! The fields of images at fixed offsets, and the checks that all images share.
 //!
-//! Numbers have their lowest byte first. None of these calls takes memory.
+//! Numbers are little-endian. No call here allocates.
 ghost use Rattle.std.specs.Prelude.{◌≡◌, ◌≢◌, ◌+◌, ◌<◌, ◌≤◌, Some, length, MatchOption, OnOk, IfErr};
 ghost use Rattle.std.specs.Int.{Width, w16, w32, w64, byte_len, from_le_bytes};
 ghost use Rattle.sketch_base.specs.Checks.{Opens, first_failing, opening_checks};
@@ -11,13 +11,15 @@ use crate::error::Error;
 use crate::family::Family;
 use crate::fault::Fault;
 
-/// The version of the formats, which stands in each image.
+/// The version of the formats, a byte of each image.
 pub const SERIAL_VERSION: u8 = 1;
 
-/// Whether an image has so many bytes.
+/// Checks that an image has at least `least` bytes.
 ///
-/// Where it has fewer, this answers [`InsufficientData`](Fault::InsufficientData) of the kind
-/// [`InvalidData`](crate::ErrorKind::InvalidData).
+/// # Errors
+///
+/// [`InsufficientData`](Fault::InsufficientData) of the kind [`InvalidData`](crate::ErrorKind::InvalidData) if it has
+/// fewer.
 #[inline]
 pub fn check_length(image: &[u8], least: usize) -> Result<(), Error>
     ensures enough { OnOk result (least ≤ length image.now) }
@@ -30,10 +32,11 @@ pub fn check_length(image: &[u8], least: usize) -> Result<(), Error>
     Ok(())
 }
 
-/// Whether a version is the one that is read.
+/// Checks that a version is [`SERIAL_VERSION`].
 ///
-/// Where it is not, this answers [`BadVersion`](Fault::BadVersion) of the kind
-/// [`InvalidData`](crate::ErrorKind::InvalidData).
+/// # Errors
+///
+/// [`BadVersion`](Fault::BadVersion) of the kind [`InvalidData`](crate::ErrorKind::InvalidData) if it is another.
 #[inline]
 pub fn check_version(version: u8) -> Result<(), Error>
     ensures same { OnOk result (version ≡ SERIAL_VERSION) }
@@ -45,11 +48,14 @@ pub fn check_version(version: u8) -> Result<(), Error>
     Ok(())
 }
 
-/// The fault of the first check that fails, of those with which every image is read: that it has so many bytes, 3 at
-/// least, that it is of this family, and that its version is the one that is read.
+/// Returns the fault of the first failing check among those that every image starts with, or `None` if all pass.
 ///
-/// They are [`InsufficientData`](Fault::InsufficientData), [`BadFamily`](Fault::BadFamily) and
-/// [`BadVersion`](Fault::BadVersion).
+/// The checks are, in this order:
+///
+/// - [`InsufficientData`](Fault::InsufficientData) if the image has fewer than `least` bytes, where `least` is at least
+///   3;
+/// - [`BadFamily`](Fault::BadFamily) if byte 2 is not the id of the family;
+/// - [`BadVersion`](Fault::BadVersion) if byte 1 is not [`SERIAL_VERSION`].
 #[inline]
 pub fn opening_fault(image: &[u8], least: usize, family: Family) -> Option<Fault>
     requires { 3 ≤ least }
@@ -68,7 +74,7 @@ pub fn opening_fault(image: &[u8], least: usize, family: Family) -> Option<Fault
     None
 }
 
-/// The `N` bytes at a place, which are those of the number there.
+/// Returns the `N` bytes at the offset `place`, which encode the number there.
 #[inline(always)]
 fn array_at<const N: usize>(image: &[u8], place: usize) -> [u8; N]
     requires { place + N ≤ length image.now }
@@ -79,7 +85,7 @@ fn array_at<const N: usize>(image: &[u8], place: usize) -> [u8; N]
     bytes
 }
 
-/// The unsigned number of two bytes at a place.
+/// Returns the `u16` at the offset `place`. Its two bytes are within the image.
 #[inline]
 pub fn u16_at(image: &[u8], place: usize) -> u16
     requires { place + 2 ≤ length image.now }
@@ -88,7 +94,7 @@ pub fn u16_at(image: &[u8], place: usize) -> u16
     u16::from_le_bytes(array_at(image, place))
 }
 
-/// The unsigned number of four bytes at a place.
+/// Returns the `u32` at the offset `place`. Its four bytes are within the image.
 #[inline]
 pub fn u32_at(image: &[u8], place: usize) -> u32
     requires { place + 4 ≤ length image.now }
@@ -97,7 +103,7 @@ pub fn u32_at(image: &[u8], place: usize) -> u32
     u32::from_le_bytes(array_at(image, place))
 }
 
-/// The signed number of four bytes at a place.
+/// Returns the `i32` at the offset `place`. Its four bytes are within the image.
 #[inline]
 pub fn i32_at(image: &[u8], place: usize) -> i32
     requires { place + 4 ≤ length image.now }
@@ -106,7 +112,7 @@ pub fn i32_at(image: &[u8], place: usize) -> i32
     u32_at(image, place).cast_signed()
 }
 
-/// The unsigned number of eight bytes at a place.
+/// Returns the `u64` at the offset `place`. Its eight bytes are within the image.
 #[inline]
 pub fn u64_at(image: &[u8], place: usize) -> u64
     requires { place + 8 ≤ length image.now }

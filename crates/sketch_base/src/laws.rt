@@ -1,12 +1,14 @@
-//! What the constants are. No function here does anything: what it ensures is the law.
+//! The values of the constants, as theorems. The function here does nothing: its clauses are the laws.
 ghost use Rattle.std.specs.Prelude.{◌≡◌};
 
 use crate::family::Family;
 use crate::image::SERIAL_VERSION;
 use crate::murmurhash::DEFAULT_UPDATE_SEED;
 
-/// The numbers that images and default hashes rest on: of each family its id and how many longs its preamble may have,
-/// the version of the formats, and the seed that is used where none is chosen.
+/// States the constants that images and default hashes use.
+///
+/// They are the id of each family with the range of its preamble's longs, the version of the formats, and the default
+/// seed.
 pub fn what_the_constants_are()
     ensures frequency { Family.FREQUENCY ≡ record { id = 10; min_pre_longs = 1; max_pre_longs = 4 } }
     ensures countmin { Family.COUNTMIN ≡ record { id = 18; min_pre_longs = 2; max_pre_longs = 2 } }

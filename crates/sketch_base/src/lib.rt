@@ -1,14 +1,17 @@
-//! The layer under the sketches: hash functions, byte cursors, families and refusals.
+//! The layer below the sketches: hash functions, byte cursors, fields of images, families, errors and remainders.
 //!
-//! - [`XxHash64`] and [`MurmurHash3X64128`] hash bytes that come piece by piece, [`xxh64_of`], [`murmur3_of`] and
-//!   [`murmur3_of_u64`] whole items and numbers, [`SeedlessItem`] an item under several seeds, whose [`ShortBytes`] are kept, and
-//!   [`compute_seed_hash`] seeds. A contract sees each answer as the hash of one whole list of bytes, however they came.
-//! - [`SketchSlice`] reads numbers from bytes, and [`SketchBytes`] writes them. A contract sees the bytes that are
-//!   still unread, and those that were written.
-//! - [`image`] has the fields of images, which stand at fixed places, and what all images are checked for.
-//! - [`Family`] names a kind of sketch in an image, and [`Error`] says by its [`Fault`] why a call was refused.
-//! - [`laws`] say what the constants are.
-//! - [`Divisor`] takes remainders by a number that is known before, without a division.
+//! - [`XxHash64`] and [`MurmurHash3X64128`] hash bytes that arrive in pieces. Contracts see each result as the hash of
+//!   the whole list of bytes.
+//! - [`xxh64_of`], [`murmur3_of`] and [`murmur3_of_u64`] hash a whole item or number.
+//! - [`SeedlessItem`] hashes one item under several seeds. It feeds an item of few bytes once, and keeps them as
+//!   [`ShortBytes`].
+//! - [`compute_seed_hash`] hashes a seed, and [`check_seed_hash`] compares two such hashes.
+//! - [`SketchSlice`] reads numbers from bytes, and [`SketchBytes`] writes them. Contracts see the bytes that are
+//!   unread, and those that are written.
+//! - [`image`] reads the fields of images at fixed offsets, and has the checks that all images share.
+//! - [`Family`] names a kind of sketch in an image. An [`Error`] has a kind and a [`Fault`], its cause.
+//! - [`laws`] states the values of the constants.
+//! - [`Divisor`] computes remainders by a precomputed number without a division.
 #![tactic(auto)]
 
 mod divisor;

@@ -1,4 +1,4 @@
-//! MurmurHash3 x64 128 as a hasher that takes bytes piece by piece.
+//! MurmurHash3 x64 128 as a hasher of bytes that arrive in pieces.
 ghost use Rattle.std.specs.Prelude.{◌≡◌, ℕ, ◌+◌, ◌/◌, ◌≤◌, List, [], ◌++◌, length};
 ghost use Rattle.sketch_base.specs.Murmur3 as spec;
 ghost use Rattle.sketch_base.specs.Murmur3State as pieces;
@@ -8,7 +8,7 @@ use crate::words::{turn_left, word_at};
 use std::hash::Hasher;
 use std::marker::Model;
 
-/// The seed of a sketch for which no other is given.
+/// The default seed of sketches.
 pub const DEFAULT_UPDATE_SEED: u64 = 9001;
 
 const C1: u64 = 0x87C3_7B91_1142_53D5;
@@ -50,14 +50,14 @@ fn block(h: (u64, u64), bytes: &[u8]) -> (u64, u64)
     (h1, h2)
 }
 
-// All whole blocks of `bytes`.
+// Hashes all whole blocks of `bytes`.
 #[inline]
 fn body(start: (u64, u64), bytes: &[u8]) -> (u64, u64)
     ensures { result ≡ spec.body (length bytes.now / 16) start bytes.now }
 {
     let mut h = start;
     let count = bytes.len() / 16;
-    // the label names the loop in its proof
+    // The label is for the prover.
     'each: for i in 0..count {
         h = block(h, &bytes[16 * i..16 * i + 16]);
     }
@@ -89,10 +89,11 @@ pub(crate) fn finalization(h: (u64, u64), rest: &[u8], len: u64) -> (u64, u64)
     (first, b.wrapping_add(first))
 }
 
-/// MurmurHash3 x64 128 of the bytes that it is fed, under a seed of 64 bits.
+/// A hasher for MurmurHash3 x64 128 with a seed of 64 bits.
 ///
-/// It has a fixed size and takes no memory. However the bytes are cut into pieces, the hash is that of all of them.
-/// The hash function is Austin Appleby's, of the file `MurmurHash3.cpp`, with both halves started at the seed.
+/// It has a fixed size and does not allocate. The hash is that of all bytes fed, however they are cut into pieces: this
+/// is proved. The hash function is Austin Appleby's, of the file `MurmurHash3.cpp`, with both halves initialized to the
+/// seed.
 ///
 /// # Examples
 ///
@@ -109,7 +110,7 @@ pub(crate) fn finalization(h: (u64, u64), rest: &[u8], len: u64) -> (u64, u64)
 #[derive(Clone, Debug, Drop)]
 pub struct MurmurHash3X64128 {
     halves: (u64, u64),
-    // The bytes since the last whole block, and zeros.
+    // The bytes since the last whole block, then zeros.
     buffer: [u8; 16],
     total: u64,
 }
@@ -126,7 +127,7 @@ impl Model for MurmurHash3X64128 {
 }
 
 impl MurmurHash3X64128 {
-    /// A hasher of this seed, before the first byte.
+    /// Creates a hasher with a seed, which was fed no bytes.
     #[inline(always)]
     pub fn with_seed(seed: u64) -> Self
         ensures { pieces.HasFed seed [] result }
@@ -138,7 +139,7 @@ impl MurmurHash3X64128 {
         }
     }
 
-    /// Both halves of the hash of all bytes fed so far.
+    /// Returns both halves of the hash of all bytes fed so far. The hasher can be fed further.
     #[inline(always)]
     pub fn finish128(&self) -> (u64, u64)
         ensures state { result ≡ pieces.finish128 self.now }
@@ -166,7 +167,7 @@ impl MurmurHash3X64128 {
         }
     }
 
-    // A piece that ends the block that was begun.
+    // Writes a piece that exactly completes the pending block.
     #[inline(always)]
     fn fill_block(&mut self, bytes: &[u8])
         requires { length self.old.tail + length bytes.now ≡ 16 }
@@ -179,7 +180,7 @@ impl MurmurHash3X64128 {
         self.buffer = [0; 16];
     }
 
-    // A piece where no block was begun.
+    // Writes a piece if no block is pending.
     #[inline]
     fn write_aligned(&mut self, bytes: &[u8])
         requires { length self.old.tail ≡ 0 }
@@ -192,7 +193,7 @@ impl MurmurHash3X64128 {
         copy_short(&mut self.buffer[..tail.len()], tail);
     }
 
-    // A piece that fills the block that was begun.
+    // Writes a piece that completes the pending block.
     #[inline(never)]
     fn write_straddling(&mut self, bytes: &[u8])
         requires { 16 ≤ length self.old.tail + length bytes.now }
@@ -210,7 +211,7 @@ impl MurmurHash3X64128 {
     }
 }
 
-/// A hasher of the seed [`DEFAULT_UPDATE_SEED`].
+/// Creates a hasher with the seed [`DEFAULT_UPDATE_SEED`].
 impl Default for MurmurHash3X64128 {
     ghost is_default = { pieces.HasFed 9001 [] };
 
@@ -224,7 +225,7 @@ impl Hasher for MurmurHash3X64128 {
 
     ghost finish = { pieces.finish };
 
-    /// The first half of the hash of all bytes fed so far.
+    /// Returns the first half of the hash of all bytes fed so far.
     #[inline(always)]
     fn finish(&self) -> u64
         ensures state { result ≡ pieces.finish self.now }

@@ -1,4 +1,4 @@
-//! The hash of a seed, which an image keeps in place of the seed.
+//! The hash of a seed, which an image stores in place of the seed.
 ghost use Rattle.std.specs.Prelude.{◌≡◌, ◌≢◌, OnOk, IfOk, IfErr};
 ghost use Rattle.sketch_base.specs.Errors.{refusal};
 ghost use Rattle.sketch_base.specs.Hashes.{seed_hash};
@@ -7,11 +7,14 @@ use crate::error::{Error, ErrorKind};
 use crate::fault::Fault;
 use crate::item_hash::murmur3_of_u64;
 
-/// The hash of a seed: the low 16 bits of the first half of MurmurHash3 x64 128, under the seed 0, of the eight bytes
-/// of `seed`, the lowest first.
+/// Returns the 16-bit hash of a seed. Does not allocate.
 ///
-/// Where that is 0, which stands for no seed, this answers [`ZeroSeedHash`](Fault::ZeroSeedHash) of the kind that is
-/// given. It takes no memory.
+/// It is the low 16 bits of the first half of MurmurHash3 x64 128, under the seed 0, of the eight bytes of `seed`,
+/// little-endian.
+///
+/// # Errors
+///
+/// [`ZeroSeedHash`](Fault::ZeroSeedHash) of the given kind if the hash is 0, which means no seed.
 #[tactic(auto, unfolding(crate::specs::Hashes::seed_hash))]
 pub fn compute_seed_hash(seed: u64, kind: ErrorKind) -> Result<u16, Error>
     ensures value { IfOk result (λ hash. (hash ≡ seed_hash seed) × (hash ≢ 0)) }
@@ -24,10 +27,11 @@ pub fn compute_seed_hash(seed: u64, kind: ErrorKind) -> Result<u16, Error>
     Ok(hash)
 }
 
-/// Whether two hashes of seeds are the same.
+/// Checks that two hashes of seeds are equal. Does not allocate.
 ///
-/// Where they differ, this answers [`SeedHashMismatch`](Fault::SeedHashMismatch) of the kind that is given.
-/// It takes no memory.
+/// # Errors
+///
+/// [`SeedHashMismatch`](Fault::SeedHashMismatch) of the given kind if they differ.
 #[inline]
 pub fn check_seed_hash(expected: u16, actual: u16, kind: ErrorKind) -> Result<(), Error>
     ensures same { OnOk result (actual ≡ expected) }

@@ -8,10 +8,10 @@ use crate::short_bytes::ShortBytes;
 use std::hash::Hash;
 use std::marker::Model;
 
-/// An item that is hashed under several seeds: what no seed changes is done once.
+/// An item that is hashed under several seeds, and fed only once if it has few bytes.
 ///
-/// A contract sees it as the bytes that the item's `Hash` feeds. Where they are fewer than 16, as those of numbers are,
-/// they are fed once, and each hash is the finalization alone. Else each hash feeds them anew. It takes no memory.
+/// Contracts see it as the bytes that the item's `Hash` feeds. If they are fewer than 16, as for numbers, they are fed
+/// once, and each hash is only the finalization. Otherwise each hash feeds them again. It does not allocate.
 ///
 /// # Examples
 ///
@@ -42,7 +42,7 @@ impl<'a, T: Hash> Model for SeedlessItem<'a, T> {
 }
 
 impl<'a, T: Hash> SeedlessItem<'a, T> {
-    /// The item, whose bytes are fed here where they are few.
+    /// Creates it from an item. This feeds the item's bytes once, and keeps them if they are fewer than 16.
     #[inline(always)]
     pub fn new(item: &'a T) -> Self
         ensures { result ≡ fed_bytes T.hash_input item.now }
@@ -52,7 +52,7 @@ impl<'a, T: Hash> SeedlessItem<'a, T> {
         SeedlessItem { item, short }
     }
 
-    /// Its bytes, where they are fewer than 16: each hash is then the finalization alone.
+    /// Returns the item's bytes if they are fewer than 16. Each hash of them is only the finalization.
     #[inline(always)]
     pub fn short(&self) -> Option<&ShortBytes>
         ensures bytes { IfSome result (λ bytes. bytes.now ≡ self.now) }
@@ -66,7 +66,7 @@ impl<'a, T: Hash> SeedlessItem<'a, T> {
         }
     }
 
-    /// Both halves of MurmurHash3 x64 128 of all bytes that the item's `Hash` feeds, under a seed.
+    /// Returns both halves of MurmurHash3 x64 128 of all bytes that the item's `Hash` feeds, under a seed.
     #[inline(always)]
     pub fn murmur3(&self, seed: u64) -> (u64, u64)
         ensures { result ≡ murmur3_x64_128 self.now seed }

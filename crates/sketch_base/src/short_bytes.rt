@@ -1,4 +1,4 @@
-//! The bytes of an item, kept while they are fewer than a block of Murmur3.
+//! The bytes of an item, kept while there are fewer than a block of MurmurHash3.
 ghost use Rattle.std.specs.Prelude.{◌≡◌, ◌^◌, ◌<◌, [], length, ℕ};
 ghost use Rattle.sketch_base.specs.Murmur3.{murmur3_x64_128};
 ghost use Rattle.sketch_base.specs.ShortBytes as short;
@@ -8,8 +8,10 @@ use crate::short_copy::copy_short;
 use std::hash::Hasher;
 use std::marker::Model;
 
-/// The bytes that an item feeds, kept while they are fewer than 16, as [`SeedlessItem::short`](crate::SeedlessItem::short)
-/// answers them. It hashes nothing by itself.
+/// The bytes that an item feeds, kept while there are fewer than 16.
+///
+/// [`SeedlessItem::short`](crate::SeedlessItem::short) returns them. As a `Hasher` it only collects bytes: its `finish`
+/// returns their number, which is no hash.
 ///
 /// # Examples
 ///
@@ -23,9 +25,9 @@ use std::marker::Model;
 /// ```
 #[derive(Drop)]
 pub struct ShortBytes {
-    // The bytes, and zeros.
+    // The bytes, then zeros.
     buffer: [u8; 16],
-    // How many bytes there are, or 16 where there were too many.
+    // The number of bytes, or 16 if there were too many.
     len: usize,
 }
 
@@ -40,7 +42,7 @@ impl Model for ShortBytes {
 }
 
 impl ShortBytes {
-    /// No bytes.
+    /// Creates it with no bytes.
     #[inline(always)]
     pub fn new() -> Self
         ensures { result ≡ [] }
@@ -51,7 +53,7 @@ impl ShortBytes {
         }
     }
 
-    /// How many bytes are kept: 16 where there were too many.
+    /// Returns the number of bytes kept, or 16 if there were too many.
     #[inline(always)]
     pub fn len(&self) -> usize
         ensures { result ≡ length self.now }
@@ -59,7 +61,7 @@ impl ShortBytes {
         self.len
     }
 
-    /// Both halves of MurmurHash3 x64 128 of the bytes under a seed.
+    /// Returns both halves of MurmurHash3 x64 128 of the bytes, which are fewer than 16, under a seed.
     #[inline(always)]
     pub fn murmur3(&self, seed: u64) -> (u64, u64)
         requires { length self.now < 16 }
@@ -74,7 +76,7 @@ impl Hasher for ShortBytes {
 
     ghost finish = { length };
 
-    /// How many bytes are kept, which is no hash.
+    /// Returns the number of bytes kept, which is no hash.
     #[inline(always)]
     fn finish(&self) -> u64 {
         self.len as u64

@@ -1,7 +1,7 @@
-//! Copies of few bytes, with no call out of line.
+//! Copies of few bytes, without a function call.
 ghost use Rattle.std.specs.Prelude.{◌≡◌, ◌*◌, ◌<◌, ◌≤◌, length};
 
-/// Copies all of `from`, which has at most 32 bytes.
+/// Copies all bytes of `from`, at most 32, to `to`, which has the same length.
 #[inline(always)]
 pub fn copy_short(to: &mut [u8], from: &[u8])
     requires same_length { length to.old ≡ length from.now }
@@ -22,7 +22,7 @@ pub fn copy_short(to: &mut [u8], from: &[u8])
     }
 }
 
-// The bytes at both ends, which meet or overlap.
+// Copies `width` bytes at each end, which meet or overlap.
 #[inline(always)]
 fn copy_ends(to: &mut [u8], from: &[u8], width: usize)
     requires same_length { length to.old ≡ length from.now }

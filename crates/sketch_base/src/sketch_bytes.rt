@@ -7,12 +7,15 @@ use crate::error::Error;
 use std::alloc::Global;
 use std::marker::Model;
 
-/// Bytes that are written in order.
+/// A buffer to which numbers and bytes are appended.
 ///
-/// A contract sees the bytes that were written, and the capacity: within it every write succeeds.
-/// A write past it takes memory, and where that is refused it answers
-/// [`NoMemory`](crate::Fault::NoMemory) of the kind [`OutOfMemory`](crate::ErrorKind::OutOfMemory),
-/// and leaves the bytes as they were.
+/// Contracts see the bytes written and the capacity. A write within the capacity succeeds: this is proved. A write past
+/// it allocates.
+///
+/// # Errors
+///
+/// Each write, and [`reserve`](Self::reserve), returns [`NoMemory`](crate::Fault::NoMemory) of the kind
+/// [`OutOfMemory`](crate::ErrorKind::OutOfMemory) if the allocation fails. The bytes are then unchanged.
 ///
 /// # Examples
 ///
@@ -42,7 +45,11 @@ impl Model for SketchBytes {
 }
 
 impl SketchBytes {
-    /// No bytes yet, and room for `capacity` of them.
+    /// Creates an empty buffer with room for at least `capacity` bytes.
+    ///
+    /// # Errors
+    ///
+    /// `NoMemory` if the buffer cannot be allocated.
     pub fn with_capacity(alloc: Global, capacity: usize) -> Result<Self, Error>
         ensures empty { IfOk result (λ out. out.bytes ≡ []) }
         ensures room { IfOk result (λ out. capacity ≤ out.capacity) }
@@ -53,7 +60,11 @@ impl SketchBytes {
         })
     }
 
-    /// Makes room for `additional` bytes more, and for no more than that.
+    /// Makes room for `additional` more bytes, and for no more than these if it allocates.
+    ///
+    /// # Errors
+    ///
+    /// `NoMemory` if the allocation fails. Bytes and capacity are then unchanged.
     pub fn reserve(&mut self, additional: usize) -> Result<(), Error>
         ensures ok { OnOk result (self.new.capacity ≡ max self.old.capacity (length self.old.bytes + additional)) }
         ensures within { length self.old.bytes + additional ≤ self.old.capacity → IsOk result }
@@ -65,7 +76,7 @@ impl SketchBytes {
         Ok(())
     }
 
-    /// Writes `part` at the end.
+    /// Appends `part`.
     #[inline(always)]
     pub fn write(&mut self, part: &[u8]) -> Result<(), Error>
         ensures ok { OnOk result (self.new.bytes ≡ self.old.bytes ++ part.now) }
@@ -84,7 +95,7 @@ impl SketchBytes {
         }
     }
 
-    /// Writes `part` as one piece.
+    /// Appends `part` as one piece.
     #[inline]
     fn write_whole(&mut self, part: &[u8]) -> Result<(), Error>
         ensures ok { OnOk result (self.new.bytes ≡ self.old.bytes ++ part.now) }
@@ -97,7 +108,7 @@ impl SketchBytes {
         Ok(())
     }
 
-    /// Writes few bytes as the first so many and the last so many of them, which meet or overlap, with no call out of line.
+    /// Appends few bytes as their first `WIDTH` and their last `WIDTH`, which meet or overlap, without a function call.
     #[inline(always)]
     fn write_ends<const WIDTH: usize>(&mut self, part: &[u8]) -> Result<(), Error>
         requires at_least { WIDTH ≤ length part.now }
@@ -115,7 +126,7 @@ impl SketchBytes {
         self.write_overlapping(&first, &last, part.len())
     }
 
-    /// Writes `size` bytes that are given by the first and the last of them, which meet or overlap.
+    /// Appends `size` bytes, given by their first and their last ones, which meet or overlap.
     #[inline(always)]
     fn write_overlapping(&mut self, first: &[u8], last: &[u8], size: usize) -> Result<(), Error>
         requires first_within { length first.now ≤ size }
@@ -135,8 +146,7 @@ impl SketchBytes {
         Ok(())
     }
 
-    /// Writes how many bytes `part` has, as an unsigned number of four bytes, the lowest first, and then `part`, which is
-    /// shorter than 2^32 bytes.
+    /// Appends the length of `part` as a little-endian `u32`, then `part`, which is shorter than 2^32 bytes.
     #[inline(always)]
     pub fn write_length_prefixed(&mut self, part: &[u8]) -> Result<(), Error>
         requires short { length part.now < 2 ^ 32 }
@@ -159,8 +169,8 @@ impl SketchBytes {
         }
     }
 
-    /// Writes a prefix, and few bytes behind it as the first so many and the last so many of them, which meet or overlap: as one
-    /// piece, with no call out of line.
+    /// Appends a prefix, then few bytes as their first `WIDTH` and their last `WIDTH`, which meet or overlap: as one
+    /// piece, without a function call.
     #[inline(always)]
     fn write_prefixed_ends<const WIDTH: usize>(
         &mut self,
@@ -184,7 +194,7 @@ impl SketchBytes {
         self.write_overlapping(&first[..4 + WIDTH], &last, 4 + part.len())
     }
 
-    /// Writes a byte.
+    /// Appends a byte.
     #[inline]
     pub fn write_u8(&mut self, n: u8) -> Result<(), Error>
         ensures ok { OnOk result (self.new.bytes ≡ self.old.bytes ++ n ∷ []) }
@@ -196,7 +206,7 @@ impl SketchBytes {
         self.write(&[n])
     }
 
-    /// Writes an unsigned number of two bytes, the lowest first.
+    /// Appends a `u16`, little-endian.
     #[inline]
     pub fn write_u16_le(&mut self, n: u16) -> Result<(), Error>
         ensures ok { OnOk result (self.new.bytes ≡ self.old.bytes ++ to_le_bytes w16 n) }
@@ -208,7 +218,7 @@ impl SketchBytes {
         self.write(&u16::to_le_bytes(n))
     }
 
-    /// Writes an unsigned number of four bytes, the lowest first.
+    /// Appends a `u32`, little-endian.
     #[inline]
     pub fn write_u32_le(&mut self, n: u32) -> Result<(), Error>
         ensures ok { OnOk result (self.new.bytes ≡ self.old.bytes ++ to_le_bytes w32 n) }
@@ -220,7 +230,7 @@ impl SketchBytes {
         self.write(&u32::to_le_bytes(n))
     }
 
-    /// Writes a signed number of four bytes, the lowest first.
+    /// Appends an `i32`, little-endian.
     #[inline]
     pub fn write_i32_le(&mut self, n: i32) -> Result<(), Error>
         ensures ok { OnOk result (self.new.bytes ≡ self.old.bytes ++ to_le_bytes w32 (cast_unsigned w32 n)) }
@@ -232,7 +242,7 @@ impl SketchBytes {
         self.write(&i32::to_le_bytes(n))
     }
 
-    /// Writes an unsigned number of eight bytes, the lowest first.
+    /// Appends a `u64`, little-endian.
     #[inline]
     pub fn write_u64_le(&mut self, n: u64) -> Result<(), Error>
         ensures ok { OnOk result (self.new.bytes ≡ self.old.bytes ++ to_le_bytes w64 n) }
@@ -244,7 +254,7 @@ impl SketchBytes {
         self.write(&u64::to_le_bytes(n))
     }
 
-    /// Writes a signed number of eight bytes, the lowest first.
+    /// Appends an `i64`, little-endian.
     #[inline]
     pub fn write_i64_le(&mut self, n: i64) -> Result<(), Error>
         ensures ok { OnOk result (self.new.bytes ≡ self.old.bytes ++ to_le_bytes w64 (cast_unsigned w64 n)) }
@@ -256,7 +266,7 @@ impl SketchBytes {
         self.write(&i64::to_le_bytes(n))
     }
 
-    /// The bytes that were written.
+    /// Returns the bytes written.
     pub fn into_bytes(self) -> Vec<u8>
         ensures { result.items ≡ self.bytes }
     {

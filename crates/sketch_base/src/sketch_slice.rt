@@ -1,4 +1,4 @@
-//! A cursor over bytes that are read in order.
+//! A cursor that reads bytes in order.
 ghost use Rattle.std.specs.Prelude.{◌≡◌, ◌<◌, ◌≤◌, length, take, drop, IfOk, OnOk, IfErr, OnErr};
 ghost use Rattle.std.specs.Int.{w16, w32, w64};
 ghost use Rattle.sketch_base.specs.Errors.{invalid_data};
@@ -8,11 +8,14 @@ use crate::error::Error;
 use crate::fault::Fault;
 use std::marker::Model;
 
-/// A cursor over bytes that are read in order. A contract sees it as the list of the bytes that are still unread.
+/// A cursor that reads numbers and bytes in order. Contracts see the list of unread bytes.
 ///
-/// No call takes memory. A read of more bytes than are left answers
-/// [`InsufficientData`](Fault::InsufficientData) of the kind [`InvalidData`](crate::ErrorKind::InvalidData),
-/// and leaves the cursor where it was.
+/// No call allocates.
+///
+/// # Errors
+///
+/// A read of more bytes than are left returns [`InsufficientData`](Fault::InsufficientData) of the kind
+/// [`InvalidData`](crate::ErrorKind::InvalidData). The cursor is then unchanged.
 ///
 /// # Examples
 ///
@@ -40,7 +43,7 @@ impl<'a> Model for SketchSlice<'a> {
 }
 
 impl<'a> SketchSlice<'a> {
-    /// A cursor before the first of `bytes`.
+    /// Creates a cursor before the first of `bytes`.
     #[inline]
     pub fn new(bytes: &'a [u8]) -> Self
         ensures { result ≡ bytes.now }
@@ -48,7 +51,7 @@ impl<'a> SketchSlice<'a> {
         SketchSlice { unread: bytes }
     }
 
-    /// The bytes that are still unread.
+    /// Returns the unread bytes.
     #[inline]
     pub fn remaining(&self) -> &[u8]
         ensures { result.now ≡ self.now }
@@ -56,7 +59,7 @@ impl<'a> SketchSlice<'a> {
         self.unread
     }
 
-    /// Goes past `n` bytes, which have to be there.
+    /// Skips `n` bytes. `n` is at most the number of unread bytes.
     #[inline]
     pub fn advance(&mut self, n: u64)
         requires { n ≤ length self.old }
@@ -65,7 +68,7 @@ impl<'a> SketchSlice<'a> {
         self.unread = &self.unread[n as usize..];
     }
 
-    /// Reads as many bytes as `out` holds. Where fewer are left, `out` stays as it was.
+    /// Reads `out.len()` bytes into `out`. If fewer are left, `out` is unchanged too.
     #[inline]
     pub fn read_exact(&mut self, out: &mut [u8]) -> Result<(), Error>
         ensures enough { OnOk result (length out.old ≤ length self.old) }
@@ -112,7 +115,7 @@ impl<'a> SketchSlice<'a> {
         Ok(bytes[0])
     }
 
-    /// Reads an unsigned number of two bytes, the lowest first.
+    /// Reads a `u16`, little-endian.
     #[tactic(auto, unfolding(crate::specs::Fields::le_at))]
     #[inline]
     pub fn read_u16_le(&mut self) -> Result<u16, Error>
@@ -125,7 +128,7 @@ impl<'a> SketchSlice<'a> {
         Ok(u16::from_le_bytes(self.read_array()?))
     }
 
-    /// Reads an unsigned number of four bytes, the lowest first.
+    /// Reads a `u32`, little-endian.
     #[tactic(auto, unfolding(crate::specs::Fields::le_at))]
     #[inline]
     pub fn read_u32_le(&mut self) -> Result<u32, Error>
@@ -138,7 +141,7 @@ impl<'a> SketchSlice<'a> {
         Ok(u32::from_le_bytes(self.read_array()?))
     }
 
-    /// Reads a signed number of four bytes, the lowest first.
+    /// Reads an `i32`, little-endian.
     #[tactic(auto, unfolding(crate::specs::Fields::le_at))]
     #[inline]
     pub fn read_i32_le(&mut self) -> Result<i32, Error>
@@ -151,7 +154,7 @@ impl<'a> SketchSlice<'a> {
         Ok(i32::from_le_bytes(self.read_array()?))
     }
 
-    /// Reads an unsigned number of eight bytes, the lowest first.
+    /// Reads a `u64`, little-endian.
     #[tactic(auto, unfolding(crate::specs::Fields::le_at))]
     #[inline]
     pub fn read_u64_le(&mut self) -> Result<u64, Error>
@@ -164,7 +167,7 @@ impl<'a> SketchSlice<'a> {
         Ok(u64::from_le_bytes(self.read_array()?))
     }
 
-    /// Reads a signed number of eight bytes, the lowest first.
+    /// Reads an `i64`, little-endian.
     #[tactic(auto, unfolding(crate::specs::Fields::le_at))]
     #[inline]
     pub fn read_i64_le(&mut self) -> Result<i64, Error>

@@ -1,9 +1,9 @@
-//! Words of 64 bits: those in a slice of bytes, lowest byte first, and their rotation.
+//! Words of 64 bits: the little-endian ones in a slice of bytes, and their rotation.
 ghost use Rattle.std.specs.Prelude.{◌≡◌, ◌+◌, ◌<◌, ◌≤◌, length};
 ghost use Rattle.std.specs.Int.{w64, rotate_left};
 ghost use Rattle.sketch_base.specs.MachineWords as spec;
 
-/// The number of the eight bytes from `at` on.
+/// Returns the little-endian word of eight bytes at the offset `at`.
 #[inline(always)]
 pub fn word_at(bytes: &[u8], at: usize) -> u64
     requires { at + 8 ≤ length bytes.now }
@@ -21,7 +21,7 @@ pub fn word_at(bytes: &[u8], at: usize) -> u64
     ])
 }
 
-/// The number of the four bytes from `at` on.
+/// Returns the little-endian word of four bytes at the offset `at`.
 #[inline(always)]
 pub fn half_word_at(bytes: &[u8], at: usize) -> u64
     requires { at + 4 ≤ length bytes.now }
@@ -30,10 +30,10 @@ pub fn half_word_at(bytes: &[u8], at: usize) -> u64
     u32::from_le_bytes([bytes[at], bytes[at + 1], bytes[at + 2], bytes[at + 3]]) as u64
 }
 
-/// The bits of `x` turned to the left by `n`, as `x.rotate_left(n)` does.
+/// Rotates `x` left by `n` bits, as `x.rotate_left(n)` does. `n` is from 1 to 63.
 ///
-/// It shifts two copies of `x` that stand side by side. Where `x` is a product by a constant, the compiler would make
-/// two products of the two shifts that `rotate_left` is made of; this remains one rotation.
+/// It shifts two copies of `x` side by side. If `x` is a product by a constant, the compiler turns the two shifts of
+/// `rotate_left` into two products. This remains one rotation.
 #[inline(always)]
 pub fn turn_left(x: u64, n: u32) -> u64
     requires above { 0 < n }

@@ -1,4 +1,4 @@
-//! XXH64 as a hasher that takes bytes piece by piece.
+//! XXH64 as a hasher of bytes that arrive in pieces.
 ghost use Rattle.std.specs.Prelude.{◌≡◌, ℕ, ◌+◌, ◌/◌, ◌≤◌, List, [], ◌++◌, length, bit_xor};
 ghost use Rattle.std.specs.Int.{w64, rotate_left};
 ghost use Rattle.std.specs.List.{fold};
@@ -58,14 +58,14 @@ fn stripe(acc: Accumulators, bytes: &[u8]) -> Accumulators
     )
 }
 
-// All whole stripes of `bytes`.
+// Hashes all whole stripes of `bytes`.
 #[inline]
 fn stripes(start: Accumulators, bytes: &[u8]) -> Accumulators
     ensures { result ≡ spec.stripes (length bytes.now / 32) start bytes.now }
 {
     let mut acc = start;
     let count = bytes.len() / 32;
-    // the label names the loop in its proof
+    // The label is for the prover.
     'each: for i in 0..count {
         acc = stripe(acc, &bytes[32 * i..32 * i + 32]);
     }
@@ -97,7 +97,7 @@ fn convergence(acc: Accumulators) -> u64
     merge_accumulator(merge_accumulator(h, acc.2), acc.3)
 }
 
-// A hash with a part of the rest taken in, turned and multiplied.
+// Mixes `part` into a hash, then rotates and multiplies.
 #[inline(always)]
 fn mixed(h: u64, part: u64, turn: u32, factor: u64) -> u64
     ensures { result ≡ wrapping_mul (rotate_left w64 (bit_xor h part) turn) factor }
@@ -158,7 +158,7 @@ fn consume_words(h: u64, rest: &[u8]) -> u64
 {
     let mut h = h;
     let count = rest.len() / 8;
-    // the label names the loop in its proof
+    // The label is for the prover.
     'each: for i in 0..count {
         h = consume_word(h, word_at(rest, 8 * i));
     }
@@ -184,10 +184,10 @@ fn finalization(h: u64, rest: &[u8]) -> u64
     avalanche(consume_bytes(consume_words(h, rest), &rest[8 * words..]))
 }
 
-/// XXH64 of the bytes that it is fed, under a seed.
+/// A hasher for XXH64 with a seed of 64 bits.
 ///
-/// It has a fixed size and takes no memory. However the bytes are cut into pieces, the hash is that of all of them.
-/// The hash function is Yann Collet's, of the description 'xxHash fast digest algorithm'.
+/// It has a fixed size and does not allocate. The hash is that of all bytes fed, however they are cut into pieces: this
+/// is proved. The hash function is Yann Collet's, of the description 'xxHash fast digest algorithm'.
 ///
 /// # Examples
 ///
@@ -206,10 +206,10 @@ fn finalization(h: u64, rest: &[u8]) -> u64
 pub struct XxHash64 {
     seed: u64,
     accumulators: Accumulators,
-    // It begins with the bytes since the last whole stripe.
+    // It begins with the bytes since the last whole stripe. The rest has no meaning.
     buffer: [u8; 32],
     total: u64,
-    // Whether there was a whole stripe. The total wraps, so it does not tell.
+    // Whether there was a whole stripe. The total wraps, so it does not show this.
     is_long: bool,
 }
 
@@ -229,7 +229,7 @@ impl Model for XxHash64 {
 }
 
 impl XxHash64 {
-    /// A hasher of this seed, before the first byte.
+    /// Creates a hasher with a seed, which was fed no bytes.
     #[inline(always)]
     pub fn with_seed(seed: u64) -> Self
         ensures { pieces.HasFed seed [] result }
@@ -273,7 +273,7 @@ impl XxHash64 {
         }
     }
 
-    // A piece with a whole stripe, where no stripe was begun.
+    // Writes a piece of a whole stripe or more if no stripe is pending.
     #[inline(always)]
     fn write_aligned(&mut self, bytes: &[u8])
         requires none_begun { length self.old.tail ≡ 0 }
@@ -287,7 +287,7 @@ impl XxHash64 {
         copy_short(&mut self.buffer[..tail.len()], tail);
     }
 
-    // A piece that fills the stripe that was begun.
+    // Writes a piece that completes the pending stripe.
     #[inline(never)]
     fn write_straddling(&mut self, bytes: &[u8])
         requires { 32 ≤ length self.old.tail + length bytes.now }
@@ -310,7 +310,7 @@ impl Hasher for XxHash64 {
 
     ghost finish = { pieces.finish };
 
-    /// The hash of all bytes fed so far.
+    /// Returns the hash of all bytes fed so far.
     #[inline(always)]
     fn finish(&self) -> u64
         ensures state { result ≡ pieces.finish self.now }

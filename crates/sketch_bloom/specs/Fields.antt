@@ -1,9 +1,9 @@
--- What holds of a filter's fields.
+-- The invariant of a filter's fields.
 use Rattle.std.specs.Prelude.{◌≡◌, ℕ, ◌*◌, ◌≤◌, List, length}
 use Rattle.std.specs.FinSet as set
 use Rattle.sketch_bloom.specs.BitSet.{set_of}
 
--- the words, the capacity, the number of hashes and the count of set bits fit together
+-- the words, the capacity, the number of hashes and the count of set bits are consistent
 pub record IsFilter (words : List ℕ) (capacity num_hashes bits_used : ℕ) : Type 0 where
   pub some_words : 1 ≤ length words
   pub few_words : length words ≤ 2147483647

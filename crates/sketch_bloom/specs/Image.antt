@@ -1,4 +1,4 @@
--- The image of a filter: its fields by their places, its checks in their order, what it says, and how it is spelled.
+-- The image of a filter: its fields by offset, its checks in order, its value, and its bytes.
 use Rattle.std.specs.Prelude.{◌≡◌, ◌≢◌, ℕ, ◌+◌, ◌*◌, ◌<◌, ◌^◌, nat_le, nat_lt, ◌==◌, Bool, ◌&&◌, ◌||◌, not, Option, None, Some, List, [], ◌∷◌, ◌++◌, length, drop, All, bit_and, if◌then◌else◌}
 use Rattle.std.specs.Int.{w16, w32, w64, to_le_bytes}
 use Rattle.std.specs.FinSet as set
@@ -13,7 +13,7 @@ use Rattle.sketch_bloom.specs.State.{FilterState, IsFilterState}
 
 -- ---- the fields
 
--- bit 2 of the flags alone says that the set is empty
+-- bit 2 of the flags alone marks the set as empty
 abbrev pub says_empty : List ℕ → Bool
 says_empty image = not (bit_and (byte_at image 3) 4 == 0)
 
@@ -23,28 +23,28 @@ num_hashes_at image = le_at w16 image 4
 abbrev pub seed_at : List ℕ → ℕ
 seed_at image = le_at w64 image 8
 
--- a number with a sign, which has to be above zero: so its highest bit is clear
+-- a signed number that has to be positive, so its highest bit is clear
 abbrev pub num_words_at : List ℕ → ℕ
 num_words_at image = le_at w32 image 16
 
 abbrev pub bit_count_at : List ℕ → ℕ
 bit_count_at image = le_at w64 image 24
 
--- what stands for a number of set bits that was not counted
+-- the bit count of a filter whose bits were not counted
 abbrev pub uncounted : ℕ
 uncounted = 0xFFFF_FFFF_FFFF_FFFF
 
--- the set of the words behind them
+-- the set of the words after the bit count
 abbrev pub set_at : List ℕ → Numbers
 set_at image = set_of (words_in (num_words_at image) (drop 32 image))
 
--- whether the number of set bits was not counted, or is right
+-- whether the bit count is missing or right
 abbrev pub has_right_count : List ℕ → Bool
 has_right_count image = (bit_count_at image == uncounted) || (bit_count_at image == set.len (set_at image))
 
--- ---- the checks: what has to hold, and the fault where it does not
+-- ---- the checks: a test, and the fault if it fails
 
--- those that come before any memory is asked for
+-- the checks before any allocation
 abbrev pub early_checks : List ℕ → List (Bool × Fault)
 early_checks image =
     (nat_le 4 (length image), InsufficientData)
@@ -70,7 +70,7 @@ early_fault image = first_failing (early_checks image)
 abbrev pub first_fault : List ℕ → Option Fault
 first_fault image = or_else (early_fault image) (first_failing (late_checks image))
 
--- a reader's own limit, in bytes of words, comes behind the early checks
+-- a reader's own limit, in bytes of words, is checked after the early checks
 abbrev pub limit_fault : ℕ → List ℕ → Option Fault
 limit_fault most_bytes image = if nat_lt most_bytes (8 * num_words_at image) then Some TableTooLarge else None
 
@@ -81,7 +81,7 @@ abbrev pub first_fault_within : ℕ → List ℕ → Option Fault
 first_fault_within most_bytes image =
     or_else (early_fault_within most_bytes image) (first_failing (late_checks image))
 
--- ---- what an image says
+-- ---- the value of an image
 
 abbrev pub value_at : List ℕ → FilterState
 value_at image = record {
@@ -91,12 +91,12 @@ value_at image = record {
   set = if says_empty image then set.empty else set_at image;
 }
 
--- the bytes are an image of the filter; what they do not name here is free
+-- the bytes are an image of the filter; bytes that are not named here are free
 pub record IsImage (image : List ℕ) (s : FilterState) : Type 0 where
   pub no_fault : first_fault image ≡ None
   pub value : s ≡ value_at image
 
--- ---- how an image is spelled
+-- ---- the bytes that are written
 
 -- the longs of the preamble, the version, the family, the flags and the shape
 abbrev pub preamble : (longs flags num_hashes seed num_words : ℕ) → List ℕ
@@ -104,7 +104,7 @@ preamble longs flags num_hashes seed num_words =
     longs ∷ 1 ∷ 21 ∷ flags ∷ [] ++ to_le_bytes w16 num_hashes ++ 0 ∷ 0 ∷ [] ++ to_le_bytes w64 seed
     ++ to_le_bytes w32 num_words ++ 0 ∷ 0 ∷ 0 ∷ 0 ∷ []
 
--- the words of 64 bits in which the filter's set stands
+-- words of 64 bits that hold the filter's set
 pub record AreWordsOf (s : FilterState) (words : List ℕ) : Type 0 where
   pub count : length words ≡ s.num_words
   pub fit : All (λ word. word < 2 ^ 64) words
@@ -117,15 +117,15 @@ pub record IsWritten (image : List ℕ) (s : FilterState) : Type 0 where
   pub bytes :
       image ≡ preamble 4 0 s.num_hashes s.seed s.num_words ++ to_le_bytes w64 (set.len s.set) ++ bytes_of_words words
 
--- the bytes are the image of the filter as it is written
+-- the bytes are the image that is written for the filter
 pub record IsSpelled (image : List ℕ) (s : FilterState) : Type 0 where
   pub state : IsFilterState s
   pub seed : s.seed < 2 ^ 64
   pub empty : s.set ≡ set.empty → image ≡ preamble 3 4 s.num_hashes s.seed s.num_words
   pub full : s.set ≢ set.empty → IsWritten image s
 
--- ---- what a reader promises
+-- ---- the promise of a reader
 
--- what stood for a history, and had this image, comes back as what stands for the restored history
+-- if a filter stands for a history and has this image, the filter that is read stands for the restored history
 abbrev pub Restores : List ℕ → FilterState → Type 0
 Restores image new = (old : FilterState) → IsImage image old → Extends old new Restored

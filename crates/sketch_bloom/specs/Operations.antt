@@ -1,4 +1,4 @@
--- The operations on two sets, and what each does to two words.
+-- The operations on two sets, and on two words of them.
 use Rattle.std.specs.Prelude.{ℕ, bit_and, bit_or}
 use Rattle.std.specs.Int.{w64, bit_not}
 use Rattle.std.specs.FinSet as set
@@ -12,7 +12,7 @@ on_sets Union s t = set.union s t
 on_sets Intersection s t = set.intersection s t
 on_sets Difference s t = set.difference s t
 
--- on two words
+-- the operation on two words
 abbrev pub on_words : SetOperation → ℕ → ℕ → ℕ
 on_words Union x y = bit_or x y
 on_words Intersection x y = bit_and x y

@@ -1,18 +1,18 @@
--- The pairs of hashes of items, of which many are made before the first is looked for or inserted.
+-- The pairs of hashes of items. A batch computes many before the first item is looked up or inserted.
 use Rattle.std.specs.Prelude.{ℕ, Bool, List}
 use Rattle.std.specs.FinSet as set
 use Rattle.sketch_base.specs.Xxh64.{xxh64}
 use Rattle.sketch_bloom.specs.BitSet.{Numbers}
 use Rattle.sketch_bloom.specs.Positions.{positions}
 
--- the hashes of the item that feeds these bytes: under the seed, and under the first
+-- the hashes of the item that feeds these bytes: under the seed, and under the first hash
 abbrev pub pair_of : ℕ → List ℕ → ℕ × ℕ
 pair_of seed bytes = (xxh64 bytes seed, xxh64 bytes (xxh64 bytes seed))
 
--- whether all positions that two hashes give are in the set
+-- whether all positions of two hashes are in the set
 abbrev pub contains_pair : ℕ → ℕ → Numbers → ℕ × ℕ → Bool
 contains_pair capacity num_hashes s pair = set.is_subset (positions capacity num_hashes pair.0 pair.1) s
 
--- a set with the positions that two hashes give
+-- a set with the positions of two hashes added
 abbrev pub with_pair : ℕ → ℕ → Numbers → ℕ × ℕ → Numbers
 with_pair capacity num_hashes s pair = set.union s (positions capacity num_hashes pair.0 pair.1)

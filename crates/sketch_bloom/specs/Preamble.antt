@@ -1,4 +1,4 @@
--- What the first bytes of an image say, as they are read. No public clause cites this module.
+-- The first bytes of an image, as they are read. No public clause cites this module.
 use Rattle.std.specs.Prelude.{◌≡◌, List, ℕ}
 use Rattle.sketch_bloom.specs.Image.{says_empty, num_hashes_at, seed_at, num_words_at}
 use Rattle.sketch_bloom.specs.declared.image.Preamble.{Preamble}

@@ -1,25 +1,25 @@
--- A filter as callers see it: its shape, its seed and a set of positions.
+-- The state of a filter, as callers see it: its shape, its seed and a set of positions.
 use Rattle.std.specs.Prelude.{◌≡◌, ℕ, ◌*◌, ◌<◌, ◌≤◌, ◌==◌, Bool, true, ◌&&◌, List, fold, refl}
 use Rattle.std.specs.Coded.{Coded, code_by, coded×, coded_ℕ}
 use Rattle.std.specs.FinSet as set
 use Rattle.sketch_bloom.specs.BitSet.{Numbers, same_set}
 use Rattle.sketch_bloom.specs.Positions.{positions_of}
 
--- how many words and hashes a filter has, its seed, and the set of the positions that were inserted
+-- the number of words and of hashes, the seed, and the set of positions
 pub record FilterState : Type 0 where
   pub num_words : ℕ
   pub num_hashes : ℕ
   pub seed : ℕ
   pub set : Numbers
 
--- how it is stored: as the tuple of its fields
+-- the state as the tuple of its fields
 abbrev pub state_code : Coded FilterState
 state_code =
     code_by (ℕ × (ℕ × (ℕ × Numbers))) (coded× coded_ℕ (coded× coded_ℕ (coded× coded_ℕ (set.code coded_ℕ))))
     (λ s. (s.num_words, (s.num_hashes, (s.seed, s.set))))
     (λ p. record { num_words = p.0; num_hashes = p.1.0; seed = p.1.1.0; set = p.1.1.1 }) (λ _. refl)
 
--- how many positions there are: 64 in each word
+-- the number of positions: 64 for each word
 abbrev pub capacity_of : FilterState → ℕ
 capacity_of s = 64 * s.num_words
 
@@ -32,12 +32,12 @@ pub record IsFilterState (s : FilterState) : Type 0 where
   -- each position of the set is below the capacity
   pub within : (p : ℕ) → set.contains s.set p ≡ true → p < capacity_of s
 
--- the filter of a shape and a seed with nothing in it
+-- a filter of a shape and a seed with an empty set
 abbrev pub empty_state : ℕ → ℕ → ℕ → FilterState
 empty_state num_words num_hashes seed =
     record { num_words = num_words; num_hashes = num_hashes; seed = seed; set = set.empty }
 
--- the positions that the item which feeds these bytes has in a filter
+-- the positions in a filter of the item that feeds these bytes
 abbrev pub item_positions : FilterState → List ℕ → Numbers
 item_positions s bytes = positions_of (capacity_of s) s.num_hashes s.seed bytes
 
@@ -64,18 +64,18 @@ inserted s bytes = record s { set = set.union s.set (item_positions s bytes) }
 abbrev pub all_inserted : FilterState → List (List ℕ) → FilterState
 all_inserted s items = fold inserted s items
 
--- a filter with nothing left in it
+-- a filter with an empty set
 abbrev pub cleared : FilterState → FilterState
 cleared s = record s { set = set.empty }
 
--- a filter with the set of another added
+-- a filter with the union of both sets
 abbrev pub united : FilterState → FilterState → FilterState
 united a b = record a { set = set.union a.set b.set }
 
--- a filter of what it has in common with another
+-- a filter with the intersection of both sets
 abbrev pub intersected : FilterState → FilterState → FilterState
 intersected a b = record a { set = set.intersection a.set b.set }
 
--- a filter with the set of another taken away
+-- a filter with the set of another subtracted
 abbrev pub subtracted : FilterState → FilterState → FilterState
 subtracted a b = record a { set = set.difference a.set b.set }

@@ -1,7 +1,7 @@
 //! Sets of numbers in words of 64 bits.
 //!
-//! A number `p` stands in the words where bit `p % 64` of word `p / 64` is set. Two sets are combined eight words at a
-//! time, then four where so many are left, and the last three at most one by one.
+//! A number `p` is in the set if bit `p % 64` of word `p / 64` is set. Two sets are combined in blocks of eight words,
+//! then at most one block of four, then at most three words one by one.
 ghost use Rattle.std.specs.Prelude.{◌≡◌, ◌+◌, ◌*◌, ◌/◌, ◌%◌, ◌<◌, ◌≤◌, ◌==◌, ◌↔◌, true, IsTrue, map, fold, length, take, drop, count_ones};
 ghost use Rattle.std.specs.List.{sum_by};
 ghost use Rattle.std.specs.FinSet as set;
@@ -16,7 +16,7 @@ use crate::set_operation::SetOperation;
 use sketch_base::Divisor;
 use std::simd::prelude::*;
 
-/// The position that a sum of hashes gives: its half, modulo the capacity.
+/// Returns the position of a sum of hashes: its half, modulo the capacity.
 #[inline(always)]
 fn place_of(hash: u64, capacity: Divisor) -> u64
     ensures value { result ≡ hash / 2 % capacity }
@@ -25,7 +25,7 @@ fn place_of(hash: u64, capacity: Divisor) -> u64
     capacity.rem(hash >> 1)
 }
 
-/// Whether all positions that two hashes give stand in the words. It stops at the first that does not.
+/// Returns whether all positions of two hashes are in the set. Stops at the first that is not.
 #[inline(always)]
 pub fn contains_positions(
     words: &[u64],
@@ -40,7 +40,8 @@ pub fn contains_positions(
     contains_others(words, capacity, 0, num_hashes, h0, h1)
 }
 
-/// The same, where the first positions were looked for before. It stops at the first that does not.
+/// Returns whether all positions of two hashes are in the set, given that the first `looked` are. Stops at the first
+/// that is not.
 #[inline(always)]
 fn contains_others(
     words: &[u64],
@@ -56,7 +57,7 @@ fn contains_others(
     ensures { result ≡ set.is_subset (positions capacity num_hashes h0 h1) (set_of words.now) }
 {
     let mut hash = h0.wrapping_add(h1.wrapping_mul(looked as u64));
-    // The label is there for the prover alone.
+    // The label is for the prover.
     'looks: for _i in looked..num_hashes {
         hash = hash.wrapping_add(h1);
         let place = place_of(hash, capacity);
@@ -68,7 +69,7 @@ fn contains_others(
     true
 }
 
-/// Whether the first position that two hashes give stands in the words.
+/// Returns whether the first position of two hashes is in the set.
 #[inline(always)]
 fn contains_first(words: &[u64], capacity: Divisor, h0: u64, h1: u64) -> bool
     requires { capacity ≡ 64 * length words.now }
@@ -78,7 +79,7 @@ fn contains_first(words: &[u64], capacity: Divisor, h0: u64, h1: u64) -> bool
     words[(place / 64) as usize] >> (place % 64) & 1 != 0
 }
 
-/// Whether all positions that two hashes give stand in the words, where it is known whether the first does.
+/// Returns whether all positions of two hashes are in the set, given in `found` whether the first is.
 #[inline(always)]
 fn contains_behind(
     words: &[u64],
@@ -96,9 +97,9 @@ fn contains_behind(
     found && contains_others(words, capacity, 1, num_hashes, h0, h1)
 }
 
-/// Writes down for each pair of hashes whether all positions that they give stand in the words.
+/// Writes for each pair of hashes whether all its positions are in the set.
 ///
-/// The first positions of all are looked for before any other, so that the processor waits for their words at once.
+/// The first positions of all pairs are probed before any other, so that the processor loads their words in parallel.
 #[inline(always)]
 pub fn contains_pairs(
     words: &[u64],
@@ -112,7 +113,7 @@ pub fn contains_pairs(
     requires same { length answers.old ≡ length pairs.now }
     ensures { answers.new ≡ map (contains_pair capacity num_hashes (set_of words.now)) pairs.now }
 {
-    // The labels are there for the prover alone.
+    // The labels are for the prover.
     'firsts: for i in 0..pairs.len() {
         answers[i] = contains_first(words, capacity, pairs[i].0, pairs[i].1);
     }
@@ -122,7 +123,7 @@ pub fn contains_pairs(
     }
 }
 
-/// Inserts all positions that pairs of hashes give, and answers how many of them are new.
+/// Inserts all positions of the pairs of hashes. Returns the number of new positions.
 #[inline(always)]
 pub fn insert_pairs(
     words: &mut [u64],
@@ -136,14 +137,14 @@ pub fn insert_pairs(
     ensures added { set.len (set_of words.new) ≡ set.len (set_of words.old) + result }
 {
     let mut added = 0;
-    // The label is there for the prover alone.
+    // The label is for the prover.
     'pairs: for i in 0..pairs.len() {
         added += insert_positions(words, capacity, num_hashes, pairs[i].0, pairs[i].1);
     }
     added
 }
 
-/// Inserts all positions that two hashes give, and answers how many of them are new.
+/// Inserts all positions of two hashes. Returns the number of new positions.
 #[inline(always)]
 pub fn insert_positions(
     words: &mut [u64],
@@ -161,7 +162,7 @@ pub fn insert_positions(
 {
     let mut added = 0;
     let mut hash = h0;
-    // The label is there for the prover alone.
+    // The label is for the prover.
     'inserts: for _i in 0..num_hashes {
         hash = hash.wrapping_add(h1);
         let place = place_of(hash, capacity);
@@ -173,7 +174,7 @@ pub fn insert_positions(
     added
 }
 
-/// Whether the same numbers stand in both lists of words.
+/// Returns whether both sets are equal.
 pub fn is_same(words: &[u64], other: &[u64]) -> bool
     requires { length words.now ≡ length other.now }
     ensures { IsTrue result ↔ (set_of words.now ≡ set_of other.now) }
@@ -186,14 +187,16 @@ pub fn is_same(words: &[u64], other: &[u64]) -> bool
     true
 }
 
-/// Takes all numbers out of the words.
+/// Removes all numbers from the set.
 pub fn clear(words: &mut [u64])
     ensures { set_of words.new ≡ set.empty }
 {
     words.fill(0);
 }
 
-/// Combines the set with another, eight words at a time, then four, and answers the size of what it leaves.
+/// Combines the set with another, and returns the size of the result.
+///
+/// It takes blocks of eight words, then of four, then single words.
 #[inline(always)]
 pub fn combine(words: &mut [u64], other: &[u64], operation: SetOperation) -> u64
     requires same { length other.now ≡ length words.old }
@@ -203,7 +206,7 @@ pub fn combine(words: &mut [u64], other: &[u64], operation: SetOperation) -> u64
 {
     let mut size = 0;
     let eights = words.len() / 8;
-    // The labels are there for the prover alone: its goals are named after them.
+    // The labels are for the prover.
     'eights: for b in 0..eights {
         let at = 8 * b;
         combine_block::<8>(words, other, at, operation);
@@ -222,7 +225,7 @@ pub fn combine(words: &mut [u64], other: &[u64], operation: SetOperation) -> u64
     size
 }
 
-/// Combines the `N` words from a place on.
+/// Combines `N` words from the index `at` on.
 #[inline(always)]
 fn combine_block<const N: usize>(
     words: &mut [u64],
@@ -242,7 +245,7 @@ fn combine_block<const N: usize>(
     combined.copy_to_slice(&mut words[at..]);
 }
 
-/// How many bits are set in the eight words from a place on.
+/// Returns the number of set bits in eight words from the index `at` on.
 #[inline(always)]
 fn ones_of_eight(words: &[u64], at: usize) -> u64
     requires { at + 8 ≤ length words.now }
@@ -252,7 +255,7 @@ fn ones_of_eight(words: &[u64], at: usize) -> u64
     ones_of_four(words, at) + ones_of_four(words, at + 4)
 }
 
-/// How many bits are set in the four words from a place on.
+/// Returns the number of set bits in four words from the index `at` on.
 #[inline(always)]
 fn ones_of_four(words: &[u64], at: usize) -> u64
     requires { at + 4 ≤ length words.now }

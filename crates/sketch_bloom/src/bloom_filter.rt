@@ -1,4 +1,4 @@
-//! The filter.
+//! The Bloom filter.
 ghost use Rattle.std.specs.Prelude.{◌≡◌, ℕ, ◌*◌, ◌≤◌, ◌↔◌, map, length, IfOk, IfErr, IsOk, IsTrue, OnOk, OnErr};
 ghost use Rattle.std.specs.FinSet as set;
 ghost use Rattle.sketch_base.specs.Checks.{IsImageRefusal};
@@ -26,14 +26,20 @@ use std::fmt;
 use std::hash::Hash;
 use std::marker::Model;
 
-/// A Bloom filter: a set of positions, into which items are inserted.
+/// A Bloom filter (Bloom 1970): a set of positions, into which items are inserted.
 ///
-/// A filter has 64 positions a word, a number of hashes and a seed. An item's positions are these. Its `Hash` feeds a
-/// list of bytes. With `h0` the XXH64 of the bytes under the seed, and `h1` that under `h0`, position `i` is
-/// `(h0 + i * h1) / 2` modulo the capacity, for `i` from 1 to the number of hashes, where the sum is taken modulo 2^64.
+/// A filter has 64 positions for each word, a number of hashes and a seed. The positions of an item come from two
+/// hashes of the bytes that its `Hash` feeds (double hashing, Kirsch & Mitzenmacher 2008):
 ///
-/// An item is contained where all its positions are in the set. So an item that was inserted is contained until a call
-/// takes positions away, and an item that was not inserted may be contained as well.
+/// - `h0` is the XXH64 of the bytes under the seed;
+/// - `h1` is the XXH64 of the bytes under `h0`;
+/// - position `i` is `(h0 + i * h1) / 2` modulo the capacity, for `i` from 1 to the number of hashes. The sum wraps at
+///   2^64.
+///
+/// A filter contains an item if all positions of the item are in the set. So an inserted item is contained until
+/// [`reset`](Self::reset), [`intersect`](Self::intersect) or [`difference`](Self::difference) removes positions. An
+/// item that was not inserted may be contained too, a false positive. How rare these are is not proved: see
+/// [`suggest_num_bits`](crate::suggest_num_bits).
 ///
 /// # Examples
 ///
@@ -82,7 +88,7 @@ impl Model for BloomFilter {
 }
 
 impl BloomFilter {
-    /// A filter of so many words and hashes with nothing in it.
+    /// Creates an empty filter with this number of words and of hashes.
     pub(crate) fn with_words(
         alloc: Global,
         num_words: usize,
@@ -107,7 +113,7 @@ impl BloomFilter {
         })
     }
 
-    /// Whether all positions of the item are in the set. It stops at the first that is not, and takes no memory.
+    /// Returns whether all positions of the item are in the set. Stops at the first that is not. Does not allocate.
     #[inline]
     pub fn contains<T: Hash>(&self, item: &T) -> bool
         ensures { result ≡ contains_item self.now (fed_bytes T.hash_input item.now) }
@@ -116,7 +122,7 @@ impl BloomFilter {
         bit_set::contains_positions(&self.words, self.capacity, self.num_hashes, h0, h1)
     }
 
-    /// Inserts the item's positions, and answers whether all of them were in the set before. It takes no memory.
+    /// Inserts the item's positions, and returns whether all of them were in the set before. Does not allocate.
     ///
     /// # Examples
     ///
@@ -146,7 +152,7 @@ impl BloomFilter {
         added == 0
     }
 
-    /// Inserts the item's positions. It takes no memory.
+    /// Inserts the item's positions. Does not allocate.
     #[inline]
     pub fn insert<T: Hash + Drop>(&mut self, item: T)
         ensures insertion { self.new ≡ inserted self.old (fed_bytes T.hash_input item) }
@@ -156,10 +162,9 @@ impl BloomFilter {
         self.contains_and_insert(&item);
     }
 
-    /// Inserts the positions of all items, as [`insert`](Self::insert) does one after another. It takes no memory.
+    /// Inserts the positions of all items, as [`insert`](Self::insert) does one after another. Does not allocate.
     ///
-    /// It is faster than a call an item, since the hashes of the next items are under way while the words of this one
-    /// are waited for.
+    /// It is faster than a call for each item: the hashes of several items are computed before their words are needed.
     pub fn insert_all<T: Hash>(&mut self, items: &[T])
         ensures insertions { self.new ≡ all_inserted self.old (map (fed_bytes T.hash_input) items.now) }
         ensures state { IsFilterState self.new }
@@ -175,11 +180,10 @@ impl BloomFilter {
         self.bits_used += added;
     }
 
-    /// Writes down for each item whether all its positions are in the set, as [`contains`](Self::contains) answers. It
-    /// takes no memory, and there are as many answers as items.
+    /// Writes for each item to `answers` whether all its positions are in the set, as [`contains`](Self::contains)
+    /// returns it. `answers` is as long as `items`. Does not allocate.
     ///
-    /// It is faster than a call an item, since the hashes of the next items are under way while the words of this one
-    /// are waited for.
+    /// It is faster than a call for each item: the hashes of several items are computed before their words are needed.
     ///
     /// # Examples
     ///
@@ -206,7 +210,7 @@ impl BloomFilter {
         );
     }
 
-    /// Takes all positions out of the set. Shape and seed stay, and so does the memory.
+    /// Removes all positions from the set. Shape, seed and memory are kept.
     pub fn reset(&mut self)
         ensures cleared { self.new ≡ cleared self.old }
         ensures state { IsFilterState self.new }
@@ -216,17 +220,17 @@ impl BloomFilter {
         self.bits_used = 0;
     }
 
-    /// Adds the positions of the other filter's set. It takes no memory.
+    /// Adds all positions of the other filter's set. Does not allocate.
     ///
     /// # Errors
     ///
-    /// `Mismatch` unless both filters have one shape and one seed. The filter is then as it was.
+    /// `Mismatch` if the filters differ in shape or seed. The filter is then unchanged.
     pub fn union(&mut self, other: &BloomFilter) -> Result<(), Error>
         ensures ok { OnOk result (self.new ≡ united self.old other.now) }
         ensures state { IsFilterState self.new }
         ensures stands { OnOk result (ExtendsBoth self.old other.now self.new Union) }
 
-        // It is refused exactly where the filters are not compatible, and is then as it was.
+        // The error comes exactly if the filters are not compatible, and leaves the filter unchanged.
         ensures accepted { IsOk result ↔ IsCompatible self.old other.now }
         ensures refused { IfErr result (λ e. e ≡ invalid_argument Fault.Mismatch) }
         ensures err { OnErr result (self.new ≡ self.old) }
@@ -234,17 +238,17 @@ impl BloomFilter {
         self.combine(other, SetOperation::Union)
     }
 
-    /// Keeps only the positions that are also in the other filter's set. It takes no memory.
+    /// Removes all positions that are not in the other filter's set. Does not allocate.
     ///
     /// # Errors
     ///
-    /// `Mismatch` unless both filters have one shape and one seed. The filter is then as it was.
+    /// `Mismatch` if the filters differ in shape or seed. The filter is then unchanged.
     pub fn intersect(&mut self, other: &BloomFilter) -> Result<(), Error>
         ensures ok { OnOk result (self.new ≡ intersected self.old other.now) }
         ensures state { IsFilterState self.new }
         ensures stands { OnOk result (ExtendsBoth self.old other.now self.new Intersection) }
 
-        // It is refused exactly where the filters are not compatible, and is then as it was.
+        // The error comes exactly if the filters are not compatible, and leaves the filter unchanged.
         ensures accepted { IsOk result ↔ IsCompatible self.old other.now }
         ensures refused { IfErr result (λ e. e ≡ invalid_argument Fault.Mismatch) }
         ensures err { OnErr result (self.new ≡ self.old) }
@@ -252,20 +256,20 @@ impl BloomFilter {
         self.combine(other, SetOperation::Intersection)
     }
 
-    /// Takes the positions of the other filter's set away. It takes no memory.
+    /// Removes all positions that are in the other filter's set. Does not allocate.
     ///
-    /// An item that was inserted into this filter is then contained no more where it shares a position with the other's
-    /// set.
+    /// An item that was inserted into this filter is no longer contained if any of its positions is in the other set:
+    /// this call can cause false negatives.
     ///
     /// # Errors
     ///
-    /// `Mismatch` unless both filters have one shape and one seed. The filter is then as it was.
+    /// `Mismatch` if the filters differ in shape or seed. The filter is then unchanged.
     pub fn difference(&mut self, other: &BloomFilter) -> Result<(), Error>
         ensures ok { OnOk result (self.new ≡ subtracted self.old other.now) }
         ensures state { IsFilterState self.new }
         ensures stands { OnOk result (ExtendsBoth self.old other.now self.new Difference) }
 
-        // It is refused exactly where the filters are not compatible, and is then as it was.
+        // The error comes exactly if the filters are not compatible, and leaves the filter unchanged.
         ensures accepted { IsOk result ↔ IsCompatible self.old other.now }
         ensures refused { IfErr result (λ e. e ≡ invalid_argument Fault.Mismatch) }
         ensures err { OnErr result (self.new ≡ self.old) }
@@ -273,7 +277,7 @@ impl BloomFilter {
         self.combine(other, SetOperation::Difference)
     }
 
-    /// Combines the filter's set with that of a compatible filter.
+    /// Combines the filter's set with that of a compatible filter, or returns `Mismatch`.
     #[inline(always)]
     fn combine(&mut self, other: &BloomFilter, operation: SetOperation) -> Result<(), Error>
         ensures ok { OnOk result (self.new ≡ record self.old { set = on_sets operation self.old.set other.now.set }) }
@@ -289,7 +293,7 @@ impl BloomFilter {
         Ok(())
     }
 
-    /// Whether both filters have one number of words, one number of hashes and one seed.
+    /// Returns whether both filters have the same number of words, number of hashes and seed.
     pub fn is_compatible(&self, other: &Self) -> bool
         ensures { IsTrue result ↔ IsCompatible self.now other.now }
     {
@@ -298,21 +302,21 @@ impl BloomFilter {
             && self.seed == other.seed
     }
 
-    /// Whether the set is empty.
+    /// Returns whether the set is empty.
     pub fn is_empty(&self) -> bool
         ensures { IsTrue result ↔ (self.now.set ≡ set.empty) }
     {
         self.bits_used == 0
     }
 
-    /// How many positions are in the set.
+    /// Returns the number of positions in the set.
     pub fn bits_used(&self) -> u64
         ensures { result ≡ set.len self.now.set }
     {
         self.bits_used
     }
 
-    /// How many positions there are: 64 a word.
+    /// Returns the capacity, which is the number of positions: 64 for each word.
     pub fn capacity(&self) -> usize
         ensures value { result ≡ capacity_of self.now }
 
@@ -322,33 +326,34 @@ impl BloomFilter {
         self.capacity.divisor() as usize
     }
 
-    /// How many positions are taken of each item, not all of them different.
+    /// Returns the number of positions of each item. They need not be distinct.
     pub fn num_hashes(&self) -> u16
         ensures { result ≡ self.now.num_hashes }
     {
         self.num_hashes
     }
 
-    /// The seed of the hashes.
+    /// Returns the seed of the hashes.
     pub fn seed(&self) -> u64
         ensures { result ≡ self.now.seed }
     {
         self.seed
     }
 
-    /// The bytes that the filter takes, an estimate by a fixed formula: 8 for each word.
+    /// Returns an estimate of the filter's size in bytes: 8 for each word.
     pub fn estimated_size(&self) -> usize
         ensures { result ≡ 8 * self.now.num_words }
     {
         8 * self.words.len()
     }
 
-    /// The image of the filter: 24 bytes where the set is empty, else 32 and 8 for each word. `docs/FORMATS.md` has its
-    /// fields.
+    /// Writes the filter as an image. `docs/FORMATS.md` describes its fields.
+    ///
+    /// The image has 24 bytes if the set is empty, and otherwise 32 bytes and 8 for each word.
     ///
     /// # Errors
     ///
-    /// `NoMemory` where there is no memory for the image, which is asked for once.
+    /// `NoMemory` if the image cannot be allocated. It is allocated once.
     pub fn serialize(&self) -> Result<Vec<u8>, Error>
         ensures image { IfOk result (λ image. IsSpelled image.items self.now) }
         ensures err { IfErr result (λ e. e ≡ no_memory) }
@@ -382,18 +387,28 @@ impl BloomFilter {
         Ok(out.into_bytes())
     }
 
-    /// The filter of an image.
+    /// Reads a filter from an image.
     ///
-    /// The bytes behind the image are ignored, and so are the unused ones within it. It takes as much memory as the
-    /// image has words. An image that says that the filter is empty has none of them, and may say that there are
-    /// 2^31 - 1, which are 16 GiB: see [`deserialize_with_limit`](Self::deserialize_with_limit).
+    /// Bytes after the image, and unused bytes within it, are ignored. It allocates 8 bytes for each word that the
+    /// image states. An image that is marked empty contains no words, but may state up to 2^31 - 1, which are 16 GiB:
+    /// for untrusted images see [`deserialize_with_limit`](Self::deserialize_with_limit).
     ///
     /// # Errors
     ///
-    /// The fault of the first check that fails, of the kind `InvalidData`: in this order `InsufficientData`,
-    /// `BadFamily`, `BadVersion`, `BadPreamble`, `InsufficientData`, `BadNumHashes`, `InsufficientData`, `BadNumWords`,
-    /// `InsufficientData` and `BadBitCount`. `NoMemory` where there is no memory for the words, which are asked for
-    /// before the set bits are counted.
+    /// The fault of the first failing check, of the kind `InvalidData`. The checks are, in this order:
+    ///
+    /// - `InsufficientData` if there are fewer than 4 bytes;
+    /// - `BadFamily` and `BadVersion`;
+    /// - `BadPreamble` if there are neither 3 nor 4 preamble longs;
+    /// - `InsufficientData` if there are fewer than 6 bytes;
+    /// - `BadNumHashes` if the number of hashes is not from 1 to 32767;
+    /// - `InsufficientData` if there are fewer than 24 bytes;
+    /// - `BadNumWords` if the number of words is not from 1 to 2^31 - 1;
+    /// - `InsufficientData` if words are missing, unless the image is marked empty;
+    /// - `BadBitCount` if the stored number of set bits is wrong, unless the image is marked empty or the number is
+    ///   2^64 - 1, which means uncounted.
+    ///
+    /// `NoMemory` if the words cannot be allocated. They are allocated after all checks but the last.
     pub fn deserialize(alloc: Global, image: &[u8]) -> Result<Self, Error>
         ensures image { IfOk result (λ filter. IsImage image.now filter) }
         ensures state { IfOk result (λ filter. IsFilterState filter) }
@@ -403,12 +418,14 @@ impl BloomFilter {
         Self::deserialize_with_limit(alloc, image, usize::MAX)
     }
 
-    /// The filter of an image, whose words take at most so many bytes. As [`deserialize`](Self::deserialize).
+    /// Reads a filter from an image if its words take at most `most_bytes` bytes.
+    ///
+    /// It does the same as [`deserialize`](Self::deserialize) otherwise.
     ///
     /// # Errors
     ///
-    /// Those of `deserialize`, and `TableTooLarge` of the kind `InvalidData` where the words would take more: behind
-    /// the checks that come before memory, and then no memory is asked for.
+    /// The errors of `deserialize`, and `TableTooLarge` of the kind `InvalidData` if the words would take more. This
+    /// check follows all others but `BadBitCount`. If it fails, nothing is allocated.
     ///
     /// # Examples
     ///
@@ -457,11 +474,11 @@ impl BloomFilter {
         })
     }
 
-    /// A clone with memory of its own, as [`clone`](Clone::clone) makes it.
+    /// Clones the filter with memory of its own, as [`clone`](Clone::clone) does.
     ///
     /// # Errors
     ///
-    /// `NoMemory` where there is no memory for the words.
+    /// `NoMemory` if the words cannot be allocated.
     pub fn try_clone(&self) -> Result<Self, Error>
         ensures ok { IfOk result (λ filter. filter ≡ self.now) }
         ensures err { IfErr result (λ e. e ≡ no_memory) }
@@ -470,7 +487,7 @@ impl BloomFilter {
     }
 }
 
-/// A clone equals the filter, and has memory of its own. It is refused only for memory.
+/// Clones the filter with memory of its own. The clone equals the filter. The only error is a failed allocation.
 impl Clone for BloomFilter {
     ghost is_clone = { λ filter copy. copy ≡ filter };
 
@@ -485,7 +502,7 @@ impl Clone for BloomFilter {
     }
 }
 
-/// Filters are equal where they have one number of words, one number of hashes, one seed and one set.
+/// Compares the number of words, the number of hashes, the seed and the set.
 impl PartialEq for BloomFilter {
     ghost use Rattle.std.specs.Cmp.{partial_equiv_from_equiv};
     ghost use Rattle.sketch_bloom.specs.State.{same_filter};

@@ -1,4 +1,4 @@
-//! What makes filters.
+//! The builder of filters.
 ghost use Rattle.std.specs.Prelude.{◌≡◌, None, IfOk, IfErr, IsOk};
 ghost use Rattle.sketch_base.specs.Errors.{refusal_of};
 ghost use Rattle.sketch_bloom.specs.Building.{request_fault, words_for};
@@ -12,9 +12,9 @@ use sketch_base::{DEFAULT_UPDATE_SEED, Error, Fault};
 use std::alloc::Global;
 use std::marker::Model;
 
-/// The number of bits and of hashes and the seed of a filter that is to be made.
+/// A builder with the number of bits, the number of hashes and the seed of a filter.
 ///
-/// Nothing is checked before [`build`](BloomFilterBuilder::build).
+/// [`build`](BloomFilterBuilder::build) checks them, and nothing before it does.
 ///
 /// # Examples
 ///
@@ -43,7 +43,8 @@ impl Model for BloomFilterBuilder {
 }
 
 impl BloomFilterBuilder {
-    /// A filter of at least `num_bits` bits, which takes `num_hashes` positions of each item. Its seed is 9001.
+    /// Creates a builder for a filter of at least `num_bits` bits and `num_hashes` positions for each item. The seed is
+    /// 9001.
     pub fn with_size(num_bits: u64, num_hashes: u16) -> Self
         ensures { result ≡ record { num_bits = num_bits; num_hashes = num_hashes; seed = DEFAULT_UPDATE_SEED } }
     {
@@ -54,7 +55,7 @@ impl BloomFilterBuilder {
         }
     }
 
-    /// The same with another seed.
+    /// Sets the seed.
     pub fn seed(mut self, seed: u64) -> Self
         ensures { result ≡ record self { seed = seed } }
     {
@@ -62,12 +63,15 @@ impl BloomFilterBuilder {
         self
     }
 
-    /// The filter, with nothing in it. It has as many words of 64 bits as the number of bits needs.
+    /// Creates the filter with an empty set. Its number of words of 64 bits is the number of bits over 64, rounded up.
     ///
     /// # Errors
     ///
-    /// `BadNumBits` unless the number of bits is from 1 to 137438953152, `BadNumHashes` unless the number of hashes is
-    /// from 1 to 32767, in this order, and `NoMemory` where there is no memory for the words.
+    /// The first of these that applies:
+    ///
+    /// - `BadNumBits` unless the number of bits is from 1 to 137438953152;
+    /// - `BadNumHashes` unless the number of hashes is from 1 to 32767;
+    /// - `NoMemory` if the words cannot be allocated.
     pub fn build(self, alloc: Global) -> Result<BloomFilter, Error>
         ensures ok { IfOk result (λ filter.
             filter ≡ empty_state (words_for self.num_bits) self.num_hashes self.seed) }

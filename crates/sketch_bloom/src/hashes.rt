@@ -1,6 +1,6 @@
-//! The two hashes of an item, and those of many items before the first is looked for or inserted.
+//! The two hashes of an item, and batches that hash many items before the first is looked up or inserted.
 //!
-//! The hashes of an item do not depend on those of another, so a processor works on several at once, and then waits for
+//! The hashes of one item do not depend on those of another. So a processor computes several at once, and then loads
 //! the words of several at once.
 ghost use Rattle.std.specs.Prelude.{◌≡◌, ◌+◌, ◌*◌, ◌≤◌, map, fold, length};
 ghost use Rattle.std.specs.FinSet as set;
@@ -14,10 +14,10 @@ use crate::limits::MAX_NUM_WORDS;
 use sketch_base::{Divisor, xxh64_of};
 use std::hash::Hash;
 
-/// How many items are hashed before the first of them is looked for or inserted.
+/// The number of items that are hashed before the first of them is looked up or inserted.
 const BLOCK: usize = 16;
 
-/// The two hashes of an item: under the seed, and under the first.
+/// Returns the two hashes of an item: under the seed, and under the first hash.
 #[inline(always)]
 pub fn hashes_of<T: Hash>(item: &T, seed: u64) -> (u64, u64)
     ensures first { result.0 ≡ xxh64 (fed_bytes T.hash_input item.now) seed }
@@ -27,19 +27,19 @@ pub fn hashes_of<T: Hash>(item: &T, seed: u64) -> (u64, u64)
     (h0, xxh64_of(item, h0))
 }
 
-/// Writes down the hashes of each item.
+/// Writes the two hashes of each item.
 #[inline(always)]
 fn hash_block<T: Hash>(items: &[T], seed: u64, pairs: &mut [(u64, u64)])
     requires { length pairs.old ≡ length items.now }
     ensures { pairs.new ≡ map (λ item. pair_of seed (fed_bytes T.hash_input item)) items.now }
 {
-    // The label is there for the prover alone.
+    // The label is for the prover.
     'hashes: for i in 0..items.len() {
         pairs[i] = hashes_of(&items[i], seed);
     }
 }
 
-/// Inserts the positions of all items, and answers how many of them are new.
+/// Inserts the positions of all items. Returns the number of new positions.
 #[inline(always)]
 pub fn insert_items<T: Hash>(
     words: &mut [u64],
@@ -57,7 +57,7 @@ pub fn insert_items<T: Hash>(
     let mut added = 0;
     let blocks = items.len().div_ceil(BLOCK);
     let mut pairs = [(0, 0); BLOCK];
-    // The label is there for the prover alone.
+    // The label is for the prover.
     'each: for b in 0..blocks {
         let from = BLOCK * b;
         let to = from + BLOCK.min(items.len() - from);
@@ -68,7 +68,7 @@ pub fn insert_items<T: Hash>(
     added
 }
 
-/// Writes down for each item whether all its positions stand in the words.
+/// Writes for each item whether all its positions are in the set.
 #[inline(always)]
 pub fn contains_items<T: Hash>(
     words: &[u64],
@@ -86,7 +86,7 @@ pub fn contains_items<T: Hash>(
 {
     let blocks = items.len().div_ceil(BLOCK);
     let mut pairs = [(0, 0); BLOCK];
-    // The label is there for the prover alone.
+    // The label is for the prover.
     'each: for b in 0..blocks {
         let from = BLOCK * b;
         let to = from + BLOCK.min(items.len() - from);

@@ -1,4 +1,4 @@
-//! The images of filters: how they are read and written.
+//! Reading and writing the images of filters.
 ghost use Rattle.std.specs.Prelude.{◌≡◌, ◌+◌, ◌*◌, ◌<◌, ◌≤◌, ◌^◌, ◌++◌, None, Some, false, length, drop, All, IfOk, IfErr, OnOk};
 ghost use Rattle.std.specs.FinSet as set;
 ghost use Rattle.sketch_base.specs.Errors.{invalid_data, no_memory};
@@ -12,19 +12,19 @@ use sketch_base::image::{SERIAL_VERSION, opening_fault, u16_at, u32_at, u64_at};
 use sketch_base::{Error, Family, Fault, SketchBytes};
 use std::alloc::{AllocError, Global};
 
-/// The longs of the preamble of an empty filter.
+/// The preamble longs of an empty filter.
 pub const PREAMBLE_LONGS_EMPTY: u8 = 3;
 
-/// The longs of the preamble of a filter that is not empty.
+/// The preamble longs of a filter that is not empty.
 pub const PREAMBLE_LONGS_NONEMPTY: u8 = 4;
 
 /// The flag of an empty filter.
 pub const EMPTY_FLAG_MASK: u8 = 4;
 
-/// What stands for a number of set bits that was not counted.
+/// The stored bit count of a filter whose bits were not counted.
 pub const UNCOUNTED: u64 = u64::MAX;
 
-/// What the first bytes of an image say.
+/// The fields in the first bytes of an image.
 #[derive(Clone, Copy)]
 pub struct Preamble {
     pub is_empty: bool,
@@ -33,7 +33,7 @@ pub struct Preamble {
     pub num_words: usize,
 }
 
-/// Reads what comes before the words, and sees that the words are there.
+/// Reads the fields before the words, and checks that the words are there.
 pub fn read_preamble(image: &[u8]) -> Result<Preamble, Error>
     ensures checks { OnOk result (early_fault image.now ≡ None) }
     ensures fields { IfOk result (IsPreamble image.now) }
@@ -55,7 +55,7 @@ pub fn read_preamble(image: &[u8]) -> Result<Preamble, Error>
     })
 }
 
-/// The fault of the first check that fails, of those that come before memory is asked for.
+/// Returns the fault of the first failing check among those before the allocation.
 fn fault_of(image: &[u8]) -> Option<Fault>
     ensures { result ≡ early_fault image.now }
 {
@@ -86,9 +86,9 @@ fn fault_of(image: &[u8]) -> Option<Fault>
     None
 }
 
-/// Reads so many words that stand behind the preamble, and counts the bits that are set.
+/// Reads the words after the preamble, and counts the set bits.
 ///
-/// Both in one pass, since a large image is out of the cache before a second one.
+/// Both are done in one pass: a large image has left the cache before a second one.
 pub fn read_words(
     alloc: Global,
     image: &[u8],
@@ -101,7 +101,7 @@ pub fn read_words(
 {
     let mut words = Vec::with_capacity(alloc, num_words)?;
     let mut size = 0;
-    // The label is there for the prover alone.
+    // The label is for the prover.
     'reads: for i in 0..num_words {
         let word = u64_at(image, 32 + 8 * i);
         words.push_reserved(word);
@@ -110,7 +110,7 @@ pub fn read_words(
     Ok((words, size))
 }
 
-/// A buffer with room for so many bytes, in which the preamble of an image stands.
+/// Allocates a buffer with room for `room` bytes, and writes the preamble of an image to it.
 pub fn begin_image(
     alloc: Global,
     room: usize,
@@ -132,7 +132,7 @@ pub fn begin_image(
     Ok(out)
 }
 
-/// The bytes of the preamble of an image.
+/// Returns the bytes of an image's preamble.
 fn preamble_bytes(longs: u8, flags: u8, num_hashes: u16, seed: u64, num_words: usize) -> [u8; 24]
     requires { num_words ≤ MAX_NUM_WORDS }
     ensures { result ≡ preamble longs flags num_hashes seed num_words }
@@ -149,24 +149,24 @@ fn preamble_bytes(longs: u8, flags: u8, num_hashes: u16, seed: u64, num_words: u
     ]
 }
 
-/// How many words are written at once.
+/// The number of words that are written at once.
 const BLOCK: usize = 8;
 
-/// The bytes of a block of words.
+/// Returns the bytes of a block of words.
 #[inline(always)]
 fn bytes_of_block(words: &[u64]) -> [u8; 64]
     requires { length words.now ≡ BLOCK }
     ensures { result ≡ bytes_of_words words.now }
 {
     let mut bytes = [0; 64];
-    // The label is there for the prover alone.
+    // The label is for the prover.
     'fills: for i in 0..BLOCK {
         bytes[8 * i..8 * i + 8].copy_from_slice(&words[i].to_le_bytes());
     }
     bytes
 }
 
-/// Writes the words, a block at a time, and then one by one.
+/// Writes the words block by block, then the rest one by one.
 pub fn write_words(out: &mut SketchBytes, words: &[u64]) -> Result<(), Error>
     ensures ok { OnOk result (out.new.bytes ≡ out.old.bytes ++ bytes_of_words words.now) }
     ensures err { IfErr result (λ e. e ≡ no_memory) }
@@ -175,7 +175,7 @@ pub fn write_words(out: &mut SketchBytes, words: &[u64]) -> Result<(), Error>
     ensures words_fit { All (λ word. word < 2 ^ 64) words.now }
 {
     let blocks = words.len() / BLOCK;
-    // The labels are there for the prover alone: its goals are named after them.
+    // The labels are for the prover.
     'whole: for b in 0..blocks {
         let at = BLOCK * b;
         out.write(&bytes_of_block(&words[at..at + BLOCK]))?;

@@ -1,8 +1,7 @@
-//! The laws of set algebra, of equality and of images. But for `restored`, no function here does anything: what it
-//! ensures is the law.
+//! The laws of set algebra, of equality and of images, as theorems.
 //!
-//! The laws speak of the states that the calls of [`BloomFilter`](crate::BloomFilter) leave, as their contracts
-//! name them.
+//! Each function but `restored` does nothing: its clauses are the law. The laws are about the states that the contracts
+//! of [`BloomFilter`](crate::BloomFilter) name.
 ghost use Rattle.std.specs.Prelude.{◌≡◌, IfOk, IfErr};
 ghost use Rattle.sketch_base.specs.Errors.{no_memory};
 ghost use Rattle.sketch_bloom.specs.Laws.{SpelledIsImage, ImageIsOfOne, ImageIsOfSome, UnionCommutes, UnionAssociates, UnionIsIdempotent, UnionKeeps, UnionBrings, EmptyContainsNothing, InsertedIsContained, DifferenceTakesAway, DifferenceAddsNothing, DifferenceLeaves, EqualByParts, EqualityIsReflexive, EqualityIsSymmetric, EqualityIsTransitive};
@@ -11,8 +10,11 @@ use crate::bloom_filter::BloomFilter;
 use sketch_base::Error;
 use std::alloc::Global;
 
-/// A union of compatible filters does not depend on their order, and a filter united with itself is as it was. It contains
-/// what either of the two contains.
+/// States the laws of union.
+///
+/// The union of compatible filters does not depend on their order, and the union of three not on which two are united
+/// first. The union of a filter with itself is the filter. The union of compatible filters contains every item that
+/// either contains.
 pub fn union_is_set_union()
     ensures commutes { UnionCommutes }
     ensures associates { UnionAssociates }
@@ -21,23 +23,23 @@ pub fn union_is_set_union()
     ensures brings { UnionBrings }
 {}
 
-/// An empty filter contains nothing, and an item that was inserted is contained.
+/// States that a filter with an empty set contains no item, and that an item is contained after it was inserted.
 pub fn what_is_contained()
     ensures empty { EmptyContainsNothing }
     ensures inserted { InsertedIsContained }
 {}
 
-/// What a difference takes away and what it leaves.
+/// States what a difference removes and what it keeps.
 ///
-/// No item that the other filter contains is contained afterwards, and what is contained was contained before. An item
-/// that was contained before, none of whose positions is in the other's set, stays contained.
+/// Afterwards no item of the other, compatible filter is contained. An item that is contained afterwards was contained
+/// before. An item that was contained before stays contained if none of its positions is in the other set.
 pub fn difference_takes_and_leaves()
     ensures takes_away { DifferenceTakesAway }
     ensures adds_nothing { DifferenceAddsNothing }
     ensures leaves { DifferenceLeaves }
 {}
 
-/// Filters are equal by their shape, seed and set, and this is an equivalence.
+/// States that filters are equal exactly if shape, seed and set are, and that this is an equivalence.
 pub fn equality_is_an_equivalence()
     ensures by_parts { EqualByParts }
     ensures reflexive { EqualityIsReflexive }
@@ -45,19 +47,21 @@ pub fn equality_is_an_equivalence()
     ensures transitive { EqualityIsTransitive }
 {}
 
-/// What is written is an image, no bytes are an image of two filters, and they are one of some filter exactly where no
-/// check fails.
+/// States the laws of images.
+///
+/// What is written for a filter is an image of it. No bytes are an image of two filters. Bytes are an image of some
+/// filter exactly if no check fails.
 pub fn what_images_say()
     ensures spelled { SpelledIsImage }
     ensures one { ImageIsOfOne }
     ensures some { ImageIsOfSome }
 {}
 
-/// Writes an image of the filter and reads it again: the filter that comes back equals it.
+/// Writes the filter as an image and reads it back. The result equals the filter.
 ///
 /// # Errors
 ///
-/// `NoMemory` where there is no memory for the image or for the filter.
+/// `NoMemory` if the image or the filter cannot be allocated.
 pub fn restored(alloc: Global, filter: &BloomFilter) -> Result<BloomFilter, Error>
     ensures same { IfOk result (λ copy. copy ≡ filter.now) }
     ensures err { IfErr result (λ e. e ≡ no_memory) }

@@ -1,8 +1,8 @@
-//! Bloom filters with exact set algebra.
+//! Bloom filters (Bloom 1970) with exact set algebra.
 //!
-//! A filter keeps a set of positions. Inserting an item adds the positions that its hash gives, and an item is
-//! contained where all of its positions are in the set. Filters of one shape and one seed can be united, intersected
-//! and subtracted from one another. A filter is written as an image of bytes, and read from one.
+//! A filter is a set of positions. Inserting an item adds the positions that its hashes give. An item is contained if
+//! all its positions are in the set. Filters with one shape and one seed can be united, intersected and subtracted. A
+//! filter is written as an image, a list of bytes, and read from one.
 #![tactic(auto)]
 
 mod bit_set;

@@ -1,10 +1,10 @@
-//! How large filters may be.
+//! The limits of filters.
 
-/// The most words that a filter has.
+/// The maximum number of words of a filter.
 pub const MAX_NUM_WORDS: usize = 2147483647;
 
-/// The most bits that a filter may be asked for.
+/// The maximum number of bits that a filter may be built with.
 pub const MAX_NUM_BITS: u64 = 137438953152;
 
-/// The most hashes that a filter has.
+/// The maximum number of hashes of a filter.
 pub const MAX_NUM_HASHES: u16 = 32767;

@@ -1,8 +1,8 @@
-//! How many bits and hashes to choose: the published formulas in whole numbers.
+//! Sizes from an error target: the standard formulas for Bloom filters (Bloom 1970) in whole numbers.
 //!
-//! That the numbers are never below those of the formulas is proved, of the natural logarithm of 2 by its series, and so
-//! is how they are rounded. What they buy is no theorem here, since it rests on ideal hashes: with so many items in the
-//! filter, about one question in `questions` for an item that is not among them is answered by yes.
+//! It is proved that the results are never below the formulas, with the natural logarithm of 2 by its series, and how
+//! they are rounded. The false-positive rate is not proved, since it rests on ideal hashes. Under these it is about
+//! 1/`questions` for a filter that holds the given number of items.
 ghost use Rattle.std.specs.Prelude.{◌≡◌, ℕ, ◌*◌, ◌<◌, ◌≤◌, ◌^◌, IfOk, IfErr, IsErrOf};
 ghost use Rattle.sketch_base.specs.Errors.{invalid_argument};
 ghost use Rattle.sketch_bloom.specs.Sizes.{IsLn2TimesWithin, AreEnoughBits, AreEnoughBitsRounded};
@@ -10,14 +10,15 @@ ghost use Rattle.sketch_bloom.specs.Sizes.{IsLn2TimesWithin, AreEnoughBits, AreE
 use crate::limits::{MAX_NUM_BITS, MAX_NUM_HASHES};
 use sketch_base::{Error, Fault};
 
-/// A fraction just below ln 2, the natural logarithm of 2: what is divided, and by what. By this one and the one just above it
-/// whole numbers are rounded as by ln 2 itself, up to 64 times the most bits of a filter.
+/// A fraction just below ln 2: the numerator and the denominator.
+///
+/// With it and `ABOVE_LN2` whole numbers round as with ln 2 itself, up to 64 times the maximum number of bits.
 const BELOW_LN2: (u128, u128) = (5_339_223_998_540, 7_702_871_984_889);
 
-/// A fraction just above ln 2.
+/// A fraction just above ln 2: the numerator and the denominator.
 const ABOVE_LN2: (u128, u128) = (11_376_974_060_469, 16_413_504_057_361);
 
-/// The powers of 2 from 63 on in steps of a 64th, rounded down.
+/// The powers of 2 with exponents from 63 on in steps of 1/64, rounded down.
 const POWERS_OF_TWO: [u64; 64] = [
     9_223_372_036_854_775_808,
     9_323_807_973_325_342_579,
@@ -85,7 +86,7 @@ const POWERS_OF_TWO: [u64; 64] = [
     18_248_035_989_933_441_396,
 ];
 
-/// The binary logarithm, rounded up, in 64ths.
+/// Returns the binary logarithm of `n` in 64ths, rounded up.
 fn log_in_64ths(n: u64) -> u32
     requires { 0 < n }
     ensures enough { n ^ 64 ≤ 2 ^ result }
@@ -102,17 +103,24 @@ fn log_in_64ths(n: u64) -> u32
     64 * whole + 64
 }
 
-/// How many bits the published formula asks for, so that a filter of so many items answers yes wrongly to about one
-/// question in `questions`: items times ln `questions` over the square of ln 2, rounded up.
+/// Returns the number of bits for `num_items` items and a false-positive rate of 1/`questions`.
 ///
-/// It is proved that this is never fewer than the formula asks for (`formula`). The binary logarithm of `questions` is
-/// rounded up to 64ths first, and by it this is the least number of bits (`enough`, `least`): at most 0.6 percent above the
-/// formula, and for a power of two the formula's own number. That wrong answers are so few is no theorem here: it is so under
-/// ideal hashes, with the hashes of [`suggest_num_hashes`].
+/// The formula is `num_items * ln(questions) / (ln 2)^2`. The binary logarithm of `questions` is rounded up to 64ths,
+/// and the result is rounded up to a whole number. It is proved that the result is never below the formula (`formula`),
+/// and that it is the minimum for the rounded logarithm (`enough`, `least`). By calculation, not by proof, it is at
+/// most 0.6 percent above the formula before the last rounding. If `questions` is a power of two, it equals the formula
+/// before that rounding.
+///
+/// The false-positive rate is not proved. Under ideal hashes it is about 1/`questions` with the hashes of
+/// [`suggest_num_hashes`] (Bloom 1970; for double hashing Kirsch & Mitzenmacher 2008).
 ///
 /// # Errors
 ///
-/// `BadNumBits` for no items, for 0 and 1 question, where no bit is asked for, and where more than 137438953152 bits are.
+/// `BadNumBits` in these cases:
+///
+/// - `num_items` is 0;
+/// - `questions` is 0 or 1, which needs no bits;
+/// - the result would exceed 137438953152.
 ///
 /// # Examples
 ///
@@ -148,17 +156,20 @@ pub fn suggest_num_bits(num_items: u64, questions: u64) -> Result<u64, Error>
     Ok(num_bits as u64)
 }
 
-/// How many hashes the published formula asks for, so that a filter of so many bits and items answers yes wrongly as rarely
-/// as it can: bits over items times ln 2, rounded up.
+/// Returns the number of hashes for a filter of `num_bits` bits that holds `num_items` items.
 ///
-/// It is proved that this is the least whole number that the formula does not pass. That it makes wrong answers rarest is
-/// no theorem here: it is so under ideal hashes, up to the rounding, which for the bits of a power of two of questions
-/// makes one hash more than its exponent.
+/// The formula is `num_bits / num_items * ln 2`, rounded up. It is proved that the result is the minimum whole number
+/// that is at least the formula.
+///
+/// That this number minimizes the false-positive rate is not proved. It does so under ideal hashes, up to the rounding
+/// (Bloom 1970). With the bits of [`suggest_num_bits`] for the same items and 2^j questions, the result is j + 1.
 ///
 /// # Errors
 ///
-/// `BadNumBits` unless there are 1 to 137438953152 bits, and `BadNumHashes` for no items and where more than 32767 hashes
-/// are asked for, in this order.
+/// The first of these that applies:
+///
+/// - `BadNumBits` unless `num_bits` is from 1 to 137438953152;
+/// - `BadNumHashes` if `num_items` is 0, or if the result would exceed 32767.
 pub fn suggest_num_hashes(num_bits: u64, num_items: u64) -> Result<u16, Error>
     ensures enough { IfOk result (λ hashes. IsLn2TimesWithin num_bits (hashes * num_items)) }
     ensures least { IfOk result (λ hashes. (m : ℕ) → IsLn2TimesWithin num_bits (m * num_items) → hashes ≤ m) }

@@ -9,20 +9,20 @@ use Rattle.std.specs.Ordering.{int_eq}
 use Rattle.std.proofs.lemmas.Bool.Decides.{Decides-eqb, Decides-and}
 use Rattle.sketch_countmin.specs.State.{CountState}
 
--- whether two sketches are the same
+-- whether two sketches are equal
 abbrev pub same_state : CountState → CountState → Bool
 same_state s t =
     s.hashes == t.hashes
     && (s.buckets == t.buckets
     && (s.seed == t.seed && (s.total == t.total && pointwise (pointwise int_eq) s.rows t.rows)))
 
--- equal parts make one sketch
+-- sketches with equal parts are equal
 pub same_parts : (s t : CountState)
     → s.hashes ≡ t.hashes → s.buckets ≡ t.buckets → s.seed ≡ t.seed → s.total ≡ t.total → s.rows ≡ t.rows → s ≡ t
 same_parts s t a b c d e =
     λ i. record { hashes = a i; buckets = b i; seed = c i; total = d i; rows = e i }
 
--- the test of the parts
+-- the test decides equality of the parts
 parts_decide : (s t : CountState)
     → Decides (same_state s t)
     ((s.hashes ≡ t.hashes)
@@ -34,7 +34,7 @@ parts_decide s t =
     (Decides-and _ _ (Decides-eqb s.total t.total)
     (pointwise_decides (pointwise_decides signed_Decides) s.rows t.rows))))
 
--- the test is true exactly where the sketches are the same
+-- the test is true exactly if the sketches are equal
 pub same_state-Decides : (s t : CountState) → Decides (same_state s t) (s ≡ t)
 same_state-Decides s t =
     let parts = parts_decide s t in

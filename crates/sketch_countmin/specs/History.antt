@@ -1,10 +1,10 @@
--- What was counted in a Count-Min sketch.
+-- The history of a Count-Min sketch, and the values that it gives to items and cells.
 use Rattle.std.specs.Prelude.{ℕ, ◌+◌, ◌*◌, ◌/◌, ◌==◌, ◌&&◌, not, Bool, if◌then◌else◌, List, [], ◌∷◌, ℤ, pos, ◌+ℤ◌, ◌≤ℤ◌, unsigned_abs}
 use Rattle.std.specs.Str.{bytes_eq}
 use Rattle.sketch_countmin.specs.Values.{scaled, halved}
 use Rattle.sketch_countmin.specs.Buckets.{bucket_of}
 
--- how a sketch came about; an item is the bytes that its Hash feeds
+-- the history of a sketch; an item is given by the bytes that its Hash feeds
 pub data CountHistory : Type 0 where
   New : (hashes buckets seed : ℕ) → CountHistory
   Update : CountHistory → (bytes : List ℕ) → (weight : ℤ) → CountHistory
@@ -13,12 +13,12 @@ pub data CountHistory : Type 0 where
   Decay : CountHistory → (numerator denominator : ℕ) → CountHistory
   Restored : CountHistory → CountHistory
 
--- each of these byte lists counted by 1, one after another
+-- each of these byte lists counted with weight 1, one after another
 abbrev pub all_updated : CountHistory → List (List ℕ) → CountHistory
 all_updated h [] = h
 all_updated h (bytes ∷ rest) = all_updated (Update h bytes (pos 1)) rest
 
--- the value over the byte lists that pass a test
+-- the sum of the weights of the byte lists that pass a test, halved and decayed as the cells were
 abbrev pub value_over : CountHistory → (List ℕ → Bool) → ℤ
 value_over (New hashes buckets seed) f = pos 0
 value_over (Update h bytes weight) f = value_over h f +ℤ (if f bytes then weight else pos 0)
@@ -27,7 +27,7 @@ value_over (Halve h) f = halved (value_over h f)
 value_over (Decay h n d) f = scaled n d (value_over h f)
 value_over (Restored h) f = value_over h f
 
--- the value over these bytes alone
+-- the own share of an item: the value over its bytes alone
 abbrev pub own_value : CountHistory → List ℕ → ℤ
 own_value h bytes = value_over h (bytes_eq bytes)
 
@@ -35,13 +35,13 @@ own_value h bytes = value_over h (bytes_eq bytes)
 abbrev pub cell_share : ℕ → ℕ → CountHistory → ℕ → ℕ → ℤ
 cell_share buckets seed h r b = value_over h (λ bytes. bucket_of buckets seed r bytes == b)
 
--- the value over the other byte lists that are in the row r in the bucket of these
+-- the value over all other byte lists that have the same bucket in row r
 abbrev pub others_share : ℕ → ℕ → CountHistory → List ℕ → ℕ → ℤ
 others_share buckets seed h bytes r =
     value_over h (λ other.
     (bucket_of buckets seed r other == bucket_of buckets seed r bytes) && not (bytes_eq bytes other))
 
--- the value over all byte lists, with each weight as its distance from zero
+-- the sum of all weights by their absolute values, halved and decayed as the cells were
 abbrev pub absolute_weight : CountHistory → ℕ
 absolute_weight (New hashes buckets seed) = 0
 absolute_weight (Update h bytes weight) = absolute_weight h + unsigned_abs weight
@@ -50,7 +50,7 @@ absolute_weight (Halve h) = absolute_weight h / 2
 absolute_weight (Decay h n d) = absolute_weight h * n / d
 absolute_weight (Restored h) = absolute_weight h
 
--- what the shape and the seed of the first sketch make, which a merge has from its receiver
+-- a function of the shape and the seed of the first sketch; a merge has those of its receiver
 abbrev pub of_first : (ℕ → ℕ → ℕ → ℕ) → CountHistory → ℕ
 of_first f (New hashes buckets seed) = f hashes buckets seed
 of_first f (Update h bytes weight) = of_first f h
@@ -59,7 +59,7 @@ of_first f (Halve h) = of_first f h
 of_first f (Decay h n d) = of_first f h
 of_first f (Restored h) = of_first f h
 
--- the number of hashes, that of buckets, and the seed
+-- the number of hashes, the number of buckets, and the seed
 abbrev pub hashes_of : CountHistory → ℕ
 hashes_of h = of_first (λ hashes buckets seed. hashes) h
 
@@ -69,7 +69,7 @@ buckets_of h = of_first (λ hashes buckets seed. buckets) h
 abbrev pub seed_of : CountHistory → ℕ
 seed_of h = of_first (λ hashes buckets seed. seed) h
 
--- no weight is below zero
+-- no weight is negative
 abbrev pub IsNonnegative : CountHistory → Type 0
 IsNonnegative (New hashes buckets seed) = Unit {0}
 IsNonnegative (Update h bytes weight) = IsNonnegative h × (pos 0 ≤ℤ weight)
@@ -87,7 +87,7 @@ IsExact (Halve h) = ⊥
 IsExact (Decay h n d) = ⊥
 IsExact (Restored h) = IsExact h
 
--- one history, and then what came in another after its beginning
+-- one history, then all steps of another after its beginning
 abbrev pub followed_by : CountHistory → CountHistory → CountHistory
 followed_by g (New hashes buckets seed) = g
 followed_by g (Update h bytes weight) = Update (followed_by g h) bytes weight

@@ -1,5 +1,5 @@
--- The image of a sketch: its fields by their places, its checks in their order, what it says, and how it is spelled.
--- A type of numbers is given by its least and its greatest number.
+-- The image of a sketch: its fields by offset, its checks in order, its value, and its bytes. A type of numbers is
+-- given by its minimum, `least`, and its maximum, `greatest`.
 use Rattle.std.specs.Prelude.{◌≡◌, ◌≢◌, ℕ, zero, suc, ◌+◌, ◌*◌, ◌^◌, nat_le, nat_lt, ◌==◌, Bool, ◌&&◌, ◌||◌, not, Option, None, Some, List, [], ◌∷◌, ◌++◌, length, take, drop, ℤ, pos, int_le, unsigned_abs, bit_and, if◌then◌else◌}
 use Rattle.std.specs.Int.{w16, w32, to_le_bytes}
 use Rattle.std.specs.List.{flat_map}
@@ -16,7 +16,7 @@ use Rattle.sketch_countmin.specs.Values.{InRange, bytes_of, number_in}
 
 -- ---- the fields
 
--- bit 0 of the flags alone says that the total is 0
+-- bit 0 of the flags alone marks the total as 0
 abbrev pub says_empty : List ℕ → Bool
 says_empty image = not (bit_and (byte_at image 3) 1 == 0)
 
@@ -29,15 +29,15 @@ hashes_at image = byte_at image 12
 abbrev pub seed_hash_at : List ℕ → ℕ
 seed_hash_at image = le_at w16 image 13
 
--- how many cells there are
+-- the number of cells
 abbrev pub num_cells_at : List ℕ → ℕ
 num_cells_at image = hashes_at image * buckets_at image
 
--- the number in the eight bytes from a place on
+-- the number of eight bytes at an offset
 unfoldable pub number_at : ℤ → List ℕ → ℕ → ℤ
 number_at least image place = number_in least (take 8 (drop place image))
 
--- so many numbers of eight bytes, one after another
+-- the first n numbers of eight bytes
 abbrev pub numbers_in : ℤ → ℕ → List ℕ → List ℤ
 numbers_in least zero bytes = []
 numbers_in least (suc n) bytes = number_at least bytes 0 ∷ numbers_in least n (drop 8 bytes)
@@ -49,9 +49,9 @@ total_at least image = number_at least image 16
 abbrev pub cells_at : ℤ → List ℕ → List ℤ
 cells_at least image = numbers_in least (num_cells_at image) (drop 24 image)
 
--- ---- the checks: what has to hold, and the fault where it does not
+-- ---- the checks: a test, and the fault if it fails
 
--- those that come before any memory is asked for
+-- the checks before any allocation
 abbrev pub early_checks : (seed : ℕ) → List ℕ → List (Bool × Fault)
 early_checks seed image =
     (nat_le 8 (length image), InsufficientData)
@@ -67,7 +67,7 @@ early_checks seed image =
     ∷ (says_empty image || nat_le (24 + 8 * num_cells_at image) (length image), InsufficientData)
     ∷ []
 
--- whether the type has the number
+-- whether the number is in the range of the type
 abbrev pub is_in_range : ℤ → ℕ → ℤ → Bool
 is_in_range least greatest z = int_le least z && int_le z (pos greatest)
 
@@ -77,14 +77,14 @@ total_checks least greatest total =
     ∷ (int_le (pos 0) total, NegativeTotal)
     ∷ []
 
--- no cell is further from zero than the total, which the type has
+-- the cell is in the range of the type, and no further from zero than the total
 abbrev pub cell_checks : ℤ → ℕ → (total : ℕ) → ℤ → List (Bool × Fault)
 cell_checks least greatest total cell =
     (is_in_range least greatest cell, ValueOutOfRange)
     ∷ (nat_le (unsigned_abs cell) total, CellAboveTotal)
     ∷ []
 
--- those of the cells, one cell after another
+-- the checks of all cells, one cell after another
 abbrev pub cells_checks : ℤ → ℕ → (total : ℕ) → List ℤ → List (Bool × Fault)
 cells_checks least greatest total cells = flat_map (cell_checks least greatest total) cells
 
@@ -104,7 +104,7 @@ late_fault least greatest image = first_failing (late_checks least greatest imag
 abbrev pub first_fault : ℤ → ℕ → (seed : ℕ) → List ℕ → Option Fault
 first_fault least greatest seed image = or_else (early_fault seed image) (late_fault least greatest image)
 
--- a reader's own limit, in bytes of the sketch, comes behind the early checks; a value takes so many bytes
+-- a reader's own limit, in bytes of the sketch, is checked after the early checks; a value takes `size` bytes
 abbrev pub limit_fault : (size most_bytes : ℕ) → List ℕ → Option Fault
 limit_fault size most_bytes image =
     if nat_lt most_bytes (num_cells_at image * size + 8 * hashes_at image) then Some TableTooLarge else None
@@ -116,9 +116,9 @@ abbrev pub first_fault_within : ℤ → ℕ → (size most_bytes seed : ℕ) →
 first_fault_within least greatest size most_bytes seed image =
     or_else (early_fault_within size most_bytes seed image) (late_fault least greatest image)
 
--- ---- what an image says
+-- ---- the value of an image
 
--- the sketch of the fields, under the seed given
+-- the sketch of the fields, with the given seed
 abbrev pub value_at : ℤ → (seed : ℕ) → List ℕ → CountState
 value_at least seed image =
     if says_empty image then empty_state (hashes_at image) (buckets_at image) seed else
@@ -130,12 +130,12 @@ value_at least seed image =
       rows = rows_of (hashes_at image) (buckets_at image) (cells_at least image);
     }
 
--- the bytes are an image of the sketch under the seed given; what they do not name here is free
+-- the bytes are an image of the sketch with the given seed; bytes that are not named here are free
 pub record IsImage (least : ℤ) (greatest seed : ℕ) (image : List ℕ) (s : CountState) : Type 0 where
   pub no_fault : first_fault least greatest seed image ≡ None
   pub value : s ≡ value_at least seed image
 
--- ---- how an image is spelled
+-- ---- the bytes that are written
 
 -- the longs of the preamble, the version, the family, the flags, the shape and the hash of the seed
 abbrev pub preamble : (flags num_buckets num_hashes hash : ℕ) → List ℕ
@@ -151,18 +151,18 @@ all_cells rows = flat_map (λ row. row) rows
 abbrev pub numbers_of : CountState → List ℤ
 numbers_of s = pos s.total ∷ all_cells s.rows
 
--- the bytes are the image of the sketch as it is written
+-- the bytes are the image that is written for the sketch
 pub record IsSpelled (least : ℤ) (greatest : ℕ) (image : List ℕ) (s : CountState) : Type 0 where
   pub state : IsCountState greatest s
-  -- each cell is a number of the type
+  -- each cell is in the range of the type
   pub in_range : (r b : ℕ) → InRange least greatest (cell_at s.rows r b)
   pub empty : s.total ≡ 0 → image ≡ preamble 1 s.buckets s.hashes (seed_hash s.seed)
   pub full : s.total ≢ 0
       → image ≡ preamble 0 s.buckets s.hashes (seed_hash s.seed) ++ flat_map bytes_of (numbers_of s)
 
--- ---- what a reader promises
+-- ---- the promise of a reader
 
--- what stood for a history, and had this image, comes back as what stands for the restored history
+-- if a sketch stands for a history and has this image, the sketch that is read stands for the restored history
 abbrev pub Restores : ℤ → ℕ → (seed : ℕ) → List ℕ → CountState → Type 0
 Restores least greatest seed image new =
     (old : CountState) → IsImage least greatest seed image old → Extends old new Restored

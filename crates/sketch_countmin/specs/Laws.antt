@@ -1,9 +1,9 @@
--- The laws of images, for a type with this least and this greatest number.
+-- The laws of images, for a type with this minimum and this maximum.
 use Rattle.std.specs.Prelude.{◌≡◌, ◌↔◌, ℕ, ◌<◌, ◌^◌, ℤ, List, All, None}
 use Rattle.sketch_countmin.specs.Image.{IsImage, IsSpelled, first_fault}
 use Rattle.sketch_countmin.specs.State.{CountState, IsCountState}
 
--- what is spelled for a sketch is an image of it, under its own seed
+-- the image that is written for a sketch is an image of it, under its own seed
 abbrev pub SpelledIsImage : ℤ → ℕ → Type 0
 SpelledIsImage least greatest =
     (image : List ℕ) (a : CountState) → IsSpelled least greatest image a → IsImage least greatest a.seed image a
@@ -14,13 +14,13 @@ ImageIsOfOne least greatest =
     (seed : ℕ) (image : List ℕ) (a b : CountState) → IsImage least greatest seed image a
     → IsImage least greatest seed image b → a ≡ b
 
--- bytes are an image of a sketch exactly where no check fails
+-- bytes are an image of a sketch exactly if no check fails
 abbrev pub ImageIsOfSome : ℤ → ℕ → Type 0
 ImageIsOfSome least greatest =
     (seed : ℕ) (image : List ℕ)
     → ((a : CountState) × IsImage least greatest seed image a) ↔ (first_fault least greatest seed image ≡ None)
 
--- what a list of bytes is an image of has a shape, a seed and a total that sketches have
+-- a sketch with an image is within the limits on shape, seed and total
 abbrev pub ImageIsWithinLimits : ℤ → ℕ → Type 0
 ImageIsWithinLimits least greatest =
     (seed : ℕ) (image : List ℕ) (a : CountState) → All (λ byte. byte < 2 ^ 8) image

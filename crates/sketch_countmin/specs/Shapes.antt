@@ -1,10 +1,10 @@
--- Which shapes and seeds a sketch may have.
+-- The shapes and seeds that a sketch may have.
 use Rattle.std.specs.Prelude.{ℕ, ◌*◌, ◌^◌, ◌==◌, nat_lt, nat_le, Option, Some, None, if◌then◌else◌}
 use Rattle.sketch_base.specs.Hashes.{seed_hash}
 use Rattle.sketch_base.specs.declared.fault.Fault.{Fault}
 use Rattle.sketch_base.specs.declared.fault.Fault.TheVariants.{BadNumHashes, BadNumBuckets, TableTooLarge, ZeroSeedHash}
 
--- what is wrong first with a shape and a seed, if anything
+-- the first fault of a shape and a seed, if any
 abbrev pub shape_fault : ℕ → ℕ → ℕ → Option Fault
 shape_fault hashes buckets seed =
     if hashes == 0 then Some BadNumHashes else

@@ -1,4 +1,4 @@
--- A Count-Min sketch as its numbers, and what each call does to it.
+-- The state of a Count-Min sketch (Cormode & Muthukrishnan 2005), and what each call does to it.
 use Rattle.std.specs.Prelude.{◌≡◌, ◌≢◌, ℕ, ◌+◌, ◌*◌, ◌/◌, ◌^◌, ◌<◌, ◌≤◌, ◌==◌, if◌then◌else◌, List, length, map, replicate, count_by, All, ℤ, pos, ◌+ℤ◌, ◌≤ℤ◌, unsigned_abs}
 use Rattle.std.specs.Int.{int_min}
 use Rattle.sketch_base.specs.Hashes.{seed_hash}
@@ -6,8 +6,8 @@ use Rattle.sketch_countmin.specs.Values.{scaled, halved}
 use Rattle.sketch_countmin.specs.Rows.{cell_at}
 use Rattle.sketch_countmin.specs.Buckets.{bucket_of}
 
--- how many hashes and buckets there are, the seed, the total weight, and the cells: a row for each hash,
--- with a cell for each bucket
+-- the number of hashes and of buckets, the seed, the total weight, and the cells: a row for each hash with a cell for
+-- each bucket
 pub record CountState : Type 0 where
   pub hashes : ℕ
   pub buckets : ℕ
@@ -15,7 +15,7 @@ pub record CountState : Type 0 where
   pub total : ℕ
   pub rows : List (List ℤ)
 
--- what holds of every sketch over a type with this greatest number
+-- what holds of every sketch over a type with this maximum
 pub record IsCountState (greatest : ℕ) (s : CountState) : Type 0 where
   pub some_hashes : 0 < s.hashes
   pub few_hashes : s.hashes ≤ 255
@@ -28,7 +28,7 @@ pub record IsCountState (greatest : ℕ) (s : CountState) : Type 0 where
   -- no cell is further from zero than the total
   pub bounded : (r b : ℕ) → unsigned_abs (cell_at s.rows r b) ≤ s.total
 
--- two sketches with equal hashes, buckets and seeds
+-- two sketches have equal hashes, buckets and seeds
 pub record SameShape (s t : CountState) : Type 0 where
   pub hashes : s.hashes ≡ t.hashes
   pub buckets : s.buckets ≡ t.buckets
@@ -44,7 +44,7 @@ empty_state hashes buckets seed = record {
   rows = replicate hashes (replicate buckets (pos 0));
 }
 
--- new is old after a weight was counted for a byte list: in each row one cell has that much more
+-- new is old after a weight was counted for a byte list: in each row one cell has it added
 pub record Counts (old : CountState) (bytes : List ℕ) (weight : ℤ) (new : CountState) : Type 0 where
   pub shape : SameShape new old
   pub total : new.total ≡ old.total + unsigned_abs weight
@@ -52,7 +52,7 @@ pub record Counts (old : CountState) (bytes : List ℕ) (weight : ℤ) (new : Co
       → cell_at new.rows r b
       ≡ cell_at old.rows r b +ℤ (if bucket_of old.buckets old.seed r bytes == b then weight else pos 0)
 
--- new is old after each of these byte lists was counted by 1
+-- new is old after each of these byte lists was counted with weight 1
 pub record CountsAll (old : CountState) (items : List (List ℕ)) (new : CountState) : Type 0 where
   pub shape : SameShape new old
   pub total : new.total ≡ old.total + length items
@@ -60,7 +60,7 @@ pub record CountsAll (old : CountState) (items : List (List ℕ)) (new : CountSt
       → cell_at new.rows r b
       ≡ cell_at old.rows r b +ℤ pos (count_by (λ bytes. bucket_of old.buckets old.seed r bytes == b) items)
 
--- new is old with each cell and the total of another of its shape added
+-- new is old with each cell and the total of another sketch of its shape added
 pub record Joins (old other new : CountState) : Type 0 where
   pub same : SameShape old other
   pub shape : SameShape new old
@@ -68,11 +68,11 @@ pub record Joins (old other new : CountState) : Type 0 where
   pub cells : (r : ℕ) → r < old.hashes → (b : ℕ) → b < old.buckets
       → cell_at new.rows r b ≡ cell_at old.rows r b +ℤ cell_at other.rows r b
 
--- half of each cell and of the total, rounded down
+-- each cell and the total halved, rounded down
 abbrev pub halved_state : CountState → CountState
 halved_state s = record s { total = s.total / 2; rows = map (map halved) s.rows }
 
--- each cell and the total times n over d, rounded down
+-- each cell and the total multiplied by n over d, rounded down
 abbrev pub decayed_state : ℕ → ℕ → CountState → CountState
 decayed_state n d s = record s { total = s.total * n / d; rows = map (map (scaled n d)) s.rows }
 
@@ -80,20 +80,20 @@ decayed_state n d s = record s { total = s.total * n / d; rows = map (map (scale
 abbrev pub item_cell : CountState → List ℕ → ℕ → ℤ
 item_cell s bytes r = cell_at s.rows r (bucket_of s.buckets s.seed r bytes)
 
--- z is the least of the first n numbers
+-- z is the minimum of the first n numbers
 pub record IsLeast (n : ℕ) (f : ℕ → ℤ) (z : ℤ) : Type 0 where
   pub below : (r : ℕ) → r < n → z ≤ℤ f r
   pub reached : (r : ℕ) × (r < n) × (z ≡ f r)
 
--- z is the least of the cells of a byte list, of which each row has one
+-- z is the minimum of the cells of a byte list, one in each row
 abbrev pub IsLeastCell : CountState → List ℕ → ℤ → Type 0
 IsLeastCell s bytes z = IsLeast s.hashes (item_cell s bytes) z
 
--- how far an upper bound is above the estimate: the total by e over the buckets, for which a fraction of whole numbers
--- stands, rounded down
+-- the upper bound minus the estimate: the total times e over the number of buckets, rounded down; e is given as a
+-- fraction of whole numbers
 abbrev pub margin : CountState → ℕ
 margin s = s.total * 2718281828459045235 / (1000000000000000000 * s.buckets)
 
--- the estimate and the margin, or the greatest number of the type where that would pass it
+-- the estimate plus the margin, or the maximum of the type if this exceeds it
 abbrev pub upper_bound_of : ℕ → CountState → ℤ → ℤ
 upper_bound_of greatest s estimate = int_min (estimate +ℤ pos (margin s)) (pos greatest)

@@ -1,11 +1,11 @@
--- How a sketch keeps its cells: in one list, row by row.
+-- The cells of a sketch as it stores them: in one list, row by row.
 use Rattle.std.specs.Prelude.{◌≡◌, ◌≢◌, ℕ, ◌*◌, ◌^◌, ◌<◌, ◌≤◌, List, length, slice_index, slice_index_or, ℤ, pos, unsigned_abs}
 use Rattle.sketch_base.specs.Hashes.{seed_hash}
 use Rattle.sketch_countmin.specs.Rows.{rows_of}
 use Rattle.sketch_countmin.specs.Buckets.{row_seed}
 use Rattle.sketch_countmin.specs.State.{CountState}
 
--- the sketch whose rows have these seeds
+-- the sketch with these seeds of rows
 abbrev pub state_of : List ℕ → ℕ → ℕ → ℤ → List ℤ → CountState
 state_of row_seeds buckets seed total cells = record {
   hashes = length row_seeds;
@@ -15,7 +15,7 @@ state_of row_seeds buckets seed total cells = record {
   rows = rows_of (length row_seeds) buckets cells;
 }
 
--- what holds of the rows and buckets of every sketch, which no call changes
+-- what holds of the rows and buckets of every sketch, and no call changes
 pub record IsTableShape (row_seeds : List ℕ) (buckets seed : ℕ) : Type 0 where
   pub some_rows : 0 < length row_seeds
   pub few_rows : length row_seeds ≤ 255

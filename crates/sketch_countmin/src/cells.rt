@@ -1,4 +1,4 @@
-//! Loops over the cells of a sketch, which lie row by row in one slice.
+//! Loops over the cells of a sketch, which are stored row by row in one slice.
 ghost use Rattle.std.specs.Prelude.{◌≡◌, ℕ, ◌+◌, ◌*◌, ◌<◌, ◌≤◌, [], map, length, slice_index, slice_index_or, slice_set, pos, ◌+ℤ◌, unsigned_abs, replicate, vec_len, IfOk, IsTrue, ◌↔◌};
 ghost use Rattle.sketch_base.specs.Hashes.{fed_bytes};
 ghost use Rattle.sketch_countmin.specs.Values.{scaled, halved};
@@ -12,7 +12,7 @@ use sketch_base::{Divisor, SeedlessItem, murmur3_of, murmur3_of_u64};
 use std::alloc::{AllocError, Global};
 use std::hash::Hash;
 
-/// The seeds of the rows.
+/// Returns the seeds of the rows.
 pub fn row_seeds(alloc: Global, rows: u8, seed: u64) -> Result<Vec<u64>, AllocError>
     ensures size { IfOk result (λ v. vec_len v ≡ rows) }
     ensures seeds { IfOk result (λ v. (r : ℕ) → r < rows → slice_index v.items r ≡ row_seed r seed) }
@@ -24,7 +24,7 @@ pub fn row_seeds(alloc: Global, rows: u8, seed: u64) -> Result<Vec<u64>, AllocEr
     Ok(seeds)
 }
 
-/// As many zeros.
+/// Returns `size` zeros.
 pub fn zeros<T: CountMinValue>(alloc: Global, size: usize) -> Result<Vec<T>, AllocError>
     ensures { IfOk result (λ v. map T.number v.items ≡ replicate size (pos 0)) }
 {
@@ -35,7 +35,7 @@ pub fn zeros<T: CountMinValue>(alloc: Global, size: usize) -> Result<Vec<T>, All
     Ok(counts)
 }
 
-/// Adds the weight to the cell at a place.
+/// Adds the weight to the cell at the index `place`.
 #[inline(always)]
 pub(crate) fn add_at<T: CountMinValue>(counts: &mut [T], place: usize, weight: T)
     requires bounds { place < length counts.old }
@@ -47,7 +47,9 @@ pub(crate) fn add_at<T: CountMinValue>(counts: &mut [T], place: usize, weight: T
     counts[place] = T::from_number_in_range(sum);
 }
 
-/// Adds 1 at each item's bucket of each row, row after row: the cells of one row stay in a cache for all items.
+/// Adds 1 at each item's bucket of each row.
+///
+/// It goes row by row, so that the cells of one row stay in a cache for all items.
 #[inline]
 pub fn count_in_rows<T: CountMinValue, I: Hash>(
     counts: &mut [T],
@@ -88,7 +90,7 @@ fn count_in_row<T: CountMinValue, I: Hash>(
     }
 }
 
-/// Adds the cells of another table, place by place.
+/// Adds the cells of another table, index by index.
 pub fn add_all<T: CountMinValue>(counts: &mut [T], other: &[T])
     requires same { length counts.old ≡ length other.now }
     requires room { (k : ℕ)
@@ -101,7 +103,7 @@ pub fn add_all<T: CountMinValue>(counts: &mut [T], other: &[T])
     }
 }
 
-/// Halves each cell.
+/// Halves each cell, rounded down.
 pub fn halve_all<T: UnsignedCountMinValue>(counts: &mut [T])
     ensures { map T.number counts.new ≡ map halved (map T.number counts.old) }
 {
@@ -110,7 +112,7 @@ pub fn halve_all<T: UnsignedCountMinValue>(counts: &mut [T])
     }
 }
 
-/// Scales each cell.
+/// Multiplies each cell by `numerator / denominator`, rounded down.
 pub fn scale_all<T: UnsignedCountMinValue>(counts: &mut [T], numerator: u64, denominator: u64)
     requires positive { 0 < numerator }
     requires at_most_one { numerator ≤ denominator }
@@ -125,7 +127,7 @@ pub fn scale_all<T: UnsignedCountMinValue>(counts: &mut [T], numerator: u64, den
     }
 }
 
-/// The value times the fraction, rounded down.
+/// Returns the value times the fraction, rounded down.
 #[inline(always)]
 fn scale_by<T: UnsignedCountMinValue>(value: T, fraction: &Fraction) -> T
     requires positive { 0 < fraction.now.0 }
@@ -136,7 +138,9 @@ fn scale_by<T: UnsignedCountMinValue>(value: T, fraction: &Fraction) -> T
     T::from_number_in_range(scaled as i128)
 }
 
-/// Writes down the least of each item's cells, row after row: the cells of one row stay in a cache for all items.
+/// Writes the minimum of each item's cells.
+///
+/// It goes row by row, so that the cells of one row stay in a cache for all items.
 #[inline]
 pub fn least_cells<T: CountMinValue, I: Hash>(
     counts: &[T],
@@ -158,7 +162,7 @@ pub fn least_cells<T: CountMinValue, I: Hash>(
     }
 }
 
-/// Writes down each item's cell of the first row.
+/// Writes each item's cell of the first row.
 #[inline]
 fn first_cells<T: CountMinValue, I: Hash>(
     counts: &[T],
@@ -179,7 +183,7 @@ fn first_cells<T: CountMinValue, I: Hash>(
     }
 }
 
-/// Keeps of each number the lesser of it and the item's cell of a row.
+/// Replaces each number by the minimum of it and the item's cell of a row.
 #[inline]
 fn lesser_cells<T: CountMinValue, I: Hash>(
     counts: &[T],
@@ -205,7 +209,7 @@ fn lesser_cells<T: CountMinValue, I: Hash>(
     }
 }
 
-/// Whether two tables have the same numbers.
+/// Returns whether two tables have the same numbers.
 pub fn same_cells<T: CountMinValue>(first: &[T], second: &[T]) -> bool
     ensures { IsTrue result ↔ (map T.number first.now ≡ map T.number second.now) }
 {

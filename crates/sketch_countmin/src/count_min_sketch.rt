@@ -24,18 +24,19 @@ use std::fmt;
 use std::hash::Hash;
 use std::marker::Model;
 
-/// What is divided in the fraction that stands for e, the base of natural logarithms, in an upper bound.
+/// The numerator of the fraction that approximates e in an upper bound.
 const E_NUMERATOR: u128 = 2_718_281_828_459_045_235;
 
-/// What it is divided by.
+/// The denominator of that fraction.
 const E_DENOMINATOR: u128 = 1_000_000_000_000_000_000;
 
-/// A sketch of the weights of items, in a table with a row of cells for each of a few hashes.
+/// A Count-Min sketch of the weights of items (Cormode & Muthukrishnan 2005): a table with a row of cells for each
+/// hash.
 ///
-/// An item has one cell in each row, its bucket: the first half of MurmurHash3 x64 128 of the bytes that its `Hash`
-/// feeds, under the row's seed, modulo the number of buckets. The seed of a row is the first half of that hash of the
-/// eight bytes of its number, the lowest first, under the sketch's seed; rows are numbered from 0. Items that feed the
-/// same bytes are the same item.
+/// An item has one cell in each row, at its bucket. The bucket is the first half of MurmurHash3 x64 128 of the bytes
+/// that the item's `Hash` feeds, under the row's seed, modulo the number of buckets. The seed of a row is the first
+/// half of the same hash of the row's number, from 0 on, under the sketch's seed. The number is hashed as eight bytes,
+/// little-endian. Items that feed the same bytes are the same item.
 ///
 /// No cell is further from zero than the total weight.
 ///
@@ -76,7 +77,7 @@ impl<T: CountMinValue> Model for CountMinSketch<T> {
 }
 
 impl<T: CountMinValue> CountMinSketch<T> {
-    /// An empty sketch under the usual seed, 9001. As [`with_seed`](Self::with_seed).
+    /// Creates an empty sketch with the default seed 9001, as [`with_seed`](Self::with_seed) does.
     pub fn new(alloc: Global, num_hashes: u8, num_buckets: u32) -> Result<Self, Error>
         ensures ok { IfOk result (λ sketch. sketch ≡ empty_state num_hashes num_buckets DEFAULT_UPDATE_SEED) }
         ensures state { IfOk result (λ sketch. IsCountState T.greatest sketch) }
@@ -87,13 +88,20 @@ impl<T: CountMinValue> CountMinSketch<T> {
         Self::with_seed(alloc, num_hashes, num_buckets, DEFAULT_UPDATE_SEED)
     }
 
-    /// An empty sketch with a row for each of `num_hashes` hashes and `num_buckets` cells in each row.
+    /// Creates an empty sketch with `num_hashes` rows of `num_buckets` cells.
+    ///
+    /// [`suggest_num_hashes`](crate::suggest_num_hashes) and [`suggest_num_buckets`](crate::suggest_num_buckets) return
+    /// both sizes for an error target.
     ///
     /// # Errors
     ///
-    /// In this order: `BadNumHashes` for 0 hashes, `BadNumBuckets` below 3 buckets, `TableTooLarge` for 2^30 cells or
-    /// more, `ZeroSeedHash` where the 16-bit hash of the seed is 0, and `NoMemory` where there is no memory for the
-    /// cells.
+    /// The first of these that applies:
+    ///
+    /// - `BadNumHashes` for 0 hashes;
+    /// - `BadNumBuckets` for fewer than 3 buckets;
+    /// - `TableTooLarge` for 2^30 cells or more;
+    /// - `ZeroSeedHash` if the 16-bit hash of the seed is 0;
+    /// - `NoMemory` if the cells or the seeds of the rows cannot be allocated.
     pub fn with_seed(
         alloc: Global,
         num_hashes: u8,
@@ -120,7 +128,7 @@ impl<T: CountMinValue> CountMinSketch<T> {
         Self::empty(alloc, num_hashes, num_buckets, seed)
     }
 
-    /// An empty sketch of a shape and a seed that sketches may have.
+    /// Creates an empty sketch of an allowed shape and seed.
     fn empty(alloc: Global, num_hashes: u8, num_buckets: u32, seed: u64) -> Result<Self, Error>
         requires some_hashes { 1 ≤ num_hashes }
         requires some_buckets { MIN_NUM_BUCKETS ≤ num_buckets }
@@ -142,7 +150,7 @@ impl<T: CountMinValue> CountMinSketch<T> {
         })
     }
 
-    /// The number of hashes, which is that of rows.
+    /// Returns the number of hashes, which is the number of rows.
     pub fn num_hashes(&self) -> u8
         ensures hashes { result ≡ self.now.hashes }
 
@@ -152,28 +160,29 @@ impl<T: CountMinValue> CountMinSketch<T> {
         self.row_seeds.len() as u8
     }
 
-    /// The number of cells in a row.
+    /// Returns the number of cells in a row.
     pub fn num_buckets(&self) -> u32
         ensures { result ≡ self.now.buckets }
     {
         self.buckets.divisor() as u32
     }
 
-    /// The seed.
+    /// Returns the seed.
     pub fn seed(&self) -> u64
         ensures { result ≡ self.now.seed }
     {
         self.seed
     }
 
-    /// The weight of all updates, each as its distance from zero, halved and decayed as the cells were.
+    /// Returns the total weight: the sum of the absolute weights of all updates, also those of merged sketches, halved
+    /// and decayed as the cells were.
     pub fn total_weight(&self) -> T
         ensures { T.number result ≡ pos self.now.total }
     {
         self.total
     }
 
-    /// Whether the total weight is 0; then every cell is 0.
+    /// Returns whether the total weight is 0. Every cell is then 0.
     pub fn is_empty(&self) -> bool
         ensures empty { IsTrue result ↔ (self.now.total ≡ 0) }
         ensures cells { self.now.total ≡ 0 → (r b : ℕ) → cell_at self.now.rows r b ≡ pos 0 }
@@ -181,7 +190,7 @@ impl<T: CountMinValue> CountMinSketch<T> {
         self.total.to_number() == 0
     }
 
-    /// Counts the item with a weight of 1. As [`update_with_weight`](Self::update_with_weight).
+    /// Counts the item with weight 1, as [`update_with_weight`](Self::update_with_weight) does.
     #[inline(always)]
     pub fn update<I: Hash + Drop>(&mut self, item: I) -> Result<(), Error>
         ensures counted { OnOk result (Counts self.old (fed_bytes I.hash_input item) (pos 1) self.new) }
@@ -194,13 +203,14 @@ impl<T: CountMinValue> CountMinSketch<T> {
         self.update_with_weight(item, T::ONE)
     }
 
-    /// Counts the item with a weight: adds it to the item's cell in each row, and its distance from zero to the total.
-    /// A weight of 0 does nothing. It takes no memory.
+    /// Adds `weight` to the item's cell in each row, and its absolute value to the total. Does not allocate.
+    ///
+    /// A weight of 0 changes nothing.
     ///
     /// # Errors
     ///
-    /// `WeightOverflow` where the distance from zero is not in the type, or the total would pass the type's greatest
-    /// value. The sketch is then as it was.
+    /// `WeightOverflow` if the absolute value is not in the range of `T`, or if the total would exceed the maximum of
+    /// `T`. The sketch is then unchanged.
     #[inline(always)]
     pub fn update_with_weight<I: Hash + Drop>(&mut self, item: I, weight: T) -> Result<(), Error>
         ensures zero { T.number weight ≡ pos 0 → IsOk result × (self.new ≡ self.old) }
@@ -209,7 +219,7 @@ impl<T: CountMinValue> CountMinSketch<T> {
         ensures stands { OnOk result (Extends self.old self.new
             (λ h. Update h (fed_bytes I.hash_input item) (T.number weight))) }
 
-        // A refusal changes nothing, and stands exactly where the total would pass the greatest value.
+        // The error comes exactly if the total would exceed the maximum, and leaves the sketch unchanged.
         ensures err { OnErr result (self.new ≡ self.old) }
         ensures overflow { T.greatest < self.old.total + unsigned_abs (T.number weight)
             → IsErrOf result (invalid_argument Fault.WeightOverflow) }
@@ -230,16 +240,16 @@ impl<T: CountMinValue> CountMinSketch<T> {
         Ok(())
     }
 
-    /// Counts each item of a slice with a weight of 1, as [`update`](Self::update) does one after another. It takes no
-    /// memory.
+    /// Counts each item of a slice with weight 1, as [`update`](Self::update) does one after another. Does not
+    /// allocate.
     ///
-    /// It goes through the slice once for each row, which is faster than an update for each item where the slice stays
-    /// in a cache: give it some thousands of items at a time.
+    /// It passes over the slice once for each row. This is faster than an update for each item if the slice stays in a
+    /// cache: pass some thousands of items at a time.
     ///
     /// # Errors
     ///
-    /// `WeightOverflow` where the total would pass the type's greatest value. The items before the first that does not
-    /// fit are then counted, and no others.
+    /// `WeightOverflow` if the total would exceed the maximum of `T`. The items before the first that does not fit are
+    /// then counted, and no others.
     ///
     /// # Examples
     ///
@@ -258,7 +268,7 @@ impl<T: CountMinValue> CountMinSketch<T> {
         ensures stands { Extends self.old self.new (λ h. all_updated h
             (take (T.greatest - self.old.total) (map (fed_bytes I.hash_input) items.now))) }
 
-        // It is refused exactly where there are more items than the total has room for.
+        // The error comes exactly if there are more items than the total has room for.
         ensures overflow { T.greatest < self.old.total + length items.now
             → IsErrOf result (invalid_argument Fault.WeightOverflow) }
         ensures succeeds { self.old.total + length items.now ≤ T.greatest → IsOk result }
@@ -271,14 +281,14 @@ impl<T: CountMinValue> CountMinSketch<T> {
         Ok(())
     }
 
-    /// What the total may still gain.
+    /// Returns the room of the total: the maximum minus the total.
     fn room(&self) -> usize
         ensures { self.now.total + result ≡ T.greatest }
     {
         (T::MAX.to_number() - self.total.to_number()) as usize
     }
 
-    /// Counts each item with a weight of 1.
+    /// Counts each item with weight 1. The total has room for all.
     fn count_fitting<I: Hash>(&mut self, items: &[I])
         requires { self.old.total + length items.now ≤ T.greatest }
         ensures counted { CountsAll self.old (map (fed_bytes I.hash_input) items.now) self.new }
@@ -288,7 +298,7 @@ impl<T: CountMinValue> CountMinSketch<T> {
         self.total = T::from_number_in_range(self.total.to_number() + items.len() as i128);
     }
 
-    /// The total with the distance of a weight from zero added, unless it would pass the type's greatest value.
+    /// Returns the total plus the absolute value of a weight, or `WeightOverflow` if it exceeds the maximum.
     #[inline(always)]
     fn total_with(&self, weight: T) -> Result<T, Error>
         ensures sum { IfOk result (λ total. T.number total ≡ pos (self.now.total + unsigned_abs (T.number weight))) }
@@ -299,7 +309,7 @@ impl<T: CountMinValue> CountMinSketch<T> {
         // What holds of every sketch.
         ensures state { IsCountState T.greatest self.now }
     {
-        // It is read first for the prover alone, which learns by it what holds of every sketch.
+        // For the prover: this read brings in what holds of every sketch.
         let total = self.total;
         let Some(size) = weight.checked_abs() else {
             return Err(Error::invalid_argument(Fault::WeightOverflow));
@@ -310,21 +320,23 @@ impl<T: CountMinValue> CountMinSketch<T> {
         }
     }
 
-    /// The least of the item's cells. It takes no memory.
+    /// Returns the estimate of the item's weight: the minimum of its cells. Does not allocate.
     ///
-    /// Where no weight was below zero, this is at least the item's own weight and at most the total.
+    /// The own share of an item is the sum of its weights, halved and decayed as the cells were. If no weight is
+    /// negative, the estimate is at least the own share and at most the total: this is proved (`encloses`). If nothing
+    /// was halved or decayed, it is proved by how much the estimate exceeds the own share (`raised`). How likely a
+    /// large excess is, is not proved: see [`suggest_num_hashes`](crate::suggest_num_hashes).
     #[inline(always)]
     pub fn estimate<I: Hash + Drop>(&self, item: I) -> T
         ensures least { IsLeastCell self.now (fed_bytes I.hash_input item) (T.number result) }
 
-        // Where no weight was below zero, the item's own share of the history is at most the estimate, and that is at
-        // most the total.
+        // If no weight is negative, the item's own share is at most the estimate, and this is at most the total.
         ensures encloses { (h : CountHistory) → StandsFor self.now h → IsNonnegative h
             → (own_value h (fed_bytes I.hash_input item) ≤ℤ T.number result)
             × (T.number result ≤ℤ pos self.now.total) }
 
-        // Where nothing was halved or decayed, the estimate is above the item's own share by the least, over the rows,
-        // of what the other items of its buckets share.
+        // If nothing was halved or decayed, the estimate exceeds the own share by the minimum, over the rows, of the
+        // other items' share of the bucket.
         ensures raised { (h : CountHistory) → StandsFor self.now h → IsExact h
             → let bytes = fed_bytes I.hash_input item in
             IsLeast self.now.hashes (others_share self.now.buckets self.now.seed h bytes)
@@ -333,8 +345,10 @@ impl<T: CountMinValue> CountMinSketch<T> {
         least_cell(&self.counts, self.buckets, &self.row_seeds, &item)
     }
 
-    /// The estimate of each item of a slice, as [`estimate`](Self::estimate) gives it, into a slice as long. It takes no
-    /// memory, and goes through the items once for each row, as [`update_all`](Self::update_all) does.
+    /// Writes the estimate of each item to `estimates`, as [`estimate`](Self::estimate) returns it. Does not allocate.
+    ///
+    /// `estimates` is as long as `items`. It passes over the items once for each row, as
+    /// [`update_all`](Self::update_all) does.
     ///
     /// # Examples
     ///
@@ -363,7 +377,7 @@ impl<T: CountMinValue> CountMinSketch<T> {
         );
     }
 
-    /// The estimate. It is no lower bound of the item's true weight: collisions can raise it above that.
+    /// Returns the estimate. It is no lower bound of the item's true weight: collisions can raise it above that.
     #[inline]
     pub fn lower_bound<I: Hash + Drop>(&self, item: I) -> T
         ensures { IsLeastCell self.now (fed_bytes I.hash_input item) (T.number result) }
@@ -371,10 +385,10 @@ impl<T: CountMinValue> CountMinSketch<T> {
         self.estimate(item)
     }
 
-    /// The estimate and a margin, or the greatest value of the type where that would pass it.
+    /// Returns the estimate plus a margin, or the maximum of `T` if this exceeds it.
     ///
-    /// The margin is `total * 2718281828459045235 / (10^18 * buckets)`, rounded down: e times the mean weight of a
-    /// bucket.
+    /// The margin is `total * 2718281828459045235 / (10^18 * buckets)`, rounded down. It is e times the mean weight of
+    /// a bucket, the error bound of Cormode & Muthukrishnan 2005.
     pub fn upper_bound<I: Hash + Drop>(&self, item: I) -> T
         ensures { (estimate : ℤ) → IsLeastCell self.now (fed_bytes I.hash_input item) estimate
             → T.number result ≡ upper_bound_of T.greatest self.now estimate }
@@ -388,12 +402,14 @@ impl<T: CountMinValue> CountMinSketch<T> {
         }
     }
 
-    /// Adds the cells and the total of another sketch of the same shape and seed. It takes no memory.
+    /// Adds the cells and the total of another sketch of the same shape and seed. Does not allocate.
     ///
     /// # Errors
     ///
-    /// `Mismatch` where the hashes, the buckets or the seeds differ, and then `WeightOverflow` where the totals
-    /// together pass the type's greatest value. The sketch is then as it was.
+    /// The first of these that applies. The sketch is then unchanged.
+    ///
+    /// - `Mismatch` if the numbers of hashes, the numbers of buckets or the seeds differ;
+    /// - `WeightOverflow` if the sum of the totals exceeds the maximum of `T`.
     ///
     /// # Examples
     ///
@@ -416,15 +432,15 @@ impl<T: CountMinValue> CountMinSketch<T> {
         ensures state { IsCountState T.greatest self.new }
         ensures stands { OnOk result (ExtendsBoth self.old other.now self.new Merge) }
 
-        // A refusal changes nothing, and stands exactly where shapes or seeds differ or the totals pass the greatest
-        // value.
+        // An error comes exactly if shapes or seeds differ or the sum of the totals exceeds the maximum. It leaves the
+        // sketch unchanged.
         ensures err { OnErr result (self.new ≡ self.old) }
         ensures mismatch { ¬ SameShape self.old other.now → IsErrOf result (invalid_argument Fault.Mismatch) }
         ensures overflow { SameShape self.old other.now → T.greatest < self.old.total + other.now.total
             → IsErrOf result (invalid_argument Fault.WeightOverflow) }
         ensures succeeds { SameShape self.old other.now → self.old.total + other.now.total ≤ T.greatest → IsOk result }
     {
-        // It is read first for the prover alone, which learns by it what holds of every sketch.
+        // For the prover: this read brings in what holds of every sketch.
         let total = self.total;
         if !self.has_shape_of(other) {
             return Err(Error::invalid_argument(Fault::Mismatch));
@@ -437,7 +453,7 @@ impl<T: CountMinValue> CountMinSketch<T> {
         Ok(())
     }
 
-    /// Whether hashes, buckets and seed are those of another sketch.
+    /// Returns whether the numbers of hashes and of buckets and the seed are those of another sketch.
     fn has_shape_of(&self, other: &CountMinSketch<T>) -> bool
         ensures { IsTrue result ↔ SameShape self.now other.now }
     {
@@ -446,19 +462,19 @@ impl<T: CountMinValue> CountMinSketch<T> {
             && self.seed == other.seed
     }
 
-    /// The bytes that the sketch takes, an estimate by a fixed formula: hashes times buckets times the size of `T`,
-    /// and 8 for each hash.
+    /// Returns an estimate of the sketch's size in bytes: hashes times buckets times the size of `T`, and 8 for each
+    /// hash.
     pub fn estimated_size(&self) -> usize
         ensures { result ≡ self.now.hashes * self.now.buckets * T.SIZE + 8 * self.now.hashes }
     {
         self.counts.len() * T::SIZE + 8 * self.row_seeds.len()
     }
 
-    /// A clone with memory of its own, as [`clone`](Clone::clone) makes it.
+    /// Clones the sketch with memory of its own, as [`clone`](Clone::clone) does.
     ///
     /// # Errors
     ///
-    /// `NoMemory` where there is no memory for it.
+    /// `NoMemory` if the clone cannot be allocated.
     pub fn try_clone(&self) -> Result<Self, Error>
         ensures same { IfOk result (λ copy. copy ≡ self.now) }
         ensures err { IfErr result (λ e. e ≡ no_memory) }
@@ -467,7 +483,7 @@ impl<T: CountMinValue> CountMinSketch<T> {
     }
 }
 
-/// A clone equals the sketch, and has memory of its own. It is refused only for memory.
+/// Clones the sketch with memory of its own. The clone equals the sketch. The only error is a failed allocation.
 impl<T: CountMinValue> Clone for CountMinSketch<T> {
     ghost is_clone = { λ sketch copy. copy ≡ sketch };
 
@@ -486,7 +502,7 @@ impl<T: CountMinValue> Clone for CountMinSketch<T> {
 }
 
 impl<T: UnsignedCountMinValue> CountMinSketch<T> {
-    /// Halves each cell and the total, rounded down. It takes no memory.
+    /// Halves each cell and the total, rounded down. Does not allocate.
     pub fn halve(&mut self)
         ensures value { self.new ≡ halved_state self.old }
         ensures state { IsCountState T.greatest self.new }
@@ -496,8 +512,9 @@ impl<T: UnsignedCountMinValue> CountMinSketch<T> {
         self.total = self.total.halve();
     }
 
-    /// Multiplies each cell and the total by `numerator / denominator`, rounded down, where
-    /// `0 < numerator <= denominator`. It takes no memory.
+    /// Multiplies each cell and the total by `numerator / denominator`, rounded down. Does not allocate.
+    ///
+    /// `0 < numerator <= denominator` is required.
     ///
     /// # Examples
     ///
@@ -520,7 +537,7 @@ impl<T: UnsignedCountMinValue> CountMinSketch<T> {
     }
 }
 
-/// The number of buckets as a sketch keeps it: the bucket of a hash is its remainder, found without a division.
+/// Returns the number of buckets as a [`Divisor`], which computes the bucket of a hash without a division.
 pub(crate) fn bucket_count(num_buckets: u32) -> Divisor
     requires { 1 < num_buckets }
     ensures { result ≡ num_buckets }
@@ -528,7 +545,7 @@ pub(crate) fn bucket_count(num_buckets: u32) -> Divisor
     Divisor::new(num_buckets as u64)
 }
 
-/// Two sketches are equal where their shape, seed, total and cells are.
+/// Compares shape, seed, total and cells.
 impl<T: CountMinValue> PartialEq for CountMinSketch<T> {
     ghost use Rattle.std.specs.Prelude.{◌≡◌, ◌↔◌, IsTrue};
     ghost use Rattle.sketch_countmin.specs.Equality.{same_state, same_state_partial};

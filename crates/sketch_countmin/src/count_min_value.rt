@@ -1,4 +1,4 @@
-//! What a sketch needs of the type that it counts in.
+//! The requirements of a sketch on its value type.
 ghost use Rattle.std.specs.Prelude.{◌≡◌, ℕ, ◌+◌, ◌^◌, ◌<◌, ◌≤◌, ℤ, pos, negsuc, ◌≤ℤ◌, ◌<ℤ◌, ◌+ℤ◌, unsigned_abs, MatchResult};
 ghost use Rattle.std.specs.Ordering.{MatchOrdering};
 ghost use Rattle.sketch_base.specs.Errors.{invalid_data};
@@ -7,11 +7,9 @@ ghost use Rattle.sketch_countmin.specs.Values.{InRange, Checks, scaled, bytes_of
 
 use sketch_base::{Error, Fault};
 
-/// A type of whole numbers that a [`CountMinSketch`](crate::CountMinSketch) can count in: `i8` to `i64` and `u8` to
-/// `u64`.
+/// A type of integers that a [`CountMinSketch`](crate::CountMinSketch) can count in: `i8` to `i64` and `u8` to `u64`.
 ///
-/// To a contract `number` is the number of a value, and `least` and `greatest` are the least and the greatest number
-/// of the type.
+/// In contracts `number` is the integer of a value, `least` is the minimum of the type, and `greatest` is its maximum.
 ///
 /// # Examples
 ///
@@ -27,11 +25,11 @@ pub trait CountMinValue: Copy + Ord {
     const ZERO: Self;
     /// One.
     const ONE: Self;
-    /// The greatest value of the type.
+    /// The maximum of the type.
     const MAX: Self;
-    /// The least value of the type.
+    /// The minimum of the type.
     const MIN: Self;
-    /// The number of bytes that a value takes.
+    /// The size of a value in bytes.
     const SIZE: usize;
 
     ghost ZERO: { Self };
@@ -50,22 +48,22 @@ pub trait CountMinValue: Copy + Ord {
 
     ghost greatest: { ℕ };
 
-    /// The number of the value.
+    /// Returns the value as an integer.
     fn to_number(self) -> i128
         ensures value { result ≡ number self }
         ensures in_range { InRange least greatest (number self) }
         ensures narrow { unsigned_abs result < 2 ^ 64 };
 
-    /// The value of a number, or `None` exactly where the type has none.
+    /// Returns the value of an integer, or `None` exactly if it is out of range.
     fn from_number(whole: i128) -> Option<Self>
         ensures { Checks number least greatest whole result };
 
-    /// The value of a number that the type has.
+    /// Returns the value of an integer, which is in range.
     fn from_number_in_range(whole: i128) -> Self
         requires { InRange least greatest whole }
         ensures { number result ≡ whole };
 
-    /// The distance from zero, or `None` exactly for the least value of a signed type.
+    /// Returns the absolute value, or `None` exactly if it is out of range: for the minimum of a signed type.
     #[inline(always)]
     fn checked_abs(self) -> Option<Self>
         ensures { Checks number least greatest (pos (unsigned_abs (number self))) result }
@@ -73,7 +71,7 @@ pub trait CountMinValue: Copy + Ord {
         Self::from_number(self.to_number().abs())
     }
 
-    /// The sum, or `None` exactly where that is out of the type's range.
+    /// Returns the sum, or `None` exactly if it is out of range.
     #[inline(always)]
     fn checked_add(self, other: Self) -> Option<Self>
         ensures { Checks number least greatest (number self +ℤ number other) result }
@@ -81,7 +79,7 @@ pub trait CountMinValue: Copy + Ord {
         Self::from_number(self.to_number() + other.to_number())
     }
 
-    /// The value times `numerator / denominator`, rounded down, as computed in 128 bits.
+    /// Returns the value times `numerator / denominator`, rounded down. The product is computed in 128 bits.
     ///
     /// The value is not negative, and `0 < numerator <= denominator`.
     #[inline]
@@ -95,7 +93,7 @@ pub trait CountMinValue: Copy + Ord {
         Self::from_number_in_range((product / denominator) as i128)
     }
 
-    /// The value as an `i64`, or as a `u64` where the type is unsigned: its eight bytes, the lowest first.
+    /// Returns the value as the eight bytes of an `i64`, or of a `u64` if the type is unsigned, little-endian.
     #[inline]
     fn to_bytes(self) -> [u8; 8]
         ensures value { result ≡ bytes_of (number self) }
@@ -106,11 +104,11 @@ pub trait CountMinValue: Copy + Ord {
         (low as u64).to_le_bytes()
     }
 
-    /// The value that eight bytes hold, as [`to_bytes`](CountMinValue::to_bytes) writes them.
+    /// Reads a value from eight bytes, as [`to_bytes`](CountMinValue::to_bytes) writes it.
     ///
     /// # Errors
     ///
-    /// [`ValueOutOfRange`](Fault::ValueOutOfRange) where the type has no such value.
+    /// [`ValueOutOfRange`](Fault::ValueOutOfRange) of the kind `InvalidData` if the number is out of range.
     #[inline]
     fn try_from_bytes(bytes: [u8; 8]) -> Result<Self, Error>
         ensures { MatchResult result
@@ -129,7 +127,7 @@ pub trait CountMinValue: Copy + Ord {
         }
     }
 
-    // What holds of the members, in one piece: an `impl` proves it, and the laws below are its parts.
+    // The laws of the members, as one record: an `impl` proves it, and the laws below are its parts.
     ghost laws: { ValueLaws number ZERO ONE MAX MIN SIZE least greatest Self.cmp };
 
     ghost zero_is: { number ZERO ≡ pos 0 } = { laws.zero_is };
@@ -142,16 +140,16 @@ pub trait CountMinValue: Copy + Ord {
 
     ghost size_fits: { SIZE ≤ 8 } = { laws.size_fits };
 
-    // Values are ordered as their numbers.
+    // Values are ordered as their integers.
     ghost ordered: { (x y : Self)
         → MatchOrdering (Self.cmp x y) (number x <ℤ number y) (number x ≡ number y) (number y <ℤ number x) } = { laws.ordered };
 
-    // A type has zero, and each sum that is no further from zero than its greatest number.
+    // Zero is in range, and so is each sum that is no further from zero than the maximum.
     ghost zero_fits: { least ≤ℤ pos 0 } = { laws.zero_fits };
 
     ghost sum_fits: { (x y : Self)
         → unsigned_abs (number x +ℤ number y) ≤ greatest → InRange least greatest (number x +ℤ number y) } = { laws.sum_fits };
 
-    // Each number of the type comes back from its bytes.
+    // Each integer in range is read back from its bytes.
     ghost bytes_fit: { (z : ℤ) → InRange least greatest z → number_in least (bytes_of z) ≡ z } = { laws.bytes_fit };
 }

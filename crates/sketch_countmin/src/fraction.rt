@@ -4,26 +4,27 @@ ghost use Rattle.sketch_countmin.specs.Fractions.{IsShortUpTo};
 
 use std::marker::Model;
 
-/// How many numbers there are of 64 bits.
+/// 2^64.
 const WORD: u128 = 1 << 64;
 
-/// A fraction below one, with a multiplier of 128 bits by which a product takes two multiplications and no division.
-/// A contract sees its numerator and its denominator.
+/// A fraction below one with a precomputed multiplier of 128 bits, which multiplies by it without a division.
 ///
-/// The multiplier is 2^128 times the fraction, rounded down, and one more. Its product with a number of 64 bits is above
-/// 2^128 times the true product by at most the number, which is less than 2^128 over the denominator. So the whole parts
-/// are the same, for each fraction and each number of 64 bits.
+/// Contracts see its numerator and its denominator. A product takes two multiplications.
 ///
-/// By the same reason 64 bits and one multiplication do for the numbers below 2^64 over the denominator, and for all
-/// where the fraction has no digits behind these.
+/// The multiplier is 2^128 times the fraction, rounded down, plus one. Its product with a number of 64 bits exceeds
+/// 2^128 times the exact product by at most the number, which is less than 2^128 over the denominator. So the whole
+/// parts are equal, for each fraction and each number of 64 bits.
+///
+/// For the same reason a multiplier of 64 bits, and one multiplication, suffice for numbers below 2^64 over the
+/// denominator. They suffice for all numbers if 2^64 times the fraction is whole.
 #[derive(Drop)]
 pub struct Fraction {
     numerator: u64,
     denominator: u64,
-    // The halves of the multiplier.
+    // Both halves of the multiplier.
     upper: u64,
     lower: u64,
-    // The multiplier of 64 bits, and the greatest number for which it does.
+    // The multiplier of 64 bits, and the maximum number for which it is exact.
     short: u64,
     limit: u64,
 }
@@ -41,7 +42,7 @@ impl Model for Fraction {
 }
 
 impl Fraction {
-    /// The numerator over the denominator, which is greater.
+    /// Creates a fraction. The numerator is below the denominator.
     pub fn new(numerator: u64, denominator: u64) -> Self
         requires { numerator < denominator }
         ensures { result ≡ (numerator, denominator) }
@@ -62,7 +63,7 @@ impl Fraction {
         }
     }
 
-    /// The value times the fraction, rounded down.
+    /// Returns the value times the fraction, rounded down.
     #[inline(always)]
     pub fn of(&self, value: u64) -> u64
         ensures { result ≡ value * self.now.0 / self.now.1 }
@@ -75,7 +76,7 @@ impl Fraction {
     }
 }
 
-/// The multiplier of 64 bits by which a product takes one multiplication, and the greatest number for which it does.
+/// Returns the multiplier of 64 bits, and the maximum number for which it is exact.
 fn short_multiplier(numerator: u64, denominator: u64) -> (u64, u64)
     requires { numerator < denominator }
     ensures { IsShortUpTo result.1 numerator denominator result.0 }

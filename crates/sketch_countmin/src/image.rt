@@ -1,4 +1,4 @@
-//! The images of sketches: how they are read and written.
+//! Reading and writing the fields of images.
 ghost use Rattle.std.specs.Prelude.{◌≡◌, ◌≢◌, ◌+◌, ◌*◌, ◌<◌, ◌≤◌, ◌++◌, None, Some, false, length, drop, map, pos, unsigned_abs, All, IfOk, IfErr, OnOk, MatchResult};
 ghost use Rattle.std.specs.List.{flat_map};
 ghost use Rattle.sketch_base.specs.Checks.{IsImageRefusal, first_failing};
@@ -14,13 +14,13 @@ use sketch_base::image::{SERIAL_VERSION, opening_fault, u16_at, u32_at};
 use sketch_base::{Error, ErrorKind, Family, Fault, SketchBytes, compute_seed_hash};
 use std::alloc::Global;
 
-/// The longs of the preamble.
+/// The preamble longs.
 pub const PREAMBLE_LONGS: u8 = 2;
 
 /// The flag of a sketch whose total is 0.
 pub const EMPTY_FLAG_MASK: u8 = 1;
 
-/// What the first bytes of an image say.
+/// The fields in the first bytes of an image.
 #[derive(Clone, Copy)]
 pub struct Preamble {
     pub is_empty: bool,
@@ -28,7 +28,7 @@ pub struct Preamble {
     pub num_buckets: u32,
 }
 
-/// Reads what comes before the total, and sees that the total and the cells are there.
+/// Reads the fields before the total, and checks that the total and the cells are there.
 pub fn read_preamble(image: &[u8], seed: u64) -> Result<Preamble, Error>
     ensures checks { OnOk result (early_fault seed image.now ≡ None) }
     ensures fields { IfOk result (IsPreamble image.now) }
@@ -50,7 +50,7 @@ pub fn read_preamble(image: &[u8], seed: u64) -> Result<Preamble, Error>
     })
 }
 
-/// The fault of the first check that fails, of those that come before memory is asked for.
+/// Returns the fault of the first failing check among those before the allocation.
 fn fault_of(image: &[u8], seed: u64) -> Option<Fault>
     ensures { result ≡ early_fault seed image.now }
 {
@@ -88,7 +88,7 @@ fn fault_of(image: &[u8], seed: u64) -> Option<Fault>
     None
 }
 
-/// Reads the value in the eight bytes from a place on, and sees that the type has it.
+/// Reads the value of eight bytes at the offset `place`, and checks its range.
 #[tactic(auto, unfolding(crate::specs::Image::number_at))]
 #[inline(always)]
 fn read_value<T: CountMinValue>(image: &[u8], place: usize) -> Result<T, Error>
@@ -104,7 +104,7 @@ fn read_value<T: CountMinValue>(image: &[u8], place: usize) -> Result<T, Error>
     T::try_from_bytes(bytes)
 }
 
-/// Reads the total, and sees that the type has it and that it is not negative.
+/// Reads the total, and checks that it is in range and not negative.
 pub fn read_total<T: CountMinValue>(image: &[u8]) -> Result<T, Error>
     requires { 24 ≤ length image.now }
     ensures value { IfOk result (λ total. T.number total ≡ total_at T.least image.now) }
@@ -121,7 +121,7 @@ pub fn read_total<T: CountMinValue>(image: &[u8]) -> Result<T, Error>
     Ok(total)
 }
 
-/// Reads a cell, and sees that the type has it and that it is no further from zero than the total.
+/// Reads a cell, and checks that it is in range and no further from zero than the total.
 #[inline(always)]
 fn read_cell<T: CountMinValue>(image: &[u8], place: usize, total: u64) -> Result<T, Error>
     requires { place + 8 ≤ length image.now }
@@ -138,7 +138,7 @@ fn read_cell<T: CountMinValue>(image: &[u8], place: usize, total: u64) -> Result
     Ok(value)
 }
 
-/// Reads so many cells.
+/// Reads `num_cells` cells.
 pub fn read_cells<T: CountMinValue>(
     alloc: Global,
     image: &[u8],
@@ -161,7 +161,7 @@ pub fn read_cells<T: CountMinValue>(
     Ok(counts)
 }
 
-/// A buffer with room for so many bytes, in which the preamble of an image stands.
+/// Allocates a buffer with room for `room` bytes, and writes the preamble of an image to it.
 pub fn begin_image(
     alloc: Global,
     room: usize,
@@ -178,7 +178,7 @@ pub fn begin_image(
     Ok(out)
 }
 
-/// The bytes of the preamble of an image.
+/// Returns the bytes of an image's preamble.
 fn preamble_bytes(flags: u8, num_buckets: u32, num_hashes: u8, hash: u16) -> [u8; 16]
     ensures { result ≡ preamble flags num_buckets num_hashes hash }
 {
@@ -193,10 +193,10 @@ fn preamble_bytes(flags: u8, num_buckets: u32, num_hashes: u8, hash: u16) -> [u8
     ]
 }
 
-/// How many cells are written at once.
+/// The number of cells that are written at once.
 const BLOCK: usize = 8;
 
-/// The bytes of a block of cells.
+/// Returns the bytes of a block of cells.
 #[inline(always)]
 fn bytes_of_block<T: CountMinValue>(cells: &[T]) -> [u8; 64]
     requires { length cells.now ≡ BLOCK }
@@ -204,14 +204,14 @@ fn bytes_of_block<T: CountMinValue>(cells: &[T]) -> [u8; 64]
     ensures in_range { All (InRange T.least T.greatest) (map T.number cells.now) }
 {
     let mut bytes = [0; 64];
-    // The label is there for the prover alone.
+    // The label is for the prover.
     'fills: for i in 0..BLOCK {
         bytes[8 * i..8 * i + 8].copy_from_slice(&cells[i].to_bytes());
     }
     bytes
 }
 
-/// Writes the cells, a block at a time, and then one by one.
+/// Writes the cells block by block, then the rest one by one.
 pub fn write_cells<T: CountMinValue>(out: &mut SketchBytes, counts: &[T]) -> Result<(), Error>
     ensures ok { OnOk result (out.new.bytes ≡ out.old.bytes ++ flat_map bytes_of (map T.number counts.now)) }
     ensures err { IfErr result (λ e. e ≡ no_memory) }
@@ -220,7 +220,7 @@ pub fn write_cells<T: CountMinValue>(out: &mut SketchBytes, counts: &[T]) -> Res
     ensures in_range { OnOk result (All (InRange T.least T.greatest) (map T.number counts.now)) }
 {
     let blocks = counts.len() / BLOCK;
-    // The labels are there for the prover alone: its goals are named after them.
+    // The labels are for the prover.
     'whole: for b in 0..blocks {
         let at = BLOCK * b;
         out.write(&bytes_of_block(&counts[at..at + BLOCK]))?;

@@ -1,4 +1,4 @@
-//! Laws that follow from the contracts of the calls.
+//! Laws that follow from the contracts of the calls, as theorems.
 ghost use Rattle.std.specs.Prelude.{◌≡◌, ℕ, ℤ, pos, List, ◌+◌, ◌*◌, ◌-ℤ◌, ◌<◌, ◌≤◌, ◌≤ℤ◌, ◌↔◌, IfOk, IfErr, OnOk, OnErr, IsOk, IsErrOf, IsTrue, IsOkAnd};
 ghost use Rattle.sketch_base.specs.Errors.{invalid_argument, no_memory};
 ghost use Rattle.sketch_countmin.specs.History.{CountHistory, IsExact, IsNonnegative, followed_by, own_value, others_share};
@@ -13,11 +13,14 @@ use crate::count_min_value::CountMinValue;
 use sketch_base::{Error, Fault};
 use std::alloc::Global;
 
-/// Merges two sketches, and answers whether the result equals the sketch of one stream. It refuses as
-/// [`merge`](CountMinSketch::merge) does.
+/// Merges two sketches, and returns whether the result equals the sketch of one stream.
 ///
-/// Where the merge is accepted and nothing in the second stream was halved or decayed, it equals the sketch of the
-/// first stream followed by the second.
+/// It returns `true` if nothing in the second history was halved or decayed, and `stream` stands for the first history
+/// followed by the second.
+///
+/// # Errors
+///
+/// The errors of [`merge`](CountMinSketch::merge). The first sketch is then unchanged.
 pub fn merge_as_one_stream<T: CountMinValue>(
     first: &mut CountMinSketch<T>,
     second: &CountMinSketch<T>,
@@ -39,11 +42,13 @@ pub fn merge_as_one_stream<T: CountMinValue>(
     Ok(*first == *stream)
 }
 
-/// What the least cell of an item says. It does nothing.
+/// States what the minimum of an item's cells guarantees. Does nothing.
 ///
-/// Where no weight was below zero, the cell is at least the item's own share of the history and at most the total, also
-/// after halving and decay. Where nothing was halved or decayed, it is above the own share by the least, over the rows,
-/// of what the other items of its buckets share. And where the total is 0, every cell is 0.
+/// - If no weight is negative, it is at least the item's own share of the history and at most the total, also after
+///   halving and decay.
+/// - If nothing was halved or decayed, it exceeds the own share by the minimum, over the rows, of the other items'
+///   share of the bucket.
+/// - If the total is 0, every cell is 0.
 pub fn what_the_least_cell_says()
     ensures encloses { (s : CountState) (h : CountHistory) (bytes : List ℕ) (least : ℤ)
         → 0 < s.buckets → StandsFor s h → IsNonnegative h → IsLeastCell s bytes least
@@ -55,24 +60,26 @@ pub fn what_the_least_cell_says()
         → (r b : ℕ) → cell_at s.rows r b ≡ pos 0 }
 {}
 
-/// What so many buckets make of the upper bound. It does nothing.
+/// States how far the upper bound is above the estimate. Does nothing.
 ///
-/// Where e times n is at most the number of buckets, as it is where they are at least those that
-/// [`suggest_num_buckets`](crate::suggest_num_buckets) answers for n, the upper bound is above the estimate by at most the
-/// total over n. That few weights are above that bound is no theorem here.
+/// If e times n is at most the number of buckets, it is above by at most the total over n. This is so for the buckets
+/// that [`suggest_num_buckets`](crate::suggest_num_buckets) returns for n, or more. How many weights exceed the upper
+/// bound is not proved.
 pub fn what_enough_buckets_say()
     ensures { (s : CountState) (n : ℕ) → IsETimesWithin n s.buckets → n * margin s ≤ s.total }
 {}
 
-/// Writes a value as bytes and reads it back: it is the same number.
+/// Writes a value as bytes and reads it back. The result is the same number.
 pub fn restored_from_bytes<T: CountMinValue>(value: T) -> Result<T, Error>
     ensures { IsOkAnd result (λ v. T.number v ≡ T.number value) }
 {
     T::try_from_bytes(value.to_bytes())
 }
 
-/// What is written is an image, no bytes are an image of two sketches under one seed, they are one of some sketch
-/// exactly where no check fails, and that sketch is within the limits. It does nothing.
+/// States the laws of images. Does nothing.
+///
+/// What is written for a sketch is an image of it. No bytes are an image of two sketches under one seed. Bytes are an
+/// image of some sketch exactly if no check fails, and that sketch is within the limits.
 pub fn what_images_say<T: CountMinValue>()
     ensures spelled { SpelledIsImage T.least T.greatest }
     ensures one { ImageIsOfOne T.least T.greatest }
@@ -80,11 +87,11 @@ pub fn what_images_say<T: CountMinValue>()
     ensures within_limits { ImageIsWithinLimits T.least T.greatest }
 {}
 
-/// Writes an image of the sketch and reads it again under the sketch's own seed: the sketch that comes back equals it.
+/// Writes the sketch as an image and reads it back under its own seed. The result equals the sketch.
 ///
 /// # Errors
 ///
-/// `NoMemory` where there is no memory for the image or for the sketch.
+/// `NoMemory` if the image or the sketch cannot be allocated.
 pub fn restored<T: CountMinValue>(
     alloc: Global,
     sketch: &CountMinSketch<T>,

@@ -1,7 +1,7 @@
-//! Count-Min sketches: the weights of items in a table with a row for each of a few hashes.
+//! Count-Min sketches (Cormode & Muthukrishnan 2005): the weights of items in a table with a row for each hash.
 //!
-//! Each item has one cell in each row. An update adds its weight to these cells, and the least of them is the estimate.
-//! Where no weight is below zero, an estimate is never below the true weight. A sketch is written as an image of bytes,
+//! An item has one cell in each row. An update adds its weight to these cells, and their minimum is the estimate. If no
+//! weight is negative, an estimate is never below the true weight. A sketch is written as an image, a list of bytes,
 //! and read from one.
 #![tactic(auto)]
 

@@ -1,10 +1,10 @@
-//! How large sketches may be.
+//! The limits of sketches.
 
-/// The most hashes that a sketch has.
+/// The maximum number of hashes of a sketch.
 pub const MAX_NUM_HASHES: u8 = 255;
 
-/// The fewest cells that a row has.
+/// The minimum number of cells in a row.
 pub const MIN_NUM_BUCKETS: u32 = 3;
 
-/// The number of cells that a sketch stays below.
+/// The limit of cells: a sketch has fewer.
 pub const MAX_TABLE_ENTRIES: usize = 1 << 30;

@@ -1,8 +1,7 @@
 //! The eight types of numbers that a sketch can count in.
 //!
-//! Each names its constants and its conversions, though they differ in a name and a number: the check of the repository
-//! refuses an `impl` that a macro of its own writes. What holds of a type is proved once for signed types and once for
-//! unsigned ones.
+//! Each `impl` is written out, although they differ only in names and numbers: CI rejects an `impl` that a macro of
+//! this repository writes. The laws are proved once for signed types and once for unsigned ones.
 ghost use Rattle.std.specs.Prelude.{pos, negsuc};
 ghost use Rattle.std.proofs.Common.{lit<, lit≤};
 ghost use Rattle.sketch_countmin.specs.ValueLaws.{not_negative, signed_laws, unsigned_laws};

@@ -1,8 +1,8 @@
 //! The cells of one item, one in each row.
 //!
-//! An item of few bytes is fed once, and each row hashes what was fed under its own seed. Whether there is a power of two of buckets
-//! is asked once, outside all loops. Four rows, the most usual number beside three and five, have no loop: their four places are found
-//! before the first cell is touched.
+//! An item of few bytes is fed once, and each row hashes these bytes under its own seed. Whether the number of buckets
+//! is a power of two is tested once, outside all loops. Four rows, the most common number beside three and five, have
+//! no loop: all four indices are computed before the first cell is accessed.
 ghost use Rattle.std.specs.Prelude.{◌≡◌, ℕ, ◌+◌, ◌*◌, ◌/◌, ◌%◌, ◌^◌, ◌<◌, ◌≤◌, map, length, ℤ, ◌+ℤ◌, unsigned_abs, IsTrue};
 ghost use Rattle.std.specs.Int.{is_power_of_two};
 ghost use Rattle.sketch_base.specs.Hashes.{fed_bytes};
@@ -42,7 +42,7 @@ pub fn add_to_rows<T: CountMinValue, I: Hash>(
     }
 }
 
-/// The same for an item of many bytes, which is hashed anew for each row.
+/// Does the same as `add_to_rows` for an item of many bytes, which is fed again for each row.
 #[inline(never)]
 fn add_long<T: CountMinValue, I: Hash>(
     counts: &mut [T],
@@ -64,7 +64,7 @@ fn add_long<T: CountMinValue, I: Hash>(
     }
 }
 
-/// The same for few bytes in four rows of a power of two of buckets.
+/// Does the same as `add_to_rows` for few bytes, four rows, and a power of two of buckets.
 #[inline(always)]
 fn add_to_four<T: CountMinValue>(
     counts: &mut [T],
@@ -91,7 +91,7 @@ fn add_to_four<T: CountMinValue>(
     add_at(counts, fourth, weight);
 }
 
-/// The same for few bytes, row by row: by a mask where that is said, and then there is a power of two of buckets.
+/// Does the same as `add_to_rows` for few bytes, row by row. `masked` requires a power of two of buckets.
 #[inline(always)]
 fn add_to_each<T: CountMinValue>(
     counts: &mut [T],
@@ -114,7 +114,7 @@ fn add_to_each<T: CountMinValue>(
     }
 }
 
-/// The bucket of a hash: by a mask where that is said, and then there is a power of two of buckets.
+/// Returns the bucket of a hash. `masked` takes the remainder by a mask, and requires a power of two of buckets.
 #[inline(always)]
 fn bucket_in(buckets: Divisor, masked: bool, hash: u64) -> u64
     requires { IsTrue masked → IsTrue (is_power_of_two buckets) }
@@ -128,7 +128,7 @@ fn bucket_in(buckets: Divisor, masked: bool, hash: u64) -> u64
     }
 }
 
-/// Where the cell of few bytes lies in a row: by a mask where that is said, and then there is a power of two of buckets.
+/// Returns the index of the cell of few bytes in a row. `masked` requires a power of two of buckets.
 #[inline(always)]
 fn place_in(
     buckets: Divisor,
@@ -149,7 +149,7 @@ fn place_in(
     row * buckets.divisor() as usize + bucket as usize
 }
 
-/// The least of the item's cells.
+/// Returns the minimum of the item's cells.
 #[inline(always)]
 pub fn least_cell<T: CountMinValue, I: Hash>(
     counts: &[T],
@@ -174,7 +174,7 @@ pub fn least_cell<T: CountMinValue, I: Hash>(
     }
 }
 
-/// The same for an item of many bytes, which is hashed anew for each row.
+/// Does the same as `least_cell` for an item of many bytes, which is fed again for each row.
 #[inline(never)]
 fn least_long<T: CountMinValue, I: Hash>(
     counts: &[T],
@@ -199,7 +199,7 @@ fn least_long<T: CountMinValue, I: Hash>(
     least
 }
 
-/// The same for few bytes in four rows of a power of two of buckets.
+/// Does the same as `least_cell` for few bytes, four rows, and a power of two of buckets.
 #[inline(always)]
 fn least_of_four<T: CountMinValue>(
     counts: &[T],
@@ -224,7 +224,7 @@ fn least_of_four<T: CountMinValue>(
     three.min(counts[fourth])
 }
 
-/// The same for few bytes, row by row: by a mask where that is said, and then there is a power of two of buckets.
+/// Does the same as `least_cell` for few bytes, row by row. `masked` requires a power of two of buckets.
 #[inline(always)]
 fn least_of_each<T: CountMinValue>(
     counts: &[T],

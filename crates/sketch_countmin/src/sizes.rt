@@ -1,8 +1,8 @@
-//! How many buckets and hashes to choose: the published formulas in whole numbers.
+//! Sizes from an error target: the formulas of Cormode & Muthukrishnan 2005 in whole numbers.
 //!
-//! That the numbers are exactly those of the formulas is proved, of e by its series. What they buy is no theorem here,
-//! since it rests on ideal hashes: where no weight is below zero, an estimate passes the item's own weight by more than
-//! the total over `parts` for at most one question in `questions`.
+//! It is proved that the results are exactly those of the formulas, with e by its series. The error is not proved,
+//! since it rests on ideal hashes. Under these, if no weight is negative, at most one estimate in `questions` exceeds
+//! the item's own weight by more than the total over `parts`.
 ghost use Rattle.std.specs.Prelude.{◌≡◌, ℕ, ◌<◌, ◌≤◌, ◌^◌, IfOk, IfErr, IsOk, IsErrOf};
 ghost use Rattle.sketch_base.specs.Errors.{invalid_argument};
 ghost use Rattle.sketch_countmin.specs.Sizes.{IsETimesWithin, IsWithinPowerOfE};
@@ -10,11 +10,12 @@ ghost use Rattle.sketch_countmin.specs.Sizes.{IsETimesWithin, IsWithinPowerOfE};
 use crate::limits::{MAX_TABLE_ENTRIES, MIN_NUM_BUCKETS};
 use sketch_base::{Error, Fault};
 
-/// The greatest number that e times stays below the cells that a sketch stays below.
+/// The maximum `parts` for which e times `parts`, rounded up, is below the limit of cells.
 const GREATEST_PARTS: u64 = 395_007_541;
 
-/// A fraction just above e: what is divided, and by what. Its products with numbers up to the greatest, rounded up, are those
-/// of e.
+/// A fraction just above e: the numerator and the denominator.
+///
+/// Its products with numbers up to `GREATEST_PARTS`, rounded up, are those of e.
 const ABOVE_E: (u64, u64) = (438_351_041, 161_260_336);
 
 /// The powers of e from 0 up to 44, rounded down.
@@ -66,17 +67,19 @@ const POWERS_OF_E: [u64; 45] = [
     12_851_600_114_359_308_275,
 ];
 
-/// How many buckets the published formula asks for, so that an estimate is at most the total over `parts` above the item's
-/// own weight: e times `parts`, rounded up.
+/// Returns the number of buckets for an error of at most the total over `parts`: e times `parts`, rounded up.
 ///
-/// It is proved that this is the least whole number that e times `parts` does not pass. That few estimates are further
-/// above is no theorem here: how few is said at [`suggest_num_hashes`]. That an upper bound is above its estimate by at most
-/// the total over `parts` is one ([`what_enough_buckets_say`](crate::laws::what_enough_buckets_say)).
+/// It is proved that this is the minimum whole number that is at least e times `parts`. It is also proved that an upper
+/// bound is then above its estimate by at most the total over `parts`
+/// ([`what_enough_buckets_say`](crate::laws::what_enough_buckets_say)). How many estimates have a larger error is not
+/// proved: see [`suggest_num_hashes`].
 ///
 /// # Errors
 ///
-/// `BadNumBuckets` for 0 parts, and `TableTooLarge` where one row of so many buckets has 2^30 cells or more, which is
-/// above 395007541 parts. A sketch of several rows may have fewer buckets: it is refused when it is made.
+/// - `BadNumBuckets` if `parts` is 0;
+/// - `TableTooLarge` if the result would be 2^30 or more, which is so above 395007541 parts.
+///
+/// A sketch of several rows is limited to fewer buckets: its constructor checks the number of cells.
 ///
 /// # Examples
 ///
@@ -106,16 +109,16 @@ pub fn suggest_num_buckets(parts: u64) -> Result<u32, Error>
     Ok((parts * ABOVE_E.0).div_ceil(ABOVE_E.1) as u32)
 }
 
-/// How many hashes the published formula asks for, so that at most one estimate in `questions` is further above the item's
-/// own weight than the buckets were chosen for: the natural logarithm of `questions`, rounded up.
+/// Returns the number of hashes for which at most one estimate in `questions` exceeds the error that the buckets were
+/// chosen for: ln(`questions`), rounded up.
 ///
-/// It is proved that e to the power of this number, and of no lesser whole number, is at least `questions`. That so many
-/// rows make estimates so good, with the buckets of [`suggest_num_buckets`], is no theorem here: it is so under ideal
-/// hashes, where no weight is below zero.
+/// It is proved that this is the minimum whole number `k` with e^`k` at least `questions`. The share of larger errors
+/// is not proved. With the buckets of [`suggest_num_buckets`] it holds under ideal hashes if no weight is negative
+/// (Cormode & Muthukrishnan 2005).
 ///
 /// # Errors
 ///
-/// `BadNumHashes` for 0 and 1 question, where no hash is asked for.
+/// `BadNumHashes` if `questions` is 0 or 1, which needs no hash.
 pub fn suggest_num_hashes(questions: u64) -> Result<u8, Error>
     ensures enough { IfOk result (λ hashes. IsWithinPowerOfE questions hashes) }
     ensures least { IfOk result (λ hashes. (m : ℕ) → IsWithinPowerOfE questions m → hashes ≤ m) }

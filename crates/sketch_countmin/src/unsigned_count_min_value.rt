@@ -1,10 +1,10 @@
-//! What halving and decay need of the type that a sketch counts in.
+//! The requirements of halving and decay on the value type.
 ghost use Rattle.std.specs.Prelude.{◌≡◌, pos, ◌≤ℤ◌};
 ghost use Rattle.sketch_countmin.specs.Values.{halved};
 
 use crate::count_min_value::CountMinValue;
 
-/// A type without negative numbers that a [`CountMinSketch`](crate::CountMinSketch) can count in: `u8` to `u64`.
+/// An unsigned type that a [`CountMinSketch`](crate::CountMinSketch) can count in: `u8` to `u64`.
 ///
 /// # Examples
 ///
@@ -16,7 +16,7 @@ use crate::count_min_value::CountMinValue;
 /// }
 /// ```
 pub trait UnsignedCountMinValue: CountMinValue {
-    /// Half of the value, rounded down.
+    /// Returns half of the value, rounded down.
     #[inline(always)]
     fn halve(self) -> Self
         ensures { Self.number result ≡ halved (Self.number self) }

@@ -1,4 +1,4 @@
-//! Images of sketches.
+//! Reading and writing the images of sketches.
 ghost use Rattle.std.specs.Prelude.{◌≡◌, ◌≢◌, ◌+◌, ◌*◌, ◌<◌, ◌≤◌, None, false, length, OnOk, IfOk, IfErr};
 ghost use Rattle.sketch_base.specs.Checks.{IsImageRefusal};
 ghost use Rattle.sketch_base.specs.Errors.{no_memory};
@@ -18,14 +18,14 @@ use sketch_base::{DEFAULT_UPDATE_SEED, Error, ErrorKind, Fault, compute_seed_has
 use std::alloc::Global;
 
 impl<T: CountMinValue> CountMinSketch<T> {
-    /// The image of the sketch: 16 bytes where the total is 0, else 24 and 8 for each cell. `docs/FORMATS.md` has its
-    /// fields.
+    /// Writes the sketch as an image. `docs/FORMATS.md` describes its fields.
     ///
-    /// The image has the 16-bit hash of the seed, and not the seed: that has to be known to whoever reads it.
+    /// The image has 16 bytes if the total is 0, and otherwise 24 bytes and 8 for each cell. It contains the 16-bit
+    /// hash of the seed, but not the seed: a reader has to know it.
     ///
     /// # Errors
     ///
-    /// `NoMemory` where there is no memory for the image, which is asked for once.
+    /// `NoMemory` if the image cannot be allocated. It is allocated once.
     pub fn serialize(&self) -> Result<Vec<u8>, Error>
         ensures image { IfOk result (λ image. IsSpelled T.least T.greatest image.items self.now) }
         ensures err { IfErr result (λ e. e ≡ no_memory) }
@@ -45,8 +45,8 @@ impl<T: CountMinValue> CountMinSketch<T> {
         Ok(out.into_bytes())
     }
 
-    /// The sketch of an image that was written under the usual seed, 9001. As
-    /// [`deserialize_with_seed`](Self::deserialize_with_seed).
+    /// Reads a sketch with the default seed 9001 from an image, as
+    /// [`deserialize_with_seed`](Self::deserialize_with_seed) does.
     pub fn deserialize(alloc: Global, image: &[u8]) -> Result<Self, Error>
         ensures image { IfOk result (λ sketch. IsImage T.least T.greatest DEFAULT_UPDATE_SEED image.now sketch) }
         ensures state { IfOk result (λ sketch. IsCountState T.greatest sketch) }
@@ -57,25 +57,39 @@ impl<T: CountMinValue> CountMinSketch<T> {
         Self::deserialize_with_seed(alloc, image, DEFAULT_UPDATE_SEED)
     }
 
-    /// The sketch of an image that was written under a seed.
+    /// Reads a sketch with this seed from an image.
     ///
-    /// The image is of a sketch that counts in `T`: only the range of its numbers is checked. Of the seed the 16-bit
-    /// hash is compared alone, so another seed with the same hash is accepted, and the sketch then answers under that
-    /// other seed.
+    /// The image does not name the type of its values: it is read as one of `T`, and only the range of its numbers is
+    /// checked. It contains only the 16-bit hash of the seed. So another seed with the same hash is accepted, and the
+    /// sketch then hashes items under that other seed.
     ///
-    /// The bytes behind the image are ignored, and so are the unused ones within it. It takes as much memory as the
-    /// image has cells. An image that says that the sketch is empty has none of them, and may say that there are
-    /// 2^30 - 1, which are 8 GiB where `T` has 64 bits: see
-    /// [`deserialize_with_seed_and_limit`](Self::deserialize_with_seed_and_limit).
+    /// Bytes after the image, and unused bytes within it, are ignored. It allocates as many cells as the image states.
+    /// An image that is marked empty contains no cells, but may state up to 2^30 - 1, which are 8 GiB if `T` has 64
+    /// bits: for untrusted images see [`deserialize_with_seed_and_limit`](Self::deserialize_with_seed_and_limit).
     ///
     /// # Errors
     ///
-    /// The fault of the first check that fails, of the kind `InvalidData`: in this order `InsufficientData`,
-    /// `BadFamily`, `BadVersion`, `BadPreamble`, `InsufficientData`, `ZeroSeedHash` where the hash of `seed` is 0,
-    /// `SeedHashMismatch` where the image has another, `BadNumHashes`, `BadNumBuckets`, `TableTooLarge`,
-    /// `InsufficientData`, `ValueOutOfRange` where `T` has no such total, `NegativeTotal`, and of the first cell that
-    /// is wrong `ValueOutOfRange`, or `CellAboveTotal` where it is further from zero than the total. `NoMemory` where
-    /// there is no memory for the cells, which are asked for before they are read.
+    /// The fault of the first failing check, of the kind `InvalidData`. The checks are, in this order:
+    ///
+    /// - `InsufficientData` if there are fewer than 8 bytes;
+    /// - `BadFamily` and `BadVersion`;
+    /// - `BadPreamble` if there are not 2 preamble longs;
+    /// - `InsufficientData` if there are fewer than 16 bytes;
+    /// - `ZeroSeedHash` if the hash of `seed` is 0;
+    /// - `SeedHashMismatch` if the image has another hash;
+    /// - `BadNumHashes` for 0 hashes;
+    /// - `BadNumBuckets` for fewer than 3 buckets;
+    /// - `TableTooLarge` for 2^30 cells or more;
+    /// - `InsufficientData` if the total or cells are missing, unless the image is marked empty.
+    ///
+    /// Unless the image is marked empty, these follow:
+    ///
+    /// - `ValueOutOfRange` if the total is not in the range of `T`, and `NegativeTotal` if it is negative;
+    /// - for the first invalid cell `ValueOutOfRange` if it is not in the range of `T`, or `CellAboveTotal` if it is
+    ///   further from zero than the total.
+    ///
+    /// `NoMemory` if the cells or the seeds of the rows cannot be allocated. The cells are allocated before they are
+    /// checked.
     pub fn deserialize_with_seed(alloc: Global, image: &[u8], seed: u64) -> Result<Self, Error>
         ensures image { IfOk result (λ sketch. IsImage T.least T.greatest seed image.now sketch) }
         ensures state { IfOk result (λ sketch. IsCountState T.greatest sketch) }
@@ -86,8 +100,8 @@ impl<T: CountMinValue> CountMinSketch<T> {
         Self::deserialize_with_seed_and_limit(alloc, image, seed, usize::MAX)
     }
 
-    /// The sketch of an image that was written under the usual seed, 9001, where it takes at most so many bytes. As
-    /// [`deserialize_with_seed_and_limit`](Self::deserialize_with_seed_and_limit).
+    /// Reads a sketch with the default seed 9001 from an image if it takes at most `most_bytes` bytes, as
+    /// [`deserialize_with_seed_and_limit`](Self::deserialize_with_seed_and_limit) does.
     pub fn deserialize_with_limit(
         alloc: Global,
         image: &[u8],
@@ -105,13 +119,15 @@ impl<T: CountMinValue> CountMinSketch<T> {
         Self::deserialize_with_seed_and_limit(alloc, image, DEFAULT_UPDATE_SEED, most_bytes)
     }
 
-    /// The sketch of an image that was written under a seed, where its [`estimated_size`](Self::estimated_size) is at
-    /// most so many bytes. As [`deserialize_with_seed`](Self::deserialize_with_seed).
+    /// Reads a sketch with this seed from an image if its [`estimated_size`](Self::estimated_size) is at most
+    /// `most_bytes`.
+    ///
+    /// It does the same as [`deserialize_with_seed`](Self::deserialize_with_seed) otherwise.
     ///
     /// # Errors
     ///
-    /// Those of `deserialize_with_seed`, and `TableTooLarge` of the kind `InvalidData` where the sketch would take
-    /// more: behind the checks that come before memory, and then no memory is asked for.
+    /// The errors of `deserialize_with_seed`, and `TableTooLarge` of the kind `InvalidData` if the sketch would take
+    /// more. This check comes just before those of the total. If it fails, nothing is allocated.
     ///
     /// # Examples
     ///
@@ -156,7 +172,7 @@ impl<T: CountMinValue> CountMinSketch<T> {
         }
     }
 
-    /// The sketch of an image that has a total and cells.
+    /// Reads the total and the cells of an image that is not marked empty.
     fn with_cells_of(
         alloc: Global,
         image: &[u8],
