@@ -1,11 +1,11 @@
 //! The fields of images at fixed offsets, and the checks that all images share.
 //!
 //! Numbers are little-endian. No call here allocates.
-ghost use Rattle.std.specs.Prelude.{◌≡◌, ◌≢◌, ◌+◌, ◌<◌, ◌≤◌, Some, length, MatchOption, OnOk, IfErr};
+ghost use Rattle.std.specs.Prelude.{◌≡◌, ◌+◌, ◌<◌, ◌≤◌, Some, length, MatchOption, OnOk, IfErr};
 ghost use Rattle.std.specs.Int.{Width, w16, w32, w64, byte_len, from_le_bytes};
 ghost use Rattle.sketch_base.specs.Checks.{Opens, first_failing, opening_checks};
 ghost use Rattle.sketch_base.specs.Errors.{invalid_data};
-ghost use Rattle.sketch_base.specs.Fields.{le_at, signed_le_at};
+ghost use Rattle.sketch_base.specs.Fields.{le_at};
 
 use crate::error::Error;
 use crate::family::Family;
@@ -28,22 +28,6 @@ pub fn check_length(image: &[u8], least: usize) -> Result<(), Error>
 {
     if image.len() < least {
         return Err(Error::invalid_data(Fault::InsufficientData));
-    }
-    Ok(())
-}
-
-/// Checks that a version is [`SERIAL_VERSION`].
-///
-/// # Errors
-///
-/// [`BadVersion`](Fault::BadVersion) of the kind [`InvalidData`](crate::ErrorKind::InvalidData) if it is another.
-#[inline]
-pub fn check_version(version: u8) -> Result<(), Error>
-    ensures same { OnOk result (version ≡ SERIAL_VERSION) }
-    ensures other { IfErr result (λ e. (e ≡ invalid_data Fault.BadVersion) × (version ≢ SERIAL_VERSION)) }
-{
-    if version != SERIAL_VERSION {
-        return Err(Error::invalid_data(Fault::BadVersion));
     }
     Ok(())
 }
@@ -101,15 +85,6 @@ pub fn u32_at(image: &[u8], place: usize) -> u32
     ensures { result ≡ le_at w32 image.now place }
 {
     u32::from_le_bytes(array_at(image, place))
-}
-
-/// Returns the `i32` at the offset `place`. Its four bytes are within the image.
-#[inline]
-pub fn i32_at(image: &[u8], place: usize) -> i32
-    requires { place + 4 ≤ length image.now }
-    ensures { result ≡ signed_le_at w32 image.now place }
-{
-    u32_at(image, place).cast_signed()
 }
 
 /// Returns the `u64` at the offset `place`. Its eight bytes are within the image.

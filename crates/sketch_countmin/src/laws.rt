@@ -1,5 +1,5 @@
 //! Laws that follow from the contracts of the calls, as theorems.
-ghost use Rattle.std.specs.Prelude.{◌≡◌, ℕ, ℤ, pos, List, ◌+◌, ◌*◌, ◌-ℤ◌, ◌<◌, ◌≤◌, ◌≤ℤ◌, ◌↔◌, IfOk, IfErr, OnOk, OnErr, IsOk, IsErrOf, IsTrue, IsOkAnd};
+ghost use Rattle.std.specs.Prelude.{◌≡◌, ℕ, ℤ, pos, List, ◌+◌, ◌*◌, ◌-ℤ◌, ◌<◌, ◌≤◌, ◌≤ℤ◌, ◌↔◌, IfOk, IfErr, OnOk, OnErr, IsOk, IsErrOf, IsTrue};
 ghost use Rattle.sketch_base.specs.Errors.{invalid_argument, no_memory};
 ghost use Rattle.sketch_countmin.specs.History.{CountHistory, IsExact, IsNonnegative, followed_by, own_value, others_share};
 ghost use Rattle.sketch_countmin.specs.Laws.{SpelledIsImage, ImageIsOfOne, ImageIsOfSome, ImageIsWithinLimits};
@@ -68,13 +68,6 @@ pub fn what_the_least_cell_says()
 pub fn what_enough_buckets_say()
     ensures { (s : CountState) (n : ℕ) → IsETimesWithin n s.buckets → n * margin s ≤ s.total }
 {}
-
-/// Writes a value as bytes and reads it back. The result is the same number.
-pub fn restored_from_bytes<T: CountMinValue>(value: T) -> Result<T, Error>
-    ensures { IsOkAnd result (λ v. T.number v ≡ T.number value) }
-{
-    T::try_from_bytes(value.to_bytes())
-}
 
 /// States the laws of images. Does nothing.
 ///

@@ -1,6 +1,6 @@
 //! Worked rows, vectors from outside, printed texts, and that each call succeeds.
 use super::text_of;
-use sketch_countmin::laws::{merge_as_one_stream, restored, restored_from_bytes, what_images_say};
+use sketch_countmin::laws::{merge_as_one_stream, restored, what_images_say};
 use sketch_countmin::{CountMinSketch, CountMinValue, Error, Fault};
 use std::alloc::Global;
 use std::test::Fail;
@@ -151,7 +151,7 @@ fn shows_its_cells(rt: HostRuntime) -> Result<(), Fail> {
 
 #[test]
 fn takes_types_of_numbers(rt: HostRuntime) {
-    assert!(rt; restored_from_bytes(-2i16) == Ok(-2));
+    assert!(rt; i16::try_from_bytes((-2i16).to_bytes()) == Ok(-2));
     assert!(rt; (-2i16).to_bytes() == [254, 255, 255, 255, 255, 255, 255, 255]);
     assert!(rt; 1_000_003i32.scale_nonnegative(1, 4) == 250_000);
 }
