@@ -1,12 +1,12 @@
 #!/usr/bin/env python3
-"""What counting on many workers costs: a stream by Zipf's law, made on the fly, into frequent items. Prints a table.
+"""Measures frequent items of a stream by Zipf's law, which workers make and count, and prints a table.
 
     figures.py --items 100000000 --workers 1 2 4
 
-For each number of workers: seconds from the first task to the answer, with the stream's making, and what its making takes alone;
-items a second; seconds that the workers' processors were busy with it; the most memory that a worker had, and in brackets what
-it has before the stream; what all workers got from others; and how many bytes the image of a part's sketch and of the answer
-have. Every answer is compared with the exact weights of the heaviest items.
+For each number of workers the table has the seconds from the first task to the answer, and those to make the stream alone; the
+items a second; the processor seconds of all workers; the most memory that a worker had, and in brackets what it had before the
+stream; the bytes that all workers got from others; and the bytes of the image of a part and of the answer. Each answer is compared
+with the exact weights of the numbers 1 to 10.
 """
 from __future__ import annotations
 
@@ -14,7 +14,7 @@ import argparse
 import os
 import resource
 import time
-from typing import Sequence
+from typing import Iterator
 
 import numpy
 import sketch_engine as engine
@@ -26,8 +26,8 @@ DISTINCT = 10_000_000
 SEEN = 10
 
 
-def made(seed: int, count: int) -> Sequence[numpy.ndarray]:
-    """So many numbers from 1 on, of which n comes about as often as n**-1.1 says, in chunks."""
+def made(seed: int, count: int) -> Iterator[numpy.ndarray]:
+    """Yields `count` numbers in chunks. The number n comes in proportion to about n**-1.1."""
     chance = numpy.random.default_rng(seed)
     for at in range(0, count, CHUNK):
         spread = chance.random(min(CHUNK, count - at))
@@ -35,7 +35,7 @@ def made(seed: int, count: int) -> Sequence[numpy.ndarray]:
 
 
 def sketch_made(shape: Heavy, seed: int, count: int) -> bytes:
-    """The image of a sketch of a part of the stream."""
+    """Returns the image of a sketch of a part of the stream."""
     sketch = shape.empty()
     for items in made(seed, count):
         sketch.update(items)
@@ -43,7 +43,7 @@ def sketch_made(shape: Heavy, seed: int, count: int) -> bytes:
 
 
 def exact_made(seed: int, count: int) -> numpy.ndarray:
-    """How often the first numbers are in a part of the stream."""
+    """Returns how often each of the first numbers is in a part of the stream."""
     return sum(numpy.bincount(items[items <= SEEN].astype("i8"), minlength=SEEN + 1) for items in made(seed, count))
 
 
@@ -53,23 +53,23 @@ def only_made(seed: int, count: int) -> int:
 
 
 def memory_of(dask_worker) -> int:
-    """The most bytes of memory that a worker had."""
+    """Returns the most bytes of memory that a worker had."""
     return resource.getrusage(resource.RUSAGE_SELF).ru_maxrss * 1024
 
 
 def processor_of(dask_worker) -> float:
-    """How many seconds of a processor a worker took."""
+    """Returns the processor seconds of a worker."""
     used = resource.getrusage(resource.RUSAGE_SELF)
     return used.ru_utime + used.ru_stime
 
 
 def received_by(dask_worker) -> int:
-    """How many bytes of images a worker got from other workers."""
+    """Returns the bytes of images that a worker got from other workers."""
     return sum(each["total"] for each in dask_worker.transfer_incoming_log)
 
 
 def measure(workers: int, items: int, parts: int, shape: Heavy) -> list[str]:
-    """The row of the table for so many workers."""
+    """Returns the row of the table for a number of workers."""
     counts = [items * (n + 1) // parts - items * n // parts for n in range(parts)]
     with engine.connect(workers, None) as client:
         client.gather(client.map(only_made, range(workers), [1] * workers))

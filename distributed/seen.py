@@ -1,5 +1,5 @@
 #!/usr/bin/env python3
-"""The lines of files whose key may be in a file of keys: a filter of the keys, made and applied by many workers.
+"""Finds the lines of files whose key may be in a file of keys: a filter of the keys, made and applied by many workers.
 
     seen.py customers.txt orders/*.txt --column customer --write kept
 
@@ -8,49 +8,95 @@ The keys are the lines of KEYS, or a column of it by --key-column.
 from __future__ import annotations
 
 import argparse
-import math
-import os
+import contextlib
+import re
+import shutil
 import sys
-from typing import Any, Sequence
+import uuid
+from pathlib import Path
+from typing import Any, Iterator, Sequence
 
+import datasketches_rattle as ds
 import sketch_engine as engine
 from dask.delayed import delayed
-from sketch_parts import Seen, count_part, filter_part
+from sketch_parts import Seen, count_part, decompressor, filter_part
 from sketch_report import Row, bars, number, plural
+
+WRITTEN = re.compile(r"[0-9]{6,}-.+", re.DOTALL)
 
 
 def words_of(arguments: Sequence[str] | None) -> argparse.Namespace:
-    """The words of the command line."""
+    """Reads the command line."""
     parser = argparse.ArgumentParser(prog="seen.py", description=__doc__,
                                      formatter_class=argparse.RawDescriptionHelpFormatter)
-    parser.add_argument("keys", metavar="KEYS", help="the file that has the keys, in UTF-8")
-    parser.add_argument("files", nargs="+", metavar="FILE", help="a file whose lines are looked for")
+    parser.add_argument("keys", metavar="KEYS", help="the file with the keys, as a FILE is")
+    parser.add_argument("files", nargs="+", metavar="FILE", help=engine.FILE_HELP)
     engine.add_item_words(parser, words=False, weights=False)
-    parser.add_argument("--key-column", metavar="NAME", help="the column of KEYS that has the keys (the whole line)")
+    parser.add_argument("--key-column", metavar="NAME", help="the column of KEYS with the keys (the whole line)")
     parser.add_argument("--one-in", type=engine.positive, default=100, metavar="N",
-                        help="of so many lines whose key is not there one may be kept (%(default)s)")
-    parser.add_argument("--write", metavar="FOLDER", help="write the lines that are kept, a file for each part")
+                        help="keep about one in N of the lines whose key is not there (%(default)s)")
+    parser.add_argument("--write", metavar="FOLDER",
+                        help="write the lines that are kept, a file for each part, into a folder with no files")
+    parser.add_argument("--overwrite", action="store_true",
+                        help="remove what an earlier --write left in FOLDER, when the job is done; other files are an error")
     engine.add_engine_words(parser)
     return parser.parse_args(arguments)
 
 
 def shape_for(count: int, one_in: int) -> Seen:
-    """The shape of a filter of so many keys, by the published formulas."""
-    bits = max(64, math.ceil(max(count, 1) * math.log(max(one_in, 2)) / math.log(2) ** 2))
-    return Seen(bits, max(1, round(bits / max(count, 1) * math.log(2))))
+    """Returns the shape of a filter of so many keys, by the published formulas."""
+    count = max(count, 1)
+    bits = ds.BloomFilter.suggest_bits(count, max(one_in, 2))
+    return Seen(bits, ds.BloomFilter.suggest_hashes(bits, count))
+
+
+def name_of(path: str) -> str:
+    """Returns the name of a file, without the ending of a compressed one."""
+    return Path(path).stem if decompressor(path) else Path(path).name
+
+
+def replaced_in(folder: Path, overwrite: bool, making: Path | None = None) -> list[Path]:
+    """Returns the files that a job replaces in its folder. Raises `ValueError` if there is a file that it must not replace."""
+    there = sorted(set(folder.iterdir()) - {making})
+    for path in there:
+        if not overwrite:
+            raise ValueError(f"{folder} has files, as {path.name}; --overwrite replaces those that an earlier --write left")
+        if not WRITTEN.fullmatch(path.name) or not path.is_file():
+            raise ValueError(f"{path} was not written by this command, and is not replaced")
+    return there
+
+
+@contextlib.contextmanager
+def output_folder(folder: Path, overwrite: bool, names: Sequence[str]) -> Iterator[Path]:
+    """Yields a new folder for files of these names. If the job succeeds they are moved to its folder, which is as it was else."""
+    folder.mkdir(parents=True, exist_ok=True)
+    replaced_in(folder, overwrite)
+    making = folder / f".{uuid.uuid4().hex}"
+    making.mkdir()
+    try:
+        yield making
+        for path in replaced_in(folder, overwrite, making):
+            path.unlink()
+        for name in names:
+            (making / name).rename(folder / name)
+    finally:
+        shutil.rmtree(making, ignore_errors=True)
 
 
 def kept(words: argparse.Namespace) -> dict[str, Any]:
-    """Makes the filter, and applies it: of each file how many lines there are, and how many are kept."""
+    """Makes the filter and applies it. Returns for each file how many lines there are, and how many are kept."""
+    if words.overwrite and words.write is None:
+        raise ValueError("--overwrite needs --write FOLDER")
     header = {"no_header": words.no_header, "delimiter": words.delimiter}
     key_parts = engine.cut_files([words.keys], words.parts, column=words.key_column, **(header if words.key_column else {}))
     parts = engine.cut_files(words.files, words.parts, column=words.column, **(header if words.column else {}))
     targets: list[str | None] = [None] * len(parts)
-    if words.write is not None:
-        os.makedirs(words.write, exist_ok=True)
-        targets = [os.path.join(os.path.abspath(words.write), f"{n:06}-{os.path.basename(part.path)}")
-                   for n, part in enumerate(parts)]
-    with engine.connect(words.workers, words.scheduler) as client:
+    with contextlib.ExitStack() as stack:
+        if words.write is not None:
+            names = [f"{n:06}-{name_of(part.path)}" for n, part in enumerate(parts)]
+            making = stack.enter_context(output_folder(Path(words.write).absolute(), words.overwrite, names))
+            targets = [str(making / name) for name in names]
+        client = stack.enter_context(engine.connect(words.workers, words.scheduler))
         counts = [delayed(count_part, pure=False)(part) for part in key_parts]
         count = engine.answer(client, delayed(sum)(counts))
         shape = shape_for(count, words.one_in)
@@ -71,8 +117,8 @@ def kept(words: argparse.Namespace) -> dict[str, Any]:
 
 
 def show(found: dict[str, Any]) -> None:
-    """Writes a bar for each file, and what is promised."""
-    rows = [Row(os.path.basename(each["file"]), each["kept"], each["lines"],
+    """Prints a bar for each file, and what is guaranteed."""
+    rows = [Row(Path(each["file"]).name, each["kept"], each["lines"],
                 f"{number(each['kept'])} of {plural(each['lines'], 'line')} kept") for each in found["files"]]
     print(f"{plural(found['keys'], 'key')} in a filter of {plural(found['bits'], 'bit')}, {found['hashes']} an item")
     print("\n".join(bars(rows)))
@@ -81,7 +127,7 @@ def show(found: dict[str, Any]) -> None:
 
 
 def main(arguments: Sequence[str] | None = None) -> int:
-    """The command: what it ends with."""
+    """Runs the command, and returns the exit status."""
     words = words_of(arguments)
     return engine.run("seen.py", lambda: kept(words), show, words.json)
 

@@ -1,33 +1,45 @@
-"""What workers do: the lines of a part of a file go into a sketch, and sketches into one.
+"""What a worker does: it counts the lines of a part of a file in a sketch, and merges sketches.
 
-A sketch travels as its image, which its receiver checks before it is used. This file is all that a worker needs beside the
-package `datasketches_rattle`.
+A sketch travels as its image, which the receiver checks before it is used. A worker needs this file and the package
+`datasketches_rattle`.
 """
 from __future__ import annotations
 
+import bz2
 import codecs
 import csv
+import dataclasses
+import lzma
 import math
 import os
+import platform
 import re
+import stat
+import time
+import uuid
+import zlib
 from dataclasses import dataclass
-from typing import Any, BinaryIO, Iterator, NamedTuple, Sequence
+from typing import Any, BinaryIO, Callable, Iterable, Iterator, NamedTuple, Sequence
 
 import datasketches_rattle as ds
 
 BLOCK = 1 << 20
 LONGEST_LINE = 1 << 24
+PACKED_STEP = 512  # at most some 16 MiB come of so many bytes of a .gz or .zst
+MAX_WINDOW = 1 << 27  # memory that a compressed file may ask for; `xz -9` and `zstd -19` ask for less
 NUMBER = re.compile(r"\s*[+-]?0*[0-9]{1,20}\s*", re.ASCII)
+OF_PROCESS = re.compile(r"/dev/(stdin|stdout|stderr|fd/.*)|/proc/.*")
 
 
 class BadInput(Exception):
-    """What no job counts: a file, its line, and what is wrong with it."""
+    """Says what a job cannot count: a file, the reason, and the byte, from 0, at which the line begins."""
 
-    def __init__(self, path: str, line: int, reason: str) -> None:
-        super().__init__(path, line, reason)
+    def __init__(self, path: str, reason: str, byte: int | None = None) -> None:
+        super().__init__(path, reason, byte)
 
     def __str__(self) -> str:
-        return "{}, line {}: {}".format(*self.args)
+        path, reason, byte = self.args
+        return f"{path}: {reason}" if byte is None else f"{path}, line at byte {byte}: {reason}"
 
 
 @dataclass(frozen=True)
@@ -40,135 +52,271 @@ class Columns:
 
 
 @dataclass(frozen=True)
+class Version:
+    """What a file is like on a host: a file that changed, or another one under the same path, has another version."""
+
+    size: int
+    modified: int
+    inode: int
+    host: str
+
+    @staticmethod
+    def of(status: os.stat_result) -> Version:
+        return Version(status.st_size, status.st_mtime_ns, status.st_ino, platform.node())
+
+    def matches(self, other: Version) -> bool:
+        """Returns whether both are one file, or copies on two hosts, which have inodes of their own."""
+        same = (self.size, self.modified) == (other.size, other.modified)
+        return same and (self.inode == other.inode or self.host != other.host)
+
+    def __str__(self) -> str:
+        seconds, rest = divmod(self.modified, 10**9)
+        modified = time.strftime("%Y-%m-%d %H:%M:%S", time.gmtime(seconds))
+        return f"{self.size} bytes of {modified}.{rest:09} UTC, inode {self.inode} on {self.host}"
+
+
+@dataclass(frozen=True)
 class Part:
-    """The lines of a file that begin in some of its bytes. Their items are the lines, their words, or a column's texts."""
+    """The lines of a file that begin in a range of its bytes. Their items are the lines, their words, or a column's strings.
+
+    A compressed file is one part: its range begins at a byte of the text, and ends with the text.
+    """
 
     path: str
     begin: int
     end: int
+    version: Version
     words: bool = False
     columns: Columns | None = None
 
+    def check(self, status: os.stat_result) -> None:
+        """Raises `BadInput` if the file is not the one that was cut."""
+        if not self.version.matches(found := Version.of(status)):
+            raise BadInput(self.path, f"the file changed, or another one is here: cut from {self.version}; read from {found}")
+
 
 class Batch(NamedTuple):
-    """Some of a part's items. Weights stand beside the items, where they do not weigh 1 each; so do lines, but for words."""
+    """Some of a part's items. Without weights each weighs 1. The lines of the items are there unless items are words."""
 
     items: list[str]
     weights: list[int] | None
     lines: list[str]
 
 
+# --- Files ---
+
+
+def open_file(path: str) -> BinaryIO:
+    """Opens a regular file. Raises `BadInput` for a pipe or a device, which no two workers can read."""
+    if OF_PROCESS.fullmatch(path):
+        raise BadInput(path, "belongs to this process, and workers cannot read it; write its text to a file")
+    file = open(path, "rb", opener=lambda name, flags: os.open(name, flags | os.O_NONBLOCK))  # waits for no writer of a pipe
+    if not stat.S_ISREG(os.fstat(file.fileno()).st_mode):
+        file.close()
+        raise BadInput(path, "is no regular file; write its text to a file")
+    return file
+
+
+def whole(path: str, **more: Any) -> Part:
+    """Returns a file as one part."""
+    decompressor(path)
+    with open_file(path) as file:
+        version = Version.of(os.fstat(file.fileno()))
+    return Part(path, 0, version.size, version, **more)
+
+
+def cut(part: Part, max_bytes: int) -> list[Part]:
+    """Cuts a part into at least one of at most `max_bytes` each, but for the rest of a line. A compressed file stays whole."""
+    size = part.end - part.begin
+    count = 1 if decompressor(part.path) else max(1, math.ceil(size / max_bytes))
+    ends = [part.begin + size * (n + 1) // count for n in range(count)]
+    return [dataclasses.replace(part, begin=begin, end=end) for begin, end in zip([part.begin] + ends, ends)]
+
+
+def decompressor(path: str) -> Callable[[], Any] | None:
+    """Returns what begins the decompression of a file of this name, or None if the name is not that of a compressed file."""
+    match os.path.splitext(path)[1]:
+        case ".gz":
+            return lambda: zlib.decompressobj(wbits=31)
+        case ".bz2":
+            return bz2.BZ2Decompressor
+        case ".xz":
+            return lambda: lzma.LZMADecompressor(lzma.FORMAT_XZ, memlimit=MAX_WINDOW)
+        case ".zst":
+            try:
+                import zstandard
+            except ImportError:
+                raise ImportError(f"{path} needs the package python3-zstandard") from None
+            return zstandard.ZstdDecompressor(max_window_size=MAX_WINDOW).decompressobj
+    return None
+
+
+def unpacked(path: str, file: BinaryIO, begin: Callable[[], Any]) -> Iterator[bytes]:
+    """Yields the text of a compressed file, at most `BLOCK` bytes at a time."""
+    text, at = bytearray(), 0
+    try:
+        for piece in streams(file, begin):
+            text += piece
+            if len(text) >= BLOCK:
+                for start in range(0, len(text), BLOCK):
+                    yield bytes(text[start : start + BLOCK])
+                at += len(text)
+                text.clear()
+    except MemoryError:
+        raise
+    except Exception as error:  # each format has errors of its own
+        raise BadInput(path, f"cannot be unpacked: {error}", at + len(text)) from None
+    if text:
+        yield bytes(text)
+
+
+def streams(file: BinaryIO, begin: Callable[[], Any]) -> Iterator[bytes]:
+    """Yields what comes of the compressed streams in a file, some 16 MiB at most at a time. Between streams zeros may stand."""
+    stream, data = begin(), b""
+    while data or (data := file.read(PACKED_STEP)):
+        if stream is None:
+            if not (data := data.lstrip(b"\0")):
+                continue
+            stream = begin()
+        if hasattr(stream, "needs_input"):  # of .bz2 and .xz, where a few bytes may be gigabytes
+            yield stream.decompress(data, BLOCK)
+            while not (stream.eof or stream.needs_input):
+                yield stream.decompress(b"", BLOCK)
+        else:
+            yield stream.decompress(data)
+        data = b""
+        if stream.eof:
+            data, stream = stream.unused_data, None
+    if stream is not None:
+        raise EOFError("its end is missing")
+
+
 # --- The lines of a part ---
 
 
-def cut(path: str, begin: int, most_bytes: int, **more: Any) -> list[Part]:
-    """The parts of a file from a byte on: at least one, and of at most so many bytes but for the rest of a line."""
-    size = os.path.getsize(path)
-    count = max(1, math.ceil((size - begin) / most_bytes))
-    ends = [begin + (size - begin) * (n + 1) // count for n in range(count)]
-    return [Part(path, start, end, **more) for start, end in zip([begin] + ends, ends)]
-
-
 def batches(part: Part, least: int = 0, most: int = 2**64 - 1) -> Iterator[Batch]:
-    """The part's items, with weights from the least to the most. Blank lines have none."""
+    """Yields the part's items, with weights from `least` to `most`. Blank lines have none.
+
+    Raises `BadInput` if the file is not the one that was cut, before the first batch and after the last one.
+    """
     for at, data in blocks(part):
-        lines = lines_of(part, at, data)
+        lines = lines_of(part.path, at, data)
         if part.words:
             yield Batch([word for line in lines for word in line.split()], None, [])
         elif part.columns is None:
             yield Batch(lines, None, lines)
         else:
-            yield columns_of(part, part.columns, at, lines, least, most)
+            yield columns_of(part, part.columns, at, data, lines, least, most)
 
 
 def blocks(part: Part) -> Iterator[tuple[int, bytes]]:
-    """The part's bytes as blocks of whole lines, each with the byte that it begins at."""
-    with open(part.path, "rb") as file:
-        at, last = line_start(file, part.begin), line_start(file, part.end)
-        file.seek(at)
-        while at < last:
-            data = file.read(min(BLOCK, last - at))
-            if at + len(data) < last and not data.endswith(b"\n"):
-                data += file.readline(LONGEST_LINE)
-                if at + len(data) < last and not data.endswith(b"\n"):
-                    raise BadInput(part.path, line_at(part.path, at + len(data)), f"longer than {LONGEST_LINE} bytes")
-            yield at, data
-            at += len(data)
+    """Yields the part's text in blocks of whole lines, each with the byte at which it begins."""
+    begin = decompressor(part.path)
+    with open_file(part.path) as file:
+        part.check(os.fstat(file.fileno()))
+        if begin is not None:
+            start, pieces = 0, unpacked(part.path, file, begin)
+        else:
+            start, end = (line_start(part.path, file, at) for at in (part.begin, part.end))
+            file.seek(start)
+            pieces = iter(lambda: file.read(min(BLOCK, end - file.tell())), b"")
+        for at, data in whole_lines(part.path, start, pieces):
+            skipped = max(0, part.begin - at)
+            if at == 0 and data.startswith(codecs.BOM_UTF8):
+                skipped = max(skipped, len(codecs.BOM_UTF8))
+            yield at + skipped, data[skipped:]
+        part.check(os.fstat(file.fileno()))
+        part.check(os.stat(part.path))
 
 
-def line_start(file: BinaryIO, at: int) -> int:
-    """Where the first line begins that does not begin before a byte, or the file's end."""
+def line_start(path: str, file: BinaryIO, at: int) -> int:
+    """Returns where the first line begins that does not begin before a byte, or the file's end."""
     size = os.fstat(file.fileno()).st_size
     if at == 0 or at >= size:
         return min(at, size)
     file.seek(at - 1)
-    while True:
-        piece = file.readline(BLOCK)
-        if not piece or piece.endswith(b"\n"):
-            return file.tell()
+    if not file.readline(LONGEST_LINE + 1).endswith(b"\n") and file.tell() < size:
+        raise BadInput(path, f"longer than {LONGEST_LINE} bytes", at)
+    return file.tell()
 
 
-def line_at(path: str, at: int) -> int:
-    """The number of the line that a byte is in, from 1."""
-    number = 1
-    with open(path, "rb") as file:
-        while at > 0 and (piece := file.read(min(at, BLOCK))):
-            number += piece.count(b"\n")
-            at -= len(piece)
-    return number
+def whole_lines(path: str, at: int, pieces: Iterable[bytes]) -> Iterator[tuple[int, bytes]]:
+    """Yields pieces of a text as blocks of whole lines, each with the byte at which it begins. The text begins at a byte."""
+    rest = b""
+    for piece in pieces:
+        data = rest + piece
+        end = data.rfind(b"\n") + 1
+        if (data.find(b"\n") if end else len(data)) > LONGEST_LINE:
+            raise BadInput(path, f"longer than {LONGEST_LINE} bytes", at)
+        if end:
+            yield at, data[:end]
+        at, rest = at + end, data[end:]
+    if rest:
+        yield at, rest
 
 
-def lines_of(part: Part, at: int, data: bytes) -> list[str]:
-    """The lines of a block that are not blank."""
-    mark = len(codecs.BOM_UTF8) if at == 0 and data.startswith(codecs.BOM_UTF8) else 0
+def lines_of(path: str, at: int, data: bytes) -> list[str]:
+    """Returns the lines of a block that are not blank."""
     try:
-        text = data[mark:].decode("utf-8")
+        text = data.decode("utf-8")
     except UnicodeDecodeError as error:
-        raise BadInput(part.path, line_at(part.path, at + mark + error.start), "not UTF-8") from None
+        raise BadInput(path, "not UTF-8", at + data.rfind(b"\n", 0, error.start) + 1) from None
     text = text.replace("\r\n", "\n").removesuffix("\r")
     return [line for line in text.split("\n") if line]
 
 
-def columns_of(part: Part, columns: Columns, at: int, lines: list[str], least: int, most: int) -> Batch:
-    """The items and the weights of the rows that a block's lines are."""
+def line_at(data: bytes, index: int) -> int:
+    """Returns where in a block the line of this index begins, from 0, among those that are not blank."""
+    at = 0
+    for line in data.split(b"\n"):
+        if line.removesuffix(b"\r"):
+            if index == 0:
+                break
+            index -= 1
+        at += len(line) + 1
+    return at
+
+
+def rows_of(lines: Sequence[str], delimiter: str) -> Iterator[list[str]]:
+    """Yields the fields of each line. Raises `csv.Error` if a line is no row."""
+    reader, count = csv.reader(lines, delimiter=delimiter, strict=True), 0
+    try:
+        for count, row in enumerate(reader, 1):
+            if reader.line_num != count:
+                break
+            yield row
+        else:
+            return
+    except csv.Error as error:
+        if str(error) != "unexpected end of data":
+            raise
+    raise csv.Error("a quoted field goes on in the next line")
+
+
+def columns_of(part: Part, columns: Columns, at: int, data: bytes, lines: list[str], least: int, most: int) -> Batch:
+    """Returns the items and the weights of the rows in a block's lines."""
     items: list[str] = []
     weights: list[int] | None = None if columns.weight is None else []
-    reader = csv.reader(lines, delimiter=columns.delimiter, strict=True)
     try:
-        for row in reader:
-            if reader.line_num != len(items) + 1:
-                raise csv.Error("a quoted field goes on in the next line")
-            items.append(field(row, columns.item))
+        for row in rows_of(lines, columns.delimiter):
+            item = field(row, columns.item)
             if weights is not None:
                 weights.append(weight(field(row, columns.weight), least, most))
+            items.append(item)
     except (csv.Error, ValueError) as error:
-        raise BadInput(part.path, row_line(part.path, at, min(len(items), reader.line_num - 1)), str(error)) from None
+        raise BadInput(part.path, str(error), at + line_at(data, len(items))) from None
     return Batch(items, weights, lines)
 
 
-def row_line(path: str, at: int, index: int) -> int:
-    """The number of the line that has the row of this index, from 0, behind a byte that begins a line."""
-    number = line_at(path, at)
-    with open(path, "rb") as file:
-        file.seek(at)
-        for line in file:
-            if line.removesuffix(b"\n").removesuffix(b"\r"):
-                if index == 0:
-                    break
-                index -= 1
-            number += 1
-    return number
-
-
 def field(row: Sequence[str], column: int) -> str:
-    """A field of a row."""
+    """Returns a field of a row."""
     if column >= len(row):
         raise csv.Error(f"there are {len(row)} columns, and column {column + 1} is asked for")
     return row[column]
 
 
 def weight(text: str, least: int, most: int) -> int:
-    """The weight that a text says."""
+    """Returns the weight that a string is."""
     number = int(text) if NUMBER.fullmatch(text) else None
     if number is None or not least <= number <= most:
         raise ValueError(f"the weight {text!r} is no whole number from {least} to {most}")
@@ -176,11 +324,13 @@ def weight(text: str, least: int, most: int) -> int:
 
 
 # --- Sketches of parts ---
+#
+# Only images of this job's own sketches are read, so no limit rejects them.
 
 
 @dataclass(frozen=True)
 class Heavy:
-    """Frequent items, in a table of at most so many slots."""
+    """Frequent items, in a table of at most `size` slots."""
 
     size: int
     item: type | str = str
@@ -190,7 +340,7 @@ class Heavy:
         return ds.FrequentItems(self.size, item=self.item)
 
     def read(self, image: bytes) -> ds.FrequentItems:
-        return ds.FrequentItems.from_bytes(image, item=self.item)
+        return ds.FrequentItems.from_bytes(image, item=self.item, limit=None)
 
     def add(self, sketch: ds.FrequentItems, batch: Batch) -> None:
         sketch.update(batch.items, 1 if batch.weights is None else batch.weights)
@@ -201,7 +351,7 @@ class Heavy:
 
 @dataclass(frozen=True)
 class Traffic:
-    """Weights of items in a table of so many rows and columns, which may be below 0 where they are signed."""
+    """A Count-Min sketch of `hashes` rows and `buckets` columns. If it is signed, weights may be below 0."""
 
     hashes: int
     buckets: int
@@ -219,7 +369,7 @@ class Traffic:
         return ds.CountMin(self.hashes, self.buckets, signed=self.signed)
 
     def read(self, image: bytes) -> ds.CountMin:
-        return ds.CountMin.from_bytes(image, signed=self.signed)
+        return ds.CountMin.from_bytes(image, signed=self.signed, limit=None)
 
     def add(self, sketch: ds.CountMin, batch: Batch) -> None:
         sketch.update(batch.items, 1 if batch.weights is None else batch.weights)
@@ -230,7 +380,7 @@ class Traffic:
 
 @dataclass(frozen=True)
 class Seen:
-    """A set of items in so many bits, so many of them an item."""
+    """A Bloom filter of `bits` bits and `hashes` hashes."""
 
     bits: int
     hashes: int
@@ -240,7 +390,7 @@ class Seen:
         return ds.BloomFilter(self.bits, self.hashes)
 
     def read(self, image: bytes) -> ds.BloomFilter:
-        return ds.BloomFilter.from_bytes(image)
+        return ds.BloomFilter.from_bytes(image, limit=None)
 
     def add(self, sketch: ds.BloomFilter, batch: Batch) -> None:
         sketch.insert(batch.items)
@@ -253,7 +403,7 @@ Shape = Heavy | Traffic | Seen
 
 
 def sketch_part(shape: Shape, part: Part) -> bytes:
-    """The image of a sketch of a part's items."""
+    """Returns the image of a sketch of a part's items."""
     sketch = shape.empty()
     for batch in batches(part, shape.least, shape.most):
         shape.add(sketch, batch)
@@ -261,7 +411,7 @@ def sketch_part(shape: Shape, part: Part) -> bytes:
 
 
 def merge_images(shape: Shape, images: list[bytes]) -> bytes:
-    """The image of the sketches of some images as one. An image that is damaged is refused by its fault."""
+    """Merges the sketches of some images, and returns the image. Raises the fault of a damaged one."""
     sketch = shape.read(images[0])
     for image in images[1:]:
         shape.join(sketch, shape.read(image))
@@ -269,17 +419,18 @@ def merge_images(shape: Shape, images: list[bytes]) -> bytes:
 
 
 def count_part(part: Part) -> int:
-    """How many items a part has."""
+    """Returns the number of a part's items."""
     return sum(len(batch.items) for batch in batches(part))
 
 
 def filter_part(shape: Seen, image: bytes, part: Part, target: str | None) -> tuple[int, int]:
-    """How many lines a part has, and of how many the item may be in the filter. Those are written to a file, if one is named.
+    """Returns the number of a part's lines, and of those whose item the filter contains. Writes those to a file, if named.
 
-    A part may be done twice, where a worker dies: the file gets its name when it is whole.
+    Two workers may do a part at once, if one of them is thought dead: each writes a file of its own, which gets its name when it
+    is whole.
     """
     seen, all_lines, kept_lines = shape.read(image), 0, 0
-    writing = os.devnull if target is None else f"{target}.{os.getpid()}.part"
+    writing = os.devnull if target is None else os.path.join(os.path.dirname(target), f".{uuid.uuid4().hex}")
     with open(writing, "w", encoding="utf-8", newline="\n") as output:
         for batch in batches(part):
             kept = [line + "\n" for line, keep in zip(batch.lines, seen.contains(batch.items)) if keep]

@@ -1,4 +1,4 @@
-"""Rows with bars, for a terminal or a file."""
+"""Draws rows with bars, for a terminal or a file."""
 from __future__ import annotations
 
 import shutil
@@ -9,7 +9,7 @@ GREATEST_LABEL = 32
 
 
 class Row(NamedTuple):
-    """A bar that is full up to `low` and light up to `high`, with a label before it and a text behind it."""
+    """A bar that is full up to `low` and light up to `high`, with a label before it and a text after it."""
 
     label: str
     low: int
@@ -18,17 +18,17 @@ class Row(NamedTuple):
 
 
 def number(value: int) -> str:
-    """A number with its thousands apart."""
+    """Returns a number with its thousands separated."""
     return f"{value:,}"
 
 
 def plural(count: int, name: str) -> str:
-    """So many of something."""
+    """Returns a number with a noun, in the plural but for 1."""
     return f"{number(count)} {name}{'' if count == 1 else 's'}"
 
 
 def bars(rows: Sequence[Row], width: int | None = None, full: str | None = None) -> list[str]:
-    """Lines of bars, the longest as long as there is room in a line."""
+    """Returns lines of bars, the longest as long as a line has room."""
     if full is None:
         encoding = (getattr(sys.stdout, "encoding", None) or "ascii").lower()
         full = "█░" if encoding.startswith("utf") else "#-"

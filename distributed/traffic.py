@@ -1,5 +1,5 @@
 #!/usr/bin/env python3
-"""What keys weigh in all, in a table of a fixed size, counted by many workers.
+"""Estimates what keys weigh in all, in a table of a fixed size, on many workers.
 
     traffic.py --column host --weight bytes access.csv --ask example.org --ask example.com
     traffic.py --words book.txt --ask-file names.txt
@@ -17,13 +17,13 @@ from sketch_report import Row, bars, number, plural
 
 
 def words_of(arguments: Sequence[str] | None) -> argparse.Namespace:
-    """The words of the command line."""
+    """Reads the command line."""
     parser = argparse.ArgumentParser(prog="traffic.py", description=__doc__,
                                      formatter_class=argparse.RawDescriptionHelpFormatter)
-    parser.add_argument("files", nargs="+", metavar="FILE", help="a text file, in UTF-8, that all workers can read")
+    parser.add_argument("files", nargs="+", metavar="FILE", help=engine.FILE_HELP)
     engine.add_item_words(parser)
-    parser.add_argument("--ask", action="append", default=[], metavar="KEY", help="a key that is asked for; may be repeated")
-    parser.add_argument("--ask-file", metavar="FILE", help="a file of keys that are asked for, one a line")
+    parser.add_argument("--ask", action="append", default=[], metavar="KEY", help="a key to estimate; may be repeated")
+    parser.add_argument("--ask-file", metavar="FILE", help="a file of keys to estimate, one a line")
     parser.add_argument("--buckets", type=engine.positive, default=27183, metavar="N",
                         help="cells in a row: more make the estimates closer (%(default)s)")
     parser.add_argument("--hashes", type=engine.positive, default=7, metavar="N",
@@ -34,15 +34,16 @@ def words_of(arguments: Sequence[str] | None) -> argparse.Namespace:
 
 
 def weigh(words: argparse.Namespace) -> dict[str, Any]:
-    """Counts, and asks."""
+    """Counts, and estimates the keys."""
     shape = Traffic(words.hashes, words.buckets, words.signed)
-    shape.empty()
+    empty = shape.empty()
     asked = list(words.ask)
     if words.ask_file is not None:
         for part in engine.cut_files([words.ask_file], 1):
             asked += [key for batch in batches(part) for key in batch.items]
     if not asked:
         raise ValueError("no key is asked for: --ask KEY, or --ask-file FILE")
+    empty.estimate(asked)  # raises if one is no UTF-8
     parts = engine.cut_files(words.files, words.parts, words=words.words, **engine.items_of(words))
     with engine.connect(words.workers, words.scheduler) as client:
         image = engine.answer(client, engine.merged(shape, engine.sketches(shape, parts), words.fan_in))
@@ -59,7 +60,7 @@ def weigh(words: argparse.Namespace) -> dict[str, Any]:
 
 
 def show(found: dict[str, Any]) -> None:
-    """Writes a bar for each key, and what is promised."""
+    """Prints a bar for each key, and what is guaranteed."""
     margin = found["margin"]
     rows = []
     for each in found["keys"]:
@@ -76,7 +77,7 @@ def show(found: dict[str, Any]) -> None:
 
 
 def main(arguments: Sequence[str] | None = None) -> int:
-    """The command: what it ends with."""
+    """Runs the command, and returns the exit status."""
     words = words_of(arguments)
     return engine.run("traffic.py", lambda: weigh(words), show, words.json)
 

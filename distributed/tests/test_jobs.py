@@ -1,26 +1,36 @@
 """The jobs over three workers and twelve parts, against exact counts; workers that die; images that are damaged."""
 from __future__ import annotations
 
+import asyncio
 import collections
 import contextlib
+import gzip
+import http.client
+import io
 import json
 import os
 import signal
+import socket
+import ssl
 import subprocess
 import sys
 import tempfile
 import time
 import unittest
+from pathlib import Path
 from unittest import mock
 
+import dask
 import datasketches_rattle as ds
+import distributed
 import heavy
 import seen
 import sketch_engine as engine
+import sketch_parts
 import traffic
 from common import said, weight_outside, write, zipf
 from dask.delayed import delayed
-from sketch_parts import Heavy, Traffic, sketch_part
+from sketch_parts import Heavy, Seen, Traffic, sketch_part
 
 WORKERS, PARTS, SIZE, PATIENCE = 3, 12, 64, 120
 WORDS = zipf(PARTS * 4000, 3000, 1)
@@ -36,6 +46,9 @@ def setUpModule():
     FOLDER = folder.name
     STREAM = write(FOLDER, "stream.txt", "".join(" ".join(WORDS[at : at + 5]) + "\n" for at in range(0, len(WORDS), 5)))
     CLIENT = unittest.enterModuleContext(engine.connect(WORKERS, None))
+    unittest.enterModuleContext(dask.config.set({  # for the commands, which connect to these workers
+        "distributed.comm.tls.ca-file": CLIENT.security.tls_ca_file,
+        "distributed.comm.tls.client": {"cert": CLIENT.security.tls_client_cert, "key": CLIENT.security.tls_client_key}}))
 
 
 def watched_sketch(shape, part, log, gate):
@@ -57,7 +70,7 @@ def damaged(image):
 
 
 def listens_on(process):
-    """The addresses, in hexadecimal, that a process listens on."""
+    """Yields the addresses and ports, in hexadecimal, that a process listens on."""
     sockets = set()
     for each in os.listdir(f"/proc/{process}/fd"):
         with contextlib.suppress(OSError):
@@ -66,19 +79,43 @@ def listens_on(process):
         with open(f"/proc/{process}/net/{table}", encoding="ascii") as file:
             for words in map(str.split, file.readlines()[1:]):
                 if words[3] == "0A" and f"socket:[{words[9]}]" in sockets:
-                    yield words[1].split(":")[0]
+                    yield words[1].split(":")
 
 
 class Workers(unittest.TestCase):
-    @unittest.skipUnless(sys.byteorder == "little", "addresses of 127.0.0.1 are compared as the system writes them")
-    def test_they_listen_on_the_loopback_address_alone(self):
-        for process in (os.getpid(), *CLIENT.run(os.getpid).values()):
-            self.assertEqual(set(listens_on(process)), {"0100007F"})
+    def test_they_take_their_own_client_alone(self):
+        context = ssl.SSLContext(ssl.PROTOCOL_TLS_CLIENT)
+        context.check_hostname, context.verify_mode = False, ssl.CERT_NONE
+        workers = CLIENT.scheduler_info()["workers"]
+        secured = {CLIENT.scheduler.address, *workers, *(worker["nanny"] for worker in workers.values())}
+        secured = {int(address.removeprefix("tls://127.0.0.1:")) for address in secured}
+        self.assertEqual(len(secured), 2 * WORKERS + 1)
+        heard = [each for process in (os.getpid(), *CLIENT.run(os.getpid).values()) for each in listens_on(process)]
+        self.assertEqual({address for address, _ in heard}, {"0100007F"}, "127.0.0.1, as x86-64 writes it")
+        ports = {int(port, 16) for _, port in heard}
+        self.assertLess(secured, ports)
+        for port in ports:
+            if port in secured:
+                with self.assertRaises(ssl.SSLError) as refused, socket.create_connection(("127.0.0.1", port)) as plain, \
+                        context.wrap_socket(plain) as stranger:
+                    stranger.recv(1)
+                self.assertIn("CERTIFICATE_REQUIRED", refused.exception.reason)
+            else:
+                for page in ("/", "/health", "/metrics", "/info/main/workers.html", "/json/identity.json"):
+                    pages = http.client.HTTPConnection("127.0.0.1", port)
+                    pages.request("GET", page)
+                    self.assertEqual(pages.getresponse().status, 404, page)
+                    pages.close()
+        with self.assertRaises(OSError):
+            distributed.Client(CLIENT.scheduler.address, security=distributed.Security.temporary(), timeout=PATIENCE)
+        status, out, errors = said(heavy.main, STREAM, "--scheduler", CLIENT.scheduler.address.replace("tls", "tcp"))
+        self.assertEqual((status, out), (1, ""))
+        self.assertRegex(errors, "^heavy.py: .*127.0.0.1.*\n$")
 
 
 class Tests(unittest.TestCase):
     def here(self, command, *words):
-        """What a command writes and complains of that uses the workers of all tests."""
+        """Returns what a command prints, and its error, that uses the workers of all tests."""
         return said(command, *words, "--scheduler", CLIENT.scheduler.address, "--parts", str(PARTS))
 
     def found(self, command, *words):
@@ -88,10 +125,10 @@ class Tests(unittest.TestCase):
         return json.loads(out)
 
     def refused(self, command, *words):
-        """The complaint of a command that has no answer."""
+        """Returns the error of a command that has no answer, which is one line."""
         status, out, errors = self.here(command, *words)
-        self.assertEqual((status, out), (1, ""))
-        return errors.rstrip().split("\n")[-1]
+        self.assertEqual((status, out, errors.count("\n")), (1, "", 1))
+        return errors.removesuffix("\n")
 
     def check(self, image):
         """All that is promised of frequent items, of the sketch of the whole stream."""
@@ -197,6 +234,9 @@ class Heaviest(Tests):
         self.assertEqual((found["total"], found["error"], found["more"]), (4950, 0, 0))
         status, out, _ = self.here(heavy.main, path, "--column", "page")
         self.assertEqual((status, out.count("14"), out.count("15")), (0, 5, 2))
+        equal = self.found(heavy.main, path, "--column", "page", "--threshold", "14")
+        self.assertEqual({each["item"] for each in equal["items"]}, {"p0", "p1"}, "an item of 14 is not above 14")
+        self.assertEqual(equal["complete_above"], 14)
         self.assertIn("a weight of 100 in ", out)
         self.assertIn("Each weight lies between its bounds, 0 apart, and no item above 0 is missing.", out)
 
@@ -204,20 +244,42 @@ class Heaviest(Tests):
         bad = write(FOLDER, "bad.txt", b"good\n" * 3000 + b"b\xe4d\n")
         rows = write(FOLDER, "bad.csv", "page,bytes\n" + "a,1\n" * 5000 + "a,many\n")
         none = os.path.join(FOLDER, "missing")
-        self.assertEqual(self.refused(heavy.main, STREAM, bad), f"heavy.py: {bad}, line 3001: not UTF-8")
+        self.assertEqual(self.refused(heavy.main, STREAM, bad), f"heavy.py: {bad}, line at byte 15000: not UTF-8")
         self.assertEqual(self.refused(heavy.main, rows, "--column", "page", "--weight", "bytes"),
-                         f"heavy.py: {rows}, line 5002: the weight 'many' is no whole number from 0 to 18446744073709551615")
+                         f"heavy.py: {rows}, line at byte 20011: the weight 'many' is no whole number from 0 to 18446744073709551615")
         self.assertEqual(self.refused(heavy.main, STREAM, none), f"heavy.py: {none}: No such file or directory")
         self.assertIn("MapSizeNotPowerOfTwo", self.refused(heavy.main, STREAM, "--size", "65"))
         heaviest = write(FOLDER, "heavy.csv", f"page,bytes\na,{2**64 - 1}\nb,1\n")
         self.assertIn("WeightOverflow", self.refused(heavy.main, heaviest, "--column", "page", "--weight", "bytes"))
+
+    def test_an_error_comes_once(self):
+        bad = write(FOLDER, "bad.txt", b"b\xe4d\n" * 1000)
+        done = subprocess.run([sys.executable, heavy.__file__, bad, "--parts", "8", "--workers", "2"],
+                              capture_output=True, text=True, timeout=2 * PATIENCE, check=False)
+        self.assertEqual((done.returncode, done.stdout), (1, ""))
+        self.assertRegex(done.stderr, rf"^heavy.py: {bad}, line at byte \d+: not UTF-8\n$")
+
+    def test_a_file_that_changes(self):
+        for shape in (Heavy(SIZE), Traffic(4, 500)):
+            path = write(FOLDER, "grows.txt", "a\n" * 100)
+            image = engine.merged(shape, engine.sketches(shape, engine.cut_files([path], PARTS)), 4)
+            write(FOLDER, "grows.txt", "a\n" * 99)
+            with self.assertRaisesRegex(sketch_parts.BadInput, "cut from 200 bytes of .*; read from 198 bytes of "):
+                engine.answer(CLIENT, image)
+
+    def test_compressed(self):
+        path = write(FOLDER, "stream.txt.gz", gzip.compress(Path(STREAM).read_bytes()))
+        found = self.found(heavy.main, "--words", path, STREAM, "--top", "1")
+        (item, weight), = WEIGHTS.most_common(1)
+        self.assertEqual((found["total"], found["items"][0]["item"]), (2 * len(WORDS), item))
+        self.assertTrue(found["items"][0]["lower"] <= 2 * weight <= found["items"][0]["upper"])
 
     def test_nothing_to_count(self):
         empty = write(FOLDER, "empty.txt", "")
         found = self.found(heavy.main, empty, empty)
         self.assertEqual((found["total"], found["items"], found["parts"]), (0, [], 2))
         status, out, _ = self.here(heavy.main, empty)
-        self.assertEqual((status, out.split("\n")[1]), (0, "no item weighs more than the threshold"))
+        self.assertEqual((status, out.split("\n")[1]), (0, "no item has an upper bound above the threshold and the error"))
 
     def test_one_command_with_workers_of_its_own(self):
         done = subprocess.run([sys.executable, heavy.__file__, "--words", STREAM, "--workers", "2", "--top", "3"],
@@ -249,7 +311,7 @@ class Weighed(Tests):
         found = self.found(*words, "--signed")
         exact = sum(size for host, size in rows if host == "host3")
         self.assertEqual((found["keys"], found["total"]), ([{"key": "host3", "estimate": exact}], sum(abs(n) for _, n in rows)))
-        self.assertRegex(self.refused(*words), r"signed.csv, line \d+: the weight '-\d+' is no whole number from 0 to \d+$")
+        self.assertRegex(self.refused(*words), r"signed.csv, line at byte \d+: the weight '-\d+' is no whole number from 0 to \d+$")
         self.assertEqual(self.refused(traffic.main, path), "traffic.py: no key is asked for: --ask KEY, or --ask-file FILE")
         status, out, _ = self.here(*words[:4], "--ask", "host3")
         self.assertEqual((status, "host3" in out, "at most 60" in out), (0, True, True))
@@ -278,7 +340,8 @@ class Kept(Tests):
         self.assertEqual(kept, [line for line in lines if line in set(kept)], "lines stand as they were")
         self.assertLess(len(kept), 2000 + 4000 // 20)
         self.assertEqual(found["files"], [{"file": path, "lines": 6000, "kept": len(kept)}])
-        self.assertEqual((found["keys"], found["bits"], found["hashes"]), (2000, 16285, 6))
+        bits = ds.BloomFilter.suggest_bits(2000, 50)
+        self.assertEqual((found["keys"], found["bits"], found["hashes"]), (2000, bits, ds.BloomFilter.suggest_hashes(bits, 2000)))
 
     def test_keys_of_a_column(self):
         keys = write(FOLDER, "keys.csv", "id,name\n1,apple\n2,pear\n")
@@ -289,6 +352,120 @@ class Kept(Tests):
         status, out, _ = self.here(*words)
         self.assertEqual((status, "2 of 3 lines kept" in out, "0 of 0 lines kept" in out), (0, True, True))
         self.assertEqual(self.refused(seen.main, keys + ".not", lines), f"seen.py: {keys}.not: No such file or directory")
+
+    def test_what_is_written(self):
+        keys = write(FOLDER, "keys.txt", "apple\npear\n")
+        lines = write(FOLDER, "fruit.txt", "apple\nplum\npear\n")
+        packed = write(FOLDER, "more.txt.gz", gzip.compress(b"pear\n"))
+        folder = Path(FOLDER, "written")
+        words = (seen.main, keys, lines, packed, "--one-in", "1000000", "--write", str(folder))
+
+        def there():
+            return {path.name: path.read_text(encoding="utf-8") for path in folder.iterdir()}
+
+        parts = self.found(*words)["parts"]
+        self.assertEqual((parts > 2, len(there())), (True, parts), "one file a part, and nothing else")
+        self.assertEqual("".join(there()[name] for name in sorted(there())), "apple\npear\npear\n")
+        self.assertEqual(there()[f"{parts - 1:06}-more.txt"], "pear\n")
+        before = there()
+        self.assertIn("--overwrite replaces", self.refused(*words))
+        bad = write(FOLDER, "bad.txt", b"apple\n" * 500 + b"b\xe4d\n")
+        self.assertIn("not UTF-8", self.refused(seen.main, keys, lines, bad, "--write", str(folder), "--overwrite"))
+        self.assertEqual(there(), before, "a job that fails leaves the folder as it was")
+        self.found(seen.main, keys, packed, "--write", str(folder), "--overwrite")
+        self.assertEqual(there(), {"000000-more.txt": "pear\n"}, "what was replaced is gone")
+        (folder / "notes").write_text("mine")
+        before = there()
+        self.assertIn("notes was not written by this command", self.refused(*words, "--overwrite"))
+        self.assertEqual(there(), before)
+        self.assertEqual(self.refused(seen.main, keys, lines, "--overwrite"), "seen.py: --overwrite needs --write FOLDER")
+
+    def test_a_file_that_comes_while_a_job_runs(self):
+        keys = write(FOLDER, "keys.txt", "apple\n")
+        folder = Path(FOLDER, "busy")
+
+        def answer(client, wanted):
+            (folder / "000000-keys.txt").write_text("mine")
+            return future(client, wanted)
+
+        future = engine.answer
+        with mock.patch.object(engine, "answer", answer):
+            self.assertIn("--overwrite replaces", self.refused(seen.main, keys, keys, "--write", str(folder)))
+        self.assertEqual([path.read_text() for path in folder.iterdir()], ["mine"])
+
+    def test_a_part_that_is_done_twice(self):
+        path = write(FOLDER, "twice.txt", "apple\n")
+        target = os.path.join(FOLDER, "000000-twice.txt")
+        shape = Seen(64, 1)
+        image = sketch_part(shape, sketch_parts.whole(path))
+        with mock.patch.object(sketch_parts.os, "replace") as replace:
+            for _ in range(2):
+                self.assertEqual(sketch_parts.filter_part(shape, image, sketch_parts.whole(path), target), (1, 1))
+        (one, _), (two, _) = [call.args for call in replace.call_args_list]
+        self.assertEqual({Path(one).read_text(), Path(two).read_text()}, {"apple\n"})
+        self.assertEqual((len({one, two, target}), {os.path.dirname(one), os.path.dirname(two)}), (3, {FOLDER}))
+
+
+class Limits(Tests):
+    def test_what_no_worker_takes_is_refused_before_work(self):
+        with mock.patch.object(engine, "connect", side_effect=AssertionError("workers are started")), \
+                mock.patch.object(sketch_parts, "open_file", side_effect=AssertionError("a file is read")):
+            for command, fault, *words in ((heavy.main, "MapSizeNotPowerOfTwo", "--size", "65"),
+                                           (heavy.main, "MapSizeTooLarge", "--size", str(2**62)),
+                                           (traffic.main, "TableTooLarge", "--ask", "x", "--buckets", str(2**31)),
+                                           (traffic.main, "hashes", "--ask", "x", "--hashes", "300"),
+                                           (traffic.main, "surrogates", "--ask", "\udcff")):
+                self.assertIn(fault, self.refused(command, STREAM, *words))
+            for command, *words in ((heavy.main, "--threshold", "-1"), (heavy.main, "--threshold", str(2**64)),
+                                    (heavy.main, "--size", str(2**63)), (heavy.main, "--fan-in", "1"),
+                                    (seen.main, STREAM, "--one-in", str(2**63))):
+                with self.assertRaises(SystemExit) as refused, contextlib.redirect_stderr(io.StringIO()):
+                    command([STREAM, *words])
+                self.assertEqual(refused.exception.code, 2)
+
+    def test_no_limit_is_below_an_own_sketch(self):
+        for shape in (Traffic(1, (1 << 27) + 1), Seen((1 << 33) + 1, 1)):
+            image = bytes(shape.empty())
+            with self.assertRaises(ds.SketchError) as refused:
+                type(shape.empty()).from_bytes(image)
+            self.assertEqual(refused.exception.fault, "TableTooLarge", "more than the package reads if no limit is given")
+            shape.read(image)
+
+
+class Ends(unittest.TestCase):
+    """How a command ends."""
+
+    def ended(self, output):
+        """Returns the exit status and the error of a command that prints an answer to a file."""
+        code = "import sketch_engine, sys; sys.exit(sketch_engine.run('job', lambda: {'a': 1}, print, True))"
+        env = {**os.environ, "PYTHONPATH": os.pathsep.join(sys.path)}
+        done = subprocess.run([sys.executable, "-c", code], stdout=output, stderr=subprocess.PIPE, text=True, env=env,
+                              timeout=PATIENCE, check=False)
+        return done.returncode, done.stderr
+
+    def test_a_reader_that_has_enough(self):
+        reader, writer = os.pipe()
+        os.close(reader)
+        with open(writer, "wb") as output:
+            self.assertEqual(self.ended(output), (1, ""))
+
+    def test_a_disk_that_is_full(self):
+        with open("/dev/full", "wb") as output:
+            self.assertEqual(self.ended(output), (1, "job: [Errno 28] No space left on device\n"))
+
+    def test_a_package_that_is_not_there(self):
+        with mock.patch.dict(sys.modules, {"cryptography": None}):
+            status, out, errors = said(heavy.main, STREAM)
+        self.assertEqual((status, out), (1, ""))
+        self.assertRegex(errors, "^heavy.py: not installed here or on a worker: .*`cryptography`.*\n$")
+
+    def test_a_scheduler_that_does_not_answer(self):
+        class Older(Exception):
+            """As Python 3.10 has it: no OSError."""
+
+        with mock.patch.object(asyncio, "TimeoutError", Older):
+            status, out, errors = said(lambda words: engine.run("job", mock.Mock(side_effect=Older("no workers")), print, True))
+        self.assertEqual((status, out, errors), (1, "", "job: the scheduler or its workers did not answer in time: no workers\n"))
 
 
 if __name__ == "__main__":
