@@ -2,9 +2,20 @@
 #include "sketches.h"
 
 /* A call by the kind of the sketch's weights. */
-#define BY_SIGN(self, call, ...) \
-    ((self)->with_sign ? ds_count_i64_##call(&(self)->handle, __VA_ARGS__) \
-                       : ds_count_u64_##call(&(self)->handle, __VA_ARGS__))
+#define BY_SIGN(with_sign, call, ...) ((with_sign) ? ds_count_i64_##call(__VA_ARGS__) : ds_count_u64_##call(__VA_ARGS__))
+
+/* A new object that owns the handle's sketch, which has these numbers, or NULL. */
+static PyObject *count_of(PyTypeObject *type, ds_sketch *made, bool with_sign, const ds_count_numbers *numbers)
+{
+    Sketch *self = sketch_of(type, made);
+    if (self == NULL)
+        return NULL;
+    self->hashes = numbers->num_hashes;
+    self->buckets = numbers->num_buckets;
+    self->seed = numbers->seed;
+    self->with_sign = with_sign;
+    return (PyObject *)self;
+}
 
 static PyObject *count_new(PyTypeObject *type, PyObject *args, PyObject *keywords)
 {
@@ -18,19 +29,18 @@ static PyObject *count_new(PyTypeObject *type, PyObject *args, PyObject *keyword
     if (!natural_of(hashes_object, "hashes", &hashes) || !natural_of(buckets_object, "buckets", &buckets) ||
         (seed_object != NULL && !natural_of(seed_object, "seed", &seed)))
         return NULL;
-    Sketch *self = sketch_alloc(type);
-    if (self == NULL)
-        return NULL;
-    /* What is past a type is given as a number that the library refuses for the same reason. */
-    self->hashes = hashes > UINT8_MAX ? 0 : (uint8_t)hashes;
-    self->buckets = buckets > UINT32_MAX ? UINT32_MAX : (uint32_t)buckets;
-    self->seed = seed;
-    self->with_sign = with_sign != 0;
-    int32_t answer = BY_SIGN(self, new, self->hashes, self->buckets, seed);
-    if (answer >= 0)
-        return (PyObject *)self;
-    Py_DECREF(self);
-    return refuse(answer);
+    /* What is past a type is given as a number that the library rejects for the same reason. */
+    ds_count_numbers numbers = {
+        .num_hashes = hashes > UINT8_MAX ? 0 : (uint8_t)hashes,
+        .num_buckets = buckets > UINT32_MAX ? UINT32_MAX : (uint32_t)buckets,
+        .seed = seed,
+    };
+    ds_sketch made = DS_NONE;
+    int32_t answer;
+    Py_BEGIN_ALLOW_THREADS
+    answer = BY_SIGN(with_sign, new, &made, numbers.num_hashes, numbers.num_buckets, seed);
+    Py_END_ALLOW_THREADS
+    return answer < 0 ? refuse(answer) : count_of(type, &made, with_sign != 0, &numbers);
 }
 
 PyDoc_STRVAR(halve_doc,
@@ -44,8 +54,10 @@ PyDoc_STRVAR(halve_doc,
 "49\n");
 
 /* Signed weights do not age: the library has no call for them. */
-static bool ages(const Sketch *self)
+static bool ages(Sketch *self)
 {
+    if (!sketch_ready(self))
+        return false;
     if (self->with_sign)
         PyErr_SetString(PyExc_TypeError, "a sketch of signed weights is not halved or decayed");
     return !self->with_sign;
@@ -53,14 +65,7 @@ static bool ages(const Sketch *self)
 
 static PyObject *count_halve(PyObject *object, PyObject *Py_UNUSED(unused))
 {
-    Sketch *self = (Sketch *)object;
-    if (!ages(self) || !sketch_lock(self))
-        return NULL;
-    int32_t answer = ds_count_u64_halve(&self->handle);
-    sketch_unlock(self);
-    if (answer < 0)
-        return refuse(answer);
-    Py_RETURN_NONE;
+    return ages((Sketch *)object) ? sketch_change((Sketch *)object, ds_count_u64_halve) : NULL;
 }
 
 PyDoc_STRVAR(decay_doc,
@@ -83,46 +88,47 @@ static PyObject *count_decay(PyObject *object, PyObject *const *args, Py_ssize_t
     if (!ages(self) || !natural_of(args[0], "numerator", &numerator) || !natural_of(args[1], "denominator", &denominator) ||
         !sketch_lock(self))
         return NULL;
-    int32_t answer = ds_count_u64_decay(&self->handle, numerator, denominator);
+    int32_t answer;
+    BATCH_BEGIN(self)
+    answer = ds_count_u64_decay(&self->handle, numerator, denominator);
+    BATCH_END(self)
     sketch_unlock(self);
     if (answer < 0)
         return refuse(answer);
     Py_RETURN_NONE;
 }
 
-static PyObject *count_copy(PyObject *object, PyObject *Py_UNUSED(memo))
+static bool are_counts(PyObject *first, PyObject *second)
 {
-    return (PyObject *)sketch_copy((Sketch *)object);
+    return PyObject_TypeCheck(first, &count_type) && PyObject_TypeCheck(second, &count_type);
+}
+
+/* The library's merge for two sketches, or NULL, with an error set, if there is none. */
+static of_two merge_of(PyObject *first, PyObject *second)
+{
+    Sketch *self = (Sketch *)first, *other = (Sketch *)second;
+    if (!sketch_ready(self) || !sketch_ready(other))
+        return NULL;
+    if (self->with_sign == other->with_sign)
+        return self->with_sign ? (ds_count_i64_merge) : (ds_count_u64_merge);
+    PyErr_SetString(PyExc_ValueError, "one sketch has signed weights, and the other has not");
+    return NULL;
 }
 
 static PyObject *count_add_into(PyObject *first, PyObject *second)
 {
-    if (!PyObject_TypeCheck(first, &count_type) || !PyObject_TypeCheck(second, &count_type))
+    if (!are_counts(first, second))
         Py_RETURN_NOTIMPLEMENTED;
-    if (((Sketch *)first)->with_sign != ((Sketch *)second)->with_sign) {
-        PyErr_SetString(PyExc_ValueError, "one sketch has signed weights, and the other has not");
-        return NULL;
-    }
-    PyObject *other = first == second ? count_copy(second, NULL) : Py_NewRef(second);
-    if (other == NULL || !sketch_lock_both((Sketch *)first, (Sketch *)other)) {
-        Py_XDECREF(other);
-        return NULL;
-    }
-    int32_t answer = BY_SIGN((Sketch *)first, merge, &((Sketch *)other)->handle);
-    sketch_unlock((Sketch *)first);
-    sketch_unlock((Sketch *)other);
-    Py_DECREF(other);
-    return answer < 0 ? refuse(answer) : Py_NewRef(first);
+    of_two merge = merge_of(first, second);
+    return merge != NULL ? sketch_join((Sketch *)first, (Sketch *)second, merge) : NULL;
 }
 
 static PyObject *count_add(PyObject *first, PyObject *second)
 {
-    if (!PyObject_TypeCheck(first, &count_type) || !PyObject_TypeCheck(second, &count_type))
+    if (!are_counts(first, second))
         Py_RETURN_NOTIMPLEMENTED;
-    PyObject *copy = count_copy(first, NULL);
-    PyObject *result = copy != NULL ? count_add_into(copy, second) : NULL;
-    Py_XDECREF(copy);
-    return result;
+    of_two merge = merge_of(first, second);
+    return merge != NULL ? sketch_joined((Sketch *)first, (Sketch *)second, merge) : NULL;
 }
 
 static PyObject *count_repr(PyObject *object)
@@ -150,21 +156,21 @@ static PyObject *count_number(PyObject *object, void *which)
 
 static PyObject *count_signed(PyObject *object, void *Py_UNUSED(unused))
 {
-    return PyBool_FromLong(((Sketch *)object)->with_sign);
+    return sketch_ready((Sketch *)object) ? PyBool_FromLong(((Sketch *)object)->with_sign) : NULL;
 }
 
 static bool count_numbers_of(Sketch *self, ds_count_numbers *numbers)
 {
     if (!sketch_lock(self))
         return false;
-    int32_t answer = BY_SIGN(self, status, numbers);
+    int32_t answer = BY_SIGN(self->with_sign, status, &self->handle, numbers);
     sketch_unlock(self);
     return answer >= 0 || refuse(answer) != NULL;
 }
 
 PyDoc_STRVAR(count_to_bytes_doc,
 "to_bytes($self, /)\n--\n\n"
-"The sketch's image, as `bytes(load)`.\n\n"
+"Return the sketch's image, as `bytes(load)` does.\n\n"
 ">>> import datasketches_rattle as ds\n"
 ">>> len(ds.CountMin(hashes=4, buckets=128).to_bytes())\n"
 "16\n");
@@ -181,9 +187,10 @@ static PyObject *count_to_bytes(PyObject *object, PyObject *Py_UNUSED(unused))
 
 PyDoc_STRVAR(count_from_bytes_doc,
 "from_bytes($type, image, seed=9001, limit=1073741824, signed=False)\n--\n\n"
-"The sketch of an image, which may come from anywhere, read under the seed of the sketch that was written, and with\n"
-"signed weights where that had them: an image does not say it.\n\n"
-"An image whose sketch would take more than `limit` bytes is refused by 'TableTooLarge'; None is no limit.\n\n"
+"Return the sketch of an image, which may be untrusted. An image does not have the seed, nor whether weights are signed:\n"
+"give those of the sketch that was written.\n\n"
+"Raise 'TableTooLarge' if the sketch would take more than `limit` bytes; None is no limit. Bytes are read in place, and any\n"
+"other buffer is copied first, up to the limit.\n\n"
 ">>> import datasketches_rattle as ds\n"
 ">>> load = ds.CountMin(hashes=4, buckets=128)\n"
 ">>> load.update(7, 30)\n"
@@ -193,35 +200,31 @@ PyDoc_STRVAR(count_from_bytes_doc,
 static PyObject *count_from_bytes(PyObject *type, PyObject *args, PyObject *keywords)
 {
     static char *names[] = {"image", "seed", "limit", "signed", NULL};
-    Py_buffer image;
+    Image image = {0};
     PyObject *limit_object = NULL, *seed_object = NULL;
     uint64_t seed = DEFAULT_SEED;
     size_t limit = DEFAULT_LIMIT;
     int with_sign = false;
-    if (!PyArg_ParseTupleAndKeywords(args, keywords, "y*|OOp:from_bytes", names, &image, &seed_object, &limit_object,
+    if (!PyArg_ParseTupleAndKeywords(args, keywords, "y*|OOp:from_bytes", names, &image.view, &seed_object, &limit_object,
                                      &with_sign))
         return NULL;
-    Sketch *self = NULL;
-    if ((seed_object == NULL || natural_of(seed_object, "seed", &seed)) && limit_of(limit_object, &limit))
-        self = sketch_alloc((PyTypeObject *)type);
-    ds_count_numbers numbers;
+    bool ready = (seed_object == NULL || natural_of(seed_object, "seed", &seed)) && limit_of(limit_object, &limit) &&
+                 image_take(&image, limit);
+    ds_sketch made = DS_NONE;
+    ds_count_numbers numbers = {0};
     int32_t answer = DS_OK;
-    if (self != NULL) {
-        self->with_sign = with_sign != 0;
-        answer = BY_SIGN(self, from_bytes, image.buf, (size_t)image.len, seed, limit);
+    if (ready) {
+        Py_BEGIN_ALLOW_THREADS
+        answer = BY_SIGN(with_sign, from_bytes, &made, image.bytes, image.length, seed, limit);
+        if (answer >= 0)
+            answer = BY_SIGN(with_sign, status, &made, &numbers);
+        Py_END_ALLOW_THREADS
+        answer = image_answer(&image, answer);
     }
-    PyBuffer_Release(&image);
-    if (self != NULL && answer >= 0)
-        answer = BY_SIGN(self, status, &numbers);
-    if (self != NULL && answer >= 0) {
-        self->hashes = numbers.num_hashes;
-        self->buckets = numbers.num_buckets;
-        self->seed = numbers.seed;
-    }
-    if (answer >= 0)
-        return (PyObject *)self;
-    Py_DECREF(self);
-    return refuse_image(answer);
+    image_release(&image);
+    if (answer < 0)
+        return refuse_image(answer);
+    return ready ? count_of((PyTypeObject *)type, &made, with_sign != 0, &numbers) : NULL;
 }
 
 static PyObject *count_reduce(PyObject *object, PyObject *Py_UNUSED(unused))
@@ -231,17 +234,26 @@ static PyObject *count_reduce(PyObject *object, PyObject *Py_UNUSED(unused))
         return NULL;
     Sketch *self = (Sketch *)object;
     PyObject *with_sign = self->with_sign ? Py_True : Py_False;
-    return reduce_to(object, Py_BuildValue("NKOO", image, (unsigned long long)self->seed, Py_None, with_sign));
+    return sketch_reduce(object, Py_BuildValue("(NKO)", image, (unsigned long long)self->seed, with_sign));
 }
 
-/* Equal are two sketches with one seed and one image, and weights of one type. */
+static PyObject *count_unpickle(PyObject *type, PyObject *args)
+{
+    static const char *const names[] = {"image", "seed", "signed", NULL};
+    return sketch_unpickle(type, args, names, count_from_bytes);
+}
+
+/* Sketches with weights of different types are unequal. */
 static PyObject *count_compare(PyObject *first, PyObject *second, int operation)
 {
     if ((operation != Py_EQ && operation != Py_NE) || !PyObject_TypeCheck(second, &count_type))
         Py_RETURN_NOTIMPLEMENTED;
-    if (((Sketch *)first)->seed != ((Sketch *)second)->seed || ((Sketch *)first)->with_sign != ((Sketch *)second)->with_sign)
+    Sketch *self = (Sketch *)first, *other = (Sketch *)second;
+    if (!sketch_ready(self) || !sketch_ready(other))
+        return NULL;
+    if (self->with_sign != other->with_sign)
         return PyBool_FromLong(operation == Py_NE);
-    return compare_images(count_to_bytes(first, NULL), count_to_bytes(second, NULL), operation);
+    return sketch_equal(self, other, self->with_sign ? (ds_count_i64_equal) : (ds_count_u64_equal), operation);
 }
 
 static PyObject *count_total(PyObject *object, void *Py_UNUSED(unused))
@@ -271,11 +283,13 @@ static PyMethodDef count_methods[] = {
     {"from_bytes", FAST(count_from_bytes), METH_CLASS | METH_VARARGS | METH_KEYWORDS, count_from_bytes_doc},
     {"__bytes__", count_to_bytes, METH_NOARGS, NULL},
     {"__reduce__", count_reduce, METH_NOARGS, NULL},
+    {"_unpickle", count_unpickle, METH_CLASS | METH_VARARGS, NULL},
+    {"__sizeof__", sketch_sizeof, METH_NOARGS, sketch_sizeof_doc},
     SUGGESTS("suggest_buckets", count_suggest_buckets),
     SUGGESTS("suggest_hashes", count_suggest_hashes),
-    {"close", sketch_close, METH_NOARGS, "close($self, /)\n--\n\nGive the memory back. The sketch is of no use then."},
-    {"__copy__", count_copy, METH_NOARGS, NULL},
-    {"__deepcopy__", count_copy, METH_O, NULL},
+    {"close", sketch_close, METH_NOARGS, "close($self, /)\n--\n\nFree the memory. What uses the sketch then raises ValueError; a second close does nothing."},
+    {"__copy__", sketch_copy, METH_NOARGS, NULL},
+    {"__deepcopy__", sketch_deepcopy, METH_O, NULL},
     {"__enter__", sketch_enter, METH_NOARGS, NULL},
     {"__exit__", sketch_exit, METH_VARARGS, NULL},
     {NULL, NULL, 0, NULL},

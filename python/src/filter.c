@@ -21,20 +21,19 @@ static PyObject *filter_new(PyTypeObject *type, PyObject *args, PyObject *keywor
     if (!natural_of(bits_object, "bits", &bits) || !natural_of(hashes_object, "hashes", &hashes) ||
         (seed_object != NULL && !natural_of(seed_object, "seed", &seed)))
         return NULL;
-    Sketch *self = sketch_alloc(type);
-    if (self == NULL)
-        return NULL;
     /* A number of hashes past the type is past the library's range as well. */
-    int32_t answer = ds_filter_new(&self->handle, bits, hashes > UINT16_MAX ? UINT16_MAX : (uint16_t)hashes, seed);
-    if (answer >= 0)
-        return (PyObject *)self;
-    Py_DECREF(self);
-    return refuse(answer);
+    uint16_t few = hashes > UINT16_MAX ? UINT16_MAX : (uint16_t)hashes;
+    ds_sketch made = DS_NONE;
+    int32_t answer;
+    Py_BEGIN_ALLOW_THREADS
+    answer = ds_filter_new(&made, bits, few, seed);
+    Py_END_ALLOW_THREADS
+    return answer < 0 ? refuse(answer) : (PyObject *)sketch_of(type, &made);
 }
 
 PyDoc_STRVAR(reset_doc,
 "reset($self, /)\n--\n\n"
-"Take all items out. The filter keeps its size.\n\n"
+"Remove all items. The filter keeps its size.\n\n"
 ">>> import datasketches_rattle as ds\n"
 ">>> seen = ds.BloomFilter(bits=1024, hashes=5)\n"
 ">>> seen.insert('apple')\n"
@@ -44,48 +43,26 @@ PyDoc_STRVAR(reset_doc,
 
 static PyObject *filter_reset(PyObject *object, PyObject *Py_UNUSED(unused))
 {
-    Sketch *self = (Sketch *)object;
-    if (!sketch_lock(self))
-        return NULL;
-    int32_t answer = ds_filter_reset(&self->handle);
-    sketch_unlock(self);
-    if (answer < 0)
-        return refuse(answer);
-    Py_RETURN_NONE;
+    return sketch_change((Sketch *)object, ds_filter_reset);
 }
 
-static PyObject *filter_copy(PyObject *object, PyObject *Py_UNUSED(memo))
+static bool are_filters(PyObject *first, PyObject *second)
 {
-    return (PyObject *)sketch_copy((Sketch *)object);
+    return PyObject_TypeCheck(first, &filter_type) && PyObject_TypeCheck(second, &filter_type);
 }
 
-typedef int32_t (*joiner)(ds_sketch *, ds_sketch *);
-
-/* Joins the other filter into the first, which may be the same, and answers the first. */
-static PyObject *join_into(PyObject *first, PyObject *second, joiner join)
+static PyObject *join_into(PyObject *first, PyObject *second, of_two join)
 {
-    if (!PyObject_TypeCheck(first, &filter_type) || !PyObject_TypeCheck(second, &filter_type))
+    if (!are_filters(first, second))
         Py_RETURN_NOTIMPLEMENTED;
-    PyObject *other = first == second ? filter_copy(second, NULL) : Py_NewRef(second);
-    if (other == NULL || !sketch_lock_both((Sketch *)first, (Sketch *)other)) {
-        Py_XDECREF(other);
-        return NULL;
-    }
-    int32_t answer = join(&((Sketch *)first)->handle, &((Sketch *)other)->handle);
-    sketch_unlock((Sketch *)first);
-    sketch_unlock((Sketch *)other);
-    Py_DECREF(other);
-    return answer < 0 ? refuse(answer) : Py_NewRef(first);
+    return sketch_join((Sketch *)first, (Sketch *)second, join);
 }
 
-static PyObject *joined(PyObject *first, PyObject *second, joiner join)
+static PyObject *joined(PyObject *first, PyObject *second, of_two join)
 {
-    if (!PyObject_TypeCheck(first, &filter_type) || !PyObject_TypeCheck(second, &filter_type))
+    if (!are_filters(first, second))
         Py_RETURN_NOTIMPLEMENTED;
-    PyObject *copy = filter_copy(first, NULL);
-    PyObject *result = copy != NULL ? join_into(copy, second, join) : NULL;
-    Py_XDECREF(copy);
-    return result;
+    return sketch_joined((Sketch *)first, (Sketch *)second, join);
 }
 
 #define OPERATION(name, call) \
@@ -97,7 +74,7 @@ OPERATION(subtract, ds_filter_difference)
 
 PyDoc_STRVAR(to_bytes_doc,
 "to_bytes($self, /)\n--\n\n"
-"The filter's image, as `bytes(filter)`.\n\n"
+"Return the filter's image, as `bytes(filter)` does.\n\n"
 ">>> import datasketches_rattle as ds\n"
 ">>> len(ds.BloomFilter(bits=1024, hashes=5).to_bytes())\n"
 "24\n");
@@ -113,8 +90,9 @@ static PyObject *filter_to_bytes(PyObject *object, PyObject *Py_UNUSED(unused))
 
 PyDoc_STRVAR(from_bytes_doc,
 "from_bytes($type, image, limit=1073741824)\n--\n\n"
-"The filter of an image, which may come from anywhere.\n\n"
-"An image whose bits would take more than `limit` bytes is refused by 'TableTooLarge'; None is no limit.\n\n"
+"Return the filter of an image, which may be untrusted.\n\n"
+"Raise 'TableTooLarge' if its bits would take more than `limit` bytes; None is no limit. Bytes are read in place, and any\n"
+"other buffer is copied first, up to the limit.\n\n"
 ">>> import datasketches_rattle as ds\n"
 ">>> seen = ds.BloomFilter(bits=1024, hashes=5)\n"
 ">>> seen.insert('apple')\n"
@@ -124,33 +102,43 @@ PyDoc_STRVAR(from_bytes_doc,
 static PyObject *filter_from_bytes(PyObject *type, PyObject *args, PyObject *keywords)
 {
     static char *names[] = {"image", "limit", NULL};
-    Py_buffer image;
+    Image image = {0};
     PyObject *limit_object = NULL;
     size_t limit = DEFAULT_LIMIT;
-    if (!PyArg_ParseTupleAndKeywords(args, keywords, "y*|O:from_bytes", names, &image, &limit_object))
+    if (!PyArg_ParseTupleAndKeywords(args, keywords, "y*|O:from_bytes", names, &image.view, &limit_object))
         return NULL;
-    Sketch *self = limit_of(limit_object, &limit) ? sketch_alloc((PyTypeObject *)type) : NULL;
+    bool ready = limit_of(limit_object, &limit) && image_take(&image, limit);
+    ds_sketch made = DS_NONE;
     int32_t answer = DS_OK;
-    if (self != NULL)
-        answer = ds_filter_from_bytes(&self->handle, image.buf, (size_t)image.len, limit);
-    PyBuffer_Release(&image);
-    if (answer >= 0)
-        return (PyObject *)self;
-    Py_DECREF(self);
-    return refuse_image(answer);
+    if (ready) {
+        Py_BEGIN_ALLOW_THREADS
+        answer = ds_filter_from_bytes(&made, image.bytes, image.length, limit);
+        Py_END_ALLOW_THREADS
+        answer = image_answer(&image, answer);
+    }
+    image_release(&image);
+    if (answer < 0)
+        return refuse_image(answer);
+    return ready ? (PyObject *)sketch_of((PyTypeObject *)type, &made) : NULL;
 }
 
 static PyObject *filter_reduce(PyObject *object, PyObject *Py_UNUSED(unused))
 {
     PyObject *image = filter_to_bytes(object, NULL);
-    return image != NULL ? reduce_to(object, Py_BuildValue("NO", image, Py_None)) : NULL;
+    return image != NULL ? sketch_reduce(object, Py_BuildValue("(N)", image)) : NULL;
+}
+
+static PyObject *filter_unpickle(PyObject *type, PyObject *args)
+{
+    static const char *const names[] = {"image", NULL};
+    return sketch_unpickle(type, args, names, filter_from_bytes);
 }
 
 static PyObject *filter_compare(PyObject *first, PyObject *second, int operation)
 {
     if ((operation != Py_EQ && operation != Py_NE) || !PyObject_TypeCheck(second, &filter_type))
         Py_RETURN_NOTIMPLEMENTED;
-    return compare_images(filter_to_bytes(first, NULL), filter_to_bytes(second, NULL), operation);
+    return sketch_equal((Sketch *)first, (Sketch *)second, (ds_filter_equal), operation);
 }
 
 static PyObject *filter_repr(PyObject *object)
@@ -190,11 +178,13 @@ static PyMethodDef filter_methods[] = {
     {"from_bytes", (PyCFunction)(void (*)(void))filter_from_bytes, METH_CLASS | METH_VARARGS | METH_KEYWORDS, from_bytes_doc},
     SUGGESTS("suggest_bits", filter_suggest_bits),
     SUGGESTS("suggest_hashes", filter_suggest_hashes),
-    {"close", sketch_close, METH_NOARGS, "close($self, /)\n--\n\nGive the memory back. The filter is of no use then."},
+    {"close", sketch_close, METH_NOARGS, "close($self, /)\n--\n\nFree the memory. What uses the filter then raises ValueError; a second close does nothing."},
     {"__bytes__", filter_to_bytes, METH_NOARGS, NULL},
-    {"__copy__", filter_copy, METH_NOARGS, NULL},
-    {"__deepcopy__", filter_copy, METH_O, NULL},
+    {"__copy__", sketch_copy, METH_NOARGS, NULL},
+    {"__deepcopy__", sketch_deepcopy, METH_O, NULL},
     {"__reduce__", filter_reduce, METH_NOARGS, NULL},
+    {"_unpickle", filter_unpickle, METH_CLASS | METH_VARARGS, NULL},
+    {"__sizeof__", sketch_sizeof, METH_NOARGS, sketch_sizeof_doc},
     {"__enter__", sketch_enter, METH_NOARGS, NULL},
     {"__exit__", sketch_exit, METH_VARARGS, NULL},
     {NULL, NULL, 0, NULL},

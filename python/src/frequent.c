@@ -3,102 +3,123 @@
 
 #include <string.h>
 
-/* What `item` asks for: int or 'i64' for numbers with a sign, 'u64' for those without, and str for texts. */
-static bool kind_of(PyObject *kind, bool *with_sign, bool *with_texts)
+/* The library's calls for one type of items. */
+typedef struct {
+    const char *name;
+    bool with_sign;
+    bool with_texts;
+    int32_t (*make)(ds_sketch *, size_t, size_t);
+    of_two merge;
+    int32_t (*reset)(ds_sketch *);
+    int32_t (*status)(ds_sketch *, ds_frequent_numbers *);
+    image_writer to_bytes;
+    int32_t (*from_bytes)(ds_sketch *, const uint8_t *, size_t, size_t);
+} Kind;
+
+#define KIND(name, with_sign, with_texts, call) \
+    {name, with_sign, with_texts, ds_frequent_##call##_new, ds_frequent_##call##_merge, ds_frequent_##call##_reset, \
+     ds_frequent_##call##_status, ds_frequent_##call##_to_bytes, ds_frequent_##call##_from_bytes}
+
+static const Kind numbers_with_sign = KIND("i64", true, false, i64);
+static const Kind numbers_without_sign = KIND("u64", false, false, u64);
+static const Kind texts = KIND("str", false, true, text);
+
+static const Kind *kind_of(const Sketch *self)
 {
-    *with_sign = kind == NULL || kind == (PyObject *)&PyLong_Type;
-    *with_texts = kind == (PyObject *)&PyUnicode_Type;
-    if (*with_sign || *with_texts)
-        return true;
-    if (PyUnicode_Check(kind) && PyUnicode_CompareWithASCIIString(kind, "i64") == 0)
-        *with_sign = true;
-    else if (PyUnicode_Check(kind) && PyUnicode_CompareWithASCIIString(kind, "u64") == 0)
-        *with_sign = false;
-    else {
-        PyErr_SetString(PyExc_ValueError, "item is int, 'i64', 'u64' or str");
-        return false;
-    }
-    return true;
+    return self->with_texts ? &texts : self->with_sign ? &numbers_with_sign : &numbers_without_sign;
 }
 
-static int32_t make(const Sketch *self, ds_sketch *handle, uint64_t size, uint64_t sample)
+/* What `item` asks for: int or 'i64' for numbers with a sign, 'u64' for those without, and str for texts. NULL, with an error
+ * set, if it is none of these. */
+static const Kind *kind_named(PyObject *item)
 {
-    return self->with_texts  ? ds_frequent_text_new(handle, size, sample)
-           : self->with_sign ? ds_frequent_i64_new(handle, size, sample)
-                             : ds_frequent_u64_new(handle, size, sample);
+    if (item == (PyObject *)&PyUnicode_Type)
+        return &texts;
+    if (item == NULL || item == (PyObject *)&PyLong_Type)
+        return &numbers_with_sign;
+    if (PyUnicode_Check(item) && PyUnicode_CompareWithASCIIString(item, "i64") == 0)
+        return &numbers_with_sign;
+    if (PyUnicode_Check(item) && PyUnicode_CompareWithASCIIString(item, "u64") == 0)
+        return &numbers_without_sign;
+    PyErr_SetString(PyExc_ValueError, "item is int, 'i64', 'u64' or str");
+    return NULL;
 }
 
-static int32_t merge(const Sketch *self, ds_sketch *handle, ds_sketch *other)
+/* A new object that owns the handle's sketch, or NULL. */
+static PyObject *frequent_of(PyTypeObject *type, ds_sketch *made, const Kind *kind)
 {
-    return self->with_texts  ? ds_frequent_text_merge(handle, other)
-           : self->with_sign ? ds_frequent_i64_merge(handle, other)
-                             : ds_frequent_u64_merge(handle, other);
-}
-
-static int32_t status(Sketch *self, ds_frequent_numbers *numbers)
-{
-    return self->with_texts  ? ds_frequent_text_status(&self->handle, numbers)
-           : self->with_sign ? ds_frequent_i64_status(&self->handle, numbers)
-                             : ds_frequent_u64_status(&self->handle, numbers);
+    Sketch *self = sketch_of(type, made);
+    if (self == NULL)
+        return NULL;
+    self->with_sign = kind->with_sign;
+    self->with_texts = kind->with_texts;
+    return (PyObject *)self;
 }
 
 static PyObject *frequent_new(PyTypeObject *type, PyObject *args, PyObject *keywords)
 {
     static char *names[] = {"max_map_size", "item", "sample_size", NULL};
-    PyObject *size_object, *kind = NULL, *sample_object = Py_None;
+    PyObject *size_object, *item = NULL, *sample_object = Py_None;
     uint64_t size, sample;
-    bool with_sign, with_texts;
-    if (!PyArg_ParseTupleAndKeywords(args, keywords, "O|OO:FrequentItems", names, &size_object, &kind, &sample_object))
+    if (!PyArg_ParseTupleAndKeywords(args, keywords, "O|OO:FrequentItems", names, &size_object, &item, &sample_object))
         return NULL;
-    if (!natural_of(size_object, "max_map_size", &size) || !kind_of(kind, &with_sign, &with_texts))
+    const Kind *kind = natural_of(size_object, "max_map_size", &size) ? kind_named(item) : NULL;
+    if (kind == NULL)
         return NULL;
     if (sample_object == Py_None)
         sample = ds_greatest_sample(size);
     else if (!natural_of(sample_object, "sample_size", &sample))
         return NULL;
-    Sketch *self = sketch_alloc(type);
-    if (self == NULL)
-        return NULL;
-    self->with_sign = with_sign;
-    self->with_texts = with_texts;
-    int32_t answer = make(self, &self->handle, size, sample);
-    if (answer >= 0)
-        return (PyObject *)self;
-    Py_DECREF(self);
-    return refuse(answer);
+    ds_sketch made = DS_NONE;
+    int32_t answer = kind->make(&made, size, sample);
+    return answer < 0 ? refuse(answer) : frequent_of(type, &made, kind);
 }
 
-static PyObject *frequent_merge(PyObject *first, PyObject *second)
+static bool are_frequent(PyObject *first, PyObject *second)
 {
-    if (!PyObject_TypeCheck(first, &frequent_type) || !PyObject_TypeCheck(second, &frequent_type))
+    return PyObject_TypeCheck(first, &frequent_type) && PyObject_TypeCheck(second, &frequent_type);
+}
+
+/* The library's merge for two sketches, or NULL, with an error set, if there is none. */
+static of_two merge_of(PyObject *first, PyObject *second)
+{
+    if (!sketch_ready((Sketch *)first) || !sketch_ready((Sketch *)second))
+        return NULL;
+    if (kind_of((Sketch *)first) == kind_of((Sketch *)second))
+        return kind_of((Sketch *)first)->merge;
+    PyErr_SetString(PyExc_ValueError, "the sketches count items of different types");
+    return NULL;
+}
+
+static PyObject *frequent_add_into(PyObject *first, PyObject *second)
+{
+    if (!are_frequent(first, second))
         Py_RETURN_NOTIMPLEMENTED;
-    Sketch *self = (Sketch *)first, *other = (Sketch *)second;
-    if (self == other || self->with_sign != other->with_sign || self->with_texts != other->with_texts) {
-        PyErr_SetString(PyExc_ValueError, self == other ? "a sketch is not merged into itself"
-                                                        : "the sketches count items of different types");
-        return NULL;
-    }
-    if (!sketch_lock_both(self, other))
-        return NULL;
-    int32_t answer = merge(self, &self->handle, &other->handle);
-    sketch_unlock(self);
-    sketch_unlock(other);
-    return answer < 0 ? refuse(answer) : Py_NewRef(first);
-}
-
-static PyObject *frequent_copy(PyObject *object, PyObject *Py_UNUSED(memo))
-{
-    return (PyObject *)sketch_copy((Sketch *)object);
+    of_two merge = merge_of(first, second);
+    return merge != NULL ? sketch_join((Sketch *)first, (Sketch *)second, merge) : NULL;
 }
 
 static PyObject *frequent_add(PyObject *first, PyObject *second)
 {
-    if (!PyObject_TypeCheck(first, &frequent_type) || !PyObject_TypeCheck(second, &frequent_type))
+    if (!are_frequent(first, second))
         Py_RETURN_NOTIMPLEMENTED;
-    PyObject *copy = frequent_copy(first, NULL);
-    PyObject *result = copy != NULL ? frequent_merge(copy, second) : NULL;
-    Py_XDECREF(copy);
-    return result;
+    of_two merge = merge_of(first, second);
+    return merge != NULL ? sketch_joined((Sketch *)first, (Sketch *)second, merge) : NULL;
+}
+
+/* A sketch is equal to itself alone: the order of its items is open, and no call compares two. */
+static PyObject *frequent_compare(PyObject *first, PyObject *second, int operation)
+{
+    if ((operation != Py_EQ && operation != Py_NE) || !PyObject_TypeCheck(second, &frequent_type))
+        Py_RETURN_NOTIMPLEMENTED;
+    if (!sketch_ready((Sketch *)first) || !sketch_ready((Sketch *)second))
+        return NULL;
+    return PyBool_FromLong((first == second) == (operation == Py_EQ));
+}
+
+static Py_hash_t frequent_hash(PyObject *object)
+{
+    return PyBaseObject_Type.tp_hash(object);
 }
 
 static bool numbers_of(PyObject *object, ds_frequent_numbers *numbers)
@@ -106,14 +127,14 @@ static bool numbers_of(PyObject *object, ds_frequent_numbers *numbers)
     Sketch *self = (Sketch *)object;
     if (!sketch_lock(self))
         return false;
-    int32_t answer = status(self, numbers);
+    int32_t answer = kind_of(self)->status(&self->handle, numbers);
     sketch_unlock(self);
     return answer >= 0 || refuse(answer) != NULL;
 }
 
 PyDoc_STRVAR(reset_doc,
 "reset($self, /)\n--\n\n"
-"Forget all items. The sketch keeps its greatest size and its sample size.\n\n"
+"Remove all items. The sketch keeps its greatest size and its sample size.\n\n"
 ">>> import datasketches_rattle as ds\n"
 ">>> heavy = ds.FrequentItems(8)\n"
 ">>> heavy.update(7, 30)\n"
@@ -123,21 +144,12 @@ PyDoc_STRVAR(reset_doc,
 
 static PyObject *frequent_reset(PyObject *object, PyObject *Py_UNUSED(unused))
 {
-    Sketch *self = (Sketch *)object;
-    if (!sketch_lock(self))
-        return NULL;
-    int32_t answer = self->with_texts  ? ds_frequent_text_reset(&self->handle)
-                     : self->with_sign ? ds_frequent_i64_reset(&self->handle)
-                                       : ds_frequent_u64_reset(&self->handle);
-    sketch_unlock(self);
-    if (answer < 0)
-        return refuse(answer);
-    Py_RETURN_NONE;
+    return sketch_change((Sketch *)object, kind_of((Sketch *)object)->reset);
 }
 
 PyDoc_STRVAR(to_bytes_doc,
 "to_bytes($self, /)\n--\n\n"
-"The sketch's image, as `bytes(heavy)`. It has neither the type of its items nor the sample size.\n\n"
+"Return the sketch's image, as `bytes(heavy)` does. It has neither the type of the items nor the sample size.\n\n"
 ">>> import datasketches_rattle as ds\n"
 ">>> len(ds.FrequentItems(64).to_bytes())\n"
 "8\n");
@@ -147,80 +159,75 @@ static PyObject *frequent_to_bytes(PyObject *object, PyObject *Py_UNUSED(unused)
     Sketch *self = (Sketch *)object;
     ds_frequent_numbers numbers;
     if (self->with_texts)
-        return sketch_image(self, (ds_frequent_text_to_bytes), TEXTS_GUESS);
+        return sketch_image(self, texts.to_bytes, TEXTS_GUESS);
     if (!numbers_of(object, &numbers))
         return NULL;
     size_t guess = numbers.total_weight == 0 ? 8 : 32 + 16 * (size_t)numbers.num_active_items;
-    return sketch_image(self, self->with_sign ? (ds_frequent_i64_to_bytes) : (ds_frequent_u64_to_bytes), guess);
+    return sketch_image(self, kind_of(self)->to_bytes, guess);
 }
 
 PyDoc_STRVAR(from_bytes_doc,
 "from_bytes($type, image, item=int, limit=1073741824, sample_size=None)\n--\n\n"
-"The sketch of an image, which may come from anywhere, with items of this type. It samples the most where no other\n"
-"`sample_size` is given, since an image does not have that.\n\n"
-"An image whose table would take more than `limit` bytes is refused by 'TableTooLarge'; None is no limit.\n\n"
+"Return the sketch of an image, which may be untrusted, with items of this type. Its sample size is the greatest if none\n"
+"is given, since an image does not have that.\n\n"
+"Raise 'TableTooLarge' if the table, with the bytes of all strings, would take more than `limit` bytes; None is no limit.\n"
+"Bytes are read in place, and any other buffer is copied first, up to the limit.\n\n"
 ">>> import datasketches_rattle as ds\n"
 ">>> heavy = ds.FrequentItems(64)\n"
 ">>> heavy.update(7, 30)\n"
 ">>> ds.FrequentItems.from_bytes(bytes(heavy))[7]\n"
 "30\n");
 
-/* Gives a sketch that no one else has yet a sample size: a new sketch with that takes in what it has. */
-static int32_t take_sample_size(Sketch *self, uint64_t sample)
+/* Gives a sketch a sample size: a new sketch with that takes in what it has. */
+static int32_t take_sample_size(const Kind *kind, ds_sketch *handle, uint64_t sample)
 {
     ds_frequent_numbers numbers;
-    ds_sketch own = {0};
-    int32_t answer = status(self, &numbers);
+    ds_sketch own = DS_NONE;
+    int32_t answer = kind->status(handle, &numbers);
     if (answer >= 0 && numbers.sample_size == sample)
         return answer;
     if (answer >= 0)
-        answer = make(self, &own, numbers.max_map_size, sample);
+        answer = kind->make(&own, numbers.max_map_size, sample);
     if (answer >= 0)
-        answer = merge(self, &own, &self->handle);
-    if (answer >= 0) {
-        ds_sketch read = self->handle;
-        self->handle = own;
-        own = read;
-    }
-    ds_free(&own);
+        answer = kind->merge(&own, handle);
+    ds_sketch rest = answer >= 0 ? *handle : own;
+    if (answer >= 0)
+        *handle = own;
+    ds_free(&rest);
     return answer;
 }
 
 static PyObject *frequent_from_bytes(PyObject *type, PyObject *args, PyObject *keywords)
 {
     static char *names[] = {"image", "item", "limit", "sample_size", NULL};
-    Py_buffer image;
-    PyObject *kind = NULL, *limit_object = NULL, *sample_object = Py_None;
+    Image image = {0};
+    PyObject *item = NULL, *limit_object = NULL, *sample_object = Py_None;
     size_t limit = DEFAULT_LIMIT;
     uint64_t sample = 0;
-    bool with_sign, with_texts;
-    if (!PyArg_ParseTupleAndKeywords(args, keywords, "y*|OOO:from_bytes", names, &image, &kind, &limit_object, &sample_object))
+    if (!PyArg_ParseTupleAndKeywords(args, keywords, "y*|OOO:from_bytes", names, &image.view, &item, &limit_object,
+                                     &sample_object))
         return NULL;
-    Sketch *self = NULL;
-    if (kind_of(kind, &with_sign, &with_texts) && limit_of(limit_object, &limit) &&
-        (sample_object == Py_None || natural_of(sample_object, "sample_size", &sample)))
-        self = sketch_alloc((PyTypeObject *)type);
-    int32_t answer = DS_OK;
-    if (self != NULL) {
-        self->with_sign = with_sign;
-        self->with_texts = with_texts;
-        answer = with_texts  ? ds_frequent_text_from_bytes(&self->handle, image.buf, (size_t)image.len, limit)
-                 : with_sign ? ds_frequent_i64_from_bytes(&self->handle, image.buf, (size_t)image.len, limit)
-                             : ds_frequent_u64_from_bytes(&self->handle, image.buf, (size_t)image.len, limit);
+    const Kind *kind = kind_named(item);
+    bool ready = kind != NULL && limit_of(limit_object, &limit) &&
+                 (sample_object == Py_None || natural_of(sample_object, "sample_size", &sample)) && image_take(&image, limit);
+    ds_sketch made = DS_NONE;
+    int32_t answer = DS_OK, sampled = DS_OK;
+    if (ready) {
+        Py_BEGIN_ALLOW_THREADS
+        answer = kind->from_bytes(&made, image.bytes, image.length, limit);
+        if (answer >= 0 && sample_object != Py_None)
+            sampled = take_sample_size(kind, &made, sample);
+        if (sampled < 0)
+            ds_free(&made);
+        Py_END_ALLOW_THREADS
+        answer = image_answer(&image, answer);
     }
-    PyBuffer_Release(&image);
-    if (self == NULL)
-        return NULL;
-    if (answer < 0) {
-        Py_DECREF(self);
+    image_release(&image);
+    if (answer < 0)
         return refuse_image(answer);
-    }
-    if (sample_object != Py_None)
-        answer = take_sample_size(self, sample);
-    if (answer >= 0)
-        return (PyObject *)self;
-    Py_DECREF(self);
-    return refuse(answer);
+    if (sampled < 0)
+        return refuse(sampled);
+    return ready ? frequent_of((PyTypeObject *)type, &made, kind) : NULL;
 }
 
 static PyObject *frequent_reduce(PyObject *object, PyObject *Py_UNUSED(unused))
@@ -232,11 +239,17 @@ static PyObject *frequent_reduce(PyObject *object, PyObject *Py_UNUSED(unused))
         return NULL;
     unsigned long long sample = numbers.sample_size;
     if (self->with_texts)
-        return reduce_to(object, Py_BuildValue("NOOK", image, (PyObject *)&PyUnicode_Type, Py_None, sample));
-    return reduce_to(object, Py_BuildValue("NsOK", image, self->with_sign ? "i64" : "u64", Py_None, sample));
+        return sketch_reduce(object, Py_BuildValue("(NOK)", image, (PyObject *)&PyUnicode_Type, sample));
+    return sketch_reduce(object, Py_BuildValue("(NsK)", image, kind_of(self)->name, sample));
 }
 
-/* Room for rows: their items, and behind these their bounds. */
+static PyObject *frequent_unpickle(PyObject *type, PyObject *args)
+{
+    static const char *const names[] = {"image", "item", "sample_size", NULL};
+    return sketch_unpickle(type, args, names, frequent_from_bytes);
+}
+
+/* Room for rows: their items, and their bounds. */
 typedef struct {
     uint64_t *items;
     ds_frequent_bounds *bounds;
@@ -259,14 +272,23 @@ static PyObject *row(const Sketch *self, uint64_t item, const ds_frequent_bounds
 
 PyDoc_STRVAR(rows_doc,
 "rows($self, /, threshold=0, no_false='negatives')\n--\n\n"
-"The items that weigh more than a threshold, heaviest first: (item, lower bound, estimate, upper bound) of each.\n\n"
-"No item above the threshold is missing, nor above `maximum_error`, which counts where it is higher. With\n"
-"`no_false='positives'` no item below is there, and some above may be missing.\n\n"
+"Return the items that may weigh more than `threshold`, heaviest first: (item, lower bound, estimate, upper bound) of each.\n\n"
+"No item is missing that weighs more than `threshold` and more than `maximum_error`. With `no_false='positives'` each item\n"
+"that is returned weighs more than both, and some that do may be missing.\n\n"
 ">>> import datasketches_rattle as ds\n"
 ">>> heavy = ds.FrequentItems(64)\n"
 ">>> heavy.update([7, 7, 7, 8, 8, -9])\n"
 ">>> heavy.rows(threshold=1)\n"
 "[(7, 3, 3, 3), (8, 2, 2, 2)]\n");
+
+static PyObject *list_of(const Sketch *self, const Rows *rows, size_t count)
+{
+    PyObject *list = PyList_New(0);
+    for (size_t i = 0; list != NULL && i < count; i++)
+        if (!append_row(list, row(self, rows->items[i], &rows->bounds[i])))
+            Py_CLEAR(list);
+    return list;
+}
 
 static PyObject *frequent_rows(PyObject *object, PyObject *args, PyObject *keywords)
 {
@@ -299,21 +321,16 @@ static PyObject *frequent_rows(PyObject *object, PyObject *args, PyObject *keywo
         if (rows.items == NULL || rows.bounds == NULL) {
             answer = DS_NO_MEMORY;
         } else if (sketch_lock(self)) {
+            BATCH_BEGIN(self)
             answer = rows_of(self, all, threshold, &rows, room, &count);
+            BATCH_END(self)
             sketch_unlock(self);
             room = answer == DS_NO_ROOM ? count : room;
         } else {
             answer = DS_NO_SKETCH;
         }
     } while (answer == DS_NO_ROOM);
-    PyObject *list = answer >= 0 ? PyList_New((Py_ssize_t)count) : NULL;
-    for (size_t i = 0; list != NULL && i < count; i++) {
-        PyObject *each = row(self, rows.items[i], &rows.bounds[i]);
-        if (each == NULL)
-            Py_CLEAR(list);
-        else
-            PyList_SET_ITEM(list, (Py_ssize_t)i, each);
-    }
+    PyObject *list = answer >= 0 ? list_of(self, &rows, count) : NULL;
     PyMem_Free(rows.items);
     PyMem_Free(rows.bounds);
     return answer < 0 && answer != DS_NO_SKETCH ? refuse(answer) : list;
@@ -328,10 +345,7 @@ static PyObject *frequent_repr(PyObject *object)
     }
     return PyUnicode_FromFormat("<FrequentItems max_map_size=%llu item=%s total=%llu>",
                                 (unsigned long long)numbers.max_map_size,
-                                ((Sketch *)object)->with_texts  ? "str"
-                                : ((Sketch *)object)->with_sign ? "i64"
-                                                                : "u64",
-                                (unsigned long long)numbers.total_weight);
+                                kind_of((Sketch *)object)->name, (unsigned long long)numbers.total_weight);
 }
 
 static PyObject *frequent_number(PyObject *object, void *which)
@@ -364,16 +378,18 @@ static PyMethodDef frequent_methods[] = {
      from_bytes_doc},
     {"__bytes__", frequent_to_bytes, METH_NOARGS, NULL},
     {"__reduce__", frequent_reduce, METH_NOARGS, NULL},
+    {"_unpickle", frequent_unpickle, METH_CLASS | METH_VARARGS, NULL},
+    {"__sizeof__", sketch_sizeof, METH_NOARGS, sketch_sizeof_doc},
     SUGGESTS("suggest_max_map_size", frequent_suggest_max_map_size),
-    {"close", sketch_close, METH_NOARGS, "close($self, /)\n--\n\nGive the memory back. The sketch is of no use then."},
-    {"__copy__", frequent_copy, METH_NOARGS, NULL},
-    {"__deepcopy__", frequent_copy, METH_O, NULL},
+    {"close", sketch_close, METH_NOARGS, "close($self, /)\n--\n\nFree the memory. What uses the sketch then raises ValueError; a second close does nothing."},
+    {"__copy__", sketch_copy, METH_NOARGS, NULL},
+    {"__deepcopy__", sketch_deepcopy, METH_O, NULL},
     {"__enter__", sketch_enter, METH_NOARGS, NULL},
     {"__exit__", sketch_exit, METH_VARARGS, NULL},
     {NULL, NULL, 0, NULL},
 };
 
-static PyNumberMethods frequent_as_number = {.nb_add = frequent_add, .nb_inplace_add = frequent_merge};
+static PyNumberMethods frequent_as_number = {.nb_add = frequent_add, .nb_inplace_add = frequent_add_into};
 static PyMappingMethods frequent_as_mapping = {.mp_subscript = frequent_estimate};
 
 PyDoc_STRVAR(frequent_doc,
@@ -381,7 +397,7 @@ PyDoc_STRVAR(frequent_doc,
 "The items that weigh most, in at most three quarters of `max_map_size` counters, a power of two from 8 to 2**30.\n\n"
 "`item` is int or 'i64' for numbers from -2**63 to 2**63 - 1, and 'u64' for those from 0 to 2**64 - 1; with\n"
 "str it counts texts. `sample_size`, an even number, says how many counters a purge looks at; without it, as many as\n"
-"it may. `+` merges two sketches, and `+=` another one into this.\n\n"
+"it may. `+` merges two sketches, and `+=` another one into this; `heavy += heavy` doubles all weights.\n\n"
 ">>> import datasketches_rattle as ds\n"
 ">>> heavy = ds.FrequentItems(1024, item=int)\n"
 ">>> heavy.update(-7, 30)\n"
@@ -404,4 +420,5 @@ PyTypeObject frequent_type = {
     .tp_repr = frequent_repr, .tp_methods = frequent_methods, .tp_getset = frequent_fields,
     .tp_as_number = &frequent_as_number,
     .tp_as_mapping = &frequent_as_mapping,
+    .tp_richcompare = frequent_compare, .tp_hash = frequent_hash,
 };

@@ -49,25 +49,43 @@ static int heavier(const void *first, const void *second)
 }
 
 /* The library's rows descend by estimate already; equal ones may be in any order. */
-static PyObject *list_of(RowRoom *room, size_t count)
+static void sort_rows(RowRoom *room, size_t count)
 {
     for (size_t i = 0; i < count; i++)
         room->rows[i] = (TextRow){(const char *)room->bytes + room->offsets[i],
                                   (size_t)(room->offsets[i + 1] - room->offsets[i]), room->bounds[i]};
     qsort(room->rows, count, sizeof *room->rows, heavier);
-    PyObject *list = PyList_New((Py_ssize_t)count);
-    for (size_t i = 0; list != NULL && i < count; i++) {
-        const TextRow *row = &room->rows[i];
-        PyObject *text = PyUnicode_DecodeUTF8(row->text, (Py_ssize_t)row->length, NULL);
-        PyObject *each = text == NULL ? NULL
-                                      : Py_BuildValue("NKKK", text, (unsigned long long)row->bounds.lower_bound,
-                                                      (unsigned long long)row->bounds.estimate,
-                                                      (unsigned long long)row->bounds.upper_bound);
-        if (each == NULL)
-            Py_CLEAR(list);
-        else
-            PyList_SET_ITEM(list, (Py_ssize_t)i, each);
+}
+
+bool append_row(PyObject *list, PyObject *row)
+{
+    bool done = row != NULL && PyList_Append(list, row) == 0;
+    Py_XDECREF(row);
+    if (done && PyList_GET_SIZE(list) % ROWS_AT_ONCE == 0) {
+        Py_BEGIN_ALLOW_THREADS
+        Py_END_ALLOW_THREADS
     }
+    return done;
+}
+
+static PyObject *row_of(const TextRow *row)
+{
+    PyObject *text = PyUnicode_DecodeUTF8(row->text, (Py_ssize_t)row->length, NULL);
+    if (text == NULL)
+        return NULL;
+    return Py_BuildValue("NKKK", text, (unsigned long long)row->bounds.lower_bound,
+                         (unsigned long long)row->bounds.estimate, (unsigned long long)row->bounds.upper_bound);
+}
+
+static PyObject *list_of(RowRoom *room, size_t count)
+{
+    Py_BEGIN_ALLOW_THREADS
+    sort_rows(room, count);
+    Py_END_ALLOW_THREADS
+    PyObject *list = PyList_New(0);
+    for (size_t i = 0; list != NULL && i < count; i++)
+        if (!append_row(list, row_of(&room->rows[i])))
+            Py_CLEAR(list);
     return list;
 }
 
@@ -81,8 +99,10 @@ PyObject *texts_rows(Sketch *self, bool no_false_negatives, uint64_t threshold)
         int32_t answer = DS_NO_SKETCH;
         size_t count = 0, num_bytes = 0;
         if (ready) {
+            BATCH_BEGIN(self)
             answer = ds_frequent_text_rows(&self->handle, no_false_negatives, threshold, room.bytes, bytes, room.offsets,
                                            rows + 1, room.bounds, rows, &count, &num_bytes);
+            BATCH_END(self)
             sketch_unlock(self);
             list = answer >= 0 ? list_of(&room, count) : answer == DS_NO_ROOM ? NULL : refuse(answer);
         }

@@ -3,11 +3,15 @@
 
 PyObject *sketch_error;
 
-Sketch *sketch_alloc(PyTypeObject *type)
+Sketch *sketch_of(PyTypeObject *type, ds_sketch *made)
 {
     Sketch *self = (Sketch *)type->tp_alloc(type, 0);
-    if (self == NULL)
+    if (self == NULL) {
+        ds_free(made);
         return NULL;
+    }
+    self->handle = *made;
+    *made = (ds_sketch)DS_NONE;
     self->lock = PyThread_allocate_lock();
     if (self->lock == NULL) {
         Py_DECREF(self);
@@ -61,17 +65,24 @@ bool sketch_lock(Sketch *self)
     return false;
 }
 
-/* The two are different. Locks are taken in the order of addresses, so that two threads never wait for each other. */
+/* Locks are taken in the order of addresses, so that two threads never wait for each other. */
 bool sketch_lock_both(Sketch *self, Sketch *other)
 {
     Sketch *first = (uintptr_t)self < (uintptr_t)other ? self : other;
     Sketch *second = first == self ? other : self;
     if (!sketch_lock(first))
         return false;
-    if (sketch_lock(second))
+    if (first == second || sketch_lock(second))
         return true;
     sketch_unlock(first);
     return false;
+}
+
+void sketch_unlock_both(Sketch *self, Sketch *other)
+{
+    sketch_unlock(self);
+    if (self != other)
+        sketch_unlock(other);
 }
 
 static PyObject *refuse_as(int32_t answer, const char *kind)
@@ -100,81 +111,110 @@ PyObject *refuse_image(int32_t answer)
     return refuse_as(answer, "InvalidData");
 }
 
-PyObject *sketch_image(Sketch *self, image_writer write, size_t guess)
+static PyObject *none_or_refuse(int32_t answer)
 {
-    PyObject *image = NULL;
-    size_t room = guess;
-    for (;;) {
-        if (room > PY_SSIZE_T_MAX)
-            return PyErr_NoMemory();
-        image = PyBytes_FromStringAndSize(NULL, (Py_ssize_t)room);
-        if (image == NULL)
-            return NULL;
-        if (!sketch_lock(self)) {
-            Py_DECREF(image);
-            return NULL;
-        }
-        size_t written = 0;
-        int32_t answer = write(&self->handle, (uint8_t *)PyBytes_AS_STRING(image), room, &written);
-        sketch_unlock(self);
-        if (answer >= 0) {
-            if (written != room)
-                _PyBytes_Resize(&image, (Py_ssize_t)written);
-            return image;
-        }
-        Py_DECREF(image);
-        if (answer != DS_NO_ROOM)
-            return refuse(answer);
-        room = written;
-    }
+    if (answer < 0)
+        return refuse(answer);
+    Py_RETURN_NONE;
 }
 
-Sketch *sketch_copy(Sketch *self)
+PyObject *sketch_change(Sketch *self, int32_t (*change)(ds_sketch *))
 {
-    Sketch *copy = sketch_alloc(Py_TYPE(self));
-    if (copy == NULL || !sketch_lock(self)) {
-        Py_XDECREF(copy);
+    int32_t answer;
+    if (!sketch_lock(self))
         return NULL;
-    }
-    copy->seed = self->seed;
-    copy->buckets = self->buckets;
-    copy->hashes = self->hashes;
-    copy->with_sign = self->with_sign;
-    copy->with_texts = self->with_texts;
-    int32_t answer = ds_clone(&copy->handle, &self->handle);
+    BATCH_BEGIN(self)
+    answer = change(&self->handle);
+    BATCH_END(self)
     sketch_unlock(self);
+    return none_or_refuse(answer);
+}
+
+/* Joins a copy of the sketch into it: the library takes no handle twice. */
+static int32_t join_itself(ds_sketch *handle, of_two join)
+{
+    ds_sketch twin = DS_NONE;
+    int32_t answer = ds_clone(&twin, handle);
     if (answer >= 0)
-        return copy;
-    Py_DECREF(copy);
-    refuse(answer);
-    return NULL;
+        answer = join(handle, &twin);
+    ds_free(&twin);
+    return answer;
 }
 
-PyObject *compare_images(PyObject *first, PyObject *second, int operation)
+PyObject *sketch_join(Sketch *self, Sketch *other, of_two join)
 {
-    PyObject *result = first != NULL && second != NULL ? PyObject_RichCompare(first, second, operation) : NULL;
-    Py_XDECREF(first);
-    Py_XDECREF(second);
-    return result;
+    int32_t answer;
+    if (!sketch_lock_both(self, other))
+        return NULL;
+    BOTH_BEGIN(self, other)
+    answer = self == other ? join_itself(&self->handle, join) : join(&self->handle, &other->handle);
+    BOTH_END(self, other)
+    sketch_unlock_both(self, other);
+    return answer < 0 ? refuse(answer) : Py_NewRef((PyObject *)self);
 }
 
-PyObject *reduce_to(PyObject *self, PyObject *arguments)
+PyObject *sketch_joined(Sketch *self, Sketch *other, of_two join)
 {
-    if (arguments == NULL)
+    ds_sketch made = DS_NONE;
+    int32_t answer;
+    if (!sketch_lock_both(self, other))
         return NULL;
-    PyObject *reader = PyObject_GetAttrString((PyObject *)Py_TYPE(self), "from_bytes");
-    if (reader == NULL) {
-        Py_DECREF(arguments);
+    BOTH_BEGIN(self, other)
+    answer = ds_clone(&made, &self->handle);
+    if (answer >= 0)
+        answer = join(&made, &other->handle);
+    if (answer < 0)
+        ds_free(&made);
+    BOTH_END(self, other)
+    sketch_unlock_both(self, other);
+    return answer < 0 ? refuse(answer) : sketch_like(self, &made);
+}
+
+PyObject *sketch_equal(Sketch *self, Sketch *other, of_two equal, int operation)
+{
+    int32_t answer = DS_YES;
+    if (!sketch_lock_both(self, other))
         return NULL;
+    if (self != other) {
+        BOTH_BEGIN(self, other)
+        answer = equal(&self->handle, &other->handle);
+        BOTH_END(self, other)
     }
-    return Py_BuildValue("NN", reader, arguments);
+    sketch_unlock_both(self, other);
+    return answer < 0 ? refuse(answer) : PyBool_FromLong((answer == DS_YES) == (operation == Py_EQ));
+}
+
+const char sketch_sizeof_doc[] = PyDoc_STR(
+"__sizeof__($self, /)\n--\n\n"
+"Return how many bytes the object takes, with its sketch and all strings in that. Of a closed sketch: the object's alone.");
+
+PyObject *sketch_sizeof(PyObject *object, PyObject *Py_UNUSED(unused))
+{
+    Sketch *self = (Sketch *)object;
+    size_t bytes = 0;
+    int32_t answer;
+    acquire(self);
+    BATCH_BEGIN(self)
+    answer = ds_memory_bytes(&self->handle, &bytes);
+    BATCH_END(self)
+    sketch_unlock(self);
+    if (answer < 0 && answer != DS_NO_SKETCH)
+        return refuse(answer);
+    PyObject *own = PyObject_CallMethod((PyObject *)&PyBaseObject_Type, "__sizeof__", "O", object);
+    PyObject *more = PyLong_FromSize_t(bytes);
+    PyObject *all = own != NULL && more != NULL ? PyNumber_Add(own, more) : NULL;
+    Py_XDECREF(own);
+    Py_XDECREF(more);
+    return all;
 }
 
 PyObject *sketch_close(PyObject *self, PyObject *Py_UNUSED(unused))
 {
     Sketch *sketch = (Sketch *)self;
     acquire(sketch);
+    BATCH_BEGIN(sketch)
     ds_free(&sketch->handle);
+    BATCH_END(sketch)
     sketch_unlock(sketch);
     Py_RETURN_NONE;
 }
@@ -207,9 +247,20 @@ static struct PyModuleDef module = {
     .m_doc = "Sketches over a proved library for C.",
 };
 
+/* The bytes that an unpickled sketch may take: a class attribute, which a subclass may change. */
+static bool add_limit(PyTypeObject *type)
+{
+    PyObject *limit = PyLong_FromSize_t(DEFAULT_LIMIT);
+    type->tp_dict = limit != NULL ? PyDict_New() : NULL;
+    bool done = type->tp_dict != NULL && PyDict_SetItemString(type->tp_dict, "unpickle_limit", limit) == 0;
+    Py_XDECREF(limit);
+    return done;
+}
+
 static bool add_class(PyObject *m, const char *name, PyTypeObject *type)
 {
-    return PyType_Ready(type) == 0 && PyModule_AddObjectRef(m, name, (PyObject *)type) == 0;
+    return (type->tp_dict != NULL || add_limit(type)) && PyType_Ready(type) == 0 &&
+           PyModule_AddObjectRef(m, name, (PyObject *)type) == 0;
 }
 
 PyMODINIT_FUNC PyInit__sketches(void)

@@ -11,9 +11,10 @@
 #define DEFAULT_SEED 9001
 #define DEFAULT_LIMIT ((size_t)1 << 30)
 
-/* A sketch of any kind. One call of the library at a time uses it: a call either keeps the interpreter's lock, and then `busy` is
- * false, or it is a batch, which takes the sketch's lock, sets `busy` and lets other Python threads go on. What changes
- * `busy` has both locks. No Python code runs in between. */
+/* A sketch of any kind. One call of the library at a time uses it. A call of one item keeps the interpreter's lock, and waits
+ * while `busy` is true. A call that takes longer (of many items, or of a whole sketch or two) takes the sketch's lock, sets
+ * `busy` and lets other Python threads run. Only a thread with both locks changes `busy`. No Python code runs in a thread that
+ * has a sketch's lock. A new sketch is made in a handle of its own, and gets its object last: no other thread sees it before. */
 typedef struct {
     PyObject_HEAD
     ds_sketch handle;
@@ -30,20 +31,23 @@ extern PyObject *sketch_error;
 
 /* --- sketches.c --- */
 
-/* An object of this type with no sketch yet, or NULL. */
-Sketch *sketch_alloc(PyTypeObject *type);
+/* A new object of this type that owns the handle's sketch, or NULL, and then the sketch is freed. */
+Sketch *sketch_of(PyTypeObject *type, ds_sketch *made);
 void sketch_dealloc(PyObject *self);
 
-/* Waits for a batch that runs, for a call that keeps the interpreter's lock. Answers false, with an error set, where the sketch is
+/* Waits until no long call runs, for a call that keeps the interpreter's lock. Returns false, with an error set, if the sketch is
  * closed. It holds until the interpreter's lock is let go. */
 bool sketch_ready(Sketch *self);
 
-/* Takes the lock. Answers false, with an error set and no lock held, where the sketch is closed. */
+/* Takes the lock. Returns false, with an error set and no lock held, if the sketch is closed. */
 bool sketch_lock(Sketch *self);
-bool sketch_lock_both(Sketch *self, Sketch *other);
 void sketch_unlock(Sketch *self);
 
-/* Around the call of a batch, with the lock held. */
+/* The same of two sketches, or of one that is given twice. */
+bool sketch_lock_both(Sketch *self, Sketch *other);
+void sketch_unlock_both(Sketch *self, Sketch *other);
+
+/* Around a long call, with the lock held. */
 #define BATCH_BEGIN(self) \
     (self)->busy = true; \
     Py_BEGIN_ALLOW_THREADS
@@ -51,26 +55,78 @@ void sketch_unlock(Sketch *self);
     Py_END_ALLOW_THREADS \
     (self)->busy = false;
 
-/* A copy of a sketch of any kind, or NULL. */
-Sketch *sketch_copy(Sketch *self);
+/* The same with the locks of two. */
+#define BOTH_BEGIN(self, other) \
+    (other)->busy = true; \
+    BATCH_BEGIN(self)
+#define BOTH_END(self, other) \
+    BATCH_END(self) \
+    (other)->busy = false;
 
-/* Sets the Python error of a refusal, and answers NULL. */
+/* Sets the Python error of a rejected call, and returns NULL. */
 PyObject *refuse(int32_t answer);
 PyObject *refuse_image(int32_t answer);
 
-/* The image that a call writes, as bytes. */
-typedef int32_t (*image_writer)(ds_sketch *, uint8_t *, size_t, size_t *);
-PyObject *sketch_image(Sketch *self, image_writer write, size_t guess);
+/* Changes the whole sketch: a reset or a halving. */
+PyObject *sketch_change(Sketch *self, int32_t (*change)(ds_sketch *));
 
-/* Whether two images are equal, as rich comparison asks. */
-PyObject *compare_images(PyObject *first, PyObject *second, int operation);
+/* A call that reads a second sketch: a merge, a union or a comparison. */
+typedef int32_t (*of_two)(ds_sketch *, ds_sketch *);
 
-/* What pickle is told: the class's from_bytes and its arguments, which this takes. */
-PyObject *reduce_to(PyObject *self, PyObject *arguments);
+/* Joins the other sketch, which may be the same, into the first, and returns the first. */
+PyObject *sketch_join(Sketch *self, Sketch *other, of_two join);
+
+/* A new sketch: a copy of the first, into which the other, which may be the same, is joined. */
+PyObject *sketch_joined(Sketch *self, Sketch *other, of_two join);
+
+/* Whether two sketches of one class are equal, as rich comparison asks. */
+PyObject *sketch_equal(Sketch *self, Sketch *other, of_two equal, int operation);
+
+/* How many bytes the object and its sketch take. */
+extern const char sketch_sizeof_doc[];
+PyObject *sketch_sizeof(PyObject *self, PyObject *unused);
 
 PyObject *sketch_close(PyObject *self, PyObject *unused);
 PyObject *sketch_enter(PyObject *self, PyObject *unused);
 PyObject *sketch_exit(PyObject *self, PyObject *unused);
+
+/* --- images.c --- */
+
+/* An image that a call reads: the bytes of an object, or a copy of them if another thread may change them. */
+typedef struct {
+    const uint8_t *bytes;
+    size_t length;
+    uint8_t *copy;
+    bool is_cut;
+    Py_buffer view;
+} Image;
+
+/* Takes the image of a view, to be read under this limit. Returns false, with an error set, if there is no memory for a copy. */
+bool image_take(Image *image, size_t limit);
+
+/* What the library's answer to `image_take`'s bytes says of the whole image. */
+int32_t image_answer(const Image *image, int32_t answer);
+void image_release(Image *image);
+
+/* The image that a call writes, as bytes; `guess` is how many bytes it may have. */
+typedef int32_t (*image_writer)(ds_sketch *, uint8_t *, size_t, size_t *);
+PyObject *sketch_image(Sketch *self, image_writer write, size_t guess);
+
+/* --- copies.c --- */
+
+/* A new sketch like the first, of its class, that owns the handle's sketch, or NULL, and then that is freed. */
+PyObject *sketch_like(const Sketch *self, ds_sketch *made);
+
+/* Copies, with what an object of a subclass has of its own. */
+PyObject *sketch_copy(PyObject *self, PyObject *unused);
+PyObject *sketch_deepcopy(PyObject *self, PyObject *memo);
+
+/* What pickle stores: the class's `_unpickle`, its arguments, which this takes, and what an object of a subclass has of its own. */
+PyObject *sketch_reduce(PyObject *self, PyObject *arguments);
+
+/* Calls the class's reader of images with the arguments of `sketch_reduce`, under these names, and the class's limit. */
+typedef PyObject *(*image_reader)(PyObject *type, PyObject *args, PyObject *keywords);
+PyObject *sketch_unpickle(PyObject *type, PyObject *args, const char *const *names, image_reader read);
 
 /* --- items.c --- */
 
@@ -253,6 +309,12 @@ PyObject *frequent_estimate(PyObject *object, PyObject *item);
 #define TEXTS_GUESS 4096
 
 PyObject *texts_rows(Sketch *self, bool no_false_negatives, uint64_t threshold);
+
+/* After this number of rows of a list other Python threads may run. */
+#define ROWS_AT_ONCE 4096
+
+/* Takes the row, which may be NULL, and appends it. Returns false, with an error set, if there is no memory for it. */
+bool append_row(PyObject *list, PyObject *row);
 
 /* --- sizes.c --- */
 

@@ -108,8 +108,6 @@ class Merges(unittest.TestCase):
         a = ds.FrequentItems(64)
         a.update(7, GREATEST)
         with self.assertRaises(ValueError):
-            a += a
-        with self.assertRaises(ValueError):
             a += ds.FrequentItems(64, item="u64")
         with self.assertRaises(TypeError):
             a += 1

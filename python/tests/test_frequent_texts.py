@@ -111,7 +111,7 @@ class Merges(unittest.TestCase):
     def test_refused(self):
         a, b = sketch(["apple"]), ds.FrequentItems(64, item=str)
         b.update("pear", GREATEST)
-        for other in (a, ds.FrequentItems(64), ds.FrequentItems(64, item="u64")):
+        for other in (ds.FrequentItems(64), ds.FrequentItems(64, item="u64")):
             with self.assertRaises(ValueError):
                 a += other
         with self.assertRaises(ds.SketchError) as refused:

@@ -1,0 +1,509 @@
+"""Calls of a whole sketch or two: what they return, what other threads do meanwhile, and what is left of a closed sketch."""
+import array
+import copy
+import gc
+import mmap
+import os
+import random
+import subprocess
+import sys
+import threading
+import time
+import unittest
+
+import datasketches_rattle as ds
+
+GREATEST = 2**64 - 1
+LARGE = array.array("q", range(100_000))
+WORDS = [f"word {number}" for number in range(50_000)]
+TRIES = 100
+
+
+def filled(bits=1 << 27, items=LARGE, **more):
+    """A filter of 16 MiB, if nothing else is said."""
+    seen = ds.BloomFilter(bits, 3, **more)
+    seen.insert(items)
+    return seen
+
+
+def counted(buckets=1 << 19, items=LARGE, **more):
+    """A Count-Min sketch of 16 MiB, if nothing else is said."""
+    load = ds.CountMin(4, buckets, **more)
+    load.update(items)
+    return load
+
+
+def frequent(items=LARGE, size=1 << 18, **more):
+    """Frequent items with a counter for each of these items."""
+    heavy = ds.FrequentItems(size, **more)
+    heavy.update(items)
+    return heavy
+
+
+def lets_others_run(call):
+    """Whether another thread ever runs within a call. While the test runs a thread loses the interpreter's lock only if it lets it
+    go, so that of a call that keeps it the answer is no, however often it is made."""
+    ticks, seen = [0], []
+
+    def work():
+        for _ in range(TRIES):
+            before = ticks[0]
+            call()
+            if ticks[0] != before:
+                seen.append(True)
+                return
+
+    interval = sys.getswitchinterval()
+    sys.setswitchinterval(1000)
+    try:
+        worker = threading.Thread(target=work)
+        worker.start()
+        while worker.is_alive():
+            time.sleep(0.0001)
+            ticks[0] += 1
+        worker.join()
+    finally:
+        sys.setswitchinterval(interval)
+    return bool(seen)
+
+
+class OthersRun(unittest.TestCase):
+    def each(self, **calls):
+        for name, call in calls.items():
+            with self.subTest(name):
+                self.assertTrue(lets_others_run(call))
+
+    def test_the_measure(self):
+        numbers = list(range(200_000))
+        self.assertFalse(lets_others_run(lambda: sum(numbers)))
+
+    def test_filters(self):
+        a, b = filled(), filled(items=[1, 2])
+        twin, image = copy.copy(a), bytes(a)
+        shared = bytearray(image)
+        self.each(
+            creation=lambda: ds.BloomFilter(1 << 27, 3), image=lambda: bytes(a), read=lambda: ds.BloomFilter.from_bytes(image),
+            read_shared=lambda: ds.BloomFilter.from_bytes(shared), copy=lambda: copy.copy(a), deepcopy=lambda: copy.deepcopy(a),
+            equal=lambda: a == twin, unequal=lambda: a != twin, union=lambda: a | b, intersection=lambda: a & b,
+            difference=lambda: a - b, union_into=lambda: a.__ior__(b), intersection_into=lambda: twin.__iand__(a),
+            difference_into=lambda: twin.__isub__(b), with_itself=lambda: a.__iand__(a), reset=b.reset)
+
+    def test_counts(self):
+        for signed in (False, True):
+            a, b = counted(signed=signed), counted(items=[1, 2], signed=signed)
+            twin, image = copy.copy(a), bytes(a)
+            shared = bytearray(image)
+            self.each(
+                creation=lambda signed=signed: ds.CountMin(4, 1 << 19, signed=signed), image=lambda a=a: bytes(a),
+                read=lambda image=image, signed=signed: ds.CountMin.from_bytes(image, signed=signed),
+                read_shared=lambda shared=shared, signed=signed: ds.CountMin.from_bytes(shared, signed=signed),
+                copy=lambda a=a: copy.copy(a), equal=lambda a=a, twin=twin: a == twin, sum=lambda a=a, b=b: a + b,
+                sum_into=lambda twin=twin, b=b: twin.__iadd__(b), with_itself=lambda b=b: b.__iadd__(ds.CountMin(4, 1 << 19, signed=b.signed)))
+        load = counted()
+        self.each(halve=load.halve, decay=lambda: load.decay(99, 100))
+
+    def test_frequent_items(self):
+        for items, item in ((LARGE, int), (WORDS, str)):
+            heavy, few = frequent(items, item=item), frequent(items[:1], item=item)
+            image = bytes(heavy)
+            shared = bytearray(image)
+            self.each(
+                image=lambda heavy=heavy: bytes(heavy), copy=lambda heavy=heavy: copy.copy(heavy),
+                read=lambda image=image, item=item: ds.FrequentItems.from_bytes(image, item=item),
+                read_shared=lambda shared=shared, item=item: ds.FrequentItems.from_bytes(shared, item=item),
+                sum=lambda heavy=heavy, few=few: heavy + few, sum_into=lambda heavy=heavy, few=few: heavy.__iadd__(few),
+                no_rows=lambda heavy=heavy: heavy.rows(GREATEST), rows=lambda heavy=heavy: heavy.rows())
+        self.each(size=lambda: sys.getsizeof(heavy))
+
+    def test_ends(self):
+        filters = [filled() for _ in range(8)]
+        self.assertTrue(lets_others_run(lambda: filters and filters.pop().close()))
+        texts = [frequent(WORDS, item=str) for _ in range(8)]
+        self.assertTrue(lets_others_run(lambda: texts and texts.pop().reset()))
+
+
+def at_once(*calls):
+    """Runs each call in a thread of its own, all at once, and returns their errors."""
+    errors, gate = [], threading.Barrier(len(calls))
+
+    def begin(call):
+        gate.wait()
+        try:
+            call()
+        except Exception as error:  # pylint: disable=broad-except
+            errors.append(error)
+
+    threads = [threading.Thread(target=begin, args=(call,), daemon=True) for call in calls]
+    for thread in threads:
+        thread.start()
+    for thread in threads:
+        thread.join(120)
+    if any(thread.is_alive() for thread in threads):
+        raise AssertionError("a thread hangs")
+    return errors
+
+
+class NoneWaitsForever(unittest.TestCase):
+    def test_two_sketches_in_both_orders(self):
+        for a, b in ((filled(1 << 18), filled(1 << 18)), (counted(1 << 12), counted(1 << 12)), (frequent(LARGE[:500]), frequent()),
+                     (frequent(WORDS[:500], item=str), frequent(WORDS[500:999], item=str))):
+            join = "__ior__" if isinstance(a, ds.BloomFilter) else "__iadd__"
+            joined = "__or__" if isinstance(a, ds.BloomFilter) else "__add__"
+            item = "a" if isinstance(a, ds.FrequentItems) and "str" in repr(a) else 7
+            calls = []
+            for one, other in ((a, b), (b, a)):
+                calls += [lambda one=one, other=other: [getattr(one, join)(other) for _ in range(10)],
+                          lambda one=one, other=other: [getattr(one, joined)(other) for _ in range(10)],
+                          lambda one=one, other=other: [one == other for _ in range(50)],
+                          lambda one=one, item=item: [one.__class__.insert(one, [item]) if join == "__ior__" else one.update(item)
+                                                      for _ in range(500)],
+                          lambda one=one: [(copy.copy(one), bytes(one), repr(one), sys.getsizeof(one)) for _ in range(10)]]
+            calls.append(lambda a=a: [getattr(a, join)(a) for _ in range(3)])
+            self.assertEqual(at_once(*calls), [])
+
+    def test_closed_while_others_read(self):
+        for _ in range(10):
+            a, b = filled(1 << 22), filled(1 << 22)
+            errors = at_once(lambda: [a | b for _ in range(9)], lambda: [b == a for _ in range(9)], lambda: [bytes(a) for _ in range(9)],
+                             lambda: [a.__iand__(a) for _ in range(9)], a.close, lambda: [5 in a for _ in range(999)])
+            self.assertTrue(all(isinstance(error, ValueError) and str(error) == "the sketch is closed" for error in errors), errors)
+
+    def test_python_code_within_a_call(self):
+        """The collector of garbage may run Python code wherever an object is made."""
+        heavy, words, seen, load = frequent(LARGE[:2000]), frequent(WORDS[:2000], item=str), filled(1 << 12), counted(64)
+        asked = []
+
+        def look(*_):
+            asked.append((heavy[7], words["word 1"], 7 in seen, load[7], seen.bits, heavy == heavy))
+
+        def calls():
+            for _ in range(3):
+                heavy.rows(), words.rows(), bytes(heavy), bytes(words), copy.copy(words), copy.deepcopy(Named(64, 1))
+                seen | seen, load + load, load == load, seen == seen, heavy + heavy, sys.getsizeof(words)
+                for call in (lambda: load + counted(63), lambda: ds.BloomFilter.from_bytes(b""), lambda: seen & filled(64)):
+                    self.assertRaises(ds.SketchError, call)
+
+        threshold = gc.get_threshold()
+        gc.callbacks.append(look)
+        gc.set_threshold(1)
+        try:
+            errors = at_once(calls)
+        finally:
+            gc.set_threshold(*threshold)
+            gc.callbacks.remove(look)
+        self.assertEqual((errors, len(asked) > 100), ([], True))
+
+    def test_joins_with_itself_lose_nothing(self):
+        seen, numbers = ds.BloomFilter(1 << 20, 1), array.array("q", range(3000))
+        done = threading.Event()
+
+        def join():
+            nonlocal seen
+            while not done.is_set():
+                seen &= seen
+
+        def insert():
+            for number in numbers:
+                seen.insert(number)
+            done.set()
+
+        self.assertEqual(at_once(insert, join), [])
+        self.assertTrue(all(seen.contains(numbers)), "an item that came while a filter was joined with itself is there")
+
+
+class Equal(unittest.TestCase):
+    def test_filters(self):
+        a = filled(1 << 10, [1, 2])
+        for other in (filled(1 << 11, [1, 2]), filled(1 << 10, [1, 2], seed=3), filled(1 << 10, [1]), ds.BloomFilter(1 << 10, 4)):
+            self.assertEqual((a == other, a != other, other == a), (False, True, False))
+        for other in (a, copy.copy(a), filled(1 << 10, [2, 1])):
+            self.assertEqual((a == other, a != other, other == a), (True, False, True))
+
+    def test_counts(self):
+        for signed in (False, True):
+            a = counted(64, [1, 2], signed=signed)
+            more = counted(64, [1, 2], signed=signed)
+            more.update(1, 0)
+            for other in (counted(63, [1, 2], signed=signed), counted(64, [1, 2], signed=signed, seed=3), counted(64, [1], signed=signed),
+                          counted(64, [1, 3], signed=signed), counted(64, [1, 2], signed=not signed)):
+                self.assertEqual((a == other, a != other, other == a), (False, True, False))
+            for other in (a, copy.copy(a), more):
+                self.assertEqual((a == other, a != other, other == a), (True, False, True))
+        self.assertNotEqual(ds.CountMin(1, 64), ds.CountMin(1, 64, signed=True))
+
+    def test_frequent_items(self):
+        a = frequent([1, 2])
+        for other in (copy.copy(a), frequent([1, 2]), frequent(["a"], item=str)):
+            self.assertEqual((a == other, a != other), (False, True))
+        self.assertEqual((a == a, a != a, len({a, a, frequent([1, 2])})), (True, False, 2))
+
+    def test_others(self):
+        for one in (filled(64, []), counted(64, []), frequent([])):
+            for other in (None, 7, "", filled(64, []).__class__, object()):
+                self.assertEqual((one == other, one != other), (False, True))
+            self.assertIs(one.__eq__(7), NotImplemented)
+            for call in (lambda one=one: one < one, lambda one=one: one >= one):
+                self.assertRaises(TypeError, call)
+        self.assertNotEqual(filled(64, []), counted(64, []))
+
+    def test_no_image_is_written(self):
+        """Two filters of 256 MiB are compared where there is no memory for the image of one."""
+        ran = in_short_memory("""
+            a, b = ds.BloomFilter(1 << 31, 3), ds.BloomFilter(1 << 31, 3)
+            a.insert(7), b.insert(7)
+            """, 64, """
+            print(a == b, a != b, a == a)
+            b.insert(8)
+            print(a == b, a != b)
+            """)
+        self.assertEqual(ran, ["True False True", "False True"])
+
+
+def in_short_memory(before, megabytes, then):
+    """What a script prints whose second part has so much memory and no more."""
+    script = "import mmap, resource\nimport datasketches_rattle as ds\n" + unindented(before) + f"""
+pages = int(open("/proc/self/statm").read().split()[0])
+resource.setrlimit(resource.RLIMIT_AS, (pages * resource.getpagesize() + ({megabytes} << 20),) * 2)
+""" + unindented(then)
+    done = subprocess.run([sys.executable, "-c", script], capture_output=True, text=True, timeout=120, check=False,
+                          cwd=os.path.dirname(os.path.dirname(ds.__file__)))
+    return done.stdout.split("\n")[:-1] if done.returncode == 0 else done.stderr
+
+
+def unindented(text):
+    lines = text.strip("\n").split("\n")
+    indent = len(lines[0]) - len(lines[0].lstrip())
+    return "\n".join(line[indent:] for line in lines) + "\n"
+
+
+def outcome(read, given, limit):
+    """What a reader makes of an image: a sketch's image, or a fault."""
+    try:
+        return bytes(read(given, limit=limit))
+    except ds.SketchError as error:
+        return error.fault
+
+
+class Shared(unittest.TestCase):
+    def test_each_buffer_is_read_alike(self):
+        chance = random.Random(1)
+        mapping = mmap.mmap(-1, 4096)
+        for whole, read in ((filled(128, [1, 2]), ds.BloomFilter.from_bytes), (counted(3, [1, 2]), ds.CountMin.from_bytes),
+                            (frequent([1, 2], 16), ds.FrequentItems.from_bytes),
+                            (frequent(["a", "bcd"], 16, item=str), lambda *a, **k: ds.FrequentItems.from_bytes(*a, item=str, **k))):
+            image = bytes(whole)
+            for _ in range(3000):
+                altered = bytearray(image + bytes(chance.choice((0, 0, 8, 1000))))
+                for _ in range(chance.randrange(3)):
+                    altered[chance.randrange(min(len(altered), len(image)))] = chance.choice((0, 1, 255, chance.randrange(256)))
+                if chance.random() < 0.3:
+                    del altered[chance.randrange(len(altered)):]
+                limit = chance.choice((0, 8, 16, 100, 200, 1000, 1 << 16))
+                plain = bytes(altered)
+                told = outcome(read, plain, limit)
+                self.assertEqual(outcome(read, memoryview(plain), limit), told)
+                if len(plain) > limit + 32 and told == "InsufficientData":
+                    told = "TableTooLarge"
+                mapping[:len(plain)] = plain
+                with memoryview(mapping)[:len(plain)] as view:
+                    for given in (altered, memoryview(altered), memoryview(altered).toreadonly(), array.array("B", plain), view):
+                        self.assertEqual(outcome(read, given, limit), told, (plain, limit))
+
+    def test_a_copy_keeps_to_the_limit(self):
+        """An image of 512 MiB in a shared mapping is rejected under 1 MiB in some more memory than that."""
+        ran = in_short_memory("""
+            seen = ds.BloomFilter(1 << 32, 3)
+            seen.insert(7)
+            image = mmap.mmap(-1, (1 << 29) + 32)
+            image[:32] = bytes(seen)[:32]
+            seen.close()
+            """, 64, """
+            for limit in (1 << 20, (1 << 29) - 1):
+                try:
+                    ds.BloomFilter.from_bytes(image, limit=limit)
+                except ds.SketchError as error:
+                    print(error.fault)
+                except MemoryError:
+                    print("MemoryError")
+            """)
+        self.assertEqual(ran, ["TableTooLarge", "MemoryError"])
+
+    def changed_meanwhile(self, image, places, read, check):
+        """Reads an image from a mapping, bytes of which another thread changes all the time, and checks what comes of it."""
+        mapping = mmap.mmap(-1, len(image))
+        mapping[:] = image
+        done, read_well = threading.Event(), 0
+
+        def change():
+            while not done.is_set():
+                for place in places:
+                    mapping[place:place + 8] = b"\xff" * 8
+                for place in places:
+                    mapping[place:place + 8] = image[place:place + 8]
+                time.sleep(0)
+
+        interval = sys.getswitchinterval()
+        sys.setswitchinterval(1e-6)
+        changer = threading.Thread(target=change)
+        changer.start()
+        try:
+            for _ in range(400):
+                try:
+                    whole = read(mapping)
+                except ds.SketchError:
+                    continue
+                check(whole)
+                read_well += 1
+        finally:
+            done.set()
+            changer.join()
+            sys.setswitchinterval(interval)
+        self.assertGreater(read_well, 0)
+
+    def test_weights_that_change(self):
+        image = bytes(frequent(LARGE[:20_000], 1 << 15))
+
+        def check(heavy):
+            self.assertEqual((sum(row[1] for row in heavy.rows()), heavy.total), (20_000, 20_000))
+
+        self.changed_meanwhile(image, [32 + 8 * number for number in (100, 10_000, 19_000)], ds.FrequentItems.from_bytes, check)
+
+    def test_bits_that_change(self):
+        image = bytearray(bytes(filled(1 << 20, LARGE[:20_000])))
+        image[24:32] = b"\xff" * 8  # the bits are said not to be counted
+
+        def check(seen):
+            self.assertEqual(ds.BloomFilter.from_bytes(bytes(seen)), seen)
+
+        self.changed_meanwhile(bytes(image), [32 + 8 * number for number in range(1, 16_000, 3999)], ds.BloomFilter.from_bytes, check)
+
+    def test_a_view_is_given_back(self):
+        image = bytearray(bytes(filled(64, [1])))
+        ds.BloomFilter.from_bytes(image)
+        for wrong in ({"limit": -1}, {"limit": 0}):
+            self.assertRaises((ValueError, ds.SketchError), ds.BloomFilter.from_bytes, image, **wrong)
+        image.append(0)
+
+
+class WithItself(unittest.TestCase):
+    def test_filters(self):
+        for operation, left in (("__ior__", True), ("__iand__", True), ("__isub__", False)):
+            seen = filled(1 << 12, [7, 8])
+            self.assertIs(getattr(seen, operation)(seen), seen)
+            self.assertEqual((7 in seen, 8 in seen), (left, left))
+
+    def test_weights_are_doubled(self):
+        for item, whole in ((7, counted(64, [7, 7])), (7, counted(64, [7, 7], signed=True)), (7, frequent([7, 7], 16)),
+                            (7, frequent([7, 7], 16, item="u64")), ("a", frequent(["a", "a"], 16, item=str))):
+            same = whole
+            whole += whole
+            self.assertIs(whole, same)
+            self.assertEqual((whole[item], whole.total, (whole + whole)[item], whole[item]), (4, 4, 8, 4))
+
+    def test_all_or_nothing(self):
+        for weight, item, whole in ((2**63, 7, counted(64, [])), (2**62, 7, counted(64, [], signed=True)), (2**63, 7, frequent([], 16)),
+                                    (2**63, 7, frequent([], 16, item="u64")), (2**63, "a", frequent([], 16, item=str))):
+            whole.update(item, weight)
+            with self.assertRaises(ds.SketchError) as refused:
+                whole += whole
+            self.assertEqual((refused.exception.fault, whole[item], whole.total), ("WeightOverflow", weight, weight))
+
+    def test_purged_weights(self):
+        heavy = ds.FrequentItems(64)
+        heavy.update(array.array("q", [n % 91 for n in range(5000)]))
+        low, total = {n: heavy.bounds(n)[0] for n in range(91)}, heavy.total
+        heavy += heavy
+        self.assertEqual(heavy.total, 2 * total)
+        for number in range(91):
+            self.assertLessEqual(heavy.bounds(number)[0], 2 * (5000 // 91 + 1))
+            self.assertGreaterEqual(heavy.bounds(number)[2], 2 * low[number])
+
+
+class Size(unittest.TestCase):
+    def test_tables(self):
+        self.assertEqual(round(sys.getsizeof(ds.BloomFilter(1 << 23, 3)) / 2**20, 2), 1)
+        self.assertEqual(round(sys.getsizeof(ds.CountMin(4, 1 << 15)) / 2**20, 2), 1)
+        self.assertLess(sys.getsizeof(ds.BloomFilter(64, 3)), 500)
+        heavy = ds.FrequentItems(1 << 18)
+        self.assertLess(sys.getsizeof(heavy), 1000)
+        heavy.update(LARGE)
+        self.assertGreater(sys.getsizeof(heavy), 16 * len(LARGE))
+
+    def test_strings_count(self):
+        words = ds.FrequentItems(64, item=str)
+        before = sys.getsizeof(words)
+        for number in range(10):
+            words.update(str(number) * 100_000)
+        self.assertTrue(1_000_000 <= sys.getsizeof(words) - before < 2_100_000)
+
+    def test_of_subclasses(self):
+        self.assertGreater(sys.getsizeof(Named(1 << 23, 3)), 1 << 20)
+
+    def test_closed(self):
+        for whole in (filled(1 << 20), counted(1 << 12), frequent(), frequent(WORDS, item=str)):
+            whole.close()
+            self.assertEqual(whole.__sizeof__(), object.__sizeof__(whole))
+            self.assertLess(sys.getsizeof(whole), 200)
+
+
+class Named(ds.BloomFilter):
+    """A filter with attributes."""
+
+
+FIELDS = {ds.BloomFilter: ["bits", "hashes", "seed", "bits_used"], ds.CountMin: ["hashes", "buckets", "seed", "signed", "total"],
+          ds.FrequentItems: ["total", "maximum_error", "active_items", "max_map_size", "sample_size"]}
+OF_A_CLASS = {"from_bytes", "suggest_bits", "suggest_hashes", "suggest_buckets", "suggest_max_map_size", "unpickle_limit"}
+
+
+class Closed(unittest.TestCase):
+    def wholes(self):
+        """Pairs of open sketches of one class, and an item of each."""
+        for _ in range(1):
+            yield filled(64, [7]), filled(64, [7]), 7
+            yield counted(64, [7]), counted(64, [7], seed=3), 7
+            yield counted(64, [7], signed=True), counted(64, [7]), 7
+            yield frequent([7], 16), frequent([7], 16), 7
+            yield frequent(["a"], 16, item=str), frequent([7], 16), "a"
+
+    def test_every_attribute(self):
+        for whole, other, item in self.wholes():
+            whole.close()
+            kind = type(whole)
+            calls = {name: (lambda whole=whole, name=name: getattr(whole, name)) for name in FIELDS[kind]}
+            takes = {"insert": [item], "contains": [item], "update": [item], "estimate": [item], "upper_bound": [item], "bounds": [item],
+                     "decay": [1, 2]}
+            methods = [name for name in dir(kind) if not name.startswith("_") and name not in OF_A_CLASS and name not in FIELDS[kind]]
+            self.assertEqual(set(FIELDS[kind]) | set(methods) | OF_A_CLASS >= {name for name in vars(kind) if not name.startswith("_")}, True)
+            for name in methods:
+                if name != "close":
+                    calls[name] = lambda whole=whole, name=name: getattr(whole, name)(*takes.get(name, []))
+            calls |= {"bytes": lambda: bytes(whole), "copy": lambda: copy.copy(whole), "deepcopy": lambda: copy.deepcopy(whole),
+                      "reduce": lambda: whole.__reduce__(), "with": whole.__enter__, "equal": lambda: whole == other,
+                      "equal to it": lambda: other == whole, "unequal": lambda: whole != other, "itself": lambda: whole == whole,
+                      "many": lambda: getattr(whole, "insert" if kind is ds.BloomFilter else "update")([item])}
+            for name in ("or", "and", "sub", "add", "ior", "iand", "isub", "iadd"):
+                if f"__{name}__" in vars(kind):
+                    calls[name] = lambda name=name: getattr(whole, f"__{name}__")(other)
+                    calls[f"{name} of it"] = lambda name=name: getattr(other, f"__{name}__")(whole)
+                    calls[f"{name} itself"] = lambda name=name: getattr(whole, f"__{name}__")(whole)
+            if kind is ds.BloomFilter:
+                calls["in"] = lambda: item in whole
+            else:
+                calls["item"] = lambda: whole[item]
+            for name, call in calls.items():
+                with self.subTest(f"{kind.__name__}: {name}"), self.assertRaisesRegex(ValueError, "^the sketch is closed$"):
+                    call()
+
+    def test_what_is_left(self):
+        for whole, other, _ in self.wholes():
+            with whole:
+                whole.close()
+            whole.close()
+            self.assertEqual(repr(whole), f"<{type(whole).__name__}, closed>")
+            self.assertEqual((whole == 7, whole == None, None != whole), (False, False, True))  # noqa: E711
+            self.assertEqual([whole].index(whole), 0)
+            self.assertEqual(repr(other)[0], "<")
+
+
+if __name__ == "__main__":
+    unittest.main()
