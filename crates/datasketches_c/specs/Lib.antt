@@ -1,6 +1,7 @@
 pub mod Copies
 pub mod CountCalls
 pub mod CountJoins
+pub mod CountSteps
 pub mod Equality
 pub mod Estimates
 pub mod FrequentBatches
