@@ -4,6 +4,7 @@ pub mod CountJoins
 pub mod CountSteps
 pub mod Equality
 pub mod Estimates
+pub mod FilterImages
 pub mod FrequentBatches
 pub mod FrequentCalls
 pub mod FrequentImages
