@@ -243,6 +243,7 @@ pub extern "C" fn ds_frequent_text_bounds_all(
     ensures bounds { AreTexts bytes.now offsets.now → length bounds.old + 1 ≡ length offsets.now
         → OnFrequentTexts handle.old.value handle.new.value result (λ s.
         TellsOfTexts s (texts_of bytes.now offsets.now) bounds.old bounds.new result) }
+    ensures untouched { result ≢ ok → result ≢ refusal_number Fault.NoMemory → bounds.new ≡ bounds.old }
 {
     if let Some(refusal) = refusal_of_texts_in(bounds.len(), bytes, offsets) {
         return refusal;
