@@ -188,6 +188,10 @@ int32_t ds_filter_union(ds_sketch *handle, ds_sketch *other);
 int32_t ds_filter_intersect(ds_sketch *handle, ds_sketch *other);
 int32_t ds_filter_difference(ds_sketch *handle, ds_sketch *other);
 
+/* Returns DS_YES if both filters have the same bits, hashes, seed and positions, and DS_NO otherwise. Changes neither filter.
+ * DS_NO_SKETCH or DS_WRONG_KIND is that of the first of the two handles without a filter. */
+int32_t ds_filter_equal(ds_sketch *handle, ds_sketch *other);
+
 /* Takes all positions away. */
 int32_t ds_filter_reset(ds_sketch *handle);
 
@@ -253,6 +257,10 @@ int32_t ds_count_u64_upper_bound_text(ds_sketch *handle, const uint8_t *item, si
  * or seeds differ, and by DS_WEIGHT_OVERFLOW. */
 int32_t ds_count_u64_merge(ds_sketch *handle, ds_sketch *other);
 
+/* Returns DS_YES if both sketches have the same hashes, buckets, seed, total and cells, and DS_NO otherwise. Changes neither
+ * sketch. DS_NO_SKETCH or DS_WRONG_KIND is that of the first of the two handles without such a sketch. */
+int32_t ds_count_u64_equal(ds_sketch *handle, ds_sketch *other);
+
 /* Halves each cell and the total, rounded down. */
 int32_t ds_count_u64_halve(ds_sketch *handle);
 
@@ -311,6 +319,7 @@ int32_t ds_count_i64_upper_bound_u64(ds_sketch *handle, uint64_t item, int64_t *
 int32_t ds_count_i64_upper_bound_i64(ds_sketch *handle, int64_t item, int64_t *bound);
 int32_t ds_count_i64_upper_bound_text(ds_sketch *handle, const uint8_t *item, size_t length, int64_t *bound);
 int32_t ds_count_i64_merge(ds_sketch *handle, ds_sketch *other);
+int32_t ds_count_i64_equal(ds_sketch *handle, ds_sketch *other);
 int32_t ds_count_i64_status(ds_sketch *handle, ds_count_numbers *status);
 int32_t ds_count_i64_to_bytes(ds_sketch *handle, uint8_t *out, size_t capacity, size_t *written);
 int32_t ds_count_i64_from_bytes(ds_sketch *handle, const uint8_t *image, size_t length, uint64_t seed, size_t most_bytes);
@@ -529,6 +538,7 @@ DS_ANSWERS_TEXTS(ds_filter_contains_all_text, bool)
 DS_JOINS(ds_filter_union)
 DS_JOINS(ds_filter_intersect)
 DS_JOINS(ds_filter_difference)
+DS_JOINS(ds_filter_equal)
 DS_WRITES(ds_filter_to_bytes)
 DS_READS_AND(ds_filter_from_bytes, uint8_t, size_t)
 DS_READS_AND(ds_count_u64_update_text, uint8_t, uint64_t)
@@ -544,6 +554,7 @@ DS_ANSWERS(ds_count_u64_estimate_all_i64, int64_t, uint64_t)
 DS_ANSWERS_TEXTS(ds_count_u64_estimate_all_text, uint64_t)
 DS_READS_AND(ds_count_u64_upper_bound_text, uint8_t, uint64_t *)
 DS_JOINS(ds_count_u64_merge)
+DS_JOINS(ds_count_u64_equal)
 DS_WRITES(ds_count_u64_to_bytes)
 DS_READS_UNDER(ds_count_u64_from_bytes)
 DS_READS_AND(ds_count_i64_update_text, uint8_t, int64_t)
@@ -559,6 +570,7 @@ DS_ANSWERS(ds_count_i64_estimate_all_i64, int64_t, int64_t)
 DS_ANSWERS_TEXTS(ds_count_i64_estimate_all_text, int64_t)
 DS_READS_AND(ds_count_i64_upper_bound_text, uint8_t, int64_t *)
 DS_JOINS(ds_count_i64_merge)
+DS_JOINS(ds_count_i64_equal)
 DS_WRITES(ds_count_i64_to_bytes)
 DS_READS_UNDER(ds_count_i64_from_bytes)
 DS_READS_AND(ds_frequent_text_update, uint8_t, uint64_t)
@@ -601,6 +613,7 @@ DS_ROWS_OF_TEXTS(ds_frequent_text_rows)
 #define ds_filter_union(handle, other) ds_filter_union_checked(handle, other)
 #define ds_filter_intersect(handle, other) ds_filter_intersect_checked(handle, other)
 #define ds_filter_difference(handle, other) ds_filter_difference_checked(handle, other)
+#define ds_filter_equal(handle, other) ds_filter_equal_checked(handle, other)
 #define ds_filter_to_bytes(handle, out, capacity, written) ds_filter_to_bytes_checked(handle, out, capacity, written)
 #define ds_filter_from_bytes(handle, image, length, most_bytes) \
     ds_filter_from_bytes_checked(handle, image, length, most_bytes)
@@ -627,6 +640,7 @@ DS_ROWS_OF_TEXTS(ds_frequent_text_rows)
 #define ds_count_u64_upper_bound_text(handle, item, length, bound) \
     ds_count_u64_upper_bound_text_checked(handle, item, length, bound)
 #define ds_count_u64_merge(handle, other) ds_count_u64_merge_checked(handle, other)
+#define ds_count_u64_equal(handle, other) ds_count_u64_equal_checked(handle, other)
 #define ds_count_u64_to_bytes(handle, out, capacity, written) \
     ds_count_u64_to_bytes_checked(handle, out, capacity, written)
 #define ds_count_u64_from_bytes(handle, image, length, seed, most_bytes) \
@@ -654,6 +668,7 @@ DS_ROWS_OF_TEXTS(ds_frequent_text_rows)
 #define ds_count_i64_upper_bound_text(handle, item, length, bound) \
     ds_count_i64_upper_bound_text_checked(handle, item, length, bound)
 #define ds_count_i64_merge(handle, other) ds_count_i64_merge_checked(handle, other)
+#define ds_count_i64_equal(handle, other) ds_count_i64_equal_checked(handle, other)
 #define ds_count_i64_to_bytes(handle, out, capacity, written) \
     ds_count_i64_to_bytes_checked(handle, out, capacity, written)
 #define ds_count_i64_from_bytes(handle, image, length, seed, most_bytes) \

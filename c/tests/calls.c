@@ -578,6 +578,48 @@ static void rows_of_texts(void)
     ds_free(&other);
 }
 
+/* Sketches that are equal, and sketches that differ in one thing. */
+static void equal_sketches(void)
+{
+    ds_sketch a = DS_NONE, b = DS_NONE, other = DS_NONE;
+    int64_t estimate;
+
+    CHECK(ds_filter_equal(&a, &b) == DS_NO_SKETCH && ds_filter_new(&a, 128, 3, 9001) == DS_OK);
+    CHECK(ds_filter_equal(&a, &a) == DS_BAD_ARGUMENT && ds_filter_equal(&a, &b) == DS_NO_SKETCH);
+    CHECK(ds_filter_equal(&b, &a) == DS_NO_SKETCH && ds_filter_new(&b, 65, 3, 9001) == DS_OK);
+    /* 65 bits and 128 are both two words */
+    CHECK(ds_filter_equal(&a, &b) == DS_YES && ds_filter_insert_u64(&a, 7) == DS_OK);
+    CHECK(ds_filter_equal(&a, &b) == DS_NO && ds_filter_equal(&b, &a) == DS_NO);
+    CHECK(ds_filter_insert_i64(&b, 7) == DS_OK && ds_filter_equal(&a, &b) == DS_YES);
+    CHECK(ds_clone(&other, &a) == DS_OK && ds_filter_equal(&other, &a) == DS_YES && ds_filter_contains_u64(&a, 7) == DS_YES);
+    CHECK(ds_filter_reset(&a) == DS_OK && ds_filter_new(&b, 129, 3, 9001) == DS_OK && ds_filter_equal(&a, &b) == DS_NO);
+    CHECK(ds_filter_new(&b, 128, 4, 9001) == DS_OK && ds_filter_equal(&a, &b) == DS_NO);
+    CHECK(ds_filter_new(&b, 128, 3, 9002) == DS_OK && ds_filter_equal(&a, &b) == DS_NO);
+    CHECK(ds_count_u64_equal(&a, &b) == DS_WRONG_KIND && ds_count_i64_equal(&a, &b) == DS_WRONG_KIND);
+
+    CHECK(ds_count_u64_new(&b, 4, 128, 9001) == DS_OK && ds_filter_equal(&a, &b) == DS_WRONG_KIND);
+    CHECK(ds_filter_equal(&b, &a) == DS_WRONG_KIND && ds_count_u64_new(&a, 4, 128, 9001) == DS_OK);
+    CHECK(ds_count_u64_equal(&a, &b) == DS_YES && ds_count_u64_update_u64(&a, 1, 5) == DS_OK);
+    CHECK(ds_count_u64_equal(&a, &b) == DS_NO && ds_count_u64_update_u64(&b, 2, 5) == DS_OK);
+    /* equal totals, and other cells */
+    CHECK(ds_count_u64_equal(&a, &b) == DS_NO && ds_count_u64_update_u64(&a, 2, 5) == DS_OK);
+    CHECK(ds_count_u64_update_u64(&b, 1, 5) == DS_OK && ds_count_u64_equal(&a, &b) == DS_YES);
+    CHECK(ds_count_u64_new(&a, 4, 128, 9001) == DS_OK && ds_count_u64_new(&b, 5, 128, 9001) == DS_OK);
+    CHECK(ds_count_u64_equal(&a, &b) == DS_NO && ds_count_u64_new(&b, 4, 129, 9001) == DS_OK);
+    CHECK(ds_count_u64_equal(&a, &b) == DS_NO && ds_count_u64_new(&b, 4, 128, 9002) == DS_OK);
+    CHECK(ds_count_u64_equal(&a, &b) == DS_NO);
+
+    CHECK(ds_count_i64_new(&b, 4, 128, 9001) == DS_OK && ds_count_u64_equal(&a, &b) == DS_WRONG_KIND);
+    CHECK(ds_count_i64_new(&a, 4, 128, 9001) == DS_OK && ds_count_i64_equal(&a, &b) == DS_YES);
+    CHECK(ds_count_i64_update_u64(&a, 1, 5) == DS_OK && ds_count_i64_update_u64(&b, 1, -5) == DS_OK);
+    CHECK(ds_count_i64_equal(&a, &b) == DS_NO && ds_clone(&other, &b) == DS_OK && ds_count_i64_equal(&other, &b) == DS_YES);
+    CHECK(ds_count_i64_estimate_u64(&b, 1, &estimate) == DS_OK && estimate == -5);
+    ds_free(&b);
+    CHECK(ds_count_i64_equal(&a, &b) == DS_NO_SKETCH && ds_count_i64_equal(&b, &a) == DS_NO_SKETCH);
+    ds_free(&a);
+    ds_free(&other);
+}
+
 static void *fill(void *argument)
 {
     ds_sketch *handle = argument;
@@ -625,6 +667,7 @@ int main(void)
     many_texts();
     weights();
     rows_of_texts();
+    equal_sketches();
     threads();
     names();
     printf("%d of %d checks hold\n", checks - failures, checks);

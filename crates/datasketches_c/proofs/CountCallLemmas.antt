@@ -1,43 +1,43 @@
 -- Calls on a handle's Count-Min sketch, from what they do to the sketch.
 use Rattle.std.proofs.Common.{◌≡◌, ℕ, ℤ, ◌+◌, ◌-◌, ◌<◌, ◌≤◌, List, Option, Some, length, map, take}
 use Rattle.sketch_base.specs.declared.fault.Fault.TheVariants.{WeightOverflow}
-use Rattle.sketch_countmin.specs.State.{CountState, CountsAll}
+use Rattle.sketch_countmin.specs.State.{CountState}
 use Rattle.datasketches_c.specs.CountCalls.{AddsEach, AddsWeights, EstimatesAll}
-use Rattle.datasketches_c.specs.Estimates.{AreLeastCells}
+use Rattle.datasketches_c.specs.CountSteps.{WeighsAll, WeighsEach}
+use Rattle.datasketches_c.specs.Estimates.{AreEstimates}
 use Rattle.datasketches_c.specs.Kinds.{HoldsKind}
 use Rattle.datasketches_c.specs.Numbers.{ok, refusal_number}
-use Rattle.datasketches_c.specs.Weights.{CountsWeights}
 use Rattle.datasketches_c.specs.declared.any_sketch.AnySketch.{AnySketch}
 use Rattle.datasketches_c.proofs.KindLemmas.{on_kind_said, holds_kind}
 
 module _ (part : AnySketch → Option CountState) (old new : Option AnySketch) (held : AnySketch) (s : CountState) (result : ℤ)
     (is : old ≡ Some held) (which : part held ≡ Some s) where
   -- each item's estimate was written down
-  pub all_estimated : {I : Type 0} (bytes_of : I → List ℕ) (items : List I) (estimates : List ℤ) → result ≡ ok → AreLeastCells s bytes_of items estimates
+  pub all_estimated : {I : Type 0} (bytes_of : I → List ℕ) (items : List I) (estimates : List ℤ) → result ≡ ok → AreEstimates s bytes_of items estimates
       → EstimatesAll part old new result bytes_of items estimates
-  all_estimated bytes_of items estimates done are = on_kind_said part old new held s result (λ a. (result ≡ ok) × AreLeastCells a bytes_of items estimates) is which (done, are)
+  all_estimated bytes_of items estimates done are = on_kind_said part old new held s result (λ a. (result ≡ ok) × AreEstimates a bytes_of items estimates) is which (done, are)
 
   module _ (greatest : ℕ) (given : AnySketch) (t : CountState) (new_is : new ≡ Some given) (which_new : part given ≡ Some t) where
     -- 1 was added for each item
-    pub each_added : {I : Type 0} (bytes_of : I → List ℕ) (items : List I) → CountsAll s (take (greatest - s.total) (map bytes_of items)) t
+    pub each_added : {I : Type 0} (bytes_of : I → List ℕ) (items : List I) → WeighsAll s (take (greatest - s.total) (map bytes_of items)) t
         → (s.total + length items ≤ greatest → result ≡ ok) → (greatest < s.total + length items → result ≡ refusal_number WeightOverflow)
         → AddsEach part greatest old new result bytes_of items
     each_added bytes_of items counted done overflow =
         let Said : CountState → Type 0 = λ a.
-        HoldsKind part new (CountsAll a (take (greatest - a.total) (map bytes_of items)))
+        HoldsKind part new (WeighsAll a (take (greatest - a.total) (map bytes_of items)))
         × (a.total + length items ≤ greatest → result ≡ ok)
         × (greatest < a.total + length items → result ≡ refusal_number WeightOverflow) in
         on_kind_said part old new held s result Said is which
-        (holds_kind part new given t (CountsAll s (take (greatest - s.total) (map bytes_of items))) new_is which_new counted, done, overflow)
+        (holds_kind part new given t (WeighsAll s (take (greatest - s.total) (map bytes_of items))) new_is which_new counted, done, overflow)
 
     -- weights were added for the items
     pub weights_added : {I W : Type 0} (bytes_of : I → List ℕ) (number : W → ℤ) (items : List I) (weights : List W) (together : ℕ)
-        → (s.total + together ≤ greatest → (result ≡ ok) × CountsWeights bytes_of number s items weights t)
+        → (s.total + together ≤ greatest → (result ≡ ok) × WeighsEach bytes_of number s items weights t)
         → (greatest < s.total + together → result ≡ refusal_number WeightOverflow)
         → AddsWeights part greatest old new result bytes_of number items weights together
     weights_added bytes_of number items weights together counted overflow =
         let Said : CountState → Type 0 = λ a.
-        (a.total + together ≤ greatest → (result ≡ ok) × HoldsKind part new (CountsWeights bytes_of number a items weights))
+        (a.total + together ≤ greatest → (result ≡ ok) × HoldsKind part new (WeighsEach bytes_of number a items weights))
         × (greatest < a.total + together → result ≡ refusal_number WeightOverflow) in
         on_kind_said part old new held s result Said is which
-        ((λ room. ((counted room).0, holds_kind part new given t (CountsWeights bytes_of number s items weights) new_is which_new (counted room).1)), overflow)
+        ((λ room. ((counted room).0, holds_kind part new given t (WeighsEach bytes_of number s items weights) new_is which_new (counted room).1)), overflow)

@@ -1,8 +1,9 @@
 -- Filters that others are set against.
-use Rattle.std.proofs.Common.{◌≡◌, Option, None, Some, ℤ, ap}
+use Rattle.std.proofs.Common.{◌≡◌, Option, None, Some, ℤ, ap, subst}
 use Rattle.sketch_base.specs.declared.fault.Fault.TheVariants.{Mismatch}
+use Rattle.sketch_bloom.specs.Stands.{ExtendsBoth}
 use Rattle.sketch_bloom.specs.State.{FilterState, IsCompatible}
-use Rattle.datasketches_c.specs.Joining.{IsCombined, joined}
+use Rattle.datasketches_c.specs.Joining.{IsCombined, joined, joined_history}
 use Rattle.datasketches_c.specs.Kinds.{OnKind, HoldsKind, filter_of}
 use Rattle.datasketches_c.specs.Numbers.{ok, refusal_number}
 use Rattle.datasketches_c.specs.declared.any_sketch.AnySketch.{AnySketch}
@@ -24,14 +25,18 @@ holds_filter None s is = absurd is
 pub was_set_against : (operation : SetOperation) (old new other_old other_new : Option AnySketch) (result : ℤ)
     → OnKind filter_of old new result (λ a. OnKind filter_of other_old other_new result (λ b. HoldsKind filter_of new (λ c. IsCombined operation a b c result)))
     → OnKind filter_of old new result (λ a. OnKind filter_of other_old other_new result (λ b.
-    (IsCompatible a b → (result ≡ ok) × (new ≡ Some (Filter (joined operation a b)))) × (¬ IsCompatible a b → result ≡ refusal_number Mismatch)))
+    (IsCompatible a b → (result ≡ ok) × (new ≡ Some (Filter (joined operation a b))) × ExtendsBoth a b (joined operation a b) (joined_history operation)) × (¬ IsCompatible a b → result ≡ refusal_number Mismatch)))
 was_set_against operation old new other_old other_new result said =
     let Combined : FilterState → FilterState → Type 0 = λ a b. HoldsKind filter_of new (λ c. IsCombined operation a b c result) in
     let Set : FilterState → FilterState → Type 0 = λ a b.
-    (IsCompatible a b → (result ≡ ok) × (new ≡ Some (Filter (joined operation a b)))) × (¬ IsCompatible a b → result ≡ refusal_number Mismatch) in
+    (IsCompatible a b → (result ≡ ok) × (new ≡ Some (Filter (joined operation a b))) × ExtendsBoth a b (joined operation a b) (joined_history operation)) × (¬ IsCompatible a b → result ≡ refusal_number Mismatch) in
     let set : (a b : FilterState) → Combined a b → Set a b = λ a b held.
     let Is : FilterState → Type 0 = λ c. IsCombined operation a b c result in (
-      (λ fits. (of_held filter_of new Is (λ c is. (is.done fits).0) held, holds_filter new (joined operation a b) (holds_less filter_of new Is (λ c. c ≡ joined operation a b) (λ c is. (is.done fits).1) held))),
+      (λ fits. (
+        of_held filter_of new Is (λ c is. (is.done fits).0) held,
+        holds_filter new (joined operation a b) (holds_less filter_of new Is (λ c. c ≡ joined operation a b) (λ c is. (is.done fits).1) held),
+        of_held filter_of new Is (λ c is. subst (λ (t : FilterState). ExtendsBoth a b t (joined_history operation)) (is.done fits).1 (is.done fits).2) held,
+      )),
       (λ differ. of_held filter_of new Is (λ c is. is.mismatch differ) held),
     ) in
     on_kind_less filter_of old new result (λ a. OnKind filter_of other_old other_new result (Combined a)) (λ a. OnKind filter_of other_old other_new result (Set a))

@@ -3,6 +3,7 @@ pub mod BoundsLemmas
 pub mod CountCallLemmas
 pub mod CountJoinLemmas
 pub mod CountLemmas
+pub mod EqualityLemmas
 pub mod FilterLemmas
 pub mod FrequentLemmas
 pub mod Handles

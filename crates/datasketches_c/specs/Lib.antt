@@ -1,7 +1,10 @@
 pub mod Copies
 pub mod CountCalls
 pub mod CountJoins
+pub mod CountSteps
+pub mod Equality
 pub mod Estimates
+pub mod FilterImages
 pub mod FrequentBatches
 pub mod FrequentCalls
 pub mod FrequentImages

@@ -2,16 +2,9 @@
 use Rattle.std.specs.Prelude.{◌≡◌, ℕ, ℤ, List, sum}
 use Rattle.std.specs.List.{zip}
 use Rattle.sketch_base.specs.declared.fault.Fault.TheVariants.{NoMemory, WeightOverflow}
-use Rattle.sketch_countmin.specs.State.{CountState, Counts}
 use Rattle.sketch_frequencies.specs.State.{FrequentState, Overflows, TotalHasRoom}
-use Rattle.datasketches_c.specs.InTurn.{InTurn, CallsInTurn}
+use Rattle.datasketches_c.specs.InTurn.{CallsInTurn}
 use Rattle.datasketches_c.specs.Numbers.{OnRefused, refusal_number}
-
--- new is old after each weight was counted for its item
-abbrev pub CountsWeights :
-    {I W : Type 0} → (I → List ℕ) → (W → ℤ) → CountState → List I → List W → CountState → Type 0
-CountsWeights bytes_of number old items weights new =
-    InTurn (λ s pair t. Counts s (bytes_of pair.0) (number pair.1) t) old (zip items weights) new
 
 -- what many updates of a sketch of frequent items, each with a weight, answer as one, and what they leave: nothing is added where
 -- the total has no room for all, and else they stop at the first for which there is no memory

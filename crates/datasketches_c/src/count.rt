@@ -2,9 +2,10 @@
 ghost use Rattle.std.specs.Prelude.{◌≡◌, ◌≢◌, ◌+◌, ◌-◌, ◌<◌, ◌≤◌, length, map, take, sum_by, unsigned_abs};
 ghost use Rattle.std.specs.Hash as fed;
 ghost use Rattle.sketch_base.specs.Hashes.{fed_bytes};
-ghost use Rattle.sketch_countmin.specs.State.{Counts, CountsAll, IsLeastCell};
 ghost use Rattle.datasketches_c.specs.CountCalls.{AddsWeight, AddsEach, AddsWeights, EstimatesAll, AreCountNumbers, IsBound, MergesInto};
 ghost use Rattle.datasketches_c.specs.CountJoins.{IsJoined};
+ghost use Rattle.datasketches_c.specs.CountSteps.{Weighs, WeighsAll};
+ghost use Rattle.datasketches_c.specs.Estimates.{AreEstimates, IsEstimate};
 ghost use Rattle.datasketches_c.specs.Kinds.{WritesDown, WritesDownEach};
 ghost use Rattle.datasketches_c.specs.Numbers.{OnRefused, ok, no_room, refusal_number};
 ghost use Rattle.datasketches_c.specs.Texts.{AreTexts, RefusesTexts, RefusesTextsIn, texts_of};
@@ -17,6 +18,7 @@ use crate::kind::{Kind, on_kind};
 use crate::status_code::{NO_ROOM, OK, refusal_number};
 use crate::texts::{refusal_of_texts, refusal_of_texts_in};
 use sketch_base::Fault;
+use sketch_countmin::laws::what_the_least_cell_says;
 use sketch_countmin::{CountMinSketch, CountMinValue};
 use std::alloc::Global;
 use std::hash::Hash;
@@ -39,7 +41,7 @@ fn count<V: CountMinValue, I: Hash + Drop>(
     weight: V,
 ) -> i32
     ensures counted { sketch.old.total + unsigned_abs (V.number weight) ≤ V.greatest
-        → (result ≡ ok) × Counts sketch.old (fed_bytes I.hash_input item) (V.number weight) sketch.new }
+        → (result ≡ ok) × Weighs sketch.old (fed_bytes I.hash_input item) (V.number weight) sketch.new }
     ensures overflow { V.greatest < sketch.old.total + unsigned_abs (V.number weight)
         → result ≡ refusal_number Fault.WeightOverflow }
     ensures refused { OnRefused result (sketch.new ≡ sketch.old) }
@@ -69,7 +71,7 @@ where
 /// Adds 1 to the weight of each item in a sketch, as far as the total has room, and answers the call's number.
 #[inline]
 fn count_all<V: CountMinValue, I: Hash>(sketch: &mut CountMinSketch<V>, items: &[I]) -> i32
-    ensures counted { CountsAll sketch.old
+    ensures counted { WeighsAll sketch.old
         (take (V.greatest - sketch.old.total) (map (fed_bytes I.hash_input) items.now)) sketch.new }
     ensures done { sketch.old.total + length items.now ≤ V.greatest → result ≡ ok }
     ensures overflow { V.greatest < sketch.old.total + length items.now → result ≡ refusal_number Fault.WeightOverflow }
@@ -126,7 +128,7 @@ pub(crate) fn estimate<V: CountMinValue, I: Hash + Drop>(
 where
     CountMinSketch<V>: Kind,
     ensures { WritesDown (⟦<CountMinSketch<V> as Kind>⟧.part) handle.old.value handle.new.value result estimate.old estimate.new (λ s.
-        IsLeastCell s (fed_bytes I.hash_input item) (V.number estimate.new)) }
+        IsEstimate s (fed_bytes I.hash_input item) (V.number estimate.new)) }
 {
     on_kind!(alloc, handle, CountMinSketch<V>, sketch => {
         *estimate = sketch.estimate(item);
@@ -153,6 +155,23 @@ where
     })
 }
 
+/// Writes down the sketch's estimate of each item's weight.
+#[inline]
+fn estimate_items<V: CountMinValue, I: Hash>(
+    sketch: &CountMinSketch<V>,
+    items: &[I],
+    estimates: &mut [V],
+)
+    requires { length items.now ≡ length estimates.old }
+    ensures length { length estimates.new ≡ length items.now }
+    ensures each { AreEstimates sketch.now (fed_bytes I.hash_input) items.now (map V.number estimates.new) }
+{
+    // for the prover: what holds of every sketch, and what a least cell says
+    let _ = sketch.num_hashes();
+    what_the_least_cell_says();
+    sketch.estimate_all(items, estimates);
+}
+
 /// Writes down the estimate of each item's weight. There are as many estimates as items.
 #[inline]
 pub(crate) fn estimate_all<V: CountMinValue, I: Hash>(
@@ -171,7 +190,7 @@ where
         return NO_ROOM;
     }
     on_kind!(alloc, handle, CountMinSketch<V>, sketch => {
-        sketch.estimate_all(items, estimates);
+        estimate_items(sketch, items, estimates);
         OK
     })
 }

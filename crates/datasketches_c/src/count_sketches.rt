@@ -1,12 +1,14 @@
 //! Count-Min sketches as wholes: made, merged, halved, decayed, described, written and read.
-ghost use Rattle.std.specs.Prelude.{None, Some, pos, ◌*◌, ◌+◌, ◌<◌, ◌≡◌, ◌≢◌, ◌≤◌};
+ghost use Rattle.std.specs.Prelude.{None, Some, pos, ◌<◌, ◌≡◌, ◌≢◌, ◌≤◌};
 ghost use Rattle.sketch_base.specs.Errors.{refusal_of};
-ghost use Rattle.sketch_countmin.specs.Image.{IsImage, IsSpelled, early_fault_within, first_fault_within};
+ghost use Rattle.sketch_countmin.specs.History.CountHistory.{Decay, Halve, New};
+ghost use Rattle.sketch_countmin.specs.Image.{IsSpelled, early_fault_within, first_fault_within};
 ghost use Rattle.sketch_countmin.specs.Shapes.{shape_fault};
+ghost use Rattle.sketch_countmin.specs.Stands.{Extends, StandsFor};
 ghost use Rattle.sketch_countmin.specs.State.{decayed_state, empty_state, halved_state};
-ghost use Rattle.datasketches_c.specs.CountCalls.{Describes, MergesInto};
+ghost use Rattle.datasketches_c.specs.CountCalls.{Describes, IsRestored, MergesInto};
 ghost use Rattle.datasketches_c.specs.Images.{IsRefusedImage, WritesImage};
-ghost use Rattle.datasketches_c.specs.Kinds.{HoldsKind, OnCountU64, OnKind, count_i64_of, count_u64_of};
+ghost use Rattle.datasketches_c.specs.Kinds.{HoldsCountI64, HoldsCountU64, OnCountU64, OnKind, count_i64_of, count_u64_of};
 ghost use Rattle.datasketches_c.specs.Numbers.{OnDone, OnRefused, bad_fraction, greatest_i64, greatest_u64, least_i64, no_room, ok, refusal_number};
 ghost use Rattle.datasketches_c.specs.declared.any_sketch.AnySketch.TheVariants.{CountI64, CountU64};
 
@@ -34,6 +36,7 @@ pub extern "C" fn ds_count_u64_new(
 ) -> i32
     ensures done { OnDone result ((result ≡ ok)
         × (handle.new.value ≡ Some (CountU64 (empty_state num_hashes num_buckets seed)))) }
+    ensures stands { OnDone result (StandsFor (empty_state num_hashes num_buckets seed) (New num_hashes num_buckets seed)) }
     ensures accepted { OnDone result (shape_fault num_hashes num_buckets seed ≡ None) }
     ensures refused { OnRefused result ((handle.new.value ≡ handle.old.value)
         × (result ≡ refusal_number (refusal_of (shape_fault num_hashes num_buckets seed)).fault)) }
@@ -57,6 +60,7 @@ pub extern "C" fn ds_count_i64_new(
 ) -> i32
     ensures done { OnDone result ((result ≡ ok)
         × (handle.new.value ≡ Some (CountI64 (empty_state num_hashes num_buckets seed)))) }
+    ensures stands { OnDone result (StandsFor (empty_state num_hashes num_buckets seed) (New num_hashes num_buckets seed)) }
     ensures accepted { OnDone result (shape_fault num_hashes num_buckets seed ≡ None) }
     ensures refused { OnRefused result ((handle.new.value ≡ handle.old.value)
         × (result ≡ refusal_number (refusal_of (shape_fault num_hashes num_buckets seed)).fault)) }
@@ -103,7 +107,7 @@ pub extern "C" fn ds_count_i64_merge(
 #[unsafe(no_mangle)]
 pub extern "C" fn ds_count_u64_halve(alloc: Global, handle: &mut SketchHandle) -> i32
     ensures { OnCountU64 handle.old.value handle.new.value result (λ s.
-        (result ≡ ok) × (handle.new.value ≡ Some (CountU64 (halved_state s)))) }
+        (result ≡ ok) × (handle.new.value ≡ Some (CountU64 (halved_state s))) × Extends s (halved_state s) Halve) }
 {
     on_kind!(alloc, handle, CountMinSketch<u64>, sketch => {
         sketch.halve();
@@ -124,7 +128,8 @@ pub extern "C" fn ds_count_u64_decay(
     ensures above { denominator < numerator → (result ≡ bad_fraction) × (handle.new.value ≡ handle.old.value) }
     ensures call { 0 < numerator → numerator ≤ denominator
         → OnCountU64 handle.old.value handle.new.value result (λ s.
-        (result ≡ ok) × (handle.new.value ≡ Some (CountU64 (decayed_state numerator denominator s)))) }
+        (result ≡ ok) × (handle.new.value ≡ Some (CountU64 (decayed_state numerator denominator s)))
+        × Extends s (decayed_state numerator denominator s) (λ h. Decay h numerator denominator)) }
 {
     if numerator == 0 || numerator > denominator {
         return BAD_FRACTION;
@@ -214,8 +219,8 @@ pub extern "C" fn ds_count_u64_from_bytes(
     seed: u64,
     most_bytes: usize,
 ) -> i32
-    ensures done { OnDone result ((result ≡ ok) × HoldsKind count_u64_of handle.new.value (λ s.
-        IsImage (pos 0) greatest_u64 seed image.now s × (s.hashes * s.buckets * 8 + 8 * s.hashes ≤ most_bytes))) }
+    ensures done { OnDone result ((result ≡ ok) × HoldsCountU64 handle.new.value
+        (IsRestored (pos 0) greatest_u64 seed image.now most_bytes)) }
     ensures refused { OnRefused result ((handle.new.value ≡ handle.old.value) × IsRefusedImage
         (early_fault_within 8 most_bytes seed image.now)
         (first_fault_within (pos 0) greatest_u64 8 most_bytes seed image.now) result) }
@@ -239,8 +244,8 @@ pub extern "C" fn ds_count_i64_from_bytes(
     seed: u64,
     most_bytes: usize,
 ) -> i32
-    ensures done { OnDone result ((result ≡ ok) × HoldsKind count_i64_of handle.new.value (λ s.
-        IsImage least_i64 greatest_i64 seed image.now s × (s.hashes * s.buckets * 8 + 8 * s.hashes ≤ most_bytes))) }
+    ensures done { OnDone result ((result ≡ ok) × HoldsCountI64 handle.new.value
+        (IsRestored least_i64 greatest_i64 seed image.now most_bytes)) }
     ensures refused { OnRefused result ((handle.new.value ≡ handle.old.value) × IsRefusedImage
         (early_fault_within 8 most_bytes seed image.now)
         (first_fault_within least_i64 greatest_i64 8 most_bytes seed image.now) result) }

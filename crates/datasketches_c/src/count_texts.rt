@@ -2,8 +2,8 @@
 ghost use Rattle.std.specs.Prelude.{◌≡◌, ◌+◌, ◌-◌, ◌<◌, ◌≤◌, length, map, take};
 ghost use Rattle.std.specs.Hash as fed;
 ghost use Rattle.sketch_base.specs.Hashes.{fed_bytes};
-ghost use Rattle.sketch_countmin.specs.State.{CountsAll};
-ghost use Rattle.datasketches_c.specs.Estimates.{AreLeastCells};
+ghost use Rattle.datasketches_c.specs.CountSteps.{WeighsAll};
+ghost use Rattle.datasketches_c.specs.Estimates.{AreEstimates};
 ghost use Rattle.datasketches_c.specs.Numbers.{ok, refusal_number};
 ghost use Rattle.datasketches_c.specs.Texts.{AreTexts, AreTextsIn, texts_of};
 
@@ -19,7 +19,7 @@ pub(crate) fn count_texts<T: CountMinValue>(
     offsets: &[u64],
 ) -> i32
     requires { AreTexts bytes.now offsets.now }
-    ensures counted { CountsAll sketch.old
+    ensures counted { WeighsAll sketch.old
         (take (T.greatest - sketch.old.total) (map (fed_bytes fed.str) (texts_of bytes.now offsets.now))) sketch.new }
     ensures done { sketch.old.total + length (texts_of bytes.now offsets.now) ≤ T.greatest → result ≡ ok }
     ensures overflow { T.greatest < sketch.old.total + length (texts_of bytes.now offsets.now)
@@ -45,7 +45,7 @@ pub(crate) fn estimate_texts<T: CountMinValue>(
 )
     requires { AreTextsIn (length estimates.old) bytes.now offsets.now }
     ensures length { length estimates.new ≡ length estimates.old }
-    ensures estimates { AreLeastCells sketch.now (fed_bytes fed.str) (texts_of bytes.now offsets.now) (map T.number estimates.new) }
+    ensures estimates { AreEstimates sketch.now (fed_bytes fed.str) (texts_of bytes.now offsets.now) (map T.number estimates.new) }
 {
     let count = num_texts(bytes, offsets);
     'each: for i in 0..count {

@@ -2,9 +2,9 @@
 ghost use Rattle.std.specs.Prelude.{◌≡◌, ◌+◌, ◌<◌, ◌≤◌, ◌↔◌, length, sum_by, unsigned_abs, IsTrue};
 ghost use Rattle.std.specs.Hash as fed;
 ghost use Rattle.sketch_base.specs.Hashes.{fed_bytes};
+ghost use Rattle.datasketches_c.specs.CountSteps.{WeighsEach};
 ghost use Rattle.datasketches_c.specs.Numbers.{OnRefused, ok, refusal_number};
 ghost use Rattle.datasketches_c.specs.Texts.{AreTextsIn, texts_of};
-ghost use Rattle.datasketches_c.specs.Weights.{CountsWeights};
 
 use crate::status_code::{OK, refusal_number};
 use crate::texts::{num_texts, text_at};
@@ -52,7 +52,7 @@ pub(crate) fn count_weighted<T: CountMinValue, I: Hash + Copy>(
 ) -> i32
     requires { length weights.now ≡ length items.now }
     ensures counted { sketch.old.total + sum_by (λ weight. unsigned_abs (T.number weight)) weights.now ≤ T.greatest
-        → (result ≡ ok) × CountsWeights (fed_bytes I.hash_input) T.number sketch.old items.now weights.now sketch.new }
+        → (result ≡ ok) × WeighsEach (fed_bytes I.hash_input) T.number sketch.old items.now weights.now sketch.new }
     ensures overflow { T.greatest < sketch.old.total + sum_by (λ weight. unsigned_abs (T.number weight)) weights.now
         → result ≡ refusal_number Fault.WeightOverflow }
     ensures refused { OnRefused result (sketch.new ≡ sketch.old) }
@@ -75,7 +75,7 @@ pub(crate) fn count_weighted_texts<T: CountMinValue>(
 ) -> i32
     requires { AreTextsIn (length weights.now) bytes.now offsets.now }
     ensures counted { sketch.old.total + sum_by (λ weight. unsigned_abs (T.number weight)) weights.now ≤ T.greatest
-        → (result ≡ ok) × CountsWeights (fed_bytes fed.str) T.number sketch.old (texts_of bytes.now offsets.now) weights.now
+        → (result ≡ ok) × WeighsEach (fed_bytes fed.str) T.number sketch.old (texts_of bytes.now offsets.now) weights.now
         sketch.new }
     ensures overflow { T.greatest < sketch.old.total + sum_by (λ weight. unsigned_abs (T.number weight)) weights.now
         → result ≡ refusal_number Fault.WeightOverflow }

@@ -1,14 +1,18 @@
 //! Filters: made, filled, asked, set against others, emptied, described, written and read.
 ghost use Rattle.std.specs.FinSet as set;
 ghost use Rattle.std.specs.Hash as fed;
-ghost use Rattle.std.specs.Prelude.{◌≡◌, ◌≢◌, Some, None, length, map, if◌then◌else◌, ◌+◌, ◌*◌, ◌≤◌};
+ghost use Rattle.std.specs.Prelude.{◌≡◌, ◌≢◌, Some, None, length, map, if◌then◌else◌};
 ghost use Rattle.std.specs.Str.{IsUtf8};
 ghost use Rattle.sketch_base.specs.Errors.{refusal_of};
 ghost use Rattle.sketch_base.specs.Hashes.{fed_bytes};
 ghost use Rattle.sketch_bloom.specs.Building.{request_fault, words_for};
-ghost use Rattle.sketch_bloom.specs.Image.{IsImage, IsSpelled, early_fault_within, first_fault_within};
+ghost use Rattle.sketch_bloom.specs.History.{all_inserted_after};
+ghost use Rattle.sketch_bloom.specs.History.BloomHistory.{Difference, Insert, Intersection, New, Reset, Union};
+ghost use Rattle.sketch_bloom.specs.Image.{IsSpelled, early_fault_within, first_fault_within};
+ghost use Rattle.sketch_bloom.specs.Stands.{Extends, ExtendsBoth, StandsFor};
 ghost use Rattle.sketch_bloom.specs.State.{empty_state, contains_item, inserted, all_inserted, IsCompatible, united, intersected, subtracted, capacity_of, cleared};
 ghost use Rattle.datasketches_c.specs.Images.{WritesImage, IsRefusedImage};
+ghost use Rattle.datasketches_c.specs.FilterImages.{IsRestored};
 ghost use Rattle.datasketches_c.specs.Joining.{IsCombined};
 ghost use Rattle.datasketches_c.specs.Kinds.{OnFilter, HoldsFilter};
 ghost use Rattle.datasketches_c.specs.Numbers.{OnDone, OnRefused, ok, no, yes, no_room, refusal_number};
@@ -37,6 +41,8 @@ pub extern "C" fn ds_filter_new(
 ) -> i32
     ensures done { OnDone result ((result ≡ ok)
         × (handle.new.value ≡ Some (Filter (empty_state (words_for num_bits) num_hashes seed)))) }
+    ensures stands { OnDone result (StandsFor (empty_state (words_for num_bits) num_hashes seed)
+        (New (words_for num_bits) num_hashes seed)) }
     ensures accepted { OnDone result
         (request_fault (record { num_bits = num_bits; num_hashes = num_hashes; seed = seed }) ≡ None) }
     ensures refused { OnRefused result ((handle.new.value ≡ handle.old.value) × (result ≡ refusal_number
@@ -50,7 +56,8 @@ pub extern "C" fn ds_filter_new(
 #[inline]
 fn insert<I: Hash + Drop>(alloc: Global, handle: &mut SketchHandle, item: I) -> i32
     ensures { OnFilter handle.old.value handle.new.value result (λ s.
-        (result ≡ ok) × (handle.new.value ≡ Some (Filter (inserted s (fed_bytes I.hash_input item))))) }
+        (result ≡ ok) × (handle.new.value ≡ Some (Filter (inserted s (fed_bytes I.hash_input item))))
+        × Extends s (inserted s (fed_bytes I.hash_input item)) (λ h. Insert h (fed_bytes I.hash_input item))) }
 {
     on_kind!(alloc, handle, BloomFilter, filter => {
         filter.insert(item);
@@ -62,7 +69,8 @@ fn insert<I: Hash + Drop>(alloc: Global, handle: &mut SketchHandle, item: I) -> 
 #[unsafe(no_mangle)]
 pub extern "C" fn ds_filter_insert_u64(alloc: Global, handle: &mut SketchHandle, item: u64) -> i32
     ensures { OnFilter handle.old.value handle.new.value result (λ s.
-        (result ≡ ok) × (handle.new.value ≡ Some (Filter (inserted s (fed_bytes fed.u64 item))))) }
+        (result ≡ ok) × (handle.new.value ≡ Some (Filter (inserted s (fed_bytes fed.u64 item))))
+        × Extends s (inserted s (fed_bytes fed.u64 item)) (λ h. Insert h (fed_bytes fed.u64 item))) }
 {
     insert(alloc, handle, item)
 }
@@ -71,7 +79,8 @@ pub extern "C" fn ds_filter_insert_u64(alloc: Global, handle: &mut SketchHandle,
 #[unsafe(no_mangle)]
 pub extern "C" fn ds_filter_insert_i64(alloc: Global, handle: &mut SketchHandle, item: i64) -> i32
     ensures { OnFilter handle.old.value handle.new.value result (λ s.
-        (result ≡ ok) × (handle.new.value ≡ Some (Filter (inserted s (fed_bytes fed.i64 item))))) }
+        (result ≡ ok) × (handle.new.value ≡ Some (Filter (inserted s (fed_bytes fed.i64 item))))
+        × Extends s (inserted s (fed_bytes fed.i64 item)) (λ h. Insert h (fed_bytes fed.i64 item))) }
 {
     insert(alloc, handle, item)
 }
@@ -84,7 +93,8 @@ pub extern "C" fn ds_filter_insert_text(
     item: &[u8],
 ) -> i32
     ensures text { IsUtf8 item.now → OnFilter handle.old.value handle.new.value result (λ s.
-        (result ≡ ok) × (handle.new.value ≡ Some (Filter (inserted s (fed_bytes fed.str item.now))))) }
+        (result ≡ ok) × (handle.new.value ≡ Some (Filter (inserted s (fed_bytes fed.str item.now))))
+        × Extends s (inserted s (fed_bytes fed.str item.now)) (λ h. Insert h (fed_bytes fed.str item.now))) }
     ensures no_text { ¬ (IsUtf8 item.now) → (result ≡ refusal_number Fault.InvalidUtf8)
         × (handle.new.value ≡ handle.old.value) }
 {
@@ -95,7 +105,9 @@ pub extern "C" fn ds_filter_insert_text(
 #[inline]
 fn insert_all<I: Hash>(alloc: Global, handle: &mut SketchHandle, items: &[I]) -> i32
     ensures { OnFilter handle.old.value handle.new.value result (λ s.
-        (result ≡ ok) × (handle.new.value ≡ Some (Filter (all_inserted s (map (fed_bytes I.hash_input) items.now))))) }
+        (result ≡ ok) × (handle.new.value ≡ Some (Filter (all_inserted s (map (fed_bytes I.hash_input) items.now))))
+        × Extends s (all_inserted s (map (fed_bytes I.hash_input) items.now))
+        (λ h. all_inserted_after h (map (fed_bytes I.hash_input) items.now))) }
 {
     on_kind!(alloc, handle, BloomFilter, filter => {
         filter.insert_all(items);
@@ -111,7 +123,9 @@ pub extern "C" fn ds_filter_insert_all_u64(
     items: &[u64],
 ) -> i32
     ensures { OnFilter handle.old.value handle.new.value result (λ s.
-        (result ≡ ok) × (handle.new.value ≡ Some (Filter (all_inserted s (map (fed_bytes fed.u64) items.now))))) }
+        (result ≡ ok) × (handle.new.value ≡ Some (Filter (all_inserted s (map (fed_bytes fed.u64) items.now))))
+        × Extends s (all_inserted s (map (fed_bytes fed.u64) items.now))
+        (λ h. all_inserted_after h (map (fed_bytes fed.u64) items.now))) }
 {
     insert_all(alloc, handle, items)
 }
@@ -124,7 +138,9 @@ pub extern "C" fn ds_filter_insert_all_i64(
     items: &[i64],
 ) -> i32
     ensures { OnFilter handle.old.value handle.new.value result (λ s.
-        (result ≡ ok) × (handle.new.value ≡ Some (Filter (all_inserted s (map (fed_bytes fed.i64) items.now))))) }
+        (result ≡ ok) × (handle.new.value ≡ Some (Filter (all_inserted s (map (fed_bytes fed.i64) items.now))))
+        × Extends s (all_inserted s (map (fed_bytes fed.i64) items.now))
+        (λ h. all_inserted_after h (map (fed_bytes fed.i64) items.now))) }
 {
     insert_all(alloc, handle, items)
 }
@@ -269,7 +285,8 @@ pub extern "C" fn ds_filter_union(
     ensures refused { OnRefused result (handle.new.value ≡ handle.old.value) }
     ensures call { OnFilter handle.old.value handle.new.value result (λ a.
         OnFilter other.old.value other.new.value result (λ b.
-        (IsCompatible a b → (result ≡ ok) × (handle.new.value ≡ Some (Filter (united a b))))
+        (IsCompatible a b → (result ≡ ok) × (handle.new.value ≡ Some (Filter (united a b)))
+        × ExtendsBoth a b (united a b) Union)
         × (¬ IsCompatible a b → result ≡ refusal_number Fault.Mismatch))) }
 {
     join::<BloomFilter, SetOperation>(alloc, handle, other, SetOperation::Union)
@@ -286,7 +303,8 @@ pub extern "C" fn ds_filter_intersect(
     ensures refused { OnRefused result (handle.new.value ≡ handle.old.value) }
     ensures call { OnFilter handle.old.value handle.new.value result (λ a.
         OnFilter other.old.value other.new.value result (λ b.
-        (IsCompatible a b → (result ≡ ok) × (handle.new.value ≡ Some (Filter (intersected a b))))
+        (IsCompatible a b → (result ≡ ok) × (handle.new.value ≡ Some (Filter (intersected a b)))
+        × ExtendsBoth a b (intersected a b) Intersection)
         × (¬ IsCompatible a b → result ≡ refusal_number Fault.Mismatch))) }
 {
     join::<BloomFilter, SetOperation>(alloc, handle, other, SetOperation::Intersection)
@@ -303,7 +321,8 @@ pub extern "C" fn ds_filter_difference(
     ensures refused { OnRefused result (handle.new.value ≡ handle.old.value) }
     ensures call { OnFilter handle.old.value handle.new.value result (λ a.
         OnFilter other.old.value other.new.value result (λ b.
-        (IsCompatible a b → (result ≡ ok) × (handle.new.value ≡ Some (Filter (subtracted a b))))
+        (IsCompatible a b → (result ≡ ok) × (handle.new.value ≡ Some (Filter (subtracted a b)))
+        × ExtendsBoth a b (subtracted a b) Difference)
         × (¬ IsCompatible a b → result ≡ refusal_number Fault.Mismatch))) }
 {
     join::<BloomFilter, SetOperation>(alloc, handle, other, SetOperation::Difference)
@@ -323,7 +342,7 @@ pub struct FilterStatus {
 #[unsafe(no_mangle)]
 pub extern "C" fn ds_filter_reset(alloc: Global, handle: &mut SketchHandle) -> i32
     ensures { OnFilter handle.old.value handle.new.value result (λ s.
-        (result ≡ ok) × (handle.new.value ≡ Some (Filter (cleared s)))) }
+        (result ≡ ok) × (handle.new.value ≡ Some (Filter (cleared s))) × Extends s (cleared s) Reset) }
 {
     on_kind!(alloc, handle, BloomFilter, filter => {
         filter.reset();
@@ -391,8 +410,7 @@ pub extern "C" fn ds_filter_from_bytes(
     image: &[u8],
     most_bytes: usize,
 ) -> i32
-    ensures done { OnDone result ((result ≡ ok) × HoldsFilter handle.new.value (λ s.
-        IsImage image.now s × (8 * s.num_words ≤ most_bytes))) }
+    ensures done { OnDone result ((result ≡ ok) × HoldsFilter handle.new.value (IsRestored image.now most_bytes)) }
     ensures refused { OnRefused result ((handle.new.value ≡ handle.old.value) × IsRefusedImage
         (early_fault_within most_bytes image.now) (first_fault_within most_bytes image.now) result) }
 {

@@ -2,6 +2,8 @@
 ghost use Rattle.std.specs.Hash as fed;
 ghost use Rattle.std.specs.Prelude.{◌≡◌, length, map};
 ghost use Rattle.sketch_base.specs.Hashes.{fed_bytes};
+ghost use Rattle.sketch_bloom.specs.History.{all_inserted_after};
+ghost use Rattle.sketch_bloom.specs.Stands.{Extends};
 ghost use Rattle.sketch_bloom.specs.State.{contains_item, all_inserted};
 ghost use Rattle.datasketches_c.specs.Texts.{AreTexts, AreTextsIn, texts_of};
 
@@ -11,7 +13,9 @@ use sketch_bloom::BloomFilter;
 /// Inserts each text of a buffer.
 pub(crate) fn insert_texts(filter: &mut BloomFilter, bytes: &[u8], offsets: &[u64])
     requires { AreTexts bytes.now offsets.now }
-    ensures { filter.new ≡ all_inserted filter.old (map (fed_bytes fed.str) (texts_of bytes.now offsets.now)) }
+    ensures insertions { filter.new ≡ all_inserted filter.old (map (fed_bytes fed.str) (texts_of bytes.now offsets.now)) }
+    ensures stands { Extends filter.old filter.new
+        (λ h. all_inserted_after h (map (fed_bytes fed.str) (texts_of bytes.now offsets.now))) }
 {
     let count = num_texts(bytes, offsets);
     'each: for i in 0..count {

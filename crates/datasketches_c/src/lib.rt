@@ -10,6 +10,7 @@ mod count_sketches;
 mod count_texts;
 mod count_update;
 mod count_weighted;
+mod equality;
 mod filter;
 mod filter_texts;
 mod frequent;

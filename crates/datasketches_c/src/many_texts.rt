@@ -3,6 +3,8 @@ ghost use Rattle.std.specs.Hash as fed;
 ghost use Rattle.std.specs.Prelude.{All, Some, length, map, pos, ◌+◌, ◌≡◌, ◌≢◌};
 ghost use Rattle.std.specs.Str.{IsUtf8};
 ghost use Rattle.sketch_base.specs.Hashes.{fed_bytes};
+ghost use Rattle.sketch_bloom.specs.History.{all_inserted_after};
+ghost use Rattle.sketch_bloom.specs.Stands.{Extends};
 ghost use Rattle.sketch_bloom.specs.State.{all_inserted, contains_item};
 ghost use Rattle.datasketches_c.specs.CountCalls.{AddsEach, EstimatesAll};
 ghost use Rattle.datasketches_c.specs.FrequentBatches.{TellsOfTexts};
@@ -40,7 +42,9 @@ pub extern "C" fn ds_filter_insert_all_text(
 ) -> i32
     ensures texts { AreTexts bytes.now offsets.now → OnFilter handle.old.value handle.new.value result (λ s.
         (result ≡ ok) × (handle.new.value
-        ≡ Some (Filter (all_inserted s (map (fed_bytes fed.str) (texts_of bytes.now offsets.now)))))) }
+        ≡ Some (Filter (all_inserted s (map (fed_bytes fed.str) (texts_of bytes.now offsets.now)))))
+        × Extends s (all_inserted s (map (fed_bytes fed.str) (texts_of bytes.now offsets.now)))
+        (λ h. all_inserted_after h (map (fed_bytes fed.str) (texts_of bytes.now offsets.now)))) }
     ensures bad_offsets { ¬ AreOffsets bytes.now offsets.now → result ≡ bad_offsets }
     ensures no_text { AreOffsets bytes.now offsets.now → ¬ All IsUtf8 (texts_of bytes.now offsets.now)
         → result ≡ refusal_number Fault.InvalidUtf8 }
@@ -239,6 +243,7 @@ pub extern "C" fn ds_frequent_text_bounds_all(
     ensures bounds { AreTexts bytes.now offsets.now → length bounds.old + 1 ≡ length offsets.now
         → OnFrequentTexts handle.old.value handle.new.value result (λ s.
         TellsOfTexts s (texts_of bytes.now offsets.now) bounds.old bounds.new result) }
+    ensures untouched { result ≢ ok → result ≢ refusal_number Fault.NoMemory → bounds.new ≡ bounds.old }
 {
     if let Some(refusal) = refusal_of_texts_in(bounds.len(), bytes, offsets) {
         return refusal;

@@ -1,7 +1,11 @@
+use Rattle.std.proofs.Common.{refl}
 use Rattle.std.proofs.lemmas.Bool.{false≢true}
 use Rattle.datasketches_c.proofs.InTurnLemmas.{refused_for}
 use Rattle.datasketches_c.proofs.Reports.{when_refused}
 use Rattle.datasketches_c.proofs.count.count.Goals as goal
+
+pub returns-in-Ok-clause-counted : goal.returns-in-Ok-clause-counted
+returns-in-Ok-clause-counted g c = λ fits. (refl, record { counted = c.in-Ok.ensures.counted; stands = c.in-Ok.ensures.stands })
 
 -- the total has no room
 pub returns-in-Err : goal.returns-in-Err

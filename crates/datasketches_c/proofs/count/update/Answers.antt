@@ -2,7 +2,8 @@ use Rattle.std.proofs.Common.{Some, ◌+◌, ◌<◌, ◌≤◌, ◌≡◌, ℤ,
 use Rattle.std.specs.Prelude.{unsigned_abs}
 use Rattle.sketch_base.specs.Hashes.{fed_bytes}
 use Rattle.sketch_base.specs.declared.fault.Fault.TheVariants.{WeightOverflow}
-use Rattle.sketch_countmin.specs.State.{CountState, Counts}
+use Rattle.sketch_countmin.specs.State.{CountState}
+use Rattle.datasketches_c.specs.CountSteps.{Weighs}
 use Rattle.datasketches_c.specs.Kinds.{HoldsKind}
 use Rattle.datasketches_c.specs.Numbers.{ok, no_sketch, refusal_number, wrong_kind}
 use Rattle.datasketches_c.proofs.KindLemmas.{on_kind_said, on_none_said, on_other_said, holds_kind, kept_when_refused}
@@ -19,12 +20,12 @@ returns-in-Some-part_of-clause-call g c =
     let bytes = fed_bytes g.I.Hash.hash_input c.args.item in
     let handle = c.give.new.self.value in
     let Added : CountState → Type 0 = λ s.
-    (s.total + unsigned_abs weight ≤ greatest → (result ≡ ok) × HoldsKind g.bound-10.part handle (Counts s bytes weight))
+    (s.total + unsigned_abs weight ≤ greatest → (result ≡ ok) × HoldsKind g.bound-10.part handle (Weighs s bytes weight))
     × (greatest < s.total + unsigned_abs weight → result ≡ refusal_number WeightOverflow) in
-    let counted : old.total + unsigned_abs weight ≤ greatest → (result ≡ ok) × Counts old bytes weight new = c.count-answer.ensures.counted in
+    let counted : old.total + unsigned_abs weight ≤ greatest → (result ≡ ok) × Weighs old bytes weight new = c.count-answer.ensures.counted in
     let said = on_kind_said g.bound-10.part c.args.handle.now.value handle c.deref_mut.result.now old result Added
     (c.in-Some.ensures.sketch ∙ ap Some (sym c.deref_mut.ensures.value)) c.in-Some-part_of.ensures.which.0
-    ((λ room. ((counted room).0, holds_kind g.bound-10.part handle (g.bound-10.whole new) new (Counts old bytes weight) c.give.ensures (g.bound-10-met.back new) (counted room).1)), c.count-answer.ensures.overflow) in
+    ((λ room. ((counted room).0, holds_kind g.bound-10.part handle (g.bound-10.whole new) new (Weighs old bytes weight) c.give.ensures (g.bound-10-met.back new) (counted room).1)), c.count-answer.ensures.overflow) in
     search rules
 
 pub returns-in-Some-part_of-clause-refused : goal.returns-in-Some-part_of-clause-refused

@@ -2,7 +2,7 @@ use Rattle.std.proofs.Common.{inl, inr, ◌+◌, ◌-◌, ◌<◌, ◌≤◌, su
 use Rattle.std.specs.Hash as fed
 use Rattle.std.proofs.lemmas.Bool.{cases_lt, false≢true}
 use Rattle.sketch_base.specs.Hashes.{fed_bytes}
-use Rattle.sketch_countmin.specs.State.{CountsAll}
+use Rattle.datasketches_c.specs.CountSteps.{WeighsAll}
 use Rattle.datasketches_c.specs.Texts.{texts_of}
 use Rattle.datasketches_c.proofs.CountLemmas.{counts_next, counts_stop, counts_short, counts_whole}
 use Rattle.datasketches_c.proofs.count_texts.count_texts.Goals as goal
@@ -12,7 +12,7 @@ each-preserved g c =
     let texts = texts_of c.args.bytes.now c.args.offsets.now in
     let there : c.each.i < length texts = omega arith in
     record {
-      counted = counts_next (fed_bytes fed.str) texts c.each.i [] c.args.sketch.now c.each.sketch c.update.new.self c.text_at.result.now there c.text_at.ensures c.each.invariant.counted c.in-Ok.ensures.counted;
+      counted = counts_next (fed_bytes fed.str) texts c.each.i [] c.args.sketch.now c.each.sketch c.update.new.self c.text_at.result.now there c.text_at.ensures c.each.invariant.counted (record { counted = c.in-Ok.ensures.counted; stands = c.in-Ok.ensures.stands });
       state = c.update.ensures.state;
     }
 
@@ -22,7 +22,7 @@ returns-in_default-clause-counted g c =
     let there : c.each.i ≤ length texts = omega arith in
     let over : g.T.CountMinValue.greatest < c.each.sketch.total + 1 =
     elim (cases_lt g.T.CountMinValue.greatest (c.each.sketch.total + 1)) [ inl lt ↦ lt | inr le ↦ absurd (false≢true (c.in_default.ensures.succeeds le)) ] in
-    subst (λ s. CountsAll c.args.sketch.now (take (g.T.CountMinValue.greatest - c.args.sketch.now.total) (map (fed_bytes fed.str) texts)) s) (sym c.in_default.ensures.err)
+    subst (λ s. WeighsAll c.args.sketch.now (take (g.T.CountMinValue.greatest - c.args.sketch.now.total) (map (fed_bytes fed.str) texts)) s) (sym c.in_default.ensures.err)
     (counts_stop (fed_bytes fed.str) texts c.each.i g.T.CountMinValue.greatest c.args.sketch.now c.each.sketch there c.each.invariant.counted c.each.invariant.state.fits over)
 
 pub returns-in_default-clause-done : goal.returns-in_default-clause-done

@@ -1,13 +1,14 @@
 use Rattle.std.proofs.Common.{map, take}
 use Rattle.std.specs.Hash as fed
 use Rattle.sketch_base.specs.Hashes.{fed_bytes}
-use Rattle.sketch_countmin.specs.State.{CountsAll, IsCountState}
+use Rattle.sketch_countmin.specs.State.{IsCountState}
+use Rattle.datasketches_c.specs.CountSteps.{WeighsAll}
 use Rattle.datasketches_c.specs.Texts.{texts_of}
 use Rattle.datasketches_c.proofs.count_texts.count_texts.Given as goal
 
 -- the texts so far are counted
 abbrev pub invariant-each : goal.invariant-each
 invariant-each g l = record {
-  counted : CountsAll l.fn.sketch (map (fed_bytes fed.str) (take l.i (texts_of l.bytes l.offsets))) l.sketch;
+  counted : WeighsAll l.fn.sketch (map (fed_bytes fed.str) (take l.i (texts_of l.bytes l.offsets))) l.sketch;
   state : IsCountState g.T.CountMinValue.greatest l.sketch;
 }

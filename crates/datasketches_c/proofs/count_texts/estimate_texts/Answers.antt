@@ -12,7 +12,7 @@ each-preserved g c =
     let there : c.each.i < length texts = omega arith in
     let room : c.each.i < length c.each.estimates = omega arith in
     estimates_more g.T.CountMinValue.number c.args.sketch.now (fed_bytes fed.str) texts c.each.estimates c.each.i [] c.text_at.result.now c.estimate.result there room c.text_at.ensures
-    c.each.invariant c.estimate.ensures.least
+    c.each.invariant (record { least = c.estimate.ensures.least; encloses = c.estimate.ensures.encloses; raised = c.estimate.ensures.raised })
 
 pub offset_bounds-estimates-i : goal.offset_bounds-estimates-i
 offset_bounds-estimates-i g c = scaled_Fits c.each.i (length c.each.estimates) _ (omega arith) (search rules)

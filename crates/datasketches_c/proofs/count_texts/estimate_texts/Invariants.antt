@@ -1,12 +1,12 @@
 use Rattle.std.proofs.Common.{ℕ, ◌<◌, [], map, get_or, pos}
 use Rattle.std.specs.Hash as fed
 use Rattle.sketch_base.specs.Hashes.{fed_bytes}
-use Rattle.sketch_countmin.specs.State.{IsLeastCell}
+use Rattle.datasketches_c.specs.Estimates.{IsEstimate}
 use Rattle.datasketches_c.specs.Texts.{texts_of}
 use Rattle.datasketches_c.proofs.count_texts.estimate_texts.Given as goal
 
 -- the estimates so far are those of the texts
 abbrev pub invariant-each : goal.invariant-each
 invariant-each g l =
-    (k : ℕ) → k < l.i → IsLeastCell l.sketch (get_or (map (fed_bytes fed.str) (texts_of l.bytes l.offsets)) k [])
+    (k : ℕ) → k < l.i → IsEstimate l.sketch (get_or (map (fed_bytes fed.str) (texts_of l.bytes l.offsets)) k [])
     (get_or (map g.T.CountMinValue.number l.estimates) k (pos 0))

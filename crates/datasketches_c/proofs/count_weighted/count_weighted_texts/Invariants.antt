@@ -3,7 +3,7 @@ use Rattle.std.specs.Hash as fed
 use Rattle.std.specs.List.{zip}
 use Rattle.std.specs.Prelude.{sum_by, unsigned_abs}
 use Rattle.sketch_base.specs.Hashes.{fed_bytes}
-use Rattle.sketch_countmin.specs.State.{Counts}
+use Rattle.datasketches_c.specs.CountSteps.{Weighs}
 use Rattle.datasketches_c.specs.InTurn.{InTurn}
 use Rattle.datasketches_c.specs.Texts.{texts_of}
 use Rattle.datasketches_c.proofs.count_weighted.count_weighted_texts.Given as goal
@@ -11,6 +11,6 @@ use Rattle.datasketches_c.proofs.count_weighted.count_weighted_texts.Given as go
 -- the texts so far are counted
 abbrev pub invariant-each : goal.invariant-each
 invariant-each g l = record {
-  counted : InTurn (λ s (pair : List ℕ × g.row.T.Denot) t. Counts s (fed_bytes fed.str pair.0) (g.T.CountMinValue.number pair.1) t) l.fn.sketch (take l.i (zip (texts_of l.bytes l.offsets) l.weights)) l.sketch;
+  counted : InTurn (λ s (pair : List ℕ × g.row.T.Denot) t. Weighs s (fed_bytes fed.str pair.0) (g.T.CountMinValue.number pair.1) t) l.fn.sketch (take l.i (zip (texts_of l.bytes l.offsets) l.weights)) l.sketch;
   total : l.sketch.total ≡ l.fn.sketch.total + sum_by (λ (w : g.row.T.Denot). unsigned_abs (g.T.CountMinValue.number w)) (take l.i l.weights);
 }

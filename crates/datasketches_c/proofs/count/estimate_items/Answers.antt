@@ -1,0 +1,20 @@
+use Rattle.std.proofs.Common.{◌<◌, [], map, get_or, pos, arith}
+use Rattle.sketch_base.specs.Hashes.{fed_bytes}
+use Rattle.datasketches_c.proofs.count.estimate_items.Goals as goal
+
+-- what the law says of each least cell
+pub returns-clause-each : goal.returns-clause-each
+returns-clause-each g c =
+    let s = c.args.sketch.now in
+    let some : 0 < s.buckets = omega (arith, c.num_hashes.ensures.state.some_buckets) in
+    let law = c.what_the_least_cell_says.ensures in
+    record {
+      each = λ i there.
+          let bytes = get_or (map (fed_bytes g.I.Hash.hash_input) c.args.items.now) i [] in
+          let least = c.estimate_all.ensures.least i there in
+          record {
+            least = least;
+            encloses = λ h is above. law.encloses s h bytes _ some is above least;
+            raised = λ h is exact. law.raised s h bytes _ some is exact least;
+          };
+    }

@@ -1,0 +1,80 @@
+//! The sketches of two handles, compared in place.
+ghost use Rattle.std.specs.Prelude.{◌≡◌, if◌then◌else◌};
+ghost use Rattle.datasketches_c.specs.Equality.{ComparesWith};
+ghost use Rattle.datasketches_c.specs.Kinds.{OnKind, count_i64_of, count_u64_of, filter_of};
+ghost use Rattle.datasketches_c.specs.Numbers.{no, yes};
+
+use crate::handle::SketchHandle;
+use crate::kind::{Kind, on_kind};
+use crate::status_code::{NO, YES};
+use sketch_bloom::BloomFilter;
+use sketch_countmin::CountMinSketch;
+use std::alloc::Global;
+
+/// Compares a sketch with that of a handle, which keeps it.
+fn equal_to<K: Kind + PartialEq>(alloc: Global, sketch: &K, handle: &mut SketchHandle) -> i32
+    ensures kept { handle.new.value ≡ handle.old.value }
+    ensures call { OnKind K.part handle.old.value handle.new.value result (λ b.
+        result ≡ (if K.eq sketch.now b then yes else no)) }
+{
+    on_kind!(alloc, handle, K, other => { if *sketch == *other { YES } else { NO } })
+}
+
+/// Compares the sketches of two handles, which keep them.
+fn equal<K: Kind + PartialEq>(
+    alloc: Global,
+    handle: &mut SketchHandle,
+    other: &mut SketchHandle,
+) -> i32
+    ensures kept { handle.new.value ≡ handle.old.value }
+    ensures other { other.new.value ≡ other.old.value }
+    ensures call { OnKind K.part handle.old.value handle.new.value result (λ a.
+        OnKind K.part other.old.value other.new.value result (λ b.
+        result ≡ (if K.eq a b then yes else no))) }
+{
+    on_kind!(alloc, handle, K, sketch => equal_to(alloc, sketch, other))
+}
+
+/// Returns `YES` if the filters are equal: shapes, seeds and sets of positions. Returns `NO` otherwise. Both filters stay.
+#[unsafe(no_mangle)]
+pub extern "C" fn ds_filter_equal(
+    alloc: Global,
+    handle: &mut SketchHandle,
+    other: &mut SketchHandle,
+) -> i32
+    ensures kept { handle.new.value ≡ handle.old.value }
+    ensures other { other.new.value ≡ other.old.value }
+    ensures call { ComparesWith filter_of handle.old.value handle.new.value result other.old.value other.new.value }
+{
+    equal::<BloomFilter>(alloc, handle, other)
+}
+
+/// Returns `YES` if the sketches are equal: shapes, seeds, total weights and all cells. Returns `NO` otherwise. Both
+/// sketches stay.
+#[unsafe(no_mangle)]
+pub extern "C" fn ds_count_u64_equal(
+    alloc: Global,
+    handle: &mut SketchHandle,
+    other: &mut SketchHandle,
+) -> i32
+    ensures kept { handle.new.value ≡ handle.old.value }
+    ensures other { other.new.value ≡ other.old.value }
+    ensures call { ComparesWith count_u64_of handle.old.value handle.new.value result other.old.value other.new.value }
+{
+    equal::<CountMinSketch<u64>>(alloc, handle, other)
+}
+
+/// Returns `YES` if the sketches are equal: shapes, seeds, total weights and all cells. Returns `NO` otherwise. Both
+/// sketches stay.
+#[unsafe(no_mangle)]
+pub extern "C" fn ds_count_i64_equal(
+    alloc: Global,
+    handle: &mut SketchHandle,
+    other: &mut SketchHandle,
+) -> i32
+    ensures kept { handle.new.value ≡ handle.old.value }
+    ensures other { other.new.value ≡ other.old.value }
+    ensures call { ComparesWith count_i64_of handle.old.value handle.new.value result other.old.value other.new.value }
+{
+    equal::<CountMinSketch<i64>>(alloc, handle, other)
+}
