@@ -9,16 +9,16 @@ use Rattle.sketch_countmin.specs.History.{CountHistory, seed_of}
 use Rattle.sketch_frequencies.specs.Items.{Codec}
 use Rattle.datasketches.specs.Clusters.{IsKindOf, or_stranger, Process, session_of, histories_of, LoadsShown, Shows, IsProcess, LoadKeepsShown}
 use Rattle.datasketches.specs.Clusters.Process.{Began, Did, Took}
-use Rattle.datasketches.specs.Histories.{History, Assignment, after_one_told}
+use Rattle.datasketches.specs.Histories.{History, Assignment, after_action_told}
 use Rattle.datasketches.specs.Histories.History.{OfFrequent, OfCountI64, OfCountU64, OfBloom, OfStranger}
 use Rattle.datasketches.specs.Images.{bytes_of, image_of, IsImageOf, IsCountImage}
 use Rattle.datasketches.specs.Names.{Name, at_name}
 use Rattle.datasketches.specs.Replies.{is_refused}
 use Rattle.datasketches.specs.SessionStandsFor.{SessionStandsFor, Paired}
 use Rattle.datasketches.specs.State.{SessionState}
-use Rattle.datasketches.specs.Steps.{ShowsBytes, Step}
-use Rattle.datasketches.specs.declared.command.Command.{Command}
-use Rattle.datasketches.specs.declared.command.Command.TheVariants.{Load}
+use Rattle.datasketches.specs.Steps.{ShowsBytes, Performs}
+use Rattle.datasketches.specs.declared.action.Action.{Action}
+use Rattle.datasketches.specs.declared.action.Action.TheVariants.{Load}
 use Rattle.datasketches.specs.declared.image.Image.{Image}
 use Rattle.datasketches.specs.declared.image.Image.TheVariants as image
 use Rattle.datasketches.specs.declared.image_kind.ImageKind.{ImageKind}
@@ -26,7 +26,7 @@ use Rattle.datasketches.specs.declared.image_kind.ImageKind.TheVariants as kind
 use Rattle.datasketches.specs.declared.reply.Refusal.TheVariants.{NoSuchName}
 use Rattle.datasketches.specs.declared.reply.Reply.{Reply}
 use Rattle.datasketches.specs.declared.reply.Reply.TheVariants.{Image as Shown, Refused}
-use Rattle.datasketches.proofs.Stepping.{step_fits, step_fits_told, of_stranger}
+use Rattle.datasketches.proofs.Stepping.{action_fits, action_fits_told, of_stranger}
 
 -- ---- the bytes of an image, read as one of its kind
 
@@ -82,27 +82,27 @@ module _ {T C : Type 0} (slot : ℕ) (eq : T → T → Bool) (input : T → List
       (found.0, pair_case eq codec content found.0 (a.images (string_bytes image)) pair, found.2)
 
   -- so another that loads these bytes stands for it
-  took : (from old new : SessionState T) (a b : Assignment T) (image : Name) (shown : Vec ℕ Global) (command : Command T) (reply : Reply T) →
+  took : (from old new : SessionState T) (a b : Assignment T) (image : Name) (shown : Vec ℕ Global) (action : Action T) (reply : Reply T) →
       SessionStandsFor eq codec content from a → Shows slot eq input codec content from image shown → SessionStandsFor eq codec content old b →
-      LoadsShown shown (or_stranger (a.images (string_bytes image))) command → Step slot eq input codec content old command reply new →
-      SessionStandsFor eq codec content new (after_one_told input b command (or_stranger (a.images (string_bytes image))) reply)
+      LoadsShown shown (or_stranger (a.images (string_bytes image))) action → Performs slot eq input codec content old action reply new →
+      SessionStandsFor eq codec content new (after_action_told input b action (or_stranger (a.images (string_bytes image))) reply)
   took from old new a b image shown (Load name kind bytes most_bytes) reply stands shows fits loads step =
       let found = shown_image from a image shown stands shows in
       let h = or_stranger (a.images (string_bytes image)) in
-      step_fits_told slot eq input codec content (Load name kind bytes most_bytes) h reply old new b fits
+      action_fits_told slot eq input codec content (Load name kind bytes most_bytes) h reply old new b fits
       (read_again eq codec content found.0 h kind bytes found.1 loads.0 (loads.1 ∙ found.2)) step
   took from old new a b image shown _ reply stands shows fits loads step = absurd loads
 
   pub load_keeps_shown : LoadKeepsShown slot eq input codec content
   load_keeps_shown from old new a b h image name shown bytes kind most_bytes reply stands is shows fits k same step =
       let e = ap or_stranger is in
-      subst (λ (g : History T). SessionStandsFor eq codec content new (after_one_told input b (Load name kind bytes most_bytes) g reply)) e
+      subst (λ (g : History T). SessionStandsFor eq codec content new (after_action_told input b (Load name kind bytes most_bytes) g reply)) e
       (took from old new a b image shown (Load name kind bytes most_bytes) reply stands shows fits (subst (λ (g : History T). IsKindOf kind g) (sym e) k, same) step)
 
   -- each session of many stands for its histories
   pub process_stands : (p : Process T) → IsProcess slot eq input codec content p → SessionStandsFor eq codec content (session_of p) (histories_of input p)
   process_stands Began is = record { sketches = λ name. tt; images = λ name. tt }
-  process_stands (Did p command reply now) is = step_fits slot eq input codec content command reply (session_of p) now (histories_of input p) (process_stands p is.0) is.1
-  process_stands (Took p from image shown command reply now) is =
-      took (session_of from) (session_of p) now (histories_of input from) (histories_of input p) image shown command reply
+  process_stands (Did p action reply now) is = action_fits slot eq input codec content action reply (session_of p) now (histories_of input p) (process_stands p is.0) is.1
+  process_stands (Took p from image shown action reply now) is =
+      took (session_of from) (session_of p) now (histories_of input from) (histories_of input p) image shown action reply
       (process_stands from is.1) is.2 (process_stands p is.0) is.3 is.4

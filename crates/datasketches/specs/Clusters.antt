@@ -16,16 +16,16 @@ use Rattle.sketch_frequencies.specs.History as frequent
 use Rattle.sketch_frequencies.specs.History.{FrequentHistory, true_weight, weight_outside, least_sample}
 use Rattle.sketch_frequencies.specs.Items.{Codec}
 use Rattle.sketch_frequencies.specs.State.{FrequentState}
-use Rattle.datasketches.specs.Histories.{History, Assignment, nothing_named, after_one, after_one_told}
+use Rattle.datasketches.specs.Histories.{History, Assignment, nothing_named, after_action, after_action_told}
 use Rattle.datasketches.specs.Histories.History.{OfFrequent, OfCountI64, OfCountU64, OfBloom, OfStranger}
 use Rattle.datasketches.specs.Laws.{IsNamed, IsCounted}
 use Rattle.datasketches.specs.Names.{Name}
 use Rattle.datasketches.specs.SessionStandsFor.{SessionStandsFor}
 use Rattle.datasketches.specs.Stands.{IsSketch}
 use Rattle.datasketches.specs.State.{SessionState}
-use Rattle.datasketches.specs.Steps.{Step}
-use Rattle.datasketches.specs.declared.command.Command.{Command}
-use Rattle.datasketches.specs.declared.command.Command.TheVariants.{Load, ShowImage}
+use Rattle.datasketches.specs.Steps.{Performs}
+use Rattle.datasketches.specs.declared.action.Action.{Action}
+use Rattle.datasketches.specs.declared.action.Action.TheVariants.{Load, ShowImage}
 use Rattle.datasketches.specs.declared.image_kind.ImageKind.{ImageKind}
 use Rattle.datasketches.specs.declared.image_kind.ImageKind.TheVariants as kind
 use Rattle.datasketches.specs.declared.reply.Reply.{Reply}
@@ -54,22 +54,23 @@ module _ {T : Type 0} where
   or_stranger None = OfStranger
   or_stranger (Some h) = h
 
--- how a session came about, among others: it began with no name, it did a command, or it loaded what another one showed
+-- how a session came about, among others: it began with no name, it performed an action, or it loaded what another one
+-- showed
 pub data Process (T : Type 0) : Type 0 where
   Began : Process T
-  Did : Process T → Command T → Reply T → SessionState T → Process T
-  Took : Process T → (from : Process T) → (image : Name) → (shown : Vec ℕ Global) → Command T → Reply T → SessionState T
+  Did : Process T → Action T → Reply T → SessionState T → Process T
+  Took : Process T → (from : Process T) → (image : Name) → (shown : Vec ℕ Global) → Action T → Reply T → SessionState T
       → Process T
 
 module _ {T : Type 0} where
   -- the session as it is now
   abbrev pub session_of : Process T → SessionState T
   session_of Began = empty_session
-  session_of (Did p command reply now) = now
-  session_of (Took p from image shown command reply now) = now
+  session_of (Did p action reply now) = now
+  session_of (Took p from image shown action reply now) = now
 
-  -- the command loads the bytes as an image of this history's kind
-  abbrev pub LoadsShown : Vec ℕ Global → History T → Command T → Type 0
+  -- the action loads the bytes as an image of this history's kind
+  abbrev pub LoadsShown : Vec ℕ Global → History T → Action T → Type 0
   LoadsShown shown h (Load name kind bytes most_bytes) = IsKindOf kind h × (bytes.items ≡ shown.items)
   LoadsShown shown h _ = ⊥
 
@@ -77,24 +78,24 @@ module _ {T : Type 0} (input : T → List (List ℕ)) where
   -- what its names stand for: what it did itself, and for what it took, what the other one saved
   abbrev pub histories_of : Process T → Assignment T
   histories_of Began = nothing_named
-  histories_of (Did p command reply now) = after_one input (histories_of p) command reply
-  histories_of (Took p from image shown command reply now) =
-      after_one_told input (histories_of p) command (or_stranger ((histories_of from).images (string_bytes image))) reply
+  histories_of (Did p action reply now) = after_action input (histories_of p) action reply
+  histories_of (Took p from image shown action reply now) =
+      after_action_told input (histories_of p) action (or_stranger ((histories_of from).images (string_bytes image))) reply
 
 module _ {T C : Type 0} (slot : ℕ) (eq : T → T → Bool) (input : T → List (List ℕ)) (codec : Codec C) (content : T → C) where
   -- the session shows these bytes for the image
   abbrev pub Shows : SessionState T → Name → Vec ℕ Global → Type 0
   Shows session image shown =
-      (after : SessionState T) × Step slot eq input codec content session (ShowImage image) (Shown shown) after
+      (after : SessionState T) × Performs slot eq input codec content session (ShowImage image) (Shown shown) after
 
-  -- each command was done as it was replied to, and what was taken is what the other session showed
+  -- each action was performed as its reply says, and what was taken is what the other session showed
   abbrev pub IsProcess : Process T → Type 0
   IsProcess Began = Unit {0}
-  IsProcess (Did p command reply now) = IsProcess p × Step slot eq input codec content (session_of p) command reply now
-  IsProcess (Took p from image shown command reply now) =
+  IsProcess (Did p action reply now) = IsProcess p × Performs slot eq input codec content (session_of p) action reply now
+  IsProcess (Took p from image shown action reply now) =
       IsProcess p × IsProcess from × Shows (session_of from) image shown
-      × LoadsShown shown (or_stranger ((histories_of input from).images (string_bytes image))) command
-      × Step slot eq input codec content (session_of p) command reply now
+      × LoadsShown shown (or_stranger ((histories_of input from).images (string_bytes image))) action
+      × Performs slot eq input codec content (session_of p) action reply now
 
   -- the law of two sessions: what one showed of an image, another that loads these bytes stands for
   abbrev pub LoadKeepsShown : Type 0
@@ -102,8 +103,8 @@ module _ {T C : Type 0} (slot : ℕ) (eq : T → T → Bool) (input : T → List
       (shown bytes : Vec ℕ Global) (kind : ImageKind) (most_bytes : ℕ) (reply : Reply T)
       → SessionStandsFor eq codec content from a → a.images (string_bytes image) ≡ Some h → Shows from image shown
       → SessionStandsFor eq codec content old b → IsKindOf kind h → bytes.items ≡ shown.items
-      → Step slot eq input codec content old (Load name kind bytes most_bytes) reply new
-      → SessionStandsFor eq codec content new (after_one_told input b (Load name kind bytes most_bytes) h reply)
+      → Performs slot eq input codec content old (Load name kind bytes most_bytes) reply new
+      → SessionStandsFor eq codec content new (after_action_told input b (Load name kind bytes most_bytes) h reply)
 
   -- the law of many: each session stands for its histories
   abbrev pub ProcessStandsForHistories : Type 0
@@ -111,23 +112,62 @@ module _ {T C : Type 0} (slot : ℕ) (eq : T → T → Bool) (input : T → List
 
 -- ---- the streams that came together in a sketch
 
--- those that were merged, each as it was before any merge
+-- A sketch has a stream of its own, that is, its history without merges. The others are the streams of the sketches that
+-- were merged into it, before or after updates of its own. A stream that was merged twice is there twice. For updates by
+-- x, then a merge of a sketch that was fed y, then an update by z, the own stream is x, z, and the other one is y.
+
 module _ {T : Type 0} where
+  -- the own stream
+  abbrev pub frequent_own : FrequentHistory T → FrequentHistory T
+  frequent_own (frequent.New m n) = frequent.New m n
+  frequent_own (frequent.Update h x w) = frequent.Update (frequent_own h) x w
+  frequent_own (frequent.Merge g h) = frequent_own g
+  frequent_own (frequent.Reset h) = frequent.Reset (frequent_own h)
+  frequent_own (frequent.Restored h) = frequent.Restored (frequent_own h)
+
+  -- those of the merged sketches; a reset forgets them
+  abbrev pub frequent_others : FrequentHistory T → List (FrequentHistory T)
+  frequent_others (frequent.New m n) = []
+  frequent_others (frequent.Update h x w) = frequent_others h
+  frequent_others (frequent.Merge g h) = frequent_others g ++ frequent_own h ∷ frequent_others h
+  frequent_others (frequent.Reset h) = []
+  frequent_others (frequent.Restored h) = frequent_others h
+
   abbrev pub frequent_streams : FrequentHistory T → List (FrequentHistory T)
-  frequent_streams (frequent.Merge g h) = frequent_streams g ++ frequent_streams h
-  frequent_streams (frequent.Restored h) = frequent_streams h
-  frequent_streams h = h ∷ []
+  frequent_streams h = frequent_own h ∷ frequent_others h
+
+-- the own stream of a Count-Min sketch; halving and decay round the counts of all streams together, so that what was
+-- halved or decayed is one stream from then on
+abbrev pub count_own : CountHistory → CountHistory
+count_own (count.New hashes buckets seed) = count.New hashes buckets seed
+count_own (count.Update h bytes weight) = count.Update (count_own h) bytes weight
+count_own (count.Merge g h) = count_own g
+count_own (count.Halve h) = count.Halve h
+count_own (count.Decay h n d) = count.Decay h n d
+count_own (count.Restored h) = count.Restored (count_own h)
+
+-- those of the merged sketches, since the last halving or decay
+abbrev pub count_others : CountHistory → List CountHistory
+count_others (count.New hashes buckets seed) = []
+count_others (count.Update h bytes weight) = count_others h
+count_others (count.Merge g h) = count_others g ++ count_own h ∷ count_others h
+count_others (count.Halve h) = []
+count_others (count.Decay h n d) = []
+count_others (count.Restored h) = count_others h
 
 abbrev pub count_streams : CountHistory → List CountHistory
-count_streams (count.Merge g h) = count_streams g ++ count_streams h
-count_streams (count.Restored h) = count_streams h
-count_streams h = h ∷ []
+count_streams h = count_own h ∷ count_others h
 
--- those that were united
-abbrev pub bloom_streams : BloomHistory → List BloomHistory
-bloom_streams (bloom.Union g h) = bloom_streams g ++ bloom_streams h
-bloom_streams (bloom.Restored h) = bloom_streams h
-bloom_streams h = h ∷ []
+-- the filters from which this one has every position: itself, what it was before each insertion, and the parts of both
+-- sides of each union; an intersection, a difference or a reset may take positions away, so that nothing before it is a part
+abbrev pub bloom_parts : BloomHistory → List BloomHistory
+bloom_parts (bloom.New num_words num_hashes seed) = bloom.New num_words num_hashes seed ∷ []
+bloom_parts (bloom.Insert h bytes) = bloom.Insert h bytes ∷ bloom_parts h
+bloom_parts (bloom.Union g h) = bloom.Union g h ∷ bloom_parts g ++ bloom_parts h
+bloom_parts (bloom.Intersection g h) = bloom.Intersection g h ∷ []
+bloom_parts (bloom.Difference g h) = bloom.Difference g h ∷ []
+bloom_parts (bloom.Reset h) = bloom.Reset h ∷ []
+bloom_parts (bloom.Restored h) = bloom.Restored h ∷ bloom_parts h
 
 -- the sum of some numbers with signs
 abbrev pub signed_sum_by : {X : Type 0} → (X → ℤ) → List X → ℤ
@@ -156,11 +196,11 @@ module _ {T C : Type 0} (eq : T → T → Bool) (codec : Codec C) (content : T �
       → (r : ℕ) → r < s.hashes → (b : ℕ) → b < s.buckets
       → cell_at s.rows r b ≡ signed_sum_by (λ g. cell_share s.buckets s.seed g r b) (count_streams h)
 
-  -- a filter contains what a filter of any of the streams contains
+  -- a filter contains what a filter of any of its parts contains
   abbrev pub ContainsWhatAnyContains : Type 0
   ContainsWhatAnyContains = (s part : FilterState) (h g : BloomHistory)
       → IsNamed eq codec content (Bloom s) (OfBloom h) → IsNamed eq codec content (Bloom part) (OfBloom g)
-      → Contains (bloom_streams h) g → IsCompatible s part
+      → Contains (bloom_parts h) g → IsCompatible s part
       → (bytes : List ℕ) → contains_item part bytes ≡ true → contains_item s bytes ≡ true
 
   -- of what came from a stranger: it is a sketch that may be, so that counts and error are at most the total

@@ -12,13 +12,14 @@ use Rattle.sketch_frequencies.specs.Stands.{HasFewItems, KeepsTailBudget}
 use Rattle.sketch_frequencies.specs.State.{FrequentState, IsState, capacity}
 use Rattle.counter_table.specs.Tables.{count_of, sum_of}
 use Rattle.datasketches.specs.SessionStandsFor.{SessionStandsFor}
-use Rattle.datasketches.specs.Histories.{History, Assignment, after_one, after_one_told}
+use Rattle.datasketches.specs.Histories.{History, Assignment, after_action, after_action_told, after_one, after_one_told}
 use Rattle.datasketches.specs.Histories.History.{OfFrequent, OfCountI64, OfCountU64, OfBloom}
-use Rattle.datasketches.specs.Loading.{IsTold}
+use Rattle.datasketches.specs.Loading.{IsActionTold, IsTold}
 use Rattle.datasketches.specs.Names.{at_name}
 use Rattle.datasketches.specs.Replies.{greatest_signed, greatest_unsigned}
 use Rattle.datasketches.specs.State.{SessionState}
-use Rattle.datasketches.specs.Steps.{Step}
+use Rattle.datasketches.specs.Steps.{Performs, Step}
+use Rattle.datasketches.specs.declared.action.Action.{Action}
 use Rattle.datasketches.specs.declared.command.Command.{Command}
 use Rattle.datasketches.specs.declared.reply.Reply.{Reply}
 use Rattle.datasketches.specs.declared.sketch.Sketch.{Sketch}
@@ -141,14 +142,25 @@ module _ {T C : Type 0} (eq : T → T → Bool) (codec : Codec C) (content : T �
       → IsLeast s.hashes (others_share s.buckets s.seed h bytes) (least -ℤ own_value h bytes)
 
 module _ {T C : Type 0} (slot : ℕ) (eq : T → T → Bool) (input : T → List (List ℕ)) (codec : Codec C) (content : T → C) where
-  -- whatever steps are made of, as of the lines of a program: what a session stood for, it stands for after a step as
-  -- the command and its reply made of it
+  -- what a session stood for, it stands for after an action, as the action and its reply made of it
+  abbrev pub ActionKeepsFit : Type 0
+  ActionKeepsFit = (old new : SessionState T) (action : Action T) (reply : Reply T) (a : Assignment T)
+      → SessionStandsFor eq codec content old a → Performs slot eq input codec content old action reply new
+      → SessionStandsFor eq codec content new (after_action input a action reply)
+
+  -- also where the bytes that it loads are said to be of some history, and are so
+  abbrev pub ActionKeepsTold : Type 0
+  ActionKeepsTold = (old new : SessionState T) (action : Action T) (reply : Reply T) (a : Assignment T) (loaded : History T)
+      → SessionStandsFor eq codec content old a → IsActionTold eq codec content action loaded
+      → Performs slot eq input codec content old action reply new
+      → SessionStandsFor eq codec content new (after_action_told input a action loaded reply)
+
+  -- the same of a command, whose step is that of its action
   abbrev pub StepKeepsFit : Type 0
   StepKeepsFit = (old new : SessionState T) (command : Command T) (reply : Reply T) (a : Assignment T)
       → SessionStandsFor eq codec content old a → Step slot eq input codec content old command reply new
       → SessionStandsFor eq codec content new (after_one input a command reply)
 
-  -- also where the bytes that it loads are said to be of some history, and are so
   abbrev pub StepKeepsTold : Type 0
   StepKeepsTold = (old new : SessionState T) (command : Command T) (reply : Reply T) (a : Assignment T) (loaded : History T)
       → SessionStandsFor eq codec content old a → IsTold eq codec content command loaded

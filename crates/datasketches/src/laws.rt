@@ -6,7 +6,7 @@
 //! list of commands.
 ghost use Rattle.counter_table.specs.Bytes.{option_bytes};
 ghost use Rattle.datasketches.specs.Clusters.{LoadKeepsShown, StrangersAreSketches, ProcessStandsForHistories, EnclosesAllStreams, KeepsBudgetOfAllStreams, CellsAreSharesOfAllStreams, ContainsWhatAnyContains};
-ghost use Rattle.datasketches.specs.Laws.{FrequentIsState, KeptWithinTotal, HoldsFew, EnclosesWeights, ExactOfFew, WithinTailBudget, SamplesItsOwn, SampleBoundsError, SmallSketchErrsLittle, LargeSketchErrsLittle, FilterIsState, HoldsWhatIsDenoted, EmptyContainsNothing, ContainsWhatIsDenoted, CountIsState, TotalIsWeight, EmptyCountsNothing, LeastCellEncloses, CellsAreShares, LeastCellIsRaisedByOthers, StepKeepsFit, StepKeepsTold};
+ghost use Rattle.datasketches.specs.Laws.{FrequentIsState, KeptWithinTotal, HoldsFew, EnclosesWeights, ExactOfFew, WithinTailBudget, SamplesItsOwn, SampleBoundsError, SmallSketchErrsLittle, LargeSketchErrsLittle, FilterIsState, HoldsWhatIsDenoted, EmptyContainsNothing, ContainsWhatIsDenoted, CountIsState, TotalIsWeight, EmptyCountsNothing, LeastCellEncloses, CellsAreShares, LeastCellIsRaisedByOthers, ActionKeepsFit, ActionKeepsTold, StepKeepsFit, StepKeepsTold};
 
 use sketch_bloom::laws as bloom;
 use sketch_countmin::laws as countmin;
@@ -67,26 +67,37 @@ pub fn what_filters_say<T: FrequentItemValue>()
     bloom::what_is_contained();
 }
 
-/// What a session stood for it stands for after a step, with what the command and its reply made of it. So the promise holds
-/// wherever such steps are proved, as of the lines that a program serves.
+/// After an action, a session stands for what it stood for before, as the action and its reply changed it.
+///
+/// The lines of a program are such actions, so its sessions keep the promise too. A command is one of them by `From`.
 pub fn what_a_step_keeps<T: FrequentItemValue>()
-    ensures { StepKeepsFit (option_bytes T.row) T.eq T.hash_input T.codec T.content }
+    ensures action { ActionKeepsFit (option_bytes T.row) T.eq T.hash_input T.codec T.content }
+    ensures command { StepKeepsFit (option_bytes T.row) T.eq T.hash_input T.codec T.content }
 {}
 
-/// What loads bring. Bytes that are loaded, from wherever they came, bring a sketch that stands for whatever history they
-/// are truly said to be of. What one session shows of an image, another that loads these bytes under the image's kind
-/// stands for. Of a stranger's bytes no history is known: what they bring is still a sketch that may be, whose counts and
-/// error together are at most its total, and every later call keeps that.
+/// What loads bring, by actions and by commands.
+///
+/// Bytes that are loaded, from wherever they came, bring a sketch that stands for whatever history they are truly said to
+/// be of. What one session shows of an image, another that loads these bytes under the image's kind stands for. Of an
+/// untrusted image no history is known: it loads as a valid sketch, whose counts and error together are at most its
+/// total, and every later call keeps that.
 pub fn what_loads_bring<T: FrequentItemValue>()
+    ensures action { ActionKeepsTold (option_bytes T.row) T.eq T.hash_input T.codec T.content }
     ensures told { StepKeepsTold (option_bytes T.row) T.eq T.hash_input T.codec T.content }
     ensures shown { LoadKeepsShown (option_bytes T.row) T.eq T.hash_input T.codec T.content }
     ensures strangers { StrangersAreSketches T.eq T.codec T.content }
 {}
 
 /// What holds of many sessions, each with a stream of its own, which load what others show, and merge it, in any order
-/// and any tree. Each stands for its histories. So, of a sketch into which sketches of many streams came: each true weight
-/// over all streams together lies between its bounds; the tail budget is that of all, by the least sample size; each cell
-/// of a Count-Min sketch is its bucket's share of all; and a filter contains what a filter of any of them contains.
+/// and any tree.
+///
+/// Each session stands for its histories. A sketch has its own stream, and those of all sketches that were merged into
+/// it, before or after updates of its own. A stream counts as often as it was merged.
+///
+/// - Each true weight, summed over these streams, lies between its bounds.
+/// - The tail budget is that of all streams together, by the least sample size.
+/// - Each cell of a Count-Min sketch is its bucket's share of all streams. A halved or decayed sketch is one stream.
+/// - A filter contains what each of its parts contains: what it was before each insertion, and both sides of a union.
 pub fn what_a_cluster_keeps<T: FrequentItemValue>()
     ensures fits { ProcessStandsForHistories (option_bytes T.row) T.eq T.hash_input T.codec T.content }
     ensures encloses { EnclosesAllStreams T.eq T.codec T.content }

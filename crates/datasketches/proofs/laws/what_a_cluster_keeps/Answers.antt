@@ -1,7 +1,7 @@
 use Rattle.std.proofs.Common.{ℕ, ◌+◌, ◌≤◌, ◌∙◌, subst}
 use Rattle.counter_table.specs.Tables.{count_of}
 use Rattle.datasketches.proofs.Promised.{named_stands, counted_stands}
-use Rattle.datasketches.proofs.Streams.{true_weight-streams, budget-streams, value_over-streams, contains-streams}
+use Rattle.datasketches.proofs.Streams.{true_weight-streams, budget-streams, value_over-streams, contains-parts}
 use Rattle.datasketches.proofs.Taking.{process_stands}
 use Rattle.datasketches.proofs.laws.what_a_cluster_keeps.Goals as goal
 
@@ -28,4 +28,4 @@ pub returns-clause-contains : goal.returns-clause-contains
 returns-clause-contains g c = λ s part h stream is of_part in_all alike bytes yes.
     let all = (named_stands g.T.PartialEq.eq g.T.FrequentItemValue.codec g.T.FrequentItemValue.content _ _ is).stands.set in
     let own = (named_stands g.T.PartialEq.eq g.T.FrequentItemValue.codec g.T.FrequentItemValue.content _ _ of_part).stands.set in
-    contains-streams s part h stream all own in_all alike bytes yes
+    contains-parts s part h stream all own in_all alike bytes yes
