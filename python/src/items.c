@@ -38,7 +38,7 @@ bool item_of(PyObject *object, Item *item)
 {
     *item = (Item){0};
     if (PyUnicode_Check(object)) {
-        Py_ssize_t length;
+        Py_ssize_t length = 0;
         item->text = PyUnicode_AsUTF8AndSize(object, &length);
         item->value = (uint64_t)length;
         return item->text != NULL;
