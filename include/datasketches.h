@@ -1,32 +1,42 @@
-/* datasketches.h: sketches of long streams, proved to meet their contracts.
+/* datasketches.h: Bloom filters, Count-Min sketches and frequent items, proved to meet their contracts.
  *
- * A handle is a `ds_sketch`: one word that C keeps and the library fills. Every call answers a number: 0 or more where it
- * was done, and below 0 a refusal, which leaves every sketch as it was, unless the call says otherwise. `ds_answer_name`
- * and `ds_answer_text` tell it in words. Numbers are hashed as their type: 8 bytes, lowest first, so that a number from 0
- * to 2^63 - 1 is the same item as `uint64_t` and as `int64_t`. A text is bytes that must be UTF-8, without an end mark.
+ * A handle is a `ds_sketch`: one word that C keeps and the library fills. Each call but `ds_free` returns a number: 0 or more
+ * if it was done, and an error below 0 otherwise. A call that returns an error leaves sketches, buffers and results as they were,
+ * unless its comment says otherwise. `ds_answer_name` and `ds_answer_text` return the number's name and text.
  *
- * Many texts are one buffer of bytes with offsets, as Arrow's `large_utf8` has them: text i is the bytes from offset i up
- * to offset i + 1, so that n texts have n + 1 offsets, of which the first may be above 0. Offsets of 32 bits are widened
- * first; offsets in `int64_t` are given as they are, by a cast of the pointer. Calls that take them are refused by
- * DS_BAD_OFFSETS where there is no offset, one is below the one before it, or one passes the end of the bytes, and by
- * DS_INVALID_UTF8 where some text is not UTF-8: both before anything is changed. The library keeps neither bytes nor
- * offsets.
+ * A number is hashed as 8 bytes, lowest first. So a number from 0 to 2^63 - 1 is the same item as `uint64_t` and as `int64_t`.
+ * A string is bytes and their number, without an end mark. It must be valid UTF-8.
  *
- * What the library's proofs take for granted of C:
+ * Many strings are one buffer of bytes with offsets, as in Arrow's `large_utf8`. String i is the bytes from offset i up to
+ * offset i + 1, so n strings have n + 1 offsets. The first offset may be above 0. Widen offsets of 32 bits first, and pass
+ * offsets in `int64_t` by a cast of the pointer. The library keeps neither bytes nor offsets.
  *
- *  1. A handle is made as `DS_NONE`, is changed by these calls alone, and is not copied. What it holds belongs to the
- *     library: `ds_free` gives it back, and a call that puts a sketch into a handle frees what was there.
- *  2. Pointers are not null and aligned for their type, they point to as many values as their count says, which a caller
- *     may read, or write where there is no `const`, and no two arguments of a call overlap.
- *  3. One call at a time uses a handle. Another thread may go on with it, where a lock, a thread's start or a join lies
- *     between. Two handles may be used by two threads at once.
- *  4. No call is made from a signal handler, nor by the child of a `fork` made while a call ran.
+ * A call returns the first error in this order:
+ *
+ *  1. DS_BAD_ARGUMENT, by the checks of this header (see below).
+ *  2. Errors of arguments: DS_BAD_OFFSETS, DS_NO_ROOM if items and their weights or results differ in number,
+ *     DS_INVALID_UTF8, DS_BAD_FRACTION.
+ *  3. Errors of handles: DS_NO_SKETCH if the handle has no sketch, DS_WRONG_KIND if its sketch is of a kind without this call;
+ *     of two handles, the first one's before the other one's. All calls return these but `ds_free`, those whose names end in
+ *     `_new` or `_from_bytes`, and the calls for sizes at the end. `ds_clone` takes any kind.
+ *  4. The errors in the call's comment, in their order there. DS_NO_MEMORY comes when an allocation fails, which may be earlier.
+ *     DS_NO_ROOM of `to_bytes` and `rows` comes last.
+ *
+ * The library's proofs assume that C keeps these rules:
+ *
+ *  1. A handle is created as `DS_NONE`, is changed by these calls alone, and is not copied. What it holds belongs to the
+ *     library: `ds_free` frees it, and so does a call that puts another sketch into the handle.
+ *  2. Pointers are not null, are aligned for their type, and point to as many values as their count says. A caller may read
+ *     these values, and write them where there is no `const`. No two arguments of a call overlap.
+ *  3. One call at a time uses a handle. Another thread may use it later if a lock, a thread's start or a join lies between.
+ *     Two threads may use two handles at once.
+ *  4. No call is made from a signal handler, or by the child of a `fork` that was made while a call ran.
  *  5. The program has one `malloc`, `realloc` and `free`, which the library calls.
  *  6. A `bool` that the library reads is 0 or 1.
  *
- * Of the second, two things are looked at here, as they cost next to nothing: the same handle twice, and a null pointer
- * with a count above 0, are answered by `DS_BAD_ARGUMENT`, and a null pointer with the count 0 is no values. These checks
- * are macros of the calls' names; `(ds_filter_union)(a, b)`, in brackets, is the call without them.
+ * This header checks two parts of rule 2, at next to no cost. The same handle twice, or a null pointer with a count above 0,
+ * returns DS_BAD_ARGUMENT. A null pointer with the count 0 means no values. These checks are macros of the calls' names:
+ * `(ds_filter_union)(a, b)`, in brackets, is the call without them.
  */
 #ifndef DATASKETCHES_H
 #define DATASKETCHES_H
@@ -39,7 +49,7 @@
 extern "C" {
 #endif
 
-/* A sketch of some kind, or none where `sketch` is null. Never read or write the pointer. */
+/* A sketch of some kind, or none if `sketch` is null. Never read or write the pointer. */
 typedef struct ds_sketch {
     void *sketch;
 } ds_sketch;
@@ -47,20 +57,20 @@ typedef struct ds_sketch {
 /* The handle of no sketch: `ds_sketch filter = DS_NONE;` */
 #define DS_NONE {0}
 
-/* What calls answer beside a sketch's own refusals. */
+/* The results of calls, beside the errors of sketches. */
 enum {
     DS_OK = 0,             /* the call was done */
-    DS_NO = 0,             /* no, as the answer to a question */
+    DS_NO = 0,             /* no, as the result of a test */
     DS_YES = 1,            /* yes */
     DS_NO_SKETCH = -1,     /* the handle has no sketch */
-    DS_WRONG_KIND = -2,    /* the sketch is of a kind that does not know the call */
-    DS_NO_ROOM = -3,       /* a buffer of the caller's has not the length that the call needs */
+    DS_WRONG_KIND = -2,    /* the sketch is of a kind without this call */
+    DS_NO_ROOM = -3,       /* a buffer of the caller has not the length that the call needs */
     DS_BAD_FRACTION = -4,  /* a fraction is not above 0 and at most 1 */
     DS_BAD_ARGUMENT = -5,  /* from this header alone: the same handle twice, or null with a count above 0 */
     DS_BAD_OFFSETS = -6    /* there is no offset, one is below the one before it, or one passes the end of the bytes */
 };
 
-/* The refusals of the sketches: number, constant, name and text of each. */
+/* The errors of sketches: number, constant, name and text of each. */
 #define DS_REFUSALS(X) \
     X(-11, DS_BAD_NUM_BITS, "BadNumBits", "num_bits out of range") \
     X(-12, DS_BAD_NUM_HASHES, "BadNumHashes", "num_hashes out of range") \
@@ -101,7 +111,7 @@ enum {
 enum { DS_REFUSALS(DS_AS_CONSTANT) DS_LEAST_ANSWER = -44 };
 #undef DS_AS_CONSTANT
 
-/* The name of an answer, as "Mismatch". Never null. */
+/* Returns the name of a result, as "Mismatch". Never null. */
 static inline const char *ds_answer_name(int32_t answer)
 {
 #define DS_AS_NAME(number, constant, name, text) case number: return name;
@@ -118,7 +128,7 @@ static inline const char *ds_answer_name(int32_t answer)
 #undef DS_AS_NAME
 }
 
-/* What an answer says, as "shapes or seeds differ". Never null. */
+/* Returns the text of a result, as "shapes or seeds differ". Never null. */
 static inline const char *ds_answer_text(int32_t answer)
 {
 #define DS_AS_TEXT(number, constant, name, text) case number: return text;
@@ -135,16 +145,17 @@ static inline const char *ds_answer_text(int32_t answer)
 #undef DS_AS_TEXT
 }
 
-/* Frees the handle's sketch, of any kind, if it has one; twice does no harm. The handle is then DS_NONE. */
+/* Frees the handle's sketch, of any kind, if any. The handle is then DS_NONE, and may be freed again. */
 void ds_free(ds_sketch *handle);
 
-/* Puts a copy of the other handle's sketch into this handle. The other keeps its own. Refused: DS_NO_SKETCH
- * where the other has none, and DS_NO_MEMORY. */
+/* Puts a copy of the other handle's sketch, of any kind, into this handle. The other handle keeps its own. Returns DS_NO_SKETCH
+ * if the other handle has none, and DS_NO_MEMORY if memory runs out. */
 int32_t ds_clone(ds_sketch *handle, ds_sketch *other);
 
-/* --- Filters: sets of items; an item that was inserted is never missed, while nothing is taken away --- */
+/* --- Bloom filters: sets of items. An item that was inserted is contained, unless a later intersection, difference or reset
+ * removed some of its positions. An item that was not inserted may be contained too: a false positive. --- */
 
-/* A filter's numbers: bits that are set, bits in all, the seed, and positions an item. */
+/* A filter's numbers: set bits, all bits, the seed, and hashes, which are positions of an item. */
 typedef struct ds_filter_numbers {
     uint64_t bits_used;
     uint64_t capacity;
@@ -152,12 +163,11 @@ typedef struct ds_filter_numbers {
     uint16_t num_hashes;
 } ds_filter_numbers;
 
-/* Puts an empty filter of at least `num_bits` bits, 1 to 137438953152, into the handle, with 1 to 32767 positions an item.
- * The library's own seed is 9001. Refused: DS_BAD_NUM_BITS, DS_BAD_NUM_HASHES, DS_NO_MEMORY. */
+/* Puts an empty filter into the handle, with at least `num_bits` bits, from 1 to 137438953152, rounded up to words of 64, and
+ * with 1 to 32767 hashes. The library's default seed is 9001. Returns DS_BAD_NUM_BITS, DS_BAD_NUM_HASHES, or DS_NO_MEMORY. */
 int32_t ds_filter_new(ds_sketch *handle, uint64_t num_bits, uint16_t num_hashes, uint64_t seed);
 
-/* Inserts an item. Refused: DS_NO_SKETCH, DS_WRONG_KIND, as in all calls for filters, and a text that is not UTF-8 by
- * DS_INVALID_UTF8. */
+/* Inserts an item. */
 int32_t ds_filter_insert_u64(ds_sketch *handle, uint64_t item);
 int32_t ds_filter_insert_i64(ds_sketch *handle, int64_t item);
 int32_t ds_filter_insert_text(ds_sketch *handle, const uint8_t *item, size_t length);
@@ -166,69 +176,67 @@ int32_t ds_filter_insert_text(ds_sketch *handle, const uint8_t *item, size_t len
 int32_t ds_filter_insert_all_u64(ds_sketch *handle, const uint64_t *items, size_t count);
 int32_t ds_filter_insert_all_i64(ds_sketch *handle, const int64_t *items, size_t count);
 
-/* Inserts many texts, as one after another. */
+/* Inserts many strings, as one after another. */
 int32_t ds_filter_insert_all_text(ds_sketch *handle, const uint8_t *bytes, size_t num_bytes, const uint64_t *offsets,
                                   size_t num_offsets);
 
-/* Whether the filter contains an item: DS_YES or DS_NO. */
+/* Returns DS_YES if the filter contains the item, and DS_NO otherwise. */
 int32_t ds_filter_contains_u64(ds_sketch *handle, uint64_t item);
 int32_t ds_filter_contains_i64(ds_sketch *handle, int64_t item);
 int32_t ds_filter_contains_text(ds_sketch *handle, const uint8_t *item, size_t length);
 
-/* Writes down for each item whether the filter contains it. Refused by DS_NO_ROOM where there are not as many answers
- * as items; a refusal leaves the answers as they were. */
+/* Writes for each item whether the filter contains it. Returns DS_NO_ROOM unless `room` is the number of items. */
 int32_t ds_filter_contains_all_u64(ds_sketch *handle, const uint64_t *items, size_t count, bool *answers, size_t room);
 int32_t ds_filter_contains_all_i64(ds_sketch *handle, const int64_t *items, size_t count, bool *answers, size_t room);
 int32_t ds_filter_contains_all_text(ds_sketch *handle, const uint8_t *bytes, size_t num_bytes, const uint64_t *offsets,
                                     size_t num_offsets, bool *answers, size_t room);
 
-/* Adds the other filter's positions, keeps those that both have, or takes the other's away. The other filter stays as it
- * was. Refused by DS_MISMATCH where bits, hashes or seeds differ. */
+/* Adds the other filter's positions, keeps those that both have, or removes the other's. The other filter stays as it was.
+ * Returns DS_MISMATCH if bits, hashes or seeds differ. */
 int32_t ds_filter_union(ds_sketch *handle, ds_sketch *other);
 int32_t ds_filter_intersect(ds_sketch *handle, ds_sketch *other);
 int32_t ds_filter_difference(ds_sketch *handle, ds_sketch *other);
 
-/* Returns DS_YES if both filters have the same bits, hashes, seed and positions, and DS_NO otherwise. Changes neither filter.
- * DS_NO_SKETCH or DS_WRONG_KIND is that of the first of the two handles without a filter. */
+/* Returns DS_YES if both filters have the same bits, hashes, seed and positions, and DS_NO otherwise. Both stay as they were. */
 int32_t ds_filter_equal(ds_sketch *handle, ds_sketch *other);
 
-/* Takes all positions away. */
+/* Removes all positions. */
 int32_t ds_filter_reset(ds_sketch *handle);
 
-/* Writes down the filter's numbers. */
+/* Writes the filter's numbers. */
 int32_t ds_filter_status(ds_sketch *handle, ds_filter_numbers *status);
 
-/* Writes the filter's image to the front of `out`, and how many bytes it has to `written`. Refused by DS_NO_ROOM where
- * `capacity` is less than that, which `written` then tells, and by DS_NO_MEMORY. Refusals but DS_NO_ROOM leave `written`
- * as it was. What stands behind the image in `out` stays. */
+/* Writes the filter's image to the front of `out`, and the image's length in bytes to `written`. The rest of `out` stays as it was.
+ * Returns DS_NO_MEMORY, or DS_NO_ROOM if the image is longer than `capacity`: then `written` is its length. */
 int32_t ds_filter_to_bytes(ds_sketch *handle, uint8_t *out, size_t capacity, size_t *written);
 
-/* Puts the filter of an image into the handle, where its words take at most `most_bytes` bytes. Refused by the fault of
- * the image's first check that fails. */
+/* Reads a filter from its image and puts it into the handle. Returns the error of the image's first failed check. Returns
+ * DS_TABLE_TOO_LARGE if the words, of 8 bytes each, take more than `most_bytes`, and DS_NO_MEMORY. Before both come the checks of
+ * the image's length and fields. DS_BAD_BIT_COUNT comes after them. */
 int32_t ds_filter_from_bytes(ds_sketch *handle, const uint8_t *image, size_t length, size_t most_bytes);
 
-/* --- Count-Min sketches in uint64_t: an estimate is never below what came of the item --- */
+/* --- Count-Min sketches with weights in uint64_t. An estimate is at most the total, and at least the item's own weight: what
+ * was added for the item, halved and decayed as often as the sketch, and rounded down each time. --- */
 
-/* Puts an empty sketch of 1 to 255 rows, a hash each, of 3 or more buckets, fewer than 2^30 cells in all, into the
- * handle. The library's own seed is 9001. Refused: DS_BAD_NUM_HASHES, DS_BAD_NUM_BUCKETS, DS_TABLE_TOO_LARGE,
- * DS_ZERO_SEED_HASH, DS_NO_MEMORY. */
+/* Puts an empty sketch into the handle, with 1 to 255 hashes, a row each, and 3 or more buckets in a row, fewer than 2^30 cells in
+ * all. The library's default seed is 9001. Returns DS_BAD_NUM_HASHES, DS_BAD_NUM_BUCKETS, DS_TABLE_TOO_LARGE, DS_ZERO_SEED_HASH, or
+ * DS_NO_MEMORY. */
 int32_t ds_count_u64_new(ds_sketch *handle, uint8_t num_hashes, uint32_t num_buckets, uint64_t seed);
 
-/* Adds a weight to an item's. Refused by DS_WEIGHT_OVERFLOW where the total weight would pass 2^64 - 1, and in all calls
- * for counts by DS_NO_SKETCH and DS_WRONG_KIND, and a text that is not UTF-8 by DS_INVALID_UTF8. */
+/* Adds a weight to the item's. Returns DS_WEIGHT_OVERFLOW if the total would exceed 2^64 - 1. */
 int32_t ds_count_u64_update_u64(ds_sketch *handle, uint64_t item, uint64_t weight);
 int32_t ds_count_u64_update_i64(ds_sketch *handle, int64_t item, uint64_t weight);
 int32_t ds_count_u64_update_text(ds_sketch *handle, const uint8_t *item, size_t length, uint64_t weight);
 
-/* Adds 1 to the weight of each item, in order. Refused by DS_WEIGHT_OVERFLOW where the total has no room for all: then
- * the first items are counted, as many as there was room for. */
+/* Adds 1 to the weight of each item, in order. Returns DS_WEIGHT_OVERFLOW if the total would exceed 2^64 - 1: then the items
+ * before the first that does not fit are counted. */
 int32_t ds_count_u64_update_all_u64(ds_sketch *handle, const uint64_t *items, size_t count);
 int32_t ds_count_u64_update_all_i64(ds_sketch *handle, const int64_t *items, size_t count);
 int32_t ds_count_u64_update_all_text(ds_sketch *handle, const uint8_t *bytes, size_t num_bytes, const uint64_t *offsets,
                                      size_t num_offsets);
 
-/* Adds a weight to that of each item, one after another: as many weights as items, else refused by DS_NO_ROOM. Refused by
- * DS_WEIGHT_OVERFLOW where the total has no room for all weights: then, as at every refusal, none is added. */
+/* Adds a weight to each item's, in order. Returns DS_NO_ROOM unless there are as many weights as items. Returns
+ * DS_WEIGHT_OVERFLOW if the total would exceed 2^64 - 1 with all weights: then none is added. */
 int32_t ds_count_u64_update_all_weighted_u64(ds_sketch *handle, const uint64_t *items, size_t count, const uint64_t *weights,
                                              size_t num_weights);
 int32_t ds_count_u64_update_all_weighted_i64(ds_sketch *handle, const int64_t *items, size_t count, const uint64_t *weights,
@@ -237,38 +245,38 @@ int32_t ds_count_u64_update_all_weighted_text(ds_sketch *handle, const uint8_t *
                                               const uint64_t *offsets, size_t num_offsets, const uint64_t *weights,
                                               size_t num_weights);
 
-/* Writes down the estimate of an item's weight: its least cell. */
+/* Writes the estimate of the item's weight: the least of its cells. */
 int32_t ds_count_u64_estimate_u64(ds_sketch *handle, uint64_t item, uint64_t *estimate);
 int32_t ds_count_u64_estimate_i64(ds_sketch *handle, int64_t item, uint64_t *estimate);
 int32_t ds_count_u64_estimate_text(ds_sketch *handle, const uint8_t *item, size_t length, uint64_t *estimate);
 
-/* Writes down the estimate of each item. Refused by DS_NO_ROOM where there are not as many estimates as items. */
+/* Writes the estimate of each item's weight. Returns DS_NO_ROOM unless `room` is the number of items. */
 int32_t ds_count_u64_estimate_all_u64(ds_sketch *handle, const uint64_t *items, size_t count, uint64_t *estimates, size_t room);
 int32_t ds_count_u64_estimate_all_i64(ds_sketch *handle, const int64_t *items, size_t count, uint64_t *estimates, size_t room);
 int32_t ds_count_u64_estimate_all_text(ds_sketch *handle, const uint8_t *bytes, size_t num_bytes, const uint64_t *offsets,
                                        size_t num_offsets, uint64_t *estimates, size_t room);
 
-/* Writes down the estimate and the margin, e times the total over the buckets, as an upper bound. */
+/* Writes the estimate plus a margin: e times the total over the buckets, rounded down. The sum stops at 2^64 - 1. */
 int32_t ds_count_u64_upper_bound_u64(ds_sketch *handle, uint64_t item, uint64_t *bound);
 int32_t ds_count_u64_upper_bound_i64(ds_sketch *handle, int64_t item, uint64_t *bound);
 int32_t ds_count_u64_upper_bound_text(ds_sketch *handle, const uint8_t *item, size_t length, uint64_t *bound);
 
-/* Adds the other sketch's cells and total. The other sketch stays as it was. Refused by DS_MISMATCH where hashes, buckets
- * or seeds differ, and by DS_WEIGHT_OVERFLOW. */
+/* Adds the other sketch's cells and total. The other sketch stays as it was. Returns DS_MISMATCH if hashes, buckets or seeds
+ * differ, and DS_WEIGHT_OVERFLOW if the totals together exceed 2^64 - 1. */
 int32_t ds_count_u64_merge(ds_sketch *handle, ds_sketch *other);
 
-/* Returns DS_YES if both sketches have the same hashes, buckets, seed, total and cells, and DS_NO otherwise. Changes neither
- * sketch. DS_NO_SKETCH or DS_WRONG_KIND is that of the first of the two handles without such a sketch. */
+/* Returns DS_YES if both sketches have the same hashes, buckets, seed, total and cells, and DS_NO otherwise. Both stay as they
+ * were. */
 int32_t ds_count_u64_equal(ds_sketch *handle, ds_sketch *other);
 
 /* Halves each cell and the total, rounded down. */
 int32_t ds_count_u64_halve(ds_sketch *handle);
 
-/* Multiplies each cell and the total by a fraction, rounded down. Refused by DS_BAD_FRACTION where it is not above 0 and
- * at most 1. */
+/* Multiplies each cell and the total by a fraction, rounded down. Returns DS_BAD_FRACTION unless the fraction is above 0 and at
+ * most 1. */
 int32_t ds_count_u64_decay(ds_sketch *handle, uint64_t numerator, uint64_t denominator);
 
-/* A Count-Min sketch's numbers: the weight of all items, the seed, cells in a row, and rows. */
+/* A Count-Min sketch's numbers: the total weight, the seed, buckets, which are the cells of a row, and hashes, which are rows. */
 typedef struct ds_count_numbers {
     uint64_t total_weight;
     uint64_t seed;
@@ -276,23 +284,24 @@ typedef struct ds_count_numbers {
     uint8_t num_hashes;
 } ds_count_numbers;
 
-/* Writes down the sketch's numbers. */
+/* Writes the sketch's numbers. */
 int32_t ds_count_u64_status(ds_sketch *handle, ds_count_numbers *status);
 
-/* Writes the sketch's image to the front of `out`, and how many bytes it has to `written`. Refused by DS_NO_ROOM where
- * `capacity` is less than that, which `written` then tells, and by DS_NO_MEMORY. Refusals but DS_NO_ROOM leave `written`
- * as it was. What stands behind the image in `out` stays. */
+/* Writes the sketch's image to the front of `out`, and the image's length in bytes to `written`. The rest of `out` stays as it was.
+ * Returns DS_NO_MEMORY, or DS_NO_ROOM if the image is longer than `capacity`: then `written` is its length. */
 int32_t ds_count_u64_to_bytes(ds_sketch *handle, uint8_t *out, size_t capacity, size_t *written);
 
-/* Puts the sketch of an image, which is read under a seed, into the handle, where it takes at most `most_bytes` bytes: 8 a
- * cell and 8 a row. Refused by the fault of the image's first check that fails. */
+/* Reads a sketch from its image, which was written under this seed, and puts it into the handle. Returns the error of the image's
+ * first failed check. Returns DS_TABLE_TOO_LARGE if the cells and the rows' seeds, of 8 bytes each, take more than `most_bytes`, and
+ * DS_NO_MEMORY. Before both come the checks of the image's length and fields. The checks of the total and the cells come after
+ * them. */
 int32_t ds_count_u64_from_bytes(ds_sketch *handle, const uint8_t *image, size_t length, uint64_t seed, size_t most_bytes);
 
-/* --- Count-Min sketches in int64_t: weights may be below 0 --- */
+/* --- Count-Min sketches with weights in int64_t, which may be below 0. --- */
 
-/* As the calls in uint64_t, with weights, estimates and bounds that have a sign. The total is that of the weights without
- * their signs, and a call is refused by DS_WEIGHT_OVERFLOW where it would pass 2^63 - 1. Where weights below 0 came an
- * estimate may be below what came of the item. There is no halving and no decay. */
+/* As the calls in uint64_t, with weights, estimates and bounds in int64_t. The total counts each weight without its sign, and
+ * DS_WEIGHT_OVERFLOW is returned if it would exceed 2^63 - 1. An estimate is at least the item's own weight if no weight is below 0.
+ * If some weight is below 0, it may be less. There is no halving and no decay. */
 int32_t ds_count_i64_new(ds_sketch *handle, uint8_t num_hashes, uint32_t num_buckets, uint64_t seed);
 int32_t ds_count_i64_update_u64(ds_sketch *handle, uint64_t item, int64_t weight);
 int32_t ds_count_i64_update_i64(ds_sketch *handle, int64_t item, int64_t weight);
@@ -324,63 +333,63 @@ int32_t ds_count_i64_status(ds_sketch *handle, ds_count_numbers *status);
 int32_t ds_count_i64_to_bytes(ds_sketch *handle, uint8_t *out, size_t capacity, size_t *written);
 int32_t ds_count_i64_from_bytes(ds_sketch *handle, const uint8_t *image, size_t length, uint64_t seed, size_t most_bytes);
 
-/* --- Frequent items: the items that weigh most, in at most three quarters of `max_map_size` counters --- */
+/* --- Frequent items: the items of the greatest weights, in at most three quarters of `max_map_size` counters. --- */
 
-/* An item's bounds: its true weight lies between the first and the last, which are the sketch's error apart. */
+/* An item's bounds. Its true weight lies between the lower and the upper one, which differ by the sketch's error. */
 typedef struct ds_frequent_bounds {
     uint64_t lower_bound;
     uint64_t estimate;
     uint64_t upper_bound;
 } ds_frequent_bounds;
 
-/* Puts an empty sketch into the handle, whose table may grow to `max_map_size` slots, a power of two from 8 to 2^30, and
- * whose purges sample `sample_size` counters, an even number from 2 to three quarters of that, at most 1024. The greatest
- * sample is the most exact: see `ds_greatest_sample`. Refused: DS_MAP_SIZE_NOT_POWER_OF_TWO, DS_MAP_SIZE_TOO_SMALL,
- * DS_MAP_SIZE_TOO_LARGE, DS_BAD_SAMPLE_SIZE, DS_NO_MEMORY. */
+/* Puts an empty sketch into the handle. Its table may grow to `max_map_size` slots, a power of two from 8 to 2^30. Its purges sample
+ * `sample_size` counters, an even number from 2 to three quarters of `max_map_size`, at most 1024. The largest sample gives the
+ * smallest error: see `ds_greatest_sample`. Returns DS_MAP_SIZE_NOT_POWER_OF_TWO, DS_MAP_SIZE_TOO_SMALL, DS_MAP_SIZE_TOO_LARGE,
+ * DS_BAD_SAMPLE_SIZE, or DS_NO_MEMORY. */
 int32_t ds_frequent_u64_new(ds_sketch *handle, size_t max_map_size, size_t sample_size);
 int32_t ds_frequent_i64_new(ds_sketch *handle, size_t max_map_size, size_t sample_size);
 int32_t ds_frequent_text_new(ds_sketch *handle, size_t max_map_size, size_t sample_size);
 
-/* The greatest sample size of a greatest map size. */
+/* Returns the largest sample size for a `max_map_size`. */
 static inline size_t ds_greatest_sample(size_t max_map_size)
 {
     return max_map_size / 4 * 3 < 1024 ? max_map_size / 4 * 3 : 1024;
 }
 
-/* Adds a weight to an item's; 0 changes nothing. Refused by DS_WEIGHT_OVERFLOW where the weight of all items would pass
- * 2^64 - 1, by DS_NO_MEMORY, and a text that is not UTF-8 by DS_INVALID_UTF8. */
+/* Adds a weight to the item's. A weight of 0 changes nothing. Returns DS_WEIGHT_OVERFLOW if the total would exceed 2^64 - 1, and
+ * DS_NO_MEMORY: of a number if the table cannot grow, and of a string also, before DS_WEIGHT_OVERFLOW, if it cannot be copied. */
 int32_t ds_frequent_u64_update(ds_sketch *handle, uint64_t item, uint64_t weight);
 int32_t ds_frequent_i64_update(ds_sketch *handle, int64_t item, uint64_t weight);
 int32_t ds_frequent_text_update(ds_sketch *handle, const uint8_t *item, size_t length, uint64_t weight);
 
-/* Writes down an item's bounds. */
+/* Writes the item's bounds. Returns DS_NO_MEMORY if a string cannot be copied. */
 int32_t ds_frequent_u64_bounds(ds_sketch *handle, uint64_t item, ds_frequent_bounds *bounds);
 int32_t ds_frequent_i64_bounds(ds_sketch *handle, int64_t item, ds_frequent_bounds *bounds);
 int32_t ds_frequent_text_bounds(ds_sketch *handle, const uint8_t *item, size_t length, ds_frequent_bounds *bounds);
 
-/* Writes down the bounds of each item. There is room for as many as items, or DS_NO_ROOM is answered. What is refused leaves the
- * bounds as they were, but DS_NO_MEMORY at a text: then the texts before it have theirs, and those from it on are as they were. */
+/* Writes the bounds of each item. Returns DS_NO_ROOM unless `room` is the number of items, and DS_NO_MEMORY if a string cannot be
+ * copied: then the bounds of the strings before it are written, and the others stay as they were. */
 int32_t ds_frequent_u64_bounds_all(ds_sketch *handle, const uint64_t *items, size_t count, ds_frequent_bounds *bounds, size_t room);
 int32_t ds_frequent_i64_bounds_all(ds_sketch *handle, const int64_t *items, size_t count, ds_frequent_bounds *bounds, size_t room);
 int32_t ds_frequent_text_bounds_all(ds_sketch *handle, const uint8_t *bytes, size_t num_bytes, const uint64_t *offsets,
                                     size_t num_offsets, ds_frequent_bounds *bounds, size_t room);
 
-/* Merges the other sketch into this one, which then stands for both streams. The other sketch stays as it was. Refused by
- * DS_WEIGHT_OVERFLOW and DS_NO_MEMORY. */
+/* Merges the other sketch into this one, which then stands for both streams. The other sketch stays as it was. Returns
+ * DS_WEIGHT_OVERFLOW if the totals together exceed 2^64 - 1, and DS_NO_MEMORY. */
 int32_t ds_frequent_u64_merge(ds_sketch *handle, ds_sketch *other);
 int32_t ds_frequent_i64_merge(ds_sketch *handle, ds_sketch *other);
 int32_t ds_frequent_text_merge(ds_sketch *handle, ds_sketch *other);
 
-/* Adds 1 to the weight of each item, in order. Refused as the update of the first item that is refused: then the items
- * before it are added, and neither it nor those behind it. */
+/* Adds 1 to the weight of each item, in order. Returns the error of the first item whose own update returns one: then the items
+ * before it are added, and no others. */
 int32_t ds_frequent_u64_update_all(ds_sketch *handle, const uint64_t *items, size_t count);
 int32_t ds_frequent_i64_update_all(ds_sketch *handle, const int64_t *items, size_t count);
 int32_t ds_frequent_text_update_all(ds_sketch *handle, const uint8_t *bytes, size_t num_bytes, const uint64_t *offsets,
                                     size_t num_offsets);
 
-/* Adds a weight to that of each item, one after another: as many weights as items, else refused by DS_NO_ROOM. Refused by
- * DS_WEIGHT_OVERFLOW where the weight of all items would pass 2^64 - 1: then none is added. Refused by DS_NO_MEMORY at the
- * first item for which there is no memory: then the items before it are added, and neither it nor those behind it. */
+/* Adds a weight to each item's, in order. Returns DS_NO_ROOM unless there are as many weights as items. Returns
+ * DS_WEIGHT_OVERFLOW if the total would exceed 2^64 - 1 with all weights: then none is added. Returns DS_NO_MEMORY for the first item
+ * without memory: then the items before it are added, and no others. */
 int32_t ds_frequent_u64_update_all_weighted(ds_sketch *handle, const uint64_t *items, size_t count, const uint64_t *weights,
                                             size_t num_weights);
 int32_t ds_frequent_i64_update_all_weighted(ds_sketch *handle, const int64_t *items, size_t count, const uint64_t *weights,
@@ -389,13 +398,13 @@ int32_t ds_frequent_text_update_all_weighted(ds_sketch *handle, const uint8_t *b
                                              const uint64_t *offsets, size_t num_offsets, const uint64_t *weights,
                                              size_t num_weights);
 
-/* Forgets everything but the greatest size and the sample size. */
+/* Removes all items. `max_map_size` and `sample_size` stay as they were. */
 int32_t ds_frequent_u64_reset(ds_sketch *handle);
 int32_t ds_frequent_i64_reset(ds_sketch *handle);
 int32_t ds_frequent_text_reset(ds_sketch *handle);
 
-/* A sketch's numbers: the weight of all items, by how much an upper bound is above its lower bound, counters, how many may
- * be held before a purge at the greatest size and at the current one, the greatest size and the sample size. */
+/* A sketch's numbers: the total weight, the error, which is the upper bound less the lower bound of each item, the number of
+ * counters, the most counters that fit at the greatest table size and at the current one, the greatest size and the sample size. */
 typedef struct ds_frequent_numbers {
     uint64_t total_weight;
     uint64_t maximum_error;
@@ -406,45 +415,45 @@ typedef struct ds_frequent_numbers {
     uint64_t sample_size;
 } ds_frequent_numbers;
 
-/* Writes down the sketch's numbers. */
+/* Writes the sketch's numbers. */
 int32_t ds_frequent_u64_status(ds_sketch *handle, ds_frequent_numbers *status);
 int32_t ds_frequent_i64_status(ds_sketch *handle, ds_frequent_numbers *status);
 int32_t ds_frequent_text_status(ds_sketch *handle, ds_frequent_numbers *status);
 
-/* Writes the sketch's image to the front of `out`, and how many bytes it has to `written`. Refused by DS_NO_ROOM where
- * `capacity` is less than that, which `written` then tells, and by DS_NO_MEMORY. Refusals but DS_NO_ROOM leave `written`
- * as it was. What stands behind the image in `out` stays. */
+/* Writes the sketch's image, without its sample size, to the front of `out`, and the image's length in bytes to `written`. The
+ * rest of `out` stays as it was. Returns DS_NO_MEMORY, DS_ITEM_TOO_LONG if a string has 2^32 bytes or more, or DS_NO_ROOM if the
+ * image is longer than `capacity`: then `written` is its length. */
 int32_t ds_frequent_u64_to_bytes(ds_sketch *handle, uint8_t *out, size_t capacity, size_t *written);
 int32_t ds_frequent_i64_to_bytes(ds_sketch *handle, uint8_t *out, size_t capacity, size_t *written);
 int32_t ds_frequent_text_to_bytes(ds_sketch *handle, uint8_t *out, size_t capacity, size_t *written);
 
-/* Puts the sketch of an image into the handle, where its table takes at most `most_bytes` bytes. It samples the most, since
- * an image does not say the sample size. Refused by the fault of the image's first check that fails. */
+/* Reads a sketch from its image and puts it into the handle. It takes the largest sample size, since an image has none. Returns the
+ * error of the image's first failed check. Returns DS_TABLE_TOO_LARGE if the table takes more than `most_bytes`, and DS_NO_MEMORY.
+ * Before both come the checks of the image's length and fields. The checks of the weights and the items come after them. */
 int32_t ds_frequent_u64_from_bytes(ds_sketch *handle, const uint8_t *image, size_t length, size_t most_bytes);
 int32_t ds_frequent_i64_from_bytes(ds_sketch *handle, const uint8_t *image, size_t length, size_t most_bytes);
 int32_t ds_frequent_text_from_bytes(ds_sketch *handle, const uint8_t *image, size_t length, size_t most_bytes);
 
-/* Writes down the items whose bound is above both the threshold and the sketch's error, in rows that descend by estimate:
- * an item and its bounds for each, at the front of both buffers. With `no_false_negatives` the upper bound counts, so that
- * no item above the threshold is missing; without it the lower one, so that no item below is there. `count` is how many
- * rows there are, also where a buffer is shorter than that: then the call is refused by DS_NO_ROOM. And by DS_NO_MEMORY.
- * Refusals but DS_NO_ROOM leave `count` as it was. What stands behind the rows in the buffers stays. */
+/* Writes the items whose bound exceeds both the threshold and the sketch's error, in rows of descending estimates: an item and its
+ * bounds each, at the front of both buffers, and the number of rows to `count`. The rest of the buffers stays as it was. With
+ * `no_false_negatives` the upper bound is compared: each item is there whose true weight exceeds both. Otherwise the lower bound is
+ * compared: no other item is there. Returns DS_NO_MEMORY, or DS_NO_ROOM if a buffer is too short: then `count` is the number of
+ * rows. */
 int32_t ds_frequent_u64_rows(ds_sketch *handle, bool no_false_negatives, uint64_t threshold, uint64_t *items,
                              size_t num_items, ds_frequent_bounds *bounds, size_t num_bounds, size_t *count);
 int32_t ds_frequent_i64_rows(ds_sketch *handle, bool no_false_negatives, uint64_t threshold, int64_t *items,
                              size_t num_items, ds_frequent_bounds *bounds, size_t num_bounds, size_t *count);
 
-/* The same of texts, which stand one behind the other at the front of `bytes`: text i from offset i up to offset i + 1, of
- * which the first is 0, so that there is one offset more than rows. `count` is how many rows there are, and `num_bytes` how
- * many bytes their texts have, also where a buffer is shorter than that: then the call is refused by DS_NO_ROOM. And by
- * DS_NO_MEMORY. Refusals but DS_NO_ROOM leave both as they were. What stands behind the rows in the buffers stays. */
+/* The same for strings. They stand one after another at the front of `bytes`: string i from offset i up to offset i + 1, the first
+ * offset is 0, and there is one more offset than rows. `num_bytes` is the number of bytes of all strings. It is written with
+ * `count`. */
 int32_t ds_frequent_text_rows(ds_sketch *handle, bool no_false_negatives, uint64_t threshold, uint8_t *bytes,
                               size_t room_for_bytes, uint64_t *offsets, size_t num_offsets, ds_frequent_bounds *bounds,
                               size_t num_bounds, size_t *count, size_t *num_bytes);
 
-/* --- The checks of arguments --- */
+/* --- The checks of arguments. --- */
 
-/* What is given in place of null where the count is 0. */
+/* Returns the pointer that is passed in place of null if the count is 0. */
 static inline void *ds_no_values(void)
 {
     static uint64_t none;
@@ -728,28 +737,28 @@ DS_ROWS_OF_TEXTS(ds_frequent_text_rows)
 #undef DS_ROWS_OF_TEXTS
 #undef DS_ROWS
 
-/* --- Sizes to choose from what one can bear: each call writes a number where it answers DS_OK, and else leaves it --- */
+/* --- Sizes from error targets. Each call writes a size if it returns DS_OK, and leaves it as it was otherwise. --- */
 
-/* The least greatest size, for `ds_frequent_*_new`, that promises an error of at most the weight of all items over `parts`,
- * for every stream: a theorem, where no sample size is chosen. Refused: DS_MAP_SIZE_TOO_LARGE above 512 parts. */
+/* Writes the least `max_map_size` for `ds_frequent_*_new` whose guarantee is an error of at most the total over `parts`, for every
+ * stream, at the largest sample size. Returns DS_MAP_SIZE_TOO_LARGE above 512 parts. */
 int32_t ds_frequent_map_size_for(size_t parts, size_t *max_map_size);
 
-/* The buckets of Count-Min by the published formula, e times `parts`, rounded up. Under ideal hashes, and where no weight is
- * below zero, an estimate is above the item's own weight by more than the total over `parts` for at most one question in
- * `questions`, with the hashes of the next call. Refused: DS_BAD_NUM_BUCKETS for 0, DS_TABLE_TOO_LARGE from 2^30 buckets on. */
+/* Writes the buckets of Count-Min by the published formula: e times `parts`, rounded up. With the hashes of the next call, under
+ * ideal hashes and without weights below 0, an estimate exceeds the item's own weight by more than the total over `parts` with
+ * probability at most 1 / `questions`. Returns DS_BAD_NUM_BUCKETS for 0, and DS_TABLE_TOO_LARGE for 2^30 buckets and more. */
 int32_t ds_count_buckets_for(uint64_t parts, uint32_t *num_buckets);
 
-/* The hashes of Count-Min by the published formula, the natural logarithm of `questions`, rounded up. Refused:
+/* Writes the hashes of Count-Min by the published formula: the natural logarithm of `questions`, rounded up. Returns
  * DS_BAD_NUM_HASHES for 0 and 1. */
 int32_t ds_count_hashes_for(uint64_t questions, uint8_t *num_hashes);
 
-/* The bits of a filter by the published formula, items times ln `questions` over the square of ln 2, with the binary logarithm
- * of `questions` rounded up to 64ths: never fewer than the formula asks for. Under ideal hashes about one question in
- * `questions` is answered by yes wrongly. Refused: DS_BAD_NUM_BITS for 0 items, 0 and 1 question, and above 137438953152 bits. */
+/* Writes the bits of a filter by the published formula: items times ln `questions` over the square of ln 2, with the binary
+ * logarithm of `questions` rounded up to 64ths: never fewer than the formula asks for. Under ideal hashes the false-positive rate is about 1 in `questions`. Returns
+ * DS_BAD_NUM_BITS for 0 items, for 0 and 1 question, and above 137438953152 bits. */
 int32_t ds_filter_bits_for(uint64_t num_items, uint64_t questions, uint64_t *num_bits);
 
-/* The hashes of a filter by the published formula, bits over items times ln 2, rounded up. Refused: DS_BAD_NUM_BITS unless
- * there are 1 to 137438953152 bits, DS_BAD_NUM_HASHES for 0 items and above 32767 hashes. */
+/* Writes the hashes of a filter by the published formula: bits over items times ln 2, rounded up. Returns DS_BAD_NUM_BITS unless
+ * there are 1 to 137438953152 bits, and DS_BAD_NUM_HASHES for 0 items and above 32767 hashes. */
 int32_t ds_filter_hashes_for(uint64_t num_bits, uint64_t num_items, uint16_t *num_hashes);
 
 #ifdef __cplusplus

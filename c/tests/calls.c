@@ -466,7 +466,7 @@ static void many_texts(void)
 /* Many items, each with a weight. */
 static void weights(void)
 {
-    ds_sketch count = DS_NONE, signs = DS_NONE, numbers = DS_NONE, below = DS_NONE, texts = DS_NONE;
+    ds_sketch count = DS_NONE, signs = DS_NONE, numbers = DS_NONE, below = DS_NONE, texts = DS_NONE, none = DS_NONE;
     ds_count_numbers counted;
     ds_frequent_numbers weighed;
     ds_frequent_bounds bounds, all[4];
@@ -528,6 +528,7 @@ static void weights(void)
     CHECK(all[0].lower_bound == 1 && all[1].upper_bound == 2 && all[2].estimate == 0);
     CHECK(ds_frequent_text_bounds_all(&texts, MANY, bytes, ENDS, 5, all, 3) == DS_NO_ROOM);
     CHECK(ds_frequent_text_bounds_all(&numbers, MANY, bytes, ENDS, 5, all, 4) == DS_WRONG_KIND && all[3].estimate == 9);
+    CHECK(ds_frequent_text_bounds_all(&none, MANY, bytes, ENDS, 5, all, 4) == DS_NO_SKETCH && all[3].estimate == 9);
     CHECK(ds_frequent_text_status(&texts, &weighed) == DS_OK && weighed.num_active_items == 3 && weighed.total_weight == 12);
     CHECK(ds_frequent_text_update_all_weighted(&texts, MANY, bytes, ENDS, 5, of_four, 3) == DS_NO_ROOM);
     CHECK(ds_frequent_text_update_all_weighted(&texts, MANY, bytes - 1, ENDS, 5, of_four, 4) == DS_BAD_OFFSETS);
@@ -576,6 +577,30 @@ static void rows_of_texts(void)
     CHECK(ds_frequent_text_rows(&texts, false, 6, bytes, 7, offsets, 3, bounds, 2, &count, &length) == DS_OK && count == 2);
     ds_free(&texts);
     ds_free(&other);
+}
+
+/* Of several errors the first of the order that the header has is returned. */
+static void first_errors(void)
+{
+    ds_sketch a = DS_NONE, b = DS_NONE, filter = DS_NONE;
+    uint64_t estimates[2] = {7, 7};
+    const uint64_t descending[3] = {0, 2, 1}, far[3] = {0, 0, 9}, odd[3] = {0, 1, 1};
+    const uint8_t *bad = (const uint8_t *)"\xff";
+
+    CHECK(ds_count_u64_decay(&a, 2, 1) == DS_BAD_FRACTION && ds_filter_insert_text(&a, bad, 1) == DS_INVALID_UTF8);
+    CHECK(ds_count_u64_estimate_all_text(&a, bad, 1, descending, 3, estimates, 1) == DS_BAD_OFFSETS);
+    CHECK(ds_count_u64_estimate_all_text(&a, bad, 1, far, 3, estimates, 2) == DS_BAD_OFFSETS);
+    CHECK(ds_count_u64_estimate_all_text(&a, bad, 1, odd, 3, estimates, 1) == DS_NO_ROOM);
+    CHECK(ds_count_u64_estimate_all_text(&a, bad, 1, odd, 3, estimates, 2) == DS_INVALID_UTF8);
+    CHECK(ds_count_u64_estimate_all_u64(&a, odd, 3, estimates, 2) == DS_NO_ROOM && estimates[0] == 7);
+    CHECK(ds_filter_new(&filter, 64, 1, 9001) == DS_OK && ds_count_u64_merge(&filter, &a) == DS_WRONG_KIND);
+    CHECK(ds_count_u64_merge(&a, &filter) == DS_NO_SKETCH && ds_count_u64_new(&a, 4, 128, 9001) == DS_OK);
+    CHECK(ds_count_u64_merge(&a, &filter) == DS_WRONG_KIND && ds_count_u64_new(&b, 3, 128, 9001) == DS_OK);
+    CHECK(ds_count_u64_update_u64(&a, 1, UINT64_MAX) == DS_OK && ds_count_u64_update_u64(&b, 1, 1) == DS_OK);
+    CHECK(ds_count_u64_merge(&a, &b) == DS_MISMATCH);
+    ds_free(&a);
+    ds_free(&b);
+    ds_free(&filter);
 }
 
 /* Sketches that are equal, and sketches that differ in one thing. */
@@ -667,6 +692,7 @@ int main(void)
     many_texts();
     weights();
     rows_of_texts();
+    first_errors();
     equal_sketches();
     threads();
     names();

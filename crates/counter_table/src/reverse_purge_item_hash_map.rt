@@ -82,20 +82,19 @@ impl<T: Eq + Hash + Drop> ReversePurgeItemHashMap<T> {
         })
     }
 
-    /// The count of the item, 0 where it is absent.
+    /// Returns the count of the item, 0 if it is absent. [`get_counted`](Self::get_counted) says how many slots it probes.
     pub fn get(&self, item: &T) -> u64
         ensures { result ≡ count_of T.eq self.now.entries item.now }
     {
         self.get_counted(item).0
     }
 
-    /// The count of the item, 0 where it is absent, and the number of slots that were looked at for it.
+    /// Returns the count of the item, 0 if it is absent, and the number of slots that were probed for it.
     ///
-    /// A place is full where, for some k, at least k + 1 entries have their home among the k + 1 places that end at it,
+    /// A place is full if, for some k, at least k + 1 entries have their home among the k + 1 places that end at it,
     /// counted round the end. An item's reach is the number of places from its home on up to the first that is not
-    /// full, that one included. Exactly so many slots are looked at where the item is absent, and from 1 to the reach
-    /// less 1 where it is present, whatever was purged before. No look-up looks at more slots than one an entry and one
-    /// more, nor at more than the table has.
+    /// full, that one included. The number of probes is the reach if the item is absent, and from 1 to the reach less 1 if
+    /// it is present, whatever was purged before. It is at most the number of entries and 1, and at most the number of slots.
     pub fn get_counted(&self, item: &T) -> (u64, usize)
         ensures count { result.0 ≡ count_of T.eq self.now.entries item.now }
         ensures absent { is_tracked T.eq self.now.entries item.now ≡ false

@@ -1,10 +1,9 @@
 -- Saved sketches and what they stand for.
-use Rattle.std.proofs.Common.{◌≡◌, ℕ, ℤ, ◌≤◌, Bool, List, Option, Some, None, inl, refl, sym, ◌∙◌, ap, subst, arith}
-use Rattle.std.specs.Prelude.{true, false, cond, ◌+◌, ◌*◌}
+use Rattle.std.proofs.Common.{◌≡◌, ℕ, ℤ, ◌≤◌, Bool, List, Option, Some, None, inl, refl, sym, ap, subst, arith}
+use Rattle.std.specs.Prelude.{cond, ◌*◌}
 use Rattle.std.proofs.lemmas.Bool.{le-ltb}
 use Rattle.std.specs.Global.{Global}
 use Rattle.std.specs.declared.vec.Vec.{Vec}
-use Rattle.counter_table.specs.Bytes.{slots_bytes}
 use Rattle.sketch_base.specs.Checks.{or_else}
 use Rattle.sketch_base.specs.Errors.{no_memory}
 use Rattle.sketch_base.specs.declared.fault.Fault.{Fault}
@@ -22,7 +21,7 @@ use Rattle.sketch_frequencies.specs.Laws as frequent_laws
 use Rattle.sketch_frequencies.specs.State.{FrequentState, IsState, capacity}
 use Rattle.datasketches.specs.Histories.{History}
 use Rattle.datasketches.specs.Histories.History.{OfFrequent, OfCountI64, OfCountU64, OfBloom, OfStranger}
-use Rattle.datasketches.specs.Images.{IsImageOf, IsCountImage, IsWrittenBy, IsReadFrom, IsReadRefusal, IsLoadRefusal, TakesWithin, GivesBack, over_limit}
+use Rattle.datasketches.specs.Images.{IsImageOf, IsCountImage, IsWrittenBy, IsReadFrom, IsReadRefusal, IsLoadRefusal, GivesBack, over_limit, load_fault}
 use Rattle.datasketches.specs.Replies.{least_signed, greatest_signed, least_unsigned, greatest_unsigned}
 use Rattle.datasketches.specs.Stands.{StandsFor, KeepsCounts}
 use Rattle.datasketches.specs.declared.image.Image.{Image}
@@ -114,37 +113,15 @@ none_within : (early limit late : Option Fault) → or_else early late ≡ None 
 none_within None limit late e h = h
 none_within (Some fault) limit late e h = cc
 
--- the shape that a Count-Min image says
-count_hashes : (least : ℤ) (seed : ℕ) (image : List ℕ) (t : Bool) → count.says_empty image ≡ t → (count.value_at least seed image).hashes ≡ count.hashes_at image
-count_hashes least seed image true e = rw e refl
-count_hashes least seed image false e = rw e refl
-
-count_buckets : (least : ℤ) (seed : ℕ) (image : List ℕ) (t : Bool) → count.says_empty image ≡ t → (count.value_at least seed image).buckets ≡ count.buckets_at image
-count_buckets least seed image true e = rw e refl
-count_buckets least seed image false e = rw e refl
-
-count_within : (least : ℤ) (greatest seed most : ℕ) (bytes : List ℕ) (s : CountState) → count.IsImage least greatest seed bytes s → s.hashes * s.buckets * 8 + 8 * s.hashes ≤ most → count.early_fault_within 8 most seed bytes ≡ None
-count_within least greatest seed most bytes s image within =
-    let hashes = ap (λ (u : CountState). u.hashes) image.value ∙ count_hashes least seed bytes (count.says_empty bytes) refl in
-    let buckets = ap (λ (u : CountState). u.buckets) image.value ∙ count_buckets least seed bytes (count.says_empty bytes) refl in
-    none_within (count.early_fault seed bytes) (count.limit_fault 8 most bytes) _ image.no_fault
-    (not_over most _ (rw (sym hashes, sym buckets) within))
+-- a filter that is within the limit was read from an image that is
+pub bloom_accepted : (most : ℕ) (bytes : List ℕ) (s : FilterState) → bloom.IsImage bytes s → 8 * s.num_words ≤ most → bloom.limit_fault most bytes ≡ None
+bloom_accepted most bytes s image within = not_over most _ (subst (λ (n : ℕ). 8 * n ≤ most) (ap (λ (u : FilterState). u.num_words) image.value) within)
 
 module _ {T C : Type 0} (slot : ℕ) (codec : Codec C) (content : T → C) where
   -- where an image was loaded, memory may be refused
-  pub load_first : (most : ℕ) (saved : Image) (sketch : Sketch T) → IsReadFrom codec content saved sketch → TakesWithin slot most sketch → IsLoadRefusal slot codec most saved no_memory
-  load_first most (image.Frequent bytes) (Frequent s) read within =
-      inl (
-        refl,
-        none_within (frequent.early_fault bytes.items) (over_limit most (slots_bytes slot (frequent.restored_size bytes.items))) _ read.0.no_fault
-            (not_over most _ (subst (λ (n : ℕ). slots_bytes slot n ≤ most) read.0.size within)),
-      )
-  load_first most (image.CountI64 seed bytes) (CountI64 s) read within = inl (refl, count_within _ _ seed most bytes.items s read within)
-  load_first most (image.CountU64 seed bytes) (CountU64 s) read within = inl (refl, count_within _ _ seed most bytes.items s read within)
-  load_first most (image.Bloom bytes) (Bloom s) read within =
-      inl (
-        refl,
-        none_within (bloom.early_fault bytes.items) (bloom.limit_fault most bytes.items) _ read.no_fault
-            (not_over most _ (subst (λ (n : ℕ). 8 * n ≤ most) (ap (λ (u : FilterState). u.num_words) read.value) within)),
-      )
-  load_first most _ _ read within = absurd read
+  pub load_first : (most : ℕ) (saved : Image) (sketch : Sketch T) → IsReadFrom codec content saved sketch → load_fault slot codec most saved ≡ None → IsLoadRefusal slot codec most saved no_memory
+  load_first most (image.Frequent bytes) (Frequent s) read accepted = inl (refl, none_within (frequent.early_fault bytes.items) _ _ read.0.no_fault accepted)
+  load_first most (image.CountI64 seed bytes) (CountI64 s) read accepted = inl (refl, none_within (count.early_fault seed bytes.items) _ _ read.no_fault accepted)
+  load_first most (image.CountU64 seed bytes) (CountU64 s) read accepted = inl (refl, none_within (count.early_fault seed bytes.items) _ _ read.no_fault accepted)
+  load_first most (image.Bloom bytes) (Bloom s) read accepted = inl (refl, none_within (bloom.early_fault bytes.items) _ _ read.no_fault accepted)
+  load_first most _ _ read accepted = absurd read

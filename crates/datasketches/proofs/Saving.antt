@@ -6,7 +6,7 @@ use Rattle.std.proofs.lemmas.Result.{err_from_is_err_and}
 use Rattle.sketch_base.specs.Errors.{ErrorValue, invalid_argument, no_memory, refusal_of}
 use Rattle.sketch_base.specs.declared.fault.Fault.{Fault}
 use Rattle.datasketches.specs.Histories.{begun}
-use Rattle.datasketches.specs.Images.{IsWrittenBy, IsReadFrom, IsReadRefusal, GivesBack, TakesWithin}
+use Rattle.datasketches.specs.Images.{IsWrittenBy, IsReadFrom, IsReadRefusal, GivesBack, TakesWithin, load_fault}
 use Rattle.sketch_frequencies.specs.Items.{Codec}
 use Rattle.datasketches.proofs.Names.{free_name}
 use Rattle.datasketches.proofs.Saved.{read_first, load_first}
@@ -86,15 +86,15 @@ module _ {T C : Type 0} (eq : T → T → Bool) (codec : Codec C) (content : T �
 module _ {T C : Type 0} (slot : ℕ) (eq : T → T → Bool) (codec : Codec C) (content : T → C) where
   -- an image that was loaded, where there was no memory for its name
   pub loads_refused : (image : Image) (most : ℕ) (name : List ℕ) (seen old new : SessionState T) (reply : Reply T) (error : ErrorValue) (sketch : Sketch T) → seen ≡ old → at_name name seen.sketches ≡ None →
-      IsReadFrom codec content image sketch → TakesWithin slot most sketch → reply ≡ refused error → error ≡ no_memory → AreSame seen.sketches new.sketches → AreSame seen.images new.images → Loads slot eq codec content image most name old reply new
-  loads_refused image most name seen old new reply error sketch same free read within r e sketches images =
-      subst (λ s. Loads slot eq codec content image most name s reply new) same (rw free (record { images = images; outcome = inr (no_memory, load_first slot codec content most image sketch read within, (r ∙ ap refused e, sketches)) }))
+      IsReadFrom codec content image sketch → load_fault slot codec most image ≡ None → reply ≡ refused error → error ≡ no_memory → AreSame seen.sketches new.sketches → AreSame seen.images new.images → Loads slot eq codec content image most name old reply new
+  loads_refused image most name seen old new reply error sketch same free read accepted r e sketches images =
+      subst (λ s. Loads slot eq codec content image most name s reply new) same (rw free (record { images = images; outcome = inr (no_memory, load_first slot codec content most image sketch read accepted, (r ∙ ap refused e, sketches)) }))
 
   -- an image that was loaded
   pub loads_done : (image : Image) (most : ℕ) (name : List ℕ) (seen old new : SessionState T) (sketch : Sketch T) → seen ≡ old → at_name name seen.sketches ≡ None →
-      IsReadFrom codec content image sketch → GivesBack eq codec content image sketch → TakesWithin slot most sketch → Puts name sketch seen.sketches new.sketches → AreSame seen.images new.images → Loads slot eq codec content image most name old Done new
-  loads_done image most name seen old new sketch same free read back within puts images =
-      subst (λ s. Loads slot eq codec content image most name s Done new) same (rw free (record { images = images; outcome = inl (sketch, refl, record { read = read; stands = back; within = within }, puts) }))
+      IsReadFrom codec content image sketch → GivesBack eq codec content image sketch → TakesWithin slot codec content most sketch → load_fault slot codec most image ≡ None → Puts name sketch seen.sketches new.sketches → AreSame seen.images new.images → Loads slot eq codec content image most name old Done new
+  loads_done image most name seen old new sketch same free read back within accepted puts images =
+      subst (λ s. Loads slot eq codec content image most name s Done new) same (rw free (record { images = images; outcome = inl (sketch, refl, record { read = read; stands = back; within = within; accepted = accepted }, puts) }))
 
 module _ {T C : Type 0} (codec : Codec C) (content : T → C) where
   -- a sketch that was written

@@ -17,7 +17,8 @@ use Rattle.sketch_countmin.specs.Stands as count_stands
 use Rattle.sketch_countmin.specs.State.{CountState}
 use Rattle.sketch_frequencies.specs.History.{FrequentHistory}
 use Rattle.sketch_frequencies.specs.Image as frequent
-use Rattle.sketch_frequencies.specs.Items.{Codec}
+use Rattle.sketch_frequencies.specs.Items.{Codec, max_owned}
+use Rattle.sketch_frequencies.specs.Memory.{memory_bytes, owned_by}
 use Rattle.sketch_frequencies.specs.Stands as frequent_stands
 use Rattle.sketch_frequencies.specs.State.{FrequentState, greatest_sample_size}
 use Rattle.datasketches.specs.Histories.{History, restored}
@@ -92,12 +93,21 @@ IsReadRefusal codec (image.Bloom bytes) e =
 abbrev pub over_limit : (most_bytes taken : ℕ) → Option Fault
 over_limit most_bytes taken = if nat_lt most_bytes taken then Some TableTooLarge else None
 
--- the same of an image that is read where the sketch takes at most so many bytes, which is looked at behind the checks
--- that come before memory; a slot of frequent items takes so many bytes and 12, a cell of a Count-Min sketch 8
+-- whether the sketch of the image would pass the limit: a slot of frequent items takes so many bytes and 12, beside what
+-- its items can own, and a cell of a Count-Min sketch 8
+abbrev pub load_fault : (slot : ℕ) → {C : Type 0} → Codec C → (most_bytes : ℕ) → Image → Option Fault
+load_fault slot codec most_bytes (image.Frequent bytes) =
+    over_limit most_bytes
+    (memory_bytes (slots_bytes slot (frequent.restored_size bytes.items))
+    (max_owned codec (frequent.bytes_for_items bytes.items)))
+load_fault slot codec most_bytes (image.CountI64 seed bytes) = count.limit_fault 8 most_bytes bytes.items
+load_fault slot codec most_bytes (image.CountU64 seed bytes) = count.limit_fault 8 most_bytes bytes.items
+load_fault slot codec most_bytes (image.Bloom bytes) = bloom.limit_fault most_bytes bytes.items
+
+-- why an image is not loaded: as where it is read, with the limit behind the checks that come before memory
 abbrev pub IsLoadRefusal : (slot : ℕ) → {C : Type 0} → Codec C → (most_bytes : ℕ) → Image → ErrorValue → Type 0
 IsLoadRefusal slot codec most_bytes (image.Frequent bytes) e =
-    let early = or_else (frequent.early_fault bytes.items)
-    (over_limit most_bytes (slots_bytes slot (frequent.restored_size bytes.items))) in
+    let early = or_else (frequent.early_fault bytes.items) (load_fault slot codec most_bytes (image.Frequent bytes)) in
     IsImageRefusal early (or_else early (frequent.late_fault codec bytes.items)) e
 IsLoadRefusal slot codec most_bytes (image.CountI64 seed bytes) e =
     IsImageRefusal (count.early_fault_within 8 most_bytes seed bytes.items)
@@ -109,12 +119,13 @@ IsLoadRefusal slot codec most_bytes (image.Bloom bytes) e =
     IsImageRefusal (bloom.early_fault_within most_bytes bytes.items)
     (bloom.first_fault_within most_bytes bytes.items) e
 
--- the sketch takes at most so many bytes
-abbrev pub TakesWithin : (slot : ℕ) → {T : Type 0} → (most_bytes : ℕ) → Sketch T → Type 0
-TakesWithin slot most_bytes (Frequent s) = slots_bytes slot s.size ≤ most_bytes
-TakesWithin slot most_bytes (CountI64 s) = s.hashes * s.buckets * 8 + 8 * s.hashes ≤ most_bytes
-TakesWithin slot most_bytes (CountU64 s) = s.hashes * s.buckets * 8 + 8 * s.hashes ≤ most_bytes
-TakesWithin slot most_bytes (Bloom s) = 8 * s.num_words ≤ most_bytes
+-- the sketch takes at most so many bytes, with those that its items own
+abbrev pub TakesWithin : (slot : ℕ) → {T C : Type 0} → Codec C → (T → C) → (most_bytes : ℕ) → Sketch T → Type 0
+TakesWithin slot codec content most_bytes (Frequent s) =
+    memory_bytes (slots_bytes slot s.size) (owned_by codec content s.counters) ≤ most_bytes
+TakesWithin slot codec content most_bytes (CountI64 s) = s.hashes * s.buckets * 8 + 8 * s.hashes ≤ most_bytes
+TakesWithin slot codec content most_bytes (CountU64 s) = s.hashes * s.buckets * 8 + 8 * s.hashes ≤ most_bytes
+TakesWithin slot codec content most_bytes (Bloom s) = 8 * s.num_words ≤ most_bytes
 
 -- it was written by a filter that stands for the history
 pub record IsFilterImage (bytes : List ℕ) (h : BloomHistory) : Type 0 where

@@ -1,5 +1,5 @@
 -- What an action and a command do, and what is replied.
-use Rattle.std.specs.Prelude.{◌≡◌, ◌≢◌, ℕ, ◌⊎◌, Bool, List, [], ◌∷◌, Option, MatchOption}
+use Rattle.std.specs.Prelude.{◌≡◌, ◌≢◌, ℕ, ◌⊎◌, Bool, List, [], ◌∷◌, Option, None, MatchOption}
 use Rattle.std.specs.Global.{Global}
 use Rattle.std.specs.String.{string_bytes}
 use Rattle.std.specs.declared.vec.Vec.{Vec}
@@ -9,7 +9,7 @@ use Rattle.datasketches.specs.Actions.{action_of}
 use Rattle.datasketches.specs.Answering.{Tells, Lists, status_of}
 use Rattle.datasketches.specs.Changing.{Changes}
 use Rattle.datasketches.specs.Histories.{begun, changed, joined}
-use Rattle.datasketches.specs.Images.{bytes_of, image_of, IsWriteRefusal, IsReadRefusal, IsLoadRefusal, IsWrittenBy, IsReadFrom, GivesBack, TakesWithin}
+use Rattle.datasketches.specs.Images.{bytes_of, image_of, IsWriteRefusal, IsReadRefusal, IsLoadRefusal, IsWrittenBy, IsReadFrom, GivesBack, TakesWithin, load_fault}
 use Rattle.datasketches.specs.Joining.{Joins}
 use Rattle.datasketches.specs.Names.{at_name, Puts, AreSame}
 use Rattle.datasketches.specs.Replies.{refused}
@@ -145,11 +145,12 @@ module _ {T C : Type 0} (eq : T → T → Bool) (codec : Codec C) (content : T �
       old reply new
 
 module _ {T C : Type 0} (slot : ℕ) (eq : T → T → Bool) (codec : Codec C) (content : T → C) where
-  -- a sketch read from the image is within the limit, and stands for what the image stands for
+  -- a sketch was read from the image within the limit, takes no more than that, and stands for what the image stands for
   pub record IsLoaded (image : Image) (most_bytes : ℕ) (sketch : Sketch T) : Type 0 where
     pub read : IsReadFrom codec content image sketch
     pub stands : GivesBack eq codec content image sketch
-    pub within : TakesWithin slot most_bytes sketch
+    pub within : TakesWithin slot codec content most_bytes sketch
+    pub accepted : load_fault slot codec most_bytes image ≡ None
 
   -- it has the name now; or the call refused
   pub record Brings (image : Image) (most_bytes : ℕ) (name : List ℕ) (old : SessionState T) (reply : Reply T)

@@ -5,7 +5,7 @@ ghost use Rattle.counter_table.specs.Bytes.{option_bytes};
 ghost use Rattle.datasketches.specs.Answering.{Tells, Lists, status_of};
 ghost use Rattle.datasketches.specs.Changing.{Changes, Adds, AddsSigned, Inserts, Resets, Halves, Decays};
 ghost use Rattle.datasketches.specs.Histories.{begun, changed, joined};
-ghost use Rattle.datasketches.specs.Images.{IsWrittenBy, IsReadFrom, IsWriteRefusal, IsReadRefusal, IsLoadRefusal, TakesWithin, GivesBack};
+ghost use Rattle.datasketches.specs.Images.{IsWrittenBy, IsReadFrom, IsWriteRefusal, IsReadRefusal, IsLoadRefusal, TakesWithin, GivesBack, load_fault};
 ghost use Rattle.datasketches.specs.Joining.{Joins, Merges};
 ghost use Rattle.datasketches.specs.Replies.{done_or, told};
 ghost use Rattle.datasketches.specs.Shapes.{empty_sketch, fault_of};
@@ -345,16 +345,21 @@ impl<T: FrequentItemValue + Drop> Sketch<T> {
         }
     }
 
-    /// The sketch of an image that may come from anywhere, where it takes at most so many bytes.
+    /// Returns the sketch of an image that may come from anywhere, if it takes at most `most_bytes`.
+    ///
+    /// For frequent items the limit counts what
+    /// [`deserialize_with_limit`](sketch_frequencies::FrequentItemsSketch::deserialize_with_limit) counts: the table, and of
+    /// items that own memory the bytes after the weights.
     ///
     /// # Errors
     ///
-    /// The image's first fault, `TableTooLarge` where the sketch would take more, and `NoMemory` where there is no memory
-    /// for it.
+    /// The image's first fault, `TableTooLarge` if the limit is exceeded, and `NoMemory` if there is no memory for the
+    /// sketch.
     pub fn load(alloc: Global, image: &Image, most_bytes: usize) -> Result<Self, Error>
         ensures read { IfOk result (IsReadFrom T.codec T.content image.now) }
         ensures stands { IfOk result (GivesBack T.eq T.codec T.content image.now) }
-        ensures within { IfOk result (TakesWithin (option_bytes T.row) most_bytes) }
+        ensures within { IfOk result (TakesWithin (option_bytes T.row) T.codec T.content most_bytes) }
+        ensures accepted { IsOk result → load_fault (option_bytes T.row) T.codec most_bytes image.now ≡ None }
         ensures refused { IfErr result (IsLoadRefusal (option_bytes T.row) T.codec most_bytes image.now) }
     {
         match image {

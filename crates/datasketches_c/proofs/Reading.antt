@@ -1,19 +1,24 @@
 -- Images that are read, and refusals to write one.
-use Rattle.std.proofs.Common.{◌≡◌, ℕ, ◌*◌, ◌<◌, ◌≤◌, Bool, List, length, take, drop, Option, Some, None, ℤ, pos, negsuc, cond, ap, sym, subst, inl, inr, refl}
-use Rattle.std.specs.Prelude.{Result, Ok, Err, MatchResult, IfOk, IfErr}
-use Rattle.std.proofs.lemmas.Bool.{cases_lt, le-ltb}
+use Rattle.std.proofs.Common.{◌≡◌, ℕ, ◌*◌, ◌^◌, ◌<◌, ◌≤◌, Bool, true, false, List, length, take, drop, Option, Some, None, ℤ, pos, negsuc, cond, ap, sym, subst, inl, inr, refl}
+use Rattle.std.specs.Prelude.{nat_lt, Result, Ok, Err, MatchResult, IfOk, IfErr}
+use Rattle.std.specs.Global.{Global}
+use Rattle.std.specs.Str.{is_utf8}
+use Rattle.std.specs.String.{string_bytes}
+use Rattle.std.specs.declared.string.String.{String}
+use Rattle.std.proofs.lemmas.Bool.{cases_lt, le-ltb, lt-ltb}
+use Rattle.std.proofs.lemmas.Str.{IsUtf8-string_bytes, is_utf8-from_IsUtf8}
 use Rattle.sketch_base.specs.Checks.{or_else, IsImageRefusal}
 use Rattle.sketch_base.specs.Errors.{ErrorValue}
 use Rattle.sketch_base.specs.declared.fault.Fault.{Fault}
-use Rattle.sketch_base.specs.declared.fault.Fault.TheVariants.{NoMemory, TableTooLarge}
+use Rattle.sketch_base.specs.declared.fault.Fault.TheVariants.{ItemTooLong, NoMemory, TableTooLarge}
 use Rattle.counter_table.specs.Bytes.{table_bytes}
 use Rattle.sketch_bloom.specs.Image.{IsImage, early_fault, early_fault_within, limit_fault, num_words_at}
 use Rattle.sketch_bloom.specs.State.{FilterState}
 use Rattle.sketch_frequencies.specs.Image as frequent
-use Rattle.sketch_frequencies.specs.Items.{Codec}
+use Rattle.sketch_frequencies.specs.Items.{Codec, text_codec, text_encoding}
 use Rattle.sketch_frequencies.specs.State.{FrequentState}
 use denote.RattleType.{RattleType}
-use Rattle.datasketches_c.specs.FrequentImages.{WritesFrequent}
+use Rattle.datasketches_c.specs.FrequentTextImages.{WritesFrequentTexts}
 use Rattle.datasketches_c.specs.Images.{WritesImage, IsRefusedImage}
 use Rattle.datasketches_c.specs.Numbers.{OnRefused, ok, no_room, refusal_number}
 
@@ -55,11 +60,23 @@ copied_image Spelled image out new written result is counted copied few = elim (
       )
 ]
 
--- a refusal to write an image, by its number
-pub refused_to_write : {T C : Type 0} (codec : Codec C) (content : T → C) (s : FrequentState T) (old new : List ℕ) (written : ℕ) (e : ErrorValue)
-    → frequent.IsImageWritingRefusal codec content s.counters e → WritesFrequent codec content s old new written (refusal_number e.fault)
-refused_to_write codec content s old new written e (inl is) = inl (inr (inr (ap (λ (x : ErrorValue). refusal_number x.fault) is)))
-refused_to_write codec content s old new written e (inr is) = inr (e.fault, refl, is.1)
+-- a text that has no bytes in an image is too long
+too_long : (text : String Global) (fault : Fault) → text_encoding (string_bytes text) ≡ Err fault → (fault ≡ ItemTooLong) × (2 ^ 32 ≤ length (string_bytes text))
+too_long text fault none =
+    let bytes = string_bytes text in
+    let utf8 : is_utf8 bytes ≡ true = is_utf8-from_IsUtf8 bytes (IsUtf8-string_bytes text) in
+    elim (cases_lt (length bytes) (2 ^ 32)) as (λ _. (fault ≡ ItemTooLong) × (2 ^ 32 ≤ length bytes)) [
+      | inl short ↦ let fits : nat_lt (length bytes) (2 ^ 32) ≡ true = lt-ltb _ _ short in cc
+      | inr long ↦ let over : nat_lt (length bytes) (2 ^ 32) ≡ false = le-ltb _ _ long in let is : fault ≡ ItemTooLong = cc in (is, long)
+    ]
+
+-- a refusal to write an image of texts, by its number
+pub texts_not_written : (s : FrequentState (String Global)) (old new : List ℕ) (written : ℕ) (e : ErrorValue)
+    → frequent.IsImageWritingRefusal text_codec (λ (text : String Global). string_bytes text) s.counters e → WritesFrequentTexts s old new written (refusal_number e.fault)
+texts_not_written s old new written e (inl is) = inl (inr (inr (ap (λ (x : ErrorValue). refusal_number x.fault) is)))
+texts_not_written s old new written e (inr (is, (k, counter, there, at, none))) =
+    let why = too_long counter.0 e.fault none in
+    inr (ap refusal_number why.0, (k, counter, there, at, why.1))
 
 -- a refusal to read one
 refused_to_read : (before whole : Option Fault) (e : ErrorValue) → IsImageRefusal before whole e

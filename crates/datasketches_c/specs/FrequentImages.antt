@@ -1,15 +1,13 @@
 -- What calls for images of frequent-items sketches do, whatever the items.
-use Rattle.std.specs.Prelude.{◌≡◌, ◌⊎◌, ℕ, ℤ, ◌≤◌, Bool, List, Any, Err, nat_eq}
+use Rattle.std.specs.Prelude.{◌≡◌, ℕ, ℤ, ◌≤◌, Bool, List, nat_eq}
 use Rattle.std.specs.Ordering.{int_eq}
 use denote.Builtin as builtin
 use denote.RattleType.{RattleType}
-use Rattle.sketch_base.specs.declared.fault.Fault.{Fault}
 use Rattle.counter_table.specs.Bytes.{table_bytes}
 use Rattle.sketch_frequencies.specs.Image.{IsImageOf, IsSpelledFor, Restores, RestoresBudget}
 use Rattle.sketch_frequencies.specs.Items.{Codec, u64_encoding, u64_reading, i64_encoding, i64_reading}
 use Rattle.sketch_frequencies.specs.State.{FrequentState, greatest_sample_size}
 use Rattle.datasketches_c.specs.Images.{WritesImage}
-use Rattle.datasketches_c.specs.Numbers.{refusal_number}
 
 -- how numbers lie in memory, are told apart, written and read
 abbrev pub u64_row : RattleType
@@ -25,16 +23,10 @@ abbrev pub i64_codec : Codec ℤ
 i64_codec = record { same = int_eq; encoding = i64_encoding; reading = i64_reading }
 
 module _ {T C : Type 0} (codec : Codec C) (content : T → C) where
-  -- some item of the sketch has no bytes, for a fault of this number
-  abbrev pub HasNoBytes : FrequentState T → ℤ → Type 0
-  HasNoBytes s result =
-      (fault : Fault) × (result ≡ refusal_number fault)
-      × Any (λ counter. codec.encoding (content counter.0) ≡ Err fault) s.counters
-
-  -- the sketch's image was written as any image is, or some item has no bytes
+  -- the sketch's image was written as any image is
   abbrev pub WritesFrequent : FrequentState T → (old new : List ℕ) → ℕ → ℤ → Type 0
   WritesFrequent s old new written result =
-      WritesImage (λ image. IsSpelledFor codec content image s) old new written result ⊎ HasNoBytes s result
+      WritesImage (λ image. IsSpelledFor codec content image s) old new written result
 
 -- the sketch came back from its image, and its table takes at most so many bytes
 pub record IsRestored

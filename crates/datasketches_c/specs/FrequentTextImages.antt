@@ -1,8 +1,23 @@
--- How texts lie in memory.
+-- How texts lie in memory, and how their sketch's image is written.
+use Rattle.std.specs.Prelude.{◌≡◌, ◌⊎◌, ℕ, ℤ, ◌^◌, ◌≤◌, List, length, Any}
+use Rattle.std.specs.Global.{Global}
+use Rattle.std.specs.String.{string_bytes}
+use Rattle.std.specs.declared.string.String.{String}
 use denote.RattleType.{RattleType}
 use Rattle.std.specs.contracts.alloc.Global as heap
 use Rattle.std.specs.contracts.impls.GlobalAllocator.TheImpl.{ghosts}
 use Rattle.std.specs.contracts.string.String as string
+use Rattle.sketch_base.specs.declared.fault.Fault.TheVariants.{ItemTooLong}
+use Rattle.sketch_frequencies.specs.Items.{text_codec}
+use Rattle.sketch_frequencies.specs.State.{FrequentState}
+use Rattle.datasketches_c.specs.FrequentImages.{WritesFrequent}
+use Rattle.datasketches_c.specs.Numbers.{refusal_number}
 
 abbrev pub text_row : RattleType
 text_row = string.the_row heap.the_row ghosts
+
+-- the sketch's image was written as any image is, or some text is too long for one
+abbrev pub WritesFrequentTexts : FrequentState (String Global) → (old new : List ℕ) → ℕ → ℤ → Type 0
+WritesFrequentTexts s old new written result =
+    WritesFrequent text_codec (λ text. string_bytes text) s old new written result
+    ⊎ ((result ≡ refusal_number ItemTooLong) × Any (λ counter. 2 ^ 32 ≤ length (string_bytes counter.0)) s.counters)

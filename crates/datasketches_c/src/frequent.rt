@@ -3,8 +3,9 @@ ghost use Rattle.std.specs.Ordering.{int_eq};
 ghost use Rattle.std.specs.Prelude.{◌≡◌, ◌≢◌, IsTrue, length, nat_eq};
 ghost use Rattle.datasketches_c.specs.FrequentBatches.{AreBoundsOfAll};
 ghost use Rattle.datasketches_c.specs.FrequentCalls.{Updates, UpdatesMany, MergesInto, Empties, AreBounds, AreNumbers};
-ghost use Rattle.datasketches_c.specs.FrequentImages.{WritesFrequent};
+ghost use Rattle.datasketches_c.specs.FrequentImages.{WritesFrequent, i64_codec, u64_codec};
 ghost use Rattle.datasketches_c.specs.FrequentRows.{LeavesRows, WritesRows, error_type};
+ghost use Rattle.datasketches_c.specs.FrequentTextImages.{WritesFrequentTexts};
 ghost use Rattle.datasketches_c.specs.FrequentTexts.{text_eq};
 ghost use Rattle.datasketches_c.specs.Kinds.{OnKind, HoldsKind, WritesDown, WritesDownEach};
 ghost use Rattle.datasketches_c.specs.Numbers.{OnRefused, ok, no_room, refusal_number};
@@ -17,6 +18,7 @@ use crate::images::{HasImage, copy_out};
 use crate::join::Joins;
 use crate::kind::{Kind, on_kind};
 use crate::status_code::{NO_ROOM, OK, refusal_number};
+use sketch_base::Fault;
 use sketch_frequencies::{FrequentItemValue, FrequentItemsSketch};
 use std::alloc::Global;
 use std::hash::Hash;
@@ -297,11 +299,41 @@ where
     })
 }
 
-impl<T: FrequentItemValue + Drop> HasImage for FrequentItemsSketch<T>
-where
-    FrequentItemsSketch<T>: Kind,
+/// Writes the image of a sketch of numbers to the front of the caller's buffer. A number always has bytes, so the library
+/// refuses memory alone.
+fn write_numbers<T: FrequentItemValue + Drop>(
+    sketch: &FrequentItemsSketch<T>,
+    out: &mut [u8],
+    written: &mut usize,
+) -> i32
+    ensures image { WritesFrequent T.codec T.content sketch.now out.old out.new written.new result }
+    ensures untouched { OnRefused result (out.new ≡ out.old) }
+    ensures uncounted { result ≢ ok → result ≢ no_room → written.new ≡ written.old }
 {
-    ghost writes = { WritesFrequent T.codec T.content };
+    match sketch.serialize() {
+        Ok(image) => copy_out(&image, out, written),
+        Err(_) => refusal_number(Fault::NoMemory),
+    }
+}
+
+impl HasImage for FrequentItemsSketch<i64> {
+    ghost writes = { WritesFrequent i64_codec (λ n. n) };
+
+    fn write_to(&self, out: &mut [u8], written: &mut usize) -> i32 {
+        write_numbers(self, out, written)
+    }
+}
+
+impl HasImage for FrequentItemsSketch<u64> {
+    ghost writes = { WritesFrequent u64_codec (λ n. n) };
+
+    fn write_to(&self, out: &mut [u8], written: &mut usize) -> i32 {
+        write_numbers(self, out, written)
+    }
+}
+
+impl HasImage for FrequentItemsSketch<String> {
+    ghost writes = { WritesFrequentTexts };
 
     fn write_to(&self, out: &mut [u8], written: &mut usize) -> i32 {
         match self.serialize() {

@@ -11,7 +11,7 @@ ghost use Rattle.sketch_frequencies.specs.Stands.{KeepsTailBudget, StandsFor};
 ghost use Rattle.sketch_frequencies.specs.State.{empty_state};
 ghost use Rattle.datasketches_c.specs.FrequentCalls.{AreNumbers, Empties, MergesInto};
 ghost use Rattle.datasketches_c.specs.FrequentImages.{IsRestored, WritesFrequent, i64_codec, i64_row, u64_codec, u64_row};
-ghost use Rattle.datasketches_c.specs.FrequentTextImages.{text_row};
+ghost use Rattle.datasketches_c.specs.FrequentTextImages.{WritesFrequentTexts, text_row};
 ghost use Rattle.datasketches_c.specs.FrequentTexts.{text_eq};
 ghost use Rattle.datasketches_c.specs.Images.{IsRefusedImage};
 ghost use Rattle.datasketches_c.specs.Kinds.{HoldsFrequentI64, HoldsFrequentTexts, HoldsFrequentU64, OnFrequentI64, OnFrequentTexts, OnFrequentU64};
@@ -249,7 +249,7 @@ pub extern "C" fn ds_frequent_text_to_bytes(
     ensures untouched { OnRefused result (out.new ≡ out.old) }
     ensures uncounted { result ≢ ok → result ≢ no_room → written.new ≡ written.old }
     ensures image { OnFrequentTexts handle.old.value handle.new.value result (λ s.
-        WritesFrequent text_codec (λ text. string_bytes text) s out.old out.new written.new result) }
+        WritesFrequentTexts s out.old out.new written.new result) }
 {
     to_bytes::<FrequentItemsSketch<String>>(alloc, handle, out, written)
 }

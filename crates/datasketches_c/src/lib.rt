@@ -23,6 +23,7 @@ mod handle;
 mod images;
 mod join;
 mod kind;
+pub mod laws;
 mod making;
 mod many_texts;
 mod raw_box;

@@ -14,6 +14,7 @@ pub mod Images
 pub mod Joins
 pub mod Lookups
 pub mod Merges
+pub mod OwnedBytes
 pub mod Permutations
 pub mod Powers
 pub mod Promises

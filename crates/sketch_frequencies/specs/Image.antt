@@ -1,6 +1,6 @@
 -- The image of a frequent-items sketch: its fields by their places, its checks in their order, what it says, and how it
 -- is spelled.
-use Rattle.std.specs.Prelude.{◌≡◌, ◌⊎◌, ℕ, zero, suc, ◌+◌, ◌*◌, ◌%◌, ◌<◌, ◌^◌, nat_le, nat_lt, ◌==◌, Bool, not, ◌||◌, List, [], ◌∷◌, ◌++◌, length, drop, map, sum, sum_by, Any, IsPermutation, Option, Some, None, Result, Ok, Err, bit_and, if◌then◌else◌}
+use Rattle.std.specs.Prelude.{◌≡◌, ◌⊎◌, ℕ, zero, suc, ◌+◌, ◌-◌, ◌*◌, ◌%◌, ◌<◌, ◌^◌, nat_le, nat_lt, ◌==◌, Bool, not, ◌||◌, List, [], ◌∷◌, ◌++◌, length, drop, map, sum, sum_by, Any, IsPermutation, Option, Some, None, Result, Ok, Err, bit_and, if◌then◌else◌}
 use Rattle.std.specs.Int.{w32, w64, to_le_bytes}
 use Rattle.std.specs.List.{zip, flat_map}
 use denote.RattleType.{RattleType}
@@ -12,7 +12,8 @@ use Rattle.sketch_base.specs.declared.fault.Fault.TheVariants.{InsufficientData,
 use Rattle.counter_table.specs.Bytes.{table_bytes}
 use Rattle.sketch_frequencies.specs.History.{FrequentHistory}
 use Rattle.sketch_frequencies.specs.History.FrequentHistory.{Restored}
-use Rattle.sketch_frequencies.specs.Items.{Codec}
+use Rattle.sketch_frequencies.specs.Items.{Codec, max_owned}
+use Rattle.sketch_frequencies.specs.Memory.{memory_bytes}
 use Rattle.sketch_frequencies.specs.Stands.{Encloses, StandsFor, KeepsTailBudget}
 use Rattle.sketch_frequencies.specs.State.{FrequentState, IsState, capacity}
 use Rattle.counter_table.specs.Tables.{count_of}
@@ -65,6 +66,10 @@ items_in codec (suc n) bytes = do
 -- they stand behind the weights
 abbrev pub items_at : {C : Type 0} → Codec C → List ℕ → Result (List C) Fault
 items_at codec image = items_in codec (active_at image) (drop (32 + 8 * active_at image) image)
+
+-- how many bytes there are behind the weights, which those behind the items count to
+abbrev pub bytes_for_items : List ℕ → ℕ
+bytes_for_items image = if says_empty image then 0 else length image - (32 + 8 * active_at image)
 
 -- the size of the table that the sketch has when it is read: an empty one has the least
 abbrev pub restored_size : List ℕ → ℕ
@@ -120,17 +125,19 @@ late_fault codec image =
 abbrev pub first_fault : {C : Type 0} → Codec C → List ℕ → Option Fault
 first_fault codec image = or_else (early_fault image) (late_fault codec image)
 
--- a reader's own limit, in bytes of the table, comes behind the early checks
-abbrev pub limit_fault : RattleType → ℕ → List ℕ → Option Fault
-limit_fault item most_bytes image =
-    if nat_lt most_bytes (table_bytes item (restored_size image)) then Some TableTooLarge else None
+-- a reader's own limit comes behind the early checks: the most bytes of the table and of what its items can own
+abbrev pub limit_fault : {C : Type 0} → RattleType → ℕ → Codec C → List ℕ → Option Fault
+limit_fault item most_bytes codec image =
+    let bytes = memory_bytes (table_bytes item (restored_size image)) (max_owned codec (bytes_for_items image)) in
+    if nat_lt most_bytes bytes then Some TableTooLarge else None
 
-abbrev pub early_fault_within : RattleType → ℕ → List ℕ → Option Fault
-early_fault_within item most_bytes image = or_else (early_fault image) (limit_fault item most_bytes image)
+abbrev pub early_fault_within : {C : Type 0} → RattleType → ℕ → Codec C → List ℕ → Option Fault
+early_fault_within item most_bytes codec image =
+    or_else (early_fault image) (limit_fault item most_bytes codec image)
 
 abbrev pub first_fault_within : {C : Type 0} → RattleType → ℕ → Codec C → List ℕ → Option Fault
 first_fault_within item most_bytes codec image =
-    or_else (early_fault_within item most_bytes image) (late_fault codec image)
+    or_else (early_fault_within item most_bytes codec image) (late_fault codec image)
 
 -- ---- what an image says
 

@@ -1,10 +1,9 @@
 -- The encodings of numbers and texts are lawful.
-use Rattle.std.proofs.Common.{◌≡◌, ℕ, ◌+◌, ◌<◌, ◌^◌, Bool, true, false, cond, List, ◌++◌, length, Result, Ok, Err, refl, sym, ap, subst, ◌∙◌, arith, ltb, length-append}
-use Rattle.std.specs.Prelude.{ℤ, pos, negsuc, nat_eq}
+use Rattle.std.proofs.Common.{◌≡◌, ℕ, ◌+◌, ◌<◌, ◌≤◌, ◌^◌, Bool, true, false, cond, List, ◌++◌, length, take, drop, Result, Ok, Err, refl, sym, ap, subst, ◌∙◌, arith, ltb, length-append, length-take}
+use Rattle.std.specs.Prelude.{ℤ, pos, negsuc}
 use Rattle.std.specs.Cmp.{nat_eq_equiv, int_eq_equiv}
 use Rattle.std.specs.Cmp.Lexicographic.{nat_list_eq_equiv}
-use Rattle.std.specs.Ordering.{int_eq}
-use Rattle.std.specs.Str.{is_utf8, bytes_eq}
+use Rattle.std.specs.Str.{is_utf8}
 use Rattle.std.specs.Int.{w32, w64, to_le_bytes, cast_signed, cast_unsigned}
 use mir.Val.{SFits}
 use Rattle.std.proofs.lemmas.Bool.{ltb-true, le-ltb}
@@ -12,15 +11,20 @@ use Rattle.std.proofs.lemmas.Int.{to_z-of_z}
 use Rattle.std.proofs.lemmas.List.{take_at}
 use Rattle.std.proofs.lemmas.Nat.{from_le_bytes-to_le_bytes_4, from_le_bytes-to_le_bytes_8}
 use Rattle.sketch_base.specs.declared.fault.Fault.{Fault}
-use Rattle.sketch_base.specs.declared.fault.Fault.TheVariants.{BadItem, ItemTooLong}
+use Rattle.sketch_base.specs.declared.fault.Fault.TheVariants.{BadItem, InsufficientData, InvalidUtf8, ItemTooLong}
 use Rattle.sketch_base.specs.Fields.{le_at, signed_le_at}
-use Rattle.sketch_frequencies.specs.Items.{IsLawful, u64_encoding, u64_reading, fits_i64, i64_encoding, i64_reading, text_encoding, text_reading}
+use Rattle.sketch_frequencies.specs.Items.{IsLawful, u64_encoding, u64_reading, u64_codec, fits_i64, i64_encoding, i64_reading, i64_codec, text_encoding, text_taken, with_length, text_reading, text_codec}
 
 -- what passed a test
 guarded : {A : Type 0} (b : Bool) (d : Fault) (r : Result A Fault) (y : A)
     → cond b r (Err d) ≡ Ok y → (b ≡ true) × (r ≡ Ok y)
 guarded true d r y e = (refl, e)
 guarded false d r y e = absurd cc
+
+guarded_not : {A : Type 0} (b : Bool) (d : Fault) (r : Result A Fault) (y : A)
+    → cond b (Err d) r ≡ Ok y → (b ≡ false) × (r ≡ Ok y)
+guarded_not true d r y e = absurd cc
+guarded_not false d r y e = (refl, e)
 
 abbrev done : {A : Type 0} → A → Result A Fault
 done x = Ok x
@@ -45,10 +49,11 @@ u64_back v bytes rest e =
     subst (λ b. u64_reading (b ++ rest) ≡ Ok (v, length b)) (ok_is _ _ g.1)
     (u64_again v rest (ltb-true v (2 ^ 64) g.0))
 
-pub u64_lawful : IsLawful (record { same = nat_eq; encoding = u64_encoding; reading = u64_reading })
+pub u64_lawful : IsLawful u64_codec
 u64_lawful = record {
   equivalence = nat_eq_equiv;
   read_back = λ v bytes rest e. (v, u64_back v bytes rest e, nat_eq_equiv.refl v);
+  owned_bound = λ v used bytes e. omega arith;
 }
 
 i64_fits : (z : ℤ) → fits_i64 z ≡ true → SFits w64 z
@@ -74,10 +79,11 @@ i64_back z bytes rest e =
     let g = guarded (fits_i64 z) BadItem (Ok (to_le_bytes w64 (cast_unsigned w64 z))) bytes e in
     subst (λ b. i64_reading (b ++ rest) ≡ Ok (z, length b)) (ok_is _ _ g.1) (i64_again z rest (i64_fits z g.0))
 
-pub i64_lawful : IsLawful (record { same = int_eq; encoding = i64_encoding; reading = i64_reading })
+pub i64_lawful : IsLawful i64_codec
 i64_lawful = record {
   equivalence = int_eq_equiv;
   read_back = λ v bytes rest e. (v, i64_back v bytes rest e, int_eq_equiv.refl v);
+  owned_bound = λ v used bytes e. omega arith;
 }
 
 text_again : (text rest : List ℕ) → is_utf8 text ≡ true → length text < 2 ^ 32
@@ -104,8 +110,31 @@ text_back text bytes rest e =
     subst (λ b. text_reading (b ++ rest) ≡ Ok (text, length b)) (ok_is _ _ h.1)
     (again ∙ ap (λ n. done (text, n)) size)
 
-pub text_lawful : IsLawful (record { same = bytes_eq; encoding = text_encoding; reading = text_reading })
+-- a text of the first n bytes has at most so many
+taken_short : (n : ℕ) (bytes text : List ℕ) → text_taken n bytes ≡ Ok text → length text ≤ n
+taken_short n bytes text e =
+    let g = guarded_not (ltb (length bytes) n) InsufficientData _ text e in
+    let h = guarded (is_utf8 (take n bytes)) InvalidUtf8 (Ok (take n bytes)) text g.1 in
+    subst (λ (t : List ℕ). length t ≤ n) (ok_is _ _ h.1) (omega (arith, length-take n bytes))
+
+-- what was read with its length is what was read, and takes so many bytes
+without_length : (n : ℕ) (r : Result (List ℕ) Fault) (text : List ℕ) (used : ℕ)
+    → with_length n r ≡ Ok (text, used) → (r ≡ Ok text) × (used ≡ n)
+without_length n (Ok t) text used e =
+    let p = ok_is (t, n) (text, used) e in
+    (ap (λ (l : List ℕ). done l) (ap (λ q. q.0) p), sym (ap (λ q. q.1) p))
+without_length n (Err fault) text used e = absurd cc
+
+text_owned : (text : List ℕ) (used : ℕ) (bytes : List ℕ) → text_reading bytes ≡ Ok (text, used) → length text ≤ used
+text_owned text used bytes e =
+    let n = le_at w32 bytes 0 in
+    let g = guarded_not (ltb (length bytes) 4) InsufficientData _ (text, used) e in
+    let h = without_length (4 + n) (text_taken n (drop 4 bytes)) text used g.1 in
+    omega (arith, taken_short n (drop 4 bytes) text h.0, h.1)
+
+pub text_lawful : IsLawful text_codec
 text_lawful = record {
   equivalence = nat_list_eq_equiv;
   read_back = λ v bytes rest e. (v, text_back v bytes rest e, nat_list_eq_equiv.refl v);
+  owned_bound = text_owned;
 }

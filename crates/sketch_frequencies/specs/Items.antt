@@ -1,7 +1,8 @@
 -- How items are told apart, written and read, and the encodings of numbers and texts.
-use Rattle.std.specs.Prelude.{◌≡◌, ◌⊎◌, ℕ, ℤ, pos, negsuc, ◌+◌, ◌^◌, ◌≤◌, nat_lt, Bool, true, List, ◌++◌, length, take, drop, Result, Ok, Err, IsOk, if◌then◌else◌}
+use Rattle.std.specs.Prelude.{◌≡◌, ◌⊎◌, ℕ, ℤ, pos, negsuc, ◌+◌, ◌^◌, ◌≤◌, nat_lt, nat_eq, Bool, true, false, List, ◌++◌, length, take, drop, Result, Ok, Err, IsOk, if◌then◌else◌}
 use Rattle.std.specs.Cmp.{IsEquivalence}
 use Rattle.std.specs.Int.{w32, w64, to_le_bytes, cast_unsigned}
+use Rattle.std.specs.Ordering.{int_eq}
 use Rattle.std.specs.Result.{IsOkAnd}
 use Rattle.std.specs.Str.{is_utf8, bytes_eq}
 use Rattle.sketch_base.specs.Errors.{ErrorValue, invalid_argument, invalid_data, no_memory}
@@ -18,13 +19,24 @@ pub record Codec (C : Type 0) : Type 0 where
   pub encoding : C → Result (List ℕ) Fault
   -- the content at the front of the bytes and how many of them it takes, or what is wrong with them
   pub reading : List ℕ → Result (C × ℕ) Fault
+  -- whether items may own memory outside of themselves
+  pub owns : Bool
+  -- how many bytes of it an item of this content owns
+  pub owned : C → ℕ
 
--- equality is an equivalence, and what was written is read again as an equal item, whatever follows it
+-- the most bytes that items own which take n bytes in an image: n, or none where items own no memory
+abbrev pub max_owned : {C : Type 0} → Codec C → ℕ → ℕ
+max_owned codec n = if codec.owns then n else 0
+
+-- equality is an equivalence; what was written is read again as an equal item, whatever follows it; an item that is read
+-- owns no more bytes than it takes
 pub record IsLawful {C : Type 0} (codec : Codec C) : Type 0 where
   pub equivalence : IsEquivalence codec.same
   pub read_back :
       (v : C) (bytes rest : List ℕ) → codec.encoding v ≡ Ok bytes →
       (w : C) × (codec.reading (bytes ++ rest) ≡ Ok (w, length bytes)) × (codec.same w v ≡ true)
+  pub owned_bound :
+      (v : C) (used : ℕ) (bytes : List ℕ) → codec.reading bytes ≡ Ok (v, used) → codec.owned v ≤ max_owned codec used
 
 module _ {C : Type 0} (codec : Codec C) where
   -- the item was written behind the old bytes
@@ -64,6 +76,10 @@ u64_encoding n = if nat_lt n (2 ^ 64) then Ok (to_le_bytes w64 n) else Err BadIt
 abbrev pub u64_reading : List ℕ → Result (ℕ × ℕ) Fault
 u64_reading bytes = if nat_lt (length bytes) 8 then Err InsufficientData else Ok (le_at w64 bytes 0, 8)
 
+abbrev pub u64_codec : Codec ℕ
+u64_codec =
+    record { same = nat_eq; encoding = u64_encoding; reading = u64_reading; owns = false; owned = λ n. 0 }
+
 -- ---- signed numbers of 64 bits: the eight bytes of their two's complement
 
 -- negsuc n is the number - n - 1
@@ -76,6 +92,10 @@ i64_encoding z = if fits_i64 z then Ok (to_le_bytes w64 (cast_unsigned w64 z)) e
 
 abbrev pub i64_reading : List ℕ → Result (ℤ × ℕ) Fault
 i64_reading bytes = if nat_lt (length bytes) 8 then Err InsufficientData else Ok (signed_le_at w64 bytes 0, 8)
+
+abbrev pub i64_codec : Codec ℤ
+i64_codec =
+    record { same = int_eq; encoding = i64_encoding; reading = i64_reading; owns = false; owned = λ n. 0 }
 
 -- ---- texts: four bytes of length, and then so many bytes of UTF-8
 
@@ -106,6 +126,7 @@ abbrev pub IsTextRefusal : ℕ → List ℕ → ErrorValue → Type 0
 IsTextRefusal n bytes e =
     ((e ≡ no_memory) × IsOk (text_taken n bytes)) ⊎ ((e ≡ invalid_data e.fault) × (text_taken n bytes ≡ Err e.fault))
 
--- texts are told apart, written and read by their bytes
+-- texts are told apart, written and read by their bytes, which they own
 abbrev pub text_codec : Codec (List ℕ)
-text_codec = record { same = bytes_eq; encoding = text_encoding; reading = text_reading }
+text_codec =
+    record { same = bytes_eq; encoding = text_encoding; reading = text_reading; owns = true; owned = λ text. length text }

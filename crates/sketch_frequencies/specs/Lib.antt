@@ -6,6 +6,7 @@ pub mod Image
 pub mod ItemLaws
 pub mod Items
 pub mod Laws
+pub mod Memory
 pub mod Reading
 pub mod RowValue
 pub mod Rows

@@ -13,7 +13,7 @@ use std::hash::Hash;
 ///
 /// What an implementation writes it has to read again as an equal item, whatever follows, and to leave that unread.
 /// It is proved once, for the implementation: `codec` defines how contents are written and read, and `lawful` is the
-/// proof that this is so.
+/// proof that this is so. It also says how many bytes an item owns at most, by which a limit for reading goes.
 ///
 /// # Examples
 ///
@@ -66,6 +66,19 @@ pub trait FrequentItemValue: Sized + Eq + Hash {
         ensures err { IfErr result (IsReadingRefusal codec slice.old) }
         ensures within { OnErr result (TakesBytes slice.old slice.new) };
 
+    /// Returns whether items own memory outside of themselves, as strings do.
+    ///
+    /// A limit for reading an image counts the bytes of such items: see
+    /// [`deserialize_with_limit`](crate::FrequentItemsSketch::deserialize_with_limit).
+    fn owns_memory() -> bool
+        ensures { result ≡ codec.owns };
+
+    /// Returns how many bytes of memory the item owns outside of itself: a string its length in bytes, a number none.
+    ///
+    /// An item that was read owns at most as many as it takes in the image, which is part of `lawful`.
+    fn owned_bytes(item: &Self) -> usize
+        ensures { result ≡ codec.owned (content item.now) };
+
     // Items are equal where their contents say so.
     ghost alike: { (x y : Self) → Self.eq x y ≡ codec.same (content x) (content y) };
 
@@ -75,15 +88,15 @@ pub trait FrequentItemValue: Sized + Eq + Hash {
 /// Eight bytes.
 impl FrequentItemValue for u64 {
     ghost use Rattle.std.proofs.Common.{rules};
-    ghost use Rattle.std.specs.Prelude.{ℕ, nat_eq};
-    ghost use Rattle.sketch_frequencies.specs.Items.{u64_encoding, u64_reading};
+    ghost use Rattle.std.specs.Prelude.{ℕ};
+    ghost use Rattle.sketch_frequencies.specs.Items.{u64_codec};
     ghost use Rattle.sketch_frequencies.specs.ItemLaws.{u64_lawful};
 
     ghost Content = { ℕ };
 
     ghost content = { λ n. n };
 
-    ghost codec = { record { same = nat_eq; encoding = u64_encoding; reading = u64_reading } };
+    ghost codec = { u64_codec };
 
     ghost alike = { Prim.search rules };
 
@@ -103,21 +116,30 @@ impl FrequentItemValue for u64 {
     fn deserialize_value(_alloc: Global, slice: &mut SketchSlice) -> Result<u64, Error> {
         slice.read_u64_le()
     }
+
+    #[inline]
+    fn owns_memory() -> bool {
+        false
+    }
+
+    #[inline]
+    fn owned_bytes(_item: &u64) -> usize {
+        0
+    }
 }
 
 /// Eight bytes.
 impl FrequentItemValue for i64 {
     ghost use Rattle.std.proofs.Common.{rules};
     ghost use Rattle.std.specs.Prelude.{ℤ};
-    ghost use Rattle.std.specs.Ordering.{int_eq};
-    ghost use Rattle.sketch_frequencies.specs.Items.{i64_encoding, i64_reading};
+    ghost use Rattle.sketch_frequencies.specs.Items.{i64_codec};
     ghost use Rattle.sketch_frequencies.specs.ItemLaws.{i64_lawful};
 
     ghost Content = { ℤ };
 
     ghost content = { λ n. n };
 
-    ghost codec = { record { same = int_eq; encoding = i64_encoding; reading = i64_reading } };
+    ghost codec = { i64_codec };
 
     ghost alike = { Prim.search rules };
 
@@ -136,6 +158,16 @@ impl FrequentItemValue for i64 {
     #[inline]
     fn deserialize_value(_alloc: Global, slice: &mut SketchSlice) -> Result<i64, Error> {
         slice.read_i64_le()
+    }
+
+    #[inline]
+    fn owns_memory() -> bool {
+        false
+    }
+
+    #[inline]
+    fn owned_bytes(_item: &i64) -> usize {
+        0
     }
 }
 
@@ -197,6 +229,16 @@ impl FrequentItemValue for String {
         let text = text_of(alloc, slice.remaining(), len as usize)?;
         slice.advance(len as u64);
         Ok(text)
+    }
+
+    #[inline]
+    fn owns_memory() -> bool {
+        true
+    }
+
+    #[inline]
+    fn owned_bytes(item: &String) -> usize {
+        item.len()
     }
 }
 

@@ -1,11 +1,13 @@
 //! The images of sketches: how they are read and written.
-ghost use Rattle.std.specs.Prelude.{◌≡◌, ◌+◌, ◌*◌, ◌<◌, ◌≤◌, ◌^◌, ◌++◌, [], None, Some, length, take, slice_index, sum, IfOk, IfErr, IfNone, OnOk, IsTrue};
+ghost use Rattle.std.specs.Prelude.{◌≡◌, ◌+◌, ◌-◌, ◌*◌, ◌<◌, ◌≤◌, ◌^◌, ◌++◌, [], None, Some, length, take, slice_index, sum, IfOk, IfErr, IfNone, OnOk, IsTrue};
 ghost use Rattle.std.specs.Int.{is_power_of_two};
 ghost use Rattle.sketch_base.specs.Checks.{first_failing};
 ghost use Rattle.sketch_base.specs.Errors.{invalid_data, no_memory};
 ghost use Rattle.sketch_base.specs.Fields.{byte_at};
 ghost use Rattle.counter_table.specs.Bytes.{table_bytes};
 ghost use Rattle.sketch_frequencies.specs.Image.{header_checks, count_checks, weight_checks, active_at, weights_at, header, preamble, encoded_weights, contents_of, IsImageWritingRefusal};
+ghost use Rattle.sketch_frequencies.specs.Items.{max_owned};
+ghost use Rattle.sketch_frequencies.specs.Memory.{owned_by, memory_bytes};
 ghost use Rattle.sketch_frequencies.specs.Reading.{IsHeader, AreNumbers, AreCounters, IsItemsRefusal};
 ghost use Rattle.counter_table.specs.Slots.{entries_of};
 ghost use Rattle.sketch_frequencies.specs.State.{capacity};
@@ -147,13 +149,19 @@ fn numbers_fault(image: &[u8], lg_cur: u8) -> Option<Fault>
     None
 }
 
-/// Whether a table of so many slots takes at most so many bytes, by the formula of `estimated_size`.
-pub(crate) fn check_limit<T: Drop>(size: usize, most_bytes: usize) -> Result<(), Error>
-    ensures within { OnOk result (table_bytes T.row size ≤ most_bytes) }
-    ensures err { IfErr result
-        (λ e. (e ≡ invalid_data Fault.TableTooLarge) × (most_bytes < table_bytes T.row size)) }
+/// Checks that a table of `size` slots takes at most `most_bytes`, by the formula of `estimated_size`, with all that its
+/// items can own where they take `item_bytes` in the image.
+pub(crate) fn check_limit<T: FrequentItemValue + Drop>(
+    size: usize,
+    item_bytes: usize,
+    most_bytes: usize,
+) -> Result<(), Error>
+    ensures within { OnOk result (memory_bytes (table_bytes T.row size) (max_owned T.codec item_bytes) ≤ most_bytes) }
+    ensures err { IfErr result (λ e. (e ≡ invalid_data Fault.TableTooLarge)
+        × (most_bytes < memory_bytes (table_bytes T.row size) (max_owned T.codec item_bytes))) }
 {
-    if bytes_of_table::<T>(size) > most_bytes {
+    let owned = if T::owns_memory() { item_bytes } else { 0 };
+    if bytes_of_table::<T>(size).saturating_add(owned) > most_bytes {
         return Err(Error::invalid_data(Fault::TableTooLarge));
     }
     Ok(())
@@ -212,6 +220,8 @@ pub(crate) fn read_counters<T: FrequentItemValue + Drop>(
     requires limit { size ≤ 2 ^ 30 }
     ensures counters { IfOk result (λ map. AreCounters T.codec T.content T.eq image.now map.entries) }
     ensures size { IfOk result (λ map. map.size ≡ size) }
+    ensures owned { IfOk result (λ map. owned_by T.codec T.content map.entries
+        ≤ max_owned T.codec (length image.now - (32 + 8 * active))) }
     ensures err { IfErr result (IsItemsRefusal T.codec image.now) }
 {
     let mut slice = SketchSlice::new(image);
@@ -225,6 +235,22 @@ pub(crate) fn read_counters<T: FrequentItemValue + Drop>(
         }
     }
     Ok(map)
+}
+
+/// Returns how many bytes a table takes with those that the items in its slots own, or the greatest `usize` where they
+/// pass it.
+///
+/// Where items own nothing, as numbers, the compiler knows it, and no slot is read.
+pub(crate) fn bytes_with_items<T: FrequentItemValue>(table_bytes: usize, slots: &[Slot<T>]) -> usize
+    ensures { result ≡ memory_bytes table_bytes (owned_by T.codec T.content (entries_of slots.now)) }
+{
+    let mut bytes = table_bytes;
+    for slot in slots {
+        if let Slot::Taken { item, .. } = slot {
+            bytes = bytes.saturating_add(T::owned_bytes(item));
+        }
+    }
+    bytes
 }
 
 /// The size of a table of this power of two.

@@ -6,7 +6,7 @@ use Rattle.std.specs.Cmp.{IsEquivalence, nat_eq_equiv}
 use Rattle.std.specs.Hash as fed
 use Rattle.sketch_base.specs.declared.fault.Fault.{Fault}
 use Rattle.sketch_base.specs.declared.fault.Fault.TheVariants.{BadItem}
-use Rattle.sketch_frequencies.specs.Items.{IsLawful, u64_encoding, u64_reading}
+use Rattle.sketch_frequencies.specs.Items.{Codec, IsLawful, u64_encoding, u64_reading}
 use Rattle.sketch_frequencies.specs.ItemLaws.{u64_lawful}
 
 -- kinds that say how an item is hashed, written or told apart
@@ -34,6 +34,10 @@ fed_by kind n = if kind == feeds_nothing then [] else fed.u64 (told_apart_by kin
 abbrev pub encoding_of : ℕ → ℕ → Result (List ℕ) Fault
 encoding_of kind n = if kind == unwritable then (if n == 13 then Err BadItem else u64_encoding n) else u64_encoding n
 
+abbrev pub codec_of : ℕ → Codec ℕ
+codec_of kind =
+    record { same = same kind; encoding = encoding_of kind; reading = u64_reading; owns = false; owned = λ n. 0 }
+
 -- what passed a test
 passed : (b : Bool) (r : Result (List ℕ) Fault) (y : List ℕ) → cond b (Err BadItem) r ≡ Ok y → r ≡ Ok y
 passed true r y e = absurd cc
@@ -60,10 +64,11 @@ pub fed_alike : (kind a b : ℕ) → same kind a b ≡ true → fed_by kind a �
 fed_alike kind a b e =
     ap (λ n. cond (nat_eq kind feeds_nothing) [] (fed.u64 n)) (eqb-true (told_apart_by kind a) (told_apart_by kind b) e)
 
-pub lawful_of : (kind : ℕ) → IsLawful (record { same = same kind; encoding = encoding_of kind; reading = u64_reading })
+pub lawful_of : (kind : ℕ) → IsLawful (codec_of kind)
 lawful_of kind = record {
   equivalence = equivalence kind;
   read_back = λ v bytes rest e.
       let again = u64_lawful.read_back v bytes rest (chosen (nat_eq kind unwritable) (nat_eq v 13) (u64_encoding v) bytes e) in
       (again.0, again.1, same_of_equal kind again.0 v again.2);
+  owned_bound = u64_lawful.owned_bound;
 }

@@ -97,14 +97,13 @@ impl<const KIND: u8> Clone for Item<KIND> {
 
 impl<const KIND: u8> FrequentItemValue for Item<KIND> {
     ghost use Rattle.std.specs.Prelude.{ℕ};
-    ghost use Rattle.sketch_frequencies.specs.Items.{u64_reading};
-    ghost use Rattle.test_items.specs.Kinds.{encoding_of, lawful_of};
+    ghost use Rattle.test_items.specs.Kinds.{codec_of, lawful_of};
 
     ghost Content = { ℕ };
 
     ghost content = { λ item. item.0 };
 
-    ghost codec = { record { same = same KIND; encoding = encoding_of KIND; reading = u64_reading } };
+    ghost codec = { codec_of KIND };
 
     ghost alike = { Prim.search rules };
 
@@ -124,5 +123,13 @@ impl<const KIND: u8> FrequentItemValue for Item<KIND> {
     fn deserialize_value(_alloc: Global, slice: &mut SketchSlice) -> Result<Self, Error> {
         let number = slice.read_u64_le()?;
         Ok(Item(number))
+    }
+
+    fn owns_memory() -> bool {
+        false
+    }
+
+    fn owned_bytes(_item: &Self) -> usize {
+        0
     }
 }

@@ -1,15 +1,16 @@
 //! Images of sketches.
-ghost use Rattle.std.specs.Prelude.{◌≡◌, ◌<◌, ◌≤◌, IfOk, IfErr};
+ghost use Rattle.std.specs.Prelude.{◌≡◌, ◌<◌, ◌≤◌, None, IfOk, IfErr, IsOk};
 ghost use Rattle.sketch_base.specs.Checks.{IsImageRefusal};
 ghost use Rattle.counter_table.specs.Bytes.{table_bytes};
-ghost use Rattle.sketch_frequencies.specs.Image.{IsImageOf, IsSpelledFor, IsImageWritingRefusal, Restores, RestoresBudget, early_fault, first_fault, early_fault_within, first_fault_within};
+ghost use Rattle.sketch_frequencies.specs.Image.{IsImageOf, IsSpelledFor, IsImageWritingRefusal, Restores, RestoresBudget, early_fault, first_fault, limit_fault, early_fault_within, first_fault_within};
+ghost use Rattle.sketch_frequencies.specs.Memory.{owned_by, memory_bytes};
 ghost use Rattle.sketch_frequencies.specs.State.{IsState, greatest_sample_size};
 
 use crate::frequent_item_value::FrequentItemValue;
 use crate::frequent_items_sketch::FrequentItemsSketch;
 use crate::image::{
-    Numbers, begin_image, check_limit, check_weights, empty_image, first_room, read_counters,
-    read_header, read_numbers, table_size, write_items, write_weights,
+    Numbers, begin_image, bytes_with_items, check_limit, check_weights, empty_image, first_room,
+    read_counters, read_header, read_numbers, table_size, write_items, write_weights,
 };
 use crate::sizes::{LEAST_MAP_SIZE, greatest_sample_of};
 use counter_table::ReversePurgeItemHashMap;
@@ -75,12 +76,20 @@ impl<T: FrequentItemValue + Drop> FrequentItemsSketch<T> {
         Self::deserialize_with_limit(alloc, image, usize::MAX)
     }
 
-    /// The sketch of an image, whose `estimated_size` is at most so many bytes. As [`deserialize`](Self::deserialize).
+    /// Returns the sketch of an image whose table and items take at most `most_bytes`, as [`deserialize`](Self::deserialize)
+    /// does.
+    ///
+    /// The limit is compared with the table's [`estimated_size`](Self::estimated_size). If items own memory, as strings do,
+    /// the number of bytes after the weights is added to it, which includes bytes after the image. So
+    /// [`memory_bytes`](Self::memory_bytes) of the sketch is within the limit.
+    ///
+    /// The formula is not the layout: of an item of 1 to 8 bytes a slot takes 24 bytes and one byte of fingerprint, where the
+    /// formula has 13 to 28. The bytes requested from the allocator are at most twice the limit, which is tested and not proved.
     ///
     /// # Errors
     ///
-    /// Those of `deserialize`, and `TableTooLarge` of the kind `InvalidData` where its `estimated_size` would be more:
-    /// behind the checks that come before memory, and then no memory is asked for.
+    /// Those of `deserialize`, and `TableTooLarge` of the kind `InvalidData` if the limit is exceeded. This check comes after
+    /// those that precede any allocation, and then nothing is allocated.
     ///
     /// # Examples
     ///
@@ -106,15 +115,17 @@ impl<T: FrequentItemValue + Drop> FrequentItemsSketch<T> {
         ensures sample { IfOk result (λ sketch. sketch.sample_size ≡ greatest_sample_size sketch.max_size) }
         ensures stands { IfOk result (λ sketch. Restores T.codec T.content T.eq image.now sketch) }
         ensures budget { IfOk result (λ sketch. RestoresBudget T.codec T.content T.eq image.now sketch) }
-        ensures within { IfOk result (λ sketch. table_bytes T.row sketch.size ≤ most_bytes) }
-        ensures err { IfErr result (IsImageRefusal (early_fault_within T.row most_bytes image.now)
+        ensures within { IfOk result (λ sketch.
+            memory_bytes (table_bytes T.row sketch.size) (owned_by T.codec T.content sketch.counters) ≤ most_bytes) }
+        ensures accepted { IsOk result → limit_fault T.row most_bytes T.codec image.now ≡ None }
+        ensures err { IfErr result (IsImageRefusal (early_fault_within T.row most_bytes T.codec image.now)
             (first_fault_within T.row most_bytes T.codec image.now)) }
     {
         let header = read_header(image)?;
         let max_size = table_size(header.lg_max);
         let sample_size = greatest_sample_of(max_size);
         if header.is_empty {
-            check_limit::<T>(LEAST_MAP_SIZE, most_bytes)?;
+            check_limit::<T>(LEAST_MAP_SIZE, 0, most_bytes)?;
             let map = ReversePurgeItemHashMap::new(alloc, LEAST_MAP_SIZE)?;
             return Ok(FrequentItemsSketch {
                 map,
@@ -126,7 +137,8 @@ impl<T: FrequentItemValue + Drop> FrequentItemsSketch<T> {
         }
         let size = table_size(header.lg_cur);
         let numbers = read_numbers(image, header.lg_cur)?;
-        check_limit::<T>(size, most_bytes)?;
+        let item_bytes = image.len() - (32 + 8 * numbers.active as usize);
+        check_limit::<T>(size, item_bytes, most_bytes)?;
         check_weights(image, &numbers)?;
         let map = read_counters(alloc, image, numbers.active, size)?;
         Ok(FrequentItemsSketch {
@@ -136,5 +148,25 @@ impl<T: FrequentItemValue + Drop> FrequentItemsSketch<T> {
             max_size,
             sample_size,
         })
+    }
+
+    /// Returns how many bytes the sketch takes: its [`estimated_size`](Self::estimated_size) and the bytes that its items own,
+    /// or the greatest `usize` where they pass it. Of a string its length counts, and no spare capacity.
+    ///
+    /// If items own memory, every slot of the table is read. Nothing is allocated.
+    ///
+    /// # Examples
+    ///
+    /// ```
+    /// use sketch_frequencies::FrequentItemsSketch;
+    ///
+    /// fn takes_too_much(pages: &FrequentItemsSketch<String>, budget: usize) -> bool {
+    ///     pages.memory_bytes() > budget
+    /// }
+    /// ```
+    pub fn memory_bytes(&self) -> usize
+        ensures { result ≡ memory_bytes (table_bytes T.row self.now.size) (owned_by T.codec T.content self.now.counters) }
+    {
+        bytes_with_items(self.map.estimated_size(), self.map.slots())
     }
 }

@@ -1,9 +1,10 @@
-use Rattle.std.proofs.Common.{arith, ◌≤◌, ◌<◌, ◌+◌, ◌*◌, ℕ, drop, refl, inl, inr, ap, ◌∙◌}
+use Rattle.std.proofs.Common.{arith, ◌≤◌, ◌<◌, ◌+◌, ◌-◌, ◌*◌, ℕ, length, drop, refl, inl, inr, ap, ◌∙◌}
 use Rattle.std.proofs.lemmas.Result.{err_from_is_err_and}
 use Rattle.sketch_frequencies.specs.Image.{active_at, items_at}
 use Rattle.sketch_frequencies.proofs.Cases.{by_cases}
 use Rattle.sketch_frequencies.proofs.Puts.{count_le_sum}
 use Rattle.sketch_frequencies.proofs.ImageCounting.{at_start, one_more, one_dropped, at_end, fails, so_far_within}
+use Rattle.sketch_frequencies.proofs.OwnedBytes.{owns_at_start, owns_more, owns_dropped}
 use Rattle.sketch_frequencies.proofs.image.read_counters.Goals as goal
 use Rattle.sketch_frequencies.proofs.image.read_counters.Goals.{then-weight-ne0, else-weight-ne0}
 
@@ -13,6 +14,7 @@ loop-i-init g c =
     record {
       so_far = rw c.in_ok-map.ensures.ok (at_start g.T.FrequentItemValue.codec g.T.FrequentItemValue.content g.T.PartialEq.eq g.met.T.Eq.laws g.met.T.FrequentItemValue.lawful.equivalence g.met.T.FrequentItemValue.alike c.args.image.now c.advance.new.self rest);
       size = rw c.in_ok-map.ensures.ok refl;
+      owned = rw c.in_ok-map.ensures.ok (owns_at_start g.T.FrequentItemValue.codec g.T.FrequentItemValue.content (32 + 8 * c.args.active) c.args.image.now _ (c.advance.ensures ∙ ap (drop (32 + 8 * c.args.active)) c.new-slice.ensures));
     }
 
 pub returns-in_err-item-clause-err : goal.returns-in_err-item-clause-err
@@ -43,14 +45,18 @@ loop-i-preserved g c =
     let lt : k < active_at image = omega (arith, c.loop-i-test.true, c.requires.active) in
     let r = c.in_ok-item.ensures.ok in
     let weight = c.weight_at-weight.result in
+    let room : ℕ = length image - (32 + 8 * c.args.active) in
+    let bound = g.met.T.FrequentItemValue.lawful.owned_bound (g.T.FrequentItemValue.content c.in_ok-item.item) r.used c.loop-i.slice r.read in
     elim c.if-weight-ne0.branch [
       | then-weight-ne0 w ↦ record {
         so_far = rw (w.map-is, r.left) (one_more g.T.FrequentItemValue.codec g.T.FrequentItemValue.content g.T.PartialEq.eq g.met.T.Eq.laws g.met.T.FrequentItemValue.lawful.equivalence g.met.T.FrequentItemValue.alike image c.loop-i.slice k r.used weight c.in_ok-item.item c.loop-i.map.entries w.adjust_or_put_value.new.self.entries lt r.read c.weight_at-weight.ensures (omega (arith, w.if-weight-ne0.true)) c.loop-i.invariant.so_far w.adjust_or_put_value.ensures.entries w.adjust_or_put_value.ensures.distinct);
         size = ap (λ t. t.size) w.map-is ∙ w.adjust_or_put_value.ensures.size ∙ c.loop-i.invariant.size;
+        owned = rw (w.map-is, r.left) (owns_more g.T.FrequentItemValue.codec g.T.FrequentItemValue.content g.T.PartialEq.eq room r.used weight c.loop-i.slice c.in_ok-item.item c.loop-i.map.entries w.adjust_or_put_value.new.self.entries r.within bound w.adjust_or_put_value.ensures.entries c.loop-i.invariant.owned);
       }
       | else-weight-ne0 w ↦ record {
         so_far = rw (w.map-is, r.left) (one_dropped g.T.FrequentItemValue.codec g.T.FrequentItemValue.content g.T.PartialEq.eq g.met.T.Eq.laws g.met.T.FrequentItemValue.lawful.equivalence g.met.T.FrequentItemValue.alike image c.loop-i.slice k r.used weight c.in_ok-item.item c.loop-i.map.entries lt r.read c.weight_at-weight.ensures w.if-weight-ne0.false c.loop-i.invariant.so_far);
         size = ap (λ t. t.size) w.map-is ∙ c.loop-i.invariant.size;
+        owned = rw (w.map-is, r.left) (owns_dropped g.T.FrequentItemValue.codec g.T.FrequentItemValue.content room r.used c.loop-i.slice c.loop-i.map.entries r.within c.loop-i.invariant.owned);
       }
     ]
 
@@ -59,3 +65,6 @@ returns-clause-counters g c =
     let image = c.args.image.now in
     let le : active_at image ≤ c.loop-i.i = omega (arith, c.loop-i-test.false, c.requires.active) in
     at_end g.T.FrequentItemValue.codec g.T.FrequentItemValue.content g.T.PartialEq.eq g.met.T.Eq.laws g.met.T.FrequentItemValue.lawful.equivalence g.met.T.FrequentItemValue.alike image c.loop-i.slice c.loop-i.i c.loop-i.map.entries le c.loop-i.invariant.so_far
+
+pub returns-clause-owned : goal.returns-clause-owned
+returns-clause-owned g c = omega (arith, c.loop-i.invariant.owned)

@@ -1,6 +1,6 @@
-use Rattle.std.proofs.Common.{rules}
+use Rattle.std.proofs.Common.{rules, refl}
 use Rattle.counter_table.specs.Bytes.{table_bytes}
-use Rattle.datasketches.proofs.Saved.{filter_back, frequent_back}
+use Rattle.datasketches.proofs.Saved.{filter_back, frequent_back, bloom_accepted}
 use Rattle.datasketches.proofs.sketch.Sketch.load.Goals as goal
 
 pub returns-in-Err-clause-refused : goal.returns-in-Err-clause-refused
@@ -22,3 +22,10 @@ returns-in-Ok-deserialize_with_limit-clause-within g c = c.in-Ok-deserialize_wit
 
 pub returns-in-Err-deserialize_with_limit-clause-refused : goal.returns-in-Err-deserialize_with_limit-clause-refused
 returns-in-Err-deserialize_with_limit-clause-refused g c = rw (c.in-Bloom.is, ← c.deref-in-Bloom.ensures.value) c.in-Err-deserialize_with_limit.ensures.err
+
+pub returns-in-Ok-clause-accepted : goal.returns-in-Ok-clause-accepted
+unfolding table_bytes
+returns-in-Ok-clause-accepted g c = λ ok. rw (c.in-Frequent.is, ← c.deref.ensures.value) (c.in-Ok.ensures.accepted refl)
+
+pub returns-in-Ok-deserialize_with_limit-clause-accepted : goal.returns-in-Ok-deserialize_with_limit-clause-accepted
+returns-in-Ok-deserialize_with_limit-clause-accepted g c = λ ok. rw (c.in-Bloom.is, ← c.deref-in-Bloom.ensures.value) (bloom_accepted c.args.most_bytes _ _ c.in-Ok-deserialize_with_limit.ensures.image c.in-Ok-deserialize_with_limit.ensures.within)

@@ -1,0 +1,35 @@
+use Rattle.std.proofs.Common.{◌≡◌, ◌≢◌, List, ℕ, refl, sym, subst, inr, ◌∙◌}
+use Rattle.sketch_frequencies.specs.Image.{IsSpelledFor}
+use Rattle.datasketches_c.specs.FrequentImages.{WritesFrequent}
+use Rattle.datasketches_c.specs.Numbers.{ok, no_room}
+use Rattle.datasketches_c.proofs.AnswerLemmas.{handed_on, not_copied}
+use Rattle.datasketches_c.proofs.InTurnLemmas.{same_answer}
+use Rattle.datasketches_c.proofs.Reading.{copied_image}
+use Rattle.datasketches_c.proofs.Reports.{when_refused}
+use Rattle.datasketches_c.proofs.frequent.write_numbers.Goals as goal
+
+-- the image was made, and copied where there was room
+pub returns-in-Ok-clause-image : goal.returns-in-Ok-clause-image
+returns-in-Ok-clause-image g c =
+    let item = g.T.FrequentItemValue in
+    let Spelled : List ℕ → Type 0 = λ image. IsSpelledFor item.codec item.content image c.args.sketch.now in
+    handed_on (WritesFrequent item.codec item.content c.args.sketch.now c.args.out.now c.copy_out.new.out c.copy_out.new.written) c.copy_out.result c.copy_out.type_inv
+    (copied_image Spelled c.deref.result.now c.args.out.now c.copy_out.new.out c.copy_out.new.written c.copy_out.result (subst Spelled (sym c.deref.ensures.value) c.in-Ok.ensures.image) c.copy_out.ensures.length c.copy_out.ensures.copied c.copy_out.ensures.no_room)
+
+-- the library refused to write
+pub returns-in-Err-clause-image : goal.returns-in-Err-clause-image
+returns-in-Err-clause-image g c = inr (inr (same_answer c.refusal_number.result c.refusal_number.type_inv ∙ c.refusal_number.ensures))
+
+pub returns-in-Ok-clause-untouched : goal.returns-in-Ok-clause-untouched
+returns-in-Ok-clause-untouched g c =
+    not_copied c.deref.result.now c.args.out.now c.copy_out.new.out c.copy_out.result c.copy_out.type_inv c.copy_out.ensures.copied c.copy_out.ensures.no_room
+
+pub returns-in-Ok-clause-uncounted : goal.returns-in-Ok-clause-uncounted
+returns-in-Ok-clause-uncounted g c =
+    handed_on (λ z. z ≢ ok → z ≢ no_room → c.copy_out.new.written ≡ c.args.written.now) c.copy_out.result c.copy_out.type_inv c.copy_out.ensures.uncounted
+
+pub returns-in-Err-clause-untouched : goal.returns-in-Err-clause-untouched
+returns-in-Err-clause-untouched g c = when_refused _ _ refl
+
+pub returns-in-Err-clause-uncounted : goal.returns-in-Err-clause-uncounted
+returns-in-Err-clause-uncounted g c = λ other none. refl
