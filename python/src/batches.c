@@ -4,8 +4,8 @@
 #include <signal.h>
 #include <time.h>
 
-/* A batch listens after so many nanoseconds. The next chunk of an iterator keeps the interpreter's lock where the last one took less
- * than QUICK: to let it go for less costs more than it gives where other threads want it. */
+/* In nanoseconds: how often a batch listens; and a chunk of an iterator that took less lets the next one keep the interpreter's lock,
+ * since a thread that lets it go waits for its next turn. */
 #define LISTENS 100000000
 #define QUICK 1000000
 
@@ -33,21 +33,22 @@ static void batch_unlock(Batch *batch)
     sketch_unlock(batch->self);
 }
 
-/* Begins work on all items, or on the next chunk of a stream. */
-static bool batch_begin(Batch *batch, bool of_stream)
+/* Begins work on all items, or on the next chunk of an iterator. */
+static bool batch_begin(Batch *batch, const Items *items)
 {
-    bool keeps_lock = of_stream && batch->is_quick;
+    bool keeps_lock = items->held != NULL && batch->took < QUICK;
     if (keeps_lock ? !sketch_ready(batch->self) : !batch_lock(batch))
         return false;
-    batch->begin = now();
-    batch->due = batch->begin + LISTENS;
+    batch->took = items->held != NULL ? now() : 0;
+    batch->due = 0;
     batch->thread = keeps_lock ? NULL : PyEval_SaveThread();
     return true;
 }
 
 static void batch_end(Batch *batch)
 {
-    batch->is_quick = now() - batch->begin < QUICK;
+    if (batch->took > 0)
+        batch->took = now() - batch->took;
     if (batch->thread != NULL)
         PyEval_RestoreThread(batch->thread);
     batch->thread = NULL;
@@ -58,11 +59,13 @@ static void batch_end(Batch *batch)
 static bool handle_interrupt(void)
 {
     PyObject *module = PyImport_ImportModule("signal");
-    PyObject *handler = module != NULL ? PyObject_CallMethod(module, "getsignal", "i", SIGINT) : NULL;
+    PyObject *function = module != NULL ? attribute(module, "getsignal") : NULL;
+    PyObject *handler = function != NULL ? PyObject_CallFunction(function, "i", SIGINT) : NULL;
     PyObject *frame = (PyObject *)PyEval_GetFrame();
     if (handler != NULL && PyCallable_Check(handler))
         Py_XDECREF(PyObject_CallFunction(handler, "iO", SIGINT, frame != NULL ? frame : Py_None));
     Py_XDECREF(module);
+    Py_XDECREF(function);
     Py_XDECREF(handler);
     return !PyErr_Occurred();
 }
@@ -71,14 +74,19 @@ static bool handle_interrupt(void)
 bool batch_goes_on(Batch *batch)
 {
     bool goes_on = true;
-    if (batch->thread == NULL || now() < batch->due)
+    if (batch->thread == NULL)
+        return true;
+    uint64_t time = now();
+    if (batch->due == 0)
+        batch->due = time + LISTENS;
+    if (time < batch->due)
         return true;
     PyEval_RestoreThread(batch->thread);
     if (PyOS_InterruptOccurred()) {
         batch_unlock(batch);
         goes_on = handle_interrupt() && batch_lock(batch);
     }
-    batch->due = now() + LISTENS;
+    batch->due = 0;
     batch->thread = PyEval_SaveThread();
     return goes_on;
 }
@@ -90,7 +98,7 @@ static void note(size_t done)
     PyErr_Fetch(&type, &error, &trace);
     PyErr_NormalizeException(&type, &error, &trace);
     PyObject *text = PyUnicode_FromFormat("items taken before this error: %zu", done);
-    PyObject *notes = PyObject_GetAttrString(error, "__notes__");
+    PyObject *notes = attribute(error, "__notes__");
     if (notes == NULL) {
         PyErr_Clear();
         notes = PyList_New(0);
@@ -119,11 +127,11 @@ static void set_error(int32_t answer, const Batch *batch, const Items *items)
 
 PyObject *update_all(Sketch *self, Items *items, Weights *weights, items_check check, update_work work)
 {
-    Batch batch = {.self = self};
+    Batch batch = {.self = self, .took = QUICK};
     int32_t answer;
     do {
         answer = STOPPED;
-        if (!update_next(items, weights) || (check != NULL && !check(self, items)) || !batch_begin(&batch, items->held != NULL))
+        if (!update_next(items, weights) || (check != NULL && !check(self, items)) || !batch_begin(&batch, items))
             break;
         answer = work(&batch, items, weights);
         batch_end(&batch);
@@ -147,7 +155,9 @@ typedef struct {
 static bool room_in_array(const Question *question, size_t count, Room *room)
 {
     PyObject *numpy = PyImport_ImportModule("numpy");
-    room->array = numpy != NULL ? PyObject_CallMethod(numpy, "empty", "ns", (Py_ssize_t)count, question->kind) : NULL;
+    PyObject *empty = numpy != NULL ? attribute(numpy, "empty") : NULL;
+    room->array = empty != NULL ? PyObject_CallFunction(empty, "ns", (Py_ssize_t)count, question->kind) : NULL;
+    Py_XDECREF(empty);
     Py_XDECREF(numpy);
     if (room->array == NULL || PyObject_GetBuffer(room->array, &room->view, PyBUF_CONTIG) < 0)
         return false;
@@ -180,7 +190,7 @@ static void room_release(Room *room)
 
 static bool ask(Batch *batch, const Question *question, const Items *items, void *answers)
 {
-    if (!batch_begin(batch, items->held != NULL))
+    if (!batch_begin(batch, items))
         return false;
     int32_t answer = question->work(batch, items, answers);
     batch_end(batch);
@@ -236,7 +246,7 @@ static PyObject *ask_stream(Batch *batch, const Question *question, Items *items
 
 PyObject *ask_all(Sketch *self, PyObject *given, const Question *question)
 {
-    Batch batch = {.self = self};
+    Batch batch = {.self = self, .took = QUICK};
     Items items = {0};
     Room room = {0};
     PyObject *result = NULL;
@@ -248,7 +258,7 @@ PyObject *ask_all(Sketch *self, PyObject *given, const Question *question)
     else if (items_open(source, &items)) {
         if (items.iterator != NULL)
             result = ask_stream(&batch, question, &items);
-        else if (room_for(question, items.of_array, items.count, &room) && ask(&batch, question, &items, room.values))
+        else if (room_for(question, is_numpy_array(source), items.count, &room) && ask(&batch, question, &items, room.values))
             result = room.array != NULL ? Py_NewRef(room.array) : list_of(self, question, room.values, items.count);
     }
     room_release(&room);

@@ -1,35 +1,68 @@
 /* What a call is given as many items: mappings, tables, arrays of numpy, Series of pandas, and other iterables. */
 #include "sketches.h"
 
+/* The name is interned, since the caches of types keep the names that are looked up in them. */
+PyObject *attribute(PyObject *object, const char *name)
+{
+    PyObject *text = PyUnicode_InternFromString(name);
+    PyObject *value = text != NULL ? PyObject_GetAttr(object, text) : NULL;
+    Py_XDECREF(text);
+    return value;
+}
+
 static bool type_has(PyObject *object, const char *name)
 {
-    return PyObject_HasAttrString((PyObject *)Py_TYPE(object), name);
+    PyObject *value = attribute((PyObject *)Py_TYPE(object), name);
+    bool has = value != NULL;
+    Py_XDECREF(value);
+    PyErr_Clear();
+    return has;
+}
+
+/* Calls a method without arguments. */
+static PyObject *called(PyObject *object, const char *name)
+{
+    PyObject *method = attribute(object, name);
+    PyObject *result = method != NULL ? PyObject_CallNoArgs(method) : NULL;
+    Py_XDECREF(method);
+    return result;
+}
+
+/* Calls a function of a module with one argument. */
+static PyObject *called_with(PyObject *module, const char *name, PyObject *argument)
+{
+    PyObject *function = attribute(module, name);
+    PyObject *result = function != NULL ? PyObject_CallOneArg(function, argument) : NULL;
+    Py_XDECREF(function);
+    return result;
 }
 
 /* Whether a module is imported and the object is of its class. */
 static bool is_of(PyObject *object, const char *module, const char *name)
 {
     PyObject *imported = PyDict_GetItemString(PyImport_GetModuleDict(), module);
-    PyObject *type = imported != NULL ? PyObject_GetAttrString(imported, name) : NULL;
+    PyObject *type = imported != NULL ? attribute(imported, name) : NULL;
     int answer = type != NULL ? PyObject_IsInstance(object, type) : 0;
     Py_XDECREF(type);
     PyErr_Clear();
     return answer > 0;
 }
 
-static bool is_numpy_array(PyObject *object)
+bool is_numpy_array(PyObject *object)
 {
     return PyObject_CheckBuffer(object) && is_of(object, "numpy", "ndarray");
 }
 
-bool is_array(PyObject *object)
+bool is_array_of_bytes(PyObject *object)
 {
-    return is_of(object, "array", "array");
+    return is_of(object, "array", "array") || is_numpy_array(object);
 }
 
+/* A class of masked arrays is derived from that of numpy's arrays, and not from `object` alone. */
 bool is_masked(PyObject *source)
 {
-    return PyObject_CheckBuffer(source) && is_of(source, "numpy.ma", "MaskedArray");
+    return PyObject_CheckBuffer(source) && Py_TYPE(source)->tp_base != &PyBaseObject_Type &&
+           is_of(source, "numpy.ma", "MaskedArray");
 }
 
 /* Whether the object is a list, a tuple or a set, which is read as a whole. */
@@ -75,8 +108,8 @@ static bool is_plain_dict(PyObject *object)
     bool plain = PyDict_Check(object);
     const char *const names[] = {"keys", "values", "items", "__iter__", "__getitem__"};
     for (size_t i = 0; plain && !PyDict_CheckExact(object) && i < sizeof names / sizeof *names; i++) {
-        PyObject *own = PyObject_GetAttrString((PyObject *)Py_TYPE(object), names[i]);
-        PyObject *first = PyObject_GetAttrString((PyObject *)&PyDict_Type, names[i]);
+        PyObject *own = attribute((PyObject *)Py_TYPE(object), names[i]);
+        PyObject *first = attribute((PyObject *)&PyDict_Type, names[i]);
         plain = own != NULL && own == first;
         Py_XDECREF(own);
         Py_XDECREF(first);
@@ -109,7 +142,7 @@ PyObject *source_of(PyObject *object, const char *call)
                             Py_TYPE(object)->tp_name, call);
     if (!type_has(object, "to_numpy") || !type_has(object, "dtype"))
         return Py_NewRef(object);
-    PyObject *array = PyObject_CallMethod(object, "to_numpy", NULL);
+    PyObject *array = called(object, "to_numpy");
     if (array != NULL && !PyObject_CheckBuffer(array) && !is_whole(array)) {
         PyErr_Format(PyExc_TypeError, "to_numpy() of %.200s returned no array", Py_TYPE(object)->tp_name);
         Py_CLEAR(array);
@@ -117,24 +150,26 @@ PyObject *source_of(PyObject *object, const char *call)
     return array;
 }
 
-/* The one-letter kind of an array's type, or 0 where the array is none of numpy. Sets an error if it has not one dimension. */
-static bool kind_of(PyObject *array, Py_UCS4 *kind)
+/* Whether an array of numpy has one dimension. Sets an error if not. */
+static bool has_one_dimension(PyObject *array)
 {
-    *kind = 0;
-    if (!is_numpy_array(array) || !type_has(array, "dtype"))
-        return true;
-    PyObject *dtype = PyObject_GetAttrString(array, "dtype");
-    PyObject *letter = dtype != NULL ? PyObject_GetAttrString(dtype, "kind") : NULL;
-    PyObject *dimensions = PyObject_GetAttrString(array, "ndim");
+    PyObject *dimensions = attribute(array, "ndim");
     long number = dimensions != NULL ? PyLong_AsLong(dimensions) : -1;
-    if (letter != NULL && PyUnicode_Check(letter) && PyUnicode_GET_LENGTH(letter) == 1)
-        *kind = PyUnicode_READ_CHAR(letter, 0);
-    Py_XDECREF(dtype);
-    Py_XDECREF(letter);
     Py_XDECREF(dimensions);
     if (!PyErr_Occurred() && number != 1)
         PyErr_SetString(PyExc_ValueError, "an array of items has one dimension");
     return !PyErr_Occurred();
+}
+
+/* The letter for the kind of an array's type, or 0 if it has none. */
+static Py_UCS4 kind_of(PyObject *dtype)
+{
+    PyObject *letter = attribute(dtype, "kind");
+    bool is_letter = letter != NULL && PyUnicode_Check(letter) && PyUnicode_GET_LENGTH(letter) == 1;
+    Py_UCS4 kind = is_letter ? PyUnicode_READ_CHAR(letter, 0) : 0;
+    Py_XDECREF(letter);
+    PyErr_Clear();
+    return kind;
 }
 
 /* Replaces each bytes of a list by its str. */
@@ -150,37 +185,31 @@ static bool decode_each(PyObject *list)
     return true;
 }
 
-PyObject *array_entries(PyObject *array, const char *what, bool *of_array)
+PyObject *array_entries(PyObject *array, const char *what)
 {
-    Py_UCS4 kind;
-    *of_array = is_numpy_array(array);
-    if (!kind_of(array, &kind))
-        return NULL;
-    if (kind == 0 || kind == 'i' || kind == 'u')
-        return Py_NewRef(array);
-    Py_ssize_t count = PyObject_Size(array);
-    if (count <= 0)
-        return count == 0 ? PyTuple_New(0) : NULL;
-    if (kind != 'U' && kind != 'S' && kind != 'O' && kind != 'T') {
-        PyObject *dtype = PyObject_GetAttrString(array, "dtype");
-        if (dtype != NULL)
-            PyErr_Format(PyExc_TypeError, "an array of %s has no numbers of type %S", what, dtype);
-        Py_XDECREF(dtype);
-        return NULL;
-    }
-    PyObject *list = PyObject_CallMethod(array, "tolist", NULL);
-    if (list != NULL && PyList_Check(list) && (kind != 'S' || decode_each(list)))
+    PyObject *dtype = has_one_dimension(array) ? attribute(array, "dtype") : NULL;
+    Py_ssize_t count = dtype != NULL ? PyObject_Size(array) : -1;
+    Py_UCS4 kind = count > 0 ? kind_of(dtype) : 0;
+    PyObject *list = NULL;
+    if (count == 0)
+        list = PyList_New(0);
+    else if (kind == 'U' || kind == 'S' || kind == 'O' || kind == 'T')
+        list = called(array, "tolist");
+    else if (count > 0)
+        PyErr_Format(PyExc_TypeError, "an array of %s has no type %S", what, dtype);
+    Py_XDECREF(dtype);
+    if (list == NULL || (PyList_Check(list) && (kind != 'S' || decode_each(list))))
         return list;
     if (!PyErr_Occurred())
         PyErr_SetString(PyExc_TypeError, "tolist() of the array returned no list");
-    Py_XDECREF(list);
+    Py_DECREF(list);
     return NULL;
 }
 
 /* The entries of an array where `keep` is true. */
 static bool keep_entries(PyObject *masked, PyObject **array, PyObject *keep)
 {
-    PyObject *data = PyObject_CallMethod(masked, "getdata", "O", *array);
+    PyObject *data = called_with(masked, "getdata", *array);
     PyObject *kept = data != NULL ? PyObject_GetItem(data, keep) : NULL;
     Py_XDECREF(data);
     if (kept != NULL)
@@ -191,8 +220,8 @@ static bool keep_entries(PyObject *masked, PyObject **array, PyObject *keep)
 /* An array of bool: which entries no array masks. `second` may be NULL. */
 static PyObject *unmasked(PyObject *masked, PyObject *first, PyObject *second)
 {
-    PyObject *mask = PyObject_CallMethod(masked, "getmaskarray", "O", first);
-    PyObject *other = second != NULL ? PyObject_CallMethod(masked, "getmaskarray", "O", second) : NULL;
+    PyObject *mask = called_with(masked, "getmaskarray", first);
+    PyObject *other = second != NULL ? called_with(masked, "getmaskarray", second) : NULL;
     PyObject *both = mask != NULL && other != NULL ? PyNumber_Or(mask, other) : NULL;
     PyObject *keep = NULL;
     if (second == NULL ? mask != NULL : both != NULL)
@@ -205,20 +234,17 @@ static PyObject *unmasked(PyObject *masked, PyObject *first, PyObject *second)
 
 bool masks_drop(PyObject **items, PyObject **weights)
 {
-    Py_UCS4 kind;
     if (!is_numpy_array(*items) || (*weights != NULL && !is_numpy_array(*weights))) {
         PyErr_SetString(PyExc_TypeError, "beside a masked array, the items and the weights are arrays of numpy");
         return false;
     }
-    if (!kind_of(*items, &kind) || (*weights != NULL && !kind_of(*weights, &kind)))
+    if (!has_one_dimension(*items) || (*weights != NULL && !has_one_dimension(*weights)))
         return false;
     Py_ssize_t count = PyObject_Size(*items), others = *weights != NULL ? PyObject_Size(*weights) : count;
-    if (count < 0 || others < 0)
-        return false;
-    if (count != others) {
+    if (count != others)
         PyErr_Format(PyExc_ValueError, "there are %zd items and %zd weights", count, others);
+    if (PyErr_Occurred())
         return false;
-    }
     PyObject *masked = PyImport_ImportModule("numpy.ma");
     PyObject *keep = masked != NULL ? unmasked(masked, *items, *weights) : NULL;
     bool dropped = keep != NULL && keep_entries(masked, items, keep) && (*weights == NULL || keep_entries(masked, weights, keep));

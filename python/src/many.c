@@ -6,35 +6,39 @@
 /* How many objects are read between two looks for signals. */
 #define SIGNALS ((size_t)1 << 16)
 
-/* Whether the buffer has integers of 8 to 64 bits, whether they have a sign, and whether their bytes come in the other order.
- * A buffer of bytes is one of numbers only where `of_bytes` says so. */
-static bool reads_format(const char *format, Py_ssize_t size, bool of_bytes, bool *with_sign, bool *swapped)
+/* Whether the buffer has integers of 8 to 64 bits, whether they have a sign, and whether their bytes are in the other order. */
+static bool reads_format(const char *format, Py_ssize_t size, bool *with_sign, bool *swapped)
 {
-    if (format == NULL || (size != 1 && size != 2 && size != 4 && size != 8))
+    if (size != 1 && size != 2 && size != 4 && size != 8)
         return false;
     *swapped = *format == (PY_LITTLE_ENDIAN ? '>' : '<') || (*format == '!' && PY_LITTLE_ENDIAN);
-    if (strchr("@=<>!", *format) != NULL && *format != '\0')
+    if (*format != '\0' && strchr("@=<>!", *format) != NULL)
         format++;
     if (format[0] == '\0' || format[1] != '\0')
         return false;
     *with_sign = strchr("bhilqn", format[0]) != NULL;
-    return *with_sign || strchr("HILQN", format[0]) != NULL || (format[0] == 'B' && of_bytes);
+    return *with_sign || strchr("BHILQN", format[0]) != NULL;
 }
 
+/* The buffer's numbers. Those of 8 bits without a sign are bytes, but in an array. */
 static bool items_of_buffer(PyObject *object, Items *items)
 {
-    const char *what = items->of_weights ? "weights" : "items";
-    if (PyObject_GetBuffer(object, &items->view, PyBUF_STRIDES | PyBUF_FORMAT) < 0)
+    Py_buffer *view = &items->view;
+    if (PyObject_GetBuffer(object, view, PyBUF_STRIDES | PyBUF_FORMAT) < 0)
         return false;
-    const char *format = items->view.format != NULL ? items->view.format : "B";
-    if (!reads_format(format, items->view.itemsize, items->of_array || is_array(object), &items->with_sign, &items->swapped))
-        PyErr_Format(PyExc_TypeError, "a buffer of %s has integers, not %.200s of the format '%.50s'", what,
-                     Py_TYPE(object)->tp_name, format);
-    else if (items->view.ndim != 1)
+    const char *format = view->format != NULL ? view->format : "B", *what = items->of_weights ? "weights" : "items";
+    bool of_numbers = reads_format(format, view->itemsize, &items->with_sign, &items->swapped);
+    if (!of_numbers || (view->itemsize == 1 && !items->with_sign && !is_array_of_bytes(object)))
+        PyErr_Format(PyExc_TypeError, "a buffer of %s has integers, not the format '%.50s' (%.200s)", what, format,
+                     Py_TYPE(object)->tp_name);
+    else if (view->ndim != 1)
         PyErr_Format(PyExc_ValueError, "a buffer of %s has one dimension", what);
     else
-        items->count = (size_t)items->view.shape[0];
-    return !PyErr_Occurred();
+        items->count = (size_t)view->shape[0];
+    if (!PyErr_Occurred())
+        return true;
+    PyBuffer_Release(view);
+    return false;
 }
 
 static bool read_one(PyObject *object, Items *items, Item *item)
@@ -77,17 +81,33 @@ static bool items_of_iterable(PyObject *object, Items *items)
     return items->iterator != NULL;
 }
 
+/* The entries of an array of numpy that are no integers, in place of the error that is set. */
+static bool items_of_entries(PyObject *array, Items *items)
+{
+    PyObject *type, *error, *trace;
+    PyErr_Fetch(&type, &error, &trace);
+    if (!is_numpy_array(array)) {
+        PyErr_Restore(type, error, trace);
+        return false;
+    }
+    Py_XDECREF(type);
+    Py_XDECREF(error);
+    Py_XDECREF(trace);
+    PyObject *entries = array_entries(array, items->of_weights ? "weights" : "items");
+    bool opened = entries != NULL && items_of_tuple(entries, items);
+    Py_XDECREF(entries);
+    return opened;
+}
+
 bool items_open(PyObject *source, Items *items)
 {
     bool opened;
-    if (PyObject_CheckBuffer(source)) {
-        PyObject *entries = array_entries(source, items->of_weights ? "weights" : "items", &items->of_array);
-        opened = entries != NULL &&
-                 (PyObject_CheckBuffer(entries) ? items_of_buffer(entries, items) : items_of_tuple(entries, items));
-        Py_XDECREF(entries);
-    } else
-        opened = PyList_Check(source) || PyTuple_Check(source) || PyAnySet_Check(source) ? items_of_tuple(source, items)
-                                                                                         : items_of_iterable(source, items);
+    if (PyObject_CheckBuffer(source))
+        opened = items_of_buffer(source, items) || items_of_entries(source, items);
+    else if (PyList_Check(source) || PyTuple_Check(source) || PyAnySet_Check(source))
+        opened = items_of_tuple(source, items);
+    else
+        opened = items_of_iterable(source, items);
     if (!opened)
         items_release(items);
     return opened;

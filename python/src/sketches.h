@@ -154,6 +154,9 @@ bool limit_of(PyObject *object, size_t *limit);
 
 /* --- given.c --- */
 
+/* The attribute of this name, or NULL with an error. */
+PyObject *attribute(PyObject *object, const char *name);
+
 /* Whether the object is a mapping, of items to weights: it has keys and items, and is neither a table nor a Series of pandas. */
 bool is_mapping(PyObject *object);
 
@@ -164,12 +167,14 @@ bool mapping_split(PyObject *mapping, PyObject **keys, PyObject **values);
  * a mapping, in which `call` is the call's name. A Series of pandas gives its array. The reference is new. */
 PyObject *source_of(PyObject *object, const char *call);
 
-/* What the entries of a buffer are read from: a list where they are strings of numpy, and else the buffer itself. Sets an error
- * for arrays of other types, in which `what` names the entries. The reference is new. */
-PyObject *array_entries(PyObject *array, const char *what, bool *of_array);
+bool is_numpy_array(PyObject *object);
 
-/* Whether the object is an array of the standard library's module `array`. */
-bool is_array(PyObject *object);
+/* Whether the object is an array, of the module `array` or of numpy, so that unsigned numbers of 8 bits in it are no bytes. */
+bool is_array_of_bytes(PyObject *object);
+
+/* A list of the entries of an array of numpy. Sets an error if they are no strings and no objects; `what` names them. An empty
+ * array is taken. */
+PyObject *array_entries(PyObject *array, const char *what);
 
 /* Whether the source is an array of numpy that may have masked entries. */
 bool is_masked(PyObject *source);
@@ -186,7 +191,6 @@ typedef struct {
     bool of_weights;
     bool weights_with_sign;
     bool with_texts;
-    bool of_array; /* whether they come from an array of numpy */
     Item *items; /* of a buffer NULL */
     PyObject *tuple;
     Py_buffer view;
@@ -245,8 +249,8 @@ typedef struct {
     Sketch *self;
     PyThreadState *thread; /* while the interpreter's lock is let go */
     bool locked; /* whether it has the sketch's lock */
-    uint64_t begin, due; /* when it began and when it listens next, in nanoseconds */
-    bool is_quick; /* whether the last chunk took so little that the next one keeps the interpreter's lock */
+    uint64_t due; /* when it listens next, in nanoseconds, or 0 */
+    uint64_t took; /* of an iterator's last chunk, in nanoseconds */
     size_t done; /* how many items were counted or inserted */
 } Batch;
 

@@ -3,6 +3,7 @@ import array
 import collections
 import collections.abc
 import ctypes
+import gc
 import itertools
 import mmap
 import os
@@ -708,6 +709,84 @@ class Changes(unittest.TestCase):
             if waited:
                 self.assertEqual([taken(error) for error in errors], [counted], which)
                 self.assertEqual(sketch.total, len(busy) + counted)
+
+
+def raises():
+    """A handler of a signal, or an item's number, that is an error."""
+    raise KeyError("own")
+
+
+class Raises:
+    """A number that cannot be had."""
+
+    def __index__(self):
+        raises()
+
+
+class Leaks(unittest.TestCase):
+    def calls(self, seen, load, heavy, words):
+        """Calls that are taken and calls that are rejected at each step."""
+        items, weights, one = ["a", 7], [1, 2], object()
+        buffer, mapping = array.array("q", [7, 8]), {"a": 1, "b": 2}
+        for first, second in itertools.product(
+                (items, tuple(items), set(items), buffer, mapping, iter(items), lambda: (n for n in items * CHUNK), Pairs([("a", 1)]),
+                 Column(buffer), Column(one), Frame(), one, [one], iter([one]), [Raises()], {"a": one}, {one: 1}, b"ab", {7: 1},
+                 memoryview(buffer)[::-1], lambda: then_fails(5, KeyError()), lambda: then_fails(CHUNK + 5, KeyError())),
+                (None, 3, weights, buffer, iter(weights), set(weights), mapping, [1], [1, one], [1, -1], [1, GREATEST], one, Raises(),
+                 Frame(), lambda: itertools.repeat(1), lambda: then_fails(1, KeyError()))):
+            for call in (load.update, heavy.update, words.update):
+                given = [each() if callable(each) else each for each in (first, second) if each is not None]
+                yield call, given
+            if second is None:
+                for call in (seen.insert, seen.contains, load.estimate):
+                    yield call, [first() if callable(first) else first]
+
+    def array_calls(self, seen, load, heavy, words):
+        """The same with arrays of numpy."""
+        one = object()
+        for first in (numpy.array(["a", "b"]), numpy.array([b"a", b"\xff"]), numpy.array([b"a", b"b"]), numpy.array([1.0]),
+                      numpy.ma.array([1, 2], mask=[0, 1]), numpy.array(["a", one]), numpy.array([]), numpy.array([[1]]),
+                      numpy.array(["2020"], dtype="M8[D]"), numpy.ma.array(["a", "b"], mask=[0, 1])):
+            for second in ([], [1], [[1, 2]], [numpy.ma.array([1, 2], mask=[1, 0])], [numpy.array([1, 2, 3])]):
+                for call in (load.update, heavy.update, words.update):
+                    yield call, [first, *second]
+            for call in (seen.insert, seen.contains, load.estimate):
+                yield call, [first]
+
+    def growth(self, calls, least_errors):
+        """How many bytes twenty rounds of these calls keep."""
+        sketches = filled(), ds.CountMin(4, 128), ds.FrequentItems(64), ds.FrequentItems(64, item=str)
+
+        def run_all():
+            errors = 0
+            for call, given in calls(*sketches):
+                own = [each for each in given if not isinstance(each, int)]
+                held = [sys.getrefcount(each) for each in own]
+                try:
+                    call(*given)
+                except (TypeError, ValueError, KeyError, OverflowError, ds.SketchError):
+                    errors += 1
+                self.assertEqual([sys.getrefcount(each) for each in own], held)
+            self.assertGreater(errors, least_errors)
+
+        run_all()
+        tracemalloc.start()
+        run_all()
+        gc.collect()
+        before = tracemalloc.get_traced_memory()[0]
+        for _ in range(20):
+            run_all()
+        gc.collect()
+        after = tracemalloc.get_traced_memory()[0]
+        tracemalloc.stop()
+        return after - before
+
+    def test_nothing_is_kept(self):
+        self.assertLess(self.growth(self.calls, 500), 1000)
+
+    @unittest.skipIf(numpy is None, "no numpy here")
+    def test_nothing_is_kept_of_arrays(self):
+        self.assertLess(self.growth(self.array_calls, 50), 20000)
 
 
 @unittest.skipUnless(threading.current_thread() is threading.main_thread(), "Ctrl-C is for the main thread")
