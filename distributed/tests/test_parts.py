@@ -1,6 +1,7 @@
 """Files cut into parts, and the items of a part."""
 import bz2
 import dataclasses
+import functools
 import gzip
 import lzma
 import os
@@ -20,7 +21,7 @@ import zstandard
 from common import write
 from sketch_parts import BadInput, Columns, batches, cut, whole
 
-COMPRESSORS = {".gz": gzip.compress, ".bz2": bz2.compress, ".xz": lzma.compress, ".zst": zstandard.compress}
+COMPRESSORS = {".gz": gzip.compress, ".bz2": bz2.compress, ".xz": functools.partial(lzma.compress, preset=0), ".zst": zstandard.compress}
 
 
 def items_of(parts):
