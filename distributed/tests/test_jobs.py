@@ -444,7 +444,7 @@ class Ends(unittest.TestCase):
     def ended(self, output):
         """Returns the exit status and the error of a command that prints an answer to a file."""
         code = "import sketch_engine, sys; sys.exit(sketch_engine.run('job', lambda: {'a': 1}, print, True))"
-        env = {**os.environ, "PYTHONPATH": os.pathsep.join(sys.path)}
+        env = {**os.environ, "PYTHONPATH": os.pathsep.join(sys.path), "PYTHONUNBUFFERED": ""}
         done = subprocess.run([sys.executable, "-c", code], stdout=output, stderr=subprocess.PIPE, text=True, env=env,
                               timeout=PATIENCE, check=False)
         return done.returncode, done.stderr

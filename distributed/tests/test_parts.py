@@ -7,6 +7,7 @@ import lzma
 import os
 import pickle
 import random
+import signal
 import subprocess
 import sys
 import tempfile
@@ -144,7 +145,7 @@ class Parts(InFolder):
     def test_a_line_is_named_by_no_second_reading(self):
         path = write(self.folder, "text", b"good\n" * 1000 + b"b\xe4d\n")
         *_, part = cut(whole(path), 1000)
-        with mock.patch.object(sketch_parts, "open_file", side_effect=sketch_parts.open_file) as opened, \
+        with mock.patch.object(sketch_parts, "open", side_effect=open, create=True) as opened, \
                 mock.patch.object(sketch_parts, "BLOCK", 100):
             self.assertEqual(self.refused([part]), ("not UTF-8", 5000))
         self.assertEqual(opened.call_count, 1)
@@ -169,14 +170,14 @@ class Versions(InFolder):
     """A part is the file that was cut."""
 
     def changed(self, path, part, change, during=False):
-        """Changes a file before a part is read or during that, and checks that the error has both values."""
+        """Changes a file before or while a part is read, and checks that the error has both values. Before, nothing is read."""
         before = os.stat(path)
         reading = batches(part)
         if during:
             next(reading)
         change()
         with self.assertRaises(BadInput) as refused:
-            list(reading)
+            list(reading) if during else next(reading)
         after = os.stat(path)
         self.assertIn("the file changed", str(refused.exception))
         for status in (before, after):
@@ -229,6 +230,7 @@ class Versions(InFolder):
         part = whole(path)
         os.remove(path)
         os.mkfifo(path)
+        self.addCleanup(signal.alarm, signal.alarm(60))  # ends the tests if a pipe is waited for
         self.assertEqual(self.refused([part])[0], "is no regular file; write its text to a file")
 
 
