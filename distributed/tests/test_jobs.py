@@ -424,6 +424,11 @@ class Limits(Tests):
                     command([STREAM, *words])
                 self.assertEqual(refused.exception.code, 2)
 
+    def test_more_keys_than_a_filter_takes(self):
+        with self.assertRaises(ds.SketchError) as refused:
+            seen.shape_for(2**36, 100)
+        self.assertEqual(refused.exception.fault, "BadNumBits")
+
     def test_no_limit_is_below_an_own_sketch(self):
         for shape in (Traffic(1, (1 << 27) + 1), Seen((1 << 33) + 1, 1)):
             sketch = shape.empty()
