@@ -91,7 +91,7 @@ def cut_files(paths: Sequence[str], parts: int | None, *, words: bool = False, c
     if column is None and (weight is not None or no_header):
         raise ValueError("a weight, or no header, needs a column")
     if column is not None and words:
-        raise ValueError("items are words, or a column's strings")
+        raise ValueError("items are words or a column's strings, not both")
     if len(delimiter) != 1 or delimiter in "\"\r\n":
         raise ValueError(f"a delimiter is one character, and no quote or line end, not {delimiter!r}")
     files = [sketch_parts.whole(os.path.abspath(path), words=words) for path in paths]

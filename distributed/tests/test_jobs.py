@@ -108,7 +108,8 @@ class Workers(unittest.TestCase):
                     pages.close()
         with self.assertRaises(OSError):
             distributed.Client(CLIENT.scheduler.address, security=distributed.Security.temporary(), timeout=PATIENCE)
-        status, out, errors = said(heavy.main, STREAM, "--scheduler", CLIENT.scheduler.address.replace("tls", "tcp"))
+        with mock.patch.object(engine, "PATIENCE", 2):
+            status, out, errors = said(heavy.main, STREAM, "--scheduler", CLIENT.scheduler.address.replace("tls", "tcp"))
         self.assertEqual((status, out), (1, ""))
         self.assertRegex(errors, "^heavy.py: .*127.0.0.1.*\n$")
 
@@ -423,13 +424,23 @@ class Limits(Tests):
                     command([STREAM, *words])
                 self.assertEqual(refused.exception.code, 2)
 
+    def test_more_keys_than_a_filter_takes(self):
+        with self.assertRaises(ds.SketchError) as refused:
+            seen.shape_for(2**36, 100)
+        self.assertEqual(refused.exception.fault, "BadNumBits")
+
     def test_no_limit_is_below_an_own_sketch(self):
         for shape in (Traffic(1, (1 << 27) + 1), Seen((1 << 33) + 1, 1)):
-            image = bytes(shape.empty())
+            sketch = shape.empty()
+            image, kind = bytes(sketch), type(sketch)
+            sketch.close()
             with self.assertRaises(ds.SketchError) as refused:
-                type(shape.empty()).from_bytes(image)
+                kind.from_bytes(image)
             self.assertEqual(refused.exception.fault, "TableTooLarge", "more than the package reads if no limit is given")
-            shape.read(image)
+            shape.read(image).close()
+        with mock.patch.object(sketch_parts, "ds") as package:
+            Heavy(SIZE).read(b"image")
+        package.FrequentItems.from_bytes.assert_called_once_with(b"image", item=str, limit=None)
 
 
 class Ends(unittest.TestCase):
@@ -438,7 +449,7 @@ class Ends(unittest.TestCase):
     def ended(self, output):
         """Returns the exit status and the error of a command that prints an answer to a file."""
         code = "import sketch_engine, sys; sys.exit(sketch_engine.run('job', lambda: {'a': 1}, print, True))"
-        env = {**os.environ, "PYTHONPATH": os.pathsep.join(sys.path)}
+        env = {**os.environ, "PYTHONPATH": os.pathsep.join(sys.path), "PYTHONUNBUFFERED": ""}
         done = subprocess.run([sys.executable, "-c", code], stdout=output, stderr=subprocess.PIPE, text=True, env=env,
                               timeout=PATIENCE, check=False)
         return done.returncode, done.stderr

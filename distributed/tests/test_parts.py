@@ -1,11 +1,13 @@
 """Files cut into parts, and the items of a part."""
 import bz2
 import dataclasses
+import functools
 import gzip
 import lzma
 import os
 import pickle
 import random
+import signal
 import subprocess
 import sys
 import tempfile
@@ -20,7 +22,7 @@ import zstandard
 from common import write
 from sketch_parts import BadInput, Columns, batches, cut, whole
 
-COMPRESSORS = {".gz": gzip.compress, ".bz2": bz2.compress, ".xz": lzma.compress, ".zst": zstandard.compress}
+COMPRESSORS = {".gz": gzip.compress, ".bz2": bz2.compress, ".xz": functools.partial(lzma.compress, preset=0), ".zst": zstandard.compress}
 
 
 def items_of(parts):
@@ -143,7 +145,7 @@ class Parts(InFolder):
     def test_a_line_is_named_by_no_second_reading(self):
         path = write(self.folder, "text", b"good\n" * 1000 + b"b\xe4d\n")
         *_, part = cut(whole(path), 1000)
-        with mock.patch.object(sketch_parts, "open_file", side_effect=sketch_parts.open_file) as opened, \
+        with mock.patch.object(sketch_parts, "open", side_effect=open, create=True) as opened, \
                 mock.patch.object(sketch_parts, "BLOCK", 100):
             self.assertEqual(self.refused([part]), ("not UTF-8", 5000))
         self.assertEqual(opened.call_count, 1)
@@ -168,14 +170,14 @@ class Versions(InFolder):
     """A part is the file that was cut."""
 
     def changed(self, path, part, change, during=False):
-        """Changes a file before a part is read or during that, and checks that the error has both values."""
+        """Changes a file before or while a part is read, and checks that the error has both values. Before, nothing is read."""
         before = os.stat(path)
         reading = batches(part)
         if during:
             next(reading)
         change()
         with self.assertRaises(BadInput) as refused:
-            list(reading)
+            list(reading) if during else next(reading)
         after = os.stat(path)
         self.assertIn("the file changed", str(refused.exception))
         for status in (before, after):
@@ -228,6 +230,7 @@ class Versions(InFolder):
         part = whole(path)
         os.remove(path)
         os.mkfifo(path)
+        self.addCleanup(signal.alarm, signal.alarm(60))  # ends the tests if a pipe is waited for
         self.assertEqual(self.refused([part])[0], "is no regular file; write its text to a file")
 
 
