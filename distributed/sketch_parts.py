@@ -53,7 +53,7 @@ class Columns:
 
 @dataclass(frozen=True)
 class Version:
-    """What a file is like on a host: a file that changed, or another one under the same path, has another version."""
+    """Tells a file on a host from another one under the same path, and from itself before a change."""
 
     size: int
     modified: int
@@ -227,6 +227,8 @@ def blocks(part: Part) -> Iterator[tuple[int, bytes]]:
             yield at + skipped, data[skipped:]
         part.check(os.fstat(file.fileno()))
         part.check(os.stat(part.path))
+        if begin is None and file.tell() != end:
+            raise BadInput(part.path, f"ends at byte {file.tell()}, and not at {end}")
 
 
 def line_start(path: str, file: BinaryIO, at: int) -> int:
@@ -241,7 +243,7 @@ def line_start(path: str, file: BinaryIO, at: int) -> int:
 
 
 def whole_lines(path: str, at: int, pieces: Iterable[bytes]) -> Iterator[tuple[int, bytes]]:
-    """Yields pieces of a text as blocks of whole lines, each with the byte at which it begins. The text begins at a byte."""
+    """Yields the pieces of a text that begins at a byte as blocks of whole lines, each with the byte at which it begins."""
     rest = b""
     for piece in pieces:
         data = rest + piece
@@ -411,7 +413,7 @@ def sketch_part(shape: Shape, part: Part) -> bytes:
 
 
 def merge_images(shape: Shape, images: list[bytes]) -> bytes:
-    """Merges the sketches of some images, and returns the image. Raises the fault of a damaged one."""
+    """Merges the sketches of some images, and returns the image. Raises the fault of a malformed one."""
     sketch = shape.read(images[0])
     for image in images[1:]:
         shape.join(sketch, shape.read(image))

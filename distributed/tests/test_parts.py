@@ -211,6 +211,15 @@ class Versions(InFolder):
             part = dataclasses.replace(whole(path), version=dataclasses.replace(other, **more))
             self.assertIn("the file changed", self.refused([part])[0])
 
+    def test_a_file_that_is_shorter_than_its_size(self):
+        path = write(self.folder, "text", "a\n" * 50000)
+        reading = batches(whole(path))
+        with mock.patch.object(sketch_parts, "BLOCK", 100), mock.patch.object(sketch_parts.Part, "check"):
+            next(reading)
+            os.truncate(path, 400)
+            with self.assertRaisesRegex(BadInput, "ends at byte [0-9]+, and not at 100000$"):
+                list(reading)
+
     def test_what_is_no_regular_file(self):
         for path in ("/dev/stdin", "/dev/fd/0", "/proc/self/fd/0"):
             self.assertEqual(self.refused(lambda: engine.cut_files([path], 1))[0],
