@@ -605,6 +605,23 @@ class Streams(unittest.TestCase):
             load.update(closes())
         self.assertEqual(taken(raised.exception), CHUNK)
 
+    def test_threads(self):
+        load, seen = ds.CountMin(4, 1 << 16), ds.BloomFilter(1 << 20, 3)
+        numbers, ended = array.array("q", range(10 * CHUNK)), []
+
+        def run():
+            load.update(number for number in numbers)
+            load.update(numbers)
+            seen.insert(number for number in numbers)
+            ended.append(all(seen.contains(number for number in numbers)) and min(load.estimate(iter(numbers))) >= 2)
+
+        threads = [threading.Thread(target=run) for _ in range(4)]
+        for thread in threads:
+            thread.start()
+        for thread in threads:
+            thread.join(60)
+        self.assertEqual((ended, load.total), ([True] * 4, 8 * len(numbers)))
+
     def test_a_list_that_changes_under_the_call(self):
         class Clears:
             """A number that empties the list that it is in."""
