@@ -4,8 +4,8 @@
 #include <signal.h>
 #include <time.h>
 
-/* In nanoseconds: how often a batch listens; and a chunk of an iterator that took less lets the next one keep the interpreter's lock,
- * since a thread that lets it go waits for its next turn. */
+/* In nanoseconds: how often a batch listens; and how short a chunk of an iterator is after which the next chunk keeps the interpreter's
+ * lock, since a thread that lets it go waits for its turn. */
 #define LISTENS 100000000
 #define QUICK 1000000
 
@@ -39,7 +39,7 @@ static bool batch_begin(Batch *batch, const Items *items)
     bool keeps_lock = items->held != NULL && batch->took < QUICK;
     if (keeps_lock ? !sketch_ready(batch->self) : !batch_lock(batch))
         return false;
-    batch->took = items->held != NULL ? now() : 0;
+    batch->began = items->held != NULL ? now() : 0;
     batch->due = 0;
     batch->thread = keeps_lock ? NULL : PyEval_SaveThread();
     return true;
@@ -47,8 +47,8 @@ static bool batch_begin(Batch *batch, const Items *items)
 
 static void batch_end(Batch *batch)
 {
-    if (batch->took > 0)
-        batch->took = now() - batch->took;
+    if (batch->began > 0)
+        batch->took = now() - batch->began;
     if (batch->thread != NULL)
         PyEval_RestoreThread(batch->thread);
     batch->thread = NULL;

@@ -121,8 +121,11 @@ static bool is_plain_dict(PyObject *object)
 bool mapping_split(PyObject *mapping, PyObject **keys, PyObject **values)
 {
     bool plain = is_plain_dict(mapping);
+    int collects = PyGC_Disable(); /* a finalizer could change the dict between its keys and its values */
     *keys = plain ? PyDict_Keys(mapping) : PyList_New(0);
     *values = plain ? PyDict_Values(mapping) : PyList_New(0);
+    if (collects)
+        PyGC_Enable();
     if (*keys != NULL && *values != NULL && (plain || mapping_split_pairs(mapping, *keys, *values)))
         return true;
     Py_CLEAR(*keys);

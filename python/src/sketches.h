@@ -163,13 +163,13 @@ bool is_mapping(PyObject *object);
 /* The keys and the values of a mapping, as two lists in the same order. */
 bool mapping_split(PyObject *mapping, PyObject **keys, PyObject **values);
 
-/* What the items of an object are read from: a list, a tuple, a set, a buffer, or another iterable. Sets an error for a table and for
- * a mapping, in which `call` is the call's name. A Series of pandas gives its array. The reference is new. */
+/* What the items of an object are read from: a list, a tuple, a set, a buffer, or another iterable; of a Series of pandas its array.
+ * Sets an error for a table and for a mapping, in which `call` is the call's name. The reference is new. */
 PyObject *source_of(PyObject *object, const char *call);
 
 bool is_numpy_array(PyObject *object);
 
-/* Whether the object is an array, of the module `array` or of numpy, so that unsigned numbers of 8 bits in it are no bytes. */
+/* Whether the object is an array, of the module `array` or of numpy: its unsigned numbers of 8 bits are no bytes. */
 bool is_array_of_bytes(PyObject *object);
 
 /* A list of the entries of an array of numpy. Sets an error if they are no strings and no objects; `what` names them. An empty
@@ -238,8 +238,8 @@ bool update_next(Items *items, Weights *weights);
  * them is no weight of the sketch. */
 bool weights_chunk(const Weights *weights, size_t first, size_t count, uint64_t *chunk);
 
-/* DS_WEIGHT_OVERFLOW if all weights together are above `room`, and CHANGED if `weights_chunk` returns false for some. Of weights with
- * a sign their distance from 0 counts. */
+/* DS_WEIGHT_OVERFLOW if all weights together are above `room`, and CHANGED if `weights_chunk` returns false for some of them. Of
+ * weights with a sign their distance from 0 counts. */
 int32_t weights_fit(const Weights *weights, size_t count, uint64_t room);
 
 /* --- batches.c --- */
@@ -250,7 +250,7 @@ typedef struct {
     PyThreadState *thread; /* while the interpreter's lock is let go */
     bool locked; /* whether it has the sketch's lock */
     uint64_t due; /* when it listens next, in nanoseconds, or 0 */
-    uint64_t took; /* of an iterator's last chunk, in nanoseconds */
+    uint64_t began, took; /* of an iterator's chunk, in nanoseconds */
     size_t done; /* how many items were counted or inserted */
 } Batch;
 

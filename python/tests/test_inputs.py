@@ -605,6 +605,23 @@ class Streams(unittest.TestCase):
             load.update(closes())
         self.assertEqual(taken(raised.exception), CHUNK)
 
+    def test_threads(self):
+        load, seen = ds.CountMin(4, 1 << 16), ds.BloomFilter(1 << 20, 3)
+        numbers, ended = array.array("q", range(10 * CHUNK)), []
+
+        def run():
+            load.update(number for number in numbers)
+            load.update(numbers)
+            seen.insert(number for number in numbers)
+            ended.append(all(seen.contains(number for number in numbers)) and min(load.estimate(iter(numbers))) >= 2)
+
+        threads = [threading.Thread(target=run) for _ in range(4)]
+        for thread in threads:
+            thread.start()
+        for thread in threads:
+            thread.join(60)
+        self.assertEqual((ended, load.total), ([True] * 4, 8 * len(numbers)))
+
     def test_a_list_that_changes_under_the_call(self):
         class Clears:
             """A number that empties the list that it is in."""
@@ -742,12 +759,13 @@ class Leaks(unittest.TestCase):
                     yield call, [first() if callable(first) else first]
 
     def array_calls(self, seen, load, heavy, words):
-        """The same with arrays of numpy."""
-        one = object()
-        for first in (numpy.array(["a", "b"]), numpy.array([b"a", b"\xff"]), numpy.array([b"a", b"b"]), numpy.array([1.0]),
-                      numpy.ma.array([1, 2], mask=[0, 1]), numpy.array(["a", one]), numpy.array([]), numpy.array([[1]]),
-                      numpy.array(["2020"], dtype="M8[D]"), numpy.ma.array(["a", "b"], mask=[0, 1])):
-            for second in ([], [1], [[1, 2]], [numpy.ma.array([1, 2], mask=[1, 0])], [numpy.array([1, 2, 3])]):
+        """The same with arrays of numpy, which are long, since numpy keeps some bytes of its own."""
+        one, word, many = object(), "a" * 50000, numpy.arange(20000)
+        mask = many % 2
+        for first in (numpy.array([word, "b"]), numpy.array([word.encode(), b"\xff"]), numpy.array([word.encode(), b"b"]), many + 0.5,
+                      numpy.ma.array(many, mask=mask), numpy.array([word, one]), numpy.array([]), numpy.array([[1]]),
+                      numpy.array(["2020"], dtype="M8[D]"), numpy.ma.array([word, "b"], mask=[0, 1])):
+            for second in ([], [1], [[1, 2]], [numpy.ma.array(many, mask=mask)], [numpy.array([1, 2, 3])]):
                 for call in (load.update, heavy.update, words.update):
                     yield call, [first, *second]
             for call in (seen.insert, seen.contains, load.estimate):
@@ -786,7 +804,7 @@ class Leaks(unittest.TestCase):
 
     @unittest.skipIf(numpy is None, "no numpy here")
     def test_nothing_is_kept_of_arrays(self):
-        self.assertLess(self.growth(self.array_calls, 50), 20000)
+        self.assertLess(self.growth(self.array_calls, 50), 300000)
 
 
 @unittest.skipUnless(threading.current_thread() is threading.main_thread(), "Ctrl-C is for the main thread")
