@@ -2,14 +2,16 @@
 #include "sketches.h"
 
 /* A call for many numbers goes through the table row by row, and a row then stays in a near cache: many more than CHUNK are given
- * to a call, where there is memory for a copy of them. */
+ * to a call, where there is memory for a copy of them. Of more than 16 rows fewer, since a batch listens to Ctrl-C between calls. */
 #define LONG_CHUNK ((size_t)1 << 19)
+#define LONG_WORK ((size_t)1 << 23)
 
 /* Room for as many numbers as a call is given at most, of `count`: `few`, or memory that `chunk_release` gives back. */
-static uint64_t *chunk_for(size_t count, uint64_t *few, size_t *most)
+static uint64_t *chunk_for(const Sketch *self, size_t count, uint64_t *few, size_t *most)
 {
     uint64_t *many = NULL;
-    *most = count < LONG_CHUNK ? count : LONG_CHUNK;
+    size_t longest = self->hashes > 16 ? LONG_WORK / self->hashes : LONG_CHUNK;
+    *most = count < longest ? count : longest;
     if (*most > CHUNK)
         many = PyMem_RawMalloc(*most * sizeof *many);
     if (many != NULL)
@@ -72,94 +74,108 @@ static int32_t update_numbers(Sketch *self, bool with_sign, const uint64_t *numb
                      : ds_count_u64_update_all_u64(&self->handle, numbers, count);
 }
 
+static int32_t update_numbers_by(Sketch *self, bool with_sign, const uint64_t *numbers, const uint64_t *weights, size_t count)
+{
+    ds_sketch *handle = &self->handle;
+    const int64_t *with = (const int64_t *)numbers;
+    if (self->with_sign)
+        return with_sign ? ds_count_i64_update_all_weighted_i64(handle, with, count, (const int64_t *)weights, count)
+                         : ds_count_i64_update_all_weighted_u64(handle, numbers, count, (const int64_t *)weights, count);
+    return with_sign ? ds_count_u64_update_all_weighted_i64(handle, with, count, weights, count)
+                     : ds_count_u64_update_all_weighted_u64(handle, numbers, count, weights, count);
+}
+
 /* Adds 1 to each number's weight. */
-static int32_t update_by_one(Sketch *self, const Items *items)
+static int32_t update_by_one(Batch *batch, const Items *items)
 {
     uint64_t few[CHUNK];
-    size_t most, count = 0;
-    uint64_t *chunk = chunk_for(items->count, few, &most);
+    size_t most;
+    uint64_t *chunk = chunk_for(batch->self, items->count, few, &most);
     int32_t answer = DS_OK;
-    for (size_t i = 0; i < items->count && answer >= 0; i += count) {
+    for (size_t i = 0, count; i < items->count && answer >= 0; i += count) {
         count = items_chunk(items, i, most, chunk);
-        answer = update_numbers(self, items->with_sign, chunk, count);
+        answer = i > 0 && !batch_goes_on(batch) ? STOPPED : update_numbers(batch->self, items->with_sign, chunk, count);
+        batch->done += answer >= 0 ? count : 0;
     }
     chunk_release(chunk, few);
     return answer;
 }
 
-static int32_t update_many(Sketch *self, const Items *items, const Weights *weights)
+static int32_t update_each(Batch *batch, const Item *items, const uint64_t *weights, size_t count)
+{
+    int32_t answer = DS_OK;
+    for (size_t i = 0; i < count && answer >= 0; i++) {
+        answer = update_one(batch->self, &items[i], weights[i]);
+        batch->done += answer >= 0;
+    }
+    return answer;
+}
+
+static int32_t update_many(Batch *batch, const Items *items, const Weights *weights)
 {
     uint64_t numbers[CHUNK], chunk[CHUNK];
-    size_t count = 0;
+    Sketch *self = batch->self;
     ds_count_numbers was;
     int32_t answer = self->with_sign ? ds_count_i64_status(&self->handle, &was) : ds_count_u64_status(&self->handle, &was);
-    if (answer >= 0 && !weights_fit(weights, items->count, self->with_sign,
-                                    (self->with_sign ? INT64_MAX : UINT64_MAX) - was.total_weight))
-        answer = DS_WEIGHT_OVERFLOW;
+    if (answer >= 0)
+        answer = weights_fit(weights, items->count, (self->with_sign ? INT64_MAX : UINT64_MAX) - was.total_weight);
     if (answer < 0)
         return answer;
     if (!items->with_texts && !weights->each && weights->same == 1)
-        return update_by_one(self, items);
-    for (size_t i = 0; i < items->count && answer >= 0; i += count) {
+        return update_by_one(batch, items);
+    for (size_t i = 0, count; i < items->count && answer >= 0; i += count) {
+        if (i > 0 && !batch_goes_on(batch))
+            return STOPPED;
         count = items_chunk(items, i, CHUNK, numbers);
-        weights_chunk(weights, i, count, chunk);
-        for (size_t j = 0; j < count && answer >= 0; j++) {
-            Item number = {.value = numbers[j]};
-            answer = update_one(self, items->with_texts ? &items->items[i + j] : &number, chunk[j]);
-        }
+        if (!weights_chunk(weights, i, count, chunk))
+            return CHANGED;
+        if (items->with_texts)
+            answer = update_each(batch, &items->items[i], chunk, count);
+        else
+            answer = update_numbers_by(self, items->with_sign, numbers, chunk, count);
+        if (answer >= 0 && !items->with_texts)
+            batch->done += count;
     }
     return answer;
 }
 
 const char count_update_doc[] = PyDoc_STR(
 "update($self, items, weight=1, /)\n--\n\n"
-"Add a weight to an item's, or to those of many: an iterable, or a buffer of 64-bit integers.\n\n"
+"Add a weight to an item's, or to those of many: an iterable, a buffer of integers, or an array of strings.\n\n"
 "The weight is from 0 to 2**64 - 1, or where the sketch is signed from -2**63 to 2**63 - 1. Many items have one weight\n"
-"each, or as many weights as there are items: an iterable or a buffer too. Where the total weight would pass the\n"
-"greatest, 'WeightOverflow' is raised, and nothing is counted.\n\n"
+"each, or as many weights as there are items: an iterable or a buffer too. A mapping adds its values to the weights of\n"
+"its keys. Where the total weight would pass the greatest, 'WeightOverflow' is raised, and nothing is counted.\n\n"
+"All items of a list, an array or a mapping are checked before the first is counted. Of any other iterable each 4,096\n"
+"are, and a later error has a note: how many items were counted.\n\n"
 ">>> import datasketches_rattle as ds\n"
 ">>> load = ds.CountMin(hashes=4, buckets=1 << 10)\n"
 ">>> load.update(7, 30)\n"
 ">>> load.update([7, 8, -9, 'nine'])\n"
 ">>> load.update([7, 'nine'], [100, 200])\n"
 ">>> load[7], load[8], load[-9], load['nine'], load[10]\n"
-"(131, 1, 1, 201, 0)\n");
+"(131, 1, 1, 201, 0)\n"
+">>> load.update({'apple': 5, 'pear': 2})\n"
+">>> load['apple'], load['pear']\n"
+"(5, 2)\n");
 
 PyObject *count_update(PyObject *object, PyObject *const *args, Py_ssize_t count)
 {
     Sketch *self = (Sketch *)object;
     PyObject *given = count == 2 ? args[1] : NULL;
-    int32_t answer;
+    Item item;
+    Items items;
+    Weights weights;
+    uint64_t weight = 1;
     if (count < 1 || count > 2)
         return PyErr_Format(PyExc_TypeError, "update takes items and a weight, not %zd arguments", count);
-    if (is_single(args[0])) {
-        Item item;
-        uint64_t weight = 1;
-        if ((given != NULL && !number_of_kind(given, "weight", self->with_sign, &weight)) || !item_of(args[0], &item) ||
-            !sketch_ready(self))
-            return NULL;
-        answer = update_one(self, &item, weight);
-    } else {
-        Items items;
-        Weights weights;
-        if (!items_of(args[0], &items))
-            return NULL;
-        if (!weights_of(given, self->with_sign, &items, &weights)) {
-            items_release(&items);
-            return NULL;
-        }
-        bool there = sketch_lock(self);
-        if (there) {
-            BATCH_BEGIN(self)
-            answer = update_many(self, &items, &weights);
-            BATCH_END(self)
-            sketch_unlock(self);
-        }
-        items_release(&weights.items);
-        items_release(&items);
-        if (!there)
-            return NULL;
+    if (!is_single(args[0])) {
+        bool opened = update_open(args[0], given, self->with_sign, &items, &weights);
+        return opened ? update_all(self, &items, &weights, NULL, update_many) : NULL;
     }
+    if ((given != NULL && !number_of_kind(given, "weight", self->with_sign, &weight)) || !item_of(args[0], &item) ||
+        !sketch_ready(self))
+        return NULL;
+    int32_t answer = update_one(self, &item, weight);
     if (answer < 0)
         return refuse(answer);
     Py_RETURN_NONE;
@@ -198,19 +214,29 @@ static int32_t estimate_numbers(Sketch *self, bool with_sign, const uint64_t *it
                      : ds_count_u64_estimate_all_u64(&self->handle, items, count, numbers, count);
 }
 
-static int32_t estimate_many(Sketch *self, const Items *items, uint64_t *numbers)
+static int32_t estimate_texts(Batch *batch, const Items *items, uint64_t *numbers)
 {
-    uint64_t few[CHUNK];
-    size_t most, count = 0;
     int32_t answer = DS_OK;
-    for (size_t i = 0; items->with_texts && i < items->count && answer >= 0; i++)
-        answer = estimate_one(self, &items->items[i], &numbers[i]);
+    for (size_t i = 0; i < items->count && answer >= 0; i++) {
+        bool goes_on = i % CHUNK != CHUNK - 1 || batch_goes_on(batch);
+        answer = goes_on ? estimate_one(batch->self, &items->items[i], &numbers[i]) : STOPPED;
+    }
+    return answer;
+}
+
+static int32_t estimate_many(Batch *batch, const Items *items, void *room)
+{
+    uint64_t few[CHUNK], *numbers = room;
+    size_t most;
+    int32_t answer = DS_OK;
     if (items->with_texts)
-        return answer;
-    uint64_t *chunk = chunk_for(items->count, few, &most);
-    for (size_t i = 0; i < items->count && answer >= 0; i += count) {
+        return estimate_texts(batch, items, numbers);
+    uint64_t *chunk = chunk_for(batch->self, items->count, few, &most);
+    for (size_t i = 0, count; i < items->count && answer >= 0; i += count) {
         count = items_chunk(items, i, most, chunk);
-        answer = estimate_numbers(self, items->with_sign, chunk, count, numbers + i);
+        answer = i > 0 && !batch_goes_on(batch)
+                     ? STOPPED
+                     : estimate_numbers(batch->self, items->with_sign, chunk, count, numbers + i);
     }
     chunk_release(chunk, few);
     return answer;
@@ -226,42 +252,17 @@ const char count_estimate_doc[] = PyDoc_STR(
 ">>> load.estimate(7), load.estimate([7, 'seven'])\n"
 "(30, [30, 0])\n");
 
-static PyObject *list_for(const Sketch *self, const uint64_t *numbers, size_t count)
+static PyObject *number_at(const Sketch *self, const void *answers, size_t index)
 {
-    PyObject *list = PyList_New((Py_ssize_t)count);
-    for (size_t i = 0; list != NULL && i < count; i++) {
-        PyObject *number = number_for(self, numbers[i]);
-        if (number == NULL)
-            Py_CLEAR(list);
-        else
-            PyList_SET_ITEM(list, (Py_ssize_t)i, number);
-    }
-    return list;
+    return number_for(self, ((const uint64_t *)answers)[index]);
 }
 
 PyObject *count_estimate(PyObject *object, PyObject *given)
 {
+    static const Question natural = {"estimate", sizeof(uint64_t), "u8", number_at, estimate_many};
+    static const Question with_sign = {"estimate", sizeof(int64_t), "i8", number_at, estimate_many};
     Sketch *self = (Sketch *)object;
-    Items items;
-    Room room;
-    PyObject *result = NULL;
-    if (is_single(given))
-        return count_at(object, given);
-    if (!items_of(given, &items))
-        return NULL;
-    if (room_for(given, items.count, self->with_sign ? "i8" : "u8", sizeof(uint64_t), &room) && sketch_lock(self)) {
-        int32_t answer;
-        BATCH_BEGIN(self)
-        answer = estimate_many(self, &items, room.values);
-        BATCH_END(self)
-        sketch_unlock(self);
-        result = answer < 0           ? refuse(answer)
-                 : room.array != NULL ? Py_NewRef(room.array)
-                                      : list_for(self, room.values, items.count);
-    }
-    room_release(&room);
-    items_release(&items);
-    return result;
+    return is_single(given) ? count_at(object, given) : ask_all(self, given, self->with_sign ? &with_sign : &natural);
 }
 
 const char count_upper_bound_doc[] = PyDoc_STR(

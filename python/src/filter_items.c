@@ -16,46 +16,71 @@ static int32_t contains_one(ds_sketch *handle, const Item *item)
                           : ds_filter_contains_u64(handle, item->value);
 }
 
-static int32_t insert_many(ds_sketch *handle, const Items *items)
+static int32_t insert_texts(ds_sketch *handle, const Item *items, size_t count, size_t *done)
 {
-    uint64_t chunk[CHUNK];
-    size_t count = 1;
     int32_t answer = DS_OK;
-    for (size_t i = 0; i < items->count && answer >= 0; i += count) {
-        if (items->with_texts) {
-            answer = insert_one(handle, &items->items[i]);
-            continue;
-        }
-        count = items_chunk(items, i, CHUNK, chunk);
-        answer = items->with_sign ? ds_filter_insert_all_i64(handle, (const int64_t *)chunk, count)
-                                  : ds_filter_insert_all_u64(handle, chunk, count);
+    for (size_t i = 0; i < count && answer >= 0; i++) {
+        answer = insert_one(handle, &items[i]);
+        *done += answer >= 0;
     }
     return answer;
 }
 
-static int32_t contains_many(ds_sketch *handle, const Items *items, bool *answers)
+static int32_t insert_many(Batch *batch, const Items *items, const Weights *Py_UNUSED(weights))
 {
     uint64_t chunk[CHUNK];
-    size_t count = 1;
+    ds_sketch *handle = &batch->self->handle;
     int32_t answer = DS_OK;
-    for (size_t i = 0; i < items->count && answer >= 0; i += count) {
-        if (items->with_texts) {
-            answer = contains_one(handle, &items->items[i]);
-            answers[i] = answer == DS_YES;
-            continue;
-        }
+    for (size_t i = 0, count; i < items->count && answer >= 0; i += count) {
+        if (i > 0 && !batch_goes_on(batch))
+            return STOPPED;
         count = items_chunk(items, i, CHUNK, chunk);
-        answer = items->with_sign
-                     ? ds_filter_contains_all_i64(handle, (const int64_t *)chunk, count, answers + i, count)
-                     : ds_filter_contains_all_u64(handle, chunk, count, answers + i, count);
+        if (items->with_texts)
+            answer = insert_texts(handle, &items->items[i], count, &batch->done);
+        else
+            answer = items->with_sign ? ds_filter_insert_all_i64(handle, (const int64_t *)chunk, count)
+                                      : ds_filter_insert_all_u64(handle, chunk, count);
+        if (answer >= 0 && !items->with_texts)
+            batch->done += count;
+    }
+    return answer;
+}
+
+static int32_t contains_texts(ds_sketch *handle, const Item *items, size_t count, bool *answers)
+{
+    int32_t answer = DS_OK;
+    for (size_t i = 0; i < count && answer >= 0; i++) {
+        answer = contains_one(handle, &items[i]);
+        answers[i] = answer == DS_YES;
+    }
+    return answer;
+}
+
+static int32_t contains_many(Batch *batch, const Items *items, void *room)
+{
+    uint64_t chunk[CHUNK];
+    bool *answers = room;
+    ds_sketch *handle = &batch->self->handle;
+    int32_t answer = DS_OK;
+    for (size_t i = 0, count; i < items->count && answer >= 0; i += count) {
+        if (i > 0 && !batch_goes_on(batch))
+            return STOPPED;
+        count = items_chunk(items, i, CHUNK, chunk);
+        if (items->with_texts)
+            answer = contains_texts(handle, &items->items[i], count, answers + i);
+        else
+            answer = items->with_sign
+                         ? ds_filter_contains_all_i64(handle, (const int64_t *)chunk, count, answers + i, count)
+                         : ds_filter_contains_all_u64(handle, chunk, count, answers + i, count);
     }
     return answer;
 }
 
 const char filter_insert_doc[] = PyDoc_STR(
 "insert($self, items, /)\n--\n\n"
-"Insert a str, an int, or each of many: a list or other iterable of these, or a buffer of 64-bit integers.\n\n"
-"All items are looked at before the first is inserted.\n\n"
+"Insert a str, an int, or each of many: a list or other iterable of these, a buffer of integers, or an array of strings.\n\n"
+"All items of a list or an array are checked before the first is inserted. Of any other iterable each 4,096 are, and a\n"
+"later error has a note: how many items were inserted. A mapping is rejected: write 'insert(mapping.keys())'.\n\n"
 ">>> import datasketches_rattle as ds\n"
 ">>> seen = ds.BloomFilter(bits=1024, hashes=5)\n"
 ">>> seen.insert('apple')\n"
@@ -68,24 +93,12 @@ PyObject *filter_insert(PyObject *object, PyObject *given)
     Sketch *self = (Sketch *)object;
     Item item;
     Items items;
-    int32_t answer;
-    if (is_single(given)) {
-        if (!item_of(given, &item) || !sketch_ready(self))
-            return NULL;
-        answer = insert_one(&self->handle, &item);
-    } else {
-        if (!items_of(given, &items))
-            return NULL;
-        if (!sketch_lock(self)) {
-            items_release(&items);
-            return NULL;
-        }
-        BATCH_BEGIN(self)
-        answer = insert_many(&self->handle, &items);
-        BATCH_END(self)
-        sketch_unlock(self);
-        items_release(&items);
-    }
+    Weights weights;
+    if (!is_single(given))
+        return items_of(given, "insert", &items, &weights) ? update_all(self, &items, &weights, NULL, insert_many) : NULL;
+    if (!item_of(given, &item) || !sketch_ready(self))
+        return NULL;
+    int32_t answer = insert_one(&self->handle, &item);
     if (answer < 0)
         return refuse(answer);
     Py_RETURN_NONE;
@@ -103,14 +116,6 @@ int filter_has(PyObject *object, PyObject *given)
     return answer < 0 ? -1 : answer;
 }
 
-static PyObject *list_for(const bool *answers, size_t count)
-{
-    PyObject *list = PyList_New((Py_ssize_t)count);
-    for (size_t i = 0; list != NULL && i < count; i++)
-        PyList_SET_ITEM(list, (Py_ssize_t)i, Py_NewRef(answers[i] ? Py_True : Py_False));
-    return list;
-}
-
 const char filter_contains_doc[] = PyDoc_STR(
 "contains($self, items, /)\n--\n\n"
 "Whether the filter contains an item: a bool. Of many items: a list of bools, and of a numpy array an array.\n\n"
@@ -123,29 +128,16 @@ const char filter_contains_doc[] = PyDoc_STR(
 ">>> seen.contains(['apple', 'pear', 7])\n"
 "[True, False, False]\n");
 
+static PyObject *bool_at(const Sketch *Py_UNUSED(self), const void *answers, size_t index)
+{
+    return PyBool_FromLong(((const bool *)answers)[index]);
+}
+
 PyObject *filter_contains(PyObject *object, PyObject *given)
 {
-    Sketch *self = (Sketch *)object;
-    Items items;
-    Room room;
-    PyObject *result = NULL;
-    if (is_single(given)) {
-        int answer = filter_has(object, given);
-        return answer < 0 ? NULL : PyBool_FromLong(answer);
-    }
-    if (!items_of(given, &items))
-        return NULL;
-    if (room_for(given, items.count, "?", sizeof(bool), &room) && sketch_lock(self)) {
-        int32_t answer;
-        BATCH_BEGIN(self)
-        answer = contains_many(&self->handle, &items, room.values);
-        BATCH_END(self)
-        sketch_unlock(self);
-        result = answer < 0           ? refuse(answer)
-                 : room.array != NULL ? Py_NewRef(room.array)
-                                      : list_for(room.values, items.count);
-    }
-    room_release(&room);
-    items_release(&items);
-    return result;
+    static const Question contains = {"contains", sizeof(bool), "?", bool_at, contains_many};
+    if (!is_single(given))
+        return ask_all((Sketch *)object, given, &contains);
+    int answer = filter_has(object, given);
+    return answer < 0 ? NULL : PyBool_FromLong(answer);
 }

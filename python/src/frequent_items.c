@@ -21,17 +21,23 @@ static bool counts(const Sketch *self, bool text, uint64_t value, bool negative)
     return false;
 }
 
+/* Whether a buffer's numbers are those of a type with other numbers than the sketch counts. */
+static bool other_sign(const Sketch *self, const Items *items)
+{
+    return items->items == NULL && items->with_sign != self->with_sign;
+}
+
 static bool counts_all(const Sketch *self, const Items *items)
 {
     uint64_t chunk[CHUNK];
     for (size_t i = 0; items->items != NULL && i < items->count; i++)
         if (!counts(self, items->items[i].text != NULL, items->items[i].value, items->items[i].negative))
             return false;
-    if (items->items != NULL || items->count == 0 || (items->with_sign == self->with_sign && !self->with_texts))
+    if (items->items != NULL || items->count == 0 || (!other_sign(self, items) && !self->with_texts))
         return true;
     for (size_t i = 0; i < items->count; i += CHUNK) {
         size_t count = items_chunk(items, i, CHUNK, chunk);
-        for (size_t j = 0; j < count; j++)
+        for (size_t j = 0; (self->with_texts || !below_top(chunk, count)) && j < count; j++)
             if (!counts(self, false, chunk[j], items->with_sign && chunk[j] > INT64_MAX))
                 return false;
     }
@@ -40,9 +46,12 @@ static bool counts_all(const Sketch *self, const Items *items)
 
 const char frequent_update_doc[] = PyDoc_STR(
 "update($self, items, weight=1, /)\n--\n\n"
-"Add a weight, 0 to 2**64 - 1, to an item's, or to those of many: an iterable, or a buffer of 64-bit integers.\n\n"
-"Many items have one weight each, or as many weights as there are items: an iterable or a buffer too. Where the total\n"
-"weight would pass 2**64 - 1, 'WeightOverflow' is raised, and nothing is counted.\n\n"
+"Add a weight, 0 to 2**64 - 1, to an item's, or to those of many: an iterable, a buffer of integers, or an array of strings.\n\n"
+"Many items have one weight each, or as many weights as there are items: an iterable or a buffer too. A mapping adds its\n"
+"values to the weights of its keys. Where the total weight would pass 2**64 - 1, 'WeightOverflow' is raised, and nothing is\n"
+"counted.\n\n"
+"All items of a list, an array or a mapping are checked before the first is counted. Of any other iterable each 4,096\n"
+"are, and a later error has a note: how many items were counted.\n\n"
 ">>> import datasketches_rattle as ds\n"
 ">>> heavy = ds.FrequentItems(64)\n"
 ">>> heavy.update(7, 30)\n"
@@ -53,8 +62,9 @@ const char frequent_update_doc[] = PyDoc_STR(
 ">>> words.update('to be or not to be'.split())\n"
 ">>> words.update('apple', 3)\n"
 ">>> words.update(['apple', 'pear'], [10, 20])\n"
+">>> words.update({'pear': 5})\n"
 ">>> words['be'], words['apple'], words['pear']\n"
-"(2, 13, 20)\n");
+"(2, 13, 25)\n");
 
 static int32_t update_one(Sketch *self, const Item *item, uint64_t weight)
 {
@@ -82,79 +92,63 @@ static uint64_t total_of(Sketch *self)
     return numbers.total_weight;
 }
 
-/* Where memory ends, `done` is how many items were counted, and else as many as there are, or 0. */
-static int32_t update_many(Sketch *self, const Items *items, const Weights *weights, size_t *done)
+static int32_t update_by_one(Batch *batch, const uint64_t *numbers, size_t count)
 {
-    uint64_t numbers[CHUNK], chunk[CHUNK];
-    size_t count = 0;
+    uint64_t was = total_of(batch->self);
+    int32_t answer = update_numbers(batch->self, numbers, count);
+    batch->done += (size_t)(total_of(batch->self) - was);
+    return answer;
+}
+
+static int32_t update_each(Batch *batch, const Item *texts, const uint64_t *numbers, const uint64_t *weights, size_t count)
+{
+    Sketch *self = batch->self;
     int32_t answer = DS_OK;
-    *done = 0;
-    if (!weights_fit(weights, items->count, false, UINT64_MAX - total_of(self)))
-        return DS_WEIGHT_OVERFLOW;
-    for (size_t i = 0; i < items->count && answer >= 0; i += count) {
-        count = items_chunk(items, i, CHUNK, numbers);
-        if (!self->with_texts && !weights->each && weights->same == 1) {
-            uint64_t was = total_of(self);
-            answer = update_numbers(self, numbers, count);
-            *done += (size_t)(total_of(self) - was);
-            continue;
-        }
-        weights_chunk(weights, i, count, chunk);
-        for (size_t j = 0; j < count && answer >= 0; j++) {
-            answer = self->with_texts ? update_one(self, &items->items[i + j], chunk[j])
-                                      : BY_SIGN(self, update, &self->handle, numbers[j], chunk[j]);
-            *done += answer >= 0;
-        }
+    for (size_t i = 0; i < count && answer >= 0; i++) {
+        answer = texts != NULL ? update_one(self, &texts[i], weights[i])
+                               : BY_SIGN(self, update, &self->handle, numbers[i], weights[i]);
+        batch->done += answer >= 0;
     }
     return answer;
 }
 
-static PyObject *refuse_many(int32_t answer, size_t done, size_t count)
+static int32_t update_many(Batch *batch, const Items *items, const Weights *weights)
 {
-    if (answer != DS_NO_MEMORY)
-        return refuse(answer);
-    return PyErr_Format(PyExc_MemoryError, "memory ended when %zu of %zu items were counted", done, count);
+    uint64_t numbers[CHUNK], chunk[CHUNK];
+    Sketch *self = batch->self;
+    bool by_one = !self->with_texts && !weights->each && weights->same == 1;
+    int32_t answer = weights_fit(weights, items->count, UINT64_MAX - total_of(self));
+    for (size_t i = 0, count; i < items->count && answer >= 0; i += count) {
+        if (i > 0 && !batch_goes_on(batch))
+            return STOPPED;
+        count = items_chunk(items, i, CHUNK, numbers);
+        if ((other_sign(self, items) && !below_top(numbers, count)) || (!by_one && !weights_chunk(weights, i, count, chunk)))
+            return CHANGED;
+        answer = by_one
+                     ? update_by_one(batch, numbers, count)
+                     : update_each(batch, self->with_texts ? &items->items[i] : NULL, numbers, chunk, count);
+    }
+    return answer;
 }
 
 PyObject *frequent_update(PyObject *object, PyObject *const *args, Py_ssize_t count)
 {
     Sketch *self = (Sketch *)object;
     PyObject *given = count == 2 ? args[1] : NULL;
-    int32_t answer;
+    Item item;
+    Items items;
+    Weights weights;
+    uint64_t weight = 1;
     if (count < 1 || count > 2)
         return PyErr_Format(PyExc_TypeError, "update takes items and a weight, not %zd arguments", count);
-    if (is_single(args[0])) {
-        Item item;
-        uint64_t weight = 1;
-        if ((given != NULL && !natural_of(given, "weight", &weight)) || !item_of(args[0], &item) ||
-            !counts(self, item.text != NULL, item.value, item.negative) || !sketch_ready(self))
-            return NULL;
-        answer = update_one(self, &item, weight);
-    } else {
-        Items items;
-        Weights weights;
-        size_t done;
-        if (!items_of(args[0], &items))
-            return NULL;
-        if (!counts_all(self, &items) || !weights_of(given, false, &items, &weights)) {
-            items_release(&items);
-            return NULL;
-        }
-        bool there = sketch_lock(self);
-        if (there) {
-            BATCH_BEGIN(self)
-            answer = update_many(self, &items, &weights, &done);
-            BATCH_END(self)
-            sketch_unlock(self);
-        }
-        size_t count_of_items = items.count;
-        items_release(&weights.items);
-        items_release(&items);
-        if (!there)
-            return NULL;
-        if (answer < 0)
-            return refuse_many(answer, done, count_of_items);
+    if (!is_single(args[0])) {
+        bool opened = update_open(args[0], given, false, &items, &weights);
+        return opened ? update_all(self, &items, &weights, counts_all, update_many) : NULL;
     }
+    if ((given != NULL && !natural_of(given, "weight", &weight)) || !item_of(args[0], &item) ||
+        !counts(self, item.text != NULL, item.value, item.negative) || !sketch_ready(self))
+        return NULL;
+    int32_t answer = update_one(self, &item, weight);
     if (answer < 0)
         return refuse(answer);
     Py_RETURN_NONE;

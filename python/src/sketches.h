@@ -130,6 +130,8 @@ PyObject *sketch_unpickle(PyObject *type, PyObject *args, const char *const *nam
 
 /* --- items.c --- */
 
+#define CHUNK 1024
+
 /* An item: a text, or a number by its eight bytes. */
 typedef struct {
     const char *text;
@@ -137,59 +139,146 @@ typedef struct {
     bool negative;
 } Item;
 
-/* Many items: a buffer's numbers, or those of a tuple. */
-typedef struct {
-    size_t count;
-    bool with_texts;
-    bool with_sign;
-    Item *items;
-    PyObject *tuple;
-    Py_buffer view;
-} Items;
-
-#define CHUNK 1024
-
 bool is_single(PyObject *object);
 bool item_of(PyObject *object, Item *item);
-bool items_of(PyObject *object, Items *items);
-void items_release(Items *items);
-
-/* Copies the numbers from `first` on, at most so many, and answers how many. They are the caller's alone. */
-size_t items_chunk(const Items *items, size_t first, size_t most, uint64_t *chunk);
-
-/* Room for the answers to many items: an array of numpy where the items are one, and else only values. */
-typedef struct {
-    void *values;
-    PyObject *array;
-    Py_buffer view;
-} Room;
-
-/* Room for so many answers, of this many bytes each; `kind` is numpy's name of their type. */
-bool room_for(PyObject *given, size_t count, const char *kind, size_t size, Room *room);
-void room_release(Room *room);
 
 /* A number of 64 bits that is 0 or more, or with a sign; `what` is said in its error. */
 bool natural_of(PyObject *object, const char *what, uint64_t *number);
 bool number_of_kind(PyObject *object, const char *what, bool with_sign, uint64_t *number);
 
-/* The weights of items: the same for all, or as many as there are items. */
-typedef struct {
-    uint64_t same;
-    bool each;
-    Items items;
-} Weights;
-
-/* What the second argument of an update says. Each weight has a sign or is 0 or more. */
-bool weights_of(PyObject *object, bool with_sign, const Items *items, Weights *weights);
-
-/* Whether there is so much room for the weights of so many items. Of weights with a sign their distance from 0 counts. */
-bool weights_fit(const Weights *weights, size_t count, bool with_sign, uint64_t room);
-
-/* So many weights from `first` on. */
-void weights_chunk(const Weights *weights, size_t first, size_t count, uint64_t *chunk);
+/* Whether a number of a type that reads its top bit as `negative` says is one of the type that is asked for. Sets an error. */
+bool number_fits(const char *what, bool with_sign, uint64_t value, bool negative);
 
 /* The bytes that a call may read. */
 bool limit_of(PyObject *object, size_t *limit);
+
+/* --- given.c --- */
+
+/* The attribute of this name, or NULL with an error. */
+PyObject *attribute(PyObject *object, const char *name);
+
+/* Whether the object is a mapping, of items to weights: it has keys and items, and is neither a table nor a Series of pandas. */
+bool is_mapping(PyObject *object);
+
+/* The keys and the values of a mapping, as two lists in the same order. */
+bool mapping_split(PyObject *mapping, PyObject **keys, PyObject **values);
+
+/* What the items of an object are read from: a list, a tuple, a set, a buffer, or another iterable; of a Series of pandas its array.
+ * Sets an error for a table and for a mapping, in which `call` is the call's name. The reference is new. */
+PyObject *source_of(PyObject *object, const char *call);
+
+bool is_numpy_array(PyObject *object);
+
+/* Whether the object is an array, of the module `array` or of numpy: its unsigned numbers of 8 bits are no bytes. */
+bool is_array_of_bytes(PyObject *object);
+
+/* A list of the entries of an array of numpy. Sets an error if they are no strings and no objects; `what` names them. An empty
+ * array is taken. */
+PyObject *array_entries(PyObject *array, const char *what);
+
+/* Whether the source is an array of numpy that may have masked entries. */
+bool is_masked(PyObject *source);
+
+/* Replaces arrays by those of the entries that neither of them masks. `weights` may point to NULL. */
+bool masks_drop(PyObject **items, PyObject **weights);
+
+/* --- many.c --- */
+
+/* Many items: the numbers of a buffer, or the strings and numbers of a list, which are read as a whole, or those of an iterator,
+ * which are read in chunks. All that are here were checked. Weights are read in the same way. */
+typedef struct {
+    size_t count;
+    bool of_weights;
+    bool weights_with_sign;
+    bool with_texts;
+    Item *items; /* of a buffer NULL */
+    PyObject *tuple;
+    Py_buffer view;
+    bool with_sign, swapped; /* of a buffer's numbers */
+    PyObject *iterator; /* NULL where all is read */
+    PyObject **held; /* the objects of the iterator's chunk */
+    size_t num_held, room;
+} Items;
+
+#define STREAM_CHUNK 4096
+
+/* Opens what `source_of` returns. Items of an iterator are not read yet. */
+bool items_open(PyObject *source, Items *items);
+
+/* Reads the next items of an iterator, at most `most`. At its end `iterator` is NULL. */
+bool items_next(Items *items, size_t most);
+void items_release(Items *items);
+
+/* Copies the numbers from `first` on, at most `most`, and returns how many. They are the caller's alone. */
+size_t items_chunk(const Items *items, size_t first, size_t most, uint64_t *chunk);
+
+/* Whether all numbers are below 2^63, so that they are the same with a sign and without. */
+bool below_top(const uint64_t *chunk, size_t count);
+
+/* --- weights.c --- */
+
+/* The weights of items: the same for all, or one for each. */
+typedef struct {
+    uint64_t same;
+    bool each;
+    bool with_sign; /* whether a weight may be below 0 */
+    Items items;
+} Weights;
+
+/* Opens what an update is given: a mapping, or items with weights, which may be NULL. */
+bool update_open(PyObject *given, PyObject *given_weights, bool with_sign, Items *items, Weights *weights);
+
+/* Opens what a call that takes no weights is given. */
+bool items_of(PyObject *given, const char *call, Items *items, Weights *weights);
+
+/* Reads the next items and weights where they come from iterators. */
+bool update_next(Items *items, Weights *weights);
+
+/* Copies so many weights from `first` on. Returns false if a buffer has other weights than those that were checked, and one of
+ * them is no weight of the sketch. */
+bool weights_chunk(const Weights *weights, size_t first, size_t count, uint64_t *chunk);
+
+/* DS_WEIGHT_OVERFLOW if all weights together are above `room`, and CHANGED if `weights_chunk` returns false for some of them. Of
+ * weights with a sign their distance from 0 counts. */
+int32_t weights_fit(const Weights *weights, size_t count, uint64_t room);
+
+/* --- batches.c --- */
+
+/* The call for many items that runs. */
+typedef struct {
+    Sketch *self;
+    PyThreadState *thread; /* while the interpreter's lock is let go */
+    bool locked; /* whether it has the sketch's lock */
+    uint64_t due; /* when it listens next, in nanoseconds, or 0 */
+    uint64_t began, took; /* of an iterator's chunk, in nanoseconds */
+    size_t done; /* how many items were counted or inserted */
+} Batch;
+
+/* What work returns beside the library's answers: an error is set, or a buffer has other numbers than those that were checked. */
+#define STOPPED INT32_MIN
+#define CHANGED (INT32_MIN + 1)
+
+/* Between two chunks: listens to Ctrl-C now and then. Returns false with an error set where the batch ends. */
+bool batch_goes_on(Batch *batch);
+
+typedef bool (*items_check)(const Sketch *self, const Items *items);
+typedef int32_t (*update_work)(Batch *batch, const Items *items, const Weights *weights);
+typedef int32_t (*question_work)(Batch *batch, const Items *items, void *answers);
+
+/* Updates the sketch by all items, and releases these. `check` may be NULL. */
+PyObject *update_all(Sketch *self, Items *items, Weights *weights, items_check check, update_work work);
+
+/* A question about many items: its name, the bytes of an answer, numpy's name of its type, and the object of one of them. */
+typedef struct {
+    const char *call;
+    size_t size;
+    const char *kind;
+    PyObject *(*object)(const Sketch *self, const void *answers, size_t index);
+    question_work work;
+} Question;
+
+/* The answers: an array where the items come from an array of numpy, and else a list. */
+PyObject *ask_all(Sketch *self, PyObject *given, const Question *question);
 
 /* --- filter_items.c --- */
 

@@ -212,7 +212,7 @@ class Signed(unittest.TestCase):
         stock.update(items[:2], numpy.int64(-100))
         self.assertEqual([stock[int(n)] for n in items[:3]], [-114, -112, -8])
         self.assertEqual(stock.estimate(items[:0]).dtype, numpy.int64)
-        for wrong in (numpy.ones(10), numpy.ones(10, dtype="i4"), numpy.ones((10, 1), dtype="i8")):
+        for wrong in (numpy.ones(10), numpy.ones(9, dtype="i4"), numpy.ones((10, 1), dtype="i8")):
             with self.assertRaises((TypeError, ValueError)):
                 stock.update(items, wrong)
 

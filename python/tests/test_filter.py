@@ -55,7 +55,7 @@ class Items(unittest.TestCase):
 
     def test_iterables(self):
         whole = made(range(100))
-        for given in (list(range(100)), tuple(range(100)), set(range(100)), iter(range(100)), dict.fromkeys(range(100))):
+        for given in (list(range(100)), tuple(range(100)), set(range(100)), iter(range(100)), dict.fromkeys(range(100)).keys()):
             seen = made()
             seen.insert(given)
             self.assertEqual(seen, whole)
@@ -132,7 +132,7 @@ class Refusals(unittest.TestCase):
     def test_items(self):
         seen = made()
         for bad in (1.5, None, True, b"ab", bytearray(8), object(), [1, 2.0], [True], [["a"]], [None],
-                    array.array("d", [1.0]), array.array("i", [1]), memoryview(bytes(8))):
+                    array.array("d", [1.0]), memoryview(bytes(8))):
             for call in (seen.insert, seen.contains):
                 with self.assertRaises(TypeError, msg=repr(bad)):
                     call(bad)
