@@ -28,7 +28,7 @@ static PyObject *copy_of(Sketch *self)
 }
 
 /* An attribute, or NULL, with no error set if there is none of this name. */
-static PyObject *attribute(PyObject *object, const char *name)
+static PyObject *attribute_if_any(PyObject *object, const char *name)
 {
     PyObject *value = PyObject_GetAttrString(object, name);
     if (value == NULL && PyErr_ExceptionMatches(PyExc_AttributeError))
@@ -41,12 +41,12 @@ static PyObject *state_of(PyObject *self)
 {
     if (!PyType_HasFeature(Py_TYPE(self), Py_TPFLAGS_HEAPTYPE))
         return Py_NewRef(Py_None);
-    PyObject *get = attribute(self, "__getstate__");
+    PyObject *get = attribute_if_any(self, "__getstate__");
     PyObject *state = NULL;
     if (get != NULL)
         state = PyObject_CallNoArgs(get);
     else if (!PyErr_Occurred())
-        state = attribute(self, "__dict__");
+        state = attribute_if_any(self, "__dict__");
     Py_XDECREF(get);
     return state != NULL || PyErr_Occurred() ? state : Py_NewRef(Py_None);
 }
@@ -66,7 +66,7 @@ static bool set_attributes(PyObject *object, PyObject *values)
 /* Puts a state into an object as `copy` and `pickle` do: by `__setstate__`, or into `__dict__` and then into slots. */
 static bool put_state(PyObject *object, PyObject *state)
 {
-    PyObject *set = attribute(object, "__setstate__");
+    PyObject *set = attribute_if_any(object, "__setstate__");
     if (set != NULL || PyErr_Occurred()) {
         PyObject *result = set != NULL ? PyObject_CallOneArg(set, state) : NULL;
         Py_XDECREF(set);

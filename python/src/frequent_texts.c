@@ -79,9 +79,11 @@ static PyObject *row_of(const TextRow *row)
 
 static PyObject *list_of(RowRoom *room, size_t count)
 {
-    Py_BEGIN_ALLOW_THREADS
-    sort_rows(room, count);
-    Py_END_ALLOW_THREADS
+    if (count > 0) {
+        Py_BEGIN_ALLOW_THREADS
+        sort_rows(room, count);
+        Py_END_ALLOW_THREADS
+    }
     PyObject *list = PyList_New(0);
     for (size_t i = 0; list != NULL && i < count; i++)
         if (!append_row(list, row_of(&room->rows[i])))

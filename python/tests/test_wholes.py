@@ -2,7 +2,9 @@
 import array
 import copy
 import gc
+import itertools
 import mmap
+import operator
 import os
 import random
 import subprocess
@@ -67,6 +69,29 @@ def lets_others_run(call):
     return bool(seen)
 
 
+def answers_within(heavy, item, switch):
+    """How many questions of another thread are answered within a call of `rows`. One of them may have been asked before. Between the
+    three calls of `map` no Python code runs, so no thread takes the interpreter's lock if they do not let it go."""
+    answered, done = itertools.count(), threading.Event()
+
+    def ask():
+        while not done.is_set():
+            next(answered)
+            heavy[item]
+
+    interval = sys.getswitchinterval()
+    sys.setswitchinterval(switch)
+    asker = threading.Thread(target=ask)
+    asker.start()
+    try:
+        first, _, last = list(map(operator.methodcaller("__call__"), (answered.__next__, heavy.rows, answered.__next__)))
+    finally:
+        done.set()
+        asker.join()
+        sys.setswitchinterval(interval)
+    return last - first - 1
+
+
 class OthersRun(unittest.TestCase):
     def each(self, **calls):
         for name, call in calls.items():
@@ -115,6 +140,26 @@ class OthersRun(unittest.TestCase):
                 no_rows=lambda heavy=heavy: heavy.rows(GREATEST), rows=lambda heavy=heavy: heavy.rows())
         self.each(size=lambda: sys.getsizeof(heavy))
 
+    def test_copies_of_images(self):
+        """Of what is no image at all, a copy is made before the library reads it."""
+        nothing = bytearray(1 << 24)
+
+        def read():
+            with self.assertRaises(ds.SketchError):
+                ds.BloomFilter.from_bytes(nothing)
+
+        self.each(copy_of_an_image=read)
+
+    def test_lists_of_rows(self):
+        """A question of another thread waits while the library has the sketch. While the list of its rows is made, it is answered."""
+        for heavy, item in ((frequent(), 7), (frequent(WORDS, item=str), "word 7")):
+            self.assertTrue(any(answers_within(heavy, item, 0.001) > 1 for _ in range(TRIES)))
+
+    def test_rows_of_strings_are_sorted(self):
+        """Strings that are alike for long are sorted slowly, and meanwhile many questions are answered."""
+        heavy = frequent(["a" * 50_000 + word for word in WORDS[:1000]], item=str)
+        self.assertTrue(any(answers_within(heavy, "b", 1e-5) > 40_000 for _ in range(5)))
+
     def test_ends(self):
         filters = [filled() for _ in range(8)]
         self.assertTrue(lets_others_run(lambda: filters and filters.pop().close()))
@@ -160,6 +205,27 @@ class NoneWaitsForever(unittest.TestCase):
                           lambda one=one: [(copy.copy(one), bytes(one), repr(one), sys.getsizeof(one)) for _ in range(10)]]
             calls.append(lambda a=a: [getattr(a, join)(a) for _ in range(3)])
             self.assertEqual(at_once(*calls), [])
+
+    def test_single_items_wait_for_calls_of_two(self):
+        for a, b, call in ((filled(), filled(), lambda a, b: (a | b, a.__ior__(b), a == b)),
+                           (counted(), counted(), lambda a, b: (a + b, a.__iadd__(b), a == b)),
+                           (frequent(), frequent(), lambda a, b: (a + b, a.__iadd__(b)))):
+            done, asked = threading.Event(), []
+
+            def ask(a=a, b=b, done=done, asked=asked):
+                while not done.is_set():
+                    for one in (a, b):
+                        asked.append(7 in one if isinstance(one, ds.BloomFilter) else one[7] > 0)
+
+            def join(a=a, b=b, call=call, done=done):
+                try:
+                    for _ in range(3):
+                        call(a, b)
+                finally:
+                    done.set()
+
+            self.assertEqual(at_once(ask, join), [])
+            self.assertTrue(all(asked))
 
     def test_closed_while_others_read(self):
         for _ in range(10):
