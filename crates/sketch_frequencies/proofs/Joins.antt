@@ -143,14 +143,14 @@ steps_budget {T} {eq} laws old new (p ∷ ps) ok pos run n half set short b held
     let rest = steps_budget laws run.0 new ps mid_ok (All-tail P p ps pos) run.2 n (omega (arith, half, run.1.sample_size)) set short (b + cond (list_any (eq p.0) set) 0 p.1) first in
     omega (arith, rest, sum_by-cons share p ps)
 
-less_of_more : (d d' e : ℕ) → d ≤ d' → d * e ≤ d' * e
+pub less_of_more : (d d' e : ℕ) → d ≤ d' → d * e ≤ d' * e
 less_of_more d d' e h = omega (arith, mul-le-mul_left e h)
 
 -- few items in both are few in each
 abbrev few_in_own : {T : Type 0} {eq : T → T → Bool} (h g : FrequentHistory T) → HasFewItems eq (Merge h g) → HasFewItems eq h
 few_in_own h g few = record { items = few.items; fit = omega (arith, few.fit); cover = λ y p. few.cover y (omega (arith, p)) }
 
-abbrev few_in_other : {T : Type 0} {eq : T → T → Bool} (h g : FrequentHistory T) → HasFewItems eq (Merge h g) → HasFewItems eq g
+abbrev pub few_in_other : {T : Type 0} {eq : T → T → Bool} (h g : FrequentHistory T) → HasFewItems eq (Merge h g) → HasFewItems eq g
 few_in_other h g few = record { items = few.items; fit = omega (arith, few.fit); cover = λ y p. few.cover y (omega (arith, p)) }
 
 module _ {T : Type 0} {eq : T → T → Bool} (laws : IsEquivalence eq) (old other new : FrequentState T) (ok : IsState eq old) (other_ok : IsState eq other) (join : Joins eq old other new) (h g : FrequentHistory T) (s : StandsFor eq old h) (t : StandsFor eq other g) where

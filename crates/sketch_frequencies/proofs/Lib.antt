@@ -22,6 +22,7 @@ pub mod Purges
 pub mod Puts
 pub mod Refusals
 pub mod Reports
+pub mod Resampling
 pub mod RoundTrips
 pub mod SameMaps
 pub mod SameMapsByCounts

@@ -1,11 +1,11 @@
 //! The sketch of frequent items.
-ghost use Rattle.std.specs.Prelude.{◌≡◌, ◌+◌, ◌<◌, ◌≤◌, ◌^◌, ◌↔◌, None, length, IfOk, IfErr, IsOk, IsTrue};
+ghost use Rattle.std.specs.Prelude.{◌≡◌, ◌+◌, ◌<◌, ◌≤◌, ◌^◌, ◌↔◌, None, length, IfOk, IfErr, IsOk, OnErr, OnOk, IsTrue};
 ghost use Rattle.sketch_base.specs.Errors.{invalid_argument, no_memory, refusal_of};
 ghost use Rattle.counter_table.specs.Bytes.{table_bytes};
 ghost use Rattle.sketch_frequencies.specs.History.{FrequentHistory, total_weight};
-ghost use Rattle.sketch_frequencies.specs.History.FrequentHistory.{New, Reset};
-ghost use Rattle.sketch_frequencies.specs.Sizes.{size_fault, sizes_fault};
-ghost use Rattle.sketch_frequencies.specs.Stands.{StandsFor, KeepsTailBudget, Extends};
+ghost use Rattle.sketch_frequencies.specs.History.FrequentHistory.{New, Merge, Reset};
+ghost use Rattle.sketch_frequencies.specs.Sizes.{sample_fault, size_fault, sizes_fault};
+ghost use Rattle.sketch_frequencies.specs.Stands.{StandsFor, KeepsTailBudget, Extends, ExtendsBudget};
 ghost use Rattle.sketch_frequencies.specs.State.{IsState, capacity, greatest_sample_size, empty_state};
 ghost use Rattle.sketch_frequencies.specs.Steps.{IsSameState};
 
@@ -14,7 +14,7 @@ mod merging;
 mod reports;
 mod updates;
 
-use crate::sizes::{LEAST_MAP_SIZE, LEAST_SAMPLE_SIZE, check_map_size, greatest_sample_of};
+use crate::sizes::{LEAST_MAP_SIZE, check_map_size, check_sample_size, greatest_sample_of};
 use counter_table::{ReversePurgeItemHashMap, capacity_of, lg_of};
 use sketch_base::{Error, Fault};
 use std::alloc::Global;
@@ -111,12 +111,7 @@ impl<T: Eq + Hash + Drop> FrequentItemsSketch<T> {
         ensures refused { IfErr result (λ e. e ≡ refusal_of (sizes_fault max_map_size sample_size)) }
     {
         check_map_size(max_map_size)?;
-        if sample_size < LEAST_SAMPLE_SIZE
-            || sample_size % 2 != 0
-            || sample_size > greatest_sample_of(max_map_size)
-        {
-            return Err(Error::invalid_argument(Fault::BadSampleSize));
-        }
+        check_sample_size(max_map_size, sample_size)?;
         let map = ReversePurgeItemHashMap::new(alloc, LEAST_MAP_SIZE)?;
         Ok(FrequentItemsSketch {
             map,
@@ -194,6 +189,31 @@ impl<T: Eq + Hash + Drop> FrequentItemsSketch<T> {
         ensures { result ≡ self.now.sample_size }
     {
         self.sample_size
+    }
+
+    /// Sets how many counters later purges sample: an even number from 2 to three quarters of the greatest table size, at
+    /// most 1024. Nothing else changes.
+    ///
+    /// The sketch then stands for what it would if it were merged into a new sketch of this sample size. So a sketch that was
+    /// read from an image, which has no sample size, gets back the one that it had.
+    ///
+    /// # Errors
+    ///
+    /// `BadSampleSize` if it is no such number. The sketch is then unchanged.
+    pub fn set_sample_size(&mut self, sample_size: usize) -> Result<(), Error>
+        ensures ok { OnOk result (self.new ≡ record self.old { sample_size = sample_size }) }
+        ensures state { IsState T.eq self.new }
+        ensures stands { OnOk result (Extends T.eq self.old self.new
+            (λ h. Merge (New self.old.max_size sample_size) h)) }
+        ensures budget { OnOk result (ExtendsBudget T.eq self.old self.new
+            (λ h. Merge (New self.old.max_size sample_size) h)) }
+        ensures accepted { IsOk result ↔ (sample_fault self.old.max_size sample_size ≡ None) }
+        ensures refused { IfErr result (λ e. e ≡ invalid_argument Fault.BadSampleSize) }
+        ensures err { OnErr result (self.new ≡ self.old) }
+    {
+        check_sample_size(self.max_size, sample_size)?;
+        self.sample_size = sample_size;
+        Ok(())
     }
 
     /// The greatest table size as a power of two.

@@ -1,8 +1,8 @@
 //! Which sizes a sketch may have.
-ghost use Rattle.std.specs.Prelude.{◌≡◌, ◌↔◌, ℕ, ◌<◌, ◌≤◌, None, IfOk, IfErr, IsOk};
+ghost use Rattle.std.specs.Prelude.{◌≡◌, ◌↔◌, ℕ, ◌<◌, ◌≤◌, None, IfOk, IfErr, IsOk, OnOk};
 ghost use Rattle.sketch_base.specs.Errors.{invalid_argument, refusal_of};
-ghost use Rattle.sketch_frequencies.specs.Sizes.{size_fault};
-ghost use Rattle.sketch_frequencies.specs.State.{greatest_sample_size};
+ghost use Rattle.sketch_frequencies.specs.Sizes.{size_fault, sample_fault};
+ghost use Rattle.sketch_frequencies.specs.State.{IsSampleSize, greatest_sample_size};
 ghost use Rattle.sketch_frequencies.specs.SuggestedSizes.{usual_budget};
 
 use counter_table::{MAX_SAMPLE_SIZE, capacity_of};
@@ -15,7 +15,7 @@ pub(crate) const LEAST_MAP_SIZE: usize = 8;
 const GREATEST_MAP_SIZE: usize = 1 << 30;
 
 /// The fewest counters that a purge may sample.
-pub(crate) const LEAST_SAMPLE_SIZE: usize = 2;
+const LEAST_SAMPLE_SIZE: usize = 2;
 
 /// The most counters that a purge may sample in a sketch of this greatest size.
 pub(crate) fn greatest_sample_of(max_size: usize) -> usize
@@ -41,6 +41,22 @@ pub fn check_map_size(max_map_size: usize) -> Result<(), Error>
     }
     if max_map_size > GREATEST_MAP_SIZE {
         return Err(Error::invalid_argument(Fault::MapSizeTooLarge));
+    }
+    Ok(())
+}
+
+/// Checks that the purges of a sketch of this greatest size may sample `sample_size` counters: an even number from 2 to
+/// three quarters of the greatest size, at most 1024.
+pub(crate) fn check_sample_size(max_map_size: usize, sample_size: usize) -> Result<(), Error>
+    ensures accepted { IsOk result ↔ (sample_fault max_map_size sample_size ≡ None) }
+    ensures sample { OnOk result (IsSampleSize max_map_size sample_size) }
+    ensures refused { IfErr result (λ e. e ≡ invalid_argument Fault.BadSampleSize) }
+{
+    if sample_size < LEAST_SAMPLE_SIZE
+        || sample_size % 2 != 0
+        || sample_size > greatest_sample_of(max_map_size)
+    {
+        return Err(Error::invalid_argument(Fault::BadSampleSize));
     }
     Ok(())
 }

@@ -23,11 +23,7 @@ invariant_of-result g c =
       size_power = eight_is_power;
       max_size_power = size.0;
       empty = λ _. refl;
-      sample = record {
-        least = omega arith;
-        even = omega arith;
-        greatest = omega arith;
-      };
+      sample = c.in_ok-check_sample_size.ensures.sample;
     })
 
 pub returns-clause-state : goal.returns-clause-state
