@@ -18,7 +18,7 @@
  *     DS_INVALID_UTF8, DS_BAD_FRACTION.
  *  3. Errors of handles: DS_NO_SKETCH if the handle has no sketch, DS_WRONG_KIND if its sketch is of a kind without this call;
  *     of two handles, the first one's before the other one's. All calls return these but `ds_free`, those whose names end in
- *     `_new` or `_from_bytes`, and the calls for sizes at the end. `ds_clone` takes any kind.
+ *     `_new` or `_from_bytes`, and the calls for sizes at the end. `ds_clone` and `ds_memory_bytes` take any kind.
  *  4. The errors in the call's comment, in their order there. DS_NO_MEMORY comes when an allocation fails, which may be earlier.
  *     DS_NO_ROOM of `to_bytes` and `rows` comes last.
  *
@@ -151,6 +151,11 @@ void ds_free(ds_sketch *handle);
 /* Puts a copy of the other handle's sketch, of any kind, into this handle. The other handle keeps its own. Returns DS_NO_SKETCH
  * if the other handle has none, and DS_NO_MEMORY if memory runs out. */
 int32_t ds_clone(ds_sketch *handle, ds_sketch *other);
+
+/* Writes how many bytes the handle's sketch takes, of any kind, by a formula: 8 for each 64 bits of a filter, and 8 for each cell and
+ * each row of a Count-Min sketch. For frequent items it is 28 for each slot of a table of numbers, 44 for each slot of a table of
+ * strings, and the bytes of the strings. Returns DS_NO_SKETCH if the handle has none. */
+int32_t ds_memory_bytes(ds_sketch *handle, size_t *bytes);
 
 /* --- Bloom filters: sets of items. An item that was inserted is contained, unless a later intersection, difference or reset
  * removed some of its positions. An item that was not inserted may be contained too: a false positive. --- */
@@ -428,8 +433,9 @@ int32_t ds_frequent_i64_to_bytes(ds_sketch *handle, uint8_t *out, size_t capacit
 int32_t ds_frequent_text_to_bytes(ds_sketch *handle, uint8_t *out, size_t capacity, size_t *written);
 
 /* Reads a sketch from its image and puts it into the handle. It takes the largest sample size, since an image has none. Returns the
- * error of the image's first failed check. Returns DS_TABLE_TOO_LARGE if the table takes more than `most_bytes`, and DS_NO_MEMORY.
- * Before both come the checks of the image's length and fields. The checks of the weights and the items come after them. */
+ * error of the image's first failed check. Returns DS_TABLE_TOO_LARGE if the table, by the formula of `ds_memory_bytes`, takes more than
+ * `most_bytes`, with strings together with all bytes of `image` after the weights. Returns DS_NO_MEMORY. Before both come the checks
+ * of the image's length and fields. The checks of the weights and the items come after them. */
 int32_t ds_frequent_u64_from_bytes(ds_sketch *handle, const uint8_t *image, size_t length, size_t most_bytes);
 int32_t ds_frequent_i64_from_bytes(ds_sketch *handle, const uint8_t *image, size_t length, size_t most_bytes);
 int32_t ds_frequent_text_from_bytes(ds_sketch *handle, const uint8_t *image, size_t length, size_t most_bytes);

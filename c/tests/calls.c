@@ -603,6 +603,37 @@ static void first_errors(void)
     ds_free(&filter);
 }
 
+/* How many bytes sketches take: a slot of numbers 28, one of strings 44 and the bytes of its string. */
+static void bytes_taken(void)
+{
+    ds_sketch a = DS_NONE;
+    const uint8_t *apple = (const uint8_t *)"apple";
+    uint8_t image[64];
+    size_t bytes = 77, length;
+
+    CHECK(ds_memory_bytes(&a, &bytes) == DS_NO_SKETCH && bytes == 77);
+    CHECK(ds_filter_new(&a, 959, 7, 9001) == DS_OK && ds_memory_bytes(&a, &bytes) == DS_OK && bytes == 120);
+    CHECK(ds_count_u64_new(&a, 4, 128, 9001) == DS_OK && ds_memory_bytes(&a, &bytes) == DS_OK && bytes == 4 * 128 * 8 + 4 * 8);
+    CHECK(ds_count_i64_new(&a, 3, 7, 9001) == DS_OK && ds_memory_bytes(&a, &bytes) == DS_OK && bytes == 3 * 7 * 8 + 3 * 8);
+    CHECK(ds_frequent_i64_new(&a, 64, 48) == DS_OK && ds_memory_bytes(&a, &bytes) == DS_OK && bytes == 8 * 28);
+    CHECK(ds_frequent_u64_new(&a, 64, 48) == DS_OK && ds_memory_bytes(&a, &bytes) == DS_OK && bytes == 8 * 28);
+    for (uint64_t item = 0; item < 7; item++) CHECK(ds_frequent_u64_update(&a, item, 1) == DS_OK);
+    CHECK(ds_memory_bytes(&a, &bytes) == DS_OK && bytes == 16 * 28);
+    CHECK(ds_frequent_text_new(&a, 64, 48) == DS_OK && ds_memory_bytes(&a, &bytes) == DS_OK && bytes == 8 * 44);
+    CHECK(ds_frequent_text_update(&a, apple, 5, 2) == DS_OK && ds_frequent_text_update(&a, apple, 5, 1) == DS_OK);
+    CHECK(ds_frequent_text_update(&a, NULL, 0, 1) == DS_OK && ds_memory_bytes(&a, &bytes) == DS_OK && bytes == 8 * 44 + 5);
+    /* in the image the two strings take 4 and 9 bytes, and bytes after the image count too */
+    CHECK(ds_frequent_text_to_bytes(&a, image, sizeof image, &length) == DS_OK && length == 32 + 2 * 8 + 13);
+    CHECK(ds_frequent_text_from_bytes(&a, image, length, 8 * 44 + 12) == DS_TABLE_TOO_LARGE);
+    CHECK(ds_frequent_text_from_bytes(&a, image, length, 8 * 44 + 13) == DS_OK);
+    CHECK(ds_frequent_text_from_bytes(&a, image, length + 1, 8 * 44 + 13) == DS_TABLE_TOO_LARGE);
+    CHECK(ds_memory_bytes(&a, &bytes) == DS_OK && bytes == 8 * 44 + 5);
+    CHECK(ds_frequent_text_reset(&a) == DS_OK && ds_memory_bytes(&a, &bytes) == DS_OK && bytes == 8 * 44);
+    CHECK(ds_frequent_u64_from_bytes(&a, OF_SEVEN, 48, 8 * 28 - 1) == DS_TABLE_TOO_LARGE);
+    CHECK(ds_frequent_u64_from_bytes(&a, OF_SEVEN, 48, 8 * 28) == DS_OK);
+    ds_free(&a);
+}
+
 /* Sketches that are equal, and sketches that differ in one thing. */
 static void equal_sketches(void)
 {
@@ -693,6 +724,7 @@ int main(void)
     weights();
     rows_of_texts();
     first_errors();
+    bytes_taken();
     equal_sketches();
     threads();
     names();

@@ -118,15 +118,20 @@ static void filters(void)
     FREE(DS_MISMATCH, ds_filter_union(&filter, &unlike));
     FREE(DS_MISMATCH, ds_filter_intersect(&filter, &unlike));
     FREE(DS_MISMATCH, ds_filter_difference(&filter, &unlike));
+    FREE(DS_NO, ds_filter_equal(&filter, &same));
+    FREE(DS_OK, ds_memory_bytes(&filter, &written));
     FREE(DS_OK, ds_filter_status(&filter, &numbers));
     ROW(1, 1, DS_OK, ds_filter_to_bytes(&same, image, sizeof image, &written));
     FREE(DS_OK, ds_filter_reset(&filter));
+    FREE(DS_YES, ds_filter_equal(&filter, &same));
     FREE(DS_NO, ds_filter_contains_u64(&filter, 5));
     FREE(DS_TABLE_TOO_LARGE, ds_filter_from_bytes(&filter, FILTER, sizeof FILTER, 31));
     FREE(DS_BAD_FAMILY, ds_filter_from_bytes(&filter, COUNTS, sizeof COUNTS, 1 << 20));
     FREE(DS_INSUFFICIENT_DATA, ds_filter_from_bytes(&filter, FILTER, 0, 1 << 20));
     FREE(DS_NO_SKETCH, ds_filter_insert_u64(&none, 3));
     FREE(DS_NO_SKETCH, ds_filter_union(&filter, &none));
+    FREE(DS_NO_SKETCH, ds_filter_to_bytes(&none, image, sizeof image, &written));
+    FREE(DS_WRONG_KIND, ds_filter_to_bytes(&count, image, sizeof image, &written));
     FREE(DS_WRONG_KIND, ds_filter_insert_u64(&count, 3));
     FREE(DS_WRONG_KIND, ds_filter_union(&filter, &count));
     ds_free(&filter);
@@ -166,6 +171,8 @@ static void counts(void)
     FREE(DS_OK, ds_count_u64_upper_bound_i64(&count, -1, &estimate));
     FREE(DS_OK, ds_count_u64_upper_bound_text(&count, TEXTS, 2, &estimate));
     FREE(DS_OK, ds_count_u64_merge(&same, &count));
+    FREE(DS_YES, ds_count_u64_equal(&same, &count));
+    FREE(DS_NO, ds_count_u64_equal(&count, &unlike));
     FREE(DS_MISMATCH, ds_count_u64_merge(&count, &unlike));
     FREE(DS_OK, ds_count_u64_halve(&same));
     FREE(DS_OK, ds_count_u64_decay(&same, 9, 10));
@@ -323,6 +330,7 @@ static void frequent_texts(void)
     DO(ds_frequent_text_new(&empty, 64, 48));
     DO(ds_frequent_text_update(&sketch, TEXTS, 5, 1));
     FREE(DS_OK, ds_frequent_text_status(&sketch, &numbers));
+    FREE(DS_OK, ds_memory_bytes(&sketch, &written));
     FREE(DS_OK, ds_frequent_text_merge(&sketch, &empty));
     ROW(1, 1, DS_OK, ds_frequent_text_to_bytes(&sketch, image, sizeof image, &written));
     FREE(DS_TABLE_TOO_LARGE, ds_frequent_text_from_bytes(&sketch, FREQUENT, sizeof FREQUENT, 223));

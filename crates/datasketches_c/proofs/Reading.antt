@@ -1,6 +1,6 @@
 -- Images that are read, and refusals to write one.
 use Rattle.std.proofs.Common.{◌≡◌, ℕ, ◌*◌, ◌^◌, ◌<◌, ◌≤◌, Bool, true, false, List, length, take, drop, Option, Some, None, ℤ, pos, negsuc, cond, ap, sym, subst, inl, inr, refl}
-use Rattle.std.specs.Prelude.{nat_lt, Result, Ok, Err, MatchResult, IfOk, IfErr}
+use Rattle.std.specs.Prelude.{nat_lt, Result, Ok, Err, MatchResult, IfOk, IfErr, IsOk}
 use Rattle.std.specs.Global.{Global}
 use Rattle.std.specs.Str.{is_utf8}
 use Rattle.std.specs.String.{string_bytes}
@@ -11,7 +11,6 @@ use Rattle.sketch_base.specs.Checks.{or_else, IsImageRefusal}
 use Rattle.sketch_base.specs.Errors.{ErrorValue}
 use Rattle.sketch_base.specs.declared.fault.Fault.{Fault}
 use Rattle.sketch_base.specs.declared.fault.Fault.TheVariants.{ItemTooLong, NoMemory, TableTooLarge}
-use Rattle.counter_table.specs.Bytes.{table_bytes}
 use Rattle.sketch_bloom.specs.Image.{IsImage, early_fault, early_fault_within, limit_fault, num_words_at}
 use Rattle.sketch_bloom.specs.State.{FilterState}
 use Rattle.sketch_frequencies.specs.Image as frequent
@@ -34,15 +33,6 @@ no_early_fault most_bytes image s is within =
     let in_image : 8 * num_words_at image ≤ most_bytes = subst (λ (n : ℕ). 8 * n ≤ most_bytes) (ap (λ (t : FilterState). t.num_words) is.value) within in
     none_before (early_fault image) (limit_fault most_bytes image) _ is.no_fault
     (ap (λ (t : Bool). cond t (Some TableTooLarge) None) (le-ltb most_bytes (8 * num_words_at image) in_image))
-
--- the same of an image of frequent items
-no_early_fault_of_items : {T C : Type 0} (item : RattleType) (codec : Codec C) (content : T → C) (most_bytes : ℕ) (image : List ℕ) (s : FrequentState T)
-    → frequent.IsImageOf codec content image s → table_bytes item s.size ≤ most_bytes
-    → frequent.early_fault_within item most_bytes image ≡ None
-no_early_fault_of_items item codec content most_bytes image s is within =
-    let in_image : table_bytes item (frequent.restored_size image) ≤ most_bytes = subst (λ (n : ℕ). table_bytes item n ≤ most_bytes) is.size within in
-    none_before (frequent.early_fault image) (frequent.limit_fault item most_bytes image) _ is.no_fault
-    (ap (λ (t : Bool). cond t (Some TableTooLarge) None) (le-ltb most_bytes (table_bytes item (frequent.restored_size image)) in_image))
 
 -- an image that was made and copied out was written
 pub copied_image : (Spelled : List ℕ → Type 0) (image out new : List ℕ) (written : ℕ) (result : ℤ) → Spelled image → written ≡ length image
@@ -97,12 +87,19 @@ was_not_read (Ok s) Image Within before whole (negsuc n) Kept none image within 
 was_not_read (Err e) Image Within before whole (negsuc n) Kept none image within err said =
     (said.0, subst (λ (z : ℤ). IsRefusedImage before whole z) (sym said.1) (refused_to_read before whole e err))
 
+-- what holds of each call that was done
+if_done : {S E : Type 0} (read : Result S E) (P : Type 0) → (IsOk read → P) → IfOk read (λ s. P)
+if_done (Ok s) P holds = holds refl
+if_done (Err e) P holds = tt
+
 -- the same of a sketch of frequent items
 pub items_not_read : {T C : Type 0} (item : RattleType) (codec : Codec C) (content : T → C) (most_bytes : ℕ) (image : List ℕ) (read : Result (FrequentState T) ErrorValue) (result : ℤ) (Kept : Type 0)
-    → IfOk read (λ s. frequent.IsImageOf codec content image s) → IfOk read (λ s. table_bytes item s.size ≤ most_bytes)
-    → IfErr read (IsImageRefusal (frequent.early_fault_within item most_bytes image) (frequent.first_fault_within item most_bytes codec image))
+    → IfOk read (λ s. frequent.IsImageOf codec content image s) → (IsOk read → frequent.limit_fault item most_bytes codec image ≡ None)
+    → IfErr read (IsImageRefusal (frequent.early_fault_within item most_bytes codec image) (frequent.first_fault_within item most_bytes codec image))
     → OnRefused result (Kept × WhyNotRead read result)
-    → OnRefused result (Kept × IsRefusedImage (frequent.early_fault_within item most_bytes image) (frequent.first_fault_within item most_bytes codec image) result)
-items_not_read {T} {C} item codec content most_bytes image read result Kept =
-    was_not_read read (λ s. frequent.IsImageOf codec content image s) (λ s. table_bytes item s.size ≤ most_bytes) (frequent.early_fault_within item most_bytes image)
-    (frequent.first_fault_within item most_bytes codec image) result Kept (no_early_fault_of_items item codec content most_bytes image)
+    → OnRefused result (Kept × IsRefusedImage (frequent.early_fault_within item most_bytes codec image) (frequent.first_fault_within item most_bytes codec image) result)
+items_not_read item codec content most_bytes image read result Kept of accepted =
+    let limit = frequent.limit_fault item most_bytes codec image in
+    was_not_read read (λ s. frequent.IsImageOf codec content image s) (λ s. limit ≡ None) (frequent.early_fault_within item most_bytes codec image)
+    (frequent.first_fault_within item most_bytes codec image) result Kept
+    (λ s is within. none_before (frequent.early_fault image) limit _ is.no_fault within) of (if_done read (limit ≡ None) accepted)

@@ -1,26 +1,20 @@
 -- What calls for images of frequent-items sketches do, whatever the items.
-use Rattle.std.specs.Prelude.{◌≡◌, ℕ, ℤ, ◌≤◌, Bool, List, nat_eq}
-use Rattle.std.specs.Ordering.{int_eq}
+use Rattle.std.specs.Prelude.{◌≡◌, ℕ, ℤ, ◌≤◌, Bool, List, None}
 use denote.Builtin as builtin
 use denote.RattleType.{RattleType}
 use Rattle.counter_table.specs.Bytes.{table_bytes}
-use Rattle.sketch_frequencies.specs.Image.{IsImageOf, IsSpelledFor, Restores, RestoresBudget}
-use Rattle.sketch_frequencies.specs.Items.{Codec, u64_encoding, u64_reading, i64_encoding, i64_reading}
+use Rattle.sketch_frequencies.specs.Image.{IsImageOf, IsSpelledFor, Restores, RestoresBudget, limit_fault}
+use Rattle.sketch_frequencies.specs.Items.{Codec}
+use Rattle.sketch_frequencies.specs.Memory.{memory_bytes, owned_by}
 use Rattle.sketch_frequencies.specs.State.{FrequentState, greatest_sample_size}
 use Rattle.datasketches_c.specs.Images.{WritesImage}
 
--- how numbers lie in memory, are told apart, written and read
+-- how numbers lie in memory
 abbrev pub u64_row : RattleType
 u64_row = builtin.u64
 
 abbrev pub i64_row : RattleType
 i64_row = builtin.i64
-
-abbrev pub u64_codec : Codec ℕ
-u64_codec = record { same = nat_eq; encoding = u64_encoding; reading = u64_reading }
-
-abbrev pub i64_codec : Codec ℤ
-i64_codec = record { same = int_eq; encoding = i64_encoding; reading = i64_reading }
 
 module _ {T C : Type 0} (codec : Codec C) (content : T → C) where
   -- the sketch's image was written as any image is
@@ -28,7 +22,7 @@ module _ {T C : Type 0} (codec : Codec C) (content : T → C) where
   WritesFrequent s old new written result =
       WritesImage (λ image. IsSpelledFor codec content image s) old new written result
 
--- the sketch came back from its image, and its table takes at most so many bytes
+-- the sketch came back from its image, and takes at most so many bytes, with those that its items own
 pub record IsRestored
     {T C : Type 0} (item : RattleType) (eq : T → T → Bool) (codec : Codec C) (content : T → C) (image : List ℕ) (most_bytes : ℕ)
     (s : FrequentState T)
@@ -37,4 +31,5 @@ pub record IsRestored
   pub sample : s.sample_size ≡ greatest_sample_size s.max_size
   pub stands : Restores codec content eq image s
   pub budget : RestoresBudget codec content eq image s
-  pub within : table_bytes item s.size ≤ most_bytes
+  pub within : memory_bytes (table_bytes item s.size) (owned_by codec content s.counters) ≤ most_bytes
+  pub accepted : limit_fault item most_bytes codec image ≡ None

@@ -17,6 +17,7 @@ pub mod Images
 pub mod InTurn
 pub mod Joining
 pub mod Kinds
+pub mod MemoryBytes
 pub mod Numbers
 pub mod Texts
 pub mod Weights

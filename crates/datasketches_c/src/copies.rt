@@ -43,10 +43,10 @@ fn put_copy(alloc: Global, handle: &mut SketchHandle, sketch: &AnySketch) -> i32
     }
 }
 
-/// Puts a copy of the other handle's sketch, which may be of any kind, in place of what the handle has, which is freed.
-/// The other handle keeps its sketch.
+/// Puts a copy of the other handle's sketch, of any kind, into this handle, and frees what the handle had. The other
+/// handle keeps its sketch.
 ///
-/// It is refused with `NO_SKETCH` where the other handle has none, and with `NoMemory`. The handle then has what it had.
+/// Returns `NO_SKETCH` if the other handle has none, and `NoMemory`.
 #[unsafe(no_mangle)]
 pub extern "C" fn ds_clone(
     alloc: Global,
@@ -64,7 +64,7 @@ pub extern "C" fn ds_clone(
     answer
 }
 
-/// Frees what the handle has, if anything.
+/// Frees the handle's sketch, if any.
 #[unsafe(no_mangle)]
 pub extern "C" fn ds_free(alloc: Global, handle: &mut SketchHandle)
     ensures { handle.new.value ≡ None }

@@ -13,7 +13,7 @@ use crate::texts::on_text;
 use sketch_base::Fault;
 use std::alloc::Global;
 
-/// Writes down the estimate of a number's weight: the least of its cells. A refusal leaves `estimate` as it was.
+/// Writes the estimate of a number's weight: the least of its cells.
 #[unsafe(no_mangle)]
 pub extern "C" fn ds_count_u64_estimate_u64(
     alloc: Global,
@@ -28,7 +28,7 @@ pub extern "C" fn ds_count_u64_estimate_u64(
     count::estimate(alloc, handle, item, estimate)
 }
 
-/// Writes down the estimate of a number's weight: the least of its cells. A refusal leaves `estimate` as it was.
+/// Writes the estimate of a number's weight: the least of its cells.
 #[unsafe(no_mangle)]
 pub extern "C" fn ds_count_u64_estimate_i64(
     alloc: Global,
@@ -43,8 +43,7 @@ pub extern "C" fn ds_count_u64_estimate_i64(
     count::estimate(alloc, handle, item, estimate)
 }
 
-/// Writes down the estimate of a text's weight. Bytes that are no text are refused with `InvalidUtf8`, and a refusal
-/// leaves `estimate` as it was.
+/// Writes the estimate of a string's weight. Returns `InvalidUtf8` if the bytes are not UTF-8.
 #[unsafe(no_mangle)]
 pub extern "C" fn ds_count_u64_estimate_text(
     alloc: Global,
@@ -61,7 +60,7 @@ pub extern "C" fn ds_count_u64_estimate_text(
     on_text!(item => count::estimate(alloc, handle, item, estimate))
 }
 
-/// Writes down the estimate of a number's weight: the least of its cells. A refusal leaves `estimate` as it was.
+/// Writes the estimate of a number's weight: the least of its cells.
 #[unsafe(no_mangle)]
 pub extern "C" fn ds_count_i64_estimate_u64(
     alloc: Global,
@@ -76,7 +75,7 @@ pub extern "C" fn ds_count_i64_estimate_u64(
     count::estimate(alloc, handle, item, estimate)
 }
 
-/// Writes down the estimate of a number's weight: the least of its cells. A refusal leaves `estimate` as it was.
+/// Writes the estimate of a number's weight: the least of its cells.
 #[unsafe(no_mangle)]
 pub extern "C" fn ds_count_i64_estimate_i64(
     alloc: Global,
@@ -91,8 +90,7 @@ pub extern "C" fn ds_count_i64_estimate_i64(
     count::estimate(alloc, handle, item, estimate)
 }
 
-/// Writes down the estimate of a text's weight. Bytes that are no text are refused with `InvalidUtf8`, and a refusal
-/// leaves `estimate` as it was.
+/// Writes the estimate of a string's weight. Returns `InvalidUtf8` if the bytes are not UTF-8.
 #[unsafe(no_mangle)]
 pub extern "C" fn ds_count_i64_estimate_text(
     alloc: Global,
@@ -109,8 +107,7 @@ pub extern "C" fn ds_count_i64_estimate_text(
     on_text!(item => count::estimate(alloc, handle, item, estimate))
 }
 
-/// Writes down the estimate of each number's weight. There are as many estimates as numbers, else `NO_ROOM`. A refusal
-/// leaves `estimates` as it was.
+/// Writes the estimate of each number's weight. Returns `NO_ROOM` unless there are as many estimates as numbers.
 #[unsafe(no_mangle)]
 pub extern "C" fn ds_count_u64_estimate_all_u64(
     alloc: Global,
@@ -129,8 +126,7 @@ pub extern "C" fn ds_count_u64_estimate_all_u64(
     count::estimate_all(alloc, handle, items, estimates)
 }
 
-/// Writes down the estimate of each number's weight. There are as many estimates as numbers, else `NO_ROOM`. A refusal
-/// leaves `estimates` as it was.
+/// Writes the estimate of each number's weight. Returns `NO_ROOM` unless there are as many estimates as numbers.
 #[unsafe(no_mangle)]
 pub extern "C" fn ds_count_u64_estimate_all_i64(
     alloc: Global,
@@ -149,8 +145,7 @@ pub extern "C" fn ds_count_u64_estimate_all_i64(
     count::estimate_all(alloc, handle, items, estimates)
 }
 
-/// Writes down the estimate of each number's weight. There are as many estimates as numbers, else `NO_ROOM`. A refusal
-/// leaves `estimates` as it was.
+/// Writes the estimate of each number's weight. Returns `NO_ROOM` unless there are as many estimates as numbers.
 #[unsafe(no_mangle)]
 pub extern "C" fn ds_count_i64_estimate_all_u64(
     alloc: Global,
@@ -169,8 +164,7 @@ pub extern "C" fn ds_count_i64_estimate_all_u64(
     count::estimate_all(alloc, handle, items, estimates)
 }
 
-/// Writes down the estimate of each number's weight. There are as many estimates as numbers, else `NO_ROOM`. A refusal
-/// leaves `estimates` as it was.
+/// Writes the estimate of each number's weight. Returns `NO_ROOM` unless there are as many estimates as numbers.
 #[unsafe(no_mangle)]
 pub extern "C" fn ds_count_i64_estimate_all_i64(
     alloc: Global,
@@ -189,8 +183,7 @@ pub extern "C" fn ds_count_i64_estimate_all_i64(
     count::estimate_all(alloc, handle, items, estimates)
 }
 
-/// Writes down an upper bound of a number's weight: the estimate and the margin, or the greatest `u64` where that would
-/// pass it. A refusal leaves `bound` as it was.
+/// Writes the estimate of a number's weight plus the margin, or the greatest `u64` if the sum exceeds it.
 #[unsafe(no_mangle)]
 pub extern "C" fn ds_count_u64_upper_bound_u64(
     alloc: Global,
@@ -205,8 +198,7 @@ pub extern "C" fn ds_count_u64_upper_bound_u64(
     count::upper_bound(alloc, handle, item, bound)
 }
 
-/// Writes down an upper bound of a number's weight: the estimate and the margin, or the greatest `u64` where that would
-/// pass it. A refusal leaves `bound` as it was.
+/// Writes the estimate of a number's weight plus the margin, or the greatest `u64` if the sum exceeds it.
 #[unsafe(no_mangle)]
 pub extern "C" fn ds_count_u64_upper_bound_i64(
     alloc: Global,
@@ -221,8 +213,8 @@ pub extern "C" fn ds_count_u64_upper_bound_i64(
     count::upper_bound(alloc, handle, item, bound)
 }
 
-/// Writes down an upper bound of a text's weight: the estimate and the margin. Bytes that are no text are refused with
-/// `InvalidUtf8`, and a refusal leaves `bound` as it was.
+/// Writes the estimate of a string's weight plus the margin, or the greatest `u64` if the sum exceeds it. Returns
+/// `InvalidUtf8` if the bytes are not UTF-8.
 #[unsafe(no_mangle)]
 pub extern "C" fn ds_count_u64_upper_bound_text(
     alloc: Global,
@@ -239,8 +231,7 @@ pub extern "C" fn ds_count_u64_upper_bound_text(
     on_text!(item => count::upper_bound(alloc, handle, item, bound))
 }
 
-/// Writes down an upper bound of a number's weight: the estimate and the margin, or the greatest `i64` where that would
-/// pass it. A refusal leaves `bound` as it was.
+/// Writes the estimate of a number's weight plus the margin, or the greatest `i64` if the sum exceeds it.
 #[unsafe(no_mangle)]
 pub extern "C" fn ds_count_i64_upper_bound_u64(
     alloc: Global,
@@ -255,8 +246,7 @@ pub extern "C" fn ds_count_i64_upper_bound_u64(
     count::upper_bound(alloc, handle, item, bound)
 }
 
-/// Writes down an upper bound of a number's weight: the estimate and the margin, or the greatest `i64` where that would
-/// pass it. A refusal leaves `bound` as it was.
+/// Writes the estimate of a number's weight plus the margin, or the greatest `i64` if the sum exceeds it.
 #[unsafe(no_mangle)]
 pub extern "C" fn ds_count_i64_upper_bound_i64(
     alloc: Global,
@@ -271,8 +261,8 @@ pub extern "C" fn ds_count_i64_upper_bound_i64(
     count::upper_bound(alloc, handle, item, bound)
 }
 
-/// Writes down an upper bound of a text's weight: the estimate and the margin. Bytes that are no text are refused with
-/// `InvalidUtf8`, and a refusal leaves `bound` as it was.
+/// Writes the estimate of a string's weight plus the margin, or the greatest `i64` if the sum exceeds it. Returns
+/// `InvalidUtf8` if the bytes are not UTF-8.
 #[unsafe(no_mangle)]
 pub extern "C" fn ds_count_i64_upper_bound_text(
     alloc: Global,

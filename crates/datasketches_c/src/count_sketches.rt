@@ -21,11 +21,11 @@ use crate::status_code::{BAD_FRACTION, OK};
 use sketch_countmin::CountMinSketch;
 use std::alloc::Global;
 
-/// Makes a Count-Min sketch in `u64` of so many rows, one for each hash, and cells in each row, in place of what the
-/// handle has, which is freed.
+/// Puts an empty Count-Min sketch with weights in `u64` into the handle, and frees what the handle had. It has a row
+/// for each hash, and `num_buckets` cells in a row.
 ///
-/// Refusals, in this order: `BadNumHashes` for 0 hashes, `BadNumBuckets` below 3 buckets, `TableTooLarge` for 2^30 cells
-/// or more, `ZeroSeedHash`, and `NoMemory`. The handle then has what it had.
+/// Returns, in this order, `BadNumHashes` for 0 hashes, `BadNumBuckets` below 3 buckets, `TableTooLarge` for 2^30 cells
+/// or more, `ZeroSeedHash`, and `NoMemory`.
 #[unsafe(no_mangle)]
 pub extern "C" fn ds_count_u64_new(
     alloc: Global,
@@ -45,11 +45,11 @@ pub extern "C" fn ds_count_u64_new(
     put_made(alloc, handle, made)
 }
 
-/// Makes a Count-Min sketch in `i64` of so many rows, one for each hash, and cells in each row, in place of what the
-/// handle has, which is freed.
+/// Puts an empty Count-Min sketch with weights in `i64` into the handle, and frees what the handle had. It has a row
+/// for each hash, and `num_buckets` cells in a row.
 ///
-/// Refusals, in this order: `BadNumHashes` for 0 hashes, `BadNumBuckets` below 3 buckets, `TableTooLarge` for 2^30 cells
-/// or more, `ZeroSeedHash`, and `NoMemory`. The handle then has what it had.
+/// Returns, in this order, `BadNumHashes` for 0 hashes, `BadNumBuckets` below 3 buckets, `TableTooLarge` for 2^30 cells
+/// or more, `ZeroSeedHash`, and `NoMemory`.
 #[unsafe(no_mangle)]
 pub extern "C" fn ds_count_i64_new(
     alloc: Global,
@@ -69,10 +69,10 @@ pub extern "C" fn ds_count_i64_new(
     put_made(alloc, handle, made)
 }
 
-/// Adds the other sketch's cells and total. The other sketch stays.
+/// Adds the other sketch's cells and total. The other sketch stays as it was.
 ///
-/// It is refused with `Mismatch` where hashes, buckets or seeds differ, and with `WeightOverflow` where the totals
-/// together pass the greatest `u64`. The sketch is then as it was.
+/// Returns `Mismatch` if hashes, buckets or seeds differ, and `WeightOverflow` if the totals together exceed the
+/// greatest `u64`.
 #[unsafe(no_mangle)]
 pub extern "C" fn ds_count_u64_merge(
     alloc: Global,
@@ -86,10 +86,10 @@ pub extern "C" fn ds_count_u64_merge(
     count::merge::<u64>(alloc, handle, other)
 }
 
-/// Adds the other sketch's cells and total. The other sketch stays.
+/// Adds the other sketch's cells and total. The other sketch stays as it was.
 ///
-/// It is refused with `Mismatch` where hashes, buckets or seeds differ, and with `WeightOverflow` where the totals
-/// together pass the greatest `i64`. The sketch is then as it was.
+/// Returns `Mismatch` if hashes, buckets or seeds differ, and `WeightOverflow` if the totals together exceed the
+/// greatest `i64`.
 #[unsafe(no_mangle)]
 pub extern "C" fn ds_count_i64_merge(
     alloc: Global,
@@ -115,8 +115,8 @@ pub extern "C" fn ds_count_u64_halve(alloc: Global, handle: &mut SketchHandle) -
     })
 }
 
-/// Multiplies each cell and the total by a fraction above 0 and at most 1, rounded down. Another fraction is refused with
-/// `BAD_FRACTION`, and leaves the sketch as it was.
+/// Multiplies each cell and the total by a fraction, rounded down. Returns `BAD_FRACTION` unless the fraction is above
+/// 0 and at most 1.
 #[unsafe(no_mangle)]
 pub extern "C" fn ds_count_u64_decay(
     alloc: Global,
@@ -140,8 +140,7 @@ pub extern "C" fn ds_count_u64_decay(
     })
 }
 
-/// Writes down the sketch's numbers: the total weight, the seed, the buckets of a row and the hashes, which are as many
-/// as rows. A refusal leaves `status` as it was.
+/// Writes the sketch's numbers: the total weight, the seed, the buckets of a row, and the hashes, which are rows.
 #[unsafe(no_mangle)]
 pub extern "C" fn ds_count_u64_status(
     alloc: Global,
@@ -155,8 +154,7 @@ pub extern "C" fn ds_count_u64_status(
     count::status::<u64>(alloc, handle, status)
 }
 
-/// Writes down the sketch's numbers: the total weight, the seed, the buckets of a row and the hashes, which are as many
-/// as rows. A refusal leaves `status` as it was.
+/// Writes the sketch's numbers: the total weight, the seed, the buckets of a row, and the hashes, which are rows.
 #[unsafe(no_mangle)]
 pub extern "C" fn ds_count_i64_status(
     alloc: Global,
@@ -170,8 +168,9 @@ pub extern "C" fn ds_count_i64_status(
     count::status::<i64>(alloc, handle, status)
 }
 
-/// Writes the sketch's image to the front of the caller's buffer, and says how long it is in bytes, also where there is
-/// no room. A refusal leaves the buffer as it was: `NO_ROOM` where the image is longer, and `NoMemory`.
+/// Writes the sketch's image to the front of `out`, and its length in bytes to `written`.
+///
+/// Returns `NoMemory`, or `NO_ROOM` if the image is longer than `out`; then `written` is its length.
 #[unsafe(no_mangle)]
 pub extern "C" fn ds_count_u64_to_bytes(
     alloc: Global,
@@ -188,8 +187,9 @@ pub extern "C" fn ds_count_u64_to_bytes(
     to_bytes::<CountMinSketch<u64>>(alloc, handle, out, written)
 }
 
-/// Writes the sketch's image to the front of the caller's buffer, and says how long it is in bytes, also where there is
-/// no room. A refusal leaves the buffer as it was: `NO_ROOM` where the image is longer, and `NoMemory`.
+/// Writes the sketch's image to the front of `out`, and its length in bytes to `written`.
+///
+/// Returns `NoMemory`, or `NO_ROOM` if the image is longer than `out`; then `written` is its length.
 #[unsafe(no_mangle)]
 pub extern "C" fn ds_count_i64_to_bytes(
     alloc: Global,
@@ -206,11 +206,11 @@ pub extern "C" fn ds_count_i64_to_bytes(
     to_bytes::<CountMinSketch<i64>>(alloc, handle, out, written)
 }
 
-/// Makes the sketch of an image that was written under this seed, in place of what the handle has, which is freed. The
-/// cells and the rows' seeds, of eight bytes each, take at most so many bytes.
+/// Reads a sketch from its image, which was written under this seed, puts it into the handle, and frees what the handle
+/// had.
 ///
-/// It is refused for the image's first fault (`TableTooLarge` where it would take more bytes), or for memory, and then
-/// the handle is as it was.
+/// Returns the fault of the image's first failed check, `TableTooLarge` if the cells and the rows' seeds, of 8 bytes
+/// each, take more than `most_bytes`, and `NoMemory`.
 #[unsafe(no_mangle)]
 pub extern "C" fn ds_count_u64_from_bytes(
     alloc: Global,
@@ -231,11 +231,11 @@ pub extern "C" fn ds_count_u64_from_bytes(
     put_made(alloc, handle, read)
 }
 
-/// Makes the sketch of an image that was written under this seed, in place of what the handle has, which is freed. The
-/// cells and the rows' seeds, of eight bytes each, take at most so many bytes.
+/// Reads a sketch from its image, which was written under this seed, puts it into the handle, and frees what the handle
+/// had.
 ///
-/// It is refused for the image's first fault (`TableTooLarge` where it would take more bytes), or for memory, and then
-/// the handle is as it was.
+/// Returns the fault of the image's first failed check, `TableTooLarge` if the cells and the rows' seeds, of 8 bytes
+/// each, take more than `most_bytes`, and `NoMemory`.
 #[unsafe(no_mangle)]
 pub extern "C" fn ds_count_i64_from_bytes(
     alloc: Global,

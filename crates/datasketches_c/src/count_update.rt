@@ -14,8 +14,7 @@ use crate::texts::on_text;
 use sketch_base::Fault;
 use std::alloc::Global;
 
-/// Adds a weight to a number's. It is refused with `WeightOverflow` where the total would pass the greatest `u64`, and
-/// the sketch is then as it was.
+/// Adds a weight to a number's. Returns `WeightOverflow` if the total would exceed the greatest `u64`.
 #[unsafe(no_mangle)]
 pub extern "C" fn ds_count_u64_update_u64(
     alloc: Global,
@@ -29,8 +28,7 @@ pub extern "C" fn ds_count_u64_update_u64(
     count::update(alloc, handle, item, weight)
 }
 
-/// Adds a weight to a number's. It is refused with `WeightOverflow` where the total would pass the greatest `u64`, and
-/// the sketch is then as it was.
+/// Adds a weight to a number's. Returns `WeightOverflow` if the total would exceed the greatest `u64`.
 #[unsafe(no_mangle)]
 pub extern "C" fn ds_count_u64_update_i64(
     alloc: Global,
@@ -44,8 +42,8 @@ pub extern "C" fn ds_count_u64_update_i64(
     count::update(alloc, handle, item, weight)
 }
 
-/// Adds a weight to a text's. Bytes that are no text are refused with `InvalidUtf8`, and a total that would pass the
-/// greatest number with `WeightOverflow`; the sketch is then as it was.
+/// Adds a weight to a string's. Returns `InvalidUtf8` if the bytes are not UTF-8, and `WeightOverflow` if the total
+/// would exceed the greatest `u64`.
 #[unsafe(no_mangle)]
 pub extern "C" fn ds_count_u64_update_text(
     alloc: Global,
@@ -61,8 +59,8 @@ pub extern "C" fn ds_count_u64_update_text(
     on_text!(item => count::update(alloc, handle, item, weight))
 }
 
-/// Adds a weight to a number's, and its distance from 0 to the total. It is refused with `WeightOverflow` where the total
-/// would pass the greatest `i64`, and the sketch is then as it was.
+/// Adds a weight to a number's, and its distance from 0 to the total. Returns `WeightOverflow` if the total would
+/// exceed the greatest `i64`.
 #[unsafe(no_mangle)]
 pub extern "C" fn ds_count_i64_update_u64(
     alloc: Global,
@@ -76,8 +74,8 @@ pub extern "C" fn ds_count_i64_update_u64(
     count::update(alloc, handle, item, weight)
 }
 
-/// Adds a weight to a number's, and its distance from 0 to the total. It is refused with `WeightOverflow` where the total
-/// would pass the greatest `i64`, and the sketch is then as it was.
+/// Adds a weight to a number's, and its distance from 0 to the total. Returns `WeightOverflow` if the total would
+/// exceed the greatest `i64`.
 #[unsafe(no_mangle)]
 pub extern "C" fn ds_count_i64_update_i64(
     alloc: Global,
@@ -91,8 +89,8 @@ pub extern "C" fn ds_count_i64_update_i64(
     count::update(alloc, handle, item, weight)
 }
 
-/// Adds a weight to a text's, and its distance from 0 to the total. Bytes that are no text are refused with
-/// `InvalidUtf8`, and a total that would pass the greatest `i64` with `WeightOverflow`; the sketch is then as it was.
+/// Adds a weight to a string's, and its distance from 0 to the total. Returns `InvalidUtf8` if the bytes are not UTF-8,
+/// and `WeightOverflow` if the total would exceed the greatest `i64`.
 #[unsafe(no_mangle)]
 pub extern "C" fn ds_count_i64_update_text(
     alloc: Global,
@@ -108,8 +106,8 @@ pub extern "C" fn ds_count_i64_update_text(
     on_text!(item => count::update(alloc, handle, item, weight))
 }
 
-/// Adds 1 to the weight of each number, as far as the total has room: the numbers that come first are counted,
-/// and where there are more, the answer is `WeightOverflow`.
+/// Adds 1 to the weight of each number, in order. Returns `WeightOverflow` if the total has no room for all; then the
+/// numbers before the first that does not fit are counted.
 #[unsafe(no_mangle)]
 pub extern "C" fn ds_count_u64_update_all_u64(
     alloc: Global,
@@ -121,8 +119,8 @@ pub extern "C" fn ds_count_u64_update_all_u64(
     count::update_all::<u64, u64>(alloc, handle, items)
 }
 
-/// Adds 1 to the weight of each number, as far as the total has room: the numbers that come first are counted,
-/// and where there are more, the answer is `WeightOverflow`.
+/// Adds 1 to the weight of each number, in order. Returns `WeightOverflow` if the total has no room for all; then the
+/// numbers before the first that does not fit are counted.
 #[unsafe(no_mangle)]
 pub extern "C" fn ds_count_u64_update_all_i64(
     alloc: Global,
@@ -134,8 +132,8 @@ pub extern "C" fn ds_count_u64_update_all_i64(
     count::update_all::<u64, i64>(alloc, handle, items)
 }
 
-/// Adds 1 to the weight of each number, as far as the total has room: the numbers that come first are counted,
-/// and where there are more, the answer is `WeightOverflow`.
+/// Adds 1 to the weight of each number, in order. Returns `WeightOverflow` if the total has no room for all; then the
+/// numbers before the first that does not fit are counted.
 #[unsafe(no_mangle)]
 pub extern "C" fn ds_count_i64_update_all_u64(
     alloc: Global,
@@ -147,8 +145,8 @@ pub extern "C" fn ds_count_i64_update_all_u64(
     count::update_all::<i64, u64>(alloc, handle, items)
 }
 
-/// Adds 1 to the weight of each number, as far as the total has room: the numbers that come first are counted,
-/// and where there are more, the answer is `WeightOverflow`.
+/// Adds 1 to the weight of each number, in order. Returns `WeightOverflow` if the total has no room for all; then the
+/// numbers before the first that does not fit are counted.
 #[unsafe(no_mangle)]
 pub extern "C" fn ds_count_i64_update_all_i64(
     alloc: Global,
@@ -160,10 +158,10 @@ pub extern "C" fn ds_count_i64_update_all_i64(
     count::update_all::<i64, i64>(alloc, handle, items)
 }
 
-/// Adds a weight to that of each number, one after another.
+/// Adds a weight to each number's, in order.
 ///
-/// Refused with `NO_ROOM` where there are more or fewer weights than numbers, and with `WeightOverflow` where the total
-/// has no room for all weights. Then no number is counted.
+/// Returns `NO_ROOM` unless there are as many weights as numbers, and `WeightOverflow` if the total has no room for all
+/// weights; then none is added.
 #[unsafe(no_mangle)]
 pub extern "C" fn ds_count_u64_update_all_weighted_u64(
     alloc: Global,
@@ -179,10 +177,10 @@ pub extern "C" fn ds_count_u64_update_all_weighted_u64(
     count::update_all_weighted(alloc, handle, items, weights)
 }
 
-/// Adds a weight to that of each number, one after another.
+/// Adds a weight to each number's, in order.
 ///
-/// Refused with `NO_ROOM` where there are more or fewer weights than numbers, and with `WeightOverflow` where the total
-/// has no room for all weights. Then no number is counted.
+/// Returns `NO_ROOM` unless there are as many weights as numbers, and `WeightOverflow` if the total has no room for all
+/// weights; then none is added.
 #[unsafe(no_mangle)]
 pub extern "C" fn ds_count_u64_update_all_weighted_i64(
     alloc: Global,
@@ -198,12 +196,11 @@ pub extern "C" fn ds_count_u64_update_all_weighted_i64(
     count::update_all_weighted(alloc, handle, items, weights)
 }
 
-/// Adds a weight to that of each text, one after another. The texts are the bytes between each of the offsets and the
-/// next.
+/// Adds a weight to each string's, in order. The strings are the bytes between each offset and the next.
 ///
-/// Refused with `BAD_OFFSETS` where there is no offset, one is below the one before it, or one passes the end of the
-/// bytes, then with `NO_ROOM` where there are more or fewer weights than texts, then with `InvalidUtf8` where some text
-/// is not UTF-8, and with `WeightOverflow` where the total has no room for all weights. Then no text is counted.
+/// Returns `BAD_OFFSETS` if there is no offset, one is below the one before it, or one passes the end of the bytes,
+/// then `NO_ROOM` unless there are as many weights as strings, then `InvalidUtf8` if some string is not UTF-8, and
+/// `WeightOverflow` if the total has no room for all weights; then none is added.
 #[unsafe(no_mangle)]
 pub extern "C" fn ds_count_u64_update_all_weighted_text(
     alloc: Global,
@@ -223,10 +220,10 @@ pub extern "C" fn ds_count_u64_update_all_weighted_text(
     count::update_all_weighted_text(alloc, handle, bytes, offsets, weights)
 }
 
-/// Adds a weight to that of each number, one after another. The total grows by the distance of each weight from 0.
+/// Adds a weight to each number's, in order. The total grows by each weight's distance from 0.
 ///
-/// Refused with `NO_ROOM` where there are more or fewer weights than numbers, and with `WeightOverflow` where the total
-/// has no room for all weights. Then no number is counted.
+/// Returns `NO_ROOM` unless there are as many weights as numbers, and `WeightOverflow` if the total has no room for all
+/// weights; then none is added.
 #[unsafe(no_mangle)]
 pub extern "C" fn ds_count_i64_update_all_weighted_u64(
     alloc: Global,
@@ -242,10 +239,10 @@ pub extern "C" fn ds_count_i64_update_all_weighted_u64(
     count::update_all_weighted(alloc, handle, items, weights)
 }
 
-/// Adds a weight to that of each number, one after another. The total grows by the distance of each weight from 0.
+/// Adds a weight to each number's, in order. The total grows by each weight's distance from 0.
 ///
-/// Refused with `NO_ROOM` where there are more or fewer weights than numbers, and with `WeightOverflow` where the total
-/// has no room for all weights. Then no number is counted.
+/// Returns `NO_ROOM` unless there are as many weights as numbers, and `WeightOverflow` if the total has no room for all
+/// weights; then none is added.
 #[unsafe(no_mangle)]
 pub extern "C" fn ds_count_i64_update_all_weighted_i64(
     alloc: Global,
@@ -261,12 +258,12 @@ pub extern "C" fn ds_count_i64_update_all_weighted_i64(
     count::update_all_weighted(alloc, handle, items, weights)
 }
 
-/// Adds a weight to that of each text, one after another. The total grows by the distance of each weight from 0. The
-/// texts are the bytes between each of the offsets and the next.
+/// Adds a weight to each string's, in order. The strings are the bytes between each offset and the next. The total
+/// grows by each weight's distance from 0.
 ///
-/// Refused with `BAD_OFFSETS` where there is no offset, one is below the one before it, or one passes the end of the
-/// bytes, then with `NO_ROOM` where there are more or fewer weights than texts, then with `InvalidUtf8` where some text
-/// is not UTF-8, and with `WeightOverflow` where the total has no room for all weights. Then no text is counted.
+/// Returns `BAD_OFFSETS` if there is no offset, one is below the one before it, or one passes the end of the bytes,
+/// then `NO_ROOM` unless there are as many weights as strings, then `InvalidUtf8` if some string is not UTF-8, and
+/// `WeightOverflow` if the total has no room for all weights; then none is added.
 #[unsafe(no_mangle)]
 pub extern "C" fn ds_count_i64_update_all_weighted_text(
     alloc: Global,

@@ -35,7 +35,8 @@ fn equal<K: Kind + PartialEq>(
     on_kind!(alloc, handle, K, sketch => equal_to(alloc, sketch, other))
 }
 
-/// Returns `YES` if the filters are equal: shapes, seeds and sets of positions. Returns `NO` otherwise. Both filters stay.
+/// Returns `YES` if both filters have the same words, hashes, seed and positions, and `NO` otherwise. Both stay as they
+/// were.
 #[unsafe(no_mangle)]
 pub extern "C" fn ds_filter_equal(
     alloc: Global,
@@ -49,8 +50,8 @@ pub extern "C" fn ds_filter_equal(
     equal::<BloomFilter>(alloc, handle, other)
 }
 
-/// Returns `YES` if the sketches are equal: shapes, seeds, total weights and all cells. Returns `NO` otherwise. Both
-/// sketches stay.
+/// Returns `YES` if both sketches have the same hashes, buckets, seed, total and cells, and `NO` otherwise. Both stay
+/// as they were.
 #[unsafe(no_mangle)]
 pub extern "C" fn ds_count_u64_equal(
     alloc: Global,
@@ -64,8 +65,8 @@ pub extern "C" fn ds_count_u64_equal(
     equal::<CountMinSketch<u64>>(alloc, handle, other)
 }
 
-/// Returns `YES` if the sketches are equal: shapes, seeds, total weights and all cells. Returns `NO` otherwise. Both
-/// sketches stay.
+/// Returns `YES` if both sketches have the same hashes, buckets, seed, total and cells, and `NO` otherwise. Both stay
+/// as they were.
 #[unsafe(no_mangle)]
 pub extern "C" fn ds_count_i64_equal(
     alloc: Global,

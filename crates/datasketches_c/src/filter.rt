@@ -30,7 +30,10 @@ use sketch_bloom::{BloomFilter, BloomFilterBuilder};
 use std::alloc::Global;
 use std::hash::Hash;
 
-/// Makes a filter of at least so many bits in place of what the handle has, which is freed.
+/// Puts an empty filter of at least `num_bits` bits into the handle, and frees what the handle had.
+///
+/// Returns `BadNumBits` unless there are 1 to 137438953152 bits, `BadNumHashes` unless there are 1 to 32767 hashes, and
+/// `NoMemory`.
 #[unsafe(no_mangle)]
 pub extern "C" fn ds_filter_new(
     alloc: Global,
@@ -85,7 +88,7 @@ pub extern "C" fn ds_filter_insert_i64(alloc: Global, handle: &mut SketchHandle,
     insert(alloc, handle, item)
 }
 
-/// Inserts a text.
+/// Inserts a string. Returns `InvalidUtf8` if the bytes are not UTF-8.
 #[unsafe(no_mangle)]
 pub extern "C" fn ds_filter_insert_text(
     alloc: Global,
@@ -155,7 +158,7 @@ fn contains<I: Hash>(alloc: Global, handle: &mut SketchHandle, item: &I) -> i32
     on_kind!(alloc, handle, BloomFilter, filter => { if filter.contains(item) { YES } else { NO } })
 }
 
-/// Whether the filter contains a number: 1 or 0.
+/// Returns `YES` if the filter contains a number, and `NO` otherwise.
 #[unsafe(no_mangle)]
 pub extern "C" fn ds_filter_contains_u64(alloc: Global, handle: &mut SketchHandle, item: u64) -> i32
     ensures kept { handle.new.value ≡ handle.old.value }
@@ -165,7 +168,7 @@ pub extern "C" fn ds_filter_contains_u64(alloc: Global, handle: &mut SketchHandl
     contains(alloc, handle, &item)
 }
 
-/// Whether the filter contains a number with a sign: 1 or 0.
+/// Returns `YES` if the filter contains a number with a sign, and `NO` otherwise.
 #[unsafe(no_mangle)]
 pub extern "C" fn ds_filter_contains_i64(alloc: Global, handle: &mut SketchHandle, item: i64) -> i32
     ensures kept { handle.new.value ≡ handle.old.value }
@@ -175,7 +178,7 @@ pub extern "C" fn ds_filter_contains_i64(alloc: Global, handle: &mut SketchHandl
     contains(alloc, handle, &item)
 }
 
-/// Whether the filter contains a text: 1 or 0.
+/// Returns `YES` if the filter contains a string, `NO` otherwise, and `InvalidUtf8` if the bytes are not UTF-8.
 #[unsafe(no_mangle)]
 pub extern "C" fn ds_filter_contains_text(
     alloc: Global,
@@ -214,7 +217,8 @@ fn contains_all<I: Hash>(
     })
 }
 
-/// Writes down for each number whether the filter contains it. There are as many answers as numbers.
+/// Writes for each number whether the filter contains it. Returns `NO_ROOM` unless there are as many answers as
+/// numbers.
 #[unsafe(no_mangle)]
 pub extern "C" fn ds_filter_contains_all_u64(
     alloc: Global,
@@ -232,7 +236,8 @@ pub extern "C" fn ds_filter_contains_all_u64(
     contains_all(alloc, handle, items, answers)
 }
 
-/// Writes down for each number whether the filter contains it. There are as many answers as numbers.
+/// Writes for each number whether the filter contains it. Returns `NO_ROOM` unless there are as many answers as
+/// numbers.
 #[unsafe(no_mangle)]
 pub extern "C" fn ds_filter_contains_all_i64(
     alloc: Global,
@@ -274,7 +279,8 @@ impl Joins<SetOperation> for BloomFilter {
     }
 }
 
-/// Adds the positions of the other filter's set. The other filter stays.
+/// Adds the other filter's positions. The other filter stays as it was. Returns `Mismatch` if bits, hashes or seeds
+/// differ.
 #[unsafe(no_mangle)]
 pub extern "C" fn ds_filter_union(
     alloc: Global,
@@ -292,7 +298,8 @@ pub extern "C" fn ds_filter_union(
     join::<BloomFilter, SetOperation>(alloc, handle, other, SetOperation::Union)
 }
 
-/// Keeps only the positions that are also in the other filter's set. The other filter stays.
+/// Keeps the positions that both filters have. The other filter stays as it was. Returns `Mismatch` if bits, hashes or
+/// seeds differ.
 #[unsafe(no_mangle)]
 pub extern "C" fn ds_filter_intersect(
     alloc: Global,
@@ -310,7 +317,8 @@ pub extern "C" fn ds_filter_intersect(
     join::<BloomFilter, SetOperation>(alloc, handle, other, SetOperation::Intersection)
 }
 
-/// Takes the positions of the other filter's set away. The other filter stays.
+/// Removes the other filter's positions. The other filter stays as it was. Returns `Mismatch` if bits, hashes or seeds
+/// differ.
 #[unsafe(no_mangle)]
 pub extern "C" fn ds_filter_difference(
     alloc: Global,
@@ -338,7 +346,7 @@ pub struct FilterStatus {
     pub num_hashes: u16,
 }
 
-/// Takes all positions out of the filter's set.
+/// Removes all positions.
 #[unsafe(no_mangle)]
 pub extern "C" fn ds_filter_reset(alloc: Global, handle: &mut SketchHandle) -> i32
     ensures { OnFilter handle.old.value handle.new.value result (λ s.
@@ -350,7 +358,7 @@ pub extern "C" fn ds_filter_reset(alloc: Global, handle: &mut SketchHandle) -> i
     })
 }
 
-/// Writes down the filter's numbers.
+/// Writes the filter's numbers.
 #[unsafe(no_mangle)]
 pub extern "C" fn ds_filter_status(
     alloc: Global,
@@ -385,7 +393,9 @@ impl HasImage for BloomFilter {
     }
 }
 
-/// Writes the filter's image to the front of the caller's buffer, and says how long it is, also where there is no room.
+/// Writes the filter's image to the front of `out`, and its length in bytes to `written`.
+///
+/// Returns `NoMemory`, or `NO_ROOM` if the image is longer than `out`; then `written` is its length.
 #[unsafe(no_mangle)]
 pub extern "C" fn ds_filter_to_bytes(
     alloc: Global,
@@ -402,7 +412,10 @@ pub extern "C" fn ds_filter_to_bytes(
     to_bytes::<BloomFilter>(alloc, handle, out, written)
 }
 
-/// Makes the filter of an image, whose words take at most so many bytes, in place of what the handle has.
+/// Reads a filter from its image, puts it into the handle, and frees what the handle had.
+///
+/// Returns the fault of the image's first failed check, `TableTooLarge` if the words, of 8 bytes each, take more than
+/// `most_bytes`, and `NoMemory`.
 #[unsafe(no_mangle)]
 pub extern "C" fn ds_filter_from_bytes(
     alloc: Global,

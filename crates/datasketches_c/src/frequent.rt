@@ -1,9 +1,10 @@
 //! Frequent-items sketches behind handles, whatever the items.
 ghost use Rattle.std.specs.Ordering.{int_eq};
 ghost use Rattle.std.specs.Prelude.{◌≡◌, ◌≢◌, IsTrue, length, nat_eq};
+ghost use Rattle.sketch_frequencies.specs.Items.{i64_codec, u64_codec};
 ghost use Rattle.datasketches_c.specs.FrequentBatches.{AreBoundsOfAll};
 ghost use Rattle.datasketches_c.specs.FrequentCalls.{Updates, UpdatesMany, MergesInto, Empties, AreBounds, AreNumbers};
-ghost use Rattle.datasketches_c.specs.FrequentImages.{WritesFrequent, i64_codec, u64_codec};
+ghost use Rattle.datasketches_c.specs.FrequentImages.{WritesFrequent};
 ghost use Rattle.datasketches_c.specs.FrequentRows.{LeavesRows, WritesRows, error_type};
 ghost use Rattle.datasketches_c.specs.FrequentTextImages.{WritesFrequentTexts};
 ghost use Rattle.datasketches_c.specs.FrequentTexts.{text_eq};

@@ -22,11 +22,10 @@ use sketch_base::Fault;
 use sketch_frequencies::FrequentItemsSketch;
 use std::alloc::Global;
 
-/// Adds a weight to a text's. A weight of 0 changes nothing.
+/// Adds a weight to a string's. A weight of 0 changes nothing.
 ///
-/// Refused for `InvalidUtf8` where the bytes are no text, for `NoMemory` where there is no memory for the text or for a table
-/// that must double, and for `WeightOverflow` where the weight of all texts would pass the greatest `u64`. The sketch is then
-/// as it was.
+/// Returns `InvalidUtf8` if the bytes are not UTF-8, `NoMemory` if the string cannot be copied or the table cannot
+/// grow, and `WeightOverflow` if the total would exceed the greatest `u64`.
 #[unsafe(no_mangle)]
 pub extern "C" fn ds_frequent_text_update(
     alloc: Global,
@@ -46,8 +45,7 @@ pub extern "C" fn ds_frequent_text_update(
 
 /// Adds a weight to a number's. A weight of 0 changes nothing.
 ///
-/// Refused for `WeightOverflow` where the weight of all numbers would pass the greatest `u64`, and for `NoMemory` where
-/// the table must double and there is no memory for that. The sketch is then as it was.
+/// Returns `WeightOverflow` if the total would exceed the greatest `u64`, and `NoMemory` if the table cannot grow.
 #[unsafe(no_mangle)]
 pub extern "C" fn ds_frequent_u64_update(
     alloc: Global,
@@ -64,8 +62,7 @@ pub extern "C" fn ds_frequent_u64_update(
 
 /// Adds a weight to a number's. A weight of 0 changes nothing.
 ///
-/// Refused for `WeightOverflow` where the weight of all numbers would pass the greatest `u64`, and for `NoMemory` where
-/// the table must double and there is no memory for that. The sketch is then as it was.
+/// Returns `WeightOverflow` if the total would exceed the greatest `u64`, and `NoMemory` if the table cannot grow.
 #[unsafe(no_mangle)]
 pub extern "C" fn ds_frequent_i64_update(
     alloc: Global,
@@ -80,10 +77,10 @@ pub extern "C" fn ds_frequent_i64_update(
     frequent::update(alloc, handle, item, weight)
 }
 
-/// Adds 1 to the weight of each number, one after another.
+/// Adds 1 to the weight of each number, in order.
 ///
-/// Refused as `ds_frequent_u64_update` at the first number that it refuses. The numbers before it are added then, and
-/// neither it nor those behind it are.
+/// Returns the error of the first number for which `ds_frequent_u64_update` returns one; then the numbers before it are
+/// added, and no others.
 #[unsafe(no_mangle)]
 pub extern "C" fn ds_frequent_u64_update_all(
     alloc: Global,
@@ -96,10 +93,10 @@ pub extern "C" fn ds_frequent_u64_update_all(
     frequent::update_all(alloc, handle, items)
 }
 
-/// Adds 1 to the weight of each number, one after another.
+/// Adds 1 to the weight of each number, in order.
 ///
-/// Refused as `ds_frequent_i64_update` at the first number that it refuses. The numbers before it are added then, and
-/// neither it nor those behind it are.
+/// Returns the error of the first number for which `ds_frequent_i64_update` returns one; then the numbers before it are
+/// added, and no others.
 #[unsafe(no_mangle)]
 pub extern "C" fn ds_frequent_i64_update_all(
     alloc: Global,
@@ -112,14 +109,13 @@ pub extern "C" fn ds_frequent_i64_update_all(
     frequent::update_all(alloc, handle, items)
 }
 
-/// Adds a weight to that of each text, one after another. A weight of 0 changes nothing. The texts are the bytes between each
-/// of the offsets and the next.
+/// Adds a weight to each string's, in order. A weight of 0 changes nothing. The strings are the bytes between each
+/// offset and the next.
 ///
-/// Refused with `BAD_OFFSETS` where there is no offset, one is below the one before it, or one passes the end of the
-/// bytes, then with `NO_ROOM` where there are more or fewer weights than texts, then with `InvalidUtf8` where some text
-/// is not UTF-8, and with `WeightOverflow` where the weight of all texts would pass the greatest `u64`. The sketch is then as
-/// it was. Refused with `NoMemory` at the first text for which there is no memory: the texts before it are added then, and
-/// neither it nor those behind it are.
+/// Returns `BAD_OFFSETS` if there is no offset, one is below the one before it, or one passes the end of the bytes,
+/// then `NO_ROOM` unless there are as many weights as strings, then `InvalidUtf8` if some string is not UTF-8, and
+/// `WeightOverflow` if the total would exceed the greatest `u64` with all weights; then none is added. Returns
+/// `NoMemory` for the first string without memory; then the strings before it are added, and no others.
 #[unsafe(no_mangle)]
 pub extern "C" fn ds_frequent_text_update_all_weighted(
     alloc: Global,
@@ -145,12 +141,11 @@ pub extern "C" fn ds_frequent_text_update_all_weighted(
     on_kind!(alloc, handle, FrequentItemsSketch<String>, sketch => add_weighted_texts(alloc, sketch, bytes, offsets, weights))
 }
 
-/// Adds a weight to that of each number, one after another. A weight of 0 changes nothing.
+/// Adds a weight to each number's, in order. A weight of 0 changes nothing.
 ///
-/// Refused with `NO_ROOM` where there are more or fewer weights than numbers, and with `WeightOverflow` where the weight of
-/// all numbers would pass the greatest `u64`. The sketch is then as it was. Refused with `NoMemory` at the first number for
-/// which the table must double and there is no memory: the numbers before it are added then, and neither it nor those
-/// behind it are.
+/// Returns `NO_ROOM` unless there are as many weights as numbers, and `WeightOverflow` if the total would exceed the
+/// greatest `u64` with all weights; then none is added. Returns `NoMemory` for the first number for which the table
+/// cannot grow; then the numbers before it are added, and no others.
 #[unsafe(no_mangle)]
 pub extern "C" fn ds_frequent_u64_update_all_weighted(
     alloc: Global,
@@ -167,12 +162,11 @@ pub extern "C" fn ds_frequent_u64_update_all_weighted(
     frequent::update_all_weighted(alloc, handle, items, weights)
 }
 
-/// Adds a weight to that of each number, one after another. A weight of 0 changes nothing.
+/// Adds a weight to each number's, in order. A weight of 0 changes nothing.
 ///
-/// Refused with `NO_ROOM` where there are more or fewer weights than numbers, and with `WeightOverflow` where the weight of
-/// all numbers would pass the greatest `u64`. The sketch is then as it was. Refused with `NoMemory` at the first number for
-/// which the table must double and there is no memory: the numbers before it are added then, and neither it nor those
-/// behind it are.
+/// Returns `NO_ROOM` unless there are as many weights as numbers, and `WeightOverflow` if the total would exceed the
+/// greatest `u64` with all weights; then none is added. Returns `NoMemory` for the first number for which the table
+/// cannot grow; then the numbers before it are added, and no others.
 #[unsafe(no_mangle)]
 pub extern "C" fn ds_frequent_i64_update_all_weighted(
     alloc: Global,
@@ -189,10 +183,8 @@ pub extern "C" fn ds_frequent_i64_update_all_weighted(
     frequent::update_all_weighted(alloc, handle, items, weights)
 }
 
-/// Writes down the bounds and the estimate of a text's weight.
-///
-/// Refused for `InvalidUtf8` where the bytes are no text, and for `NoMemory` where there is no memory for the text. The bounds
-/// are then as they were.
+/// Writes the bounds and the estimate of a string's weight. Returns `InvalidUtf8` if the bytes are not UTF-8, and
+/// `NoMemory` if the string cannot be copied.
 #[unsafe(no_mangle)]
 pub extern "C" fn ds_frequent_text_bounds(
     alloc: Global,
@@ -211,7 +203,7 @@ pub extern "C" fn ds_frequent_text_bounds(
     })
 }
 
-/// Writes down the bounds and the estimate of a number's weight.
+/// Writes the bounds and the estimate of a number's weight.
 #[unsafe(no_mangle)]
 pub extern "C" fn ds_frequent_u64_bounds(
     alloc: Global,
@@ -227,7 +219,7 @@ pub extern "C" fn ds_frequent_u64_bounds(
     frequent::bounds(alloc, handle, &item, bounds)
 }
 
-/// Writes down the bounds and the estimate of a number's weight.
+/// Writes the bounds and the estimate of a number's weight.
 #[unsafe(no_mangle)]
 pub extern "C" fn ds_frequent_i64_bounds(
     alloc: Global,
@@ -243,8 +235,8 @@ pub extern "C" fn ds_frequent_i64_bounds(
     frequent::bounds(alloc, handle, &item, bounds)
 }
 
-/// Writes down the bounds and the estimate of each number's weight. There are as many bounds as numbers, else `NO_ROOM`. A
-/// refusal leaves `bounds` as it was.
+/// Writes the bounds and the estimate of each number's weight. Returns `NO_ROOM` unless there are as many bounds as
+/// numbers.
 #[unsafe(no_mangle)]
 pub extern "C" fn ds_frequent_u64_bounds_all(
     alloc: Global,
@@ -262,8 +254,8 @@ pub extern "C" fn ds_frequent_u64_bounds_all(
     frequent::bounds_all(alloc, handle, items, bounds)
 }
 
-/// Writes down the bounds and the estimate of each number's weight. There are as many bounds as numbers, else `NO_ROOM`. A
-/// refusal leaves `bounds` as it was.
+/// Writes the bounds and the estimate of each number's weight. Returns `NO_ROOM` unless there are as many bounds as
+/// numbers.
 #[unsafe(no_mangle)]
 pub extern "C" fn ds_frequent_i64_bounds_all(
     alloc: Global,
@@ -281,13 +273,15 @@ pub extern "C" fn ds_frequent_i64_bounds_all(
     frequent::bounds_all(alloc, handle, items, bounds)
 }
 
-/// Writes down the tracked texts whose bound is above both the threshold and the error, in rows that descend by estimate.
-/// The texts stand one behind the other at the front of `bytes`, text i from offset i up to offset i + 1, of which the
-/// first is 0, and their bounds at the front of `bounds`. With `no_false_negatives` it is the upper bound that counts, and
-/// else the lower one. `count` is how many rows there are, and `num_bytes` how many bytes they have, also where there is
-/// no room. There is one offset more than rows.
+/// Writes the tracked strings whose bound exceeds both the threshold and the error, in rows of descending estimates.
+/// The strings stand one after another at the front of `bytes`, string i from offset i up to offset i + 1, and their
+/// bounds at the front of `bounds`. The first offset is 0, and there is one more offset than rows. `count` is the
+/// number of rows, and `num_bytes` that of the bytes of all strings.
 ///
-/// Refused with no room where a buffer is shorter than that, and for `NoMemory`. The buffers are then as they were.
+/// With `no_false_negatives` the upper bound is compared, and each string is there whose true weight exceeds both.
+/// Otherwise the lower bound is compared, and no other string is there.
+///
+/// Returns `NoMemory`, or `NO_ROOM` if a buffer is too short; then only `count` and `num_bytes` are written.
 #[unsafe(no_mangle)]
 pub extern "C" fn ds_frequent_text_rows(
     alloc: Global,
@@ -313,11 +307,13 @@ pub extern "C" fn ds_frequent_text_rows(
     on_kind!(alloc, handle, FrequentItemsSketch<String>, sketch => write_rows(sketch, no_false_negatives, threshold, bytes, offsets, bounds, count, num_bytes))
 }
 
-/// Writes down the tracked numbers whose bound is above both the threshold and the error, in rows that descend by
-/// estimate: a number and its bounds for each, at the front of both buffers. With `no_false_negatives` it is the upper bound
-/// that counts, and else the lower one. `count` is how many rows there are, also where there is no room.
+/// Writes the tracked numbers whose bound exceeds both the threshold and the error, in rows of descending estimates: a
+/// number and its bounds each, at the front of both buffers. `count` is the number of rows.
 ///
-/// Refused with no room where a buffer is shorter than that, and for `NoMemory`. Both buffers are then as they were.
+/// With `no_false_negatives` the upper bound is compared, and each number is there whose true weight exceeds both.
+/// Otherwise the lower bound is compared, and no other number is there.
+///
+/// Returns `NoMemory`, or `NO_ROOM` if a buffer is too short; then only `count` is written.
 #[unsafe(no_mangle)]
 pub extern "C" fn ds_frequent_u64_rows(
     alloc: Global,
@@ -346,11 +342,13 @@ pub extern "C" fn ds_frequent_u64_rows(
     )
 }
 
-/// Writes down the tracked numbers whose bound is above both the threshold and the error, in rows that descend by
-/// estimate: a number and its bounds for each, at the front of both buffers. With `no_false_negatives` it is the upper bound
-/// that counts, and else the lower one. `count` is how many rows there are, also where there is no room.
+/// Writes the tracked numbers whose bound exceeds both the threshold and the error, in rows of descending estimates: a
+/// number and its bounds each, at the front of both buffers. `count` is the number of rows.
 ///
-/// Refused with no room where a buffer is shorter than that, and for `NoMemory`. Both buffers are then as they were.
+/// With `no_false_negatives` the upper bound is compared, and each number is there whose true weight exceeds both.
+/// Otherwise the lower bound is compared, and no other number is there.
+///
+/// Returns `NoMemory`, or `NO_ROOM` if a buffer is too short; then only `count` is written.
 #[unsafe(no_mangle)]
 pub extern "C" fn ds_frequent_i64_rows(
     alloc: Global,

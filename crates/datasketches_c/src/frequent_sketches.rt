@@ -5,12 +5,12 @@ ghost use Rattle.std.specs.String.{string_bytes};
 ghost use Rattle.sketch_base.specs.Errors.{refusal_of};
 ghost use Rattle.sketch_frequencies.specs.History.FrequentHistory.{New};
 ghost use Rattle.sketch_frequencies.specs.Image.{early_fault_within, first_fault_within};
-ghost use Rattle.sketch_frequencies.specs.Items.{text_codec};
+ghost use Rattle.sketch_frequencies.specs.Items.{i64_codec, text_codec, u64_codec};
 ghost use Rattle.sketch_frequencies.specs.Sizes.{sizes_fault};
 ghost use Rattle.sketch_frequencies.specs.Stands.{KeepsTailBudget, StandsFor};
 ghost use Rattle.sketch_frequencies.specs.State.{empty_state};
 ghost use Rattle.datasketches_c.specs.FrequentCalls.{AreNumbers, Empties, MergesInto};
-ghost use Rattle.datasketches_c.specs.FrequentImages.{IsRestored, WritesFrequent, i64_codec, i64_row, u64_codec, u64_row};
+ghost use Rattle.datasketches_c.specs.FrequentImages.{IsRestored, WritesFrequent, i64_row, u64_row};
 ghost use Rattle.datasketches_c.specs.FrequentTextImages.{WritesFrequentTexts, text_row};
 ghost use Rattle.datasketches_c.specs.FrequentTexts.{text_eq};
 ghost use Rattle.datasketches_c.specs.Images.{IsRefusedImage};
@@ -26,12 +26,12 @@ use crate::making::put_made;
 use sketch_frequencies::FrequentItemsSketch;
 use std::alloc::Global;
 
-/// Makes a sketch of frequent texts in place of what the handle has, which is freed. Its table may grow to
-/// `max_map_size` slots, a power of two from 8 to 2^30, and its purges sample `sample_size` counters, an even number from
-/// 2 to three quarters of `max_map_size`, at most 1024.
+/// Puts an empty sketch of frequent strings into the handle, and frees what the handle had. Its table may grow to
+/// `max_map_size` slots, a power of two from 8 to 2^30. Its purges sample `sample_size` counters, an even number from 2
+/// to three quarters of `max_map_size`, at most 1024.
 ///
-/// Refused for `MapSizeNotPowerOfTwo`, `MapSizeTooSmall`, `MapSizeTooLarge`, `BadSampleSize` and `NoMemory`; what the
-/// handle has then stays.
+/// Returns, in this order, `MapSizeNotPowerOfTwo`, `MapSizeTooSmall`, `MapSizeTooLarge`, `BadSampleSize` and
+/// `NoMemory`.
 #[unsafe(no_mangle)]
 pub extern "C" fn ds_frequent_text_new(
     alloc: Global,
@@ -51,12 +51,12 @@ pub extern "C" fn ds_frequent_text_new(
     put_made(alloc, handle, made)
 }
 
-/// Makes a sketch of frequent numbers in place of what the handle has, which is freed. Its table may grow to
-/// `max_map_size` slots, a power of two from 8 to 2^30, and its purges sample `sample_size` counters, an even number from
-/// 2 to three quarters of `max_map_size`, at most 1024.
+/// Puts an empty sketch of frequent numbers into the handle, and frees what the handle had. Its table may grow to
+/// `max_map_size` slots, a power of two from 8 to 2^30. Its purges sample `sample_size` counters, an even number from 2
+/// to three quarters of `max_map_size`, at most 1024.
 ///
-/// Refused for `MapSizeNotPowerOfTwo`, `MapSizeTooSmall`, `MapSizeTooLarge`, `BadSampleSize` and `NoMemory`; what the
-/// handle has then stays.
+/// Returns, in this order, `MapSizeNotPowerOfTwo`, `MapSizeTooSmall`, `MapSizeTooLarge`, `BadSampleSize` and
+/// `NoMemory`.
 #[unsafe(no_mangle)]
 pub extern "C" fn ds_frequent_u64_new(
     alloc: Global,
@@ -76,12 +76,12 @@ pub extern "C" fn ds_frequent_u64_new(
     put_made(alloc, handle, made)
 }
 
-/// Makes a sketch of frequent numbers in place of what the handle has, which is freed. Its table may grow to
-/// `max_map_size` slots, a power of two from 8 to 2^30, and its purges sample `sample_size` counters, an even number from
-/// 2 to three quarters of `max_map_size`, at most 1024.
+/// Puts an empty sketch of frequent numbers into the handle, and frees what the handle had. Its table may grow to
+/// `max_map_size` slots, a power of two from 8 to 2^30. Its purges sample `sample_size` counters, an even number from 2
+/// to three quarters of `max_map_size`, at most 1024.
 ///
-/// Refused for `MapSizeNotPowerOfTwo`, `MapSizeTooSmall`, `MapSizeTooLarge`, `BadSampleSize` and `NoMemory`; what the
-/// handle has then stays.
+/// Returns, in this order, `MapSizeNotPowerOfTwo`, `MapSizeTooSmall`, `MapSizeTooLarge`, `BadSampleSize` and
+/// `NoMemory`.
 #[unsafe(no_mangle)]
 pub extern "C" fn ds_frequent_i64_new(
     alloc: Global,
@@ -102,10 +102,9 @@ pub extern "C" fn ds_frequent_i64_new(
 }
 
 /// Merges the other sketch into this one, which then stands for both streams and keeps its own sizes. The other sketch
-/// stays.
+/// stays as it was.
 ///
-/// Refused for `WeightOverflow` where the weight of both together would pass the greatest `u64`, and for `NoMemory` where
-/// there is no memory for the result. This sketch is then as it was.
+/// Returns `WeightOverflow` if the totals together exceed the greatest `u64`, and `NoMemory`.
 #[unsafe(no_mangle)]
 pub extern "C" fn ds_frequent_text_merge(
     alloc: Global,
@@ -122,10 +121,9 @@ pub extern "C" fn ds_frequent_text_merge(
 }
 
 /// Merges the other sketch into this one, which then stands for both streams and keeps its own sizes. The other sketch
-/// stays.
+/// stays as it was.
 ///
-/// Refused for `WeightOverflow` where the weight of both together would pass the greatest `u64`, and for `NoMemory` where
-/// there is no memory for the result. This sketch is then as it was.
+/// Returns `WeightOverflow` if the totals together exceed the greatest `u64`, and `NoMemory`.
 #[unsafe(no_mangle)]
 pub extern "C" fn ds_frequent_u64_merge(
     alloc: Global,
@@ -142,10 +140,9 @@ pub extern "C" fn ds_frequent_u64_merge(
 }
 
 /// Merges the other sketch into this one, which then stands for both streams and keeps its own sizes. The other sketch
-/// stays.
+/// stays as it was.
 ///
-/// Refused for `WeightOverflow` where the weight of both together would pass the greatest `u64`, and for `NoMemory` where
-/// there is no memory for the result. This sketch is then as it was.
+/// Returns `WeightOverflow` if the totals together exceed the greatest `u64`, and `NoMemory`.
 #[unsafe(no_mangle)]
 pub extern "C" fn ds_frequent_i64_merge(
     alloc: Global,
@@ -161,7 +158,7 @@ pub extern "C" fn ds_frequent_i64_merge(
     join::<FrequentItemsSketch<i64>, ()>(alloc, handle, other, ())
 }
 
-/// Forgets everything but the greatest size and the sample size.
+/// Removes all items. The greatest size and the sample size stay as they were.
 #[unsafe(no_mangle)]
 pub extern "C" fn ds_frequent_text_reset(alloc: Global, handle: &mut SketchHandle) -> i32
     ensures { OnFrequentTexts handle.old.value handle.new.value result (λ s.
@@ -170,7 +167,7 @@ pub extern "C" fn ds_frequent_text_reset(alloc: Global, handle: &mut SketchHandl
     frequent::reset::<String>(alloc, handle)
 }
 
-/// Forgets everything but the greatest size and the sample size.
+/// Removes all items. The greatest size and the sample size stay as they were.
 #[unsafe(no_mangle)]
 pub extern "C" fn ds_frequent_u64_reset(alloc: Global, handle: &mut SketchHandle) -> i32
     ensures { OnFrequentU64 handle.old.value handle.new.value result (λ s.
@@ -179,7 +176,7 @@ pub extern "C" fn ds_frequent_u64_reset(alloc: Global, handle: &mut SketchHandle
     frequent::reset::<u64>(alloc, handle)
 }
 
-/// Forgets everything but the greatest size and the sample size.
+/// Removes all items. The greatest size and the sample size stay as they were.
 #[unsafe(no_mangle)]
 pub extern "C" fn ds_frequent_i64_reset(alloc: Global, handle: &mut SketchHandle) -> i32
     ensures { OnFrequentI64 handle.old.value handle.new.value result (λ s.
@@ -188,7 +185,7 @@ pub extern "C" fn ds_frequent_i64_reset(alloc: Global, handle: &mut SketchHandle
     frequent::reset::<i64>(alloc, handle)
 }
 
-/// Writes down the sketch's numbers. Sizes are in slots, and capacities in counters.
+/// Writes the sketch's numbers. Sizes are in slots, and capacities in counters.
 #[unsafe(no_mangle)]
 pub extern "C" fn ds_frequent_text_status(
     alloc: Global,
@@ -203,7 +200,7 @@ pub extern "C" fn ds_frequent_text_status(
     frequent::status::<String>(alloc, handle, status)
 }
 
-/// Writes down the sketch's numbers. Sizes are in slots, and capacities in counters.
+/// Writes the sketch's numbers. Sizes are in slots, and capacities in counters.
 #[unsafe(no_mangle)]
 pub extern "C" fn ds_frequent_u64_status(
     alloc: Global,
@@ -218,7 +215,7 @@ pub extern "C" fn ds_frequent_u64_status(
     frequent::status::<u64>(alloc, handle, status)
 }
 
-/// Writes down the sketch's numbers. Sizes are in slots, and capacities in counters.
+/// Writes the sketch's numbers. Sizes are in slots, and capacities in counters.
 #[unsafe(no_mangle)]
 pub extern "C" fn ds_frequent_i64_status(
     alloc: Global,
@@ -233,11 +230,10 @@ pub extern "C" fn ds_frequent_i64_status(
     frequent::status::<i64>(alloc, handle, status)
 }
 
-/// Writes the sketch's image to the front of the caller's buffer, and says how many bytes long it is, also where there is
-/// no room. The sample size is not in it.
+/// Writes the sketch's image, without its sample size, to the front of `out`, and its length in bytes to `written`.
 ///
-/// Refused with no room where the buffer is shorter than the image, for `NoMemory`, and for `ItemTooLong` where a text has
-/// more than 2^32 - 1 bytes. The buffer is then as it was.
+/// Returns `NoMemory`, `ItemTooLong` if a string has 2^32 bytes or more, or `NO_ROOM` if the image is longer than
+/// `out`; then `written` is its length.
 #[unsafe(no_mangle)]
 pub extern "C" fn ds_frequent_text_to_bytes(
     alloc: Global,
@@ -254,10 +250,9 @@ pub extern "C" fn ds_frequent_text_to_bytes(
     to_bytes::<FrequentItemsSketch<String>>(alloc, handle, out, written)
 }
 
-/// Writes the sketch's image to the front of the caller's buffer, and says how many bytes long it is, also where there is
-/// no room. The sample size is not in it.
+/// Writes the sketch's image, without its sample size, to the front of `out`, and its length in bytes to `written`.
 ///
-/// Refused with no room where the buffer is shorter than the image, and for `NoMemory`. The buffer is then as it was.
+/// Returns `NoMemory`, or `NO_ROOM` if the image is longer than `out`; then `written` is its length.
 #[unsafe(no_mangle)]
 pub extern "C" fn ds_frequent_u64_to_bytes(
     alloc: Global,
@@ -274,10 +269,9 @@ pub extern "C" fn ds_frequent_u64_to_bytes(
     to_bytes::<FrequentItemsSketch<u64>>(alloc, handle, out, written)
 }
 
-/// Writes the sketch's image to the front of the caller's buffer, and says how many bytes long it is, also where there is
-/// no room. The sample size is not in it.
+/// Writes the sketch's image, without its sample size, to the front of `out`, and its length in bytes to `written`.
 ///
-/// Refused with no room where the buffer is shorter than the image, and for `NoMemory`. The buffer is then as it was.
+/// Returns `NoMemory`, or `NO_ROOM` if the image is longer than `out`; then `written` is its length.
 #[unsafe(no_mangle)]
 pub extern "C" fn ds_frequent_i64_to_bytes(
     alloc: Global,
@@ -294,11 +288,11 @@ pub extern "C" fn ds_frequent_i64_to_bytes(
     to_bytes::<FrequentItemsSketch<i64>>(alloc, handle, out, written)
 }
 
-/// Makes the sketch of an image, whose table takes at most so many bytes, in place of what the handle has, which is freed.
-/// Its purges sample as many counters as they may: three quarters of its greatest size, at most 1024.
+/// Reads a sketch from its image, puts it into the handle, and frees what the handle had. It takes the largest sample
+/// size, since an image has none.
 ///
-/// Refused for the image's first fault, for `TableTooLarge` above the limit, and for `NoMemory`; what the handle has then
-/// stays.
+/// Returns the fault of the image's first failed check, `TableTooLarge` if the table, by its formula, and all bytes
+/// after the weights are more than `most_bytes`, and `NoMemory`.
 #[unsafe(no_mangle)]
 pub extern "C" fn ds_frequent_text_from_bytes(
     alloc: Global,
@@ -309,17 +303,18 @@ pub extern "C" fn ds_frequent_text_from_bytes(
     ensures done { OnDone result ((result ≡ ok) × HoldsFrequentTexts handle.new.value
         (IsRestored text_row text_eq text_codec (λ text. string_bytes text) image.now most_bytes)) }
     ensures refused { OnRefused result ((handle.new.value ≡ handle.old.value) × IsRefusedImage
-        (early_fault_within text_row most_bytes image.now) (first_fault_within text_row most_bytes text_codec image.now) result) }
+        (early_fault_within text_row most_bytes text_codec image.now)
+        (first_fault_within text_row most_bytes text_codec image.now) result) }
 {
     let read = FrequentItemsSketch::<String>::deserialize_with_limit(alloc, image, most_bytes);
     put_made(alloc, handle, read)
 }
 
-/// Makes the sketch of an image, whose table takes at most so many bytes, in place of what the handle has, which is freed.
-/// Its purges sample as many counters as they may: three quarters of its greatest size, at most 1024.
+/// Reads a sketch from its image, puts it into the handle, and frees what the handle had. It takes the largest sample
+/// size, since an image has none.
 ///
-/// Refused for the image's first fault, for `TableTooLarge` above the limit, and for `NoMemory`; what the handle has then
-/// stays.
+/// Returns the fault of the image's first failed check, `TableTooLarge` if the table, by its formula, takes more than
+/// `most_bytes`, and `NoMemory`.
 #[unsafe(no_mangle)]
 pub extern "C" fn ds_frequent_u64_from_bytes(
     alloc: Global,
@@ -330,17 +325,18 @@ pub extern "C" fn ds_frequent_u64_from_bytes(
     ensures done { OnDone result ((result ≡ ok) × HoldsFrequentU64 handle.new.value
         (IsRestored u64_row nat_eq u64_codec (λ n. n) image.now most_bytes)) }
     ensures refused { OnRefused result ((handle.new.value ≡ handle.old.value) × IsRefusedImage
-        (early_fault_within u64_row most_bytes image.now) (first_fault_within u64_row most_bytes u64_codec image.now) result) }
+        (early_fault_within u64_row most_bytes u64_codec image.now)
+        (first_fault_within u64_row most_bytes u64_codec image.now) result) }
 {
     let read = FrequentItemsSketch::<u64>::deserialize_with_limit(alloc, image, most_bytes);
     put_made(alloc, handle, read)
 }
 
-/// Makes the sketch of an image, whose table takes at most so many bytes, in place of what the handle has, which is freed.
-/// Its purges sample as many counters as they may: three quarters of its greatest size, at most 1024.
+/// Reads a sketch from its image, puts it into the handle, and frees what the handle had. It takes the largest sample
+/// size, since an image has none.
 ///
-/// Refused for the image's first fault, for `TableTooLarge` above the limit, and for `NoMemory`; what the handle has then
-/// stays.
+/// Returns the fault of the image's first failed check, `TableTooLarge` if the table, by its formula, takes more than
+/// `most_bytes`, and `NoMemory`.
 #[unsafe(no_mangle)]
 pub extern "C" fn ds_frequent_i64_from_bytes(
     alloc: Global,
@@ -351,7 +347,8 @@ pub extern "C" fn ds_frequent_i64_from_bytes(
     ensures done { OnDone result ((result ≡ ok) × HoldsFrequentI64 handle.new.value
         (IsRestored i64_row int_eq i64_codec (λ n. n) image.now most_bytes)) }
     ensures refused { OnRefused result ((handle.new.value ≡ handle.old.value) × IsRefusedImage
-        (early_fault_within i64_row most_bytes image.now) (first_fault_within i64_row most_bytes i64_codec image.now) result) }
+        (early_fault_within i64_row most_bytes i64_codec image.now)
+        (first_fault_within i64_row most_bytes i64_codec image.now) result) }
 {
     let read = FrequentItemsSketch::<i64>::deserialize_with_limit(alloc, image, most_bytes);
     put_made(alloc, handle, read)

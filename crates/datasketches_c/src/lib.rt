@@ -26,6 +26,7 @@ mod kind;
 pub mod laws;
 mod making;
 mod many_texts;
+mod memory;
 mod raw_box;
 mod sizes;
 pub mod status_code;

@@ -28,11 +28,11 @@ use sketch_bloom::BloomFilter;
 use sketch_frequencies::FrequentItemsSketch;
 use std::alloc::Global;
 
-/// Inserts many texts, as one after another. They are the bytes between each of the offsets and the next, so there is
-/// one offset more than texts.
+/// Inserts many strings, as one after another. They are the bytes between each offset and the next, so there is one
+/// more offset than strings.
 ///
-/// Refused with `BAD_OFFSETS` where there is no offset, one is below the one before it, or one passes the end of the
-/// bytes, and with `InvalidUtf8` where some text is not UTF-8. The filter is then as it was.
+/// Returns `BAD_OFFSETS` if there is no offset, one is below the one before it, or one passes the end of the bytes,
+/// then `InvalidUtf8` if some string is not UTF-8.
 #[unsafe(no_mangle)]
 pub extern "C" fn ds_filter_insert_all_text(
     alloc: Global,
@@ -59,12 +59,10 @@ pub extern "C" fn ds_filter_insert_all_text(
     })
 }
 
-/// Writes down for each text whether the filter contains it. The texts are the bytes between each of the offsets and
-/// the next, and there are as many answers as texts.
+/// Writes for each string whether the filter contains it. The strings are the bytes between each offset and the next.
 ///
-/// Refused with `BAD_OFFSETS` where there is no offset, one is below the one before it, or one passes the end of the
-/// bytes, then with `NO_ROOM` where there are more or fewer answers than texts, then with `InvalidUtf8` where some text
-/// is not UTF-8. The answers are then as they were.
+/// Returns `BAD_OFFSETS` if there is no offset, one is below the one before it, or one passes the end of the bytes,
+/// then `NO_ROOM` unless there are as many answers as strings, then `InvalidUtf8` if some string is not UTF-8.
 #[unsafe(no_mangle)]
 pub extern "C" fn ds_filter_contains_all_text(
     alloc: Global,
@@ -92,11 +90,11 @@ pub extern "C" fn ds_filter_contains_all_text(
     })
 }
 
-/// Adds 1 to the weight of each text, as far as the total has room: the texts that come first are counted, and where
-/// there are more, the answer is `WeightOverflow`. The texts are the bytes between each of the offsets and the next.
+/// Adds 1 to the weight of each string, in order. The strings are the bytes between each offset and the next.
 ///
-/// Refused with `BAD_OFFSETS` where there is no offset, one is below the one before it, or one passes the end of the
-/// bytes, and with `InvalidUtf8` where some text is not UTF-8. Then no text is counted.
+/// Returns `BAD_OFFSETS` if there is no offset, one is below the one before it, or one passes the end of the bytes,
+/// then `InvalidUtf8` if some string is not UTF-8; then none is counted. Returns `WeightOverflow` if the total has no
+/// room for all; then the strings before the first that does not fit are counted.
 #[unsafe(no_mangle)]
 pub extern "C" fn ds_count_u64_update_all_text(
     alloc: Global,
@@ -114,11 +112,11 @@ pub extern "C" fn ds_count_u64_update_all_text(
     count::update_all_text::<u64>(alloc, handle, bytes, offsets)
 }
 
-/// Adds 1 to the weight of each text, as far as the total has room: the texts that come first are counted, and where
-/// there are more, the answer is `WeightOverflow`. The texts are the bytes between each of the offsets and the next.
+/// Adds 1 to the weight of each string, in order. The strings are the bytes between each offset and the next.
 ///
-/// Refused with `BAD_OFFSETS` where there is no offset, one is below the one before it, or one passes the end of the
-/// bytes, and with `InvalidUtf8` where some text is not UTF-8. Then no text is counted.
+/// Returns `BAD_OFFSETS` if there is no offset, one is below the one before it, or one passes the end of the bytes,
+/// then `InvalidUtf8` if some string is not UTF-8; then none is counted. Returns `WeightOverflow` if the total has no
+/// room for all; then the strings before the first that does not fit are counted.
 #[unsafe(no_mangle)]
 pub extern "C" fn ds_count_i64_update_all_text(
     alloc: Global,
@@ -136,13 +134,12 @@ pub extern "C" fn ds_count_i64_update_all_text(
     count::update_all_text::<i64>(alloc, handle, bytes, offsets)
 }
 
-/// Adds 1 to the weight of each text, one after another. The texts are the bytes between each of the offsets and the next,
-/// so there is one offset more than texts.
+/// Adds 1 to the weight of each string, in order. The strings are the bytes between each offset and the next, so there
+/// is one more offset than strings.
 ///
-/// Refused with `BAD_OFFSETS` where there is no offset, one is below the one before it, or one passes the end of the
-/// bytes, and with `InvalidUtf8` where some text is not UTF-8. The sketch is then as it was. Refused as
-/// `ds_frequent_text_update` at the first text that it refuses: the texts before it are added then, and neither it nor those
-/// behind it are.
+/// Returns `BAD_OFFSETS` if there is no offset, one is below the one before it, or one passes the end of the bytes,
+/// then `InvalidUtf8` if some string is not UTF-8; then none is added. Returns the error of the first string for which
+/// `ds_frequent_text_update` returns one; then the strings before it are added, and no others.
 #[unsafe(no_mangle)]
 pub extern "C" fn ds_frequent_text_update_all(
     alloc: Global,
@@ -164,12 +161,10 @@ pub extern "C" fn ds_frequent_text_update_all(
     on_kind!(alloc, handle, FrequentItemsSketch<String>, sketch => update_texts(alloc, sketch, bytes, offsets))
 }
 
-/// Writes down the estimate of each text's weight. The texts are the bytes between each of the offsets and the next, and
-/// there are as many estimates as texts.
+/// Writes the estimate of each string's weight. The strings are the bytes between each offset and the next.
 ///
-/// Refused with `BAD_OFFSETS` where there is no offset, one is below the one before it, or one passes the end of the
-/// bytes, then with `NO_ROOM` where there are more or fewer estimates than texts, then with `InvalidUtf8` where some
-/// text is not UTF-8. The estimates are then as they were.
+/// Returns `BAD_OFFSETS` if there is no offset, one is below the one before it, or one passes the end of the bytes,
+/// then `NO_ROOM` unless there are as many estimates as strings, then `InvalidUtf8` if some string is not UTF-8.
 #[unsafe(no_mangle)]
 pub extern "C" fn ds_count_u64_estimate_all_text(
     alloc: Global,
@@ -191,12 +186,10 @@ pub extern "C" fn ds_count_u64_estimate_all_text(
     count::estimate_all_text(alloc, handle, bytes, offsets, estimates)
 }
 
-/// Writes down the estimate of each text's weight. The texts are the bytes between each of the offsets and the next, and
-/// there are as many estimates as texts.
+/// Writes the estimate of each string's weight. The strings are the bytes between each offset and the next.
 ///
-/// Refused with `BAD_OFFSETS` where there is no offset, one is below the one before it, or one passes the end of the
-/// bytes, then with `NO_ROOM` where there are more or fewer estimates than texts, then with `InvalidUtf8` where some
-/// text is not UTF-8. The estimates are then as they were.
+/// Returns `BAD_OFFSETS` if there is no offset, one is below the one before it, or one passes the end of the bytes,
+/// then `NO_ROOM` unless there are as many estimates as strings, then `InvalidUtf8` if some string is not UTF-8.
 #[unsafe(no_mangle)]
 pub extern "C" fn ds_count_i64_estimate_all_text(
     alloc: Global,
@@ -218,13 +211,13 @@ pub extern "C" fn ds_count_i64_estimate_all_text(
     count::estimate_all_text(alloc, handle, bytes, offsets, estimates)
 }
 
-/// Writes down the bounds and the estimate of each text's weight. The texts are the bytes between each of the offsets and
-/// the next, and there are as many bounds as texts.
+/// Writes the bounds and the estimate of each string's weight. The strings are the bytes between each offset and the
+/// next.
 ///
-/// Refused with `BAD_OFFSETS` where there is no offset, one is below the one before it, or one passes the end of the
-/// bytes, then with `NO_ROOM` where there are more or fewer bounds than texts, then with `InvalidUtf8` where some text is
-/// not UTF-8. The bounds are then as they were. Refused with `NoMemory` at the first text for which there is no memory:
-/// the texts before it have their bounds then, and what is behind these is as it was.
+/// Returns `BAD_OFFSETS` if there is no offset, one is below the one before it, or one passes the end of the bytes,
+/// then `NO_ROOM` unless there are as many bounds as strings, then `InvalidUtf8` if some string is not UTF-8. Returns
+/// `NoMemory` for the first string that cannot be copied; then the bounds of the strings before it are written, and the
+/// others stay as they were.
 #[unsafe(no_mangle)]
 pub extern "C" fn ds_frequent_text_bounds_all(
     alloc: Global,

@@ -23,10 +23,10 @@ macro_rules! write_down {
     };
 }
 
-/// Writes down the least greatest size of a sketch of frequent items that promises an error of at most the weight of all
-/// items over `parts`, for every stream.
+/// Writes the least greatest size of a sketch of frequent items whose guarantee is an error of at most the total over
+/// `parts`, for every stream.
 ///
-/// It is refused with `MapSizeTooLarge` above 512 parts.
+/// Returns `MapSizeTooLarge` above 512 parts.
 #[unsafe(no_mangle)]
 pub extern "C" fn ds_frequent_map_size_for(parts: usize, max_map_size: &mut usize) -> i32
     ensures done { OnDone result ((result ≡ ok) × (parts ≤ usual_budget max_map_size.new)
@@ -38,10 +38,9 @@ pub extern "C" fn ds_frequent_map_size_for(parts: usize, max_map_size: &mut usiz
     write_down!(suggest_max_map_size(parts) => max_map_size)
 }
 
-/// Writes down how many buckets the published formula of Count-Min asks for, so that an estimate is at most the total over
-/// `parts` above the item's own weight: e times `parts`, rounded up.
+/// Writes the buckets of Count-Min by the published formula: e times `parts`, rounded up.
 ///
-/// It is refused with `BadNumBuckets` for 0 parts, and with `TableTooLarge` where that is 2^30 or more.
+/// Returns `BadNumBuckets` for 0 parts, and `TableTooLarge` for 2^30 buckets and more.
 #[unsafe(no_mangle)]
 pub extern "C" fn ds_count_buckets_for(parts: u64, num_buckets: &mut u32) -> i32
     ensures done { OnDone result ((result ≡ ok) × IsETimesWithin parts num_buckets.new
@@ -54,10 +53,9 @@ pub extern "C" fn ds_count_buckets_for(parts: u64, num_buckets: &mut u32) -> i32
     write_down!(sketch_countmin::suggest_num_buckets(parts) => num_buckets)
 }
 
-/// Writes down how many hashes the published formula of Count-Min asks for, so that at most one estimate in `questions` is
-/// further above: the natural logarithm of `questions`, rounded up.
+/// Writes the hashes of Count-Min by the published formula: the natural logarithm of `questions`, rounded up.
 ///
-/// It is refused with `BadNumHashes` for 0 and 1 question.
+/// Returns `BadNumHashes` for 0 and 1 question.
 #[unsafe(no_mangle)]
 pub extern "C" fn ds_count_hashes_for(questions: u64, num_hashes: &mut u8) -> i32
     ensures done { OnDone result ((result ≡ ok) × IsWithinPowerOfE questions num_hashes.new
@@ -69,11 +67,11 @@ pub extern "C" fn ds_count_hashes_for(questions: u64, num_hashes: &mut u8) -> i3
     write_down!(sketch_countmin::suggest_num_hashes(questions) => num_hashes)
 }
 
-/// Writes down how many bits the published formula of filters asks for, so that a filter of so many items answers yes wrongly
-/// to about one question in `questions`, with the binary logarithm of `questions` rounded up to 64ths: never fewer than the
-/// formula asks for.
+/// Writes the bits of a filter by the published formula: items times ln `questions` over the square of ln 2, with the
+/// binary logarithm of `questions` rounded up to 64ths. Under ideal hashes the false-positive rate is about 1 in
+/// `questions`.
 ///
-/// It is refused with `BadNumBits` for no items, for 0 and 1 question, and above 137438953152 bits.
+/// Returns `BadNumBits` for 0 items, for 0 and 1 question, and above 137438953152 bits.
 #[unsafe(no_mangle)]
 pub extern "C" fn ds_filter_bits_for(num_items: u64, questions: u64, num_bits: &mut u64) -> i32
     ensures done { OnDone result ((result ≡ ok) × AreEnoughBits num_items questions num_bits.new
@@ -88,11 +86,10 @@ pub extern "C" fn ds_filter_bits_for(num_items: u64, questions: u64, num_bits: &
     write_down!(sketch_bloom::suggest_num_bits(num_items, questions) => num_bits)
 }
 
-/// Writes down how many hashes the published formula of filters asks for: bits over items times the natural logarithm of 2,
-/// rounded up.
+/// Writes the hashes of a filter by the published formula: bits over items times ln 2, rounded up.
 ///
-/// It is refused with `BadNumBits` unless there are 1 to 137438953152 bits, and with `BadNumHashes` for no items and above
-/// 32767 hashes, in this order.
+/// Returns `BadNumBits` unless there are 1 to 137438953152 bits, and then `BadNumHashes` for 0 items and above 32767
+/// hashes.
 #[unsafe(no_mangle)]
 pub extern "C" fn ds_filter_hashes_for(num_bits: u64, num_items: u64, num_hashes: &mut u16) -> i32
     ensures done { OnDone result ((result ≡ ok) × IsLn2TimesWithin num_bits (num_hashes.new * num_items)

@@ -1,6 +1,7 @@
 use Rattle.std.proofs.Common.{rules}
 use Rattle.counter_table.specs.Bytes.{table_bytes}
-use Rattle.datasketches_c.specs.FrequentImages.{i64_codec, i64_row}
+use Rattle.sketch_frequencies.specs.Items.{i64_codec}
+use Rattle.datasketches_c.specs.FrequentImages.{i64_row}
 use Rattle.datasketches_c.proofs.Reading.{items_not_read}
 use Rattle.datasketches_c.proofs.frequent_sketches.ds_frequent_i64_from_bytes.Goals as goal
 
@@ -8,4 +9,4 @@ use Rattle.datasketches_c.proofs.frequent_sketches.ds_frequent_i64_from_bytes.Go
 pub returns : goal.returns
 unfolding table_bytes
 returns c =
-    record { done = search rules; refused = search (rules, items_not_read i64_row i64_codec (λ n. n) c.args.most_bytes c.args.image.now c.deserialize_with_limit-read.result c.put_made.result _ c.deserialize_with_limit-read.ensures.image c.deserialize_with_limit-read.ensures.within c.deserialize_with_limit-read.ensures.err c.put_made.ensures.refused) }
+    record { done = search rules; refused = search (rules, items_not_read i64_row i64_codec (λ n. n) c.args.most_bytes c.args.image.now c.deserialize_with_limit-read.result c.put_made.result _ c.deserialize_with_limit-read.ensures.image c.deserialize_with_limit-read.ensures.accepted c.deserialize_with_limit-read.ensures.err c.put_made.ensures.refused) }

@@ -10,4 +10,4 @@ use Rattle.datasketches_c.proofs.frequent_sketches.ds_frequent_text_from_bytes.G
 pub returns : goal.returns
 unfolding table_bytes
 returns c =
-    record { done = search rules; refused = search (rules, items_not_read text_row text_codec (λ text. string_bytes text) c.args.most_bytes c.args.image.now c.deserialize_with_limit-read.result c.put_made.result _ c.deserialize_with_limit-read.ensures.image c.deserialize_with_limit-read.ensures.within c.deserialize_with_limit-read.ensures.err c.put_made.ensures.refused) }
+    record { done = search rules; refused = search (rules, items_not_read text_row text_codec (λ text. string_bytes text) c.args.most_bytes c.args.image.now c.deserialize_with_limit-read.result c.put_made.result _ c.deserialize_with_limit-read.ensures.image c.deserialize_with_limit-read.ensures.accepted c.deserialize_with_limit-read.ensures.err c.put_made.ensures.refused) }

@@ -1,0 +1,16 @@
+use Rattle.std.proofs.Common.{rules}
+use Rattle.counter_table.specs.Bytes.{table_bytes}
+use Rattle.datasketches_c.proofs.memory.bytes_of.Goals as goal
+
+-- the bytes of a slot are those of the type
+pub returns-in-FrequentTexts : goal.returns-in-FrequentTexts
+unfolding table_bytes
+returns-in-FrequentTexts c = search rules
+
+pub returns-in-FrequentI64 : goal.returns-in-FrequentI64
+unfolding table_bytes
+returns-in-FrequentI64 c = search rules
+
+pub returns-in-FrequentU64 : goal.returns-in-FrequentU64
+unfolding table_bytes
+returns-in-FrequentU64 c = search rules
