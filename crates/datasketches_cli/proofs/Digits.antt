@@ -1,23 +1,28 @@
 -- The digits that a run shows for an image, and the bytes that they make.
-use Rattle.std.proofs.Common.{◌≡◌, ℕ, zero, suc, ◌-◌, ◌/◌, ◌%◌, ◌<◌, true, false, List, [], ◌∷◌, ◌++◌, length, get_or, drop, Some, Result, Ok, Err, inl, inr, refl, sym, ◌∙◌, ap, arith, length-append}
-use Rattle.std.specs.Prelude.{codes}
-use Rattle.std.specs.List.{All}
+use Rattle.std.proofs.Common.{◌≡◌, ℕ, zero, suc, ◌-◌, ◌/◌, ◌%◌, ◌<◌, Bool, true, false, cond, List, [], ◌∷◌, ◌++◌, length, get_or, drop, Option, Some, None, Result, Ok, Err, inl, inr, refl, sym, ◌∙◌, ap, subst, arith, length-append}
+use Rattle.std.specs.Prelude.{codes, ◌||◌, IsSome, OnErr}
+use Rattle.std.specs.Char.{is_ascii_hexdigit}
+use Rattle.std.specs.Int.{is_in_range}
+use Rattle.std.specs.Option.{is_some, option_map}
+use Rattle.std.specs.List.{All, list_all}
 use Rattle.std.specs.Result.{result_ok}
 use Rattle.std.specs.Str.{bytes_eq}
-use Rattle.std.proofs.lemmas.Bool.{cases_lt, and_right}
+use Rattle.std.proofs.lemmas.Bool.{cases_lt, and_right, true≢false}
 use Rattle.std.proofs.lemmas.List.{get_or_past, get_or_push, append_cancel_right}
 use Rattle.std.proofs.lemmas.List.Elements.{All-get_or, All-head, All-tail}
+use Rattle.std.proofs.lemmas.List.Sums.{AllPass-from_list_all, list_all-from_AllPass}
 use Rattle.std.specs.Global.{Global}
 use Rattle.std.specs.declared.vec.Vec.{Vec}
 use Rattle.hex.specs.Hex.{IsBytes, decode_of, encode_lower, encode_with, is_hex_digit, lower_digits}
 use Rattle.hex.specs.declared.error.FromHexError.{FromHexError}
-use Rattle.hex.proofs.HexLemmas.{decode_of-encode_lower, decode_of-ok, decode_of-same}
+use Rattle.hex.proofs.HexLemmas.{decode_of-digits, decode_of-encode_lower, decode_of-ok, decode_of-same}
 use Rattle.datasketches.specs.declared.action.Action.TheVariants as action
 use Rattle.datasketches.specs.declared.image_kind.ImageKind.{ImageKind}
 use Rattle.datasketches.specs.declared.image_kind.ImageKind.TheVariants as kind
 use Rattle.datasketches_cli.specs.Asking.{Ask}
 use Rattle.datasketches_cli.specs.Grammar.{bytes_of_digits, words_of, Make, MakeLoad}
 use Rattle.datasketches_cli.specs.Laws.{IsShownAs, LoadsWhatWasShown, DigitsMakeWhatWasShown}
+use Rattle.datasketches_cli.specs.Parsing.{AskForBytes}
 use Rattle.datasketches_cli.specs.Texts.{Text}
 use Rattle.datasketches_cli.specs.declared.request.Request.TheVariants as request
 
@@ -74,6 +79,53 @@ in_bytes xs bytes i =
       | inl below ↦ All-get_or (λ byte. byte < 256) xs i 0 below bytes
       | inr above ↦ omega (arith, get_or_past xs i 0 above)
     ]
+
+-- ---- which words make bytes
+
+by_tests : (number upper lower : Bool) (x y z : ℕ) → ((number || upper) || lower) ≡ is_some (cond upper (Some x) (cond lower (Some y) (cond number (Some z) None)))
+by_tests true true lower x y z = refl
+by_tests true false true x y z = refl
+by_tests true false false x y z = refl
+by_tests false true lower x y z = refl
+by_tests false false true x y z = refl
+by_tests false false false x y z = refl
+
+-- the digits of std are those of `hex`
+same_digit : (c : ℕ) → is_ascii_hexdigit c ≡ is_hex_digit c
+same_digit c = by_tests (is_in_range 48 57 c) (is_in_range 65 70 c) (is_in_range 97 102 c) (c - 55) (c - 87) (c - 48)
+
+same_digits : (word : List ℕ) → list_all is_ascii_hexdigit word ≡ list_all is_hex_digit word
+same_digits [] = refl
+same_digits (c ∷ word) = rw (same_digit c, same_digits word) refl
+
+some_case : (dash : Bool) (word bytes : List ℕ) → decode_of word ≡ Ok bytes → IsSome (cond dash (Some []) (result_ok (decode_of word)))
+some_case true word bytes e = refl
+some_case false word bytes e = rw e refl
+
+-- an even number of digits makes bytes
+pub some_bytes : (word : List ℕ) → length word % 2 ≡ 0 → list_all is_ascii_hexdigit word ≡ true → IsSome (bytes_of_digits word)
+some_bytes word even digits =
+    let made = decode_of-digits word even (AllPass-from_list_all is_hex_digit word (sym (same_digits word) ∙ digits)) in
+    some_case (bytes_eq word (codes "-")) word made.0 made.1
+
+none_case : (word : List ℕ) (r : Result (List ℕ) FromHexError) → decode_of word ≡ r → list_all is_ascii_hexdigit word ≡ false → result_ok r ≡ None
+none_case word (Ok bytes) e bad =
+    absurd (true≢false (sym (same_digits word ∙ list_all-from_AllPass is_hex_digit word (decode_of-ok word bytes e).1) ∙ bad))
+none_case word (Err fault) e bad = refl
+
+-- a word with another byte, which is no dash, makes none
+pub no_bytes : (word : List ℕ) → bytes_eq word (codes "-") ≡ false → list_all is_ascii_hexdigit word ≡ false → bytes_of_digits word ≡ None
+no_bytes word other bad = rw other (none_case word (decode_of word) refl bad)
+
+-- what was made of a word is some bytes
+pub made_some : (found : Option (Vec ℕ Global)) (image : Vec ℕ Global) (word : List ℕ) → option_map (λ bytes. bytes.items) found ≡ bytes_of_digits word → found ≡ Some image → IsSome (bytes_of_digits word)
+made_some (Some bytes) image word made is = subst (λ (o : Option (List ℕ)). IsSome o) made refl
+made_some None image word made is = cc is
+
+-- words that ask for bytes do so, whatever stopped the call
+pub asks : {A E : Type 0} (r : Result A E) (words : List (List ℕ)) (kind : ImageKind) (most : ℕ) (digits : List ℕ) → MakeLoad words kind most digits → IsSome (bytes_of_digits digits) → OnErr r (AskForBytes words)
+asks (Ok x) words kind most digits made some = tt
+asks (Err e) words kind most digits made some = (kind, most, digits, made, some)
 
 -- ---- the lines
 

@@ -1,5 +1,5 @@
 -- What parsing finds in a line.
-use Rattle.std.specs.Prelude.{◌≡◌, ◌≢◌, ℕ, ◌^◌, Bool, true, false, List, [], ◌∷◌, map, Option, Some, MatchOption, codes}
+use Rattle.std.specs.Prelude.{◌≡◌, ◌≢◌, ℕ, ◌^◌, Bool, true, false, List, [], ◌∷◌, map, Option, Some, IsSome, MatchOption, codes}
 use Rattle.std.specs.Borrow.{Bor}
 use Rattle.datasketches.specs.ErrorType.{ErrorType}
 use Rattle.datasketches.specs.declared.action.Action.{Action}
@@ -14,7 +14,7 @@ use Rattle.datasketches_cli.specs.declared.parse.OnTwo.TheVariants as two
 use Rattle.datasketches_cli.specs.declared.parse.load.Loading.{Loading}
 use Rattle.datasketches_cli.specs.declared.request.Request.{Request}
 use Rattle.datasketches_cli.specs.Asking.{AskOnWindows}
-use Rattle.datasketches_cli.specs.Grammar.{number_below, report_word, join_word, MakeShape, MakeChange, MakeLoad, Make}
+use Rattle.datasketches_cli.specs.Grammar.{bytes_of_digits, number_below, report_word, join_word, MakeShape, MakeChange, MakeLoad, Make}
 
 -- the texts of some words
 abbrev pub texts_of : List (Bor (List ℕ)) → List (List ℕ)
@@ -79,6 +79,12 @@ IsLoadingOf words found =
     MatchOption found
     ((kind : ImageKind) (most_bytes : ℕ) (digits : List ℕ) → ¬ MakeLoad words kind most_bytes digits)
     (λ loading. MakeLoad words loading.kind loading.most_bytes loading.digits.now)
+
+-- the words ask for a load of the bytes that their digits make
+abbrev pub AskForBytes : List (List ℕ) → Type 0
+AskForBytes words =
+    (kind : ImageKind) × (most_bytes : ℕ) × (digits : List ℕ) × MakeLoad words kind most_bytes digits
+    × IsSome (bytes_of_digits digits)
 
 -- the verb before one name
 abbrev pub one_word : OnOne → List ℕ

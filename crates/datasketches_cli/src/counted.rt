@@ -43,6 +43,18 @@ impl<S> Counted<S> {
     {
         self.failures
     }
+
+    /// Returns the stream itself, which is not counted any more.
+    pub fn into_inner(self) -> S
+        ensures { result ≡ self.inner }
+    {
+        let Counted {
+            inner,
+            failures: _,
+            reads: _,
+        } = self;
+        inner
+    }
 }
 
 /// What a call gave, counted where it failed.

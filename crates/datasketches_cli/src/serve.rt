@@ -226,6 +226,8 @@ fn write_out<W: Write>(writer: &mut Counted<W>, replies: &mut String) -> Result<
         return Ok(());
     }
     writer.write_all(replies.as_bytes())?;
+    // For a writer that buffers. No clause and no test can tell whether this call is made: in a clause, a writer's contents
+    // have the bytes that it buffers, and standard output buffers none.
     writer.flush()?;
     replies.clear();
     Ok(())

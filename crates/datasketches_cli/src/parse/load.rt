@@ -1,7 +1,9 @@
 //! Words to loads of images.
-ghost use Rattle.std.specs.Prelude.{◌≡◌, [], ◌∷◌, IfOk, codes, option_map};
+ghost use Rattle.std.specs.Prelude.{◌≡◌, [], ◌∷◌, IfOk, OnErr, IsSome, codes, option_map};
+ghost use Rattle.std.specs.Char.{is_ascii_hexdigit};
+ghost use Rattle.std.specs.List.{list_all};
 ghost use Rattle.datasketches_cli.specs.Grammar.{bytes_of_digits};
-ghost use Rattle.datasketches_cli.specs.Parsing.{IsActionOf, IsLoadingOf, texts_of};
+ghost use Rattle.datasketches_cli.specs.Parsing.{AskForBytes, IsActionOf, IsLoadingOf, texts_of};
 
 use super::ParsedAction;
 use super::number::number_of;
@@ -17,9 +19,14 @@ pub struct Loading<'a> {
     digits: &'a str,
 }
 
-/// The action of `load`.
+/// Returns the action of `load`, or `None` if the words make none.
+///
+/// # Errors
+///
+/// `AllocError` if there is no memory for the name or the image. Words that make no action are never an error.
 pub fn load(alloc: Global, name: &str, words: &[&str]) -> ParsedAction
-    ensures { IfOk result (IsActionOf (codes "load" ∷ name.now ∷ texts_of words.now)) }
+    ensures made { IfOk result (IsActionOf (codes "load" ∷ name.now ∷ texts_of words.now)) }
+    ensures memory { OnErr result (AskForBytes (texts_of words.now)) }
 {
     let Some(loading) = loading_of(words) else {
         return Ok(None);
@@ -80,16 +87,32 @@ fn seeded<'a>(kind: &str, most_bytes: &str, seed: &str, digits: &'a str) -> Opti
     })
 }
 
-/// The bytes that the digits of a word make.
+/// Returns the bytes that the digits of a word make, or `None` if they make none.
+///
+/// # Errors
+///
+/// `AllocError` if there is no memory for the bytes. Bad digits are never an error.
 fn bytes_of(alloc: Global, digits: &str) -> Result<Option<Vec<u8>>, AllocError>
-    ensures { IfOk result (λ found. option_map (λ bytes. bytes.items) found ≡ bytes_of_digits digits.now) }
+    ensures made { IfOk result (λ found. option_map (λ bytes. bytes.items) found ≡ bytes_of_digits digits.now) }
+    ensures memory { OnErr result (IsSome (bytes_of_digits digits.now)) }
 {
     if digits == "-" {
         return Ok(Some(Vec::new(alloc)));
+    }
+    // `decode` allocates before it reads the digits
+    if !are_digits(digits) {
+        return Ok(None);
     }
     match hex::decode(alloc, digits) {
         Ok(bytes) => Ok(Some(bytes)),
         Err(FromHexError::OutOfMemory) => Err(AllocError),
         Err(_) => Ok(None),
     }
+}
+
+/// Returns whether each byte of a word is a hexadecimal digit.
+fn are_digits(word: &str) -> bool
+    ensures { result ≡ list_all is_ascii_hexdigit word.now }
+{
+    word.as_bytes().iter().all(|byte| byte.is_ascii_hexdigit())
 }
