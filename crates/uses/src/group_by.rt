@@ -6,7 +6,8 @@ ghost use Rattle.std.specs.Prelude.{◌≡◌, ℕ, ◌+◌, ◌<◌, ◌≤◌,
 ghost use Rattle.sketch_base.specs.Checks.{IsImageRefusal};
 ghost use Rattle.sketch_base.specs.Errors.{no_memory, refusal_of};
 ghost use Rattle.counter_table.specs.Bytes.{table_bytes};
-ghost use Rattle.sketch_frequencies.specs.Image.{IsImageOf, IsSpelledFor, IsImageWritingRefusal, early_fault_within, first_fault_within};
+ghost use Rattle.sketch_frequencies.specs.Image.{IsImageOf, IsSpelledFor, IsImageWritingRefusal, limit_fault, early_fault_within, first_fault_within};
+ghost use Rattle.sketch_frequencies.specs.Memory.{owned_by, memory_bytes};
 ghost use Rattle.sketch_frequencies.specs.Rows.{ShowsExactly, Descends};
 ghost use Rattle.sketch_frequencies.specs.Sizes.{size_fault};
 ghost use Rattle.sketch_frequencies.specs.State.{FrequentState, TotalHasRoom, empty_state, greatest_sample_size, must_double};
@@ -139,7 +140,7 @@ impl<G: FrequentItemValue + Drop> GroupSums<G> {
         self.sketch.serialize()
     }
 
-    /// The sums of an image, whose table takes at most so many bytes.
+    /// Returns the sums of an image, if their table and what their groups own take at most `most_bytes`.
     ///
     /// # Errors
     ///
@@ -149,8 +150,10 @@ impl<G: FrequentItemValue + Drop> GroupSums<G> {
         ensures sample { IfOk result (λ sums. sums.sample_size ≡ greatest_sample_size sums.max_size) }
         ensures sums { IfOk result (λ sums. (n : ℕ) (rows : List (G × ℕ))
             → CarriesSums G.eq G.codec G.content n image.now rows → SumsUp G.eq n sums rows) }
-        ensures within { IfOk result (λ sums. table_bytes G.row sums.size ≤ most_bytes) }
-        ensures err { IfErr result (IsImageRefusal (early_fault_within G.row most_bytes image.now)
+        ensures within { IfOk result (λ sums.
+            memory_bytes (table_bytes G.row sums.size) (owned_by G.codec G.content sums.counters) ≤ most_bytes) }
+        ensures accepted { IsOk result → limit_fault G.row most_bytes G.codec image.now ≡ None }
+        ensures err { IfErr result (IsImageRefusal (early_fault_within G.row most_bytes G.codec image.now)
             (first_fault_within G.row most_bytes G.codec image.now)) }
     {
         laws::what_images_say::<G>();
