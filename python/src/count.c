@@ -287,7 +287,7 @@ static PyMethodDef count_methods[] = {
     {"__sizeof__", sketch_sizeof, METH_NOARGS, sketch_sizeof_doc},
     SUGGESTS("suggest_buckets", count_suggest_buckets),
     SUGGESTS("suggest_hashes", count_suggest_hashes),
-    {"close", sketch_close, METH_NOARGS, "close($self, /)\n--\n\nFree the memory. What uses the sketch then raises ValueError; a second close does nothing."},
+    {"close", sketch_close, METH_NOARGS, sketch_close_doc},
     {"__copy__", sketch_copy, METH_NOARGS, NULL},
     {"__deepcopy__", sketch_deepcopy, METH_O, NULL},
     {"__enter__", sketch_enter, METH_NOARGS, NULL},

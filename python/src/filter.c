@@ -178,7 +178,7 @@ static PyMethodDef filter_methods[] = {
     {"from_bytes", (PyCFunction)(void (*)(void))filter_from_bytes, METH_CLASS | METH_VARARGS | METH_KEYWORDS, from_bytes_doc},
     SUGGESTS("suggest_bits", filter_suggest_bits),
     SUGGESTS("suggest_hashes", filter_suggest_hashes),
-    {"close", sketch_close, METH_NOARGS, "close($self, /)\n--\n\nFree the memory. What uses the filter then raises ValueError; a second close does nothing."},
+    {"close", sketch_close, METH_NOARGS, sketch_close_doc},
     {"__bytes__", filter_to_bytes, METH_NOARGS, NULL},
     {"__copy__", sketch_copy, METH_NOARGS, NULL},
     {"__deepcopy__", sketch_deepcopy, METH_O, NULL},

@@ -381,7 +381,7 @@ static PyMethodDef frequent_methods[] = {
     {"_unpickle", frequent_unpickle, METH_CLASS | METH_VARARGS, NULL},
     {"__sizeof__", sketch_sizeof, METH_NOARGS, sketch_sizeof_doc},
     SUGGESTS("suggest_max_map_size", frequent_suggest_max_map_size),
-    {"close", sketch_close, METH_NOARGS, "close($self, /)\n--\n\nFree the memory. What uses the sketch then raises ValueError; a second close does nothing."},
+    {"close", sketch_close, METH_NOARGS, sketch_close_doc},
     {"__copy__", sketch_copy, METH_NOARGS, NULL},
     {"__deepcopy__", sketch_deepcopy, METH_O, NULL},
     {"__enter__", sketch_enter, METH_NOARGS, NULL},

@@ -208,6 +208,10 @@ PyObject *sketch_sizeof(PyObject *object, PyObject *Py_UNUSED(unused))
     return all;
 }
 
+const char sketch_close_doc[] = PyDoc_STR(
+"close($self, /)\n--\n\n"
+"Free the memory. All other calls then raise ValueError; a second `close` does nothing.");
+
 PyObject *sketch_close(PyObject *self, PyObject *Py_UNUSED(unused))
 {
     Sketch *sketch = (Sketch *)self;

@@ -86,6 +86,7 @@ PyObject *sketch_equal(Sketch *self, Sketch *other, of_two equal, int operation)
 extern const char sketch_sizeof_doc[];
 PyObject *sketch_sizeof(PyObject *self, PyObject *unused);
 
+extern const char sketch_close_doc[];
 PyObject *sketch_close(PyObject *self, PyObject *unused);
 PyObject *sketch_enter(PyObject *self, PyObject *unused);
 PyObject *sketch_exit(PyObject *self, PyObject *unused);
@@ -121,7 +122,8 @@ PyObject *sketch_like(const Sketch *self, ds_sketch *made);
 PyObject *sketch_copy(PyObject *self, PyObject *unused);
 PyObject *sketch_deepcopy(PyObject *self, PyObject *memo);
 
-/* What pickle stores: the class's `_unpickle`, its arguments, which this takes, and what an object of a subclass has of its own. */
+/* What pickle stores: the class's `_unpickle`, its arguments, which this takes, and what an object of a subclass has of its
+ * own. */
 PyObject *sketch_reduce(PyObject *self, PyObject *arguments);
 
 /* Calls the class's reader of images with the arguments of `sketch_reduce`, under these names, and the class's limit. */

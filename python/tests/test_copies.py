@@ -1,6 +1,7 @@
 """Copies by `copy` and `pickle`: of subclasses, of what their objects have of their own, and under a limit."""
 import copy
 import pickle
+import sys
 import unittest
 
 import datasketches_rattle as ds
@@ -130,8 +131,8 @@ class Subclasses(unittest.TestCase):
         whole.name = "a"
         for twin in twins(whole):
             self.assertEqual(vars(twin), {"name": "a again"})
-        for call in (lambda: copy.copy(Raising(64, 1)), lambda: copy.deepcopy(Raising(64, 1)), lambda: pickle.dumps(Raising(64, 1))):
-            self.assertRaises(KeyError, call)
+        for call in (copy.copy, copy.deepcopy, pickle.dumps):
+            self.assertRaises(KeyError, call, Raising(64, 1))
 
     def test_none_of_their_own(self):
         for whole, _ in wholes():
@@ -149,6 +150,16 @@ class Subclasses(unittest.TestCase):
         self.assertEqual((type(a | b), vars(a | b)), (NamedFilter, {}))
         a |= b
         self.assertEqual(vars(a), {"name": "a"})
+
+
+class Tables(unittest.TestCase):
+    def test_a_restored_table_has_the_same_size(self):
+        """Also where purges have left it with few items."""
+        for item, items in ((int, range(500)), (str, [f"item {number}" for number in range(500)])):
+            own = ds.FrequentItems(64, item=item)
+            own.update(items)
+            for twin in twins(own):
+                self.assertEqual((sys.getsizeof(twin), twin.sample_size, bytes(twin)[3:5]), (sys.getsizeof(own), 48, b"\6\6"))
 
 
 class Limits(unittest.TestCase):
