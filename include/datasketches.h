@@ -408,6 +408,13 @@ int32_t ds_frequent_u64_reset(ds_sketch *handle);
 int32_t ds_frequent_i64_reset(ds_sketch *handle);
 int32_t ds_frequent_text_reset(ds_sketch *handle);
 
+/* Sets how many counters later purges sample: an even number from 2 to three quarters of the greatest size, at most 1024. So a
+ * sketch that was read from an image, which has no sample size, gets back the one that it had. Nothing else changes. Returns
+ * DS_BAD_SAMPLE_SIZE for another number. */
+int32_t ds_frequent_u64_set_sample_size(ds_sketch *handle, size_t sample_size);
+int32_t ds_frequent_i64_set_sample_size(ds_sketch *handle, size_t sample_size);
+int32_t ds_frequent_text_set_sample_size(ds_sketch *handle, size_t sample_size);
+
 /* A sketch's numbers: the total weight, the error, which is the upper bound less the lower bound of each item, the number of
  * counters, the most counters that fit at the greatest table size and at the current one, the greatest size and the sample size. */
 typedef struct ds_frequent_numbers {

@@ -359,7 +359,12 @@ static void frequent_texts(void)
     CHECK(ds_frequent_text_status(&a, &numbers) == DS_OK && numbers.total_weight == 14 && numbers.maximum_error == 1);
     CHECK(numbers.max_map_size == 8 && numbers.sample_size == 6 && ds_frequent_text_reset(&a) == DS_OK);
     CHECK(ds_frequent_text_status(&a, &numbers) == DS_OK && numbers.total_weight == 0 && numbers.sample_size == 6);
+    CHECK(ds_frequent_text_set_sample_size(&copy, 4) == DS_OK && ds_frequent_text_set_sample_size(&copy, 3) == DS_BAD_SAMPLE_SIZE);
+    CHECK(ds_frequent_text_set_sample_size(&copy, 8) == DS_BAD_SAMPLE_SIZE && ds_frequent_u64_set_sample_size(&copy, 4) == DS_WRONG_KIND);
+    CHECK(ds_frequent_text_status(&copy, &numbers) == DS_OK && numbers.sample_size == 4 && numbers.total_weight == 12);
+    CHECK(ds_frequent_text_bounds(&copy, (const uint8_t *)"a", 1, &bounds) == DS_OK && bounds.lower_bound == 5);
     ds_free(&a);
+    CHECK(ds_frequent_text_set_sample_size(&a, 4) == DS_NO_SKETCH);
     ds_free(&b);
     ds_free(&copy);
 }

@@ -11,6 +11,7 @@ typedef struct {
     int32_t (*make)(ds_sketch *, size_t, size_t);
     of_two merge;
     int32_t (*reset)(ds_sketch *);
+    int32_t (*set_sample_size)(ds_sketch *, size_t);
     int32_t (*status)(ds_sketch *, ds_frequent_numbers *);
     image_writer to_bytes;
     int32_t (*from_bytes)(ds_sketch *, const uint8_t *, size_t, size_t);
@@ -18,7 +19,8 @@ typedef struct {
 
 #define KIND(name, with_sign, with_texts, call) \
     {name, with_sign, with_texts, ds_frequent_##call##_new, ds_frequent_##call##_merge, ds_frequent_##call##_reset, \
-     ds_frequent_##call##_status, ds_frequent_##call##_to_bytes, ds_frequent_##call##_from_bytes}
+     ds_frequent_##call##_set_sample_size, ds_frequent_##call##_status, ds_frequent_##call##_to_bytes, \
+     ds_frequent_##call##_from_bytes}
 
 static const Kind numbers_with_sign = KIND("i64", true, false, i64);
 static const Kind numbers_without_sign = KIND("u64", false, false, u64);
@@ -178,25 +180,6 @@ PyDoc_STRVAR(from_bytes_doc,
 ">>> ds.FrequentItems.from_bytes(bytes(heavy))[7]\n"
 "30\n");
 
-/* Gives a sketch a sample size: a new sketch with that takes in what it has. */
-static int32_t take_sample_size(const Kind *kind, ds_sketch *handle, uint64_t sample)
-{
-    ds_frequent_numbers numbers;
-    ds_sketch own = DS_NONE;
-    int32_t answer = kind->status(handle, &numbers);
-    if (answer >= 0 && numbers.sample_size == sample)
-        return answer;
-    if (answer >= 0)
-        answer = kind->make(&own, numbers.max_map_size, sample);
-    if (answer >= 0)
-        answer = kind->merge(&own, handle);
-    ds_sketch rest = answer >= 0 ? *handle : own;
-    if (answer >= 0)
-        *handle = own;
-    ds_free(&rest);
-    return answer;
-}
-
 static PyObject *frequent_from_bytes(PyObject *type, PyObject *args, PyObject *keywords)
 {
     static char *names[] = {"image", "item", "limit", "sample_size", NULL};
@@ -216,7 +199,7 @@ static PyObject *frequent_from_bytes(PyObject *type, PyObject *args, PyObject *k
         Py_BEGIN_ALLOW_THREADS
         answer = kind->from_bytes(&made, image.bytes, image.length, limit);
         if (answer >= 0 && sample_object != Py_None)
-            sampled = take_sample_size(kind, &made, sample);
+            sampled = kind->set_sample_size(&made, sample);
         if (sampled < 0)
             ds_free(&made);
         Py_END_ALLOW_THREADS

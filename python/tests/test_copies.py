@@ -156,10 +156,12 @@ class Tables(unittest.TestCase):
     def test_a_restored_table_has_the_same_size(self):
         """Also where purges have left it with few items."""
         for item, items in ((int, range(500)), (str, [f"item {number}" for number in range(500)])):
-            own = ds.FrequentItems(64, item=item)
-            own.update(items)
-            for twin in twins(own):
-                self.assertEqual((sys.getsizeof(twin), twin.sample_size, bytes(twin)[3:5]), (sys.getsizeof(own), 48, b"\6\6"))
+            for sample_size in (48, 4):
+                own = ds.FrequentItems(64, item=item, sample_size=sample_size)
+                own.update(items)
+                for twin in twins(own):
+                    self.assertEqual((sys.getsizeof(twin), twin.sample_size, bytes(twin)[3:5]),
+                                     (sys.getsizeof(own), sample_size, b"\6\6"))
 
 
 class Limits(unittest.TestCase):

@@ -1,11 +1,12 @@
 -- What calls on frequent-items sketches do to the sketch and answer, whatever the items. Items are told apart by `eq` alone.
-use Rattle.std.specs.Prelude.{◌≡◌, ℕ, ℤ, ◌+◌, ◌<◌, Bool, false, List, length}
+use Rattle.std.specs.Prelude.{◌≡◌, ℕ, ℤ, ◌+◌, ◌<◌, Bool, false, List, length, None}
 use Rattle.sketch_base.specs.Errors.{ErrorValue}
-use Rattle.sketch_base.specs.declared.fault.Fault.TheVariants.{NoMemory, WeightOverflow}
+use Rattle.sketch_base.specs.declared.fault.Fault.TheVariants.{BadSampleSize, NoMemory, WeightOverflow}
 use Rattle.counter_table.specs.Tables.{count_of}
 use Rattle.sketch_frequencies.specs.Batches.{UpdatesAll, StopsAt}
 use Rattle.sketch_frequencies.specs.History.{FrequentHistory}
-use Rattle.sketch_frequencies.specs.History.FrequentHistory.{Update, Merge, Reset}
+use Rattle.sketch_frequencies.specs.History.FrequentHistory.{New, Update, Merge, Reset}
+use Rattle.sketch_frequencies.specs.Sizes.{sample_fault}
 use Rattle.sketch_frequencies.specs.Stands.{Extends, ExtendsBudget, ExtendsBoth, ExtendsBothBudgets, KeepsTailBudget, IsLowerBound, IsUpperBound, IsExactOfFew}
 use Rattle.sketch_frequencies.specs.State.{FrequentState, Overflows, TotalHasRoom, capacity, empty_state, estimate_of, must_double}
 use Rattle.sketch_frequencies.specs.Steps.{Steps, JoinsEqual}
@@ -73,6 +74,15 @@ module _ {T : Type 0} (eq : T → T → Bool) where
   pub record UpdatesMany (old : FrequentState T) (items : List T) (new : FrequentState T) (result : ℤ) : Type 0 where
     pub done : OnDone result ((result ≡ ok) × UpdatesAll eq old items new)
     pub stopped : OnRefused result (StopsShort old items new result)
+
+  -- what a change of the sample size returns, and what it leaves: the sketch as it would be, merged into a new one
+  pub record Resamples (old : FrequentState T) (n : ℕ) (new : FrequentState T) (result : ℤ) : Type 0 where
+    pub done : OnDone result ((result ≡ ok) × (new ≡ record old { sample_size = n }))
+    pub stands : OnDone result (Extends eq old new (λ h. Merge (New old.max_size n) h))
+    pub budget : OnDone result (ExtendsBudget eq old new (λ h. Merge (New old.max_size n) h))
+    pub accepted : OnDone result (sample_fault old.max_size n ≡ None)
+    pub succeeds : sample_fault old.max_size n ≡ None → result ≡ ok
+    pub refused : OnRefused result ((result ≡ refusal_number BadSampleSize) × (new ≡ old))
 
   -- new is the empty sketch of old's sizes, and stands for what old stood for, forgotten
   pub record Empties (old new : FrequentState T) : Type 0 where

@@ -3,7 +3,7 @@ ghost use Rattle.std.specs.Ordering.{int_eq};
 ghost use Rattle.std.specs.Prelude.{◌≡◌, ◌≢◌, IsTrue, length, nat_eq};
 ghost use Rattle.sketch_frequencies.specs.Items.{i64_codec, u64_codec};
 ghost use Rattle.datasketches_c.specs.FrequentBatches.{AreBoundsOfAll};
-ghost use Rattle.datasketches_c.specs.FrequentCalls.{Updates, UpdatesMany, MergesInto, Empties, AreBounds, AreNumbers};
+ghost use Rattle.datasketches_c.specs.FrequentCalls.{Updates, UpdatesMany, MergesInto, Empties, Resamples, AreBounds, AreNumbers};
 ghost use Rattle.datasketches_c.specs.FrequentImages.{WritesFrequent};
 ghost use Rattle.datasketches_c.specs.FrequentRows.{LeavesRows, WritesRows, error_type};
 ghost use Rattle.datasketches_c.specs.FrequentTextImages.{WritesFrequentTexts};
@@ -266,6 +266,32 @@ where
         sketch.reset();
         OK
     })
+}
+
+/// Sets how many counters later purges of a sketch sample.
+fn resample<T: Eq + Hash + Drop>(sketch: &mut FrequentItemsSketch<T>, sample_size: usize) -> i32
+    ensures resamples { Resamples T.eq sketch.old sample_size sketch.new result }
+    ensures refused { OnRefused result (sketch.new ≡ sketch.old) }
+{
+    match sketch.set_sample_size(sample_size) {
+        Ok(()) => OK,
+        Err(error) => refusal_number(error.fault()),
+    }
+}
+
+/// Sets how many counters later purges sample.
+pub(crate) fn set_sample_size<T: Eq + Hash + Drop>(
+    alloc: Global,
+    handle: &mut SketchHandle,
+    sample_size: usize,
+) -> i32
+where
+    FrequentItemsSketch<T>: Kind,
+    ensures call { OnKind (⟦<FrequentItemsSketch<T> as Kind>⟧.part) handle.old.value handle.new.value result (λ s.
+        HoldsKind (⟦<FrequentItemsSketch<T> as Kind>⟧.part) handle.new.value (λ t. Resamples T.eq s sample_size t result)) }
+    ensures refused { OnRefused result (handle.new.value ≡ handle.old.value) }
+{
+    on_kind!(alloc, handle, FrequentItemsSketch<T>, sketch => resample(sketch, sample_size))
 }
 
 /// The sketch's numbers.

@@ -9,7 +9,7 @@ ghost use Rattle.sketch_frequencies.specs.Items.{i64_codec, text_codec, u64_code
 ghost use Rattle.sketch_frequencies.specs.Sizes.{sizes_fault};
 ghost use Rattle.sketch_frequencies.specs.Stands.{KeepsTailBudget, StandsFor};
 ghost use Rattle.sketch_frequencies.specs.State.{empty_state};
-ghost use Rattle.datasketches_c.specs.FrequentCalls.{AreNumbers, Empties, MergesInto};
+ghost use Rattle.datasketches_c.specs.FrequentCalls.{AreNumbers, Empties, MergesInto, Resamples};
 ghost use Rattle.datasketches_c.specs.FrequentImages.{IsRestored, WritesFrequent, i64_row, u64_row};
 ghost use Rattle.datasketches_c.specs.FrequentTextImages.{WritesFrequentTexts, text_row};
 ghost use Rattle.datasketches_c.specs.FrequentTexts.{text_eq};
@@ -183,6 +183,51 @@ pub extern "C" fn ds_frequent_i64_reset(alloc: Global, handle: &mut SketchHandle
         (result ≡ ok) × HoldsFrequentI64 handle.new.value (Empties int_eq s)) }
 {
     frequent::reset::<i64>(alloc, handle)
+}
+
+/// Sets how many counters later purges sample: an even number from 2 to three quarters of the greatest size, at most 1024. Nothing
+/// else changes. Returns `BadSampleSize` for another number; the sketch is then unchanged.
+#[unsafe(no_mangle)]
+pub extern "C" fn ds_frequent_text_set_sample_size(
+    alloc: Global,
+    handle: &mut SketchHandle,
+    sample_size: usize,
+) -> i32
+    ensures call { OnFrequentTexts handle.old.value handle.new.value result (λ s.
+        HoldsFrequentTexts handle.new.value (λ t. Resamples text_eq s sample_size t result)) }
+    ensures refused { OnRefused result (handle.new.value ≡ handle.old.value) }
+{
+    frequent::set_sample_size::<String>(alloc, handle, sample_size)
+}
+
+/// Sets how many counters later purges sample: an even number from 2 to three quarters of the greatest size, at most 1024. Nothing
+/// else changes. Returns `BadSampleSize` for another number; the sketch is then unchanged.
+#[unsafe(no_mangle)]
+pub extern "C" fn ds_frequent_u64_set_sample_size(
+    alloc: Global,
+    handle: &mut SketchHandle,
+    sample_size: usize,
+) -> i32
+    ensures call { OnFrequentU64 handle.old.value handle.new.value result (λ s.
+        HoldsFrequentU64 handle.new.value (λ t. Resamples nat_eq s sample_size t result)) }
+    ensures refused { OnRefused result (handle.new.value ≡ handle.old.value) }
+{
+    frequent::set_sample_size::<u64>(alloc, handle, sample_size)
+}
+
+/// Sets how many counters later purges sample: an even number from 2 to three quarters of the greatest size, at most 1024. Nothing
+/// else changes. Returns `BadSampleSize` for another number; the sketch is then unchanged.
+#[unsafe(no_mangle)]
+pub extern "C" fn ds_frequent_i64_set_sample_size(
+    alloc: Global,
+    handle: &mut SketchHandle,
+    sample_size: usize,
+) -> i32
+    ensures call { OnFrequentI64 handle.old.value handle.new.value result (λ s.
+        HoldsFrequentI64 handle.new.value (λ t. Resamples int_eq s sample_size t result)) }
+    ensures refused { OnRefused result (handle.new.value ≡ handle.old.value) }
+{
+    frequent::set_sample_size::<i64>(alloc, handle, sample_size)
 }
 
 /// Writes the sketch's numbers. Sizes are in slots, and capacities in counters.
