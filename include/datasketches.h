@@ -433,9 +433,9 @@ int32_t ds_frequent_i64_to_bytes(ds_sketch *handle, uint8_t *out, size_t capacit
 int32_t ds_frequent_text_to_bytes(ds_sketch *handle, uint8_t *out, size_t capacity, size_t *written);
 
 /* Reads a sketch from its image and puts it into the handle. It takes the largest sample size, since an image has none. Returns the
- * error of the image's first failed check. Returns DS_TABLE_TOO_LARGE if the table, by the formula of `ds_memory_bytes`, takes more than
- * `most_bytes`, with strings together with all bytes of `image` after the weights. Returns DS_NO_MEMORY. Before both come the checks
- * of the image's length and fields. The checks of the weights and the items come after them. */
+ * error of the image's first failed check. Returns DS_TABLE_TOO_LARGE if the table takes more than `most_bytes` by the formula of
+ * `ds_memory_bytes`. With strings, all bytes of `image` after the weights are added to the table's. Returns DS_NO_MEMORY. Before
+ * both come the checks of the image's length and fields. The checks of the weights and the items come after them. */
 int32_t ds_frequent_u64_from_bytes(ds_sketch *handle, const uint8_t *image, size_t length, size_t most_bytes);
 int32_t ds_frequent_i64_from_bytes(ds_sketch *handle, const uint8_t *image, size_t length, size_t most_bytes);
 int32_t ds_frequent_text_from_bytes(ds_sketch *handle, const uint8_t *image, size_t length, size_t most_bytes);
@@ -759,8 +759,8 @@ int32_t ds_count_buckets_for(uint64_t parts, uint32_t *num_buckets);
 int32_t ds_count_hashes_for(uint64_t questions, uint8_t *num_hashes);
 
 /* Writes the bits of a filter by the published formula: items times ln `questions` over the square of ln 2, with the binary
- * logarithm of `questions` rounded up to 64ths: never fewer than the formula asks for. Under ideal hashes the false-positive rate is about 1 in `questions`. Returns
- * DS_BAD_NUM_BITS for 0 items, for 0 and 1 question, and above 137438953152 bits. */
+ * logarithm of `questions` rounded up to 64ths: never fewer than the formula asks for. Under ideal hashes the false-positive rate
+ * is about 1 in `questions`. Returns DS_BAD_NUM_BITS for 0 items, for 0 and 1 question, and above 137438953152 bits. */
 int32_t ds_filter_bits_for(uint64_t num_items, uint64_t questions, uint64_t *num_bits);
 
 /* Writes the hashes of a filter by the published formula: bits over items times ln 2, rounded up. Returns DS_BAD_NUM_BITS unless
