@@ -348,8 +348,8 @@ typedef struct ds_frequent_bounds {
 } ds_frequent_bounds;
 
 /* Puts an empty sketch into the handle. Its table may grow to `max_map_size` slots, a power of two from 8 to 2^30. Its purges sample
- * `sample_size` counters, an even number from 2 to three quarters of `max_map_size`, at most 1024. The largest sample gives the
- * smallest error: see `ds_greatest_sample`. Returns DS_MAP_SIZE_NOT_POWER_OF_TWO, DS_MAP_SIZE_TOO_SMALL, DS_MAP_SIZE_TOO_LARGE,
+ * `sample_size` counters, an even number from 2 to three quarters of `max_map_size`, at most 1024. The largest sample has the
+ * strongest guarantee: see `ds_greatest_sample`. Returns DS_MAP_SIZE_NOT_POWER_OF_TWO, DS_MAP_SIZE_TOO_SMALL, DS_MAP_SIZE_TOO_LARGE,
  * DS_BAD_SAMPLE_SIZE, or DS_NO_MEMORY. */
 int32_t ds_frequent_u64_new(ds_sketch *handle, size_t max_map_size, size_t sample_size);
 int32_t ds_frequent_i64_new(ds_sketch *handle, size_t max_map_size, size_t sample_size);
@@ -403,7 +403,7 @@ int32_t ds_frequent_text_update_all_weighted(ds_sketch *handle, const uint8_t *b
                                              const uint64_t *offsets, size_t num_offsets, const uint64_t *weights,
                                              size_t num_weights);
 
-/* Removes all items. `max_map_size` and `sample_size` stay as they were. */
+/* Removes all items and weights. `max_map_size` and `sample_size` stay as they were. */
 int32_t ds_frequent_u64_reset(ds_sketch *handle);
 int32_t ds_frequent_i64_reset(ds_sketch *handle);
 int32_t ds_frequent_text_reset(ds_sketch *handle);
