@@ -348,8 +348,8 @@ typedef struct ds_frequent_bounds {
 } ds_frequent_bounds;
 
 /* Puts an empty sketch into the handle. Its table may grow to `max_map_size` slots, a power of two from 8 to 2^30. Its purges sample
- * `sample_size` counters, an even number from 2 to three quarters of `max_map_size`, at most 1024. The largest sample gives the
- * smallest error: see `ds_greatest_sample`. Returns DS_MAP_SIZE_NOT_POWER_OF_TWO, DS_MAP_SIZE_TOO_SMALL, DS_MAP_SIZE_TOO_LARGE,
+ * `sample_size` counters, an even number from 2 to three quarters of `max_map_size`, at most 1024. The largest sample has the
+ * strongest guarantee: see `ds_greatest_sample`. Returns DS_MAP_SIZE_NOT_POWER_OF_TWO, DS_MAP_SIZE_TOO_SMALL, DS_MAP_SIZE_TOO_LARGE,
  * DS_BAD_SAMPLE_SIZE, or DS_NO_MEMORY. */
 int32_t ds_frequent_u64_new(ds_sketch *handle, size_t max_map_size, size_t sample_size);
 int32_t ds_frequent_i64_new(ds_sketch *handle, size_t max_map_size, size_t sample_size);
@@ -403,7 +403,7 @@ int32_t ds_frequent_text_update_all_weighted(ds_sketch *handle, const uint8_t *b
                                              const uint64_t *offsets, size_t num_offsets, const uint64_t *weights,
                                              size_t num_weights);
 
-/* Removes all items. `max_map_size` and `sample_size` stay as they were. */
+/* Removes all items and weights. `max_map_size` and `sample_size` stay as they were. */
 int32_t ds_frequent_u64_reset(ds_sketch *handle);
 int32_t ds_frequent_i64_reset(ds_sketch *handle);
 int32_t ds_frequent_text_reset(ds_sketch *handle);
@@ -440,9 +440,9 @@ int32_t ds_frequent_i64_to_bytes(ds_sketch *handle, uint8_t *out, size_t capacit
 int32_t ds_frequent_text_to_bytes(ds_sketch *handle, uint8_t *out, size_t capacity, size_t *written);
 
 /* Reads a sketch from its image and puts it into the handle. It takes the largest sample size, since an image has none. Returns the
- * error of the image's first failed check. Returns DS_TABLE_TOO_LARGE if the table, by the formula of `ds_memory_bytes`, takes more than
- * `most_bytes`, with strings together with all bytes of `image` after the weights. Returns DS_NO_MEMORY. Before both come the checks
- * of the image's length and fields. The checks of the weights and the items come after them. */
+ * error of the image's first failed check. Returns DS_TABLE_TOO_LARGE if the table takes more than `most_bytes` by the formula of
+ * `ds_memory_bytes`. With strings, all bytes of `image` after the weights are added to the table's. Returns DS_NO_MEMORY. Before
+ * both come the checks of the image's length and fields. The checks of the weights and the items come after them. */
 int32_t ds_frequent_u64_from_bytes(ds_sketch *handle, const uint8_t *image, size_t length, size_t most_bytes);
 int32_t ds_frequent_i64_from_bytes(ds_sketch *handle, const uint8_t *image, size_t length, size_t most_bytes);
 int32_t ds_frequent_text_from_bytes(ds_sketch *handle, const uint8_t *image, size_t length, size_t most_bytes);
@@ -766,8 +766,8 @@ int32_t ds_count_buckets_for(uint64_t parts, uint32_t *num_buckets);
 int32_t ds_count_hashes_for(uint64_t questions, uint8_t *num_hashes);
 
 /* Writes the bits of a filter by the published formula: items times ln `questions` over the square of ln 2, with the binary
- * logarithm of `questions` rounded up to 64ths: never fewer than the formula asks for. Under ideal hashes the false-positive rate is about 1 in `questions`. Returns
- * DS_BAD_NUM_BITS for 0 items, for 0 and 1 question, and above 137438953152 bits. */
+ * logarithm of `questions` rounded up to 64ths: never fewer than the formula asks for. Under ideal hashes the false-positive rate
+ * is about 1 in `questions`. Returns DS_BAD_NUM_BITS for 0 items, for 0 and 1 question, and above 137438953152 bits. */
 int32_t ds_filter_bits_for(uint64_t num_items, uint64_t questions, uint64_t *num_bits);
 
 /* Writes the hashes of a filter by the published formula: bits over items times ln 2, rounded up. Returns DS_BAD_NUM_BITS unless

@@ -1,5 +1,5 @@
 -- What calls do to a Count-Min sketch, and what it then says of its history.
-use Rattle.std.specs.Prelude.{◌≡◌, ℕ, ℤ, List, [], ◌∷◌}
+use Rattle.std.specs.Prelude.{ℕ, ℤ, List, [], ◌∷◌}
 use Rattle.std.specs.List.{zip}
 use Rattle.sketch_countmin.specs.History.{CountHistory, all_updated}
 use Rattle.sketch_countmin.specs.History.CountHistory.{Update, Merge}

@@ -158,7 +158,7 @@ pub extern "C" fn ds_frequent_i64_merge(
     join::<FrequentItemsSketch<i64>, ()>(alloc, handle, other, ())
 }
 
-/// Removes all items. The greatest size and the sample size stay as they were.
+/// Removes all items and weights. The greatest size and the sample size stay as they were.
 #[unsafe(no_mangle)]
 pub extern "C" fn ds_frequent_text_reset(alloc: Global, handle: &mut SketchHandle) -> i32
     ensures { OnFrequentTexts handle.old.value handle.new.value result (λ s.
@@ -167,7 +167,7 @@ pub extern "C" fn ds_frequent_text_reset(alloc: Global, handle: &mut SketchHandl
     frequent::reset::<String>(alloc, handle)
 }
 
-/// Removes all items. The greatest size and the sample size stay as they were.
+/// Removes all items and weights. The greatest size and the sample size stay as they were.
 #[unsafe(no_mangle)]
 pub extern "C" fn ds_frequent_u64_reset(alloc: Global, handle: &mut SketchHandle) -> i32
     ensures { OnFrequentU64 handle.old.value handle.new.value result (λ s.
@@ -176,7 +176,7 @@ pub extern "C" fn ds_frequent_u64_reset(alloc: Global, handle: &mut SketchHandle
     frequent::reset::<u64>(alloc, handle)
 }
 
-/// Removes all items. The greatest size and the sample size stay as they were.
+/// Removes all items and weights. The greatest size and the sample size stay as they were.
 #[unsafe(no_mangle)]
 pub extern "C" fn ds_frequent_i64_reset(alloc: Global, handle: &mut SketchHandle) -> i32
     ensures { OnFrequentI64 handle.old.value handle.new.value result (λ s.

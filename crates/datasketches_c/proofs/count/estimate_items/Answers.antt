@@ -1,4 +1,4 @@
-use Rattle.std.proofs.Common.{◌<◌, [], map, get_or, pos, arith}
+use Rattle.std.proofs.Common.{◌<◌, [], map, get_or, arith}
 use Rattle.sketch_base.specs.Hashes.{fed_bytes}
 use Rattle.datasketches_c.proofs.count.estimate_items.Goals as goal
 
