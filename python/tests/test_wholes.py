@@ -399,55 +399,35 @@ class Shared(unittest.TestCase):
             """)
         self.assertEqual(ran, ["TableTooLarge", "MemoryError"])
 
-    def changed_meanwhile(self, image, places, read, check):
-        """Reads an image from a mapping, bytes of which another thread changes all the time, and checks what comes of it."""
+    def test_weights_that_change(self):
+        """The library reads weights twice, to add them up and to count them: here another thread changes one all the time."""
+        image = bytes(frequent(LARGE[:20_000], 1 << 15))
         mapping = mmap.mmap(-1, len(image))
         mapping[:] = image
-        done, read_well = threading.Event(), 0
+        done, totals = threading.Event(), set()
 
         def change():
             while not done.is_set():
-                for place in places:
-                    mapping[place:place + 8] = b"\xff" * 8
-                for place in places:
-                    mapping[place:place + 8] = image[place:place + 8]
-                time.sleep(0)
+                mapping[80_032:80_040] = b"\xff" * 8
+                mapping[80_032:80_040] = image[32:40]
 
         interval = sys.getswitchinterval()
         sys.setswitchinterval(1e-6)
         changer = threading.Thread(target=change)
         changer.start()
         try:
-            for _ in range(400):
+            for _ in range(100):
                 try:
-                    whole = read(mapping)
-                except ds.SketchError:
-                    continue
-                check(whole)
-                read_well += 1
+                    heavy = ds.FrequentItems.from_bytes(mapping)
+                except ds.SketchError as error:
+                    self.assertEqual(error.fault, "WeightsExceedTotal")
+                else:
+                    totals.add((sum(row[1] for row in heavy.rows()), heavy.total))
         finally:
             done.set()
             changer.join()
             sys.setswitchinterval(interval)
-        self.assertGreater(read_well, 0)
-
-    def test_weights_that_change(self):
-        image = bytes(frequent(LARGE[:20_000], 1 << 15))
-
-        def check(heavy):
-            self.assertEqual((sum(row[1] for row in heavy.rows()), heavy.total), (20_000, 20_000))
-
-        self.changed_meanwhile(image, [32 + 8 * number for number in (100, 10_000, 19_000)], ds.FrequentItems.from_bytes, check)
-
-    def test_bits_that_change(self):
-        image = bytearray(bytes(filled(1 << 20, LARGE[:20_000])))
-        image[24:32] = b"\xff" * 8  # the bits are said not to be counted
-
-        def check(seen):
-            self.assertEqual(ds.BloomFilter.from_bytes(bytes(seen)), seen)
-
-        places = [32 + 8 * number for number in range(1, 16_000, 3999)]
-        self.changed_meanwhile(bytes(image), places, ds.BloomFilter.from_bytes, check)
+        self.assertEqual(totals, {(20_000, 20_000)})
 
     def test_a_view_is_given_back(self):
         image = bytearray(bytes(filled(64, [1])))
