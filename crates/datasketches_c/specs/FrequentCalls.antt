@@ -82,7 +82,8 @@ module _ {T : Type 0} (eq : T → T → Bool) where
     pub budget : OnDone result (ExtendsBudget eq old new (λ h. Merge (New old.max_size n) h))
     pub accepted : OnDone result (sample_fault old.max_size n ≡ None)
     pub succeeds : sample_fault old.max_size n ≡ None → result ≡ ok
-    pub refused : OnRefused result ((result ≡ refusal_number BadSampleSize) × (new ≡ old))
+    pub refused : OnRefused result (new ≡ old)
+    pub number : OnRefused result (result ≡ refusal_number BadSampleSize)
 
   -- new is the empty sketch of old's sizes, and stands for what old stood for, forgotten
   pub record Empties (old new : FrequentState T) : Type 0 where
