@@ -37,7 +37,7 @@ static bool counts_all(const Sketch *self, const Items *items)
         return true;
     for (size_t i = 0; i < items->count; i += CHUNK) {
         size_t count = items_chunk(items, i, CHUNK, chunk);
-        for (size_t j = 0; (self->with_texts || !below_top(chunk, count)) && j < count; j++)
+        for (size_t j = self->with_texts || !below_top(chunk, count) ? 0 : count; j < count; j++)
             if (!counts(self, false, chunk[j], items->with_sign && chunk[j] > INT64_MAX))
                 return false;
     }

@@ -20,6 +20,13 @@ static bool reads_format(const char *format, Py_ssize_t size, bool *with_sign, b
     return *with_sign || strchr("BHILQN", format[0]) != NULL;
 }
 
+static void set_wrong_type(PyObject *object, const Items *items)
+{
+    PyErr_Format(PyExc_TypeError, items->of_weights ? "weights are an int or many of these, not %.200s"
+                                                    : "items are a str, an int or many of these, not %.200s",
+                 Py_TYPE(object)->tp_name);
+}
+
 /* The buffer's numbers. Those of 8 bits without a sign are bytes, but in an array. */
 static bool items_of_buffer(PyObject *object, Items *items)
 {
@@ -28,7 +35,9 @@ static bool items_of_buffer(PyObject *object, Items *items)
         return false;
     const char *format = view->format != NULL ? view->format : "B", *what = items->of_weights ? "weights" : "items";
     bool of_numbers = reads_format(format, view->itemsize, &items->with_sign, &items->swapped);
-    if (!of_numbers || (view->itemsize == 1 && !items->with_sign && !is_array_of_bytes(object)))
+    if (!of_numbers && view->ndim == 0)
+        set_wrong_type(object, items);
+    else if (!of_numbers || (view->itemsize == 1 && !items->with_sign && !is_array_of_bytes(object)))
         PyErr_Format(PyExc_TypeError, "a buffer of %s has integers, not the format '%.50s' (%.200s)", what, format,
                      Py_TYPE(object)->tp_name);
     else if (view->ndim != 1)
@@ -73,9 +82,7 @@ static bool items_of_tuple(PyObject *object, Items *items)
 static bool items_of_iterable(PyObject *object, Items *items)
 {
     if (Py_TYPE(object)->tp_iter == NULL && !PySequence_Check(object))
-        PyErr_Format(PyExc_TypeError, items->of_weights ? "weights are an int or many of these, not %.200s"
-                                                        : "items are a str, an int or many of these, not %.200s",
-                     Py_TYPE(object)->tp_name);
+        set_wrong_type(object, items);
     else
         items->iterator = PyObject_GetIter(object);
     return items->iterator != NULL;

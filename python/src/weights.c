@@ -1,15 +1,13 @@
 /* The weights of many items, and both as an update is given them. */
 #include "sketches.h"
 
-#include <string.h>
-
 static bool is_many(PyObject *object)
 {
     return !is_single(object) &&
            (PyObject_CheckBuffer(object) || Py_TYPE(object)->tp_iter != NULL || PySequence_Check(object));
 }
 
-/* What weights are read from. They come in an order, and a mapping's keys are none. */
+/* What weights are read from. Sets an error for a set and for a mapping, whose keys would be taken. */
 static PyObject *weight_source_of(PyObject *object)
 {
     if (PyAnySet_Check(object))
@@ -60,7 +58,7 @@ static bool each_fits(const Weights *weights)
         return true;
     for (size_t i = 0; i < items->count; i += CHUNK) {
         size_t count = items_chunk(items, i, CHUNK, chunk);
-        for (size_t j = 0; !below_top(chunk, count) && j < count; j++)
+        for (size_t j = below_top(chunk, count) ? count : 0; j < count; j++)
             if (!number_fits("a weight", weights->with_sign, chunk[j], items->with_sign && chunk[j] > INT64_MAX))
                 return false;
     }

@@ -131,8 +131,11 @@ class Mappings(unittest.TestCase):
 
     def test_what_has_no_order_has_no_weights(self):
         for sketch in sketches():
-            for weights in ({1, 2}, frozenset((1, 2)), {"a": 1, "b": 2}, collections.Counter("ab")):
-                with self.assertRaises(TypeError):
+            for weights in ({1, 2}, frozenset((1, 2))):
+                with self.assertRaisesRegex(TypeError, "order"):
+                    sketch.update(["a", "b"], weights)
+            for weights in ({"a": 1, "b": 2}, collections.Counter("ab"), {}):
+                with self.assertRaisesRegex(TypeError, "first argument"):
                     sketch.update(["a", "b"], weights)
             for items in ({"a", "b"}, frozenset("ab")):
                 with self.assertRaises(TypeError):
@@ -383,6 +386,8 @@ class Types(unittest.TestCase):
                 self.assertEqual(sketch.total, 0)
             with self.assertRaises(TypeError):
                 each in filled()
+        with self.assertRaisesRegex(TypeError, "str.*int.*not numpy.float64"):
+            filled().insert(numpy.float64(1))
         for kind in ("i1", "u1", "i2", "u4", "i8", "u8"):
             self.assertIn(numpy.dtype(kind).type(7), filled([7]))
         self.assertIn(numpy.str_("a"), filled(["a"]))
@@ -699,33 +704,32 @@ class Changes(unittest.TestCase):
             self.assertIsInstance(error, (type(None), OverflowError, RuntimeError))
 
     def test_a_change_while_the_call_waits(self):
-        busy = array.array("q", os.urandom(8 << 21))
-        cases = (("weights", ds.CountMin(64, 1 << 10), 0), ("weights", ds.FrequentItems(1 << 16, "u64"), 0),
-                 ("items", ds.FrequentItems(1 << 16, "u64"), 4096))
-        busy = array.array("Q", busy.tobytes())
-        for which, sketch, counted in cases:
-            items, weights = array.array("q", [7] * 5000), array.array("q", [1] * 5000)
-            changing = items if which == "items" else weights
-            errors = []
+        busy = array.array("Q", os.urandom(8 << 21))
+        cases = (("weights", lambda: ds.CountMin(64, 1 << 10), 0), ("weights", lambda: ds.FrequentItems(1 << 16, "u64"), 0),
+                 ("items", lambda: ds.FrequentItems(1 << 16, "u64"), 4096))
+        for which, make, counted in cases:
+            for attempt in range(1, 30):
+                sketch, errors = make(), []
+                items, weights = array.array("q", [7] * 5000), array.array("q", [1] * 5000)
 
-            def update():
-                try:
-                    sketch.update(items, weights)
-                except RuntimeError as error:
-                    errors.append(error)
+                def update():
+                    try:
+                        sketch.update(items, weights)
+                    except (RuntimeError, ValueError, OverflowError) as error:
+                        errors.append(error)
 
-            first, second = threading.Thread(target=lambda: sketch.update(busy)), threading.Thread(target=update)
-            first.start()
-            time.sleep(0.01)
-            second.start()
-            time.sleep(0.02)
-            waited = first.is_alive()
-            changing[4900] = -5
-            first.join()
-            second.join()
-            if waited:
-                self.assertEqual([taken(error) for error in errors], [counted], which)
-                self.assertEqual(sketch.total, len(busy) + counted)
+                first, second = threading.Thread(target=lambda: sketch.update(busy)), threading.Thread(target=update)
+                first.start()
+                time.sleep(0.01)
+                second.start()
+                time.sleep(0.005 * attempt)  # so that it has checked all, and waits for the first
+                (items if which == "items" else weights)[4900] = -5
+                first.join()
+                second.join()
+                if errors and isinstance(errors[0], RuntimeError):
+                    break
+            self.assertEqual([type(error) for error in errors], [RuntimeError], which)
+            self.assertEqual((taken(errors[0]), sketch.total), (counted, len(busy) + counted), which)
 
 
 def raises():
