@@ -44,25 +44,34 @@ void sketch_unlock(Sketch *self)
     PyThread_release_lock(self->lock);
 }
 
+static bool set_closed(void)
+{
+    PyErr_SetString(PyExc_ValueError, "the sketch is closed");
+    return false;
+}
+
 bool sketch_ready(Sketch *self)
 {
     if (self->busy) {
         acquire(self);
         sketch_unlock(self);
     }
-    if (self->handle.sketch == NULL)
-        PyErr_SetString(PyExc_ValueError, "the sketch is closed");
-    return self->handle.sketch != NULL;
+    return self->handle.sketch != NULL || set_closed();
 }
 
-bool sketch_lock(Sketch *self)
+/* Takes the lock if the sketch is open, and sets no error: to make one with a lock held could run Python code. */
+static bool lock_if_open(Sketch *self)
 {
     acquire(self);
     if (self->handle.sketch != NULL)
         return true;
     sketch_unlock(self);
-    PyErr_SetString(PyExc_ValueError, "the sketch is closed");
     return false;
+}
+
+bool sketch_lock(Sketch *self)
+{
+    return lock_if_open(self) || set_closed();
 }
 
 /* Locks are taken in the order of addresses, so that two threads never wait for each other. */
@@ -70,12 +79,12 @@ bool sketch_lock_both(Sketch *self, Sketch *other)
 {
     Sketch *first = (uintptr_t)self < (uintptr_t)other ? self : other;
     Sketch *second = first == self ? other : self;
-    if (!sketch_lock(first))
-        return false;
-    if (first == second || sketch_lock(second))
+    if (!lock_if_open(first))
+        return set_closed();
+    if (first == second || lock_if_open(second))
         return true;
     sketch_unlock(first);
-    return false;
+    return set_closed();
 }
 
 void sketch_unlock_both(Sketch *self, Sketch *other)
@@ -210,7 +219,7 @@ PyObject *sketch_sizeof(PyObject *object, PyObject *Py_UNUSED(unused))
 
 const char sketch_close_doc[] = PyDoc_STR(
 "close($self, /)\n--\n\n"
-"Free the memory. All other calls then raise ValueError; a second `close` does nothing.");
+"Free the memory. Calls that use the sketch then raise ValueError; a second `close` does nothing.");
 
 PyObject *sketch_close(PyObject *self, PyObject *Py_UNUSED(unused))
 {
