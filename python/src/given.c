@@ -143,6 +143,8 @@ PyObject *source_of(PyObject *object, const char *call)
     if (is_mapping(object))
         return PyErr_Format(PyExc_TypeError, "%s takes no mapping (%.200s): write %s(mapping.keys())", call,
                             Py_TYPE(object)->tp_name, call);
+    if (Py_TYPE(object)->tp_iter == NULL && type_has(object, "keys"))
+        return PyErr_Format(PyExc_TypeError, "%s takes no %.200s: it has keys, and no iterator", call, Py_TYPE(object)->tp_name);
     if (!type_has(object, "to_numpy") || !type_has(object, "dtype"))
         return Py_NewRef(object);
     PyObject *array = called(object, "to_numpy");
@@ -199,7 +201,7 @@ PyObject *array_entries(PyObject *array, const char *what)
     else if (kind == 'U' || kind == 'S' || kind == 'O' || kind == 'T')
         list = called(array, "tolist");
     else if (count > 0)
-        PyErr_Format(PyExc_TypeError, "an array of %s has no type %S", what, dtype);
+        PyErr_Format(PyExc_TypeError, "an array of %s has integers or strings, not %S", what, dtype);
     Py_XDECREF(dtype);
     if (list == NULL || (PyList_Check(list) && (kind != 'S' || decode_each(list))))
         return list;

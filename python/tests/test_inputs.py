@@ -126,6 +126,8 @@ class Mappings(unittest.TestCase):
             for name, call in (("insert", seen.insert), ("contains", seen.contains), ("estimate", load.estimate)):
                 with self.assertRaisesRegex(TypeError, rf"{name}\(mapping\.keys\(\)\)"):
                     call(mapping)
+        with self.assertRaisesRegex(TypeError, "no iterator"):
+            load.update(type("Keyed", (), {"keys": lambda self: ["a"], "__getitem__": lambda self, key: 3})())
         seen.insert({"a": 1}.keys())
         self.assertEqual((seen.contains({"a": 1, "b": 2}.keys()), seen == filled(["a"])), ([True, False], True))
 
