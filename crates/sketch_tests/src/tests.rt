@@ -1,8 +1,9 @@
-//! A module for each library, for sessions, and for sizes by the published formulas.
+//! A module for each library, for sessions and runs of theirs, and for sizes by the published formulas.
 mod base;
 mod bloom;
 mod countmin;
 mod frequencies;
+mod runs;
 mod sessions;
 mod sizes;
 
