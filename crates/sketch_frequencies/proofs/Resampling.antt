@@ -1,5 +1,5 @@
 -- A sketch whose later purges sample another number of counters stands for what it would if it were merged into a new one.
-use Rattle.std.proofs.Common.{◌≡◌, ℕ, ◌-◌, ◌≤◌, Bool, length, refl, arith}
+use Rattle.std.proofs.Common.{ℕ, ◌-◌, ◌≤◌, Bool, length, refl, arith}
 use Rattle.std.specs.Prelude.{IsTrue}
 use Rattle.std.specs.Int.{is_power_of_two}
 use Rattle.sketch_frequencies.specs.History.{FrequentHistory, least_size, budget_size}
