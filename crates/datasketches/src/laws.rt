@@ -79,8 +79,8 @@ pub fn what_a_step_keeps<T: FrequentItemValue>()
 ///
 /// Bytes that are loaded, from wherever they came, bring a sketch that stands for whatever history they are truly said to
 /// be of. What one session shows of an image, another that loads these bytes under the image's kind stands for. Of an
-/// untrusted image no history is known: it loads as a valid sketch, whose counts and error together are at most its
-/// total, and every later call keeps that.
+/// untrusted image no history is known. If it loads, it is a valid sketch, whose counts and error together are at most
+/// its total, and every later call keeps that.
 pub fn what_loads_bring<T: FrequentItemValue>()
     ensures action { ActionKeepsTold (option_bytes T.row) T.eq T.hash_input T.codec T.content }
     ensures told { StepKeepsTold (option_bytes T.row) T.eq T.hash_input T.codec T.content }
@@ -92,12 +92,13 @@ pub fn what_loads_bring<T: FrequentItemValue>()
 /// and any tree.
 ///
 /// Each session stands for its histories. A sketch has its own stream, and those of all sketches that were merged into
-/// it, before or after updates of its own. A stream counts as often as it was merged.
+/// it since its last reset, before or after updates of its own. A stream counts as often as it was merged.
 ///
 /// - Each true weight, summed over these streams, lies between its bounds.
 /// - The tail budget is that of all streams together, by the least sample size.
 /// - Each cell of a Count-Min sketch is its bucket's share of all streams. A halved or decayed sketch is one stream.
-/// - A filter contains what each of its parts contains: what it was before each insertion, and both sides of a union.
+/// - A filter contains what each of its parts contains: what it was before each insertion, and both sides of each union,
+///   since the last intersection, difference or reset.
 pub fn what_a_cluster_keeps<T: FrequentItemValue>()
     ensures fits { ProcessStandsForHistories (option_bytes T.row) T.eq T.hash_input T.codec T.content }
     ensures encloses { EnclosesAllStreams T.eq T.codec T.content }
