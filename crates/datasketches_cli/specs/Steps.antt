@@ -2,6 +2,7 @@
 use Rattle.std.specs.Prelude.{◌≡◌, ℕ, [], Option, Some, None, Result, Ok, Err, ⊤}
 use Rattle.std.specs.String.{string_bytes, string_eq}
 use Rattle.datasketches.specs.ErrorType.{ErrorType}
+use Rattle.datasketches.specs.Items.{text_codec}
 use Rattle.datasketches.specs.Steps.{Performs}
 use Rattle.datasketches.specs.declared.reply.Refusal.{Refusal}
 use Rattle.datasketches.specs.declared.reply.Refusal.TheVariants.{NoSuchName, NameTaken, Call}
@@ -16,7 +17,7 @@ use Rattle.datasketches_cli.specs.declared.request.Answer.TheVariants as answer
 use Rattle.datasketches_cli.specs.declared.request.Request.{Request}
 use Rattle.datasketches_cli.specs.declared.request.Request.TheVariants as request
 use Rattle.datasketches_cli.specs.declared.state.State.{State}
-use Rattle.datasketches_cli.specs.Texts.{Text, text_codec, text_input, text_slot}
+use Rattle.datasketches_cli.specs.Texts.{Text, text_input, text_slot}
 
 -- windows of tenants, if there are any
 abbrev pub Windows : Type 0

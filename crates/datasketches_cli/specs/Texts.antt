@@ -1,18 +1,13 @@
 -- Items, which are texts.
-use Rattle.std.specs.Prelude.{ℕ, List, bytes_eq}
+use Rattle.std.specs.Prelude.{ℕ, List}
 use Rattle.std.specs.Global.{Global}
 use Rattle.std.specs.Hash as fed
 use Rattle.std.specs.String.{string_bytes}
-use Rattle.datasketches.specs.Items.{Codec, text_encoding, text_reading}
 use Rattle.std.specs.declared.string.String.{String}
 
 -- an item that a sketch counts, or a name
 abbrev pub Text : Type 0
 Text = String Global
-
--- how texts are told apart, written into images and read from them: by their bytes
-abbrev pub text_codec : Codec (List ℕ)
-text_codec = record { same = bytes_eq; encoding = text_encoding; reading = text_reading }
 
 -- what a text feeds to a hash: its bytes, and then 255
 abbrev pub text_input : Text → List (List ℕ)

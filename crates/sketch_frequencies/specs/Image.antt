@@ -67,7 +67,7 @@ items_in codec (suc n) bytes = do
 abbrev pub items_at : {C : Type 0} → Codec C → List ℕ → Result (List C) Fault
 items_at codec image = items_in codec (active_at image) (drop (32 + 8 * active_at image) image)
 
--- how many bytes there are behind the weights, which those behind the items count to
+-- the number of bytes after the weights, those after the items included
 abbrev pub bytes_for_items : List ℕ → ℕ
 bytes_for_items image = if says_empty image then 0 else length image - (32 + 8 * active_at image)
 

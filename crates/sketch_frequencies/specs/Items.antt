@@ -21,10 +21,10 @@ pub record Codec (C : Type 0) : Type 0 where
   pub reading : List ℕ → Result (C × ℕ) Fault
   -- whether items may own memory outside of themselves
   pub owns : Bool
-  -- how many bytes of it an item of this content owns
+  -- how many bytes of memory an item of this content owns
   pub owned : C → ℕ
 
--- the most bytes that items own which take n bytes in an image: n, or none where items own no memory
+-- the most bytes of memory that items own if they take n bytes in an image: n, or none if items own no memory
 abbrev pub max_owned : {C : Type 0} → Codec C → ℕ → ℕ
 max_owned codec n = if codec.owns then n else 0
 
