@@ -143,7 +143,7 @@ class Tests:
         at, refused = 0, 1
         while refused or at == 1:
             ran = self.run([program], LD_PRELOAD=library, REFUSED_REPORT=report, REFUSED_AT=str(at))
-            requests, refused, kept, _ = [int(word) for word in read(report).split()]
+            requests, refused, kept, *_ = [int(word) for word in read(report).split()]
             self.check(f"request {at} is refused", ran.returncode == 0 and kept == 0, (ran, kept))
             at, refused = at + 1, refused or at == 0
         self.check("requests were refused", requests > 8 and at > requests, (requests, at))

@@ -3,8 +3,9 @@
  *
  * REFUSED_AT is the number of the request that is refused, counted from 1 over malloc, calloc and realloc; 0 refuses
  * none. With REFUSED_MARKED the requests are counted behind one for MARK_BEGIN bytes, up to one for MARK_END, which are
- * not counted themselves. REFUSED_REPORT is a file that gets four numbers at the end: how many requests there were,
- * whether one was refused, how many blocks were not given back, and how many were given back where requests were counted.
+ * not counted themselves. REFUSED_REPORT is a file that gets five numbers at the end: how many requests there were,
+ * whether one was refused, how many blocks were not given back, how many were given back where requests were counted, and
+ * how many bytes the requests were for.
  *
  * FAILS_READ_AT and FAILS_WRITE_AT are the numbers of a read of standard input and of a write to standard output that
  * fail, with INTERRUPTED as a signal makes a call fail that is to be made again. READ_STEP and WRITE_STEP are how many
@@ -34,6 +35,7 @@ static long requests;
 static long refusals;
 static long blocks;
 static long given_back;
+static size_t requested;
 static int loaded;
 static int counting;
 
@@ -82,18 +84,19 @@ __attribute__((destructor)) static void end(void) {
         if (streams) {
             fprintf(report, "%ld %ld %ld %ld\n", reads, failures, writes, late_reads);
         } else {
-            fprintf(report, "%ld %ld %ld %ld\n", requests, refusals, blocks, given_back);
+            fprintf(report, "%ld %ld %ld %ld %zu\n", requests, refusals, blocks, given_back, requested);
         }
         fclose(report);
     }
 }
 
-/* Whether this request is the one to refuse. */
-static int refuses(void) {
+/* Whether this request, for so many bytes, is the one to refuse. */
+static int refuses(size_t size) {
     if (!counting) {
         return 0;
     }
     requests += 1;
+    requested += size;
     if (requests != refused_at) {
         return 0;
     }
@@ -108,7 +111,7 @@ void *malloc(size_t size) {
     }
     if (size == MARK_BEGIN || size == MARK_END) {
         counting = loaded && size == MARK_BEGIN;
-    } else if (refuses()) {
+    } else if (refuses(size)) {
         return NULL;
     }
     void *block = real_malloc(size);
@@ -120,7 +123,7 @@ void *calloc(size_t count, size_t size) {
     if (!real_calloc) {
         return NULL; /* dlsym asks for a little at first, and does without */
     }
-    if (refuses()) {
+    if (refuses(count * size)) {
         return NULL;
     }
     void *block = real_calloc(count, size);
@@ -129,7 +132,7 @@ void *calloc(size_t count, size_t size) {
 }
 
 void *realloc(void *block, size_t size) {
-    if (refuses()) {
+    if (refuses(size)) {
         return NULL;
     }
     void *moved = real_realloc(block, size);

@@ -141,7 +141,7 @@ class Tests:
             print(f"failed: {name} {said}")
 
     def run(self, lines, refused_at=None, words=None, **settings):
-        """Its status, what it wrote, and the four numbers of the library, where that was loaded: of the program over the
+        """Its status, what it wrote, and the numbers of the library, where that was loaded: of the program over the
         lines of a file, which it reads by the same calls each time, or of the trials with these words."""
         env = {"PATH": "/usr/bin:/bin"}
         report, name = [os.path.join(self.work, it) for it in ("report", "lines")]
@@ -379,7 +379,7 @@ class Tests:
             self.check(name, (answered, ended, said) == (replies, status, (wanted, b"")), (answered, ended, said))
 
     def play(self, words, refused_at):
-        """The lines of a trial, and the four numbers of its marked calls."""
+        """The lines of a trial, and the numbers of its marked calls."""
         status, out, said, numbers = self.run(b"", refused_at, words, REFUSED_MARKED=1)
         where = f"trial {' '.join(words[:1])}, request {refused_at}:"
         self.check(f"{where} it ends", (status, said) == (0, b""), (status, said))
@@ -423,6 +423,20 @@ class Tests:
         for name, wanted in trials.COUNTED.items():
             lines, numbers = self.play([name], 0)
             self.check(f"trial {name}, counted", (numbers[0], numbers[3], lines) == wanted, (lines, numbers))
+
+    def limits(self):
+        """Images are read under the least limit that accepts them: the bytes that are requested are at most twice the limit.
+        Under a limit of one byte less they are rejected, and nothing is requested."""
+        for name, sizes, limit, takes in trials.LIMITS:
+            lines, numbers = self.play([f"limit_{name}", str(limit), *sizes], 0)
+            where = f"limit of {name} {' '.join(sizes)}"
+            self.check(where, lines == [f"takes {takes}"] and 0 < numbers[4] <= 2 * limit, (lines, numbers))
+            lines, numbers = self.play([f"limit_{name}", str(limit - 1), *sizes], 0)
+            self.check(f"{where}, less 1", (lines, numbers[0]) == (["refused data TableTooLarge"], 0), (lines, numbers))
+        for name, slots, takes in trials.TABLES:
+            lines, numbers = self.play([f"limit_{name}", str(slots)], 0)
+            told = lines == [f"takes {takes}"] and 0 < numbers[4] <= 2 * takes
+            self.check(f"limit of {name} of {slots} slots", told, (lines, numbers))
 
     def requests_of(self, lines):
         """How many requests the program makes over the lines, and its replies."""
@@ -550,6 +564,7 @@ def main():
         tests.each_call()
         tests.allocation_free_calls()
         tests.counted_calls()
+        tests.limits()
         tests.lines_counted()
         tests.hard_items()
         tests.sessions()

@@ -73,6 +73,28 @@ COUNTED = {
     "frequent_update": (2, 2, CALLS["frequent_update"]),
 }
 
+# Images that are read under a limit: their items, the least limit that accepts them, and what their sketches take. A slot of numbers
+# counts 28 bytes and one of strings 44; a string counts its length in the sketch, and 4 more in the image.
+LIMITS = [
+    ("numbers", ["0"], 8 * 28, 8 * 28),
+    ("numbers", ["6"], 8 * 28, 8 * 28),
+    ("numbers", ["1000"], 2048 * 28, 2048 * 28),
+    ("numbers", ["12288"], 16384 * 28, 16384 * 28),
+    ("strings", ["0", "0"], 8 * 44, 8 * 44),
+    ("strings", ["1", "1"], 8 * 44 + 5, 8 * 44 + 1),
+    ("strings", ["1", "1000000"], 8 * 44 + 1000004, 8 * 44 + 1000000),
+    ("strings", ["1000", "100"], 2048 * 44 + 1000 * 104, 2048 * 44 + 1000 * 100),
+    ("strings", ["12288", "10"], 16384 * 44 + 12288 * 14, 16384 * 44 + 12288 * 10),
+]
+
+# Tables: their slots, and the bytes by the formula.
+TABLES = [
+    ("table-of-u8", 32, 32 * 14),
+    ("table-of-u32", 32, 32 * 20),
+    ("table-of-u64", 32, 32 * 28),
+    ("table-of-strings", 32, 32 * 44),
+]
+
 SKETCH = [
     "frequent 4 0 16 6 8 1/1/1 5/5/5 0/0/0 1/1/1",
     "frequent 5 0 36 6 8 1/1/1 5/5/5 0/0/0 1/1/1",

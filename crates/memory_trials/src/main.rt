@@ -9,6 +9,7 @@
 //! | `session LEFT_OUT..` | a run of a session over commands of all kinds, without those of the given places |
 //! | `frequent_..`, `table_..`, `bytes_..` | a call of the library that may answer want of memory, alone |
 //! | `allocation-free_..` | calls that take no memory |
+//! | `limit_.. LIMIT COUNT..` | images that are read under a limit, and `memory_bytes` of their sketches; tables of items of some sizes |
 //! | `feeds-nothing_..`, `unclonable_..`, `unwritable_..`, `letter_..` | items that are hard to hash, to clone, to write or to tell apart |
 //!
 //! Without a word it writes nothing. It ends with status 3 where something went wrong that no trial is about.
@@ -18,6 +19,7 @@ mod allocation_free;
 mod calls;
 mod commands;
 mod hard_items;
+mod limits;
 mod output;
 mod session;
 mod table;
@@ -56,6 +58,7 @@ fn play(trial: &mut Trial, name: &str, places: &[usize]) {
     match name {
         "session" => session::session(trial, places),
         _ => match name.split_once('_') {
+            Some(("limit", call)) => limits::play(trial, call, places),
             Some((subject, call)) => play_subject(trial, subject, call),
             None => trial.fail(),
         },
