@@ -85,6 +85,11 @@ pub fn sent_pages(
     FrequentItemsSketch::deserialize_with_limit(alloc, &image, 1 << 20)
 }
 
+/// Returns whether a sketch takes more bytes than the budget.
+pub fn takes_too_much(pages: &FrequentItemsSketch<String>, budget: usize) -> bool {
+    pages.memory_bytes() > budget
+}
+
 /// An item as it stands in an image.
 pub fn bytes_of<T: FrequentItemValue>(alloc: Global, item: &T) -> Result<Vec<u8>, Error> {
     let mut out = SketchBytes::with_capacity(alloc, T::serialize_size(item))?;

@@ -15,7 +15,7 @@ use crate::filters::{
 use crate::frequent_items::{
     apples_of_both_shops, bytes_of, counts_visit, heavier_pages, heaviest, kind_of_report,
     longest_look_up, most_visited, sent_pages, sketch_of_visitors, surely_weighs_more,
-    visits_of_four, visits_within_a_percent, weights_of_four,
+    takes_too_much, visits_of_four, visits_within_a_percent, weights_of_four,
 };
 use crate::images::sent;
 use crate::session::{
@@ -179,6 +179,13 @@ fn weights_of_pages(alloc: Global) -> Result<[u64; 4], Error> {
     Ok(weights_of_four(&sketch_of_visitors(alloc, &[7, 8, 7])?, &[7, 8, 9, 7]))
 }
 
+/// Whether a sketch of one page of two bytes takes more bytes than the budget.
+fn page_takes_too_much(alloc: Global, budget: usize) -> Result<bool, Error> {
+    let mut pages = FrequentItemsSketch::new(alloc, 8)?;
+    pages.update(String::from_str(alloc, "ab")?)?;
+    Ok(takes_too_much(&pages, budget))
+}
+
 #[test]
 fn frequent_items_and_tables_are_as_the_docs_say(rt: HostRuntime) {
     assert!(rt; heavier_than_three(rt.alloc()) == Ok((1, 1)));
@@ -186,6 +193,9 @@ fn frequent_items_and_tables_are_as_the_docs_say(rt: HostRuntime) {
     assert!(rt; kind_of_report(true) == ErrorType::NoFalsePositives);
     assert!(rt; weights_of_pages(rt.alloc()) == Ok([2, 1, 0, 2]));
     assert!(rt; visit(rt.alloc(), 8) == Ok((true, [1, 0, 1, 0], Some(7), 1)));
+    // eight slots of 44 bytes, and two
+    assert!(rt; page_takes_too_much(rt.alloc(), 353) == Ok(true));
+    assert!(rt; page_takes_too_much(rt.alloc(), 354) == Ok(false));
 }
 
 #[test]
