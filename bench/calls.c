@@ -1,5 +1,5 @@
-/* Times calls of the library for C: a line each of a name and nanoseconds an item, the least of 15 rounds. `calls.py` does the
- * same from Python, and prints both. */
+/* Times calls of the C library, and prints a line for each: its name and nanoseconds an item, the minimum of 15 rounds.
+ * `calls.py` does the same from Python, and prints both. */
 #include <datasketches.h>
 #include <stdio.h>
 #include <stdlib.h>
@@ -46,19 +46,20 @@ int main(void)
         items[i] = mix(i + 0x9e3779b97f4a7c15u) >> 1;
         snprintf(texts[i], 8, "t%06llx", (unsigned long long)(items[i] & 0xffffff));
     }
-    if (ds_filter_new(&filter, 1 << 20, 7, 9001) || ds_count_u64_new(&count, 4, 1 << 16, 9001)) return 1;
-    TIME("filter_insert_all", ds_filter_reset(&filter), ds_filter_insert_all_u64(&filter, items, ITEMS));
-    TIME("filter_contains_all", , ds_filter_contains_all_u64(&filter, items, ITEMS, answers, ITEMS));
-    TIME("count_update_all", , ds_count_u64_update_all_u64(&count, items, ITEMS));
-    TIME("count_estimate_all", , ds_count_u64_estimate_all_u64(&count, items, ITEMS, estimates, ITEMS));
-    TIME("frequent_update_all", ds_frequent_i64_new(&frequent, 1 << 16, 1024),
-         ds_frequent_i64_update_all(&frequent, (const int64_t *)items, ITEMS));
-    TIME("filter_insert_all_texts", ds_filter_reset(&filter),
-         for (size_t i = 0; i < ITEMS; i++) ds_filter_insert_text(&filter, (const uint8_t *)texts[i], 7));
-    TIME("filter_insert_one", ds_filter_reset(&filter), for (size_t i = 0; i < ITEMS; i++) ds_filter_insert_u64(&filter, items[i]));
-    TIME("filter_contains_one", , for (size_t i = 0; i < ITEMS; i++) sum += (uint64_t)ds_filter_contains_u64(&filter, items[i]));
-    TIME("count_update_one", , for (size_t i = 0; i < ITEMS; i++) ds_count_u64_update_u64(&count, items[i], 1));
-    TIME("count_estimate_one", , for (size_t i = 0; i < ITEMS; i++) { ds_count_u64_estimate_u64(&count, items[i], &estimate); sum += estimate; });
+    if (ds_bloom_new(&filter, 1 << 20, 7, 9001) || ds_count_min_u64_new(&count, 4, 1 << 16, 9001)) return 1;
+    TIME("filter_insert_all", ds_bloom_reset(&filter), ds_bloom_insert_all_u64(&filter, items, ITEMS));
+    TIME("filter_contains_all", , ds_bloom_contains_all_u64(&filter, items, ITEMS, answers, ITEMS));
+    TIME("count_update_all", , ds_count_min_u64_update_all_u64(&count, items, ITEMS));
+    TIME("count_estimate_all", , ds_count_min_u64_estimate_all_u64(&count, items, ITEMS, estimates, ITEMS));
+    TIME("frequent_update_all", ds_frequent_items_i64_new(&frequent, 1 << 16, 1024),
+         ds_frequent_items_i64_update_all(&frequent, (const int64_t *)items, ITEMS));
+    TIME("filter_insert_all_texts", ds_bloom_reset(&filter),
+         for (size_t i = 0; i < ITEMS; i++) ds_bloom_insert_string(&filter, (const uint8_t *)texts[i], 7));
+    TIME("filter_insert_one", ds_bloom_reset(&filter), for (size_t i = 0; i < ITEMS; i++) ds_bloom_insert_u64(&filter, items[i]));
+    TIME("filter_contains_one", , for (size_t i = 0; i < ITEMS; i++) sum += (uint64_t)ds_bloom_contains_u64(&filter, items[i]));
+    TIME("count_update_one", , for (size_t i = 0; i < ITEMS; i++) ds_count_min_u64_update_u64(&count, items[i], 1));
+    TIME("count_estimate_one", ,
+         for (size_t i = 0; i < ITEMS; i++) { ds_count_min_u64_estimate_u64(&count, items[i], &estimate); sum += estimate; });
     ds_free(&filter);
     ds_free(&count);
     ds_free(&frequent);

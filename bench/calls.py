@@ -1,9 +1,9 @@
-"""Times calls from Python beside calls from C in one run, and prints a table: nanoseconds an item, and the ratio.
+"""Times calls from Python and calls from C in one run, and prints a table: nanoseconds an item, and the ratio.
 
     /usr/bin/python3 bench/calls.py [ARCHIVE]
 
-It builds both libraries under bench/out/calls first, from the archive that `.ci/archive` makes, if one is named, and else from
-crates that it proves. It needs what `.ci/needs` names.
+It first builds both libraries in bench/out/calls, from ARCHIVE, which `.ci/archive` builds. Without it, it proves and builds
+the crates. It needs the packages that `.ci/needs` lists.
 """
 import array
 import os
@@ -18,9 +18,9 @@ ITEMS, ROUNDS = 1 << 20, 15
 
 def build(archive):
     os.makedirs(OUT, exist_ok=True)
-    subprocess.run(["bash", f"{TOP}/c/build.sh", OUT, *archive], check=True)
-    subprocess.run(["bash", f"{TOP}/python/build.sh", OUT, *archive], check=True)
-    compiler = [os.environ.get("CC", "cc"), "-std=gnu11", "-O2", f"-I{TOP}/include", f"{TOP}/bench/calls.c"]
+    subprocess.run(["bash", f"{TOP}/bindings/c/build.sh", OUT, *archive], check=True)
+    subprocess.run(["bash", f"{TOP}/bindings/python/build.sh", OUT, *archive], check=True)
+    compiler = [os.environ.get("CC", "cc"), "-std=gnu11", "-O2", f"-I{TOP}/bindings/c/include", f"{TOP}/bench/calls.c"]
     subprocess.run([*compiler, f"{OUT}/libdatasketches.a", "-o", f"{OUT}/calls"], check=True)
 
 
@@ -31,7 +31,7 @@ def mix(x):
 
 
 def timed(call, prepare=lambda: None):
-    """The least nanoseconds an item of some rounds."""
+    """Returns the nanoseconds an item of a call: the minimum of some rounds."""
     least = float("inf")
     for _ in range(ROUNDS):
         prepare()
@@ -42,7 +42,7 @@ def timed(call, prepare=lambda: None):
 
 
 def each(call, items):
-    """What a call of each item takes, less what the loop takes."""
+    """Returns the nanoseconds of a call for one item, without the time of the loop."""
     def loop():
         for item in items:
             call(item)
@@ -59,7 +59,7 @@ def rows(ds):
     items = array.array("Q", numbers)
     signed = array.array("q", numbers)
     texts = [f"t{number & 0xFFFFFF:06x}" for number in numbers]
-    seen, load = ds.BloomFilter(bits=1 << 20, hashes=7), ds.CountMin(hashes=4, buckets=1 << 16)
+    seen, load = ds.BloomFilter(num_bits=1 << 20, num_hashes=7), ds.CountMinSketch(num_hashes=4, num_buckets=1 << 16)
     heavy = []
     try:
         import numpy
@@ -70,7 +70,7 @@ def rows(ds):
     yield "filter_contains_all", timed(lambda: seen.contains(given))
     yield "count_update_all", timed(lambda: load.update(items))
     yield "count_estimate_all", timed(lambda: load.estimate(given))
-    yield "frequent_update_all", timed(lambda: heavy[-1].update(signed), lambda: heavy.append(ds.FrequentItems(1 << 16)))
+    yield "frequent_update_all", timed(lambda: heavy[-1].update(signed), lambda: heavy.append(ds.FrequentItemsSketch(1 << 16)))
     yield "filter_insert_all_texts", timed(lambda: seen.insert(texts), seen.reset)
     yield "filter_insert_one", each(seen.insert, numbers)
     yield "filter_contains_one", each(seen.__contains__, numbers)

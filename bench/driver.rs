@@ -1,5 +1,5 @@
-//! Times the proved crates beside plain Rust, in one process, and prints a table. Words choose the rows whose names
-//! have each of them; `--names` prints only the names, and `--once NAME` runs the row of that name once.
+//! Times the proved crates and plain Rust in one process, and prints a table. Words choose the rows whose names contain each of
+//! them. `--names` prints only the names, and `--once NAME` runs the row of that name once.
 
 mod plain;
 mod rows;

@@ -1,14 +1,14 @@
 #!/usr/bin/env bash
-# Prints how many instructions each row takes on the proved side, as valgrind counts them, of what `run.sh` has built: the same
-# at each run, whatever else the machine does. Words choose rows as there.
+# Prints the number of instructions of each row on the proved side, as valgrind counts them. It uses the programs that `run.sh`
+# built. The numbers are the same in each run. Words choose rows as in `run.sh`.
 set -euo pipefail
 cd "$(dirname "$0")"
 
-count() { # the instructions of a command
+count() { # prints the number of instructions of a command
     valgrind --tool=callgrind --callgrind-out-file=/dev/null "$@" 2>&1 >/dev/null | sed -n 's/.*Collected : //p'
 }
 
-# the loops, and what they call
+# the loops and the functions that they call
 loops=()
 for part in murmur3 xxh64 filter count frequent; do
     loops+=(--toggle-collect="rattle_${part}_*")

@@ -1,5 +1,5 @@
-//! What is timed beside the proved crates: plain Rust that does as the published crate `datasketches` does, written for
-//! the purpose.
+//! Plain Rust that is timed for comparison with the proved crates. It does as the published crate `datasketches` does, and was
+//! written for this purpose.
 #![allow(dead_code)]
 
 pub mod count_min;

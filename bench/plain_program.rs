@@ -1,4 +1,4 @@
-//! Some of the program's lines as a Rust programmer would serve them: those that make a sketch, feed it and ask it.
+//! Serves some of the program's lines as a Rust programmer would: lines that create a sketch, add to it and query it.
 
 mod plain;
 
@@ -9,7 +9,7 @@ use std::collections::HashMap;
 use std::io::{self, BufRead, BufReader, BufWriter, Write};
 use std::process::ExitCode;
 
-/// The number e is the first over the second.
+/// The number e is `E_NUMERATOR` / `E_DENOMINATOR`.
 const E_NUMERATOR: u128 = 2_718_281_828_459_045_235;
 const E_DENOMINATOR: u128 = 1_000_000_000_000_000_000;
 
@@ -19,7 +19,7 @@ enum Sketch {
     Bloom(Filter),
 }
 
-/// Does the command of a line, and answers whether it is one.
+/// Performs the command of a line. Returns false if the line is not a command.
 fn serve(line: &str, sketches: &mut HashMap<String, Sketch>, out: &mut impl Write) -> io::Result<bool> {
     let mut words = line.split(' ').filter(|word| !word.is_empty());
     let Some(verb) = words.next() else {
@@ -111,7 +111,7 @@ fn serve(line: &str, sketches: &mut HashMap<String, Sketch>, out: &mut impl Writ
     Ok(true)
 }
 
-/// An estimate with e over the buckets of the total added.
+/// Returns the estimate plus the total times e over the number of buckets.
 fn upper(sketch: &CountMin<u64>, estimate: u64) -> u64 {
     let scale = E_DENOMINATOR * u128::from(sketch.num_buckets());
     let margin = u128::from(sketch.total()) * E_NUMERATOR / scale;

@@ -1,4 +1,4 @@
-//! The rows of the table, a part a file: what is timed in plain Rust, and what both sides are given.
+//! The rows of the table, a part a file: the loops in plain Rust, and both sides' data.
 
 pub mod count_min;
 pub mod filters;

@@ -1,14 +1,14 @@
 #!/usr/bin/env bash
-# Prints one table of what the operations of the proved crates take, beside plain Rust. Words choose its rows: those whose
-# names have each of them. With ORDER=1, or another number, the functions are linked in an order that goes by it (by lld, with which
-# rustc links here).
+# Prints a table of the times of operations of the proved crates and of plain Rust. Words choose the rows whose names contain
+# each of them. With ORDER=1, or another number, the functions are linked in an order that depends on it. This needs lld, with
+# which rustc links here.
 set -euo pipefail
 cd "$(dirname "$0")"
 crates=out/crates
 libraries='sketch_base counter_table sketch_frequencies sketch_bloom sketch_countmin'
 program='heavy_windows datasketches datasketches_cli'
 
-prove() { # a crate, by a command of rt
+prove() { # proves and builds a crate with a command of rt
     (cd "$crates/$1" && rt "$2" </dev/null) >out/log 2>&1 || { tail -n 20 out/log; exit 1; }
 }
 
@@ -16,15 +16,15 @@ compile() {
     rustc --edition 2024 -O -C codegen-units=1 -C target-cpu=x86-64-v2 "$@"
 }
 
-# Each function of the loops and of what they call begins at a multiple of 64: an edit elsewhere would else move a loop by 16 bytes,
-# and its time by a tenth. Of the plain side a word of the compiler sees to it.
-align() { # the static library of a crate, into out/aligned
+# Each function of the loops and each function that they call begins at a multiple of 64. Otherwise an edit elsewhere could move a
+# loop by 16 bytes, and change its time by a tenth. On the plain side an option of the compiler does this.
+align() { # copies the static library of a crate into out/aligned, with aligned functions
     mkdir -p out/aligned
     (cd out/aligned && rm -f ./* && ar x "../crates/$1/out/lib$1.a" && objcopy --set-section-alignment '.text*=64' "$1.o" \
         && ar rcs "lib$1.a" "$1.o")
 }
 
-# Copies of the crates, with the loops as one more. A file that is gone must not stay there.
+# Copies the crates, with the loops as another crate. Files that were deleted must not stay there.
 mkdir -p "$crates"
 for crate in $libraries $program; do
     mkdir -p "$crates/$crate"
@@ -41,7 +41,7 @@ done
 
 prove bench_loops lib
 align bench_loops
-# The heap of the proved side is the C library's, as that of the plain side.
+# Both sides use the C library's heap.
 compile -C llvm-args=-align-all-functions=6 driver.rs -o out/driver -L out/aligned -l static=bench_loops \
     -C link-arg="$(dirname "$(rt doc)")/c/liblibc_c.a" ${ORDER:+-C link-arg="-Wl,--shuffle-sections=*=$ORDER"}
 case $(out/driver --names "$@") in
@@ -54,10 +54,10 @@ if [ $# -gt 0 ]; then
     out/driver "$@"
     exit
 fi
-table="results/$(date +%F).md"
+table="results/$(date +%F).txt"
 out/driver | tee out/table
 {
-    printf '# %s\n\nBy `bench/run.sh`, on %s processors (%s). `plain` does as the published crate does.\n\n' \
+    printf '%s\n\nBy `bench/run.sh`, on %s processors (%s). `plain` does as the published crate does.\n\n' \
         "$(date +%F)" "$(nproc)" "$(sed -n 's/^model name[^:]*: //p;T;q' /proc/cpuinfo)"
     cat out/table
 } >"$table"

@@ -1,16 +1,17 @@
-//! How a row is timed and printed.
+//! The timing and printing of rows.
 
 use std::ffi::c_void;
 use std::hint::black_box;
 
-/// The rounds of which the least time of each side counts.
+/// The number of rounds, of which the minimum time of each side counts.
 const ROUNDS: u32 = 25;
 
-/// The C library's limits: how much free memory it keeps, and from what size on it asks the system for each block.
+/// The C library's limits: how much free memory it keeps, and the size from which on it allocates each block from the
+/// system.
 const KEPT_MEMORY: i32 = -1;
 const SEPARATE_BLOCKS: i32 = -3;
 
-/// Linux's clock of a thread's time on a processor.
+/// Linux's clock of a thread's processor time.
 const THREAD_CLOCK: i32 = 3;
 
 #[repr(C)]
@@ -32,14 +33,14 @@ unsafe extern "C" {
     fn mallopt(limit: i32, value: i32) -> i32;
 }
 
-/// Has the C library keep the memory that it was once given: else how often the system is asked for pages, and clears
-/// them, depends on where in memory a block comes to lie.
+/// Makes the C library keep the memory that it once allocated. Otherwise the number of pages that the system provides and clears
+/// depends on the addresses of blocks.
 pub fn keep_memory() {
     assert_eq!(unsafe { mallopt(SEPARATE_BLOCKS, 32 << 20) }, 1);
     assert_eq!(unsafe { mallopt(KEPT_MEMORY, i32::MAX) }, 1);
 }
 
-/// The time that this thread has had on a processor, in seconds.
+/// Returns the processor time of this thread, in seconds.
 pub fn thread_time() -> f64 {
     let mut time = Time {
         seconds: 0,
@@ -49,7 +50,7 @@ pub fn thread_time() -> f64 {
     time.seconds as f64 + time.nanoseconds as f64 / 1e9
 }
 
-/// The time that ended children have had on a processor, in seconds.
+/// Returns the processor time of ended child processes, in seconds.
 pub fn children_time() -> f64 {
     let mut usage = Usage::default();
     assert_eq!(unsafe { getrusage(-1, &mut usage) }, 0);
@@ -60,28 +61,28 @@ pub fn children_time() -> f64 {
 /// A loop over the proved crates: a shape, items, others, and a number of turns.
 pub type Loop = unsafe extern "C" fn(*const c_void, *const c_void, usize, *const c_void, usize, u64) -> u64;
 
-/// A loop in plain Rust, which is given the same.
+/// A loop in plain Rust, with the same arguments.
 pub type PlainLoop<Shape, Item> = dyn Fn(&Shape, &[Item], &[Item], u64) -> u64;
 
-/// What is done with the rows that were asked for.
+/// The action on the chosen rows.
 #[derive(Clone, Copy, PartialEq)]
 pub enum Task {
-    /// They are timed.
+    /// Time them.
     Time,
-    /// They are only named.
+    /// Print only their names.
     Name,
-    /// The one of that very name is run once, for a tool that counts what it does.
+    /// Run the row of exactly that name once, for a tool that counts instructions.
     RunOnce,
 }
 
-/// The rows that were asked for: those whose names have each of the words.
+/// The chosen rows: those whose names contain each of the words.
 pub struct Table {
     words: Vec<String>,
     task: Task,
 }
 
 impl Table {
-    /// Prints the head of the table, if there is to be one.
+    /// Creates the table, and prints its head if rows are timed.
     pub fn new(words: Vec<String>, task: Task) -> Self {
         if task == Task::Time {
             println!("| operation | here | plain | ratio |\n|---|---|---|---|");
@@ -89,7 +90,7 @@ impl Table {
         Table { words, task }
     }
 
-    /// Whether a row is to be run.
+    /// Returns whether a row is to be run.
     pub fn has(&self, name: &str) -> bool {
         let chosen = match self.task {
             Task::RunOnce => self.words == [name],
@@ -101,8 +102,8 @@ impl Table {
         chosen && self.task != Task::Name
     }
 
-    /// Times a row of so many calls a turn, here and in plain Rust, unless it is not asked for. Both sides answer what
-    /// their turns came to, and it is the same. What several turns take more than none is the time.
+    /// Times a row of `calls` calls a turn, here and in plain Rust, if it is chosen. Both sides return a digest of their turns'
+    /// results, which must be equal. The time is the difference between several turns and none.
     pub fn row<Shape, Item>(
         &self,
         name: &str,
@@ -133,7 +134,7 @@ impl Table {
         );
     }
 
-    /// The same where the sides take their own times, in seconds, and the caller has seen that the row is to be run.
+    /// Does the same for sides that take their own times, in seconds. The caller has checked that the row is to be run.
     pub fn timed_row(
         &self,
         name: &str,
@@ -146,7 +147,7 @@ impl Table {
             assert_eq!(here(turns).1, plain(turns).1, "{name}");
             return;
         }
-        // a side's least times with no turn and with all
+        // each side's minimum times with no turn and with all turns
         let mut least = [[f64::MAX; 2]; 2];
         for round in 0..ROUNDS {
             for (times, turns) in [0, turns].into_iter().enumerate() {
@@ -170,7 +171,7 @@ impl Table {
     }
 }
 
-/// Nanoseconds, to three digits.
+/// Returns nanoseconds as a string with three digits.
 fn duration(nanoseconds: f64) -> String {
     match nanoseconds {
         n if n < 0.995 => format!("{n:.3} ns"),
@@ -181,22 +182,22 @@ fn duration(nanoseconds: f64) -> String {
     }
 }
 
-/// Numbers that are all different, from a place on.
+/// Returns `count` different numbers, from a place on.
 pub fn numbers(from: u64, count: usize) -> Vec<u64> {
     (from..from + count as u64)
         .map(|n| n.wrapping_mul(0x9E37_79B9_7F4A_7C15))
         .collect()
 }
 
-/// What bytes come to.
+/// Returns a digest of bytes.
 pub fn digest(bytes: &[u8]) -> u64 {
     bytes
         .iter()
         .fold(0, |all: u64, byte| all.wrapping_mul(31).wrapping_add(u64::from(*byte)))
 }
 
-/// A row: `row!(table, name, turns, calls; rattle_loop, plain_loop; shape, items, others)`. Both loops get what stands
-/// behind the second semicolon, and the number of turns.
+/// Times a row: `row!(table, name, turns, calls; rattle_loop, plain_loop; shape, items, others)`. Both loops get the arguments
+/// after the second semicolon, and the number of turns.
 #[macro_export]
 macro_rules! row {
     ($table:expr, $name:expr, $turns:expr, $calls:expr; $here:ident, $plain:expr;

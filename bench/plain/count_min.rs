@@ -1,5 +1,5 @@
-//! A Count-Min sketch: a hash of the item for each row, and its remainder by the number of buckets by products of 128
-//! bits, or by a mask where that is a power of two.
+//! A Count-Min sketch. Each row has a hash of the item, and its remainder by the number of buckets. The remainder is computed by
+//! products of 128 bits, or by a mask if the number is a power of two.
 
 use super::image::{Reader, Refusal, Writer};
 use super::murmur3::Murmur3;
@@ -38,7 +38,7 @@ impl Buckets {
     }
 }
 
-/// What a cell may be.
+/// A type of cells.
 pub trait Cell: Copy + Ord + std::ops::Add<Output = Self> {
     const ZERO: Self;
     const ONE: Self;
@@ -131,7 +131,7 @@ impl<T: Cell> CountMin<T> {
         self.buckets.count
     }
 
-    /// Where the cell of an item in a row stands.
+    /// Returns the index of the cell of an item in a row.
     fn place<I: Hash>(&self, item: &I, row: usize, seed: u64) -> usize {
         row * self.buckets.count as usize + self.buckets.of(hash_of(item, seed))
     }
@@ -179,7 +179,7 @@ impl<T: Cell> CountMin<T> {
         Ok(())
     }
 
-    /// The image of a sketch with a total that is not 0.
+    /// Returns the image of a sketch whose total is not 0.
     pub fn serialize(&self) -> Vec<u8> {
         let mut image = Writer::with_capacity(24 + 8 * self.cells.len());
         for byte in [2, 1, 18, 0] {
@@ -197,7 +197,7 @@ impl<T: Cell> CountMin<T> {
         image.into_bytes()
     }
 
-    /// The sketch of the image of one with a total that is not 0.
+    /// Returns the sketch of an image. The total must not be 0.
     pub fn deserialize(image: &[u8], seed: u64) -> Result<Self, Refusal> {
         let mut image = Reader::new(image);
         let longs = image.kind(18)?;
@@ -249,7 +249,7 @@ impl CountMin<u64> {
         self.total = scaled(self.total, factor);
     }
 
-    /// The same by a fraction, which the published crate has not.
+    /// Decays by a fraction, which the published crate does not offer.
     pub fn decay_by(&mut self, numerator: u64, denominator: u64) {
         let scaled = |value: u64| (u128::from(value) * u128::from(numerator) / u128::from(denominator)) as u64;
         for cell in &mut self.cells {
@@ -259,7 +259,7 @@ impl CountMin<u64> {
     }
 }
 
-/// A value times a factor above 0 and below 1, rounded down: the factor's digits as a whole number, and a shift.
+/// Returns a value times a factor above 0 and below 1, rounded down: a product with the factor's digits, and a shift.
 #[inline]
 fn scaled(value: u64, factor: f64) -> u64 {
     let digits = factor.to_bits() & ((1 << 52) - 1);

@@ -1,4 +1,4 @@
-//! A Bloom filter: a remainder by the capacity for each hash, and a test of each bit before it is set.
+//! A Bloom filter. It takes a remainder by the capacity for each hash, and tests each bit before it sets it.
 
 use super::image::{Reader, Refusal, Writer};
 use super::xxhash::Xxh64;
@@ -40,7 +40,7 @@ impl Filter {
         (first, hash_of(item, first))
     }
 
-    /// The word and the bit of an item's position of a number.
+    /// Returns the word and the bit of the item's position with this number.
     fn position(&self, hashes: (u64, u64), number: u16) -> (usize, u64) {
         let hash = hashes.0.wrapping_add(u64::from(number).wrapping_mul(hashes.1));
         let position = (hash >> 1) as usize % self.capacity();
@@ -114,7 +114,7 @@ impl Filter {
         Ok(())
     }
 
-    /// The image of a filter that is not empty.
+    /// Returns the image of a filter that is not empty.
     pub fn serialize(&self) -> Vec<u8> {
         let mut image = Writer::with_capacity(32 + 8 * self.words.len());
         for byte in [4, 1, 21, 0] {
@@ -132,7 +132,7 @@ impl Filter {
         image.into_bytes()
     }
 
-    /// The filter of the image of one that is not empty.
+    /// Returns the filter of an image. The filter must not be empty.
     pub fn deserialize(image: &[u8]) -> Result<Self, Refusal> {
         let mut image = Reader::new(image);
         let longs = image.kind(21)?;

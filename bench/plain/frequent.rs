@@ -7,8 +7,7 @@ use std::hash::{Hash, Hasher};
 
 pub const MAX_SAMPLE_SIZE: usize = 1024;
 
-/// The table. A slot is free where its drift is 0, and else the drift is one more than its distance from the home of
-/// its item.
+/// The table. A slot is free if its drift is 0. Otherwise the drift is one more than its distance from its item's home slot.
 pub struct Table<T> {
     items: Vec<Option<T>>,
     counts: Vec<u64>,
@@ -38,7 +37,7 @@ impl<T: Eq + Hash> Table<T> {
         self.len() / 4 * 3
     }
 
-    /// The slot of an item, or the free one where it would stand, and the drift there.
+    /// Returns the slot of an item, or the free slot for it, and the drift there.
     fn find<Q: Eq + Hash + ?Sized>(&self, item: &Q) -> (usize, usize)
     where
         T: Borrow<Q>,
@@ -124,7 +123,7 @@ impl<T: Eq + Hash> Table<T> {
         self.active -= 1;
     }
 
-    /// Takes the middle count of a sample from each, and removes those that come to nothing.
+    /// Subtracts a sample's middle count from each count, and removes the items whose count is then 0.
     fn purge(&mut self, sample_size: usize) -> u64 {
         let size = sample_size.min(self.active).min(MAX_SAMPLE_SIZE);
         let mut sample = Vec::with_capacity(size);
@@ -163,7 +162,7 @@ impl<T: Eq + Hash> Table<T> {
         }
     }
 
-    /// The counters in the order of their slots.
+    /// Returns the counters in the order of their slots.
     fn entries(&self) -> Vec<(&T, u64)> {
         let mut entries = Vec::with_capacity(self.active);
         for place in 0..self.len() {
@@ -225,7 +224,8 @@ impl<T: Eq + Hash> Frequent<T> {
         Self::with_sizes(max_size, 8, MAX_SAMPLE_SIZE)
     }
 
-    /// One whose purges sample so many counters at most, which the published crate lets nobody choose.
+    /// Returns a sketch whose purges sample at most this number of counters. The published crate does not offer this
+    /// choice.
     pub fn with_sample_size(max_size: usize, sample_size: usize) -> Self {
         Self::with_sizes(max_size, 8, sample_size)
     }
@@ -327,7 +327,7 @@ impl<T: Eq + Hash> Frequent<T> {
         self.total = total;
     }
 
-    /// The rows of all items that may be above the error.
+    /// Returns the rows of all items that may be above the error.
     pub fn frequent_items(&self) -> Vec<Row<T>>
     where
         T: Clone,
@@ -390,7 +390,7 @@ impl Written for String {
 }
 
 impl<T: Written> Frequent<T> {
-    /// The image of a sketch into which something was fed.
+    /// Returns the image of a sketch that is not empty.
     pub fn serialize(&self) -> Vec<u8> {
         let entries = self.table.entries();
         let sizes: usize = entries.iter().map(|(item, _)| item.size()).sum();
@@ -413,7 +413,7 @@ impl<T: Written> Frequent<T> {
         image.into_bytes()
     }
 
-    /// The sketch of the image of one into which something was fed.
+    /// Returns the sketch of an image. The sketch must not be empty.
     pub fn deserialize(image: &[u8]) -> Result<Self, Refusal> {
         let mut image = Reader::new(image);
         let longs = image.kind(10)? & 63;

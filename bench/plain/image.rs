@@ -1,4 +1,4 @@
-//! The bytes of images, and what is refused.
+//! The bytes of images, and the errors of readers.
 
 use std::io::{Cursor, Read};
 
@@ -16,7 +16,7 @@ impl From<std::io::Error> for Refusal {
     }
 }
 
-/// An image as it is written.
+/// A writer of an image.
 pub struct Writer(Vec<u8>);
 
 impl Writer {
@@ -49,7 +49,7 @@ impl Writer {
     }
 }
 
-/// An image as it is read.
+/// A reader of an image.
 pub struct Reader<'a>(Cursor<&'a [u8]>);
 
 impl<'a> Reader<'a> {
@@ -79,7 +79,7 @@ impl<'a> Reader<'a> {
         Ok(u64::from_le_bytes(self.array()?))
     }
 
-    /// What is left to be read.
+    /// Returns the bytes that are not read yet.
     pub fn rest(&self) -> &'a [u8] {
         let image: &'a [u8] = self.0.get_ref();
         &image[(self.0.position() as usize).min(image.len())..]
@@ -89,7 +89,7 @@ impl<'a> Reader<'a> {
         self.0.set_position(self.0.position() + len as u64);
     }
 
-    /// The family and the version that an image states behind its first byte, which is returned.
+    /// Reads the first byte, the version and the family. Returns the first byte if the other two are as expected.
     pub fn kind(&mut self, family: u8) -> Result<u8, Refusal> {
         let (longs, version, stated) = (self.u8()?, self.u8()?, self.u8()?);
         if stated == family && version == 1 {

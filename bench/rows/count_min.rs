@@ -1,11 +1,11 @@
-//! Count-Min sketches: each has counted the items by the weight first.
+//! Count-Min sketches. Each has first counted the items with the weight.
 
 use crate::plain::count_min::CountMin;
 use crate::row;
 use crate::timing::{Table, digest, numbers};
 use std::hint::black_box;
 
-/// What a sketch is made of, the weight of each item, and the fraction by which it decays.
+/// The shape of a sketch, the weight of each item, and the fraction by which it decays.
 #[repr(C)]
 struct Shape {
     num_hashes: u8,
@@ -15,7 +15,7 @@ struct Shape {
     denominator: u64,
 }
 
-/// A sketch that counted each item by the weight.
+/// Returns a sketch that counted each item with the weight.
 fn filled(shape: &Shape, items: &[u64]) -> CountMin<u64> {
     let mut sketch = CountMin::new(shape.num_hashes, shape.num_buckets, 9001);
     for n in items {
@@ -24,14 +24,14 @@ fn filled(shape: &Shape, items: &[u64]) -> CountMin<u64> {
     sketch
 }
 
-/// The total and the sum of all estimates, without the carries.
+/// Returns the wrapping sum of the total and all estimates.
 fn summary(sketch: &CountMin<u64>, items: &[u64]) -> u64 {
     items
         .iter()
         .fold(sketch.total(), |all, n| all.wrapping_add(sketch.estimate(*n)))
 }
 
-/// The items are counted by a weight of 1.
+/// Counts the items with a weight of 1.
 fn update(shape: &Shape, items: &[u64], _: &[u64], turns: u64) -> u64 {
     let mut sketch = filled(shape, items);
     for _ in 0..turns {
@@ -42,7 +42,7 @@ fn update(shape: &Shape, items: &[u64], _: &[u64], turns: u64) -> u64 {
     summary(&sketch, items)
 }
 
-/// The items are counted by the weight.
+/// Counts the items with the weight.
 fn weigh(shape: &Shape, items: &[u64], _: &[u64], turns: u64) -> u64 {
     let mut sketch = filled(shape, items);
     for _ in 0..turns {
@@ -53,7 +53,7 @@ fn weigh(shape: &Shape, items: &[u64], _: &[u64], turns: u64) -> u64 {
     summary(&sketch, items)
 }
 
-/// The others are estimated.
+/// Estimates the others.
 fn estimate(shape: &Shape, items: &[u64], others: &[u64], turns: u64) -> u64 {
     let sketch = filled(shape, items);
     let mut all = sketch.total();
@@ -65,7 +65,7 @@ fn estimate(shape: &Shape, items: &[u64], others: &[u64], turns: u64) -> u64 {
     all
 }
 
-/// A sketch of the others is merged into it.
+/// Merges a sketch of the others into it.
 fn merge(shape: &Shape, items: &[u64], others: &[u64], turns: u64) -> u64 {
     let (mut sketch, other) = (filled(shape, items), filled(shape, others));
     for _ in 0..turns {
@@ -82,7 +82,7 @@ fn halve(shape: &Shape, items: &[u64], _: &[u64], turns: u64) -> u64 {
     summary(&sketch, items)
 }
 
-/// It decays by a float, as the published crate's do.
+/// Decays the sketch by a float, as the published crate does.
 fn decay(shape: &Shape, items: &[u64], _: &[u64], turns: u64) -> u64 {
     let mut sketch = filled(shape, items);
     let factor = shape.numerator as f64 / shape.denominator as f64;
@@ -92,7 +92,7 @@ fn decay(shape: &Shape, items: &[u64], _: &[u64], turns: u64) -> u64 {
     summary(&sketch, items)
 }
 
-/// It decays by the fraction.
+/// Decays the sketch by the fraction.
 fn decay_by(shape: &Shape, items: &[u64], _: &[u64], turns: u64) -> u64 {
     let mut sketch = filled(shape, items);
     for _ in 0..turns {
@@ -101,7 +101,7 @@ fn decay_by(shape: &Shape, items: &[u64], _: &[u64], turns: u64) -> u64 {
     summary(&sketch, items)
 }
 
-/// A sketch in cells of `i64` that counted each item by the weight.
+/// Returns a sketch with cells of `i64` that counted each item with the weight.
 fn filled_signed(shape: &Shape, items: &[u64]) -> CountMin<i64> {
     let mut sketch = CountMin::new(shape.num_hashes, shape.num_buckets, 9001);
     for n in items {
@@ -110,7 +110,7 @@ fn filled_signed(shape: &Shape, items: &[u64]) -> CountMin<i64> {
     sketch
 }
 
-/// The image of one in cells of `i64` is written.
+/// Writes the image of a sketch with cells of `i64`.
 fn write(shape: &Shape, items: &[u64], _: &[u64], turns: u64) -> u64 {
     let sketch = filled_signed(shape, items);
     let mut image = sketch.serialize();
@@ -120,7 +120,7 @@ fn write(shape: &Shape, items: &[u64], _: &[u64], turns: u64) -> u64 {
     digest(&image)
 }
 
-/// The image of one in cells of `i64` is read.
+/// Reads the image of a sketch with cells of `i64`.
 fn read(shape: &Shape, items: &[u64], _: &[u64], turns: u64) -> u64 {
     let image = filled_signed(shape, items).serialize();
     let mut last: CountMin<i64> = CountMin::deserialize(&image, 9001).unwrap();
@@ -141,7 +141,7 @@ pub fn rows(t: &Table) {
             numerator: black_box(999),
             denominator: black_box(1000),
         };
-        // a fraction that is a float to the bit, so that both ways give the same
+        // a fraction that is exactly a float, so that both ways give the same result
         let exact = Shape {
             numerator: black_box(1_023_000),
             denominator: black_box(1_024_000),

@@ -1,4 +1,4 @@
-//! Filters: each is filled with the items first.
+//! Filters. The items are first inserted into each.
 
 use crate::plain::filter::Filter;
 use crate::plain::image::Refusal;
@@ -6,14 +6,14 @@ use crate::row;
 use crate::timing::{Table, digest, numbers};
 use std::hint::black_box;
 
-/// What a filter is made of.
+/// The shape of a filter.
 #[repr(C)]
 struct Shape {
     num_bits: u64,
     num_hashes: u16,
 }
 
-/// A filter of the items.
+/// Returns a filter of the items.
 fn filled(shape: &Shape, items: &[u64]) -> Filter {
     let mut filter = Filter::with_size(shape.num_bits, shape.num_hashes, 9001);
     for n in items {
@@ -22,7 +22,7 @@ fn filled(shape: &Shape, items: &[u64]) -> Filter {
     filter
 }
 
-/// The items are inserted again.
+/// Inserts the items again.
 fn insert(shape: &Shape, items: &[u64], _: &[u64], turns: u64) -> u64 {
     let mut filter = filled(shape, items);
     for _ in 0..turns {
@@ -33,7 +33,7 @@ fn insert(shape: &Shape, items: &[u64], _: &[u64], turns: u64) -> u64 {
     filter.bits_used()
 }
 
-/// The filter is emptied, and the items are inserted anew.
+/// Resets the filter, and inserts the items again.
 fn fill(shape: &Shape, items: &[u64], _: &[u64], turns: u64) -> u64 {
     let mut filter = filled(shape, items);
     for _ in 0..turns {
@@ -45,7 +45,7 @@ fn fill(shape: &Shape, items: &[u64], _: &[u64], turns: u64) -> u64 {
     filter.bits_used()
 }
 
-/// The others are looked for.
+/// Looks up the others.
 fn contains(shape: &Shape, items: &[u64], others: &[u64], turns: u64) -> u64 {
     let filter = filled(shape, items);
     let mut found = 0u64;
@@ -57,7 +57,7 @@ fn contains(shape: &Shape, items: &[u64], others: &[u64], turns: u64) -> u64 {
     found.wrapping_mul(1_000_003).wrapping_add(filter.bits_used())
 }
 
-/// The items are inserted again, and it is asked of each whether it was there.
+/// Inserts the items again, and checks for each whether it was there.
 fn contains_and_insert(shape: &Shape, items: &[u64], _: &[u64], turns: u64) -> u64 {
     let mut filter = filled(shape, items);
     let mut found = 0u64;
@@ -69,7 +69,7 @@ fn contains_and_insert(shape: &Shape, items: &[u64], _: &[u64], turns: u64) -> u
     found.wrapping_mul(1_000_003).wrapping_add(filter.bits_used())
 }
 
-/// A filter of the others is joined to it, so many times.
+/// Returns a loop that combines a filter of the others with it, once a turn.
 fn joined(join: fn(&mut Filter, &Filter) -> Result<(), Refusal>) -> impl Fn(&Shape, &[u64], &[u64], u64) -> u64 {
     move |shape, items, others, turns| {
         let (mut filter, other) = (filled(shape, items), filled(shape, others));
@@ -82,7 +82,7 @@ fn joined(join: fn(&mut Filter, &Filter) -> Result<(), Refusal>) -> impl Fn(&Sha
     }
 }
 
-/// Its image is written.
+/// Writes its image.
 fn write(shape: &Shape, items: &[u64], _: &[u64], turns: u64) -> u64 {
     let filter = filled(shape, items);
     let mut image = filter.serialize();
@@ -92,7 +92,7 @@ fn write(shape: &Shape, items: &[u64], _: &[u64], turns: u64) -> u64 {
     digest(&image)
 }
 
-/// Its image is read.
+/// Reads its image.
 fn read(shape: &Shape, items: &[u64], _: &[u64], turns: u64) -> u64 {
     let image = filled(shape, items).serialize();
     let mut last = Filter::deserialize(&image).unwrap();
@@ -122,7 +122,7 @@ pub fn rows(t: &Table) {
         row!(t, &name("contains and insert"), turns, count; rattle_filter_contains_and_insert, contains_and_insert;
             shape, items, []);
     }
-    // enough items to write to each page of memory: one that was never written to is read from a single place
+    // enough items to write to each page of memory, since pages that were never written share one place
     for (bits, count, turns) in [(20, 1000, 200), (27, 1 << 15, 25)] {
         let shape = Shape {
             num_bits: 1 << bits,

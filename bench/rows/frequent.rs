@@ -1,4 +1,4 @@
-//! Sketches of frequent items: each has been fed the items first, once each, where nothing else is said.
+//! Sketches of frequent items. The items are first added to each, once each, unless stated otherwise.
 
 use crate::plain::frequent::{Frequent, Table as Counters, Written};
 use crate::row;
@@ -6,14 +6,14 @@ use crate::timing::{Table, digest};
 use std::hash::Hash;
 use std::hint::black_box;
 
-/// How large a sketch may grow, and how many counters its purges sample: 0 says as many as they may.
+/// The maximum size of a sketch and its sample size, of which 0 means the maximum.
 #[repr(C)]
 struct Shape {
     max_map_size: usize,
     sample_size: usize,
 }
 
-/// What a sketch came to.
+/// Returns a digest of the state of a sketch.
 fn summary<T: Eq + Hash>(sketch: &Frequent<T>) -> u64 {
     sketch
         .total()
@@ -21,7 +21,7 @@ fn summary<T: Eq + Hash>(sketch: &Frequent<T>) -> u64 {
         .wrapping_add((sketch.active() as u64).wrapping_mul(5))
 }
 
-/// A sketch of the items.
+/// Returns a sketch of the items.
 fn filled(shape: &Shape, items: &[i64]) -> Frequent<i64> {
     let mut sketch = match shape.sample_size {
         0 => Frequent::new(shape.max_map_size),
@@ -33,12 +33,12 @@ fn filled(shape: &Shape, items: &[i64]) -> Frequent<i64> {
     sketch
 }
 
-/// New sketches are fed the items.
+/// Adds the items to new sketches.
 fn update(shape: &Shape, items: &[i64], _: &[i64], turns: u64) -> u64 {
     (0..turns).fold(0, |all: u64, _| all.wrapping_add(summary(&filled(shape, items))))
 }
 
-/// The others are estimated.
+/// Estimates the others.
 fn estimate(shape: &Shape, items: &[i64], others: &[i64], turns: u64) -> u64 {
     let sketch = filled(shape, items);
     let mut all = sketch.total();
@@ -50,7 +50,7 @@ fn estimate(shape: &Shape, items: &[i64], others: &[i64], turns: u64) -> u64 {
     all
 }
 
-/// A sketch of the others is merged into it.
+/// Merges a sketch of the others into it.
 fn merge(shape: &Shape, items: &[i64], others: &[i64], turns: u64) -> u64 {
     let (mut sketch, other) = (filled(shape, items), filled(shape, others));
     for _ in 0..turns {
@@ -59,7 +59,7 @@ fn merge(shape: &Shape, items: &[i64], others: &[i64], turns: u64) -> u64 {
     summary(&sketch)
 }
 
-/// A report is made, with no false negatives.
+/// Creates a report with no false negatives.
 fn report(shape: &Shape, items: &[i64], _: &[i64], turns: u64) -> u64 {
     let sketch = filled(shape, items);
     let mut all = sketch.total();
@@ -69,7 +69,7 @@ fn report(shape: &Shape, items: &[i64], _: &[i64], turns: u64) -> u64 {
     all
 }
 
-/// A table of the items is walked.
+/// Walks a table of the items.
 fn walk(shape: &Shape, items: &[i64], _: &[i64], turns: u64) -> u64 {
     let mut table = Counters::new(shape.max_map_size);
     for item in items {
@@ -103,23 +103,23 @@ fn read_back<T: Written>(sketch: &Frequent<T>, turns: u64) -> Frequent<T> {
     last
 }
 
-/// Its image is written.
+/// Writes its image.
 fn write(shape: &Shape, items: &[i64], _: &[i64], turns: u64) -> u64 {
     written(&filled(shape, items), turns)
 }
 
-/// Its image is read.
+/// Reads its image.
 fn read(shape: &Shape, items: &[i64], _: &[i64], turns: u64) -> u64 {
     let last = read_back(&filled(shape, items), turns);
     digest(&last.serialize()).wrapping_add(summary(&last))
 }
 
-/// 65536 texts, each with its number.
+/// Returns 65536 strings, each with its number.
 fn texts() -> Vec<String> {
     (0..65536).map(|n| format!("the item {n}")).collect()
 }
 
-/// New sketches are fed texts by reference, those whose numbers the items are.
+/// Adds strings by reference to new sketches. The items are the numbers of the strings.
 fn update_texts(shape: &Shape, items: &[i64], _: &[i64], turns: u64) -> u64 {
     let texts = texts();
     let mut all = texts.len() as u64;
@@ -133,7 +133,7 @@ fn update_texts(shape: &Shape, items: &[i64], _: &[i64], turns: u64) -> u64 {
     all
 }
 
-/// A sketch of as many texts as a full table holds, each of weight 1.
+/// Returns a sketch of strings of weight 1 with a full table.
 fn filled_with_texts(shape: &Shape) -> Frequent<String> {
     let mut sketch = Frequent::new(shape.max_map_size);
     for text in texts().iter().take(shape.max_map_size / 4 * 3) {
@@ -142,18 +142,18 @@ fn filled_with_texts(shape: &Shape) -> Frequent<String> {
     sketch
 }
 
-/// The image of a sketch of texts is written.
+/// Writes the image of a sketch of strings.
 fn write_texts(shape: &Shape, _: &[i64], _: &[i64], turns: u64) -> u64 {
     written(&filled_with_texts(shape), turns)
 }
 
-/// The same image is read.
+/// Reads the same image.
 fn read_texts(shape: &Shape, _: &[i64], _: &[i64], turns: u64) -> u64 {
     let last = read_back(&filled_with_texts(shape), turns);
     digest(&last.serialize()).wrapping_add(last.total())
 }
 
-/// A stream of so many items, of which the one of rank r comes with a weight of 1 over r to the power 1.1.
+/// Returns a stream of `len` items. The frequency of the item of rank r is proportional to 1 over r to the power 1.1.
 fn zipf(len: usize) -> Vec<i64> {
     let mut sums = Vec::new();
     let mut sum = 0.0;
@@ -183,11 +183,11 @@ pub fn rows(t: &Table) {
             max_map_size: size,
             sample_size: 0,
         };
-        // as many as a full table holds
+        // the number of items in a full table
         let full = size / 4 * 3;
         let (mine, theirs) = (&distinct[..full], &others[..full]);
         let turns = ((1 << 21) / full) as u64;
-        // so many questions, in an order that no branch predictor learns
+        // the number of look-ups, in an order that no branch predictor learns
         let asked = 1 << 18;
         let hits: Vec<i64> = (0..asked).map(|n| distinct[(mixed(n) as u64 >> 33) as usize % full]).collect();
         let misses = &others[..asked];

@@ -1,4 +1,4 @@
-//! Hashes, under a seed that a turn makes from the first one.
+//! Hashes. Each turn has its own seed, the first seed plus the turn.
 
 use crate::plain::murmur3::Murmur3;
 use crate::plain::xxhash::Xxh64;
@@ -31,7 +31,7 @@ fn xxh64_u64(seed: &u64, items: &[u64], _: &[u64], turns: u64) -> u64 {
     all
 }
 
-/// A text is fed as its `Hash` feeds it.
+/// Hashes a string as its `Hash` does.
 fn murmur3_text(seed: &u64, text: &[u8], _: &[u8], turns: u64) -> u64 {
     let mut all = 0;
     for turn in 0..turns {
@@ -43,7 +43,7 @@ fn murmur3_text(seed: &u64, text: &[u8], _: &[u8], turns: u64) -> u64 {
     all
 }
 
-/// A text is fed as its `Hash` feeds it.
+/// Hashes a string as its `Hash` does.
 fn xxh64_text(seed: &u64, text: &[u8], _: &[u8], turns: u64) -> u64 {
     let mut all = 0;
     for turn in 0..turns {

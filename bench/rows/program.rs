@@ -1,18 +1,18 @@
-//! The program beside a plain one: the same lines for both, and the same replies. The time is that of a process, with
-//! its start and its end.
+//! The program and a plain one, with the same lines and the same replies. The time is that of a process, including its start
+//! and its end.
 
 use crate::timing::{Table, children_time, digest};
 use std::fs::{self, File};
 use std::io::{BufWriter, Write};
 use std::process::Command;
 
-/// How many lines a script has.
+/// The number of lines of a script.
 const LINES: usize = 500_000;
 
 const SCRIPT: &str = "out/script";
 const REPLIES: &str = "out/replies";
 
-/// What the sketches of a script are made of.
+/// The shapes of the sketches of a script.
 struct Sizes {
     frequent: &'static str,
     count: &'static str,
@@ -31,8 +31,8 @@ const SMALL: Sizes = Sizes {
     bloom: "1024 7 9001",
 };
 
-/// Lines that make so many sketches of each kind, feed the first ones of them, and ask one time in ten. The kinds are
-/// taken by turns.
+/// Writes lines that create `names` sketches of each kind and add to the first `used` of them. One line in ten is a query. The
+/// kinds alternate.
 fn write_script(names: u64, used: u64, kinds: &[u8], sizes: &Sizes) {
     let mut out = BufWriter::new(File::create(SCRIPT).unwrap());
     for name in 0..names {
@@ -45,7 +45,7 @@ fn write_script(names: u64, used: u64, kinds: &[u8], sizes: &Sizes) {
         state ^= state << 13;
         state ^= state >> 7;
         state ^= state << 17;
-        // small numbers come more often
+        // small numbers are more frequent
         let item = (state >> 32) % (1 + (state & 0xFFFF));
         let name = i * 7919 % used;
         let weight = 1 + i % 5;
@@ -60,7 +60,7 @@ fn write_script(names: u64, used: u64, kinds: &[u8], sizes: &Sizes) {
     out.flush().unwrap();
 }
 
-/// Runs a program over the script, and answers its time and what its replies come to.
+/// Runs a program over the script. Returns its time and the digest of its replies.
 fn run(program: &str) -> (f64, u64) {
     let start = children_time();
     let status = Command::new(program)

@@ -1,11 +1,11 @@
 #!/usr/bin/env python3
-"""How often a cache has what is asked for, with admission and without: a table, and a picture.
+"""Measures the hit rates of a cache with admission and without, and prints a table and draws a picture.
 
     /usr/bin/python3 bench/uses/hit_rates.py PROGRAM PICTURE.png
 
-PROGRAM is the built program of `crates/uses`. The trace is made here: 200000 uses of 20000 items by Zipf's law, with a scan of
-50000 other items, each used once, in its middle. Both caches throw out what was used longest ago; one takes every item, and the other a
-newcomer only where it was used more of late. It needs Debian's python3-matplotlib.
+PROGRAM is the built program of `crates/uses`. The trace is generated here: 200000 uses of 20000 items by Zipf's law, with a scan
+of 50000 other items, each used once, in its middle. Both caches evict the least recently used item. One admits every item. The
+other admits a new item only if it was used more often of late. It needs Debian's python3-matplotlib.
 """
 import random
 import subprocess
@@ -22,7 +22,7 @@ WITH, WITHOUT = "#1f6f8b", "#c9c9c9"
 
 
 def trace():
-    """The items, in their order."""
+    """Returns the trace's items in their order."""
     rng = random.Random(SEED)
     some = rng.choices(range(ITEMS), [1 / (n + 1) for n in range(ITEMS)], k=USES)
     scan = list(range(ITEMS, ITEMS + USES // 4))
@@ -30,7 +30,7 @@ def trace():
 
 
 def shares(program, stream, size):
-    """The share of hits in percent, with admission and without."""
+    """Returns the hit rates in percent, with admission and without."""
     words = [program, "admission", "4", str(1 << 16), str(20 * size), str(size)]
     ran = subprocess.run(words, input="".join(f"{item}\n" for item in stream), capture_output=True, text=True, check=True)
     _, uses, _, hits, _, plain = ran.stdout.splitlines()[0].split()
@@ -38,10 +38,11 @@ def shares(program, stream, size):
 
 
 def picture(rows, path):
-    """Two bars for each size, each with its share."""
+    """Draws two bars for each size, each with its hit rate."""
     figure, axes = pyplot.subplots(figsize=(6.4, 3.6), dpi=150)
     for place, (size, admitted, taken) in enumerate(rows):
-        for shift, share, colour, label in [(-0.2, admitted, WITH, "admits by recent use"), (0.2, taken, WITHOUT, "takes every item")]:
+        for shift, share, colour, label in [(-0.2, admitted, WITH, "admits by recent use"),
+                                            (0.2, taken, WITHOUT, "takes every item")]:
             axes.bar(place + shift, share, 0.36, color=colour, label=label if place == 0 else None)
             axes.text(place + shift, share + 0.8, f"{share:.1f}", ha="center", va="bottom", fontsize=9)
     axes.set_xticks(range(len(rows)), [f"{size} items" for size, _, _ in rows])

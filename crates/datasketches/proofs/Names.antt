@@ -8,7 +8,7 @@ use Rattle.std.specs.String.{string_bytes, string_eq}
 use Rattle.std.proofs.lemmas.List.{length-set, length-append}
 use Rattle.std.proofs.lemmas.Map.Text.{hash_map_updates_text}
 use Rattle.std.proofs.lemmas.Slice.Eq.{bytes_eq-Decides}
-use Rattle.datasketches.specs.Names.{Name, place_of, at_place, with_first, listed, ArePlaces, at_name, Puts, AreSame}
+use Rattle.datasketches.specs.Names.{Name, index_of, at_index, with_first, listed, AreIndices, at_name, Puts, AreSame}
 
 none_from : {V : Type 0} (o : Option V) → is_some o ≡ false → o ≡ None
 none_from None e = refl
@@ -19,15 +19,15 @@ pub free_name : {V : Type 0} (asked name : List ℕ) (values : List (List ℕ ×
 free_name asked name values contained not is same =
     none_from (at_name name values) (subst (λ (n : List ℕ). is_some (at_name n values) ≡ false) same (sym is ∙ not))
 
--- ---- places of a list
+-- ---- indices of a list
 
--- what stands at a place within the list
+-- what stands at a index within the list
 pub get_here : {X : Type 0} (xs : List X) (i : ℕ) (d : X) → i < length xs → slice_get xs i ≡ Some (get_or xs i d)
 get_here [] i d h = absurd (omega (arith, h))
 get_here (x ∷ xs) zero d h = refl
 get_here (x ∷ xs) (suc i) d h = get_here xs i d (omega (arith, h))
 
--- after a write at a place, that place and the others
+-- after a write at a index, that index and the others
 pub get_set : {X : Type 0} (xs : List X) (i : ℕ) (x : X) → i < length xs → slice_get (set xs i x) i ≡ Some x
 get_set [] i x h = absurd (omega (arith, h))
 get_set (y ∷ ys) zero x h = refl
@@ -40,7 +40,7 @@ get_set_other (y ∷ ys) zero (suc j) x h = refl
 get_set_other (y ∷ ys) (suc i) zero x h = refl
 get_set_other (y ∷ ys) (suc i) (suc j) x h = get_set_other ys i j x (λ e. h (ap suc e))
 
--- the place after the last, and those before it
+-- the index after the last, and those before it
 get_last : {X : Type 0} (xs : List X) (x : X) → slice_get (xs ++ x ∷ []) (length xs) ≡ Some x
 get_last [] x = refl
 get_last (y ∷ ys) x = get_last ys x
@@ -50,143 +50,143 @@ get_before [] x i h = absurd (omega (arith, h))
 get_before (y ∷ ys) x zero h = refl
 get_before (y ∷ ys) x (suc i) h = get_before ys x i (omega (arith, h))
 
--- ---- names and their places
+-- ---- names and their indices
 
 -- a name passes its own test, and no other does
 own_name : (name : List ℕ) → bytes_eq name name ≡ true
 own_name name = (bytes_eq-Decides name name).1 refl
 
--- a place that was found is one of the values'
-pub place_below : (entries : List (Name × ℕ)) (count : ℕ) (name : List ℕ) (place : ℕ) → ArePlaces entries count → Some place ≡ place_of name entries → place < count
-place_below entries count name place are e = subst (λ (o : Option ℕ). IfSome o (λ p. p < count)) (sym e) (are.below name)
+-- a index that was found is one of the values'
+pub index_below : (entries : List (Name × ℕ)) (count : ℕ) (name : List ℕ) (index : ℕ) → AreIndices entries count → Some index ≡ index_of name entries → index < count
+index_below entries count name index are e = subst (λ (o : Option ℕ). IfSome o (λ p. p < count)) (sym e) (are.below name)
 
-first_here : {V : Type 0} → (values : List V) (name key : List ℕ) (place : ℕ) (found : Option V) (rest : List (List ℕ × V)) → bytes_eq name key ≡ true → slice_get values place ≡ found → place < length values → at_name name (with_first key found rest) ≡ found
-first_here values name key place (Some value) rest e f below = rw e refl
-first_here [] name key place None rest e f below = absurd (omega (arith, below))
-first_here (s ∷ ss) name key place None rest e f below = let here = get_here (s ∷ ss) place s below in cc
+first_here : {V : Type 0} → (values : List V) (name key : List ℕ) (index : ℕ) (found : Option V) (rest : List (List ℕ × V)) → bytes_eq name key ≡ true → slice_get values index ≡ found → index < length values → at_name name (with_first key found rest) ≡ found
+first_here values name key index (Some value) rest e f below = rw e refl
+first_here [] name key index None rest e f below = absurd (omega (arith, below))
+first_here (s ∷ ss) name key index None rest e f below = let here = get_here (s ∷ ss) index s below in cc
 
 skips : {V : Type 0} → (name key : List ℕ) (found : Option V) (rest : List (List ℕ × V)) → bytes_eq name key ≡ false → at_name name (with_first key found rest) ≡ at_name name rest
 skips name key None rest e = refl
 skips name key (Some value) rest e = rw e refl
 
-by_place_case : {V : Type 0} → (entries : List (Name × ℕ)) (values : List V) (name key : List ℕ) (place : ℕ) (t : Bool) → bytes_eq name key ≡ t
-    → IfSome (cond t (Some place) (place_of name entries)) (λ p. p < length values)
-    → (IfSome (place_of name entries) (λ p. p < length values) → at_name name (listed entries values) ≡ at_place (place_of name entries) values)
-    → at_name name (with_first key (slice_get values place) (listed entries values)) ≡ at_place (cond t (Some place) (place_of name entries)) values
-by_place_case entries values name key place true e below more = first_here values name key place (slice_get values place) (listed entries values) e refl below
-by_place_case entries values name key place false e below more = skips name key (slice_get values place) (listed entries values) e ∙ more below
+by_index_case : {V : Type 0} → (entries : List (Name × ℕ)) (values : List V) (name key : List ℕ) (index : ℕ) (t : Bool) → bytes_eq name key ≡ t
+    → IfSome (cond t (Some index) (index_of name entries)) (λ p. p < length values)
+    → (IfSome (index_of name entries) (λ p. p < length values) → at_name name (listed entries values) ≡ at_index (index_of name entries) values)
+    → at_name name (with_first key (slice_get values index) (listed entries values)) ≡ at_index (cond t (Some index) (index_of name entries)) values
+by_index_case entries values name key index true e below more = first_here values name key index (slice_get values index) (listed entries values) e refl below
+by_index_case entries values name key index false e below more = skips name key (slice_get values index) (listed entries values) e ∙ more below
 
--- a look-up by the name's place
-pub by_place : {V : Type 0} → (entries : List (Name × ℕ)) (values : List V) (name : List ℕ) → IfSome (place_of name entries) (λ p. p < length values) → at_name name (listed entries values) ≡ at_place (place_of name entries) values
-by_place [] values name below = refl
-by_place (entry ∷ entries) values name below = by_place_case entries values name (string_bytes entry.0) entry.1 (bytes_eq name (string_bytes entry.0)) refl below (by_place entries values name)
+-- a look-up by the name's index
+pub by_index : {V : Type 0} → (entries : List (Name × ℕ)) (values : List V) (name : List ℕ) → IfSome (index_of name entries) (λ p. p < length values) → at_name name (listed entries values) ≡ at_index (index_of name entries) values
+by_index [] values name below = refl
+by_index (entry ∷ entries) values name below = by_index_case entries values name (string_bytes entry.0) entry.1 (bytes_eq name (string_bytes entry.0)) refl below (by_index entries values name)
 
 get_some : {X : Type 0} (xs : List X) (i : ℕ) → i < length xs → is_some (slice_get xs i) ≡ true
 get_some [] i h = absurd (omega (arith, h))
 get_some (x ∷ xs) zero h = refl
 get_some (x ∷ xs) (suc i) h = get_some xs i (omega (arith, h))
 
-place_some : {V : Type 0} → (values : List V) (found : Option ℕ) → IfSome found (λ p. p < length values) → is_some (at_place found values) ≡ is_some found
+place_some : {V : Type 0} → (values : List V) (found : Option ℕ) → IfSome found (λ p. p < length values) → is_some (at_index found values) ≡ is_some found
 place_some values None below = refl
 place_some values (Some p) below = get_some values p below
 
 -- whether a name has a value
-pub is_named : {V : Type 0} → (entries : List (Name × ℕ)) (values : List V) (now : List (List ℕ × V)) (name : List ℕ) → ArePlaces entries (length values) → listed entries values ≡ now → is_some (at_name name now) ≡ is_some (place_of name entries)
-is_named entries values now name are view = ap is_some (ap (at_name name) (sym view) ∙ by_place entries values name (are.below name)) ∙ place_some values (place_of name entries) (are.below name)
+pub is_named : {V : Type 0} → (entries : List (Name × ℕ)) (values : List V) (now : List (List ℕ × V)) (name : List ℕ) → AreIndices entries (length values) → listed entries values ≡ now → is_some (at_name name now) ≡ is_some (index_of name entries)
+is_named entries values now name are view = ap is_some (ap (at_name name) (sym view) ∙ by_index entries values name (are.below name)) ∙ place_some values (index_of name entries) (are.below name)
 
--- the value at a place that was found
-pub value_found : {V : Type 0} → (entries : List (Name × ℕ)) (values : List V) (now : List (List ℕ × V)) (name : List ℕ) (place : ℕ) (d : V) → ArePlaces entries (length values) → listed entries values ≡ now → Some place ≡ place_of name entries → at_name name now ≡ Some (get_or values place d)
-value_found entries values now name place d are view e =
-    ap (at_name name) (sym view) ∙ by_place entries values name (are.below name) ∙ ap (λ (o : Option ℕ). at_place o values) (sym e) ∙ get_here values place d (place_below entries (length values) name place are e)
+-- the value at a index that was found
+pub value_found : {V : Type 0} → (entries : List (Name × ℕ)) (values : List V) (now : List (List ℕ × V)) (name : List ℕ) (index : ℕ) (d : V) → AreIndices entries (length values) → listed entries values ≡ now → Some index ≡ index_of name entries → at_name name now ≡ Some (get_or values index d)
+value_found entries values now name index d are view e =
+    ap (at_name name) (sym view) ∙ by_index entries values name (are.below name) ∙ ap (λ (o : Option ℕ). at_index o values) (sym e) ∙ get_here values index d (index_below entries (length values) name index are e)
 
--- the same, by what stands at the place
-pub placed_at : {V : Type 0} → (entries : List (Name × ℕ)) (values : List V) (now : List (List ℕ × V)) (name : List ℕ) (place : ℕ) (value : V) → ArePlaces entries (length values) → listed entries values ≡ now → Some place ≡ place_of name entries → slice_get values place ≡ Some value → at_name name now ≡ Some value
-placed_at entries values now name place value are view e here =
-    ap (at_name name) (sym view) ∙ by_place entries values name (are.below name) ∙ ap (λ (o : Option ℕ). at_place o values) (sym e) ∙ here
+-- the same, by what stands at the index
+pub placed_at : {V : Type 0} → (entries : List (Name × ℕ)) (values : List V) (now : List (List ℕ × V)) (name : List ℕ) (index : ℕ) (value : V) → AreIndices entries (length values) → listed entries values ≡ now → Some index ≡ index_of name entries → slice_get values index ≡ Some value → at_name name now ≡ Some value
+placed_at entries values now name index value are view e here =
+    ap (at_name name) (sym view) ∙ by_index entries values name (are.below name) ∙ ap (λ (o : Option ℕ). at_index o values) (sym e) ∙ here
 
--- one name has one place
-pub one_place : (entries : List (Name × ℕ)) (name other : List ℕ) (place from : ℕ) → name ≡ other → Some place ≡ place_of name entries → Some from ≡ place_of other entries → place ≡ from
-one_place entries name other place from same e f = let both : Some place ≡ Some from = e ∙ ap (λ (n : List ℕ). place_of n entries) same ∙ sym f in cc
+-- one name has one index
+pub one_index : (entries : List (Name × ℕ)) (name other : List ℕ) (index from : ℕ) → name ≡ other → Some index ≡ index_of name entries → Some from ≡ index_of other entries → index ≡ from
+one_index entries name other index from same e f = let both : Some index ≡ Some from = e ∙ ap (λ (n : List ℕ). index_of n entries) same ∙ sym f in cc
 
--- no place was found
-pub value_missing : {V : Type 0} → (entries : List (Name × ℕ)) (values : List V) (now : List (List ℕ × V)) (name : List ℕ) → ArePlaces entries (length values) → listed entries values ≡ now → None ≡ place_of name entries → at_name name now ≡ None
-value_missing entries values now name are view e = ap (at_name name) (sym view) ∙ by_place entries values name (are.below name) ∙ ap (λ (o : Option ℕ). at_place o values) (sym e)
+-- no index was found
+pub value_missing : {V : Type 0} → (entries : List (Name × ℕ)) (values : List V) (now : List (List ℕ × V)) (name : List ℕ) → AreIndices entries (length values) → listed entries values ≡ now → None ≡ index_of name entries → at_name name now ≡ None
+value_missing entries values now name are view e = ap (at_name name) (sym view) ∙ by_index entries values name (are.below name) ∙ ap (λ (o : Option ℕ). at_index o values) (sym e)
 
-written_other : {V : Type 0} → (values : List V) (place : ℕ) (value : V) (found : Option ℕ) → (found ≢ Some place) → at_place found (set values place value) ≡ at_place found values
-written_other values place value None h = refl
-written_other values place value (Some j) h = get_set_other values place j value (λ e. h (ap Some (sym e)))
+written_other : {V : Type 0} → (values : List V) (index : ℕ) (value : V) (found : Option ℕ) → (found ≢ Some index) → at_index found (set values index value) ≡ at_index found values
+written_other values index value None h = refl
+written_other values index value (Some j) h = get_set_other values index j value (λ e. h (ap Some (sym e)))
 
-written_case : {V : Type 0} → (entries : List (Name × ℕ)) (values : List V) (name other : List ℕ) (place : ℕ) (value : V) (t : Bool) → bytes_eq name other ≡ t → ArePlaces entries (length values) → Some place ≡ place_of name entries
-    → at_place (place_of other entries) (set values place value) ≡ cond t (Some value) (at_place (place_of other entries) values)
-written_case entries values name other place value true t are e =
+written_case : {V : Type 0} → (entries : List (Name × ℕ)) (values : List V) (name other : List ℕ) (index : ℕ) (value : V) (t : Bool) → bytes_eq name other ≡ t → AreIndices entries (length values) → Some index ≡ index_of name entries
+    → at_index (index_of other entries) (set values index value) ≡ cond t (Some value) (at_index (index_of other entries) values)
+written_case entries values name other index value true t are e =
     let same : name ≡ other = (bytes_eq-Decides name other).0 t in
-    ap (λ (n : List ℕ). at_place (place_of n entries) (set values place value)) (sym same) ∙ ap (λ (o : Option ℕ). at_place o (set values place value)) (sym e)
-    ∙ get_set values place value (place_below entries (length values) name place are e)
-written_case entries values name other place value false t are e =
-    written_other values place value (place_of other entries) (λ found. (let same = are.apart name other place (sym e) found in let own = (bytes_eq-Decides name other).1 same in cc))
+    ap (λ (n : List ℕ). at_index (index_of n entries) (set values index value)) (sym same) ∙ ap (λ (o : Option ℕ). at_index o (set values index value)) (sym e)
+    ∙ get_set values index value (index_below entries (length values) name index are e)
+written_case entries values name other index value false t are e =
+    written_other values index value (index_of other entries) (λ found. (let same = are.apart name other index (sym e) found in let own = (bytes_eq-Decides name other).1 same in cc))
 
--- a write at the place of a name
-pub written : {V : Type 0} → (entries : List (Name × ℕ)) (values : List V) (now : List (List ℕ × V)) (name : List ℕ) (place : ℕ) (value : V) → ArePlaces entries (length values) → listed entries values ≡ now → Some place ≡ place_of name entries → Puts name value now (listed entries (set values place value))
-written {V} entries values now name place value are view e = λ other.
-    let below : IfSome (place_of other entries) (λ p. p < length (set values place value)) = subst (λ (n : ℕ). IfSome (place_of other entries) (λ p. p < n)) (sym (length-set values place value)) (are.below other) in
-    by_place entries (set values place value) other below ∙ written_case entries values name other place value (bytes_eq name other) refl are e
-    ∙ ap (λ (o : Option V). cond (bytes_eq name other) (Some value) o) (sym (by_place entries values other (are.below other)) ∙ ap (at_name other) view)
+-- a write at the index of a name
+pub written : {V : Type 0} → (entries : List (Name × ℕ)) (values : List V) (now : List (List ℕ × V)) (name : List ℕ) (index : ℕ) (value : V) → AreIndices entries (length values) → listed entries values ≡ now → Some index ≡ index_of name entries → Puts name value now (listed entries (set values index value))
+written {V} entries values now name index value are view e = λ other.
+    let below : IfSome (index_of other entries) (λ p. p < length (set values index value)) = subst (λ (n : ℕ). IfSome (index_of other entries) (λ p. p < n)) (sym (length-set values index value)) (are.below other) in
+    by_index entries (set values index value) other below ∙ written_case entries values name other index value (bytes_eq name other) refl are e
+    ∙ ap (λ (o : Option V). cond (bytes_eq name other) (Some value) o) (sym (by_index entries values other (are.below other)) ∙ ap (at_name other) view)
 
--- ---- a name that is given the place after the last
+-- ---- a name that is given the index after the last
 
 -- where each name stands then
 abbrev pub IsPlaced : List ℕ → ℕ → List (Name × ℕ) → List (Name × ℕ) → Type 0
-IsPlaced name place old new = (other : List ℕ) → place_of other new ≡ cond (bytes_eq name other) (Some place) (place_of other old)
+IsPlaced name index old new = (other : List ℕ) → index_of other new ≡ cond (bytes_eq name other) (Some index) (index_of other old)
 
-pub placed : {S : Type 0} (name : List ℕ) (place : ℕ) (old new : HashMap Name ℕ S) → UpdatesBy string_eq (λ (k : Name). bytes_eq name (string_bytes k)) old new (Some place) → IsPlaced name place old.entries new.entries
-placed name place old new u = hash_map_updates_text name old new (Some place) u
+pub placed : {S : Type 0} (name : List ℕ) (index : ℕ) (old new : HashMap Name ℕ S) → UpdatesBy string_eq (λ (k : Name). bytes_eq name (string_bytes k)) old new (Some index) → IsPlaced name index old.entries new.entries
+placed name index old new u = hash_map_updates_text name old new (Some index) u
 
 below_more : (found : Option ℕ) (t : Bool) (count : ℕ) → IfSome found (λ p. p < count) → IfSome (cond t (Some count) found) (λ p. p < count + 1)
 below_more found true count h = omega arith
 below_more None false count h = tt
 below_more (Some p) false count h = omega (arith, h)
 
-new_below : (old new : List (Name × ℕ)) (count : ℕ) (name other : List ℕ) → ArePlaces old count → IsPlaced name count old new → IfSome (place_of other new) (λ p. p < count + 1)
-new_below old new count name other are is = subst (λ (o : Option ℕ). IfSome o (λ p. p < count + 1)) (sym (is other)) (below_more (place_of other old) (bytes_eq name other) count (are.below other))
+new_below : (old new : List (Name × ℕ)) (count : ℕ) (name other : List ℕ) → AreIndices old count → IsPlaced name count old new → IfSome (index_of other new) (λ p. p < count + 1)
+new_below old new count name other are is = subst (λ (o : Option ℕ). IfSome o (λ p. p < count + 1)) (sym (is other)) (below_more (index_of other old) (bytes_eq name other) count (are.below other))
 
-not_last : (old : List (Name × ℕ)) (count : ℕ) (name : List ℕ) → ArePlaces old count → place_of name old ≢ Some count
-not_last old count name are e = let less = place_below old count name count are (sym e) in omega (arith, less)
+not_last : (old : List (Name × ℕ)) (count : ℕ) (name : List ℕ) → AreIndices old count → index_of name old ≢ Some count
+not_last old count name are e = let less = index_below old count name count are (sym e) in omega (arith, less)
 
-new_apart : (old : List (Name × ℕ)) (count : ℕ) (name a b : List ℕ) (place : ℕ) (s t : Bool) → bytes_eq name a ≡ s → bytes_eq name b ≡ t → ArePlaces old count
-    → cond s (Some count) (place_of a old) ≡ Some place → cond t (Some count) (place_of b old) ≡ Some place → a ≡ b
-new_apart old count name a b place true true s t are e f = sym ((bytes_eq-Decides name a).0 s) ∙ (bytes_eq-Decides name b).0 t
-new_apart old count name a b place true false s t are e f = absurd (not_last old count b are (f ∙ sym e))
-new_apart old count name a b place false true s t are e f = absurd (not_last old count a are (e ∙ sym f))
-new_apart old count name a b place false false s t are e f = are.apart a b place e f
+new_apart : (old : List (Name × ℕ)) (count : ℕ) (name a b : List ℕ) (index : ℕ) (s t : Bool) → bytes_eq name a ≡ s → bytes_eq name b ≡ t → AreIndices old count
+    → cond s (Some count) (index_of a old) ≡ Some index → cond t (Some count) (index_of b old) ≡ Some index → a ≡ b
+new_apart old count name a b index true true s t are e f = sym ((bytes_eq-Decides name a).0 s) ∙ (bytes_eq-Decides name b).0 t
+new_apart old count name a b index true false s t are e f = absurd (not_last old count b are (f ∙ sym e))
+new_apart old count name a b index false true s t are e f = absurd (not_last old count a are (e ∙ sym f))
+new_apart old count name a b index false false s t are e f = are.apart a b index e f
 
--- the places are still those of the values
-pub still_places : (old new : List (Name × ℕ)) (count : ℕ) (name : List ℕ) → ArePlaces old count → IsPlaced name count old new → ArePlaces new (count + 1)
+-- the indices are still those of the values
+pub still_places : (old new : List (Name × ℕ)) (count : ℕ) (name : List ℕ) → AreIndices old count → IsPlaced name count old new → AreIndices new (count + 1)
 still_places old new count name are is = record {
   below = λ other. new_below old new count name other are is;
-  apart = λ a b place e f. new_apart old count name a b place (bytes_eq name a) (bytes_eq name b) refl refl are (sym (is a) ∙ e) (sym (is b) ∙ f);
+  apart = λ a b index e f. new_apart old count name a b index (bytes_eq name a) (bytes_eq name b) refl refl are (sym (is a) ∙ e) (sym (is b) ∙ f);
 }
 
 pushed_case : {V : Type 0} → (values : List V) (value : V) (t : Bool) (found : Option ℕ) → IfSome found (λ p. p < length values)
-    → at_place (cond t (Some (length values)) found) (values ++ value ∷ []) ≡ cond t (Some value) (at_place found values)
+    → at_index (cond t (Some (length values)) found) (values ++ value ∷ []) ≡ cond t (Some value) (at_index found values)
 pushed_case values value true found h = get_last values value
 pushed_case values value false None h = refl
 pushed_case values value false (Some p) h = get_before values value p h
 
 -- a value was added under a name
-pub added : {V : Type 0} → (old new : List (Name × ℕ)) (values : List V) (now : List (List ℕ × V)) (name : List ℕ) (value : V) → ArePlaces old (length values) → listed old values ≡ now → IsPlaced name (length values) old new → Puts name value now (listed new (values ++ value ∷ []))
+pub added : {V : Type 0} → (old new : List (Name × ℕ)) (values : List V) (now : List (List ℕ × V)) (name : List ℕ) (value : V) → AreIndices old (length values) → listed old values ≡ now → IsPlaced name (length values) old new → Puts name value now (listed new (values ++ value ∷ []))
 added {V} old new values now name value are view is = λ other.
     let size : length values + 1 ≡ length (values ++ value ∷ []) = sym (length-append values (value ∷ [])) in
-    let below = subst (λ (n : ℕ). IfSome (place_of other new) (λ p. p < n)) size (new_below old new (length values) name other are is) in
-    by_place new (values ++ value ∷ []) other below ∙ ap (λ (o : Option ℕ). at_place o (values ++ value ∷ [])) (is other) ∙ pushed_case values value (bytes_eq name other) (place_of other old) (are.below other)
-    ∙ ap (λ (o : Option V). cond (bytes_eq name other) (Some value) o) (sym (by_place old values other (are.below other)) ∙ ap (at_name other) view)
+    let below = subst (λ (n : ℕ). IfSome (index_of other new) (λ p. p < n)) size (new_below old new (length values) name other are is) in
+    by_index new (values ++ value ∷ []) other below ∙ ap (λ (o : Option ℕ). at_index o (values ++ value ∷ [])) (is other) ∙ pushed_case values value (bytes_eq name other) (index_of other old) (are.below other)
+    ∙ ap (λ (o : Option V). cond (bytes_eq name other) (Some value) o) (sym (by_index old values other (are.below other)) ∙ ap (at_name other) view)
 
 -- nothing was added
 pub not_added : {V : Type 0} → (old new : List (Name × ℕ)) (before after : List V) (now : List (List ℕ × V)) → listed old before ≡ now → new ≡ old → after ≡ before → AreSame now (listed new after)
 not_added {V} old new before after now view e s = λ name. ap (λ (entries : List (Name × ℕ)). at_name name (listed entries after)) e ∙ ap (λ (values : List V). at_name name (listed old values)) s ∙ ap (at_name name) view
 
 -- a last element that was pushed is taken off
-pub taken_off : {V : Type 0} → (values pushed left : List V) (value : V) (place : ℕ) → pushed ≡ values ++ value ∷ [] → place ≡ length values → left ≡ take place pushed → left ≡ values
-taken_off {V} values pushed left value place p e l = l ∙ ap (λ (n : ℕ). take n pushed) e ∙ ap (take (length values)) p ∙ take_front values
+pub taken_off : {V : Type 0} → (values pushed left : List V) (value : V) (index : ℕ) → pushed ≡ values ++ value ∷ [] → index ≡ length values → left ≡ take index pushed → left ≡ values
+taken_off {V} values pushed left value index p e l = l ∙ ap (λ (n : ℕ). take n pushed) e ∙ ap (take (length values)) p ∙ take_front values
   where
     take_front : (xs : List V) → take (length xs) (xs ++ value ∷ []) ≡ xs
     take_front [] = refl

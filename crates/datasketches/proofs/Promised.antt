@@ -14,7 +14,7 @@ use Rattle.datasketches.specs.SessionStandsFor.{Paired}
 use Rattle.datasketches.specs.Histories.{History}
 use Rattle.datasketches.specs.Histories.History.{OfStranger}
 use Rattle.datasketches.specs.Laws.{IsNamed, IsCounted}
-use Rattle.datasketches.specs.Replies.{greatest_signed, greatest_unsigned}
+use Rattle.datasketches.specs.Replies.{max_signed, max_unsigned}
 use Rattle.datasketches.specs.Stands.{StandsFor, IsSketch}
 use Rattle.datasketches.specs.declared.sketch.Sketch.{Sketch}
 use Rattle.datasketches.specs.declared.sketch.Sketch.TheVariants.{Frequent, CountI64, CountU64, Bloom}
@@ -44,8 +44,8 @@ module _ {T C : Type 0} (eq : T → T → Bool) (codec : Codec C) (content : T �
 
   -- is one that may be, over its type of numbers
   pub counted_state : (s : CountState) (h : CountHistory) → IsCounted eq codec content s h → (greatest : ℕ) × IsCountState greatest s
-  counted_state s h (inl is) = (greatest_signed, (named_stands _ _ is).state)
-  counted_state s h (inr is) = (greatest_unsigned, (named_stands _ _ is).state)
+  counted_state s h (inl is) = (max_signed, (named_stands _ _ is).state)
+  counted_state s h (inr is) = (max_unsigned, (named_stands _ _ is).state)
 
   -- so it has buckets
   pub counted_buckets : (s : CountState) (h : CountHistory) → IsCounted eq codec content s h → 0 < s.buckets

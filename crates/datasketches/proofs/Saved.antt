@@ -22,7 +22,7 @@ use Rattle.sketch_frequencies.specs.State.{FrequentState, IsState, capacity}
 use Rattle.datasketches.specs.Histories.{History}
 use Rattle.datasketches.specs.Histories.History.{OfFrequent, OfCountI64, OfCountU64, OfBloom, OfStranger}
 use Rattle.datasketches.specs.Images.{IsImageOf, IsCountImage, IsWrittenBy, IsReadFrom, IsReadRefusal, IsLoadRefusal, GivesBack, over_limit, load_fault}
-use Rattle.datasketches.specs.Replies.{least_signed, greatest_signed, least_unsigned, greatest_unsigned}
+use Rattle.datasketches.specs.Replies.{min_signed, max_signed, min_unsigned, max_unsigned}
 use Rattle.datasketches.specs.Stands.{StandsFor, KeepsCounts}
 use Rattle.datasketches.specs.declared.image.Image.{Image}
 use Rattle.datasketches.specs.declared.image.Image.TheVariants as image
@@ -67,14 +67,14 @@ module _ {T C : Type 0} (eq : T → T → Bool) (codec : Codec C) (content : T �
   frequent_back bytes same spelled state restores budgets _ i = absurd i
 
   -- so does a Count-Min sketch
-  pub signed_back : count_laws.SpelledIsImage least_signed greatest_signed → (seed : ℕ) (bytes : Vec ℕ Global) (new : CountState) → IsCountState greatest_signed new → count.Restores least_signed greatest_signed seed bytes.items new → GivesBack eq codec content (image.CountI64 seed bytes) (CountI64 new)
-  signed_back spelled seed bytes new state restores (OfCountI64 h) i = count_back least_signed greatest_signed seed bytes.items new h spelled state restores i
+  pub signed_back : count_laws.SpelledIsImage min_signed max_signed → (seed : ℕ) (bytes : Vec ℕ Global) (new : CountState) → IsCountState max_signed new → count.Restores min_signed max_signed seed bytes.items new → GivesBack eq codec content (image.CountI64 seed bytes) (CountI64 new)
+  signed_back spelled seed bytes new state restores (OfCountI64 h) i = count_back min_signed max_signed seed bytes.items new h spelled state restores i
   signed_back spelled seed bytes new state restores OfStranger i = state
   signed_back spelled seed bytes new state restores _ i = absurd i
 
   -- so does a Count-Min sketch
-  pub unsigned_back : count_laws.SpelledIsImage least_unsigned greatest_unsigned → (seed : ℕ) (bytes : Vec ℕ Global) (new : CountState) → IsCountState greatest_unsigned new → count.Restores least_unsigned greatest_unsigned seed bytes.items new → GivesBack eq codec content (image.CountU64 seed bytes) (CountU64 new)
-  unsigned_back spelled seed bytes new state restores (OfCountU64 h) i = count_back least_unsigned greatest_unsigned seed bytes.items new h spelled state restores i
+  pub unsigned_back : count_laws.SpelledIsImage min_unsigned max_unsigned → (seed : ℕ) (bytes : Vec ℕ Global) (new : CountState) → IsCountState max_unsigned new → count.Restores min_unsigned max_unsigned seed bytes.items new → GivesBack eq codec content (image.CountU64 seed bytes) (CountU64 new)
+  unsigned_back spelled seed bytes new state restores (OfCountU64 h) i = count_back min_unsigned max_unsigned seed bytes.items new h spelled state restores i
   unsigned_back spelled seed bytes new state restores OfStranger i = state
   unsigned_back spelled seed bytes new state restores _ i = absurd i
 

@@ -131,49 +131,49 @@ module _ {T C : Type 0} (eq : T → T → Bool) (codec : Codec C) (content : T �
 
 module _ {T C : Type 0} (slot : ℕ) (eq : T → T → Bool) (codec : Codec C) (content : T → C) where
   -- bytes were loaded of which a history is told, or the call refused
-  brought_fits : (image : Image) (most_bytes : ℕ) (name : List ℕ) (loaded : History T) (reply : Reply T) (old new : SessionState T) (a : Assignment T) →
+  brought_fits : (image : Image) (max_bytes : ℕ) (name : List ℕ) (loaded : History T) (reply : Reply T) (old new : SessionState T) (a : Assignment T) →
       IsImageOf eq codec content image loaded → SessionStandsFor eq codec content old a → AreSame old.images new.images →
-      ((sketch : Sketch T) × (reply ≡ Done) × IsLoaded slot eq codec content image most_bytes sketch × Puts name sketch old.sketches new.sketches) ⊎ ((e : ErrorValue) × IsLoadRefusal slot codec most_bytes image e × Refuses (refused e) old.sketches reply new.sketches) →
+      ((sketch : Sketch T) × (reply ≡ Done) × IsLoaded slot eq codec content image max_bytes sketch × Puts name sketch old.sketches new.sketches) ⊎ ((e : ErrorValue) × IsLoadRefusal slot codec max_bytes image e × Refuses (refused e) old.sketches reply new.sketches) →
       SessionStandsFor eq codec content new (cond (is_refused reply) a (record a { sketches = put_at name (Some (restored loaded)) a.sketches }))
-  brought_fits image most_bytes name loaded reply old new a told fits same (inl done) = rw done.1 (record {
+  brought_fits image max_bytes name loaded reply old new a told fits same (inl done) = rw done.1 (record {
     sketches = put_pair (StandsFor eq) name done.0 (restored loaded) old.sketches new.sketches a.sketches fits.sketches (done.2.stands loaded told) done.3;
     images = same_pairs (IsImageOf eq codec content) old.images new.images a.images fits.images same;
   })
-  brought_fits image most_bytes name loaded reply old new a told fits same (inr done) = rw done.2.0 (record {
+  brought_fits image max_bytes name loaded reply old new a told fits same (inr done) = rw done.2.0 (record {
     sketches = same_pairs (StandsFor eq) old.sketches new.sketches a.sketches fits.sketches done.2.1;
     images = same_pairs (IsImageOf eq codec content) old.images new.images a.images fits.images same;
   })
 
-  free_fits : (image : Image) (most_bytes : ℕ) (name : List ℕ) (found : Option (Sketch T)) (loaded : History T) (reply : Reply T) (old new : SessionState T) (a : Assignment T) → at_name name old.sketches ≡ found →
-      IsImageOf eq codec content image loaded → SessionStandsFor eq codec content old a → Loads slot eq codec content image most_bytes name old reply new →
+  free_fits : (image : Image) (max_bytes : ℕ) (name : List ℕ) (found : Option (Sketch T)) (loaded : History T) (reply : Reply T) (old new : SessionState T) (a : Assignment T) → at_name name old.sketches ≡ found →
+      IsImageOf eq codec content image loaded → SessionStandsFor eq codec content old a → Loads slot eq codec content image max_bytes name old reply new →
       SessionStandsFor eq codec content new (cond (is_refused reply) a (record a { sketches = put_at name (Some (restored loaded)) a.sketches }))
-  free_fits image most_bytes name (Some sketch) loaded reply old new a e told fits loads =
+  free_fits image max_bytes name (Some sketch) loaded reply old new a e told fits loads =
       let done = rw e at loads in
       rw done.1 (unchanged_fits eq codec content old new a fits done.0)
-  free_fits image most_bytes name None loaded reply old new a e told fits loads =
+  free_fits image max_bytes name None loaded reply old new a e told fits loads =
       let done = rw e at loads in
-      brought_fits image most_bytes name loaded reply old new a told fits done.images done.outcome
+      brought_fits image max_bytes name loaded reply old new a told fits done.images done.outcome
 
-  pub load_fits : (image : Image) (most_bytes : ℕ) (name : List ℕ) (loaded : History T) (reply : Reply T) (old new : SessionState T) (a : Assignment T) →
-      IsImageOf eq codec content image loaded → SessionStandsFor eq codec content old a → Loads slot eq codec content image most_bytes name old reply new →
+  pub load_fits : (image : Image) (max_bytes : ℕ) (name : List ℕ) (loaded : History T) (reply : Reply T) (old new : SessionState T) (a : Assignment T) →
+      IsImageOf eq codec content image loaded → SessionStandsFor eq codec content old a → Loads slot eq codec content image max_bytes name old reply new →
       SessionStandsFor eq codec content new (cond (is_refused reply) a (record a { sketches = put_at name (Some (restored loaded)) a.sketches }))
-  load_fits image most_bytes name loaded reply old new a told fits loads = free_fits image most_bytes name (at_name name old.sketches) loaded reply old new a refl told fits loads
+  load_fits image max_bytes name loaded reply old new a told fits loads = free_fits image max_bytes name (at_name name old.sketches) loaded reply old new a refl told fits loads
 
   -- a load that was refused
-  brought_same : (image : Image) (most_bytes : ℕ) (name : List ℕ) (reply : Reply T) (old new : SessionState T) → is_refused reply ≡ true → AreSame old.images new.images →
-      ((sketch : Sketch T) × (reply ≡ Done) × IsLoaded slot eq codec content image most_bytes sketch × Puts name sketch old.sketches new.sketches) ⊎ ((e : ErrorValue) × IsLoadRefusal slot codec most_bytes image e × Refuses (refused e) old.sketches reply new.sketches) →
+  brought_same : (image : Image) (max_bytes : ℕ) (name : List ℕ) (reply : Reply T) (old new : SessionState T) → is_refused reply ≡ true → AreSame old.images new.images →
+      ((sketch : Sketch T) × (reply ≡ Done) × IsLoaded slot eq codec content image max_bytes sketch × Puts name sketch old.sketches new.sketches) ⊎ ((e : ErrorValue) × IsLoadRefusal slot codec max_bytes image e × Refuses (refused e) old.sketches reply new.sketches) →
       IsUnchanged old new
-  brought_same image most_bytes name reply old new r same (inl done) = absurd (false≢true (sym (ap is_refused done.1) ∙ r))
-  brought_same image most_bytes name reply old new r same (inr done) = record { sketches = done.2.1; images = same }
+  brought_same image max_bytes name reply old new r same (inl done) = absurd (false≢true (sym (ap is_refused done.1) ∙ r))
+  brought_same image max_bytes name reply old new r same (inr done) = record { sketches = done.2.1; images = same }
 
-  free_same : (image : Image) (most_bytes : ℕ) (name : List ℕ) (found : Option (Sketch T)) (reply : Reply T) (old new : SessionState T) → at_name name old.sketches ≡ found → is_refused reply ≡ true → Loads slot eq codec content image most_bytes name old reply new → IsUnchanged old new
-  free_same image most_bytes name (Some sketch) reply old new e r loads = (rw e at loads).0
-  free_same image most_bytes name None reply old new e r loads =
+  free_same : (image : Image) (max_bytes : ℕ) (name : List ℕ) (found : Option (Sketch T)) (reply : Reply T) (old new : SessionState T) → at_name name old.sketches ≡ found → is_refused reply ≡ true → Loads slot eq codec content image max_bytes name old reply new → IsUnchanged old new
+  free_same image max_bytes name (Some sketch) reply old new e r loads = (rw e at loads).0
+  free_same image max_bytes name None reply old new e r loads =
       let done = rw e at loads in
-      brought_same image most_bytes name reply old new r done.images done.outcome
+      brought_same image max_bytes name reply old new r done.images done.outcome
 
-  loaded_same : (image : Image) (most_bytes : ℕ) (name : List ℕ) (reply : Reply T) (old new : SessionState T) → is_refused reply ≡ true → Loads slot eq codec content image most_bytes name old reply new → IsUnchanged old new
-  loaded_same image most_bytes name reply old new r loads = free_same image most_bytes name (at_name name old.sketches) reply old new refl r loads
+  loaded_same : (image : Image) (max_bytes : ℕ) (name : List ℕ) (reply : Reply T) (old new : SessionState T) → is_refused reply ≡ true → Loads slot eq codec content image max_bytes name old reply new → IsUnchanged old new
+  loaded_same image max_bytes name reply old new r loads = free_same image max_bytes name (at_name name old.sketches) reply old new refl r loads
 
 module _ {T C : Type 0} (eq : T → T → Bool) (codec : Codec C) (content : T → C) where
   -- a stranger may have written any image
@@ -184,7 +184,7 @@ module _ {T C : Type 0} (eq : T → T → Bool) (codec : Codec C) (content : T �
   of_stranger (image.Bloom bytes) = tt
 
   pub stranger_told : (action : Action T) → IsActionTold eq codec content action OfStranger
-  stranger_told (action.Load name kind image most_bytes) = of_stranger (image_of kind image)
+  stranger_told (action.Load name kind image max_bytes) = of_stranger (image_of kind image)
   stranger_told _ = tt
 
   nothing_told : (commands : List (Command T)) → AreTold eq codec content commands []
@@ -204,7 +204,7 @@ module _ {T C : Type 0} (slot : ℕ) (eq : T → T → Bool) (input : T → List
       after_sketches eq codec content reply _ old new a fits step.1 (join_fits eq join (string_bytes into) (string_bytes other) reply old.sketches new.sketches a.sketches fits.sketches step.0)
   action_fits_told (action.Save name image) loaded reply old new a fits told step = save_fits eq codec content (string_bytes name) (string_bytes image) reply old new a fits step
   action_fits_told (action.Restore image name) loaded reply old new a fits told step = restore_fits eq codec content (string_bytes image) (string_bytes name) reply old new a fits step
-  action_fits_told (action.Load name kind image most_bytes) loaded reply old new a fits told step = load_fits slot eq codec content (image_of kind image) most_bytes (string_bytes name) loaded reply old new a told fits step
+  action_fits_told (action.Load name kind image max_bytes) loaded reply old new a fits told step = load_fits slot eq codec content (image_of kind image) max_bytes (string_bytes name) loaded reply old new a told fits step
   action_fits_told (action.ShowImage image) loaded reply old new a fits told step = told_fits eq codec content (is_refused reply) old new a fits step.0
   action_fits_told (action.Ask name item) loaded reply old new a fits told step = told_fits eq codec content (is_refused reply) old new a fits step.0
   action_fits_told (action.GetStatus name) loaded reply old new a fits told step = told_fits eq codec content (is_refused reply) old new a fits step.0
@@ -223,7 +223,7 @@ module _ {T C : Type 0} (slot : ℕ) (eq : T → T → Bool) (input : T → List
       record { sketches = join_same eq join (string_bytes into) (string_bytes other) reply old.sketches new.sketches r step.0; images = step.1 }
   action_same (action.Save name image) reply old new r step = saved_same eq codec content (string_bytes name) (string_bytes image) reply old new r step
   action_same (action.Restore image name) reply old new r step = restored_same eq codec content (string_bytes image) (string_bytes name) reply old new r step
-  action_same (action.Load name kind image most_bytes) reply old new r step = loaded_same slot eq codec content (image_of kind image) most_bytes (string_bytes name) reply old new r step
+  action_same (action.Load name kind image max_bytes) reply old new r step = loaded_same slot eq codec content (image_of kind image) max_bytes (string_bytes name) reply old new r step
   action_same (action.ShowImage image) reply old new r step = step.0
   action_same (action.Ask name item) reply old new r step = step.0
   action_same (action.GetStatus name) reply old new r step = step.0

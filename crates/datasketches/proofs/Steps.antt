@@ -14,7 +14,7 @@ use Rattle.datasketches.specs.declared.sketch.Sketch.{Sketch}
 use Rattle.datasketches.specs.Histories.{History, joined}
 use Rattle.datasketches.specs.Joining.{Joins}
 use Rattle.datasketches.specs.Names.{at_name, Puts}
-use Rattle.datasketches.specs.Places.{JoinsAt}
+use Rattle.datasketches.specs.Indices.{JoinsAt}
 use Rattle.datasketches.specs.Replies.{done_or}
 use Rattle.datasketches.specs.Stands.{Carries, CarriesBoth, Does, DoesWith}
 use Rattle.datasketches.specs.Steps.{OnSketch, JoinsNamed}
@@ -66,9 +66,9 @@ module _ {T : Type 0} (eq : T → T → Bool) where
   pub joins_two : (join : Join) (into other : List ℕ) (old new : List (List ℕ × Sketch T)) (reply : Reply T) (sketch from after : Sketch T) → at_name into old ≡ Some sketch → at_name other old ≡ Some from → into ≢ other → DoesWith eq (Joins eq join from) (joined join) from sketch reply after → Puts into after old new → JoinsNamed eq join into other old reply new
   joins_two join into other old new reply sketch from after h k apart does puts = rw (h, k) (record { itself = λ same. absurd (apart same); two = λ _. (after, does, puts) })
 
--- ---- two places of a list that is cut in two
+-- ---- two indices of a list that is cut in two
 
--- a place of the first part
+-- a index of the first part
 in_front : {V : Type 0} (whole a b : List V) (i : ℕ) (d : V) → whole ≡ a ++ b → i < length a → slice_get whole i ≡ Some (get_or a i d)
 in_front {V} whole a b i d w h =
     ap (λ (l : List V). slice_get l i) w ∙ get_here (a ++ b) i d (omega (arith, h, length-append a b)) ∙ ap Some (get_or_append_left a b d i h)
@@ -76,7 +76,7 @@ in_front {V} whole a b i d w h =
 zero_left : (j : ℕ) → j - j ≡ 0
 zero_left j = omega arith
 
--- the first place of the second part
+-- the first index of the second part
 in_back : {V : Type 0} (whole a b : List V) (j : ℕ) (d : V) → whole ≡ a ++ b → length a ≡ j → j < length whole → slice_get whole j ≡ Some (get_or b 0 d)
 in_back {V} whole a b j d w n h =
     let size : length whole ≡ length (a ++ b) = ap length w in

@@ -123,7 +123,7 @@ module _ {T : Type 0} where
 halves : (n m : ℕ) → n ≤ m → n / 2 ≤ m / 2
 halves n m h = omega (arith, h)
 
--- a budget of fewer places
+-- a budget of fewer indices
 fewer : (outside a b k e weight : ℕ) → a ≤ b → outside + (b - k) * e ≤ weight → outside + (a - k) * e ≤ weight
 fewer outside a b k e weight h within =
     let least : (a - k) * e ≤ (b - k) * e = mul-le-mul_right e (omega (arith, h)) in

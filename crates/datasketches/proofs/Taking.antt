@@ -86,18 +86,18 @@ module _ {T C : Type 0} (slot : ℕ) (eq : T → T → Bool) (input : T → List
       SessionStandsFor eq codec content from a → Shows slot eq input codec content from image shown → SessionStandsFor eq codec content old b →
       LoadsShown shown (or_stranger (a.images (string_bytes image))) action → Performs slot eq input codec content old action reply new →
       SessionStandsFor eq codec content new (after_action_told input b action (or_stranger (a.images (string_bytes image))) reply)
-  took from old new a b image shown (Load name kind bytes most_bytes) reply stands shows fits loads step =
+  took from old new a b image shown (Load name kind bytes max_bytes) reply stands shows fits loads step =
       let found = shown_image from a image shown stands shows in
       let h = or_stranger (a.images (string_bytes image)) in
-      action_fits_told slot eq input codec content (Load name kind bytes most_bytes) h reply old new b fits
+      action_fits_told slot eq input codec content (Load name kind bytes max_bytes) h reply old new b fits
       (read_again eq codec content found.0 h kind bytes found.1 loads.0 (loads.1 ∙ found.2)) step
   took from old new a b image shown _ reply stands shows fits loads step = absurd loads
 
   pub load_keeps_shown : LoadKeepsShown slot eq input codec content
-  load_keeps_shown from old new a b h image name shown bytes kind most_bytes reply stands is shows fits k same step =
+  load_keeps_shown from old new a b h image name shown bytes kind max_bytes reply stands is shows fits k same step =
       let e = ap or_stranger is in
-      subst (λ (g : History T). SessionStandsFor eq codec content new (after_action_told input b (Load name kind bytes most_bytes) g reply)) e
-      (took from old new a b image shown (Load name kind bytes most_bytes) reply stands shows fits (subst (λ (g : History T). IsKindOf kind g) (sym e) k, same) step)
+      subst (λ (g : History T). SessionStandsFor eq codec content new (after_action_told input b (Load name kind bytes max_bytes) g reply)) e
+      (took from old new a b image shown (Load name kind bytes max_bytes) reply stands shows fits (subst (λ (g : History T). IsKindOf kind g) (sym e) k, same) step)
 
   -- each session of many stands for its histories
   pub process_stands : (p : Process T) → IsProcess slot eq input codec content p → SessionStandsFor eq codec content (session_of p) (histories_of input p)

@@ -1,4 +1,4 @@
--- What each command does.
+-- The action of each command.
 use Rattle.datasketches.specs.declared.action.Action.{Action}
 use Rattle.datasketches.specs.declared.action.Action.TheVariants.{Create, Change, Join, Save, Restore, Load, ShowImage, Ask, GetStatus, ListRows}
 use Rattle.datasketches.specs.declared.change.Change.TheVariants as change
@@ -7,7 +7,7 @@ use Rattle.datasketches.specs.declared.command.Command.TheVariants as command
 use Rattle.datasketches.specs.declared.join.Join.TheVariants as join
 use Rattle.datasketches.specs.declared.shape.Shape.TheVariants as shape
 
--- the action that a command is
+-- the action of the command
 abbrev pub action_of : {T : Type 0} → Command T → Action T
 action_of (command.CreateFrequent name max_map_size) = Create name (shape.Frequent max_map_size)
 action_of (command.CreateFrequentSampled name max_map_size sample_size) =
@@ -27,7 +27,7 @@ action_of (command.Halve name) = Change name change.Halve
 action_of (command.Decay name numerator denominator) = Change name (change.Decay numerator denominator)
 action_of (command.Save name image) = Save name image
 action_of (command.Restore image name) = Restore image name
-action_of (command.Load name kind image most_bytes) = Load name kind image most_bytes
+action_of (command.Load name kind image max_bytes) = Load name kind image max_bytes
 action_of (command.ShowImage image) = ShowImage image
 action_of (command.Ask name item) = Ask name item
 action_of (command.GetStatus name) = GetStatus name

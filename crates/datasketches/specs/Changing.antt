@@ -1,4 +1,4 @@
--- What a change does to a sketch of each kind.
+-- Effects of a change on a sketch of each kind.
 use Rattle.std.specs.Prelude.{◌≡◌, ℕ, ◌+◌, ◌^◌, ◌<◌, ◌≤◌, ◌⊎◌, IsTrue, Bool, List, ℤ, pos, unsigned_abs}
 use Rattle.sketch_base.specs.Errors.{invalid_argument, no_memory}
 use Rattle.sketch_base.specs.Hashes.{fed_bytes}
@@ -14,10 +14,10 @@ use Rattle.datasketches.specs.declared.change.Change.{Change}
 use Rattle.datasketches.specs.declared.change.Change.TheVariants.{Add, AddSigned, Insert, Reset, Halve, Decay}
 use Rattle.datasketches.specs.declared.sketch.Sketch.{Sketch}
 use Rattle.datasketches.specs.declared.sketch.Sketch.TheVariants.{Frequent, CountI64, CountU64, Bloom}
-use Rattle.datasketches.specs.Replies.{refused, IsWrongKind, Becomes, greatest_signed, greatest_unsigned}
+use Rattle.datasketches.specs.Replies.{refused, IsWrongKind, Becomes, max_signed, max_unsigned}
 
 module _ {T : Type 0} (eq : T → T → Bool) where
-  -- an item was added to a sketch of frequent items, or refused
+  -- the item was added to a frequent items sketch, or an error left the sketch unchanged
   pub record AddsFrequent (item : T) (weight : ℕ) (old : FrequentState T) (reply : Reply T)
       (new : FrequentState T) : Type 0 where
     pub nothing : weight ≡ 0 → (reply ≡ Done) × (new ≡ old)
@@ -26,7 +26,8 @@ module _ {T : Type 0} (eq : T → T → Bool) where
         ⊎ ((reply ≡ refused no_memory) × IsTrue (must_double eq old item) × (new ≡ old))
 
 module _ {T : Type 0} where
-  -- a weight was counted in a Count-Min sketch over numbers up to the greatest, or refused
+  -- the weight was counted in a Count-Min sketch, or an error left the sketch unchanged. `greatest` is the maximum of the weight
+  -- type
   pub record AddsCount (greatest : ℕ) (bytes : List ℕ) (weight : ℤ) (old : CountState) (reply : Reply T)
       (new : CountState) : Type 0 where
     pub nothing : weight ≡ pos 0 → (reply ≡ Done) × (new ≡ old)
@@ -38,13 +39,13 @@ module _ {T : Type 0} (eq : T → T → Bool) (input : T → List (List ℕ)) wh
   abbrev pub Adds : T → ℕ → Sketch T → Reply T → Sketch T → Type 0
   Adds item weight (Frequent s) reply new = Becomes Frequent (AddsFrequent eq item weight s) reply new
   Adds item weight (CountU64 s) reply new =
-      Becomes CountU64 (AddsCount greatest_unsigned (fed_bytes input item) (pos weight) s) reply new
+      Becomes CountU64 (AddsCount max_unsigned (fed_bytes input item) (pos weight) s) reply new
   Adds item weight old reply new = IsWrongKind old reply new
 
 module _ {T : Type 0} (input : T → List (List ℕ)) where
   abbrev pub AddsSigned : T → ℤ → Sketch T → Reply T → Sketch T → Type 0
   AddsSigned item weight (CountI64 s) reply new =
-      Becomes CountI64 (AddsCount greatest_signed (fed_bytes input item) weight s) reply new
+      Becomes CountI64 (AddsCount max_signed (fed_bytes input item) weight s) reply new
   AddsSigned item weight old reply new = IsWrongKind old reply new
 
   abbrev pub Inserts : T → Sketch T → Reply T → Sketch T → Type 0
@@ -52,7 +53,7 @@ module _ {T : Type 0} (input : T → List (List ℕ)) where
   Inserts item old reply new = IsWrongKind old reply new
 
 module _ {T : Type 0} where
-  -- a sketch is as it was made
+  -- the sketch is empty, and keeps its sizes and its seed. Count-Min sketches reject it
   abbrev pub Resets : Sketch T → Reply T → Sketch T → Type 0
   Resets (Frequent s) reply new = (reply ≡ Done) × (new ≡ Frequent (empty_state s.max_size s.sample_size))
   Resets (Bloom s) reply new = (reply ≡ Done) × (new ≡ Bloom (cleared s))
@@ -62,7 +63,8 @@ module _ {T : Type 0} where
   Halves (CountU64 s) reply new = (reply ≡ Done) × (new ≡ CountU64 (halved_state s))
   Halves old reply new = IsWrongKind old reply new
 
-  -- a Count-Min sketch was scaled by a fraction above 0 and at most 1, or refused
+  -- the Count-Min sketch was scaled by a fraction above 0 and at most 1. Any other fraction was rejected, and the sketch is
+  -- unchanged
   pub record DecaysCount (numerator denominator : ℕ) (old : CountState) (reply : Reply T) (new : CountState) : Type 0 where
     pub zero : numerator ≡ 0 → (reply ≡ Refused BadFraction) × (new ≡ old)
     pub above : denominator < numerator → (reply ≡ Refused BadFraction) × (new ≡ old)
@@ -74,7 +76,7 @@ module _ {T : Type 0} where
   Decays numerator denominator old reply new = IsWrongKind old reply new
 
 module _ {T : Type 0} (eq : T → T → Bool) (input : T → List (List ℕ)) where
-  -- what a change does
+  -- the effect of a change on a sketch
   abbrev pub Changes : Change T → Sketch T → Reply T → Sketch T → Type 0
   Changes (Add item weight) old reply new = Adds eq input item weight old reply new
   Changes (AddSigned item weight) old reply new = AddsSigned input item weight old reply new

@@ -1,4 +1,4 @@
--- Many sessions: what they send one another, and what holds of all their streams together.
+-- Many sessions: what they load from one another, and what holds for all their streams together.
 use Rattle.std.specs.Prelude.{◌≡◌, ℕ, ◌+◌, ◌-◌, ◌*◌, ◌/◌, ◌<◌, ◌≤◌, ℤ, pos, ◌+ℤ◌, Bool, true, List, [], ◌∷◌, ◌++◌, length, Option, Some, None, sum_by}
 use Rattle.std.specs.List.{Contains}
 use Rattle.std.specs.Global.{Global}
@@ -36,7 +36,7 @@ use Rattle.datasketches.specs.declared.sketch.Sketch.TheVariants.{Frequent, Bloo
 -- ---- from one session to another
 
 module _ {T : Type 0} where
-  -- an image of a sketch of this history is one of this kind, and is read under the sketch's seed
+  -- the kind is that of an image of a sketch with this history, and has the sketch's seed. Any kind fits an untrusted image
   abbrev pub IsKindOf : ImageKind → History T → Type 0
   IsKindOf kind.Frequent (OfFrequent h) = Unit {0}
   IsKindOf (kind.CountI64 seed) (OfCountI64 h) = seed ≡ count.seed_of h
@@ -45,17 +45,17 @@ module _ {T : Type 0} where
   IsKindOf kind OfStranger = Unit {0}
   IsKindOf _ _ = ⊥
 
-  -- no name yet
+  -- the session without names
   abbrev pub empty_session : SessionState T
   empty_session = record { sketches = []; images = [] }
 
-  -- the history that an image was saved of, or a stranger's
+  -- the history that an image was saved with, or that of an untrusted image if there is none
   abbrev pub or_stranger : Option (History T) → History T
   or_stranger None = OfStranger
   or_stranger (Some h) = h
 
--- how a session came about, among others: it began with no name, it performed an action, or it loaded what another one
--- showed
+-- how a session came about, among others. It began with no names, performed an action, or loaded an image that another session
+-- returned
 pub data Process (T : Type 0) : Type 0 where
   Began : Process T
   Did : Process T → Action T → Reply T → SessionState T → Process T
@@ -63,19 +63,19 @@ pub data Process (T : Type 0) : Type 0 where
       → Process T
 
 module _ {T : Type 0} where
-  -- the session as it is now
+  -- the session at the end of the process
   abbrev pub session_of : Process T → SessionState T
   session_of Began = empty_session
   session_of (Did p action reply now) = now
   session_of (Took p from image shown action reply now) = now
 
-  -- the action loads the bytes as an image of this history's kind
+  -- the action loads these bytes as an image of this history's kind
   abbrev pub LoadsShown : Vec ℕ Global → History T → Action T → Type 0
-  LoadsShown shown h (Load name kind bytes most_bytes) = IsKindOf kind h × (bytes.items ≡ shown.items)
+  LoadsShown shown h (Load name kind bytes max_bytes) = IsKindOf kind h × (bytes.items ≡ shown.items)
   LoadsShown shown h _ = ⊥
 
 module _ {T : Type 0} (input : T → List (List ℕ)) where
-  -- what its names stand for: what it did itself, and for what it took, what the other one saved
+  -- the histories of the session's names. An image that it loaded has the history with which the other session saved it
   abbrev pub histories_of : Process T → Assignment T
   histories_of Began = nothing_named
   histories_of (Did p action reply now) = after_action input (histories_of p) action reply
@@ -83,12 +83,12 @@ module _ {T : Type 0} (input : T → List (List ℕ)) where
       after_action_told input (histories_of p) action (or_stranger ((histories_of from).images (string_bytes image))) reply
 
 module _ {T C : Type 0} (slot : ℕ) (eq : T → T → Bool) (input : T → List (List ℕ)) (codec : Codec C) (content : T → C) where
-  -- the session shows these bytes for the image
+  -- the session returns these bytes for the image
   abbrev pub Shows : SessionState T → Name → Vec ℕ Global → Type 0
   Shows session image shown =
       (after : SessionState T) × Performs slot eq input codec content session (ShowImage image) (Shown shown) after
 
-  -- each action was performed as its reply says, and what was taken is what the other session showed
+  -- each action was performed with its reply, and each loaded image is what the other session returned
   abbrev pub IsProcess : Process T → Type 0
   IsProcess Began = Unit {0}
   IsProcess (Did p action reply now) = IsProcess p × Performs slot eq input codec content (session_of p) action reply now
@@ -97,27 +97,28 @@ module _ {T C : Type 0} (slot : ℕ) (eq : T → T → Bool) (input : T → List
       × LoadsShown shown (or_stranger ((histories_of input from).images (string_bytes image))) action
       × Performs slot eq input codec content (session_of p) action reply now
 
-  -- the law of two sessions: what one showed of an image, another that loads these bytes stands for
+  -- the law of two sessions. If one returns the bytes of an image and another loads them, the other stands for the image's
+  -- history
   abbrev pub LoadKeepsShown : Type 0
   LoadKeepsShown = (from old new : SessionState T) (a b : Assignment T) (h : History T) (image name : Name)
-      (shown bytes : Vec ℕ Global) (kind : ImageKind) (most_bytes : ℕ) (reply : Reply T)
+      (shown bytes : Vec ℕ Global) (kind : ImageKind) (max_bytes : ℕ) (reply : Reply T)
       → SessionStandsFor eq codec content from a → a.images (string_bytes image) ≡ Some h → Shows from image shown
       → SessionStandsFor eq codec content old b → IsKindOf kind h → bytes.items ≡ shown.items
-      → Performs slot eq input codec content old (Load name kind bytes most_bytes) reply new
-      → SessionStandsFor eq codec content new (after_action_told input b (Load name kind bytes most_bytes) h reply)
+      → Performs slot eq input codec content old (Load name kind bytes max_bytes) reply new
+      → SessionStandsFor eq codec content new (after_action_told input b (Load name kind bytes max_bytes) h reply)
 
-  -- the law of many: each session stands for its histories
+  -- the law of many sessions: each stands for its histories
   abbrev pub ProcessStandsForHistories : Type 0
   ProcessStandsForHistories = (p : Process T) → IsProcess p → SessionStandsFor eq codec content (session_of p) (histories_of input p)
 
--- ---- the streams that came together in a sketch
+-- ---- the streams of a sketch
 
--- A sketch has a stream of its own, that is, its history without merges. The others are the streams of the sketches that
--- were merged into it, before or after updates of its own. A stream that was merged twice is there twice. For updates by
--- x, then a merge of a sketch that was fed y, then an update by z, the own stream is x, z, and the other one is y.
+-- A sketch's own stream is its history without merges. Its other streams are those of the sketches that were merged into it,
+-- before or after its own updates. A stream that was merged twice counts twice. Example: a sketch is updated by x, merged with a
+-- sketch that was updated by y, and updated by z. Its own stream is x, z, and the other one is y.
 
 module _ {T : Type 0} where
-  -- the own stream
+  -- the own stream of a frequent items sketch
   abbrev pub frequent_own : FrequentHistory T → FrequentHistory T
   frequent_own (frequent.New m n) = frequent.New m n
   frequent_own (frequent.Update h x w) = frequent.Update (frequent_own h) x w
@@ -125,7 +126,7 @@ module _ {T : Type 0} where
   frequent_own (frequent.Reset h) = frequent.Reset (frequent_own h)
   frequent_own (frequent.Restored h) = frequent.Restored (frequent_own h)
 
-  -- those of the merged sketches; a reset forgets them
+  -- the streams of the merged sketches since the last reset
   abbrev pub frequent_others : FrequentHistory T → List (FrequentHistory T)
   frequent_others (frequent.New m n) = []
   frequent_others (frequent.Update h x w) = frequent_others h
@@ -136,8 +137,8 @@ module _ {T : Type 0} where
   abbrev pub frequent_streams : FrequentHistory T → List (FrequentHistory T)
   frequent_streams h = frequent_own h ∷ frequent_others h
 
--- the own stream of a Count-Min sketch; halving and decay round the counts of all streams together, so that what was
--- halved or decayed is one stream from then on
+-- the own stream of a Count-Min sketch. Halving and decay round the counts of all streams together. So a halved or decayed sketch
+-- is one stream from then on
 abbrev pub count_own : CountHistory → CountHistory
 count_own (count.New hashes buckets seed) = count.New hashes buckets seed
 count_own (count.Update h bytes weight) = count.Update (count_own h) bytes weight
@@ -146,7 +147,7 @@ count_own (count.Halve h) = count.Halve h
 count_own (count.Decay h n d) = count.Decay h n d
 count_own (count.Restored h) = count.Restored (count_own h)
 
--- those of the merged sketches, since the last halving or decay
+-- the streams of the merged sketches since the last halving or decay
 abbrev pub count_others : CountHistory → List CountHistory
 count_others (count.New hashes buckets seed) = []
 count_others (count.Update h bytes weight) = count_others h
@@ -158,8 +159,8 @@ count_others (count.Restored h) = count_others h
 abbrev pub count_streams : CountHistory → List CountHistory
 count_streams h = count_own h ∷ count_others h
 
--- the filters from which this one has every position: itself, what it was before each insertion, and the parts of both
--- sides of each union; an intersection, a difference or a reset may take positions away, so that nothing before it is a part
+-- the parts of a filter, all of whose positions it has: itself, the filter before each insertion, and the parts of both sides of
+-- each union. An intersection, a difference or a reset may remove positions, so nothing before it is a part
 abbrev pub bloom_parts : BloomHistory → List BloomHistory
 bloom_parts (bloom.New num_words num_hashes seed) = bloom.New num_words num_hashes seed ∷ []
 bloom_parts (bloom.Insert h bytes) = bloom.Insert h bytes ∷ bloom_parts h
@@ -169,20 +170,21 @@ bloom_parts (bloom.Difference g h) = bloom.Difference g h ∷ []
 bloom_parts (bloom.Reset h) = bloom.Reset h ∷ []
 bloom_parts (bloom.Restored h) = bloom.Restored h ∷ bloom_parts h
 
--- the sum of some numbers with signs
+-- the signed sum of f over a list
 abbrev pub signed_sum_by : {X : Type 0} → (X → ℤ) → List X → ℤ
 signed_sum_by f [] = pos 0
 signed_sum_by f (x ∷ xs) = f x +ℤ signed_sum_by f xs
 
 module _ {T C : Type 0} (eq : T → T → Bool) (codec : Codec C) (content : T → C) where
-  -- each true weight over all streams together lies between the item's count and that count plus the error
+  -- each true weight, summed over all streams, lies between the item's count and that count plus the error
   abbrev pub EnclosesAllStreams : Type 0
   EnclosesAllStreams = (s : FrequentState T) (h : FrequentHistory T)
       → IsNamed eq codec content (Frequent s) (OfFrequent h) → (x : T)
       → (count_of eq s.counters x ≤ sum_by (λ g. true_weight eq g x) (frequent_streams h))
       × (sum_by (λ g. true_weight eq g x) (frequent_streams h) ≤ count_of eq s.counters x + s.error)
 
-  -- the tail budget is that of all streams together, by any number of counters that the purges of each of them sample
+  -- the tail budget is kept for all streams together. `sampled` is any number of counters that is at most the minimum sample size
+  -- of each stream
   abbrev pub KeepsBudgetOfAllStreams : Type 0
   KeepsBudgetOfAllStreams = (s : FrequentState T) (h : FrequentHistory T)
       → IsNamed eq codec content (Frequent s) (OfFrequent h)
@@ -196,13 +198,13 @@ module _ {T C : Type 0} (eq : T → T → Bool) (codec : Codec C) (content : T �
       → (r : ℕ) → r < s.hashes → (b : ℕ) → b < s.buckets
       → cell_at s.rows r b ≡ signed_sum_by (λ g. cell_share s.buckets s.seed g r b) (count_streams h)
 
-  -- a filter contains what a filter of any of its parts contains
+  -- a filter contains what a compatible filter of any of its parts contains
   abbrev pub ContainsWhatAnyContains : Type 0
   ContainsWhatAnyContains = (s part : FilterState) (h g : BloomHistory)
       → IsNamed eq codec content (Bloom s) (OfBloom h) → IsNamed eq codec content (Bloom part) (OfBloom g)
       → Contains (bloom_parts h) g → IsCompatible s part
       → (bytes : List ℕ) → contains_item part bytes ≡ true → contains_item s bytes ≡ true
 
-  -- of what came from a stranger: it is a sketch that may be, so that counts and error are at most the total
+  -- a sketch that was loaded from an untrusted image is valid, so its counts and error are at most its total
   abbrev pub StrangersAreSketches : Type 0
   StrangersAreSketches = (sketch : Sketch T) → IsNamed eq codec content sketch OfStranger → IsSketch eq sketch

@@ -1,4 +1,4 @@
--- How sketches of every kind came about, and how a name's history grows with each accepted command.
+-- Histories of sketches of every kind, and how each accepted command extends the history of a name.
 use Rattle.std.specs.Prelude.{ℕ, ◌==◌, List, [], ◌∷◌, Option, Some, None, option_map, bytes_eq, if◌then◌else◌, pos, unsigned_abs}
 use Rattle.std.specs.String.{string_bytes}
 use Rattle.sketch_base.specs.Hashes.{fed_bytes}
@@ -24,7 +24,7 @@ use Rattle.datasketches.specs.declared.join.Join.TheVariants as join
 use Rattle.datasketches.specs.declared.shape.Shape.{Shape}
 use Rattle.datasketches.specs.declared.shape.Shape.TheVariants as shape
 
--- the history of a sketch of some kind, or of one whose bytes came from a stranger, of which nothing is known
+-- the history of a sketch of one kind, or of an untrusted image, of which nothing is known
 pub data History (T : Type 0) : Type 0 where
   OfFrequent : FrequentHistory T → History T
   OfCountI64 : CountHistory → History T
@@ -37,22 +37,22 @@ pub record Assignment (T : Type 0) : Type 0 where
   pub sketches : List ℕ → Option (History T)
   pub images : List ℕ → Option (History T)
 
--- that of two histories, if there are both
+-- f of both histories if both exist, otherwise the first
 abbrev pub of_both : {X : Type 0} → (X → X → X) → Option X → Option X → Option X
 of_both f None other = None
 of_both f (Some own) None = Some own
 of_both f (Some own) (Some other) = Some (f own other)
 
 module _ {T : Type 0} where
-  -- no name
+  -- the assignment without names
   abbrev pub nothing_named : Assignment T
   nothing_named = record { sketches = λ name. None; images = λ name. None }
 
-  -- the same with this under the name
+  -- the same histories, except that the name now has this one
   abbrev pub put_at : List ℕ → Option (History T) → (List ℕ → Option (History T)) → List ℕ → Option (History T)
   put_at name history histories other = if bytes_eq name other then history else histories other
 
-  -- that of a new sketch
+  -- the history of a new sketch of the shape
   abbrev pub begun : Shape → History T
   begun (shape.Frequent max_map_size) = OfFrequent (frequent.New max_map_size (greatest_sample_size max_map_size))
   begun (shape.FrequentSampled max_map_size sample_size) = OfFrequent (frequent.New max_map_size sample_size)
@@ -60,7 +60,7 @@ module _ {T : Type 0} where
   begun (shape.CountU64 hashes buckets seed) = OfCountU64 (count.New hashes buckets seed)
   begun (shape.Bloom bits hashes seed) = OfBloom (bloom.New (words_for bits) hashes seed)
 
-  -- that of a sketch as its image gave it back
+  -- the history of a sketch that was restored from an image of this history
   abbrev pub restored : History T → History T
   restored (OfFrequent h) = OfFrequent (frequent.Restored h)
   restored (OfCountI64 h) = OfCountI64 (count.Restored h)
@@ -68,7 +68,7 @@ module _ {T : Type 0} where
   restored (OfBloom h) = OfBloom (bloom.Restored h)
   restored OfStranger = OfStranger
 
-  -- that of two sketches, the second joined to the first; what a stranger's was joined to is a stranger's
+  -- the history of the first sketch after the second was combined into it. If one is untrusted, the result is untrusted
   abbrev pub joined : Join → History T → History T → History T
   joined join.Merge (OfFrequent g) (OfFrequent h) = OfFrequent (frequent.Merge g h)
   joined join.Merge (OfCountI64 g) (OfCountI64 h) = OfCountI64 (count.Merge g h)
@@ -79,9 +79,9 @@ module _ {T : Type 0} where
   joined _ _ OfStranger = OfStranger
   joined _ history _ = history
 
--- what items feed to a hash
+-- `input` is what an item feeds to a hasher
 module _ {T : Type 0} (input : T → List (List ℕ)) where
-  -- that of a sketch that was changed; a weight of 0 changes nothing
+  -- the history of a sketch after a change. A weight of 0 changes nothing
   abbrev pub changed : Change T → History T → History T
   changed (change.Add item weight) (OfFrequent h) = OfFrequent (if weight == 0 then h else frequent.Update h item weight)
   changed (change.Add item weight) (OfCountU64 h) =
@@ -95,16 +95,16 @@ module _ {T : Type 0} (input : T → List (List ℕ)) where
   changed (change.Decay numerator denominator) (OfCountU64 h) = OfCountU64 (count.Decay h numerator denominator)
   changed _ history = history
 
-  -- a new sketch has the name
+  -- the assignment after a sketch was created under the name
   abbrev pub made : Assignment T → Name → Shape → Assignment T
   made a name shape = record a { sketches = put_at (string_bytes name) (Some (begun shape)) a.sketches }
 
-  -- the sketch of the name was changed
+  -- the assignment after the sketch of the name was changed
   abbrev pub grown : Assignment T → Name → Change T → Assignment T
   grown a name change =
       record a { sketches = put_at (string_bytes name) (option_map (changed change) (a.sketches (string_bytes name))) a.sketches }
 
-  -- the sketch of one name was joined by that of another
+  -- the assignment after the sketch of one name was combined into that of another
   abbrev pub both_joined : Assignment T → Name → Name → Join → Assignment T
   both_joined a into other join =
       record a {
@@ -112,7 +112,7 @@ module _ {T : Type 0} (input : T → List (List ℕ)) where
             (of_both (joined join) (a.sketches (string_bytes into)) (a.sketches (string_bytes other))) a.sketches;
       }
 
-  -- what an accepted action makes of an assignment, where the bytes that it loads are said to be of this history
+  -- the assignment after an accepted action. `loaded` is the history of the bytes that it loads, if any
   abbrev pub accepted_told : Assignment T → Action T → History T → Assignment T
   accepted_told a (action.Create name shape) loaded = made a name shape
   accepted_told a (action.Change name change) loaded = grown a name change
@@ -121,23 +121,23 @@ module _ {T : Type 0} (input : T → List (List ℕ)) where
       record a { images = put_at (string_bytes image) (a.sketches (string_bytes name)) a.images }
   accepted_told a (action.Restore image name) loaded =
       record a { sketches = put_at (string_bytes name) (option_map restored (a.images (string_bytes image))) a.sketches }
-  accepted_told a (action.Load name kind image most_bytes) loaded =
+  accepted_told a (action.Load name kind image max_bytes) loaded =
       record a { sketches = put_at (string_bytes name) (Some (restored loaded)) a.sketches }
   accepted_told a (action.ShowImage image) loaded = a
   accepted_told a (action.Ask name item) loaded = a
   accepted_told a (action.GetStatus name) loaded = a
   accepted_told a (action.ListRows name error_type threshold) loaded = a
 
-  -- and what an action does whose reply is this: nothing where it was refused
+  -- the assignment after an action with this reply. A rejected action changes nothing
   abbrev pub after_action_told : Assignment T → Action T → History T → Reply T → Assignment T
   after_action_told a action loaded reply = if is_refused reply then a else accepted_told a action loaded
 
-  -- a command makes of it what its action makes of it
+  -- the assignment after a command with this reply: that after its action
   abbrev pub after_one_told : Assignment T → Command T → History T → Reply T → Assignment T
   after_one_told a command loaded reply = after_action_told a (action_of command) loaded reply
 
-  -- what the commands with these replies make of it, in their order, where each of them has a history that the bytes
-  -- that it loads are said to be of, or a stranger's where no more are said
+  -- the assignment after commands with these replies, in order. `loaded` has, for each command, the history of the bytes that it
+  -- loads. Commands after its end load untrusted bytes
   abbrev pub after_told : Assignment T → List (Command T) → List (History T) → List (Reply T) → Assignment T
   after_told a [] loaded replies = a
   after_told a (command ∷ commands) loaded [] = a
@@ -146,7 +146,7 @@ module _ {T : Type 0} (input : T → List (List ℕ)) where
   after_told a (command ∷ commands) (history ∷ loaded) (reply ∷ replies) =
       after_told (after_one_told a command history reply) commands loaded replies
 
-  -- ---- where nothing is said of the bytes that are loaded: they are a stranger's
+  -- ---- the same if nothing is known of the bytes that are loaded: they are untrusted
 
   abbrev pub accepted : Assignment T → Action T → Assignment T
   accepted a action = accepted_told a action OfStranger

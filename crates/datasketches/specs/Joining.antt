@@ -1,4 +1,4 @@
--- What becomes of a sketch that is joined with another.
+-- Effects of combining one sketch into another.
 use Rattle.std.specs.Prelude.{◌≡◌, ℕ, ◌+◌, ◌^◌, ◌<◌, ◌≤◌, ◌⊎◌, Bool}
 use Rattle.sketch_base.specs.Errors.{invalid_argument, no_memory}
 use Rattle.sketch_base.specs.declared.fault.Fault.TheVariants.{Mismatch, WeightOverflow}
@@ -13,10 +13,10 @@ use Rattle.datasketches.specs.declared.join.Join.{Join}
 use Rattle.datasketches.specs.declared.join.Join.TheVariants.{Merge, Union, Intersect, Difference}
 use Rattle.datasketches.specs.declared.sketch.Sketch.{Sketch}
 use Rattle.datasketches.specs.declared.sketch.Sketch.TheVariants.{Frequent, CountI64, CountU64, Bloom}
-use Rattle.datasketches.specs.Replies.{refused, IsWrongKind, Becomes, greatest_signed, greatest_unsigned}
+use Rattle.datasketches.specs.Replies.{refused, IsWrongKind, Becomes, max_signed, max_unsigned}
 
 module _ {T : Type 0} (eq : T → T → Bool) where
-  -- another sketch of frequent items was merged in, or refused
+  -- the other frequent items sketch was merged in, or an error left the sketch unchanged
   pub record JoinsFrequent (other old : FrequentState T) (reply : Reply T) (new : FrequentState T) : Type 0 where
     pub nothing : other.total ≡ 0 → (reply ≡ Done) × (new ≡ old)
     pub overflow : 2 ^ 64 ≤ old.total + other.total → (reply ≡ refused (invalid_argument WeightOverflow)) × (new ≡ old)
@@ -24,14 +24,14 @@ module _ {T : Type 0} (eq : T → T → Bool) where
         → ((reply ≡ Done) × JoinsEqual eq old other new) ⊎ ((reply ≡ refused no_memory) × (new ≡ old))
 
 module _ {T : Type 0} where
-  -- another Count-Min sketch over numbers up to the greatest was merged in, or refused
+  -- the other Count-Min sketch was merged in, or an error left the sketch unchanged. `greatest` is the maximum of the weight type
   pub record JoinsCount (greatest : ℕ) (other old : CountState) (reply : Reply T) (new : CountState) : Type 0 where
     pub mismatch : ¬ SameShape old other → (reply ≡ refused (invalid_argument Mismatch)) × (new ≡ old)
     pub overflow : SameShape old other → greatest < old.total + other.total
         → (reply ≡ refused (invalid_argument WeightOverflow)) × (new ≡ old)
     pub joined : SameShape old other → old.total + other.total ≤ greatest → (reply ≡ Done) × count.Joins old other new
 
-  -- another filter was joined so, or refused
+  -- the other filter was combined in by `joined_filter`, or an error left the filter unchanged
   pub record JoinsFilter (joined_filter : FilterState → FilterState → FilterState) (other old : FilterState)
       (reply : Reply T) (new : FilterState) : Type 0 where
     pub mismatch : ¬ IsCompatible old other → (reply ≡ refused (invalid_argument Mismatch)) × (new ≡ old)
@@ -40,8 +40,8 @@ module _ {T : Type 0} where
 module _ {T : Type 0} (eq : T → T → Bool) where
   abbrev pub Merges : Sketch T → Sketch T → Reply T → Sketch T → Type 0
   Merges (Frequent other) (Frequent s) reply new = Becomes Frequent (JoinsFrequent eq other s) reply new
-  Merges (CountI64 other) (CountI64 s) reply new = Becomes CountI64 (JoinsCount greatest_signed other s) reply new
-  Merges (CountU64 other) (CountU64 s) reply new = Becomes CountU64 (JoinsCount greatest_unsigned other s) reply new
+  Merges (CountI64 other) (CountI64 s) reply new = Becomes CountI64 (JoinsCount max_signed other s) reply new
+  Merges (CountU64 other) (CountU64 s) reply new = Becomes CountU64 (JoinsCount max_unsigned other s) reply new
   Merges other old reply new = IsWrongKind old reply new
 
 module _ {T : Type 0} where
@@ -58,7 +58,7 @@ module _ {T : Type 0} where
   Subtracts other old reply new = IsWrongKind old reply new
 
 module _ {T : Type 0} (eq : T → T → Bool) where
-  -- what joining another sketch does
+  -- the effect of combining another sketch into a sketch
   abbrev pub Joins : Join → Sketch T → Sketch T → Reply T → Sketch T → Type 0
   Joins Merge other old reply new = Merges eq other old reply new
   Joins Union other old reply new = Unites other old reply new

@@ -1,9 +1,9 @@
--- A value that is lent under its name.
+-- Values that are borrowed under their names.
 use Rattle.std.specs.Prelude.{◌≡◌, ℕ, List, Option, OnSome}
 use Rattle.std.specs.Borrow.{LendsSo, Fml, RattleType, MutBor}
 use Rattle.datasketches.specs.Names.{Puts}
 use Rattle.datasketches.specs.contracts.name_map.NameMap.{the_row}
 
--- once the borrow r ends, the name has the last value written through r; where there is none, the map stays as it is
+-- once the borrow r ends, the name has the last value written through r. If there is no borrow, the map is unchanged
 abbrev pub LendsValue : (V : RattleType) → MutBor (List (List ℕ × V.Denot)) → List ℕ → Option (MutBor V.Denot) → Fml
 LendsValue V s name r = LendsSo (the_row V) V s r (λ new value. OnSome r (Puts name value s.now new)) (λ new. new ≡ s.now)

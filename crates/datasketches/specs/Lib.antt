@@ -12,13 +12,13 @@ pub mod Answering
 pub mod Images
 pub mod Loading
 pub mod State
-pub mod Places
+pub mod Indices
 pub mod Steps
 pub mod SessionStandsFor
 pub mod Laws
 pub mod Clusters
 pub mod Running
--- what a crate above names of those below
+-- names of lower crates that upper crates use
 pub use Rattle.sketch_base.specs.Faults
 pub use Rattle.sketch_frequencies.specs.RowValue
 pub use Rattle.sketch_frequencies.specs.declared.error_type.ErrorType

@@ -1,4 +1,4 @@
--- What is said of bytes that are loaded.
+-- The histories of bytes that are loaded.
 use Rattle.std.specs.Prelude.{Bool, List, ◌∷◌}
 use Rattle.sketch_frequencies.specs.Items.{Codec}
 use Rattle.datasketches.specs.Actions.{action_of}
@@ -9,16 +9,16 @@ use Rattle.datasketches.specs.declared.action.Action.TheVariants as action
 use Rattle.datasketches.specs.declared.command.Command.{Command}
 
 module _ {T C : Type 0} (eq : T → T → Bool) (codec : Codec C) (content : T → C) where
-  -- the bytes that an action loads, if it loads any, are an image that a sketch of this history would write
+  -- the bytes that the action loads, if any, are an image that a sketch of this history would write
   abbrev pub IsActionTold : Action T → History T → Type 0
-  IsActionTold (action.Load name kind image most_bytes) loaded = IsImageOf eq codec content (image_of kind image) loaded
+  IsActionTold (action.Load name kind image max_bytes) loaded = IsImageOf eq codec content (image_of kind image) loaded
   IsActionTold _ loaded = Unit {0}
 
   -- the same of a command
   abbrev pub IsTold : Command T → History T → Type 0
   IsTold command loaded = IsActionTold (action_of command) loaded
 
-  -- and of each of the commands of which a history is told
+  -- the same of each command that has a history in the list
   abbrev pub AreTold : List (Command T) → List (History T) → Type 0
   AreTold (command ∷ commands) (history ∷ loaded) = IsTold command history × AreTold commands loaded
   AreTold _ _ = Unit {0}

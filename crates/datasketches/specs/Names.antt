@@ -6,45 +6,45 @@ use Rattle.std.specs.Map.{lookup}
 use Rattle.std.specs.String.{string_bytes}
 use Rattle.std.specs.declared.string.String.{String}
 
--- a name as it is kept
+-- a name, as a session keeps it
 abbrev pub Name : Type 0
 Name = String Global
 
--- the place of a name that has one
-abbrev pub place_of : List ℕ → List (Name × ℕ) → Option ℕ
-place_of name entries = lookup (λ key. bytes_eq name (string_bytes key)) entries
+-- the index of the name, if any
+abbrev pub index_of : List ℕ → List (Name × ℕ) → Option ℕ
+index_of name entries = lookup (λ key. bytes_eq name (string_bytes key)) entries
 
--- the places of so many values: each has at most one name
-pub record ArePlaces (entries : List (Name × ℕ)) (count : ℕ) : Type 0 where
-  pub below : (name : List ℕ) → IfSome (place_of name entries) (λ place. place < count)
-  pub apart : (name other : List ℕ) (place : ℕ)
-      → place_of name entries ≡ Some place → place_of other entries ≡ Some place → name ≡ other
+-- each index is below `count` and has at most one name
+pub record AreIndices (entries : List (Name × ℕ)) (count : ℕ) : Type 0 where
+  pub below : (name : List ℕ) → IfSome (index_of name entries) (λ index. index < count)
+  pub apart : (name other : List ℕ) (index : ℕ)
+      → index_of name entries ≡ Some index → index_of other entries ≡ Some index → name ≡ other
 
 module _ {V : Type 0} where
-  -- the value of the name, among values with their names in some order
+  -- the value of the name, if any, among values with their names in some order
   abbrev pub at_name : List ℕ → List (List ℕ × V) → Option V
   at_name name values = lookup (bytes_eq name) values
 
-  -- the name has this value now, and the other names have theirs
+  -- the name now has this value, and the other names keep theirs
   abbrev pub Puts : List ℕ → V → List (List ℕ × V) → List (List ℕ × V) → Type 0
   Puts name value old new =
       (other : List ℕ) → at_name other new ≡ (if bytes_eq name other then Some value else at_name other old)
 
-  -- each name has the value that it had
+  -- each name keeps its value
   abbrev pub AreSame : List (List ℕ × V) → List (List ℕ × V) → Type 0
   AreSame old new = (name : List ℕ) → at_name name new ≡ at_name name old
 
-  -- what stands at a place, if there is one
-  abbrev pub at_place : Option ℕ → List V → Option V
-  at_place None values = None
-  at_place (Some place) values = slice_get values place
+  -- the value at the index, if any
+  abbrev pub at_index : Option ℕ → List V → Option V
+  at_index None values = None
+  at_index (Some index) values = slice_get values index
 
-  -- the values before which one stands under this name, if there is one
+  -- the values with this one before them under its name, if there is one
   abbrev pub with_first : List ℕ → Option V → List (List ℕ × V) → List (List ℕ × V)
   with_first name None rest = rest
   with_first name (Some value) rest = (name, value) ∷ rest
 
-  -- the values with the names that have their places
+  -- the values with their names, for each name whose index has a value
   abbrev pub listed : List (Name × ℕ) → List V → List (List ℕ × V)
   listed [] values = []
   listed (entry ∷ entries) values =

@@ -1,4 +1,4 @@
--- What sketches are made by.
+-- Shapes, by which sketches are created.
 use Rattle.std.specs.Prelude.{Option}
 use Rattle.sketch_base.specs.declared.fault.Fault.{Fault}
 use Rattle.sketch_frequencies.specs.Sizes.{size_fault, sizes_fault}
@@ -12,7 +12,7 @@ use Rattle.datasketches.specs.declared.shape.Shape.TheVariants as shape
 use Rattle.datasketches.specs.declared.sketch.Sketch.{Sketch}
 use Rattle.datasketches.specs.declared.sketch.Sketch.TheVariants.{Frequent, CountI64, CountU64, Bloom}
 
--- what is wrong with a shape, if anything
+-- the fault of a shape, if any
 abbrev pub fault_of : Shape → Option Fault
 fault_of (shape.Frequent max_map_size) = size_fault max_map_size
 fault_of (shape.FrequentSampled max_map_size sample_size) = sizes_fault max_map_size sample_size

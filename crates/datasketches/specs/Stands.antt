@@ -1,4 +1,4 @@
--- What a sketch says of its history, and how a command keeps it.
+-- When a sketch stands for a history, and how a command preserves that.
 use Rattle.std.specs.Prelude.{◌≡◌, ◌≤◌, ℕ, Bool, true, false, length}
 use Rattle.sketch_bloom.specs.History.{BloomHistory}
 use Rattle.sketch_bloom.specs.Stands as bloom
@@ -11,64 +11,64 @@ use Rattle.sketch_frequencies.specs.Stands as frequent
 use Rattle.sketch_frequencies.specs.State.{FrequentState, IsState, capacity}
 use Rattle.datasketches.specs.Histories.{History}
 use Rattle.datasketches.specs.Histories.History.{OfFrequent, OfCountI64, OfCountU64, OfBloom, OfStranger}
-use Rattle.datasketches.specs.Replies.{is_refused, greatest_signed, greatest_unsigned}
+use Rattle.datasketches.specs.Replies.{is_refused, max_signed, max_unsigned}
 use Rattle.datasketches.specs.declared.reply.Reply.{Reply}
 use Rattle.datasketches.specs.declared.sketch.Sketch.{Sketch}
 use Rattle.datasketches.specs.declared.sketch.Sketch.TheVariants.{Frequent, CountI64, CountU64, Bloom}
 
--- a Count-Min sketch over numbers up to the greatest is one that may be, and one of this history
+-- the Count-Min sketch is valid and stands for this history. `greatest` is the maximum of the weight type
 pub record KeepsCounts (greatest : ℕ) (s : CountState) (h : CountHistory) : Type 0 where
   pub state : IsCountState greatest s
   pub stands : count.StandsFor s h
 
--- a filter is one that may be, and one of this history
+-- the filter is valid and stands for this history
 pub record KeepsPositions (s : FilterState) (h : BloomHistory) : Type 0 where
   pub state : IsFilterState s
   pub stands : bloom.StandsFor s h
 
 module _ {T : Type 0} (eq : T → T → Bool) where
-  -- a sketch of frequent items is one that may be, holds at most three quarters of its greatest size in counters,
-  -- encloses every true weight within its error, samples as its history says, and keeps the tail budget
+  -- the frequent items sketch is valid, and its number of counters is at most 3/4 of its maximum size. It encloses every true
+  -- weight within its error, has the sample size of its history, and keeps the tail budget
   pub record KeepsPromise (s : FrequentState T) (h : FrequentHistory T) : Type 0 where
     pub state : IsState eq s
     pub few : length s.counters ≤ capacity (own_size h)
     pub stands : frequent.StandsFor eq s h
     pub budget : frequent.KeepsTailBudget eq s h
 
-  -- the sketch is one that may be
+  -- the sketch is valid
   abbrev pub IsSketch : Sketch T → Type 0
   IsSketch (Frequent s) = IsState eq s
-  IsSketch (CountI64 s) = IsCountState greatest_signed s
-  IsSketch (CountU64 s) = IsCountState greatest_unsigned s
+  IsSketch (CountI64 s) = IsCountState max_signed s
+  IsSketch (CountU64 s) = IsCountState max_unsigned s
   IsSketch (Bloom s) = IsFilterState s
 
-  -- the sketch is one that may be, and one of this history; of a stranger's no more is known
+  -- the sketch is valid and stands for this history. A sketch from an untrusted image is only known to be valid
   abbrev pub StandsFor : Sketch T → History T → Type 0
   StandsFor (Frequent s) (OfFrequent h) = KeepsPromise s h
-  StandsFor (CountI64 s) (OfCountI64 h) = KeepsCounts greatest_signed s h
-  StandsFor (CountU64 s) (OfCountU64 h) = KeepsCounts greatest_unsigned s h
+  StandsFor (CountI64 s) (OfCountI64 h) = KeepsCounts max_signed s h
+  StandsFor (CountU64 s) (OfCountU64 h) = KeepsCounts max_unsigned s h
   StandsFor (Bloom s) (OfBloom h) = KeepsPositions s h
   StandsFor sketch OfStranger = IsSketch sketch
   StandsFor _ _ = ⊥
 
-  -- whatever the sketch stood for, it now stands for what the command made of it
+  -- for each history that the old sketch stood for, the new one stands for the history after the command
   abbrev pub Carries : (History T → History T) → Sketch T → Sketch T → Type 0
   Carries grown old new = (h : History T) → StandsFor old h → StandsFor new (grown h)
 
-  -- a command was done to a sketch as its own call does it, whatever it stood for was carried on, and a refusal left it
-  -- as it was
+  -- a command acted on a sketch as its own call does. If it was accepted, `grown` extends each history of the sketch; if it was
+  -- rejected, the sketch is unchanged
   pub record Does (DoesOwn : Sketch T → Reply T → Sketch T → Type 0) (grown : History T → History T)
       (old : Sketch T) (reply : Reply T) (new : Sketch T) : Type 0 where
     pub own : DoesOwn old reply new
     pub carries : is_refused reply ≡ false → Carries grown old new
     pub refused : is_refused reply ≡ true → new ≡ old
 
-  -- whatever the two sketches stood for, the first now stands for what the command made of both
+  -- for any histories that the two sketches stood for, the new sketch stands for their combination by the command
   abbrev pub CarriesBoth : (History T → History T → History T) → Sketch T → Sketch T → Sketch T → Type 0
   CarriesBoth joined old other new =
       (g h : History T) → StandsFor old g → StandsFor other h → StandsFor new (joined g h)
 
-  -- the same as `Does` of a command with another sketch
+  -- the same as `Does`, of a command with another sketch
   pub record DoesWith (DoesOwn : Sketch T → Reply T → Sketch T → Type 0) (joined : History T → History T → History T)
       (other old : Sketch T) (reply : Reply T) (new : Sketch T) : Type 0 where
     pub own : DoesOwn old reply new

@@ -9,7 +9,7 @@ pub record SessionState (T : Type 0) : Type 0 where
   pub sketches : List (List ℕ × Sketch T)
   pub images : List (List ℕ × Image)
 
--- each name has the sketch and the image that it had
+-- each name keeps its sketch and its image
 pub record IsUnchanged {T : Type 0} (old new : SessionState T) : Type 0 where
   pub sketches : AreSame old.sketches new.sketches
   pub images : AreSame old.images new.images

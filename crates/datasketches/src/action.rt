@@ -1,4 +1,4 @@
-//! What a session does, a command sorted by it.
+//! Actions of a session.
 use crate::change::Change;
 use crate::command::Command;
 use crate::image_kind::ImageKind;
@@ -6,7 +6,7 @@ use crate::join::Join;
 use crate::shape::Shape;
 use sketch_frequencies::ErrorType;
 
-/// What a session does. Each [`Command`] is one of these, by `From`.
+/// An action of a session. `From` maps each [`Command`] to its action.
 ///
 /// # Examples
 ///
@@ -22,7 +22,7 @@ use sketch_frequencies::ErrorType;
 /// ```
 #[derive(Debug, PartialEq, Eq, Drop)]
 pub enum Action<T> {
-    /// Makes a sketch of the shape.
+    /// Creates a sketch of the shape.
     Create {
         name: String,
         shape: Shape,
@@ -32,43 +32,43 @@ pub enum Action<T> {
         name: String,
         change: Change<T>,
     },
-    /// Joins a sketch to another one.
+    /// Combines the sketch `other` into the sketch `into`.
     Join {
         into: String,
         other: String,
         join: Join,
     },
-    /// Keeps the image of a sketch under a name of its own.
+    /// Saves an image of a sketch under the name `image`.
     Save {
         name: String,
         image: String,
     },
-    /// Makes a sketch from an image.
+    /// Creates a sketch from a saved image.
     Restore {
         image: String,
         name: String,
     },
-    /// Makes a sketch from the bytes of an image, which may come from anywhere, where it takes at most so many bytes.
+    /// Creates a sketch from the bytes of an untrusted image, if it takes at most `max_bytes`.
     Load {
         name: String,
         kind: ImageKind,
         image: Vec<u8>,
-        most_bytes: usize,
+        max_bytes: usize,
     },
-    /// Asks for the bytes of an image.
+    /// Returns the bytes of a saved image.
     ShowImage {
         image: String,
     },
-    /// Asks for an item's estimate and bounds, or whether a filter contains it.
+    /// Returns an item's estimate and bounds, or whether a filter contains it.
     Ask {
         name: String,
         item: T,
     },
-    /// Asks for a sketch's numbers.
+    /// Returns a sketch's numbers.
     GetStatus {
         name: String,
     },
-    /// Asks for the frequent items above a threshold.
+    /// Returns the frequent items above a threshold.
     ListRows {
         name: String,
         error_type: ErrorType,
@@ -76,14 +76,14 @@ pub enum Action<T> {
     },
 }
 
-/// What a command does.
+/// Maps a command to its action.
 impl<T> From<Command<T>> for Action<T> {
     ghost use Rattle.std.specs.Prelude.{◌≡◌};
     ghost use Rattle.datasketches.specs.Actions.{action_of};
 
     ghost from_gives = { λ command action. action ≡ action_of command };
 
-    // where the command is known, nothing is left of the others
+    // inlined: where the command is known, only its own case is compiled
     #[inline(always)]
     fn from(command: Command<T>) -> Self {
         match command {
@@ -198,12 +198,12 @@ impl<T> From<Command<T>> for Action<T> {
                 name,
                 kind,
                 image,
-                most_bytes,
+                max_bytes,
             } => Action::Load {
                 name,
                 kind,
                 image,
-                most_bytes,
+                max_bytes,
             },
             Command::ShowImage { image } => Action::ShowImage { image },
             Command::Ask { name, item } => Action::Ask { name, item },

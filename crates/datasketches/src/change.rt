@@ -1,6 +1,6 @@
-//! What is done to a sketch.
+//! Changes of one sketch.
 
-/// What is done to a sketch. Each kind of sketch knows some of these.
+/// A change of one sketch. Each kind of sketch supports some of these.
 ///
 /// # Examples
 ///
@@ -16,16 +16,16 @@
 /// ```
 #[derive(Debug, PartialEq, Eq, Drop)]
 pub enum Change<T> {
-    /// An item is added with a weight.
+    /// Adds an item with a weight.
     Add { item: T, weight: u64 },
-    /// An item is added with a weight that may be below zero.
+    /// Adds an item with a weight that may be negative.
     AddSigned { item: T, weight: i64 },
-    /// An item is inserted.
+    /// Inserts an item.
     Insert { item: T },
-    /// All is taken out.
+    /// Empties the sketch.
     Reset,
-    /// All weights are halved.
+    /// Halves all weights.
     Halve,
-    /// All weights are scaled by a fraction above 0 and at most 1.
+    /// Multiplies all weights by a fraction above 0 and at most 1.
     Decay { numerator: u64, denominator: u64 },
 }

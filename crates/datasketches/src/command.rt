@@ -1,10 +1,10 @@
-//! What a session does.
+//! Commands of a session.
 ghost use Rattle.std.specs.Prelude.{◌≡◌, None};
 
 use crate::image_kind::ImageKind;
 use sketch_frequencies::ErrorType;
 
-/// A command on named sketches and images. Sketches and images have names of their own.
+/// A command on named sketches and images. Sketches and images have separate names.
 ///
 /// # Examples
 ///
@@ -24,120 +24,120 @@ use sketch_frequencies::ErrorType;
 /// ```
 #[derive(Debug, PartialEq, Eq, Drop)]
 pub enum Command<T> {
-    /// Makes a sketch of frequent items of at most so many slots.
+    /// Creates a frequent items sketch of at most `max_map_size` slots.
     CreateFrequent {
         name: String,
         max_map_size: usize,
     },
-    /// Makes a sketch of frequent items of at most so many slots whose purges sample so many counters.
+    /// Creates a frequent items sketch of at most `max_map_size` slots whose purges sample `sample_size` counters.
     CreateFrequentSampled {
         name: String,
         max_map_size: usize,
         sample_size: usize,
     },
-    /// Makes a Count-Min sketch of weights below zero and above.
+    /// Creates a Count-Min sketch of signed weights.
     CreateCountI64 {
         name: String,
         num_hashes: u8,
         num_buckets: u32,
         seed: u64,
     },
-    /// Makes a Count-Min sketch of weights of zero and above.
+    /// Creates a Count-Min sketch of nonnegative weights.
     CreateCountU64 {
         name: String,
         num_hashes: u8,
         num_buckets: u32,
         seed: u64,
     },
-    /// Makes a Bloom filter of at least so many bits.
+    /// Creates a Bloom filter of at least `num_bits` bits.
     CreateBloom {
         name: String,
         num_bits: u64,
         num_hashes: u16,
         seed: u64,
     },
-    /// Adds an item with a weight to a sketch of frequent items, or to a Count-Min sketch of weights of zero and above.
+    /// Adds an item with a weight to a frequent items sketch, or to a Count-Min sketch of nonnegative weights.
     Add {
         name: String,
         item: T,
         weight: u64,
     },
-    /// Adds an item with a weight to a Count-Min sketch of weights below zero and above.
+    /// Adds an item with a weight to a Count-Min sketch of signed weights.
     AddSigned {
         name: String,
         item: T,
         weight: i64,
     },
-    /// Inserts an item into a filter.
+    /// Inserts an item into a Bloom filter.
     Insert {
         name: String,
         item: T,
     },
-    /// Adds the weights of one sketch to another of its kind, which is not a filter.
+    /// Adds the weights of `other` to `into`. Both are of the same kind, which is not a filter.
     Merge {
         into: String,
         other: String,
     },
-    /// Adds the positions of one filter to another.
+    /// Adds the positions of the filter `other` to the filter `into`.
     Union {
         into: String,
         other: String,
     },
-    /// Leaves in a filter what is also in the other.
+    /// Keeps in the filter `into` only the positions that are also in the filter `other`.
     Intersect {
         into: String,
         other: String,
     },
-    /// Takes out of a filter what is in the other.
+    /// Removes the positions of the filter `other` from the filter `into`.
     Difference {
         into: String,
         other: String,
     },
-    /// Empties a sketch of frequent items or a filter.
+    /// Empties a frequent items sketch or a filter.
     Reset {
         name: String,
     },
-    /// Halves all weights of a Count-Min sketch of weights of zero and above.
+    /// Halves all weights of a Count-Min sketch of nonnegative weights.
     Halve {
         name: String,
     },
-    /// Scales them by a fraction above 0 and at most 1.
+    /// Multiplies all weights of a Count-Min sketch of nonnegative weights by a fraction above 0 and at most 1.
     Decay {
         name: String,
         numerator: u64,
         denominator: u64,
     },
-    /// Keeps the image of a sketch under a name of its own.
+    /// Saves an image of a sketch under the name `image`.
     Save {
         name: String,
         image: String,
     },
-    /// Makes a sketch from an image.
+    /// Creates a sketch from a saved image.
     Restore {
         image: String,
         name: String,
     },
-    /// Makes a sketch from the bytes of an image, which may come from anywhere, where it takes at most so many bytes.
+    /// Creates a sketch from the bytes of an untrusted image, if it takes at most `max_bytes`.
     Load {
         name: String,
         kind: ImageKind,
         image: Vec<u8>,
-        most_bytes: usize,
+        max_bytes: usize,
     },
-    /// Asks for the bytes of an image.
+    /// Returns the bytes of a saved image.
     ShowImage {
         image: String,
     },
-    /// Asks for an item's estimate and bounds, or whether a filter contains it.
+    /// Returns an item's estimate and bounds, or whether a filter contains it.
     Ask {
         name: String,
         item: T,
     },
-    /// Asks for a sketch's numbers.
+    /// Returns a sketch's numbers.
     GetStatus {
         name: String,
     },
-    /// Asks for the frequent items above a threshold.
+    /// Returns the frequent items above a threshold.
     ListRows {
         name: String,
         error_type: ErrorType,
@@ -145,7 +145,7 @@ pub enum Command<T> {
     },
 }
 
-/// What commands did not keep: a name and an item, whose memory further commands may take.
+/// A name and an item that commands did not keep. Further commands may reuse their memory.
 ///
 /// # Examples
 ///
@@ -160,14 +160,14 @@ pub enum Command<T> {
 /// ```
 #[derive(Drop)]
 pub struct Recycled<T> {
-    /// A name.
+    /// A name, if any.
     pub name: Option<String>,
-    /// An item.
+    /// An item, if any.
     pub item: Option<T>,
 }
 
 impl<T> Recycled<T> {
-    /// Nothing yet.
+    /// Creates a value with no name and no item.
     pub fn new() -> Self
         ensures { result ≡ record { name = None; item = None } }
     {

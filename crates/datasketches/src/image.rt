@@ -1,4 +1,4 @@
-//! Saved sketches.
+//! Images of sketches.
 ghost use Rattle.std.specs.Prelude.{◌≡◌, IfOk, IfErr};
 ghost use Rattle.sketch_base.specs.Errors.{no_memory};
 ghost use Rattle.datasketches.specs.Images.{bytes_of, image_of};
@@ -7,7 +7,7 @@ use crate::image_kind::ImageKind;
 use sketch_base::Error;
 use std::alloc::Global;
 
-/// The image of a sketch of some kind, with the seed under which it is read, where it does not have that itself.
+/// The image of a sketch. For a Count-Min sketch it has the seed for reading, which the bytes do not contain.
 #[derive(Drop)]
 pub enum Image {
     Frequent(Vec<u8>),
@@ -17,7 +17,7 @@ pub enum Image {
 }
 
 impl Image {
-    /// The image of these bytes.
+    /// Creates an image of the kind with these bytes.
     pub fn new(kind: ImageKind, bytes: Vec<u8>) -> Self
         ensures { result ≡ image_of kind bytes }
     {
@@ -29,11 +29,11 @@ impl Image {
         }
     }
 
-    /// A copy of the bytes.
+    /// Returns a copy of the bytes.
     ///
     /// # Errors
     ///
-    /// `NoMemory` where there is no memory for it.
+    /// Returns `NoMemory` if the copy cannot be allocated.
     pub fn copy_bytes(&self, alloc: Global) -> Result<Vec<u8>, Error>
         ensures copy { IfOk result (λ bytes. bytes.items ≡ bytes_of self.now) }
         ensures err { IfErr result (λ e. e ≡ no_memory) }

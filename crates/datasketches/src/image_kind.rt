@@ -1,6 +1,7 @@
-//! What an image is read as.
+//! Kinds of images.
 
-/// What an image is read as: the kind of its sketch, and the seed of a Count-Min sketch, which its image does not say.
+/// The kind of sketch that an image is read as. For a Count-Min sketch it has the seed, which the image does not
+/// contain.
 ///
 /// # Examples
 ///
@@ -12,18 +13,18 @@
 ///         name,
 ///         kind: ImageKind::Bloom,
 ///         image,
-///         most_bytes: 1 << 20,
+///         max_bytes: 1 << 20,
 ///     });
 ///     matches!(told, Reply::Done)
 /// }
 /// ```
 #[derive(Clone, Copy, Debug, PartialEq, Eq)]
 pub enum ImageKind {
-    /// A sketch of frequent items.
+    /// A frequent items sketch.
     Frequent,
-    /// A Count-Min sketch of weights below zero and above.
+    /// A Count-Min sketch of signed weights.
     CountI64 { seed: u64 },
-    /// A Count-Min sketch of weights of zero and above.
+    /// A Count-Min sketch of nonnegative weights.
     CountU64 { seed: u64 },
     /// A Bloom filter.
     Bloom,

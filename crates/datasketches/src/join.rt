@@ -1,6 +1,6 @@
-//! What is done to a sketch with another one.
+//! Merges and set operations on two sketches.
 
-/// What is done to a sketch with another one. Each kind of sketch knows some of these.
+/// A merge or set operation that combines another sketch into one. Each kind of sketch supports some of these.
 ///
 /// # Examples
 ///
@@ -17,12 +17,12 @@
 /// ```
 #[derive(Clone, Copy, Debug, PartialEq, Eq)]
 pub enum Join {
-    /// The other's weights are added.
+    /// Adds the other's weights.
     Merge,
-    /// The other's positions are added.
+    /// Adds the other's positions.
     Union,
-    /// Only what is also in the other stays.
+    /// Keeps only the positions that are also in the other.
     Intersect,
-    /// What is in the other goes.
+    /// Removes the other's positions.
     Difference,
 }

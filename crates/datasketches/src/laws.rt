@@ -1,26 +1,32 @@
-//! What the promise of a session says of each of its sketches. No function here does anything: what it ensures is the
-//! law.
+//! Laws of the sketches of a session. The functions do nothing: their `ensures` clauses are the laws.
 //!
-//! A new session stands for the assignment with no name, and [`run`](crate::Session::run) leaves a session that stands
-//! for what its commands and replies made of the assignment. So the laws hold of each sketch of a session after any
-//! list of commands.
+//! A new session stands for the assignment with no name. [`run`](crate::Session::run) leaves a session that stands for
+//! the assignment as its commands and replies changed it. So the laws hold of each sketch of a session after any list
+//! of commands.
 ghost use Rattle.counter_table.specs.Bytes.{option_bytes};
 ghost use Rattle.datasketches.specs.Clusters.{LoadKeepsShown, StrangersAreSketches, ProcessStandsForHistories, EnclosesAllStreams, KeepsBudgetOfAllStreams, CellsAreSharesOfAllStreams, ContainsWhatAnyContains};
-ghost use Rattle.datasketches.specs.Laws.{FrequentIsState, KeptWithinTotal, HoldsFew, EnclosesWeights, ExactOfFew, WithinTailBudget, SamplesItsOwn, SampleBoundsError, SmallSketchErrsLittle, LargeSketchErrsLittle, FilterIsState, HoldsWhatIsDenoted, EmptyContainsNothing, ContainsWhatIsDenoted, CountIsState, TotalIsWeight, EmptyCountsNothing, LeastCellEncloses, CellsAreShares, LeastCellIsRaisedByOthers, ActionKeepsFit, ActionKeepsTold, StepKeepsFit, StepKeepsTold};
+ghost use Rattle.datasketches.specs.Laws.{FrequentIsState, KeptWithinTotal, HoldsFew, EnclosesWeights, ExactOfFew, WithinTailBudget, SamplesItsOwn, SampleBoundsError, SmallSketchErrsLittle, LargeSketchErrsLittle, FilterIsState, HoldsWhatIsDenoted, EmptyContainsNothing, ContainsWhatIsDenoted, CountIsState, TotalIsWeight, EmptyCountsNothing, MinCellEncloses, CellsAreShares, MinCellIsRaisedByOthers, ActionKeepsFit, ActionKeepsTold, StepKeepsFit, StepKeepsTold};
 
 use sketch_bloom::laws as bloom;
 use sketch_countmin::laws as countmin;
 use sketch_frequencies::{FrequentItemValue, laws as frequencies};
 
-/// A sketch of frequent items is one that the calls of sketches leave, so that its counts and its error together are at
-/// most the total weight. It holds at most three quarters of its greatest size in counters, encloses every true weight
-/// within its error, has no error where few items came, keeps the tail budget, and its purges sample as many counters as
-/// its history says.
+/// States what holds of each frequent items sketch.
 ///
-/// For a sample size L, the least of all that took part, the error is at most 2 / L of the weight of all items. Where
-/// no sample size was chosen, that is, for a greatest size M, the least of all that took part, at most 8 / 3M of it
-/// where M is up to 1024, and at most 1 / 512 of it above.
-pub fn what_frequent_items_say<T: FrequentItemValue>()
+/// - `state`, `within`: it is one that sketch calls can leave, and its counts and its error together are at most the
+///   total weight.
+/// - `few`: it holds at most 3/4 of its greatest size in counters.
+/// - `encloses`: each true weight lies between the item's count and that count plus the error.
+/// - `exact`: the error is 0 if there are few distinct items.
+/// - `budget`: it keeps the tail budget.
+/// - `sample`: its purges sample the number of counters that its history says.
+///
+/// Let L be the least sample size and M the least greatest size of all sketches that took part.
+///
+/// - `sampled`: the error is at most 2 / L of the total weight.
+/// - `small`: it is at most 8 / 3M of the total weight if no sample size was chosen and M is at most 1024.
+/// - `large`: it is at most 1 / 512 of the total weight if no sample size was chosen and M is above 1024.
+pub fn frequent_items_bounds<T: FrequentItemValue>()
     ensures state { FrequentIsState T.eq T.codec T.content }
     ensures within { KeptWithinTotal T.eq T.codec T.content }
     ensures few { HoldsFew T.eq T.codec T.content }
@@ -32,74 +38,84 @@ pub fn what_frequent_items_say<T: FrequentItemValue>()
     ensures small { SmallSketchErrsLittle T.eq T.codec T.content }
     ensures large { LargeSketchErrsLittle T.eq T.codec T.content }
 {
-    frequencies::what_the_error_costs::<T>();
+    frequencies::error_bounds::<T>();
 }
 
-/// A Count-Min sketch is one that the calls of sketches leave, its total is the weight of the history, and where that is
-/// 0, every cell is 0. Each cell is its bucket's share of the history. Where nothing was halved or decayed, an item's
-/// estimate is its own value and the least, over the rows, of that of the other items in its buckets.
-pub fn what_counts_say<T: FrequentItemValue>()
+/// States what holds of each Count-Min sketch.
+///
+/// - `state`: it is one that sketch calls can leave.
+/// - `total`, `empty`: its total is the weight of the history. If that is 0, every cell is 0.
+/// - `cells`: each cell is its bucket's share of the history.
+/// - `raised`: an item's estimate is its own value plus the least, over the rows, of the value of the other items in
+///   its buckets. This holds if nothing was halved or decayed.
+pub fn count_min_bounds<T: FrequentItemValue>()
     ensures state { CountIsState T.eq T.codec T.content }
     ensures total { TotalIsWeight T.eq T.codec T.content }
     ensures empty { EmptyCountsNothing T.eq T.codec T.content }
     ensures cells { CellsAreShares T.eq T.codec T.content }
-    ensures raised { LeastCellIsRaisedByOthers T.eq T.codec T.content }
+    ensures raised { MinCellIsRaisedByOthers T.eq T.codec T.content }
 {
-    countmin::what_the_least_cell_says();
+    countmin::min_cell_bounds();
 }
 
-/// Where no weight was below zero, an item's own value is at most its estimate, and that is at most the total weight of
-/// the history, also after halving and decay.
-pub fn what_counts_of_nonnegative_weights_say<T: FrequentItemValue>()
-    ensures encloses { LeastCellEncloses T.eq T.codec T.content }
+/// States what holds of each Count-Min sketch without negative weights, also after halving and decay.
+///
+/// An item's own value is at most its estimate, which is at most the total weight of the history.
+pub fn count_min_bounds_of_nonnegative_weights<T: FrequentItemValue>()
+    ensures encloses { MinCellEncloses T.eq T.codec T.content }
 {
-    countmin::what_the_least_cell_says();
+    countmin::min_cell_bounds();
 }
 
-/// A filter is one that the calls of filters leave, and its set is the one that its history denotes. It says yes exactly
-/// where that set has all of the item's positions, so of an empty set to nothing.
-pub fn what_filters_say<T: FrequentItemValue>()
+/// States what holds of each Bloom filter.
+///
+/// - `state`, `set`: it is one that filter calls can leave, and its set is the one that its history denotes.
+/// - `denoted`, `empty`: it contains an item exactly if that set has all of the item's positions. A filter of the empty
+///   set contains nothing.
+pub fn bloom_filter_membership<T: FrequentItemValue>()
     ensures state { FilterIsState T.eq T.codec T.content }
     ensures set { HoldsWhatIsDenoted T.eq T.codec T.content }
     ensures empty { EmptyContainsNothing T.eq T.codec T.content }
     ensures denoted { ContainsWhatIsDenoted T.eq T.codec T.content }
 {
-    bloom::what_is_contained();
+    bloom::membership();
 }
 
-/// After an action, a session stands for what it stood for before, as the action and its reply changed it.
+/// States that after an action a session stands for its earlier assignment, as the action and its reply changed it.
 ///
-/// The lines of a program are such actions, so its sessions keep the promise too. A command is one of them by `From`.
-pub fn what_a_step_keeps<T: FrequentItemValue>()
+/// The lines of the program are such actions, so the law holds of its sessions too. `From` maps a command to its
+/// action.
+pub fn steps_keep_histories<T: FrequentItemValue>()
     ensures action { ActionKeepsFit (option_bytes T.row) T.eq T.hash_input T.codec T.content }
     ensures command { StepKeepsFit (option_bytes T.row) T.eq T.hash_input T.codec T.content }
 {}
 
-/// What loads bring, by actions and by commands.
+/// States what holds of loaded sketches, by actions (`action`) and by commands (`told`).
 ///
-/// Bytes that are loaded, from wherever they came, bring a sketch that stands for whatever history they are truly said to
-/// be of. What one session shows of an image, another that loads these bytes under the image's kind stands for. Of an
-/// untrusted image no history is known. If it loads, it is a valid sketch, whose counts and error together are at most
-/// its total, and every later call keeps that.
-pub fn what_loads_bring<T: FrequentItemValue>()
+/// A sketch that is loaded from bytes of any origin stands for each history that the bytes are truly of. If the bytes
+/// are another session's image, loaded under the image's kind, the sketch stands for the image's history (`shown`).
+///
+/// The history of an untrusted image is not known (`strangers`). If it loads, it is a valid sketch, whose counts and
+/// error together are at most its total. Every later call keeps that.
+pub fn loads_keep_histories<T: FrequentItemValue>()
     ensures action { ActionKeepsTold (option_bytes T.row) T.eq T.hash_input T.codec T.content }
     ensures told { StepKeepsTold (option_bytes T.row) T.eq T.hash_input T.codec T.content }
     ensures shown { LoadKeepsShown (option_bytes T.row) T.eq T.hash_input T.codec T.content }
     ensures strangers { StrangersAreSketches T.eq T.codec T.content }
 {}
 
-/// What holds of many sessions, each with a stream of its own, which load what others show, and merge it, in any order
-/// and any tree.
+/// States what holds of many sessions with their own streams, which load and merge one another's images.
 ///
-/// Each session stands for its histories. A sketch has its own stream, and those of all sketches that were merged into
-/// it since its last reset, before or after updates of its own. A stream counts as often as it was merged.
+/// Loads and merges come in any order and any tree. Each session stands for its histories (`fits`). A sketch has its
+/// own stream, and those of all sketches that were merged into it since its last reset. Merges may come before or after
+/// its own updates. A stream counts as often as it was merged.
 ///
 /// - Each true weight, summed over these streams, lies between its bounds.
-/// - The tail budget is that of all streams together, by the least sample size.
+/// - The tail budget is kept for all streams together, with the least sample size.
 /// - Each cell of a Count-Min sketch is its bucket's share of all streams. A halved or decayed sketch is one stream.
-/// - A filter contains what each of its parts contains: what it was before each insertion, and both sides of each union,
-///   since the last intersection, difference or reset.
-pub fn what_a_cluster_keeps<T: FrequentItemValue>()
+/// - A filter contains what each of its parts contains. The parts are the filter before each insertion and both sides
+///   of each union, since the last intersection, difference or reset.
+pub fn clusters_keep_histories<T: FrequentItemValue>()
     ensures fits { ProcessStandsForHistories (option_bytes T.row) T.eq T.hash_input T.codec T.content }
     ensures encloses { EnclosesAllStreams T.eq T.codec T.content }
     ensures budget { KeepsBudgetOfAllStreams T.eq T.codec T.content }

@@ -1,9 +1,10 @@
 //! Small summaries of long streams that can be merged, saved and restored.
 //!
-//! - [`frequencies`] finds the items that weigh most, [`countmin`] counts weights in a table of a fixed size, and
-//!   [`bloom`] knows which items it has seen.
-//! - [`Session`] keeps sketches of these kinds and their images under names, and does [`Command`]s on them.
-//! - [`error`], [`codec`] and [`hash`] have what the sketches share: refusals, cursors over bytes, and hash functions.
+//! - [`frequencies`] finds the most frequent items.
+//! - [`countmin`] counts weights in a table of a fixed size.
+//! - [`bloom`] tests whether an item was seen.
+//! - [`Session`] keeps sketches of these kinds and their images under names, and runs [`Command`]s on them.
+//! - [`error`], [`codec`] and [`hash`] have what the sketches share: errors, cursors over bytes, and hash functions.
 #![tactic(auto)]
 
 mod action;
@@ -45,7 +46,7 @@ pub mod countmin {
     };
 }
 
-/// Sketches of the items that weigh most.
+/// Sketches of the most frequent items.
 pub mod frequencies {
     pub use sketch_base::{SketchBytes, SketchSlice};
     pub use sketch_frequencies::{
@@ -55,7 +56,7 @@ pub mod frequencies {
     };
 }
 
-/// Refusals.
+/// Errors.
 pub mod error {
     pub use sketch_base::{Error, ErrorKind, Fault};
 }

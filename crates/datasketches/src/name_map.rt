@@ -1,10 +1,10 @@
-//! Values under names.
+//! Maps from names to values.
 ghost use Rattle.std.specs.Prelude.{◌≡◌, [], None, Some, is_some, string_bytes, MatchOption, OnOk, OnErr, IfErr};
 ghost use Rattle.sketch_base.specs.Errors.{no_memory};
 ghost use Rattle.std.specs.Borrow.{sem};
 ghost use Rattle.std.specs.Option.{option_copied_mut};
 ghost use Rattle.datasketches.specs.Lending.{LendsValue};
-ghost use Rattle.datasketches.specs.Names.{at_name, place_of, Puts, AreSame};
+ghost use Rattle.datasketches.specs.Names.{at_name, index_of, Puts, AreSame};
 
 use sketch_base::Error;
 use std::alloc::Global;
@@ -12,11 +12,11 @@ use std::collections::HashMap;
 use std::fmt;
 use std::marker::Model;
 
-/// Values under names: the values in the order in which they came, and the place of each name's. A name is never given
-/// up, so places stay.
+/// A map from names to values: the values in order of insertion, and the index of each name's value. Names are never
+/// removed, so indices do not change.
 #[derive(Drop)]
 pub struct NameMap<V> {
-    pub(crate) places: HashMap<String, usize>,
+    pub(crate) indices: HashMap<String, usize>,
     pub(crate) values: Vec<V>,
 }
 
@@ -26,88 +26,88 @@ impl<V> Model for NameMap<V> {
     ghost Value = { List (List ℕ × V) };
 
     ghost use Rattle.std.specs.Prelude.{length};
-    ghost use Rattle.datasketches.specs.Names.{listed, ArePlaces};
+    ghost use Rattle.datasketches.specs.Names.{listed, AreIndices};
 
-    ghost view = { λ s. listed s.places.entries s.values.items };
+    ghost view = { λ s. listed s.indices.entries s.values.items };
 
-    ghost invariant = { λ s. ArePlaces s.places.entries (length s.values.items) };
+    ghost invariant = { λ s. AreIndices s.indices.entries (length s.values.items) };
 }
 
-/// Shows the names.
+/// Prints the names.
 impl<V> fmt::Debug for NameMap<V> {
     fn fmt<W: fmt::Write>(&self, f: &mut fmt::Formatter<W>) -> fmt::Result {
-        f.debug_set().entries(self.places.keys()).finish()
+        f.debug_set().entries(self.indices.keys()).finish()
     }
 }
 
 impl<V: Drop> NameMap<V> {
-    /// No name yet.
+    /// Creates an empty map.
     pub fn new(alloc: Global) -> Self
         ensures { result ≡ [] }
     {
         NameMap {
-            places: HashMap::new(alloc),
+            indices: HashMap::new(alloc),
             values: Vec::new(alloc),
         }
     }
 
-    /// The value of the name, if there is one.
+    /// Returns the name's value, if any.
     pub fn get(&self, name: &str) -> Option<&V>
         ensures { MatchOption result
             (at_name name.now self.now ≡ None)
             (λ value. at_name name.now self.now ≡ Some value.now) }
     {
-        match place_of(&self.places, name) {
+        match index_of(&self.indices, name) {
             None => None,
-            Some(place) => Some(&self.values[place]),
+            Some(index) => Some(&self.values[index]),
         }
     }
 
-    /// Whether the name has a value.
+    /// Returns whether the name has a value.
     pub fn contains_name(&self, name: &str) -> bool
         ensures { result ≡ is_some (at_name name.now self.now) }
     {
         self.get(name).is_some()
     }
 
-    /// The value of the name for writing, if there is one.
+    /// Returns a mutable reference to the name's value, if any.
     #[inline(always)]
     pub fn get_mut(&mut self, name: &str) -> Option<&mut V>
         ensures* writes_back { sem 𝓛 (LendsValue V.row self.entry name.now result) }
         ensures value { option_copied_mut result ≡ at_name name.now self.old }
     {
-        match place_of(&self.places, name) {
+        match index_of(&self.indices, name) {
             None => None,
-            Some(place) => Some(&mut self.values[place]),
+            Some(index) => Some(&mut self.values[index]),
         }
     }
 
-    /// Puts a value under a name that has none.
+    /// Inserts a value under a name that has none.
     ///
     /// # Errors
     ///
-    /// `NoMemory` where there is no memory for it. Each name then has what it had.
+    /// Returns `NoMemory` if the entry cannot be allocated. Each name then has the same value as before.
     pub fn insert(&mut self, name: String, value: V) -> Result<(), Error>
         requires free { at_name (string_bytes name) self.old ≡ None }
         ensures put { OnOk result (Puts (string_bytes name) value self.old self.new) }
         ensures same { OnErr result (AreSame self.old self.new) }
         ensures err { IfErr result (λ e. e ≡ no_memory) }
     {
-        let place = self.values.len();
+        let index = self.values.len();
         self.values.push(value)?;
-        match self.places.insert(name, place) {
+        match self.indices.insert(name, index) {
             Ok(_) => Ok(()),
             Err(e) => {
-                self.values.truncate(place);
+                self.values.truncate(index);
                 Err(Error::from(e))
             }
         }
     }
 }
 
-/// The place of the name, if it has one.
-pub(crate) fn place_of(places: &HashMap<String, usize>, name: &str) -> Option<usize>
-    ensures { result ≡ place_of name.now places.now.entries }
+/// Returns the index of the name's value, if any.
+pub(crate) fn index_of(indices: &HashMap<String, usize>, name: &str) -> Option<usize>
+    ensures { result ≡ index_of name.now indices.now.entries }
 {
-    places.get(name).copied()
+    indices.get(name).copied()
 }

@@ -1,18 +1,22 @@
-//! Sketches under names: how one is changed, and how one is joined with another.
+//! Named sketches: changes of one, and merges and set operations on two.
 ghost use Rattle.std.specs.Prelude.{◌≢◌, ◌<◌, length, IsTrue};
-ghost use Rattle.datasketches.specs.Places.{JoinsAt};
+ghost use Rattle.datasketches.specs.Indices.{JoinsAt};
 ghost use Rattle.datasketches.specs.Replies.{done_or};
 ghost use Rattle.datasketches.specs.Steps.{ChangesNamed, JoinsNamed};
 
 use crate::change::Change;
 use crate::join::Join;
-use crate::name_map::{NameMap, place_of};
+use crate::name_map::{NameMap, index_of};
 use crate::reply::Refusal;
 use crate::sketch::Sketch;
 use std::hash::Hash;
 
 impl<T: Eq + Hash + Drop> NameMap<Sketch<T>> {
-    /// Changes the sketch of the name. An item that it does not keep may come into `recycled`.
+    /// Changes the named sketch. An item that it does not keep may be moved into `recycled`.
+    ///
+    /// # Errors
+    ///
+    /// Returns `NoSuchName` if no sketch has the name, and the errors of [`Sketch::change`].
     #[inline(always)]
     pub fn change(
         &mut self,
@@ -30,25 +34,30 @@ impl<T: Eq + Hash + Drop> NameMap<Sketch<T>> {
 }
 
 impl<T: Eq + Hash + Clone + Drop> NameMap<Sketch<T>> {
-    /// Joins the sketch of one name with that of another.
+    /// Combines the sketch named `other` into the one named `into`.
+    ///
+    /// # Errors
+    ///
+    /// Returns `NoSuchName` if a name has no sketch, `SameName` if both names are the same, and the errors of
+    /// [`Sketch::join`].
     pub fn join(&mut self, into: &str, other: &str, join: Join) -> Result<(), Refusal>
         requires clones { (x y : T) → T.is_clone x y → IsTrue (T.eq x y) }
         ensures { JoinsNamed T.eq join into.now other.now self.old (done_or result) self.new }
     {
-        let Some(place) = place_of(&self.places, into) else {
+        let Some(index) = index_of(&self.indices, into) else {
             return Err(Refusal::NoSuchName);
         };
-        let Some(from) = place_of(&self.places, other) else {
+        let Some(from) = index_of(&self.indices, other) else {
             return Err(Refusal::NoSuchName);
         };
-        if place == from {
+        if index == from {
             return Err(Refusal::SameName);
         }
-        join_at(&mut self.values, place, from, join)
+        join_at(&mut self.values, index, from, join)
     }
 }
 
-/// Joins the sketch at one place with that at another.
+/// Combines the sketch at index `other` into the one at index `into`.
 fn join_at<T: Eq + Hash + Clone + Drop>(
     sketches: &mut [Sketch<T>],
     into: usize,

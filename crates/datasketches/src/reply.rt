@@ -1,4 +1,4 @@
-//! What a session answers.
+//! Replies of a session.
 ghost use Rattle.std.specs.Prelude.{◌≡◌};
 ghost use Rattle.datasketches.specs.Refusals.{refusal_text, refusal_name};
 
@@ -6,7 +6,7 @@ use sketch_base::Error;
 use sketch_frequencies::Row;
 use std::fmt;
 
-/// The answer to a command.
+/// The reply to a command.
 ///
 /// # Examples
 ///
@@ -34,7 +34,7 @@ use std::fmt;
 /// ```
 #[derive(Debug, PartialEq, Eq, Drop)]
 pub enum Reply<T> {
-    /// It was done.
+    /// The command was done.
     Done,
     /// An item's estimate and bounds.
     Bounds {
@@ -44,24 +44,24 @@ pub enum Reply<T> {
     },
     /// Whether a filter contains an item.
     Contains(bool),
-    /// A sketch's numbers.
+    /// The numbers of a sketch.
     Status(Status),
     /// The frequent items above a threshold, descending by estimate.
     Rows(Vec<Row<T>>),
     /// The bytes of an image.
     Image(Vec<u8>),
-    /// It was refused, and nothing changed.
+    /// The command was rejected, and nothing changed.
     Refused(Refusal),
 }
 
-/// A sketch's numbers.
+/// The numbers of a sketch.
 ///
 /// # Examples
 ///
 /// ```
 /// use datasketches::Status;
 ///
-/// fn most_slots(status: Status) -> Option<usize> {
+/// fn max_slots(status: Status) -> Option<usize> {
 ///     match status {
 ///         Status::Frequent { max, .. } => Some(max),
 ///         _ => None,
@@ -70,8 +70,8 @@ pub enum Reply<T> {
 /// ```
 #[derive(Clone, Copy, Debug, PartialEq, Eq)]
 pub enum Status {
-    /// Those of a sketch of frequent items: counters, error, total weight, slots now and at most, and how many counters
-    /// fit into the slots that there are now.
+    /// A frequent items sketch: counters, error, total weight, slots now and at most, and the number of counters that
+    /// fit into the slots now.
     Frequent {
         active: usize,
         error: u64,
@@ -80,21 +80,21 @@ pub enum Status {
         max: usize,
         capacity: usize,
     },
-    /// Those of a Count-Min sketch of weights below zero and above.
+    /// A Count-Min sketch of signed weights: total weight, hashes, buckets and seed.
     CountI64 {
         total: i64,
         hashes: u8,
         buckets: u32,
         seed: u64,
     },
-    /// Those of a Count-Min sketch of weights of zero and above.
+    /// A Count-Min sketch of nonnegative weights: total weight, hashes, buckets and seed.
     CountU64 {
         total: u64,
         hashes: u8,
         buckets: u32,
         seed: u64,
     },
-    /// Those of a filter: set bits, all bits, hashes and the seed.
+    /// A Bloom filter: set bits, all bits, hashes and seed.
     Bloom {
         bits: u64,
         capacity: usize,
@@ -103,7 +103,7 @@ pub enum Status {
     },
 }
 
-/// Why a command was refused.
+/// The reason why a command was rejected.
 ///
 /// # Examples
 ///
@@ -120,32 +120,33 @@ pub enum Refusal {
     NoSuchName,
     /// A sketch, or an image, has the name already.
     NameTaken,
-    /// The sketch is of a kind that does not know the command, or the two are of different kinds.
+    /// The sketch is of a kind that does not support the command, or the two sketches are of different kinds.
     WrongKind,
-    /// A sketch is not joined to itself.
+    /// Both names are the same: a sketch is not combined with itself.
     SameName,
     /// The fraction is not above 0 and at most 1.
     BadFraction,
-    /// The sketch's own call refused.
+    /// The sketch's own call returned this error.
     Call(Error),
 }
 
 impl Refusal {
-    /// The text that names the refusal to a person.
+    /// Returns the message for people.
     pub fn text(self) -> &'static str
         ensures { result.now ≡ refusal_text self }
     {
         self.words().1
     }
 
-    /// The refusal's own name, such as `NoSuchName`. That of a call is its fault's, such as `MapSizeTooSmall`.
+    /// Returns the name of the variant, such as `NoSuchName`. For `Call` returns the name of the fault, such as
+    /// `MapSizeTooSmall`.
     pub fn name(self) -> &'static str
         ensures { result.now ≡ refusal_name self }
     {
         self.words().0
     }
 
-    /// The name and the text.
+    /// Returns the name and the message.
     fn words(self) -> (&'static str, &'static str)
         ensures name { result.0.now ≡ refusal_name self }
         ensures text { result.1.now ≡ refusal_text self }
@@ -161,7 +162,7 @@ impl Refusal {
     }
 }
 
-/// Prints the text of the refusal.
+/// Prints the message.
 impl fmt::Display for Refusal {
     ghost use Rattle.std.specs.Prelude.{Some};
     ghost use Rattle.datasketches.specs.Refusals.{refusal_text};
@@ -175,7 +176,7 @@ impl fmt::Display for Refusal {
 
 impl std::error::Error for Refusal {}
 
-/// A call's refusal is the command's.
+/// Wraps the error of a call in `Call`.
 impl From<Error> for Refusal {
     ghost use Rattle.std.specs.Prelude.{◌≡◌};
     ghost use Rattle.datasketches.specs.declared.reply.Refusal.TheVariants.{Call};

@@ -1,4 +1,4 @@
-//! Named sketches and images.
+//! Sessions: named sketches and images.
 ghost use Rattle.std.specs.Prelude.{◌≡◌, List, [], true, None, Some, IfOk, IfErr, OnErr, IsTrue, string_bytes};
 ghost use Rattle.sketch_base.specs.Errors.{no_memory};
 ghost use Rattle.counter_table.specs.Bytes.{option_bytes};
@@ -27,10 +27,10 @@ use std::fmt;
 use std::hash::Hash;
 use std::marker::Model;
 
-/// Sketches of four kinds and saved images of them, each under a name of its own.
+/// Sketches of four kinds and saved images of them, each under its own name.
 ///
-/// What a sketch promises of its own stream, a session promises of any list of commands: whatever histories its names
-/// had, after a run each sketch stands for the history that the accepted commands made.
+/// Running commands preserves an invariant, whatever histories the names had before: each sketch stands for the history
+/// of its accepted commands.
 ///
 /// # Examples
 ///
@@ -76,7 +76,7 @@ impl<T: Eq + Hash + Drop> Model for Session<T> {
     ghost view = { λ s. record { sketches = s.sketches; images = s.images } };
 }
 
-/// Shows the names.
+/// Prints the names.
 impl<T: Eq + Hash + Drop> fmt::Debug for Session<T> {
     fn fmt<W: fmt::Write>(&self, f: &mut fmt::Formatter<W>) -> fmt::Result {
         f.debug_struct("Session")
@@ -87,7 +87,7 @@ impl<T: Eq + Hash + Drop> fmt::Debug for Session<T> {
 }
 
 impl<T: FrequentItemValue + Clone + Drop> Session<T> {
-    /// A session of no name. It takes no memory.
+    /// Creates a session with no names. Does not allocate.
     pub fn new(alloc: Global) -> Self
         ensures empty { result ≡ record { sketches = []; images = [] } }
         ensures fits { SessionStandsFor T.eq T.codec T.content result nothing_named }
@@ -99,10 +99,10 @@ impl<T: FrequentItemValue + Clone + Drop> Session<T> {
         }
     }
 
-    /// Does one command.
+    /// Runs one command.
     ///
-    /// It does to the sketch or image that it makes or names what the sketch's own call does, and nothing to any other.
-    /// A refused command changes nothing.
+    /// It does to the sketch or image that it creates or names what the sketch's own call does. All others are
+    /// unchanged. A rejected command changes nothing.
     pub fn apply(&mut self, command: Command<T>) -> Reply<T>
         requires clones { (x y : T) → T.is_clone x y → IsTrue (T.eq x y) }
         ensures step { Step (option_bytes T.row) T.eq T.hash_input T.codec T.content self.old command result self.new }
@@ -117,9 +117,9 @@ impl<T: FrequentItemValue + Clone + Drop> Session<T> {
         self.apply_recycling(command, &mut recycled)
     }
 
-    /// Does one command as [`Session::apply`] does, and leaves in `recycled` the names and items that it does not keep.
+    /// Runs one command as [`Session::apply`] does, and moves names and items that it does not keep into `recycled`.
     ///
-    /// So a caller of many commands can use the memory of one for the next. What `recycled` holds is left open.
+    /// So a caller of many commands can reuse the memory of one for the next. No clause says what `recycled` holds.
     #[inline(always)]
     pub fn apply_recycling(&mut self, command: Command<T>, recycled: &mut Recycled<T>) -> Reply<T>
         requires clones { (x y : T) → T.is_clone x y → IsTrue (T.eq x y) }
@@ -134,7 +134,7 @@ impl<T: FrequentItemValue + Clone + Drop> Session<T> {
         self.perform_recycling(Action::from(command), recycled)
     }
 
-    /// Does one action. [`Session::apply`] does the action of its command.
+    /// Runs one action. [`Session::apply`] runs the action of its command.
     pub fn perform(&mut self, action: Action<T>) -> Reply<T>
         requires clones { (x y : T) → T.is_clone x y → IsTrue (T.eq x y) }
         ensures step { Performs (option_bytes T.row) T.eq T.hash_input T.codec T.content self.old action result self.new }
@@ -149,7 +149,7 @@ impl<T: FrequentItemValue + Clone + Drop> Session<T> {
         self.perform_recycling(action, &mut recycled)
     }
 
-    /// Does one action as [`Session::perform`] does, and leaves in `recycled` the names and items that it does not keep.
+    /// Runs one action as [`Session::perform`] does, and moves names and items that it does not keep into `recycled`.
     #[inline(always)]
     pub fn perform_recycling(&mut self, action: Action<T>, recycled: &mut Recycled<T>) -> Reply<T>
         requires clones { (x y : T) → T.is_clone x y → IsTrue (T.eq x y) }
@@ -167,11 +167,11 @@ impl<T: FrequentItemValue + Clone + Drop> Session<T> {
         }
     }
 
-    /// Does all the commands, one after another, and gives their replies in this order.
+    /// Runs all commands, one after another, and returns their replies in this order.
     ///
     /// # Errors
     ///
-    /// `NoMemory` where there is no memory for the replies. No command is done then.
+    /// Returns `NoMemory` if the replies cannot be allocated. No command is then run.
     pub fn run(&mut self, commands: Vec<Command<T>>) -> Result<Vec<Reply<T>>, Error>
         requires clones { (x y : T) → T.is_clone x y → IsTrue (T.eq x y) }
         ensures run { IfOk result (λ replies. Run (option_bytes T.row) T.eq T.hash_input T.codec T.content self.old commands.items replies.items self.new) }
@@ -191,7 +191,7 @@ impl<T: FrequentItemValue + Clone + Drop> Session<T> {
         Ok(replies)
     }
 
-    // where the action is known, nothing is left of the others
+    // inlined: where the action is known, only its own case is compiled
     #[inline(always)]
     fn answer(&mut self, action: Action<T>, recycled: &mut Recycled<T>) -> Result<Reply<T>, Refusal>
         requires clones { (x y : T) → T.is_clone x y → IsTrue (T.eq x y) }
@@ -211,8 +211,8 @@ impl<T: FrequentItemValue + Clone + Drop> Session<T> {
                 name,
                 kind,
                 image,
-                most_bytes,
-            } => self.load(name, &Image::new(kind, image), most_bytes),
+                max_bytes,
+            } => self.load(name, &Image::new(kind, image), max_bytes),
             Action::ShowImage { image } => self.show_image(image.as_str()),
             Action::Ask { name, item } => {
                 let told = self.ask(name.as_str(), &item);
@@ -291,14 +291,14 @@ impl<T: FrequentItemValue + Clone + Drop> Session<T> {
         &mut self,
         new_name: String,
         image: &Image,
-        most_bytes: usize,
+        max_bytes: usize,
     ) -> Result<Reply<T>, Refusal>
-        ensures { Loads (option_bytes T.row) T.eq T.codec T.content image.now most_bytes (string_bytes new_name) self.old (told result) self.new }
+        ensures { Loads (option_bytes T.row) T.eq T.codec T.content image.now max_bytes (string_bytes new_name) self.old (told result) self.new }
     {
         if self.sketches.contains_name(new_name.as_str()) {
             return Err(Refusal::NameTaken);
         }
-        let sketch = Sketch::load(self.alloc, image, most_bytes)?;
+        let sketch = Sketch::load(self.alloc, image, max_bytes)?;
         self.sketches.insert(new_name, sketch)?;
         Ok(Reply::Done)
     }
@@ -328,7 +328,7 @@ impl<T: FrequentItemValue + Clone + Drop> Session<T> {
         self.sketch(name)?.rows(error_type, threshold)
     }
 
-    /// The sketch of the name.
+    /// Returns the sketch of the name. Returns `NoSuchName` if there is none.
     fn sketch(&self, name: &str) -> Result<&Sketch<T>, Refusal>
         ensures found { IfOk result (λ sketch. at_name name.now self.now.sketches ≡ Some sketch.now) }
         ensures err { IfErr result (λ e. e ≡ Refusal.NoSuchName) }
@@ -340,7 +340,7 @@ impl<T: FrequentItemValue + Clone + Drop> Session<T> {
         }
     }
 
-    /// The image of the name.
+    /// Returns the image of the name. Returns `NoSuchName` if there is none.
     fn image(&self, name: &str) -> Result<&Image, Refusal>
         ensures found { IfOk result (λ image. at_name name.now self.now.images ≡ Some image.now) }
         ensures err { IfErr result (λ e. e ≡ Refusal.NoSuchName) }

@@ -1,6 +1,6 @@
-//! What a sketch is made by.
+//! Shapes of sketches.
 
-/// What a sketch is made by: its kind and its numbers.
+/// The kind of a new sketch and its parameters.
 ///
 /// # Examples
 ///
@@ -16,28 +16,28 @@
 /// ```
 #[derive(Clone, Copy, Debug, PartialEq, Eq)]
 pub enum Shape {
-    /// A sketch of frequent items of at most so many slots.
+    /// A frequent items sketch of at most `max_map_size` slots.
     Frequent {
         max_map_size: usize,
     },
-    /// A sketch of frequent items of at most so many slots whose purges sample so many counters.
+    /// A frequent items sketch of at most `max_map_size` slots whose purges sample `sample_size` counters.
     FrequentSampled {
         max_map_size: usize,
         sample_size: usize,
     },
-    /// A Count-Min sketch of weights below zero and above.
+    /// A Count-Min sketch of signed weights.
     CountI64 {
         num_hashes: u8,
         num_buckets: u32,
         seed: u64,
     },
-    /// A Count-Min sketch of weights of zero and above.
+    /// A Count-Min sketch of nonnegative weights.
     CountU64 {
         num_hashes: u8,
         num_buckets: u32,
         seed: u64,
     },
-    /// A Bloom filter of at least so many bits.
+    /// A Bloom filter of at least `num_bits` bits.
     Bloom {
         num_bits: u64,
         num_hashes: u16,

@@ -1,4 +1,4 @@
-//! A sketch of one of four kinds, and what each kind does on a command.
+//! Sketches of four kinds, and what each kind does for a command.
 ghost use Rattle.std.specs.Prelude.{◌≡◌, ◌≢◌, None, IfOk, IfErr, IsOk, OnOk, OnErr, IsTrue, pos};
 ghost use Rattle.sketch_base.specs.Errors.{refusal_of};
 ghost use Rattle.counter_table.specs.Bytes.{option_bytes};
@@ -23,7 +23,7 @@ use sketch_frequencies::{ErrorType, FrequentItemValue, FrequentItemsSketch, laws
 use std::alloc::Global;
 use std::hash::Hash;
 
-/// A sketch of some kind.
+/// A sketch of one of four kinds.
 #[derive(Drop)]
 pub enum Sketch<T: Eq + Hash + Drop> {
     Frequent(FrequentItemsSketch<T>),
@@ -32,7 +32,7 @@ pub enum Sketch<T: Eq + Hash + Drop> {
     Bloom(BloomFilter),
 }
 
-// a sketch of the kind, or the error for which there is none
+// wraps a sketch in its kind, or passes on the error
 macro_rules! of_kind {
     ($kind:ident, $made:expr) => {
         match $made {
@@ -43,7 +43,11 @@ macro_rules! of_kind {
 }
 
 impl<T: Eq + Hash + Drop> Sketch<T> {
-    /// An empty sketch of the shape.
+    /// Creates an empty sketch of the shape.
+    ///
+    /// # Errors
+    ///
+    /// Returns the error of the kind's own constructor.
     pub fn new(alloc: Global, shape: Shape) -> Result<Self, Error>
         ensures ok { IfOk result (λ sketch. sketch ≡ empty_sketch shape) }
         ensures stands { IfOk result (λ sketch. StandsFor T.eq sketch (begun shape)) }
@@ -90,7 +94,13 @@ impl<T: Eq + Hash + Drop> Sketch<T> {
         }
     }
 
-    /// Does the change, where the sketch is of a kind that knows it. An item that it does not keep may come into `recycled`.
+    /// Makes the change, if the sketch's kind supports it. An item that it does not keep may be moved into `recycled`.
+    ///
+    /// # Errors
+    ///
+    /// Returns `WrongKind` if the kind does not support the change. Returns `BadFraction` if the fraction of a decay is
+    /// not above 0 and at most 1. Returns the error of the sketch's own call if that fails. The sketch is then
+    /// unchanged.
     #[inline(always)]
     pub fn change(&mut self, change: Change<T>, recycled: &mut Option<T>) -> Result<(), Refusal>
         ensures own { Changes T.eq T.hash_input change self.old (done_or result) self.new }
@@ -205,7 +215,7 @@ impl<T: Eq + Hash + Drop> Sketch<T> {
         }
     }
 
-    /// Joins a filter to this one, where both are filters.
+    /// Combines another filter into this one, if both are filters.
     fn combine(&mut self, join: Join, other: &Sketch<T>) -> Result<(), Refusal>
         requires { join ≢ Join.Merge }
         ensures own { Joins T.eq join other.now self.old (done_or result) self.new }
@@ -226,7 +236,7 @@ impl<T: Eq + Hash + Drop> Sketch<T> {
         }
     }
 
-    /// An item's estimate and bounds, or whether it is contained.
+    /// Returns an item's estimate and bounds, or whether a filter contains it.
     pub fn ask(&self, item: &T) -> Reply<T>
         ensures { Tells T.eq T.hash_input item.now self.now result }
     {
@@ -250,7 +260,7 @@ impl<T: Eq + Hash + Drop> Sketch<T> {
         }
     }
 
-    /// The sketch's numbers.
+    /// Returns the sketch's numbers.
     pub fn status(&self) -> Status
         ensures { result ≡ status_of self.now }
     {
@@ -286,11 +296,12 @@ impl<T: Eq + Hash + Drop> Sketch<T> {
 }
 
 impl<T: FrequentItemValue + Drop> Sketch<T> {
-    /// The sketch's image.
+    /// Returns the sketch's image.
     ///
     /// # Errors
     ///
-    /// A tracked item's own fault, where it cannot be written, and `NoMemory` where there is no memory for the image.
+    /// Returns a tracked item's own fault if the item cannot be written, and `NoMemory` if the image cannot be
+    /// allocated.
     pub fn save(&self) -> Result<Image, Error>
         ensures written { IfOk result (IsWrittenBy T.codec T.content self.now) }
         ensures refused { IfErr result (IsWriteRefusal T.codec T.content self.now) }
@@ -309,11 +320,11 @@ impl<T: FrequentItemValue + Drop> Sketch<T> {
         }
     }
 
-    /// The sketch of an image.
+    /// Returns the sketch of an image.
     ///
     /// # Errors
     ///
-    /// The image's first fault, and `NoMemory` where there is no memory for the sketch.
+    /// Returns the image's first fault if it has one, and `NoMemory` if the sketch cannot be allocated.
     pub fn restore(alloc: Global, image: &Image) -> Result<Self, Error>
         ensures read { IfOk result (IsReadFrom T.codec T.content image.now) }
         ensures stands { IfOk result (GivesBack T.eq T.codec T.content image.now) }
@@ -321,74 +332,74 @@ impl<T: FrequentItemValue + Drop> Sketch<T> {
     {
         match image {
             Image::Frequent(bytes) => {
-                frequencies::what_images_say::<T>();
+                frequencies::image_laws::<T>();
                 of_kind!(Frequent, FrequentItemsSketch::deserialize(alloc, bytes))
             }
             Image::CountI64 { seed, bytes } => {
-                countmin::what_images_say::<i64>();
+                countmin::image_laws::<i64>();
                 of_kind!(
                     CountI64,
                     CountMinSketch::deserialize_with_seed(alloc, bytes, *seed)
                 )
             }
             Image::CountU64 { seed, bytes } => {
-                countmin::what_images_say::<u64>();
+                countmin::image_laws::<u64>();
                 of_kind!(
                     CountU64,
                     CountMinSketch::deserialize_with_seed(alloc, bytes, *seed)
                 )
             }
             Image::Bloom(bytes) => {
-                bloom::what_images_say();
+                bloom::image_laws();
                 of_kind!(Bloom, BloomFilter::deserialize(alloc, bytes))
             }
         }
     }
 
-    /// Returns the sketch of an image that may come from anywhere, if it takes at most `most_bytes`.
+    /// Returns the sketch of an untrusted image, if it takes at most `max_bytes`.
     ///
     /// For frequent items the limit counts what
-    /// [`deserialize_with_limit`](sketch_frequencies::FrequentItemsSketch::deserialize_with_limit) counts: the table, and of
-    /// items that own memory the bytes after the weights.
+    /// [`deserialize_with_limit`](sketch_frequencies::FrequentItemsSketch::deserialize_with_limit) counts: the table,
+    /// and for items that own memory also the bytes after the weights.
     ///
     /// # Errors
     ///
-    /// The image's first fault, `TableTooLarge` if the limit is exceeded, and `NoMemory` if there is no memory for the
-    /// sketch.
-    pub fn load(alloc: Global, image: &Image, most_bytes: usize) -> Result<Self, Error>
+    /// Returns the image's first fault if it has one, `TableTooLarge` if the limit is exceeded, and `NoMemory` if the
+    /// sketch cannot be allocated.
+    pub fn load(alloc: Global, image: &Image, max_bytes: usize) -> Result<Self, Error>
         ensures read { IfOk result (IsReadFrom T.codec T.content image.now) }
         ensures stands { IfOk result (GivesBack T.eq T.codec T.content image.now) }
-        ensures within { IfOk result (TakesWithin (option_bytes T.row) T.codec T.content most_bytes) }
-        ensures accepted { IsOk result → load_fault (option_bytes T.row) T.codec most_bytes image.now ≡ None }
-        ensures refused { IfErr result (IsLoadRefusal (option_bytes T.row) T.codec most_bytes image.now) }
+        ensures within { IfOk result (TakesWithin (option_bytes T.row) T.codec T.content max_bytes) }
+        ensures accepted { IsOk result → load_fault (option_bytes T.row) T.codec max_bytes image.now ≡ None }
+        ensures refused { IfErr result (IsLoadRefusal (option_bytes T.row) T.codec max_bytes image.now) }
     {
         match image {
             Image::Frequent(bytes) => {
-                frequencies::what_images_say::<T>();
+                frequencies::image_laws::<T>();
                 of_kind!(
                     Frequent,
-                    FrequentItemsSketch::deserialize_with_limit(alloc, bytes, most_bytes)
+                    FrequentItemsSketch::deserialize_with_limit(alloc, bytes, max_bytes)
                 )
             }
             Image::CountI64 { seed, bytes } => {
-                countmin::what_images_say::<i64>();
+                countmin::image_laws::<i64>();
                 of_kind!(
                     CountI64,
-                    CountMinSketch::deserialize_with_seed_and_limit(alloc, bytes, *seed, most_bytes)
+                    CountMinSketch::deserialize_with_seed_and_limit(alloc, bytes, *seed, max_bytes)
                 )
             }
             Image::CountU64 { seed, bytes } => {
-                countmin::what_images_say::<u64>();
+                countmin::image_laws::<u64>();
                 of_kind!(
                     CountU64,
-                    CountMinSketch::deserialize_with_seed_and_limit(alloc, bytes, *seed, most_bytes)
+                    CountMinSketch::deserialize_with_seed_and_limit(alloc, bytes, *seed, max_bytes)
                 )
             }
             Image::Bloom(bytes) => {
-                bloom::what_images_say();
+                bloom::image_laws();
                 of_kind!(
                     Bloom,
-                    BloomFilter::deserialize_with_limit(alloc, bytes, most_bytes)
+                    BloomFilter::deserialize_with_limit(alloc, bytes, max_bytes)
                 )
             }
         }
@@ -396,7 +407,12 @@ impl<T: FrequentItemValue + Drop> Sketch<T> {
 }
 
 impl<T: Eq + Hash + Clone + Drop> Sketch<T> {
-    /// Joins another sketch to this one, where both are of a kind that knows it.
+    /// Combines another sketch into this one, if both are of one kind that supports it.
+    ///
+    /// # Errors
+    ///
+    /// Returns `WrongKind` if the kinds differ or do not support it, and the error of the sketch's own call. The sketch
+    /// is then unchanged.
     pub fn join(&mut self, join: Join, other: &Sketch<T>) -> Result<(), Refusal>
         requires clones { (x y : T) → T.is_clone x y → IsTrue (T.eq x y) }
         ensures own { Joins T.eq join other.now self.old (done_or result) self.new }
@@ -432,7 +448,11 @@ impl<T: Eq + Hash + Clone + Drop> Sketch<T> {
         }
     }
 
-    /// The items above a threshold, where the sketch is of frequent items.
+    /// Returns the items above a threshold, if the sketch is of frequent items.
+    ///
+    /// # Errors
+    ///
+    /// Returns `WrongKind` if the sketch is of another kind, and `NoMemory` if the rows or a clone cannot be allocated.
     pub fn rows(&self, error_type: ErrorType, threshold: u64) -> Result<Reply<T>, Refusal>
         requires clones { (x y : T) → T.is_clone x y → IsTrue (T.eq x y) }
         ensures { Lists T.eq error_type threshold self.now (told result) }
@@ -446,7 +466,7 @@ impl<T: Eq + Hash + Clone + Drop> Sketch<T> {
     }
 }
 
-/// An estimate and two bounds.
+/// Returns the reply with an estimate and two bounds.
 fn bounds<T>(estimate: u64, lower: u64, upper: u64) -> Reply<T>
     ensures { result ≡ Reply.Bounds (pos estimate) (pos lower) (pos upper) }
 {
@@ -457,7 +477,7 @@ fn bounds<T>(estimate: u64, lower: u64, upper: u64) -> Reply<T>
     }
 }
 
-/// The same with signs.
+/// Returns the reply with a signed estimate and two signed bounds.
 fn signed_bounds<T>(estimate: i64, lower: i64, upper: i64) -> Reply<T>
     ensures { result ≡ Reply.Bounds estimate lower upper }
 {

@@ -12,7 +12,7 @@ use Rattle.sketch_frequencies.specs.State.{FrequentState, TotalHasRoom}
 use Rattle.datasketches_c.specs.FrequentCalls.{Updates}
 use Rattle.datasketches_c.specs.FrequentTexts.{UpdatesText, text_eq}
 use Rattle.datasketches_c.specs.InTurn.{InTurn}
-use Rattle.datasketches_c.specs.Numbers.{OnDone, OnRefused, ok, refusal_number, greatest_u64}
+use Rattle.datasketches_c.specs.Numbers.{OnDone, OnRefused, ok, refusal_number, max_u64}
 use Rattle.datasketches_c.specs.Weights.{AddsWeights}
 use Rattle.datasketches_c.proofs.InTurnLemmas.{refused_here, calls_done, same_answer}
 use Rattle.datasketches_c.proofs.WeightLemmas.{pair_at, pairs_long}
@@ -48,7 +48,7 @@ on_done_first (negsuc n) A B said = tt
 
 -- one was refused
 pub adds_refused : {T I : Type 0} (call : FrequentState T → I → ℕ → FrequentState T → ℤ → Type 0) (old : FrequentState T) (items : List I) (weights : List ℕ) (i : ℕ) (x d : I)
-    (mid new : FrequentState T) (answer : ℤ) → length weights ≡ length items → i < length items → x ≡ get_or items i d → old.total + sum weights ≤ greatest_u64
+    (mid new : FrequentState T) (answer : ℤ) → length weights ≡ length items → i < length items → x ≡ get_or items i d → old.total + sum weights ≤ max_u64
     → InTurn (λ s (pair : I × ℕ) t. call s pair.0 pair.1 t ok) old (take i (zip items weights)) mid → mag answer < 2147483648
     → OnDone answer (answer ≡ ok) → OnRefused answer (new ≡ mid) → OnRefused answer (answer ≡ refusal_number NoMemory) → of_z w32 answer ≢ 0
     → call mid x (get_or weights i 0) new answer
@@ -66,7 +66,7 @@ adds_refused {T} {I} call old items weights i x d mid new answer same there is f
 
 -- all were added
 pub adds_done : {T I : Type 0} (call : FrequentState T → I → ℕ → FrequentState T → ℤ → Type 0) (old : FrequentState T) (items : List I) (weights : List ℕ) (i : ℕ) (new : FrequentState T)
-    → length weights ≡ length items → length items ≤ i → old.total + sum weights ≤ greatest_u64
+    → length weights ≡ length items → length items ≤ i → old.total + sum weights ≤ max_u64
     → InTurn (λ s (pair : I × ℕ) t. call s pair.0 pair.1 t ok) old (take i (zip items weights)) new → AddsWeights call old items weights new ok
 adds_done {T} {I} call old items weights i new same here fits all =
     let each : FrequentState T → I × ℕ → FrequentState T → ℤ → Type 0 = λ s pair t r. call s pair.0 pair.1 t r in
@@ -79,7 +79,7 @@ adds_done {T} {I} call old items weights i new same here fits all =
 
 -- none was added where the total has no room for all
 pub adds_none : {T I : Type 0} (call : FrequentState T → I → ℕ → FrequentState T → ℤ → Type 0) (old : FrequentState T) (items : List I) (weights : List ℕ) (answer : ℤ) → mag answer < 2147483648
-    → answer ≡ refusal_number WeightOverflow → ¬ (old.total + sum weights ≤ greatest_u64) → AddsWeights call old items weights old (to_z w32 (of_z w32 answer))
+    → answer ≡ refusal_number WeightOverflow → ¬ (old.total + sum weights ≤ max_u64) → AddsWeights call old items weights old (to_z w32 (of_z w32 answer))
 adds_none call old items weights answer small number none = record {
   overflow = λ over. (same_answer answer small ∙ number, refl);
   calls = λ room. absurd (none (omega arith));

@@ -27,12 +27,12 @@ none_before None limit late e h = h
 none_before (Some fault) limit late e h = cc
 
 -- an image that was read within a limit has no fault that comes before memory
-pub no_early_fault : (most_bytes : ℕ) (image : List ℕ) (s : FilterState) → IsImage image s → 8 * s.num_words ≤ most_bytes
-    → early_fault_within most_bytes image ≡ None
-no_early_fault most_bytes image s is within =
-    let in_image : 8 * num_words_at image ≤ most_bytes = subst (λ (n : ℕ). 8 * n ≤ most_bytes) (ap (λ (t : FilterState). t.num_words) is.value) within in
-    none_before (early_fault image) (limit_fault most_bytes image) _ is.no_fault
-    (ap (λ (t : Bool). cond t (Some TableTooLarge) None) (le-ltb most_bytes (8 * num_words_at image) in_image))
+pub no_early_fault : (max_bytes : ℕ) (image : List ℕ) (s : FilterState) → IsImage image s → 8 * s.num_words ≤ max_bytes
+    → early_fault_within max_bytes image ≡ None
+no_early_fault max_bytes image s is within =
+    let in_image : 8 * num_words_at image ≤ max_bytes = subst (λ (n : ℕ). 8 * n ≤ max_bytes) (ap (λ (t : FilterState). t.num_words) is.value) within in
+    none_before (early_fault image) (limit_fault max_bytes image) _ is.no_fault
+    (ap (λ (t : Bool). cond t (Some TableTooLarge) None) (le-ltb max_bytes (8 * num_words_at image) in_image))
 
 -- an image that was made and copied out was written
 pub copied_image : (Spelled : List ℕ → Type 0) (image out new : List ℕ) (written : ℕ) (result : ℤ) → Spelled image → written ≡ length image
@@ -93,13 +93,13 @@ if_done (Ok s) P holds = holds refl
 if_done (Err e) P holds = tt
 
 -- the same of a sketch of frequent items
-pub items_not_read : {T C : Type 0} (item : RattleType) (codec : Codec C) (content : T → C) (most_bytes : ℕ) (image : List ℕ) (read : Result (FrequentState T) ErrorValue) (result : ℤ) (Kept : Type 0)
-    → IfOk read (λ s. frequent.IsImageOf codec content image s) → (IsOk read → frequent.limit_fault item most_bytes codec image ≡ None)
-    → IfErr read (IsImageRefusal (frequent.early_fault_within item most_bytes codec image) (frequent.first_fault_within item most_bytes codec image))
+pub items_not_read : {T C : Type 0} (item : RattleType) (codec : Codec C) (content : T → C) (max_bytes : ℕ) (image : List ℕ) (read : Result (FrequentState T) ErrorValue) (result : ℤ) (Kept : Type 0)
+    → IfOk read (λ s. frequent.IsImageOf codec content image s) → (IsOk read → frequent.limit_fault item max_bytes codec image ≡ None)
+    → IfErr read (IsImageRefusal (frequent.early_fault_within item max_bytes codec image) (frequent.first_fault_within item max_bytes codec image))
     → OnRefused result (Kept × WhyNotRead read result)
-    → OnRefused result (Kept × IsRefusedImage (frequent.early_fault_within item most_bytes codec image) (frequent.first_fault_within item most_bytes codec image) result)
-items_not_read item codec content most_bytes image read result Kept of accepted =
-    let limit = frequent.limit_fault item most_bytes codec image in
-    was_not_read read (λ s. frequent.IsImageOf codec content image s) (λ s. limit ≡ None) (frequent.early_fault_within item most_bytes codec image)
-    (frequent.first_fault_within item most_bytes codec image) result Kept
+    → OnRefused result (Kept × IsRefusedImage (frequent.early_fault_within item max_bytes codec image) (frequent.first_fault_within item max_bytes codec image) result)
+items_not_read item codec content max_bytes image read result Kept of accepted =
+    let limit = frequent.limit_fault item max_bytes codec image in
+    was_not_read read (λ s. frequent.IsImageOf codec content image s) (λ s. limit ≡ None) (frequent.early_fault_within item max_bytes codec image)
+    (frequent.first_fault_within item max_bytes codec image) result Kept
     (λ s is within. none_before (frequent.early_fault image) limit _ is.no_fault within) of (if_done read (limit ≡ None) accepted)

@@ -17,23 +17,23 @@ of_either f true a b n h k = h
 of_either f false a b n h k = k
 
 -- an image of a Count-Min sketch that was read within a limit has no fault that comes before memory
-no_early_fault_of_counts : (least : ℤ) (greatest size most_bytes seed : ℕ) (image : List ℕ) (s : CountState) → counts.IsImage least greatest seed image s
-    → s.hashes * s.buckets * size + 8 * s.hashes ≤ most_bytes → counts.early_fault_within size most_bytes seed image ≡ None
-no_early_fault_of_counts least greatest size most_bytes seed image s is within =
+no_early_fault_of_counts : (least : ℤ) (greatest size max_bytes seed : ℕ) (image : List ℕ) (s : CountState) → counts.IsImage least greatest seed image s
+    → s.hashes * s.buckets * size + 8 * s.hashes ≤ max_bytes → counts.early_fault_within size max_bytes seed image ≡ None
+no_early_fault_of_counts least greatest size max_bytes seed image s is within =
     let size_of : CountState → ℕ = λ t. t.hashes * t.buckets * size + 8 * t.hashes in
     let here : ℕ = counts.num_cells_at image * size + 8 * counts.hashes_at image in
     let same : size_of (counts.value_at least seed image) ≡ here = of_either size_of (counts.says_empty image) _ _ here refl refl in
-    let in_image : here ≤ most_bytes = subst (λ (n : ℕ). n ≤ most_bytes) (ap size_of is.value ∙ same) within in
-    none_before (counts.early_fault seed image) (counts.limit_fault size most_bytes image) _ is.no_fault
-    (ap (λ (t : Bool). cond t (Some TableTooLarge) None) (le-ltb most_bytes here in_image))
+    let in_image : here ≤ max_bytes = subst (λ (n : ℕ). n ≤ max_bytes) (ap size_of is.value ∙ same) within in
+    none_before (counts.early_fault seed image) (counts.limit_fault size max_bytes image) _ is.no_fault
+    (ap (λ (t : Bool). cond t (Some TableTooLarge) None) (le-ltb max_bytes here in_image))
 
 -- a sketch that was to be read was refused for its image, or for memory
-pub counts_not_read : (least : ℤ) (greatest size most_bytes seed : ℕ) (image : List ℕ) (read : Result CountState ErrorValue) (result : ℤ) (Kept : Type 0)
-    → IfOk read (λ s. counts.IsImage least greatest seed image s) → IfOk read (λ s. s.hashes * s.buckets * size + 8 * s.hashes ≤ most_bytes)
-    → IfErr read (IsImageRefusal (counts.early_fault_within size most_bytes seed image) (counts.first_fault_within least greatest size most_bytes seed image))
+pub counts_not_read : (least : ℤ) (greatest size max_bytes seed : ℕ) (image : List ℕ) (read : Result CountState ErrorValue) (result : ℤ) (Kept : Type 0)
+    → IfOk read (λ s. counts.IsImage least greatest seed image s) → IfOk read (λ s. s.hashes * s.buckets * size + 8 * s.hashes ≤ max_bytes)
+    → IfErr read (IsImageRefusal (counts.early_fault_within size max_bytes seed image) (counts.first_fault_within least greatest size max_bytes seed image))
     → OnRefused result (Kept × WhyNotRead read result)
-    → OnRefused result (Kept × IsRefusedImage (counts.early_fault_within size most_bytes seed image) (counts.first_fault_within least greatest size most_bytes seed image) result)
-counts_not_read least greatest size most_bytes seed image read result Kept =
-    was_not_read read (λ s. counts.IsImage least greatest seed image s) (λ s. s.hashes * s.buckets * size + 8 * s.hashes ≤ most_bytes)
-    (counts.early_fault_within size most_bytes seed image) (counts.first_fault_within least greatest size most_bytes seed image) result Kept
-    (no_early_fault_of_counts least greatest size most_bytes seed image)
+    → OnRefused result (Kept × IsRefusedImage (counts.early_fault_within size max_bytes seed image) (counts.first_fault_within least greatest size max_bytes seed image) result)
+counts_not_read least greatest size max_bytes seed image read result Kept =
+    was_not_read read (λ s. counts.IsImage least greatest seed image s) (λ s. s.hashes * s.buckets * size + 8 * s.hashes ≤ max_bytes)
+    (counts.early_fault_within size max_bytes seed image) (counts.first_fault_within least greatest size max_bytes seed image) result Kept
+    (no_early_fault_of_counts least greatest size max_bytes seed image)

@@ -1,4 +1,4 @@
--- What calls do to a Count-Min sketch, and what it then says of its history.
+-- Effects of calls on a Count-Min sketch, and the histories for which it then stands.
 use Rattle.std.specs.Prelude.{ℕ, ℤ, List, [], ◌∷◌}
 use Rattle.std.specs.List.{zip}
 use Rattle.sketch_countmin.specs.History.{CountHistory, all_updated}
@@ -7,28 +7,28 @@ use Rattle.sketch_countmin.specs.Stands.{Extends, ExtendsBoth}
 use Rattle.sketch_countmin.specs.State.{CountState, Counts, CountsAll, Joins}
 use Rattle.datasketches_c.specs.InTurn.{InTurn}
 
--- new is old after a weight was counted for a byte list, and stands for the history with that update
+-- new is old with the weight counted for the byte list, and stands for the history with that update
 pub record Weighs (old : CountState) (bytes : List ℕ) (weight : ℤ) (new : CountState) : Type 0 where
   pub counted : Counts old bytes weight new
   pub stands : Extends old new (λ h. Update h bytes weight)
 
--- new is old after each of these byte lists was counted by 1, and stands for the history with these updates
+-- new is old with each byte list counted with weight 1, and stands for the history with these updates
 pub record WeighsAll (old : CountState) (items : List (List ℕ)) (new : CountState) : Type 0 where
   pub counted : CountsAll old items new
   pub stands : Extends old new (λ h. all_updated h items)
 
 module _ {I W : Type 0} (bytes_of : I → List ℕ) (number : W → ℤ) where
-  -- a history, and then each of these items with its weight
+  -- the history, followed by an update of each item with its weight
   abbrev pub each_updated : CountHistory → List (I × W) → CountHistory
   each_updated h [] = h
   each_updated h (pair ∷ pairs) = each_updated (Update h (bytes_of pair.0) (number pair.1)) pairs
 
-  -- new is old after each weight was counted for its item, in turn, and stands for the history with these updates
+  -- new is old with each weight counted for its item, in turn, and stands for the history with these updates
   pub record WeighsEach (old : CountState) (items : List I) (weights : List W) (new : CountState) : Type 0 where
     pub each : InTurn (λ s (pair : I × W) t. Weighs s (bytes_of pair.0) (number pair.1) t) old (zip items weights) new
     pub stands : Extends old new (λ h. each_updated h (zip items weights))
 
--- new is old with the other's cells and total added, and stands for both histories
+-- new is old with the other's cells and total added, and stands for the merge of both histories
 pub record Merges (old other new : CountState) : Type 0 where
   pub joined : Joins old other new
   pub stands : ExtendsBoth old other new Merge

@@ -1,21 +1,21 @@
--- What estimates say of weights.
+-- Estimates of weights in a Count-Min sketch.
 use Rattle.std.specs.Prelude.{ℕ, ◌<◌, List, [], length, map, slice_index_or, ℤ, pos, ◌-ℤ◌, ◌≤ℤ◌}
 use Rattle.sketch_countmin.specs.History.{CountHistory, IsExact, IsNonnegative, own_value, others_share}
 use Rattle.sketch_countmin.specs.Stands.{StandsFor}
-use Rattle.sketch_countmin.specs.State.{CountState, IsLeast, IsLeastCell}
+use Rattle.sketch_countmin.specs.State.{CountState, IsMin, IsMinCell}
 
--- the number is the sketch's estimate for a byte list
+-- the number is the sketch's estimate for the byte list
 pub record IsEstimate (s : CountState) (bytes : List ℕ) (estimate : ℤ) : Type 0 where
-  pub least : IsLeastCell s bytes estimate
-  -- where no weight was below zero, it is at least the item's own share of the history, and at most the total
+  pub least : IsMinCell s bytes estimate
+  -- if no weight was below 0, it is at least the item's own share of the history, and at most the total
   pub encloses :
       (h : CountHistory) → StandsFor s h → IsNonnegative h → (own_value h bytes ≤ℤ estimate) × (estimate ≤ℤ pos s.total)
-  -- where nothing was halved or decayed, it is above the own share by the least, over the rows, of what other items share
+  -- if nothing was halved or decayed, it is the item's own share plus the minimum, over the rows, of the other items' share
   pub raised :
       (h : CountHistory) → StandsFor s h → IsExact h →
-      IsLeast s.hashes (others_share s.buckets s.seed h bytes) (estimate -ℤ own_value h bytes)
+      IsMin s.hashes (others_share s.buckets s.seed h bytes) (estimate -ℤ own_value h bytes)
 
--- at the place of each item is its estimate
+-- each item's estimate is at the item's index
 pub record AreEstimates {A : Type 0} (s : CountState) (bytes_of : A → List ℕ) (items : List A) (estimates : List ℤ) : Type 0 where
   pub each : (i : ℕ) → i < length items
       → IsEstimate s (slice_index_or (map bytes_of items) i []) (slice_index_or estimates i (pos 0))

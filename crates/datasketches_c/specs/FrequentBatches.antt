@@ -1,4 +1,4 @@
--- What a frequent-items sketch says of many items.
+-- Bounds of many items in a frequent items sketch.
 use Rattle.std.specs.Prelude.{◌≡◌, ◌⊎◌, ◌<◌, ℕ, ℤ, Bool, List, length, take, drop}
 use Rattle.std.specs.Global.{Global}
 use Rattle.std.specs.List.{AllZip}
@@ -11,17 +11,17 @@ use Rattle.datasketches_c.specs.FrequentTexts.{text_eq}
 use Rattle.datasketches_c.specs.Numbers.{ok, refusal_number}
 use Rattle.datasketches_c.specs.declared.frequent.FrequentBounds.{FrequentBounds}
 
--- these are the sketch's numbers for the items, place by place
+-- the bounds are the sketch's numbers for the items, in the same order
 abbrev pub AreBoundsOfAll :
     {T : Type 0} → (T → T → Bool) → (s : FrequentState T) (items : List T) (bounds : List FrequentBounds) → Type 0
 AreBoundsOfAll eq s items bounds = AllZip (AreBounds eq s) items bounds
 
--- these are the sketch's numbers for an item of this text
+-- the bounds are the sketch's numbers for a string of these bytes
 abbrev pub AreBoundsOfText : FrequentState (String Global) → List ℕ → FrequentBounds → Type 0
 AreBoundsOfText s text bounds = (item : String Global) × (string_bytes item ≡ text) × AreBounds text_eq s item bounds
 
--- these are the sketch's numbers for the texts, place by place; or there was no memory for one of them, those before it have
--- theirs, and the places from its own on are as they were
+-- the call wrote the bounds of all strings, in order. Or allocation failed for one string: the bounds before it are written, and
+-- from its index on the buffer is unchanged
 unfoldable pub TellsOfTexts :
     FrequentState (String Global) → (texts : List (List ℕ)) → (old new : List FrequentBounds) → ℤ → Type 0
 TellsOfTexts s texts old new result =

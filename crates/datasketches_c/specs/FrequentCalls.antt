@@ -1,4 +1,4 @@
--- What calls on frequent-items sketches do to the sketch and answer, whatever the items. Items are told apart by `eq` alone.
+-- Results and effects of calls on frequent items sketches, for any item type. Items are compared by `eq` alone.
 use Rattle.std.specs.Prelude.{◌≡◌, ℕ, ℤ, ◌+◌, ◌<◌, Bool, false, List, length, None}
 use Rattle.sketch_base.specs.Errors.{ErrorValue}
 use Rattle.sketch_base.specs.declared.fault.Fault.TheVariants.{BadSampleSize, NoMemory, WeightOverflow}
@@ -14,7 +14,7 @@ use Rattle.datasketches_c.specs.Numbers.{OnDone, OnRefused, ok, refusal_number}
 use Rattle.datasketches_c.specs.declared.frequent.FrequentBounds.{FrequentBounds}
 use Rattle.datasketches_c.specs.declared.frequent.FrequentStatus.{FrequentStatus}
 
--- these are the sketch's numbers
+-- the status holds the sketch's numbers
 pub record AreNumbers {T : Type 0} (s : FrequentState T) (status : FrequentStatus) : Type 0 where
   pub total_weight : status.total_weight ≡ s.total
   pub maximum_error : status.maximum_error ≡ s.error
@@ -25,29 +25,29 @@ pub record AreNumbers {T : Type 0} (s : FrequentState T) (status : FrequentStatu
   pub sample_size : status.sample_size ≡ s.sample_size
 
 module _ {T : Type 0} (eq : T → T → Bool) where
-  -- new is old after a weight above 0 was added at the item, and stands for the history with that update
+  -- new is old with a weight above 0 added to the item. It stands for the history with that update, and keeps its tail budget
   pub record Weighs (old : FrequentState T) (item : T) (weight : ℕ) (new : FrequentState T) : Type 0 where
     pub step : Steps eq old item weight new
     pub stands : Extends eq old new (λ h. Update h item weight)
     pub budget : ExtendsBudget eq old new (λ h. Update h item weight)
 
-  -- what an update answers, and what it leaves
+  -- the result and effect of an update
   pub record Updates (old : FrequentState T) (item : T) (weight : ℕ) (new : FrequentState T) (result : ℤ) : Type 0 where
     pub zero : weight ≡ 0 → (result ≡ ok) × (new ≡ old)
     pub done : OnDone result ((result ≡ ok) × (0 < weight → Weighs old item weight new))
     pub refused : OnRefused result (new ≡ old)
     pub overflow : Overflows old weight → result ≡ refusal_number WeightOverflow
-    -- memory is refused only where the table must double
+    -- if the total has room, `NoMemory` is the only error, and it comes only if the table must double
     pub memory : TotalHasRoom old weight → OnRefused result (result ≡ refusal_number NoMemory)
     pub succeeds : TotalHasRoom old weight → must_double eq old item ≡ false → result ≡ ok
 
-  -- new is old after the other was merged into it, and stands for both histories
+  -- new is old with the other merged into it. It stands for the merge of both histories, and keeps its tail budget
   pub record Merges (old other new : FrequentState T) : Type 0 where
     pub join : JoinsEqual eq old other new
     pub stands : ExtendsBoth eq old other new Merge
     pub budget : ExtendsBothBudgets eq old other new Merge
 
-  -- what a merge answers, and what it leaves
+  -- the result and effect of a merge
   pub record MergesInto (old other new : FrequentState T) (result : ℤ) : Type 0 where
     pub nothing : other.total ≡ 0 → (result ≡ ok) × (new ≡ old)
     pub done : OnDone result ((result ≡ ok) × Merges old other new)
@@ -55,7 +55,7 @@ module _ {T : Type 0} (eq : T → T → Bool) where
     pub overflow : Overflows old other.total → result ≡ refusal_number WeightOverflow
     pub memory : TotalHasRoom old other.total → OnRefused result (result ≡ refusal_number NoMemory)
 
-  -- these are the sketch's numbers for the item, and what they say of each history for which the sketch stands
+  -- the bounds are the sketch's numbers for the item, and hold for its weight in each history for which the sketch stands
   pub record AreBounds (s : FrequentState T) (item : T) (bounds : FrequentBounds) : Type 0 where
     pub lower : bounds.lower_bound ≡ count_of eq s.counters item
     pub estimate : bounds.estimate ≡ estimate_of eq s item
@@ -64,18 +64,18 @@ module _ {T : Type 0} (eq : T → T → Bool) where
     pub at_most : IsUpperBound eq s item bounds.upper_bound
     pub exact : IsExactOfFew eq s item bounds.estimate
 
-  -- the items before one were added, and that one was refused with an error of this number, as a call of its own refuses it
+  -- the items before one were added, and that one was rejected with this error, as a call of its own would reject it
   pub record StopsShort (old : FrequentState T) (items : List T) (new : FrequentState T) (result : ℤ) : Type 0 where
     pub error : ErrorValue
     pub number : result ≡ refusal_number error.fault
     pub stops : StopsAt eq old items error new
 
-  -- what many updates of weight 1 answer, and what they leave
+  -- the result and effect of a batch of updates of weight 1
   pub record UpdatesMany (old : FrequentState T) (items : List T) (new : FrequentState T) (result : ℤ) : Type 0 where
     pub done : OnDone result ((result ≡ ok) × UpdatesAll eq old items new)
     pub stopped : OnRefused result (StopsShort old items new result)
 
-  -- what a change of the sample size returns, and what it leaves: the sketch as it would be, merged into a new one
+  -- the result and effect of changing the sample size. The sketch then stands for its history merged into a new sketch
   pub record Resamples (old : FrequentState T) (n : ℕ) (new : FrequentState T) (result : ℤ) : Type 0 where
     pub done : OnDone result ((result ≡ ok) × (new ≡ record old { sample_size = n }))
     pub stands : OnDone result (Extends eq old new (λ h. Merge (New old.max_size n) h))
@@ -85,7 +85,7 @@ module _ {T : Type 0} (eq : T → T → Bool) where
     pub refused : OnRefused result (new ≡ old)
     pub number : OnRefused result (result ≡ refusal_number BadSampleSize)
 
-  -- new is the empty sketch of old's sizes, and stands for what old stood for, forgotten
+  -- new is the empty sketch of old's sizes. It stands for the reset of each history of old, and keeps its tail budget
   pub record Empties (old new : FrequentState T) : Type 0 where
     pub empty : new ≡ empty_state old.max_size old.sample_size
     pub stands : Extends eq old new Reset

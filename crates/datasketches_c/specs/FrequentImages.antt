@@ -1,4 +1,4 @@
--- What calls for images of frequent-items sketches do, whatever the items.
+-- Images of frequent items sketches, for any item type.
 use Rattle.std.specs.Prelude.{◌≡◌, ℕ, ℤ, ◌≤◌, Bool, List, None}
 use denote.Builtin as builtin
 use denote.RattleType.{RattleType}
@@ -9,7 +9,7 @@ use Rattle.sketch_frequencies.specs.Memory.{memory_bytes, owned_by}
 use Rattle.sketch_frequencies.specs.State.{FrequentState, greatest_sample_size}
 use Rattle.datasketches_c.specs.Images.{WritesImage}
 
--- how numbers lie in memory
+-- the memory layouts of `u64` and `i64` items
 abbrev pub u64_row : RattleType
 u64_row = builtin.u64
 
@@ -17,19 +17,19 @@ abbrev pub i64_row : RattleType
 i64_row = builtin.i64
 
 module _ {T C : Type 0} (codec : Codec C) (content : T → C) where
-  -- the sketch's image was written as any image is
+  -- the call wrote the sketch's image into the buffer, as `WritesImage` states
   abbrev pub WritesFrequent : FrequentState T → (old new : List ℕ) → ℕ → ℤ → Type 0
   WritesFrequent s old new written result =
       WritesImage (λ image. IsSpelledFor codec content image s) old new written result
 
--- the sketch came back from its image, and takes at most so many bytes, with those that its items own
+-- the sketch was restored from the image. It takes at most `max_bytes`, with the bytes that its items own
 pub record IsRestored
-    {T C : Type 0} (item : RattleType) (eq : T → T → Bool) (codec : Codec C) (content : T → C) (image : List ℕ) (most_bytes : ℕ)
+    {T C : Type 0} (item : RattleType) (eq : T → T → Bool) (codec : Codec C) (content : T → C) (image : List ℕ) (max_bytes : ℕ)
     (s : FrequentState T)
     : Type 0 where
   pub of_image : IsImageOf codec content image s
   pub sample : s.sample_size ≡ greatest_sample_size s.max_size
   pub stands : Restores codec content eq image s
   pub budget : RestoresBudget codec content eq image s
-  pub within : memory_bytes (table_bytes item s.size) (owned_by codec content s.counters) ≤ most_bytes
-  pub accepted : limit_fault item most_bytes codec image ≡ None
+  pub within : memory_bytes (table_bytes item s.size) (owned_by codec content s.counters) ≤ max_bytes
+  pub accepted : limit_fault item max_bytes codec image ≡ None

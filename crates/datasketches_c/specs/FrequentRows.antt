@@ -1,4 +1,4 @@
--- What a report on a frequent-items sketch writes into the caller's buffers.
+-- Reports of frequent items sketches, written into the caller's buffers.
 use Rattle.std.specs.Prelude.{◌≡◌, ◌≢◌, ◌⊎◌, ℕ, ℤ, ◌<◌, ◌≤◌, Bool, List, length, map, take, drop, if◌then◌else◌}
 use Rattle.sketch_base.specs.declared.fault.Fault.TheVariants.{NoMemory}
 use Rattle.sketch_frequencies.specs.RowValue.{RowValue}
@@ -9,15 +9,15 @@ use Rattle.sketch_frequencies.specs.declared.error_type.ErrorType.TheVariants.{N
 use Rattle.datasketches_c.specs.Numbers.{OnRefused, ok, no_room, refusal_number}
 use Rattle.datasketches_c.specs.declared.frequent.FrequentBounds.{FrequentBounds}
 
--- which mistakes a report may make
+-- the error type of the flag: `NoFalseNegatives` if it is true, `NoFalsePositives` otherwise
 abbrev pub error_type : Bool → ErrorType
 error_type no_false_negatives = if no_false_negatives then NoFalseNegatives else NoFalsePositives
 
--- the numbers of a row
+-- the estimate and the bounds of a row
 abbrev pub bounds_in : {T : Type 0} → RowValue T → FrequentBounds
 bounds_in row = record { lower_bound = row.lower_bound; estimate = row.estimate; upper_bound = row.upper_bound }
 
--- the rows stand at the front of both buffers, and what stands behind them is as it was
+-- the rows are at the front of both buffers, and the rest of the buffers is unchanged
 pub record StandAtFront
     {T : Type 0} (rows : List (RowValue T)) (items_old items_new : List T) (bounds_old bounds_new : List FrequentBounds)
     : Type 0 where
@@ -26,7 +26,7 @@ pub record StandAtFront
   pub bounds : take (length rows) bounds_new ≡ map bounds_in rows
   pub behind_bounds : drop (length rows) bounds_new ≡ drop (length rows) bounds_old
 
--- what a report leaves that was refused: the buffers, and the count too unless they have no room
+-- what a failed report leaves: unchanged buffers, and an unchanged count unless the result is `no_room`
 pub record LeavesRows
     {T : Type 0} (items_old items_new : List T) (bounds_old bounds_new : List FrequentBounds) (count_old count_new : ℕ) (result : ℤ)
     : Type 0 where
@@ -34,14 +34,14 @@ pub record LeavesRows
   pub uncounted : result ≢ ok → result ≢ no_room → count_new ≡ count_old
 
 module _ {T : Type 0} (eq : T → T → Bool) (kind : ErrorType) (threshold : ℕ) (s : FrequentState T) where
-  -- the rows that the report shows: those of the tracked items whose bound is above the threshold and the error
+  -- the rows are those of the tracked items whose bound is above the threshold and the error, in descending order
   pub record AreRows (rows : List (RowValue T)) : Type 0 where
     pub exact : ShowsExactly eq kind threshold s rows
     pub descending : Descends rows
     pub none_missing : kind ≡ NoFalseNegatives → MissesNone eq threshold s rows
     pub none_below : kind ≡ NoFalsePositives → ShowsNoneBelow eq threshold s rows
 
-  -- the report's rows were counted, and written where both buffers have room for them
+  -- the rows of the report were counted, and written if both buffers have room for them. Otherwise the result is `no_room`
   pub record Reports
       (items_old items_new : List T) (bounds_old bounds_new : List FrequentBounds) (count : ℕ) (result : ℤ)
       : Type 0 where
@@ -54,7 +54,7 @@ module _ {T : Type 0} (eq : T → T → Bool) (kind : ErrorType) (threshold : �
     pub few_items : length items_old < count → result ≡ no_room
     pub few_bounds : length bounds_old < count → result ≡ no_room
 
-  -- a report was made, or there was no memory for it
+  -- the report was made, or the result is `NoMemory`
   abbrev pub WritesRows :
       (items_old items_new : List T) (bounds_old bounds_new : List FrequentBounds) (count : ℕ) (result : ℤ) → Type 0
   WritesRows items_old items_new bounds_old bounds_new count result =

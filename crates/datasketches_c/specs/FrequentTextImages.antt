@@ -1,4 +1,4 @@
--- How texts lie in memory, and how their sketch's image is written.
+-- The memory layout of strings, and images of sketches of strings.
 use Rattle.std.specs.Prelude.{◌≡◌, ◌⊎◌, ℕ, ℤ, ◌^◌, ◌≤◌, List, length, Any}
 use Rattle.std.specs.Global.{Global}
 use Rattle.std.specs.String.{string_bytes}
@@ -16,7 +16,8 @@ use Rattle.datasketches_c.specs.Numbers.{refusal_number}
 abbrev pub text_row : RattleType
 text_row = string.the_row heap.the_row ghosts
 
--- the sketch's image was written as any image is, or some text is too long for one
+-- the call wrote the sketch's image into the buffer, as `WritesImage` states. Or the result is `ItemTooLong`, and some string has
+-- 2^32 bytes or more
 abbrev pub WritesFrequentTexts : FrequentState (String Global) → (old new : List ℕ) → ℕ → ℤ → Type 0
 WritesFrequentTexts s old new written result =
     WritesFrequent text_codec (λ text. string_bytes text) s old new written result

@@ -1,4 +1,4 @@
--- What a report on a sketch of frequent texts writes into the caller's buffers.
+-- Reports of frequent items sketches of strings, written into the caller's buffers.
 use Rattle.std.specs.Prelude.{◌≡◌, ◌≢◌, ◌⊎◌, ℕ, ℤ, ◌+◌, ◌<◌, ◌≤◌, List, length, map, take, drop}
 use Rattle.std.specs.List.{concat}
 use Rattle.std.specs.Global.{Global}
@@ -14,18 +14,18 @@ use Rattle.datasketches_c.specs.Numbers.{OnRefused, ok, no_room, refusal_number}
 use Rattle.datasketches_c.specs.Texts.{texts_of, offsets_from}
 use Rattle.datasketches_c.specs.declared.frequent.FrequentBounds.{FrequentBounds}
 
--- the texts of rows
+-- the bytes of each row's string
 abbrev pub row_texts : List (RowValue (String Global)) → List (List ℕ)
 row_texts rows = map (λ row. string_bytes row.item) rows
 
--- the buffers for a report of texts
+-- the buffers for a report of strings
 pub record TextBuffers : Type 0 where
   pub bytes : List ℕ
   pub offsets : List ℕ
   pub bounds : List FrequentBounds
 
--- the rows stand at the front of the buffers, the texts one behind the other from the first byte on, and what stands behind them
--- is as it was
+-- the rows are at the front of the buffers, their strings one after another from the first byte on. The rest of the buffers is
+-- unchanged
 pub record TextsStandAtFront (rows : List (RowValue (String Global))) (old new : TextBuffers) : Type 0 where
   pub bytes : take (length (concat (row_texts rows))) new.bytes ≡ concat (row_texts rows)
   pub behind_bytes : drop (length (concat (row_texts rows))) new.bytes ≡ drop (length (concat (row_texts rows))) old.bytes
@@ -33,10 +33,11 @@ pub record TextsStandAtFront (rows : List (RowValue (String Global))) (old new :
   pub behind_offsets : drop (length rows + 1) new.offsets ≡ drop (length rows + 1) old.offsets
   pub bounds : take (length rows) new.bounds ≡ map bounds_in rows
   pub behind_bounds : drop (length rows) new.bounds ≡ drop (length rows) old.bounds
-  -- and so the texts are read back
+  -- so the strings can be read back
   pub read_back : texts_of new.bytes (take (length rows + 1) new.offsets) ≡ row_texts rows
 
--- the rows were counted, and written where the buffers have room for all
+-- the rows and the bytes of their strings were counted, and written if all buffers have room for them. Otherwise the result is
+-- `no_room`
 pub record ReportsTexts
     (rows : List (RowValue (String Global))) (old new : TextBuffers) (count num_bytes : ℕ) (result : ℤ) : Type 0 where
   pub counted : count ≡ length rows
@@ -48,12 +49,12 @@ pub record ReportsTexts
   pub few_offsets : length old.offsets ≤ count → result ≡ no_room
   pub few_bounds : length old.bounds < count → result ≡ no_room
 
--- what a report leaves that was refused: the buffers, and the counts too unless they have no room
+-- what a failed report leaves: unchanged buffers, and unchanged counts unless the result is `no_room`
 pub record LeavesTextRows (old new : TextBuffers) (count_old count_new num_bytes_old num_bytes_new : ℕ) (result : ℤ) : Type 0 where
   pub untouched : OnRefused result ((new.bytes ≡ old.bytes) × (new.offsets ≡ old.offsets) × (new.bounds ≡ old.bounds))
   pub uncounted : result ≢ ok → result ≢ no_room → (count_new ≡ count_old) × (num_bytes_new ≡ num_bytes_old)
 
--- a report was made, or there was no memory for it
+-- the report was made, or the result is `NoMemory`
 abbrev pub WritesTextRows :
     ErrorType → ℕ → FrequentState (String Global) → (old new : TextBuffers) → (count num_bytes : ℕ) → ℤ → Type 0
 WritesTextRows kind threshold s old new count num_bytes result =

@@ -1,4 +1,4 @@
--- What calls on sketches of frequent texts do: a text is made an item first, for which there may be no memory.
+-- Calls on frequent items sketches of strings. Each call first allocates an item for the string, which may fail.
 use Rattle.std.specs.Prelude.{◌≡◌, ◌⊎◌, ℕ, ℤ, Bool, List}
 use Rattle.std.specs.Global.{Global}
 use Rattle.std.specs.String.{string_bytes, string_eq}
@@ -9,17 +9,17 @@ use Rattle.datasketches_c.specs.FrequentCalls.{Updates, AreBounds}
 use Rattle.datasketches_c.specs.Numbers.{ok, refusal_number}
 use Rattle.datasketches_c.specs.declared.frequent.FrequentBounds.{FrequentBounds}
 
--- texts are told apart by their bytes
+-- strings are compared by their bytes
 abbrev pub text_eq : String Global → String Global → Bool
 text_eq = string_eq
 
--- an item of this text was added, or there was no memory for it
+-- the update was done for an item of these bytes, or the result is `NoMemory` and the sketch is unchanged
 unfoldable pub UpdatesText : (old : FrequentState (String Global)) → List ℕ → ℕ → (new : FrequentState (String Global)) → ℤ → Type 0
 UpdatesText old text weight new result =
     ((item : String Global) × (string_bytes item ≡ text) × Updates text_eq old item weight new result)
     ⊎ ((result ≡ refusal_number NoMemory) × (new ≡ old))
 
--- these are the sketch's numbers for an item of this text, or there was no memory for it
+-- the call wrote the sketch's numbers for an item of these bytes, or the result is `NoMemory`
 unfoldable pub TellsOfText : FrequentState (String Global) → List ℕ → FrequentBounds → ℤ → Type 0
 TellsOfText s text bounds result =
     ((result ≡ ok) × ((item : String Global) × (string_bytes item ≡ text) × AreBounds text_eq s item bounds))

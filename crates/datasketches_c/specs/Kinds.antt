@@ -1,4 +1,4 @@
--- What a call for one kind of sketch says of a handle that may hold any.
+-- Calls for one kind of sketch on a handle that may hold any kind.
 use Rattle.std.specs.Prelude.{◌≡◌, ◌≢◌, ℕ, ℤ, List, Option, Some, None, length}
 use Rattle.std.specs.Global.{Global}
 use Rattle.std.specs.declared.string.String.{String}
@@ -10,7 +10,8 @@ use Rattle.datasketches_c.specs.declared.any_sketch.AnySketch.{AnySketch}
 use Rattle.datasketches_c.specs.declared.any_sketch.AnySketch.TheVariants.{Filter, CountI64, CountU64, FrequentI64, FrequentTexts, FrequentU64}
 
 module _ {S : Type 0} (part : AnySketch → Option S) where
-  -- of what a handle has of a kind what is said, and else that the call was refused
+  -- the statement holds of the sketch of this kind. If there is none, the result is `wrong_kind` and the handle is unchanged.
+  -- `OnKind` states this of a handle, and `no_sketch` if the handle is empty
   abbrev pub OnPart : Option S → AnySketch → Option AnySketch → ℤ → (S → Type 0) → Type 0
   OnPart (Some s) held new result said = said s
   OnPart None held new result said = (result ≡ wrong_kind) × (new ≡ Some held)
@@ -19,7 +20,7 @@ module _ {S : Type 0} (part : AnySketch → Option S) where
   OnKind None new result said = (result ≡ no_sketch) × (new ≡ None)
   OnKind (Some held) new result said = OnPart (part held) held new result said
 
-  -- there is a sketch of a kind, of which this holds
+  -- there is a sketch of this kind, and the statement holds of it. `HoldsKind` states this of a handle
   abbrev pub OfPart : Option S → (S → Type 0) → Type 0
   OfPart (Some s) said = said s
   OfPart None said = ⊥
@@ -28,7 +29,7 @@ module _ {S : Type 0} (part : AnySketch → Option S) where
   HoldsKind (Some held) said = OfPart (part held) said
   HoldsKind None said = ⊥
 
--- a call asks a handle's sketch, which the handle keeps, and writes the answer down; where it is refused, the place is as it was
+-- the call wrote what it computed from the handle's sketch, which is unchanged. If it failed, the output is unchanged too
 pub record WritesDown
     {S P : Type 0} (part : AnySketch → Option S) (old new : Option AnySketch) (result : ℤ) (place_old place_new : P) (said : S → Type 0)
     : Type 0 where
@@ -36,7 +37,8 @@ pub record WritesDown
   pub told : OnKind part old new result (λ s. (result ≡ ok) × said s)
   pub untouched : OnRefused result (place_new ≡ place_old)
 
--- a call asks about many items, and has a place for the answer to each: with more or fewer places it is refused
+-- the call wrote an output for each item, and the handle is unchanged. If the numbers of items and outputs differ, the result is
+-- `no_room`. If it failed, the outputs are unchanged too
 pub record WritesDownEach
     {P : Type 0} (items : ℕ) (old new : Option AnySketch) (result : ℤ) (places_old places_new : List P) (Told : Type 0)
     : Type 0 where
@@ -45,37 +47,37 @@ pub record WritesDownEach
   pub told : length places_old ≡ items → Told
   pub untouched : OnRefused result (places_new ≡ places_old)
 
--- the filter that a sketch of any kind is
+-- the filter, if the sketch is one
 abbrev pub filter_of : AnySketch → Option FilterState
 filter_of (Filter s) = Some s
 filter_of held = None
 
--- the Count-Min sketch in `i64`
+-- the Count-Min sketch with weights in `i64`, if the sketch is one
 abbrev pub count_i64_of : AnySketch → Option CountState
 count_i64_of (CountI64 s) = Some s
 count_i64_of held = None
 
--- the same in `u64`
+-- the Count-Min sketch with weights in `u64`, if the sketch is one
 abbrev pub count_u64_of : AnySketch → Option CountState
 count_u64_of (CountU64 s) = Some s
 count_u64_of held = None
 
--- the frequent-items sketch of items of type `i64`
+-- the frequent items sketch of `i64` items, if the sketch is one
 abbrev pub frequent_i64_of : AnySketch → Option (FrequentState ℤ)
 frequent_i64_of (FrequentI64 s) = Some s
 frequent_i64_of held = None
 
--- the same of items of type `u64`
+-- the frequent items sketch of `u64` items, if the sketch is one
 abbrev pub frequent_u64_of : AnySketch → Option (FrequentState ℕ)
 frequent_u64_of (FrequentU64 s) = Some s
 frequent_u64_of held = None
 
--- the same of texts
+-- the frequent items sketch of strings, if the sketch is one
 abbrev pub frequent_texts_of : AnySketch → Option (FrequentState (String Global))
 frequent_texts_of (FrequentTexts s) = Some s
 frequent_texts_of held = None
 
--- of a filter what is said, and else that the call was refused; and the same of the other kinds
+-- `OnKind` for filters; below, for the other kinds
 abbrev pub OnFilter : (old new : Option AnySketch) → ℤ → (FilterState → Type 0) → Type 0
 OnFilter = OnKind filter_of
 
@@ -94,7 +96,7 @@ OnFrequentU64 = OnKind frequent_u64_of
 abbrev pub OnFrequentTexts : (old new : Option AnySketch) → ℤ → (FrequentState (String Global) → Type 0) → Type 0
 OnFrequentTexts = OnKind frequent_texts_of
 
--- there is a filter, of which this holds; and the same of the other kinds
+-- `HoldsKind` for filters; below, for the other kinds
 abbrev pub HoldsFilter : Option AnySketch → (FilterState → Type 0) → Type 0
 HoldsFilter = HoldsKind filter_of
 

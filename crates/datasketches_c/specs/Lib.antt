@@ -1,5 +1,6 @@
 pub mod Copies
 pub mod CountCalls
+pub mod CountImages
 pub mod CountJoins
 pub mod CountSteps
 pub mod Equality

@@ -1,7 +1,8 @@
--- How many bytes a sketch takes, by fixed formulas.
+-- The number of bytes that a sketch takes, by fixed formulas.
 use Rattle.std.specs.Prelude.{◌≡◌, ◌+◌, ◌*◌, ℕ, ℤ, Option, Some, None}
 use Rattle.std.specs.String.{string_bytes}
 use Rattle.counter_table.specs.Bytes.{table_bytes}
+use Rattle.sketch_countmin.specs.Shapes.{grid_bytes}
 use Rattle.sketch_frequencies.specs.Items.{i64_codec, text_codec, u64_codec}
 use Rattle.sketch_frequencies.specs.Memory.{memory_bytes, owned_by}
 use Rattle.datasketches_c.specs.FrequentImages.{i64_row, u64_row}
@@ -10,17 +11,18 @@ use Rattle.datasketches_c.specs.Numbers.{no_sketch, ok}
 use Rattle.datasketches_c.specs.declared.any_sketch.AnySketch.{AnySketch}
 use Rattle.datasketches_c.specs.declared.any_sketch.AnySketch.TheVariants.{Filter, CountI64, CountU64, FrequentI64, FrequentTexts, FrequentU64}
 
--- 8 for each word of a filter, each cell and each row of a Count-Min sketch; the table of frequent items with what they own
+-- 8 for each word of a filter, and for each cell and each row of a Count-Min sketch. For frequent items, the bytes of the table
+-- and those that the items own
 abbrev pub bytes_of : AnySketch → ℕ
 bytes_of (Filter s) = 8 * s.num_words
-bytes_of (CountI64 s) = s.hashes * s.buckets * 8 + 8 * s.hashes
-bytes_of (CountU64 s) = s.hashes * s.buckets * 8 + 8 * s.hashes
+bytes_of (CountI64 s) = grid_bytes 8 s.hashes s.buckets
+bytes_of (CountU64 s) = grid_bytes 8 s.hashes s.buckets
 bytes_of (FrequentI64 s) = memory_bytes (table_bytes i64_row s.size) (owned_by i64_codec (λ n. n) s.counters)
 bytes_of (FrequentU64 s) = memory_bytes (table_bytes u64_row s.size) (owned_by u64_codec (λ n. n) s.counters)
 bytes_of (FrequentTexts s) =
     memory_bytes (table_bytes text_row s.size) (owned_by text_codec (λ text. string_bytes text) s.counters)
 
--- a call writes how many bytes the handle's sketch takes, or there is no sketch
+-- the call wrote the number of bytes that the handle's sketch takes, or the result is `no_sketch` and nothing was written
 abbrev pub Measures : Option AnySketch → ℤ → (bytes_old bytes_new : ℕ) → Type 0
 Measures None result bytes_old bytes_new = (result ≡ no_sketch) × (bytes_new ≡ bytes_old)
 Measures (Some sketch) result bytes_old bytes_new = (result ≡ ok) × (bytes_new ≡ bytes_of sketch)

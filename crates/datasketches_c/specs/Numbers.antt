@@ -1,27 +1,27 @@
--- The numbers that calls answer. Below 0 stands a refusal.
+-- Results of calls, as numbers. Errors are below 0.
 use Rattle.std.specs.Prelude.{ℕ, ℤ, pos, negsuc}
 use Rattle.sketch_base.specs.declared.fault.Fault.{Fault}
 use Rattle.sketch_base.specs.declared.fault.Fault.TheVariants as fault
 
--- what is said of an answer that is no refusal
+-- the statement holds if the result is no error
 abbrev pub OnDone : ℤ → Type 0 → Type 0
 OnDone (pos n) said = said
 OnDone (negsuc n) said = Unit {0}
 
--- what is said of a refusal
+-- the statement holds if the result is an error
 abbrev pub OnRefused : ℤ → Type 0 → Type 0
 OnRefused (pos n) said = Unit {0}
 OnRefused (negsuc n) said = said
 
--- the call was done
+-- the call succeeded: 0
 abbrev pub ok : ℤ
 ok = pos 0
 
--- no, as the answer to a question
+-- the result is no: 0
 abbrev pub no : ℤ
 no = pos 0
 
--- yes
+-- the result is yes: 1
 abbrev pub yes : ℤ
 yes = pos 1
 
@@ -29,11 +29,11 @@ yes = pos 1
 abbrev pub no_sketch : ℤ
 no_sketch = negsuc 0
 
--- the handle's sketch is of a kind that does not know the call: -2
+-- the handle's sketch is of a kind without this call: -2
 abbrev pub wrong_kind : ℤ
 wrong_kind = negsuc 1
 
--- a buffer of the caller's has not the length that the call needs: -3
+-- a buffer of the caller does not have the length that the call needs: -3
 abbrev pub no_room : ℤ
 no_room = negsuc 2
 
@@ -41,11 +41,11 @@ no_room = negsuc 2
 abbrev pub bad_fraction : ℤ
 bad_fraction = negsuc 3
 
--- offsets into a buffer are none, or descend, or pass its end: -6, as the header for C has -5
+-- there are no offsets, or they descend, or one exceeds the length of the buffer: -6. The C header uses -5
 abbrev pub bad_offsets : ℤ
 bad_offsets = negsuc 5
 
--- a refusal for a fault: from -11 on
+-- the result for a fault: -11 or below
 abbrev pub refusal_number : Fault → ℤ
 refusal_number fault.BadNumBits = negsuc 10
 refusal_number fault.BadNumHashes = negsuc 11
@@ -82,13 +82,13 @@ refusal_number fault.NoMemory = negsuc 41
 refusal_number fault.BadSampleSize = negsuc 42
 refusal_number fault.BadWindows = negsuc 43
 
--- the greatest numbers of the two types
-abbrev pub greatest_i64 : ℕ
-greatest_i64 = 9223372036854775807
+-- the maximum of `i64`, and of `u64`
+abbrev pub max_i64 : ℕ
+max_i64 = 9223372036854775807
 
-abbrev pub greatest_u64 : ℕ
-greatest_u64 = 18446744073709551615
+abbrev pub max_u64 : ℕ
+max_u64 = 18446744073709551615
 
--- the least number of the type with a sign
-abbrev pub least_i64 : ℤ
-least_i64 = negsuc 9223372036854775807
+-- the minimum of `i64`
+abbrev pub min_i64 : ℤ
+min_i64 = negsuc 9223372036854775807

@@ -1,4 +1,4 @@
--- Many items, each with a weight, which are added in turn.
+-- Batches of items, each with a weight, which are added in turn.
 use Rattle.std.specs.Prelude.{◌≡◌, ℕ, ℤ, List, sum}
 use Rattle.std.specs.List.{zip}
 use Rattle.sketch_base.specs.declared.fault.Fault.TheVariants.{NoMemory, WeightOverflow}
@@ -6,8 +6,8 @@ use Rattle.sketch_frequencies.specs.State.{FrequentState, Overflows, TotalHasRoo
 use Rattle.datasketches_c.specs.InTurn.{CallsInTurn}
 use Rattle.datasketches_c.specs.Numbers.{OnRefused, refusal_number}
 
--- what many updates of a sketch of frequent items, each with a weight, answer as one, and what they leave: nothing is added where
--- the total has no room for all, and else they stop at the first for which there is no memory
+-- the result and effect of a batch of updates of a frequent items sketch, each with a weight. If the total has no room for all,
+-- the result is `WeightOverflow` and nothing is added. Otherwise the updates stop at the first for which an allocation fails
 pub record AddsWeights
     {T I : Type 0} (call : FrequentState T → I → ℕ → FrequentState T → ℤ → Type 0) (old : FrequentState T) (items : List I)
     (weights : List ℕ) (new : FrequentState T) (result : ℤ)

@@ -1,9 +1,9 @@
-//! A sketch of some kind.
+//! Sketches of any kind.
 use sketch_bloom::BloomFilter;
 use sketch_countmin::CountMinSketch;
 use sketch_frequencies::FrequentItemsSketch;
 
-/// A sketch of one of the kinds that C knows.
+/// A sketch of one of the kinds that calls from C use.
 #[derive(Drop)]
 pub enum AnySketch {
     FrequentTexts(FrequentItemsSketch<String>),

@@ -1,4 +1,4 @@
-//! Sketches of any kind that are copied and freed.
+//! Calls that copy and free sketches of any kind.
 ghost use Rattle.std.specs.Prelude.{◌≡◌, None, Some, Ok, IfSome};
 ghost use Rattle.datasketches_c.specs.Copies.{HoldsCopy, IsCopied};
 
@@ -9,7 +9,7 @@ use crate::status_code::{NO_SKETCH, refusal_number};
 use sketch_base::{Error, Fault};
 use std::alloc::Global;
 
-/// What was copied as a sketch of any kind, where there was memory for it.
+/// Returns the copy as a sketch of any kind, or `None` if copying failed.
 fn as_any<K: Kind>(copy: Result<K, Error>) -> Option<AnySketch>
     ensures { IfSome result (λ any. (s : K) × (copy ≡ Ok s) × (any ≡ K.whole s)) }
 {
@@ -19,7 +19,7 @@ fn as_any<K: Kind>(copy: Result<K, Error>) -> Option<AnySketch>
     }
 }
 
-/// A copy of a sketch, where there is memory for one.
+/// Returns a copy of a sketch, or `None` if an allocation fails.
 fn copy_of(sketch: &AnySketch) -> Option<AnySketch>
     ensures { IfSome result (λ copy. HoldsCopy sketch.now (Some copy)) }
 {
@@ -33,7 +33,9 @@ fn copy_of(sketch: &AnySketch) -> Option<AnySketch>
     }
 }
 
-/// Puts a copy of a sketch in place of what the handle has, and answers the call's number.
+/// Puts a copy of a sketch into the handle, frees what the handle had, and returns `OK`.
+///
+/// Returns `NoMemory` if an allocation fails. Then the handle is unchanged.
 fn put_copy(alloc: Global, handle: &mut SketchHandle, sketch: &AnySketch) -> i32
     ensures { IsCopied (Some sketch.now) handle.old.value handle.new.value result }
 {
@@ -43,10 +45,13 @@ fn put_copy(alloc: Global, handle: &mut SketchHandle, sketch: &AnySketch) -> i32
     }
 }
 
-/// Puts a copy of the other handle's sketch, of any kind, into this handle, and frees what the handle had. The other
+/// Puts a copy of the other handle's sketch, of any kind, into this handle, and frees what this handle had. The other
 /// handle keeps its sketch.
 ///
-/// Returns `NO_SKETCH` if the other handle has none, and `NoMemory`.
+/// Returns the first of these errors, and then changes nothing:
+///
+/// - `NO_SKETCH` if the other handle has no sketch.
+/// - `NoMemory` if an allocation fails.
 #[unsafe(no_mangle)]
 pub extern "C" fn ds_clone(
     alloc: Global,
@@ -64,7 +69,7 @@ pub extern "C" fn ds_clone(
     answer
 }
 
-/// Frees the handle's sketch, if any.
+/// Frees the handle's sketch, if any. Then the handle has no sketch.
 #[unsafe(no_mangle)]
 pub extern "C" fn ds_free(alloc: Global, handle: &mut SketchHandle)
     ensures { handle.new.value ≡ None }

@@ -1,4 +1,4 @@
-//! Count-Min sketches behind handles, whatever the type of the weights.
+//! Calls on Count-Min sketches in handles, for any type of weights.
 ghost use Rattle.std.specs.Prelude.{◌≡◌, ◌≢◌, ◌+◌, ◌-◌, ◌<◌, ◌≤◌, length, map, take, sum_by, unsigned_abs};
 ghost use Rattle.std.specs.Hash as fed;
 ghost use Rattle.sketch_base.specs.Hashes.{fed_bytes};
@@ -18,7 +18,7 @@ use crate::kind::{Kind, on_kind};
 use crate::status_code::{NO_ROOM, OK, refusal_number};
 use crate::texts::{refusal_of_texts, refusal_of_texts_in};
 use sketch_base::Fault;
-use sketch_countmin::laws::what_the_least_cell_says;
+use sketch_countmin::laws::min_cell_bounds;
 use sketch_countmin::{CountMinSketch, CountMinValue};
 use std::alloc::Global;
 use std::hash::Hash;
@@ -33,7 +33,7 @@ pub struct CountStatus {
     pub num_hashes: u8,
 }
 
-/// Adds a weight to an item's and its distance from 0 to the total of a sketch.
+/// Adds a weight to an item's in a sketch, and the weight's distance from 0 to the total. Returns the result's number.
 #[inline(always)]
 fn count<V: CountMinValue, I: Hash + Drop>(
     sketch: &mut CountMinSketch<V>,
@@ -68,7 +68,7 @@ where
     on_kind!(alloc, handle, CountMinSketch<V>, sketch => count(sketch, item, weight))
 }
 
-/// Adds 1 to the weight of each item in a sketch, as far as the total has room, and answers the call's number.
+/// Adds 1 to the weight of each item in a sketch, in order, until the total is full. Returns the result's number.
 #[inline]
 fn count_all<V: CountMinValue, I: Hash>(sketch: &mut CountMinSketch<V>, items: &[I]) -> i32
     ensures counted { WeighsAll sketch.old
@@ -82,7 +82,7 @@ fn count_all<V: CountMinValue, I: Hash>(sketch: &mut CountMinSketch<V>, items: &
     }
 }
 
-/// Adds 1 to the weight of each item, as far as the total has room.
+/// Adds 1 to the weight of each item, in order, until the total is full.
 #[inline]
 pub(crate) fn update_all<V: CountMinValue, I: Hash>(
     alloc: Global,
@@ -96,7 +96,7 @@ where
     on_kind!(alloc, handle, CountMinSketch<V>, sketch => count_all(sketch, items))
 }
 
-/// Adds a weight to that of each item, one after another.
+/// Adds a weight to each item's, in order.
 #[inline]
 pub(crate) fn update_all_weighted<V: CountMinValue, I: Hash + Copy>(
     alloc: Global,
@@ -117,7 +117,7 @@ where
     on_kind!(alloc, handle, CountMinSketch<V>, sketch => count_weighted(sketch, items, weights))
 }
 
-/// Writes down the estimate of an item's weight.
+/// Writes the estimate of an item's weight.
 #[inline]
 pub(crate) fn estimate<V: CountMinValue, I: Hash + Drop>(
     alloc: Global,
@@ -136,7 +136,7 @@ where
     })
 }
 
-/// Writes down an upper bound of an item's weight: the estimate and the margin.
+/// Writes an upper bound of an item's weight: the estimate plus the margin.
 #[inline]
 pub(crate) fn upper_bound<V: CountMinValue, I: Hash + Drop>(
     alloc: Global,
@@ -155,7 +155,7 @@ where
     })
 }
 
-/// Writes down the sketch's estimate of each item's weight.
+/// Writes a sketch's estimate of each item's weight.
 #[inline]
 fn estimate_items<V: CountMinValue, I: Hash>(
     sketch: &CountMinSketch<V>,
@@ -166,13 +166,13 @@ fn estimate_items<V: CountMinValue, I: Hash>(
     ensures length { length estimates.new ≡ length items.now }
     ensures each { AreEstimates sketch.now (fed_bytes I.hash_input) items.now (map V.number estimates.new) }
 {
-    // for the prover: what holds of every sketch, and what a least cell says
+    // for the prover: the facts that hold of every sketch, and the bounds of a minimum cell
     let _ = sketch.num_hashes();
-    what_the_least_cell_says();
+    min_cell_bounds();
     sketch.estimate_all(items, estimates);
 }
 
-/// Writes down the estimate of each item's weight. There are as many estimates as items.
+/// Writes the estimate of each item's weight. Returns `NO_ROOM` if `items` and `estimates` differ in length.
 #[inline]
 pub(crate) fn estimate_all<V: CountMinValue, I: Hash>(
     alloc: Global,
@@ -195,7 +195,7 @@ where
     })
 }
 
-/// Adds 1 to the weight of each text, as far as the total has room.
+/// Adds 1 to the weight of each string, in order, until the total is full.
 pub(crate) fn update_all_text<V: CountMinValue>(
     alloc: Global,
     handle: &mut SketchHandle,
@@ -215,7 +215,8 @@ where
     on_kind!(alloc, handle, CountMinSketch<V>, sketch => count_texts(sketch, bytes, offsets))
 }
 
-/// Writes down the estimate of each text's weight. There are as many estimates as texts.
+/// Writes the estimate of each string's weight. Returns `NO_ROOM` if the number of strings is not the length of
+/// `estimates`.
 pub(crate) fn estimate_all_text<V: CountMinValue>(
     alloc: Global,
     handle: &mut SketchHandle,
@@ -241,7 +242,7 @@ where
     })
 }
 
-/// Adds a weight to that of each text, one after another.
+/// Adds a weight to each string's, in order.
 pub(crate) fn update_all_weighted_text<V: CountMinValue>(
     alloc: Global,
     handle: &mut SketchHandle,
@@ -276,7 +277,7 @@ where
     }
 }
 
-/// Adds the other sketch's cells and total. The other sketch stays.
+/// Adds the other sketch's cells and total. The other sketch stays as it was.
 pub(crate) fn merge<V: CountMinValue>(
     alloc: Global,
     handle: &mut SketchHandle,
@@ -291,7 +292,7 @@ where
     join::<CountMinSketch<V>, ()>(alloc, handle, other, ())
 }
 
-/// The sketch's numbers.
+/// Returns the sketch's numbers.
 fn status_of<V: CountMinValue>(sketch: &CountMinSketch<V>) -> CountStatus
     ensures { AreCountNumbers result sketch.now }
 {
@@ -303,7 +304,7 @@ fn status_of<V: CountMinValue>(sketch: &CountMinSketch<V>) -> CountStatus
     }
 }
 
-/// Writes down the sketch's numbers.
+/// Writes the sketch's numbers.
 pub(crate) fn status<V: CountMinValue>(
     alloc: Global,
     handle: &mut SketchHandle,

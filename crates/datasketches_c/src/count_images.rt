@@ -1,4 +1,4 @@
-//! Images of Count-Min sketches, whatever the type of the weights.
+//! Images of Count-Min sketches, for any type of weights.
 ghost use Rattle.sketch_countmin.specs.Image.{IsSpelled};
 ghost use Rattle.datasketches_c.specs.Images.{WritesImage};
 

@@ -1,11 +1,12 @@
-//! What Count-Min sketches say of the weight of one item, or of many numbers. `many_texts` has the calls for many texts.
+//! Calls that read weights from Count-Min sketches, for one item or for many numbers. The calls for many strings are in
+//! `many_texts`.
 ghost use Rattle.std.specs.Hash as fed;
 ghost use Rattle.std.specs.Prelude.{length, map, pos, ◌≡◌, ◌≢◌};
 ghost use Rattle.std.specs.Str.{IsUtf8};
 ghost use Rattle.sketch_base.specs.Hashes.{fed_bytes};
 ghost use Rattle.datasketches_c.specs.CountCalls.{Bounds, Estimates, EstimatesAll};
 ghost use Rattle.datasketches_c.specs.Kinds.{count_i64_of, count_u64_of};
-ghost use Rattle.datasketches_c.specs.Numbers.{OnRefused, greatest_i64, greatest_u64, no_room, refusal_number};
+ghost use Rattle.datasketches_c.specs.Numbers.{OnRefused, max_i64, max_u64, no_room, refusal_number};
 
 use crate::count;
 use crate::handle::SketchHandle;
@@ -13,9 +14,12 @@ use crate::texts::on_text;
 use sketch_base::Fault;
 use std::alloc::Global;
 
-/// Writes the estimate of a number's weight: the least of its cells.
+/// Writes the estimate of a number's weight: the minimum of its cells.
+///
+/// Returns `NO_SKETCH` if the handle has no sketch, and `WRONG_KIND` if its sketch is of another kind. Then nothing
+/// changes.
 #[unsafe(no_mangle)]
-pub extern "C" fn ds_count_u64_estimate_u64(
+pub extern "C" fn ds_count_min_u64_estimate_u64(
     alloc: Global,
     handle: &mut SketchHandle,
     item: u64,
@@ -28,9 +32,12 @@ pub extern "C" fn ds_count_u64_estimate_u64(
     count::estimate(alloc, handle, item, estimate)
 }
 
-/// Writes the estimate of a number's weight: the least of its cells.
+/// Writes the estimate of a number's weight: the minimum of its cells.
+///
+/// Returns `NO_SKETCH` if the handle has no sketch, and `WRONG_KIND` if its sketch is of another kind. Then nothing
+/// changes.
 #[unsafe(no_mangle)]
-pub extern "C" fn ds_count_u64_estimate_i64(
+pub extern "C" fn ds_count_min_u64_estimate_i64(
     alloc: Global,
     handle: &mut SketchHandle,
     item: i64,
@@ -43,9 +50,14 @@ pub extern "C" fn ds_count_u64_estimate_i64(
     count::estimate(alloc, handle, item, estimate)
 }
 
-/// Writes the estimate of a string's weight. Returns `InvalidUtf8` if the bytes are not UTF-8.
+/// Writes the estimate of a string's weight: the minimum of its cells.
+///
+/// Returns the first of these errors, and then changes nothing:
+///
+/// - `InvalidUtf8` if the bytes are not UTF-8.
+/// - `NO_SKETCH` if the handle has no sketch, and `WRONG_KIND` if its sketch is of another kind.
 #[unsafe(no_mangle)]
-pub extern "C" fn ds_count_u64_estimate_text(
+pub extern "C" fn ds_count_min_u64_estimate_string(
     alloc: Global,
     handle: &mut SketchHandle,
     item: &[u8],
@@ -60,9 +72,12 @@ pub extern "C" fn ds_count_u64_estimate_text(
     on_text!(item => count::estimate(alloc, handle, item, estimate))
 }
 
-/// Writes the estimate of a number's weight: the least of its cells.
+/// Writes the estimate of a number's weight: the minimum of its cells.
+///
+/// Returns `NO_SKETCH` if the handle has no sketch, and `WRONG_KIND` if its sketch is of another kind. Then nothing
+/// changes.
 #[unsafe(no_mangle)]
-pub extern "C" fn ds_count_i64_estimate_u64(
+pub extern "C" fn ds_count_min_i64_estimate_u64(
     alloc: Global,
     handle: &mut SketchHandle,
     item: u64,
@@ -75,9 +90,12 @@ pub extern "C" fn ds_count_i64_estimate_u64(
     count::estimate(alloc, handle, item, estimate)
 }
 
-/// Writes the estimate of a number's weight: the least of its cells.
+/// Writes the estimate of a number's weight: the minimum of its cells.
+///
+/// Returns `NO_SKETCH` if the handle has no sketch, and `WRONG_KIND` if its sketch is of another kind. Then nothing
+/// changes.
 #[unsafe(no_mangle)]
-pub extern "C" fn ds_count_i64_estimate_i64(
+pub extern "C" fn ds_count_min_i64_estimate_i64(
     alloc: Global,
     handle: &mut SketchHandle,
     item: i64,
@@ -90,9 +108,14 @@ pub extern "C" fn ds_count_i64_estimate_i64(
     count::estimate(alloc, handle, item, estimate)
 }
 
-/// Writes the estimate of a string's weight. Returns `InvalidUtf8` if the bytes are not UTF-8.
+/// Writes the estimate of a string's weight: the minimum of its cells.
+///
+/// Returns the first of these errors, and then changes nothing:
+///
+/// - `InvalidUtf8` if the bytes are not UTF-8.
+/// - `NO_SKETCH` if the handle has no sketch, and `WRONG_KIND` if its sketch is of another kind.
 #[unsafe(no_mangle)]
-pub extern "C" fn ds_count_i64_estimate_text(
+pub extern "C" fn ds_count_min_i64_estimate_string(
     alloc: Global,
     handle: &mut SketchHandle,
     item: &[u8],
@@ -107,9 +130,14 @@ pub extern "C" fn ds_count_i64_estimate_text(
     on_text!(item => count::estimate(alloc, handle, item, estimate))
 }
 
-/// Writes the estimate of each number's weight. Returns `NO_ROOM` unless there are as many estimates as numbers.
+/// Writes the estimate of each number's weight.
+///
+/// Returns the first of these errors, and then changes nothing:
+///
+/// - `NO_ROOM` if `items` and `estimates` differ in length.
+/// - `NO_SKETCH` if the handle has no sketch, and `WRONG_KIND` if its sketch is of another kind.
 #[unsafe(no_mangle)]
-pub extern "C" fn ds_count_u64_estimate_all_u64(
+pub extern "C" fn ds_count_min_u64_estimate_all_u64(
     alloc: Global,
     handle: &mut SketchHandle,
     items: &[u64],
@@ -126,9 +154,14 @@ pub extern "C" fn ds_count_u64_estimate_all_u64(
     count::estimate_all(alloc, handle, items, estimates)
 }
 
-/// Writes the estimate of each number's weight. Returns `NO_ROOM` unless there are as many estimates as numbers.
+/// Writes the estimate of each number's weight.
+///
+/// Returns the first of these errors, and then changes nothing:
+///
+/// - `NO_ROOM` if `items` and `estimates` differ in length.
+/// - `NO_SKETCH` if the handle has no sketch, and `WRONG_KIND` if its sketch is of another kind.
 #[unsafe(no_mangle)]
-pub extern "C" fn ds_count_u64_estimate_all_i64(
+pub extern "C" fn ds_count_min_u64_estimate_all_i64(
     alloc: Global,
     handle: &mut SketchHandle,
     items: &[i64],
@@ -145,9 +178,14 @@ pub extern "C" fn ds_count_u64_estimate_all_i64(
     count::estimate_all(alloc, handle, items, estimates)
 }
 
-/// Writes the estimate of each number's weight. Returns `NO_ROOM` unless there are as many estimates as numbers.
+/// Writes the estimate of each number's weight.
+///
+/// Returns the first of these errors, and then changes nothing:
+///
+/// - `NO_ROOM` if `items` and `estimates` differ in length.
+/// - `NO_SKETCH` if the handle has no sketch, and `WRONG_KIND` if its sketch is of another kind.
 #[unsafe(no_mangle)]
-pub extern "C" fn ds_count_i64_estimate_all_u64(
+pub extern "C" fn ds_count_min_i64_estimate_all_u64(
     alloc: Global,
     handle: &mut SketchHandle,
     items: &[u64],
@@ -164,9 +202,14 @@ pub extern "C" fn ds_count_i64_estimate_all_u64(
     count::estimate_all(alloc, handle, items, estimates)
 }
 
-/// Writes the estimate of each number's weight. Returns `NO_ROOM` unless there are as many estimates as numbers.
+/// Writes the estimate of each number's weight.
+///
+/// Returns the first of these errors, and then changes nothing:
+///
+/// - `NO_ROOM` if `items` and `estimates` differ in length.
+/// - `NO_SKETCH` if the handle has no sketch, and `WRONG_KIND` if its sketch is of another kind.
 #[unsafe(no_mangle)]
-pub extern "C" fn ds_count_i64_estimate_all_i64(
+pub extern "C" fn ds_count_min_i64_estimate_all_i64(
     alloc: Global,
     handle: &mut SketchHandle,
     items: &[i64],
@@ -183,40 +226,53 @@ pub extern "C" fn ds_count_i64_estimate_all_i64(
     count::estimate_all(alloc, handle, items, estimates)
 }
 
-/// Writes the estimate of a number's weight plus the margin, or the greatest `u64` if the sum exceeds it.
+/// Writes the estimate of a number's weight plus a margin, or 2^64 - 1 if the sum exceeds it. The margin is e times the
+/// total over the number of buckets, rounded down.
+///
+/// Returns `NO_SKETCH` if the handle has no sketch, and `WRONG_KIND` if its sketch is of another kind. Then nothing
+/// changes.
 #[unsafe(no_mangle)]
-pub extern "C" fn ds_count_u64_upper_bound_u64(
+pub extern "C" fn ds_count_min_u64_upper_bound_u64(
     alloc: Global,
     handle: &mut SketchHandle,
     item: u64,
     bound: &mut u64,
 ) -> i32
     ensures kept { handle.new.value ≡ handle.old.value }
-    ensures bound { Bounds count_u64_of greatest_u64 handle.old.value handle.new.value result (fed_bytes fed.u64 item) (pos bound.new) }
+    ensures bound { Bounds count_u64_of max_u64 handle.old.value handle.new.value result (fed_bytes fed.u64 item) (pos bound.new) }
     ensures untouched { OnRefused result (bound.new ≡ bound.old) }
 {
     count::upper_bound(alloc, handle, item, bound)
 }
 
-/// Writes the estimate of a number's weight plus the margin, or the greatest `u64` if the sum exceeds it.
+/// Writes the estimate of a number's weight plus a margin, or 2^64 - 1 if the sum exceeds it. The margin is e times the
+/// total over the number of buckets, rounded down.
+///
+/// Returns `NO_SKETCH` if the handle has no sketch, and `WRONG_KIND` if its sketch is of another kind. Then nothing
+/// changes.
 #[unsafe(no_mangle)]
-pub extern "C" fn ds_count_u64_upper_bound_i64(
+pub extern "C" fn ds_count_min_u64_upper_bound_i64(
     alloc: Global,
     handle: &mut SketchHandle,
     item: i64,
     bound: &mut u64,
 ) -> i32
     ensures kept { handle.new.value ≡ handle.old.value }
-    ensures bound { Bounds count_u64_of greatest_u64 handle.old.value handle.new.value result (fed_bytes fed.i64 item) (pos bound.new) }
+    ensures bound { Bounds count_u64_of max_u64 handle.old.value handle.new.value result (fed_bytes fed.i64 item) (pos bound.new) }
     ensures untouched { OnRefused result (bound.new ≡ bound.old) }
 {
     count::upper_bound(alloc, handle, item, bound)
 }
 
-/// Writes the estimate of a string's weight plus the margin, or the greatest `u64` if the sum exceeds it. Returns
-/// `InvalidUtf8` if the bytes are not UTF-8.
+/// Writes the estimate of a string's weight plus a margin, or 2^64 - 1 if the sum exceeds it. The margin is e times the
+/// total over the number of buckets, rounded down.
+///
+/// Returns the first of these errors, and then changes nothing:
+///
+/// - `InvalidUtf8` if the bytes are not UTF-8.
+/// - `NO_SKETCH` if the handle has no sketch, and `WRONG_KIND` if its sketch is of another kind.
 #[unsafe(no_mangle)]
-pub extern "C" fn ds_count_u64_upper_bound_text(
+pub extern "C" fn ds_count_min_u64_upper_bound_string(
     alloc: Global,
     handle: &mut SketchHandle,
     item: &[u8],
@@ -224,47 +280,60 @@ pub extern "C" fn ds_count_u64_upper_bound_text(
 ) -> i32
     ensures kept { handle.new.value ≡ handle.old.value }
     ensures text { IsUtf8 item.now
-        → Bounds count_u64_of greatest_u64 handle.old.value handle.new.value result (fed_bytes fed.str item.now) (pos bound.new) }
+        → Bounds count_u64_of max_u64 handle.old.value handle.new.value result (fed_bytes fed.str item.now) (pos bound.new) }
     ensures no_text { ¬ (IsUtf8 item.now) → result ≡ refusal_number Fault.InvalidUtf8 }
     ensures untouched { OnRefused result (bound.new ≡ bound.old) }
 {
     on_text!(item => count::upper_bound(alloc, handle, item, bound))
 }
 
-/// Writes the estimate of a number's weight plus the margin, or the greatest `i64` if the sum exceeds it.
+/// Writes the estimate of a number's weight plus a margin, or 2^63 - 1 if the sum exceeds it. The margin is e times the
+/// total over the number of buckets, rounded down.
+///
+/// Returns `NO_SKETCH` if the handle has no sketch, and `WRONG_KIND` if its sketch is of another kind. Then nothing
+/// changes.
 #[unsafe(no_mangle)]
-pub extern "C" fn ds_count_i64_upper_bound_u64(
+pub extern "C" fn ds_count_min_i64_upper_bound_u64(
     alloc: Global,
     handle: &mut SketchHandle,
     item: u64,
     bound: &mut i64,
 ) -> i32
     ensures kept { handle.new.value ≡ handle.old.value }
-    ensures bound { Bounds count_i64_of greatest_i64 handle.old.value handle.new.value result (fed_bytes fed.u64 item) bound.new }
+    ensures bound { Bounds count_i64_of max_i64 handle.old.value handle.new.value result (fed_bytes fed.u64 item) bound.new }
     ensures untouched { OnRefused result (bound.new ≡ bound.old) }
 {
     count::upper_bound(alloc, handle, item, bound)
 }
 
-/// Writes the estimate of a number's weight plus the margin, or the greatest `i64` if the sum exceeds it.
+/// Writes the estimate of a number's weight plus a margin, or 2^63 - 1 if the sum exceeds it. The margin is e times the
+/// total over the number of buckets, rounded down.
+///
+/// Returns `NO_SKETCH` if the handle has no sketch, and `WRONG_KIND` if its sketch is of another kind. Then nothing
+/// changes.
 #[unsafe(no_mangle)]
-pub extern "C" fn ds_count_i64_upper_bound_i64(
+pub extern "C" fn ds_count_min_i64_upper_bound_i64(
     alloc: Global,
     handle: &mut SketchHandle,
     item: i64,
     bound: &mut i64,
 ) -> i32
     ensures kept { handle.new.value ≡ handle.old.value }
-    ensures bound { Bounds count_i64_of greatest_i64 handle.old.value handle.new.value result (fed_bytes fed.i64 item) bound.new }
+    ensures bound { Bounds count_i64_of max_i64 handle.old.value handle.new.value result (fed_bytes fed.i64 item) bound.new }
     ensures untouched { OnRefused result (bound.new ≡ bound.old) }
 {
     count::upper_bound(alloc, handle, item, bound)
 }
 
-/// Writes the estimate of a string's weight plus the margin, or the greatest `i64` if the sum exceeds it. Returns
-/// `InvalidUtf8` if the bytes are not UTF-8.
+/// Writes the estimate of a string's weight plus a margin, or 2^63 - 1 if the sum exceeds it. The margin is e times the
+/// total over the number of buckets, rounded down.
+///
+/// Returns the first of these errors, and then changes nothing:
+///
+/// - `InvalidUtf8` if the bytes are not UTF-8.
+/// - `NO_SKETCH` if the handle has no sketch, and `WRONG_KIND` if its sketch is of another kind.
 #[unsafe(no_mangle)]
-pub extern "C" fn ds_count_i64_upper_bound_text(
+pub extern "C" fn ds_count_min_i64_upper_bound_string(
     alloc: Global,
     handle: &mut SketchHandle,
     item: &[u8],
@@ -272,7 +341,7 @@ pub extern "C" fn ds_count_i64_upper_bound_text(
 ) -> i32
     ensures kept { handle.new.value ≡ handle.old.value }
     ensures text { IsUtf8 item.now
-        → Bounds count_i64_of greatest_i64 handle.old.value handle.new.value result (fed_bytes fed.str item.now) bound.new }
+        → Bounds count_i64_of max_i64 handle.old.value handle.new.value result (fed_bytes fed.str item.now) bound.new }
     ensures no_text { ¬ (IsUtf8 item.now) → result ≡ refusal_number Fault.InvalidUtf8 }
     ensures untouched { OnRefused result (bound.new ≡ bound.old) }
 {

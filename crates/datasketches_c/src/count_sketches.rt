@@ -1,4 +1,4 @@
-//! Count-Min sketches as wholes: made, merged, halved, decayed, described, written and read.
+//! Calls on whole Count-Min sketches: create, merge, halve, decay, describe, write and read.
 ghost use Rattle.std.specs.Prelude.{None, Some, pos, ◌<◌, ◌≡◌, ◌≢◌, ◌≤◌};
 ghost use Rattle.sketch_base.specs.Errors.{refusal_of};
 ghost use Rattle.sketch_countmin.specs.History.CountHistory.{Decay, Halve, New};
@@ -6,10 +6,11 @@ ghost use Rattle.sketch_countmin.specs.Image.{IsSpelled, early_fault_within, fir
 ghost use Rattle.sketch_countmin.specs.Shapes.{shape_fault};
 ghost use Rattle.sketch_countmin.specs.Stands.{Extends, StandsFor};
 ghost use Rattle.sketch_countmin.specs.State.{decayed_state, empty_state, halved_state};
-ghost use Rattle.datasketches_c.specs.CountCalls.{Describes, IsRestored, MergesInto};
+ghost use Rattle.datasketches_c.specs.CountCalls.{Describes, MergesInto};
+ghost use Rattle.datasketches_c.specs.CountImages.{IsRestored};
 ghost use Rattle.datasketches_c.specs.Images.{IsRefusedImage, WritesImage};
 ghost use Rattle.datasketches_c.specs.Kinds.{HoldsCountI64, HoldsCountU64, OnCountU64, OnKind, count_i64_of, count_u64_of};
-ghost use Rattle.datasketches_c.specs.Numbers.{OnDone, OnRefused, bad_fraction, greatest_i64, greatest_u64, least_i64, no_room, ok, refusal_number};
+ghost use Rattle.datasketches_c.specs.Numbers.{OnDone, OnRefused, bad_fraction, max_i64, max_u64, min_i64, no_room, ok, refusal_number};
 ghost use Rattle.datasketches_c.specs.declared.any_sketch.AnySketch.TheVariants.{CountI64, CountU64};
 
 use crate::count::{self, CountStatus};
@@ -21,13 +22,18 @@ use crate::status_code::{BAD_FRACTION, OK};
 use sketch_countmin::CountMinSketch;
 use std::alloc::Global;
 
-/// Puts an empty Count-Min sketch with weights in `u64` into the handle, and frees what the handle had. It has a row
-/// for each hash, and `num_buckets` cells in a row.
+/// Puts an empty Count-Min sketch with weights in `u64` into the handle, and frees what the handle had. The sketch has
+/// a row for each hash, and `num_buckets` cells in a row.
 ///
-/// Returns, in this order, `BadNumHashes` for 0 hashes, `BadNumBuckets` below 3 buckets, `TableTooLarge` for 2^30 cells
-/// or more, `ZeroSeedHash`, and `NoMemory`.
+/// Returns the first of these errors, and then changes nothing:
+///
+/// - `BadNumHashes` if `num_hashes` is 0.
+/// - `BadNumBuckets` if `num_buckets` is below 3.
+/// - `TableTooLarge` if there are 2^30 cells or more.
+/// - `ZeroSeedHash` if the seed's hash is 0.
+/// - `NoMemory` if an allocation fails.
 #[unsafe(no_mangle)]
-pub extern "C" fn ds_count_u64_new(
+pub extern "C" fn ds_count_min_u64_new(
     alloc: Global,
     handle: &mut SketchHandle,
     num_hashes: u8,
@@ -45,13 +51,18 @@ pub extern "C" fn ds_count_u64_new(
     put_made(alloc, handle, made)
 }
 
-/// Puts an empty Count-Min sketch with weights in `i64` into the handle, and frees what the handle had. It has a row
-/// for each hash, and `num_buckets` cells in a row.
+/// Puts an empty Count-Min sketch with weights in `i64` into the handle, and frees what the handle had. The sketch has
+/// a row for each hash, and `num_buckets` cells in a row.
 ///
-/// Returns, in this order, `BadNumHashes` for 0 hashes, `BadNumBuckets` below 3 buckets, `TableTooLarge` for 2^30 cells
-/// or more, `ZeroSeedHash`, and `NoMemory`.
+/// Returns the first of these errors, and then changes nothing:
+///
+/// - `BadNumHashes` if `num_hashes` is 0.
+/// - `BadNumBuckets` if `num_buckets` is below 3.
+/// - `TableTooLarge` if there are 2^30 cells or more.
+/// - `ZeroSeedHash` if the seed's hash is 0.
+/// - `NoMemory` if an allocation fails.
 #[unsafe(no_mangle)]
-pub extern "C" fn ds_count_i64_new(
+pub extern "C" fn ds_count_min_i64_new(
     alloc: Global,
     handle: &mut SketchHandle,
     num_hashes: u8,
@@ -71,41 +82,52 @@ pub extern "C" fn ds_count_i64_new(
 
 /// Adds the other sketch's cells and total. The other sketch stays as it was.
 ///
-/// Returns `Mismatch` if hashes, buckets or seeds differ, and `WeightOverflow` if the totals together exceed the
-/// greatest `u64`.
+/// Returns the first of these errors, and then changes nothing:
+///
+/// - `NO_SKETCH` if a handle has no sketch, and `WRONG_KIND` if its sketch is of another kind. The errors of `handle`
+///   come before those of `other`.
+/// - `Mismatch` if the numbers of hashes, the numbers of buckets, or the seeds differ.
+/// - `WeightOverflow` if the totals together exceed 2^64 - 1.
 #[unsafe(no_mangle)]
-pub extern "C" fn ds_count_u64_merge(
+pub extern "C" fn ds_count_min_u64_merge(
     alloc: Global,
     handle: &mut SketchHandle,
     other: &mut SketchHandle,
 ) -> i32
     ensures other { other.new.value ≡ other.old.value }
     ensures refused { OnRefused result (handle.new.value ≡ handle.old.value) }
-    ensures call { MergesInto count_u64_of greatest_u64 handle.old.value handle.new.value result other.old.value other.new.value }
+    ensures call { MergesInto count_u64_of max_u64 handle.old.value handle.new.value result other.old.value other.new.value }
 {
     count::merge::<u64>(alloc, handle, other)
 }
 
 /// Adds the other sketch's cells and total. The other sketch stays as it was.
 ///
-/// Returns `Mismatch` if hashes, buckets or seeds differ, and `WeightOverflow` if the totals together exceed the
-/// greatest `i64`.
+/// Returns the first of these errors, and then changes nothing:
+///
+/// - `NO_SKETCH` if a handle has no sketch, and `WRONG_KIND` if its sketch is of another kind. The errors of `handle`
+///   come before those of `other`.
+/// - `Mismatch` if the numbers of hashes, the numbers of buckets, or the seeds differ.
+/// - `WeightOverflow` if the totals together exceed 2^63 - 1.
 #[unsafe(no_mangle)]
-pub extern "C" fn ds_count_i64_merge(
+pub extern "C" fn ds_count_min_i64_merge(
     alloc: Global,
     handle: &mut SketchHandle,
     other: &mut SketchHandle,
 ) -> i32
     ensures other { other.new.value ≡ other.old.value }
     ensures refused { OnRefused result (handle.new.value ≡ handle.old.value) }
-    ensures call { MergesInto count_i64_of greatest_i64 handle.old.value handle.new.value result other.old.value other.new.value }
+    ensures call { MergesInto count_i64_of max_i64 handle.old.value handle.new.value result other.old.value other.new.value }
 {
     count::merge::<i64>(alloc, handle, other)
 }
 
 /// Halves each cell and the total, rounded down.
+///
+/// Returns `NO_SKETCH` if the handle has no sketch, and `WRONG_KIND` if its sketch is of another kind. Then nothing
+/// changes.
 #[unsafe(no_mangle)]
-pub extern "C" fn ds_count_u64_halve(alloc: Global, handle: &mut SketchHandle) -> i32
+pub extern "C" fn ds_count_min_u64_halve(alloc: Global, handle: &mut SketchHandle) -> i32
     ensures { OnCountU64 handle.old.value handle.new.value result (λ s.
         (result ≡ ok) × (handle.new.value ≡ Some (CountU64 (halved_state s))) × Extends s (halved_state s) Halve) }
 {
@@ -115,10 +137,14 @@ pub extern "C" fn ds_count_u64_halve(alloc: Global, handle: &mut SketchHandle) -
     })
 }
 
-/// Multiplies each cell and the total by a fraction, rounded down. Returns `BAD_FRACTION` unless the fraction is above
-/// 0 and at most 1.
+/// Multiplies each cell and the total by a fraction, rounded down.
+///
+/// Returns the first of these errors, and then changes nothing:
+///
+/// - `BAD_FRACTION` if `numerator` is 0 or exceeds `denominator`.
+/// - `NO_SKETCH` if the handle has no sketch, and `WRONG_KIND` if its sketch is of another kind.
 #[unsafe(no_mangle)]
-pub extern "C" fn ds_count_u64_decay(
+pub extern "C" fn ds_count_min_u64_decay(
     alloc: Global,
     handle: &mut SketchHandle,
     numerator: u64,
@@ -140,9 +166,13 @@ pub extern "C" fn ds_count_u64_decay(
     })
 }
 
-/// Writes the sketch's numbers: the total weight, the seed, the buckets of a row, and the hashes, which are rows.
+/// Writes the sketch's numbers: the total weight, the seed, the number of buckets in a row, and the number of hashes,
+/// one for each row.
+///
+/// Returns `NO_SKETCH` if the handle has no sketch, and `WRONG_KIND` if its sketch is of another kind. Then nothing
+/// changes.
 #[unsafe(no_mangle)]
-pub extern "C" fn ds_count_u64_status(
+pub extern "C" fn ds_count_min_u64_get_status(
     alloc: Global,
     handle: &mut SketchHandle,
     status: &mut CountStatus,
@@ -154,9 +184,13 @@ pub extern "C" fn ds_count_u64_status(
     count::status::<u64>(alloc, handle, status)
 }
 
-/// Writes the sketch's numbers: the total weight, the seed, the buckets of a row, and the hashes, which are rows.
+/// Writes the sketch's numbers: the total weight, the seed, the number of buckets in a row, and the number of hashes,
+/// one for each row.
+///
+/// Returns `NO_SKETCH` if the handle has no sketch, and `WRONG_KIND` if its sketch is of another kind. Then nothing
+/// changes.
 #[unsafe(no_mangle)]
-pub extern "C" fn ds_count_i64_status(
+pub extern "C" fn ds_count_min_i64_get_status(
     alloc: Global,
     handle: &mut SketchHandle,
     status: &mut CountStatus,
@@ -168,11 +202,17 @@ pub extern "C" fn ds_count_i64_status(
     count::status::<i64>(alloc, handle, status)
 }
 
-/// Writes the sketch's image to the front of `out`, and its length in bytes to `written`.
+/// Writes the sketch's image to the front of `out`, and the image's length in bytes to `written`. The rest of `out`
+/// stays as it was.
 ///
-/// Returns `NoMemory`, or `NO_ROOM` if the image is longer than `out`; then `written` is its length.
+/// Returns the first of these errors, and then changes nothing:
+///
+/// - `NO_SKETCH` if the handle has no sketch, and `WRONG_KIND` if its sketch is of another kind.
+/// - `NoMemory` if an allocation fails.
+///
+/// Returns `NO_ROOM` if the image is longer than `out`. Then `written` is the image's length, and `out` is unchanged.
 #[unsafe(no_mangle)]
-pub extern "C" fn ds_count_u64_to_bytes(
+pub extern "C" fn ds_count_min_u64_serialize(
     alloc: Global,
     handle: &mut SketchHandle,
     out: &mut [u8],
@@ -182,16 +222,22 @@ pub extern "C" fn ds_count_u64_to_bytes(
     ensures untouched { OnRefused result (out.new ≡ out.old) }
     ensures uncounted { result ≢ ok → result ≢ no_room → written.new ≡ written.old }
     ensures image { OnKind count_u64_of handle.old.value handle.new.value result (λ s.
-        WritesImage (λ image. IsSpelled (pos 0) greatest_u64 image s) out.old out.new written.new result) }
+        WritesImage (λ image. IsSpelled (pos 0) max_u64 image s) out.old out.new written.new result) }
 {
     to_bytes::<CountMinSketch<u64>>(alloc, handle, out, written)
 }
 
-/// Writes the sketch's image to the front of `out`, and its length in bytes to `written`.
+/// Writes the sketch's image to the front of `out`, and the image's length in bytes to `written`. The rest of `out`
+/// stays as it was.
 ///
-/// Returns `NoMemory`, or `NO_ROOM` if the image is longer than `out`; then `written` is its length.
+/// Returns the first of these errors, and then changes nothing:
+///
+/// - `NO_SKETCH` if the handle has no sketch, and `WRONG_KIND` if its sketch is of another kind.
+/// - `NoMemory` if an allocation fails.
+///
+/// Returns `NO_ROOM` if the image is longer than `out`. Then `written` is the image's length, and `out` is unchanged.
 #[unsafe(no_mangle)]
-pub extern "C" fn ds_count_i64_to_bytes(
+pub extern "C" fn ds_count_min_i64_serialize(
     alloc: Global,
     handle: &mut SketchHandle,
     out: &mut [u8],
@@ -201,7 +247,7 @@ pub extern "C" fn ds_count_i64_to_bytes(
     ensures untouched { OnRefused result (out.new ≡ out.old) }
     ensures uncounted { result ≢ ok → result ≢ no_room → written.new ≡ written.old }
     ensures image { OnKind count_i64_of handle.old.value handle.new.value result (λ s.
-        WritesImage (λ image. IsSpelled least_i64 greatest_i64 image s) out.old out.new written.new result) }
+        WritesImage (λ image. IsSpelled min_i64 max_i64 image s) out.old out.new written.new result) }
 {
     to_bytes::<CountMinSketch<i64>>(alloc, handle, out, written)
 }
@@ -209,24 +255,28 @@ pub extern "C" fn ds_count_i64_to_bytes(
 /// Reads a sketch from its image, which was written under this seed, puts it into the handle, and frees what the handle
 /// had.
 ///
-/// Returns the fault of the image's first failed check, `TableTooLarge` if the cells and the rows' seeds, of 8 bytes
-/// each, take more than `most_bytes`, and `NoMemory`.
+/// Returns the first of these errors, and then changes nothing:
+///
+/// - The error of the first failed check of the image's length and fields.
+/// - `TableTooLarge` if the cells and the rows' seeds, of 8 bytes each, take more than `max_bytes`.
+/// - `NoMemory` if an allocation fails.
+/// - The error of the first failed check of the total and the cells.
 #[unsafe(no_mangle)]
-pub extern "C" fn ds_count_u64_from_bytes(
+pub extern "C" fn ds_count_min_u64_deserialize(
     alloc: Global,
     handle: &mut SketchHandle,
     image: &[u8],
     seed: u64,
-    most_bytes: usize,
+    max_bytes: usize,
 ) -> i32
     ensures done { OnDone result ((result ≡ ok) × HoldsCountU64 handle.new.value
-        (IsRestored (pos 0) greatest_u64 seed image.now most_bytes)) }
+        (IsRestored (pos 0) max_u64 seed image.now max_bytes)) }
     ensures refused { OnRefused result ((handle.new.value ≡ handle.old.value) × IsRefusedImage
-        (early_fault_within 8 most_bytes seed image.now)
-        (first_fault_within (pos 0) greatest_u64 8 most_bytes seed image.now) result) }
+        (early_fault_within 8 max_bytes seed image.now)
+        (first_fault_within (pos 0) max_u64 8 max_bytes seed image.now) result) }
 {
     let read = CountMinSketch::<u64>::deserialize_with_seed_and_limit(
-        alloc, image, seed, most_bytes,
+        alloc, image, seed, max_bytes,
     );
     put_made(alloc, handle, read)
 }
@@ -234,24 +284,28 @@ pub extern "C" fn ds_count_u64_from_bytes(
 /// Reads a sketch from its image, which was written under this seed, puts it into the handle, and frees what the handle
 /// had.
 ///
-/// Returns the fault of the image's first failed check, `TableTooLarge` if the cells and the rows' seeds, of 8 bytes
-/// each, take more than `most_bytes`, and `NoMemory`.
+/// Returns the first of these errors, and then changes nothing:
+///
+/// - The error of the first failed check of the image's length and fields.
+/// - `TableTooLarge` if the cells and the rows' seeds, of 8 bytes each, take more than `max_bytes`.
+/// - `NoMemory` if an allocation fails.
+/// - The error of the first failed check of the total and the cells.
 #[unsafe(no_mangle)]
-pub extern "C" fn ds_count_i64_from_bytes(
+pub extern "C" fn ds_count_min_i64_deserialize(
     alloc: Global,
     handle: &mut SketchHandle,
     image: &[u8],
     seed: u64,
-    most_bytes: usize,
+    max_bytes: usize,
 ) -> i32
     ensures done { OnDone result ((result ≡ ok) × HoldsCountI64 handle.new.value
-        (IsRestored least_i64 greatest_i64 seed image.now most_bytes)) }
+        (IsRestored min_i64 max_i64 seed image.now max_bytes)) }
     ensures refused { OnRefused result ((handle.new.value ≡ handle.old.value) × IsRefusedImage
-        (early_fault_within 8 most_bytes seed image.now)
-        (first_fault_within least_i64 greatest_i64 8 most_bytes seed image.now) result) }
+        (early_fault_within 8 max_bytes seed image.now)
+        (first_fault_within min_i64 max_i64 8 max_bytes seed image.now) result) }
 {
     let read = CountMinSketch::<i64>::deserialize_with_seed_and_limit(
-        alloc, image, seed, most_bytes,
+        alloc, image, seed, max_bytes,
     );
     put_made(alloc, handle, read)
 }

@@ -1,4 +1,4 @@
-//! Count-Min sketches: many texts, whatever the type of the weights.
+//! Count-Min sketches and many strings, for any type of weights.
 ghost use Rattle.std.specs.Prelude.{◌≡◌, ◌+◌, ◌-◌, ◌<◌, ◌≤◌, length, map, take};
 ghost use Rattle.std.specs.Hash as fed;
 ghost use Rattle.sketch_base.specs.Hashes.{fed_bytes};
@@ -12,7 +12,7 @@ use crate::texts::{num_texts, text_at};
 use sketch_base::Fault;
 use sketch_countmin::{CountMinSketch, CountMinValue};
 
-/// Adds 1 to the weight of each text of a buffer, as far as the total has room, and answers the call's number.
+/// Adds 1 to the weight of each string of a buffer, in order, until the total is full. Returns the result's number.
 pub(crate) fn count_texts<T: CountMinValue>(
     sketch: &mut CountMinSketch<T>,
     bytes: &[u8],
@@ -25,7 +25,7 @@ pub(crate) fn count_texts<T: CountMinValue>(
     ensures overflow { T.greatest < sketch.old.total + length (texts_of bytes.now offsets.now)
         → result ≡ refusal_number Fault.WeightOverflow }
 {
-    // for the prover: it brings in what holds of every sketch
+    // for the prover: the facts that hold of every sketch
     let _ = sketch.num_hashes();
     let count = num_texts(bytes, offsets);
     'each: for i in 0..count {
@@ -36,7 +36,7 @@ pub(crate) fn count_texts<T: CountMinValue>(
     OK
 }
 
-/// Writes down the estimate of the weight of each text of a buffer.
+/// Writes the estimate of each string's weight, for the strings of a buffer.
 pub(crate) fn estimate_texts<T: CountMinValue>(
     sketch: &CountMinSketch<T>,
     bytes: &[u8],

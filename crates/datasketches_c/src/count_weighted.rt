@@ -1,4 +1,4 @@
-//! Count-Min sketches: many items, each with a weight, whatever the type of the weights.
+//! Count-Min sketches and many items, each with a weight, for any type of weights.
 ghost use Rattle.std.specs.Prelude.{◌≡◌, ◌+◌, ◌<◌, ◌≤◌, ◌↔◌, length, sum_by, unsigned_abs, IsTrue};
 ghost use Rattle.std.specs.Hash as fed;
 ghost use Rattle.sketch_base.specs.Hashes.{fed_bytes};
@@ -12,7 +12,7 @@ use sketch_base::Fault;
 use sketch_countmin::{CountMinSketch, CountMinValue};
 use std::hash::Hash;
 
-/// How much the total is below the type's greatest number.
+/// Returns the maximum of the weights' type minus the total.
 #[inline]
 fn room_of<T: CountMinValue>(sketch: &CountMinSketch<T>) -> u64
     ensures { sketch.now.total + result ≡ T.greatest }
@@ -20,7 +20,7 @@ fn room_of<T: CountMinValue>(sketch: &CountMinSketch<T>) -> u64
     T::MAX.to_number() as u64 - sketch.total_weight().to_number() as u64
 }
 
-/// A weight's distance from 0.
+/// Returns a weight's distance from 0.
 #[inline]
 fn size_of<T: CountMinValue>(weight: T) -> u64
     ensures { result ≡ unsigned_abs (T.number weight) }
@@ -28,7 +28,7 @@ fn size_of<T: CountMinValue>(weight: T) -> u64
     weight.to_number().unsigned_abs() as u64
 }
 
-/// Whether the total has room for all weights, each as its distance from 0.
+/// Returns whether the total has room for the distances of all weights from 0.
 fn weights_fit<T: CountMinValue>(sketch: &CountMinSketch<T>, weights: &[T]) -> bool
     ensures { IsTrue result
         ↔ (sketch.now.total + sum_by (λ weight. unsigned_abs (T.number weight)) weights.now ≤ T.greatest) }
@@ -44,7 +44,8 @@ fn weights_fit<T: CountMinValue>(sketch: &CountMinSketch<T>, weights: &[T]) -> b
     true
 }
 
-/// Adds a weight to that of each item, one after another, unless the total would pass the type's greatest number.
+/// Adds a weight to each item's, in order. Returns `WeightOverflow` if the total has no room for all weights. Then none
+/// is added.
 pub(crate) fn count_weighted<T: CountMinValue, I: Hash + Copy>(
     sketch: &mut CountMinSketch<T>,
     items: &[I],
@@ -66,7 +67,8 @@ pub(crate) fn count_weighted<T: CountMinValue, I: Hash + Copy>(
     OK
 }
 
-/// The same for each text of a buffer.
+/// Adds a weight to each string's, in order, for the strings of a buffer. Returns `WeightOverflow` if the total has no
+/// room for all weights. Then none is added.
 pub(crate) fn count_weighted_texts<T: CountMinValue>(
     sketch: &mut CountMinSketch<T>,
     bytes: &[u8],

@@ -1,4 +1,4 @@
-//! The sketches of two handles, compared in place.
+//! Calls that compare the sketches of two handles in place.
 ghost use Rattle.std.specs.Prelude.{◌≡◌, if◌then◌else◌};
 ghost use Rattle.datasketches_c.specs.Equality.{ComparesWith};
 ghost use Rattle.datasketches_c.specs.Kinds.{OnKind, count_i64_of, count_u64_of, filter_of};
@@ -35,10 +35,13 @@ fn equal<K: Kind + PartialEq>(
     on_kind!(alloc, handle, K, sketch => equal_to(alloc, sketch, other))
 }
 
-/// Returns `YES` if both filters have the same words, hashes, seed and positions, and `NO` otherwise. Both stay as they
-/// were.
+/// Returns `YES` if both filters have the same number of words, number of hashes, seed and positions, and `NO`
+/// otherwise. Both filters stay as they were.
+///
+/// Returns `NO_SKETCH` if a handle has no sketch, and `WRONG_KIND` if its sketch is of another kind. The errors of
+/// `handle` come before those of `other`.
 #[unsafe(no_mangle)]
-pub extern "C" fn ds_filter_equal(
+pub extern "C" fn ds_bloom_equal(
     alloc: Global,
     handle: &mut SketchHandle,
     other: &mut SketchHandle,
@@ -50,10 +53,13 @@ pub extern "C" fn ds_filter_equal(
     equal::<BloomFilter>(alloc, handle, other)
 }
 
-/// Returns `YES` if both sketches have the same hashes, buckets, seed, total and cells, and `NO` otherwise. Both stay
-/// as they were.
+/// Returns `YES` if both sketches have the same number of hashes, number of buckets, seed, total and cells, and `NO`
+/// otherwise. Both sketches stay as they were.
+///
+/// Returns `NO_SKETCH` if a handle has no sketch, and `WRONG_KIND` if its sketch is of another kind. The errors of
+/// `handle` come before those of `other`.
 #[unsafe(no_mangle)]
-pub extern "C" fn ds_count_u64_equal(
+pub extern "C" fn ds_count_min_u64_equal(
     alloc: Global,
     handle: &mut SketchHandle,
     other: &mut SketchHandle,
@@ -65,10 +71,13 @@ pub extern "C" fn ds_count_u64_equal(
     equal::<CountMinSketch<u64>>(alloc, handle, other)
 }
 
-/// Returns `YES` if both sketches have the same hashes, buckets, seed, total and cells, and `NO` otherwise. Both stay
-/// as they were.
+/// Returns `YES` if both sketches have the same number of hashes, number of buckets, seed, total and cells, and `NO`
+/// otherwise. Both sketches stay as they were.
+///
+/// Returns `NO_SKETCH` if a handle has no sketch, and `WRONG_KIND` if its sketch is of another kind. The errors of
+/// `handle` come before those of `other`.
 #[unsafe(no_mangle)]
-pub extern "C" fn ds_count_i64_equal(
+pub extern "C" fn ds_count_min_i64_equal(
     alloc: Global,
     handle: &mut SketchHandle,
     other: &mut SketchHandle,

@@ -1,4 +1,4 @@
-//! Filters: made, filled, asked, set against others, emptied, described, written and read.
+//! Calls on filters: create, insert, look up, combine, reset, describe, write and read.
 ghost use Rattle.std.specs.FinSet as set;
 ghost use Rattle.std.specs.Hash as fed;
 ghost use Rattle.std.specs.Prelude.{◌≡◌, ◌≢◌, Some, None, length, map, if◌then◌else◌};
@@ -30,12 +30,16 @@ use sketch_bloom::{BloomFilter, BloomFilterBuilder};
 use std::alloc::Global;
 use std::hash::Hash;
 
-/// Puts an empty filter of at least `num_bits` bits into the handle, and frees what the handle had.
+/// Puts an empty filter into the handle, and frees what the handle had. The filter has at least `num_bits` bits,
+/// rounded up to words of 64.
 ///
-/// Returns `BadNumBits` unless there are 1 to 137438953152 bits, `BadNumHashes` unless there are 1 to 32767 hashes, and
-/// `NoMemory`.
+/// Returns the first of these errors, and then changes nothing:
+///
+/// - `BadNumBits` unless `num_bits` is from 1 to 137438953152.
+/// - `BadNumHashes` unless `num_hashes` is from 1 to 32767.
+/// - `NoMemory` if an allocation fails.
 #[unsafe(no_mangle)]
-pub extern "C" fn ds_filter_new(
+pub extern "C" fn ds_bloom_new(
     alloc: Global,
     handle: &mut SketchHandle,
     num_bits: u64,
@@ -69,8 +73,11 @@ fn insert<I: Hash + Drop>(alloc: Global, handle: &mut SketchHandle, item: I) -> 
 }
 
 /// Inserts a number.
+///
+/// Returns `NO_SKETCH` if the handle has no sketch, and `WRONG_KIND` if its sketch is of another kind. Then nothing
+/// changes.
 #[unsafe(no_mangle)]
-pub extern "C" fn ds_filter_insert_u64(alloc: Global, handle: &mut SketchHandle, item: u64) -> i32
+pub extern "C" fn ds_bloom_insert_u64(alloc: Global, handle: &mut SketchHandle, item: u64) -> i32
     ensures { OnFilter handle.old.value handle.new.value result (λ s.
         (result ≡ ok) × (handle.new.value ≡ Some (Filter (inserted s (fed_bytes fed.u64 item))))
         × Extends s (inserted s (fed_bytes fed.u64 item)) (λ h. Insert h (fed_bytes fed.u64 item))) }
@@ -78,9 +85,12 @@ pub extern "C" fn ds_filter_insert_u64(alloc: Global, handle: &mut SketchHandle,
     insert(alloc, handle, item)
 }
 
-/// Inserts a number with a sign.
+/// Inserts a number.
+///
+/// Returns `NO_SKETCH` if the handle has no sketch, and `WRONG_KIND` if its sketch is of another kind. Then nothing
+/// changes.
 #[unsafe(no_mangle)]
-pub extern "C" fn ds_filter_insert_i64(alloc: Global, handle: &mut SketchHandle, item: i64) -> i32
+pub extern "C" fn ds_bloom_insert_i64(alloc: Global, handle: &mut SketchHandle, item: i64) -> i32
     ensures { OnFilter handle.old.value handle.new.value result (λ s.
         (result ≡ ok) × (handle.new.value ≡ Some (Filter (inserted s (fed_bytes fed.i64 item))))
         × Extends s (inserted s (fed_bytes fed.i64 item)) (λ h. Insert h (fed_bytes fed.i64 item))) }
@@ -88,9 +98,14 @@ pub extern "C" fn ds_filter_insert_i64(alloc: Global, handle: &mut SketchHandle,
     insert(alloc, handle, item)
 }
 
-/// Inserts a string. Returns `InvalidUtf8` if the bytes are not UTF-8.
+/// Inserts a string.
+///
+/// Returns the first of these errors, and then changes nothing:
+///
+/// - `InvalidUtf8` if the bytes are not UTF-8.
+/// - `NO_SKETCH` if the handle has no sketch, and `WRONG_KIND` if its sketch is of another kind.
 #[unsafe(no_mangle)]
-pub extern "C" fn ds_filter_insert_text(
+pub extern "C" fn ds_bloom_insert_string(
     alloc: Global,
     handle: &mut SketchHandle,
     item: &[u8],
@@ -118,9 +133,12 @@ fn insert_all<I: Hash>(alloc: Global, handle: &mut SketchHandle, items: &[I]) ->
     })
 }
 
-/// Inserts many numbers of this type, as one after another, and faster.
+/// Inserts many numbers, as one after another, and faster.
+///
+/// Returns `NO_SKETCH` if the handle has no sketch, and `WRONG_KIND` if its sketch is of another kind. Then nothing
+/// changes.
 #[unsafe(no_mangle)]
-pub extern "C" fn ds_filter_insert_all_u64(
+pub extern "C" fn ds_bloom_insert_all_u64(
     alloc: Global,
     handle: &mut SketchHandle,
     items: &[u64],
@@ -133,9 +151,12 @@ pub extern "C" fn ds_filter_insert_all_u64(
     insert_all(alloc, handle, items)
 }
 
-/// Inserts many numbers of this type, as one after another, and faster.
+/// Inserts many numbers, as one after another, and faster.
+///
+/// Returns `NO_SKETCH` if the handle has no sketch, and `WRONG_KIND` if its sketch is of another kind. Then nothing
+/// changes.
 #[unsafe(no_mangle)]
-pub extern "C" fn ds_filter_insert_all_i64(
+pub extern "C" fn ds_bloom_insert_all_i64(
     alloc: Global,
     handle: &mut SketchHandle,
     items: &[i64],
@@ -148,7 +169,7 @@ pub extern "C" fn ds_filter_insert_all_i64(
     insert_all(alloc, handle, items)
 }
 
-/// Whether the filter contains an item, for the calls below: 1 or 0.
+/// Returns whether the filter contains an item, as `YES` or `NO`, for the calls below.
 #[inline]
 fn contains<I: Hash>(alloc: Global, handle: &mut SketchHandle, item: &I) -> i32
     ensures kept { handle.new.value ≡ handle.old.value }
@@ -159,8 +180,11 @@ fn contains<I: Hash>(alloc: Global, handle: &mut SketchHandle, item: &I) -> i32
 }
 
 /// Returns `YES` if the filter contains a number, and `NO` otherwise.
+///
+/// Returns `NO_SKETCH` if the handle has no sketch, and `WRONG_KIND` if its sketch is of another kind. Then nothing
+/// changes.
 #[unsafe(no_mangle)]
-pub extern "C" fn ds_filter_contains_u64(alloc: Global, handle: &mut SketchHandle, item: u64) -> i32
+pub extern "C" fn ds_bloom_contains_u64(alloc: Global, handle: &mut SketchHandle, item: u64) -> i32
     ensures kept { handle.new.value ≡ handle.old.value }
     ensures answer { OnFilter handle.old.value handle.new.value result (λ s.
         result ≡ (if contains_item s (fed_bytes fed.u64 item) then yes else no)) }
@@ -168,9 +192,12 @@ pub extern "C" fn ds_filter_contains_u64(alloc: Global, handle: &mut SketchHandl
     contains(alloc, handle, &item)
 }
 
-/// Returns `YES` if the filter contains a number with a sign, and `NO` otherwise.
+/// Returns `YES` if the filter contains a number, and `NO` otherwise.
+///
+/// Returns `NO_SKETCH` if the handle has no sketch, and `WRONG_KIND` if its sketch is of another kind. Then nothing
+/// changes.
 #[unsafe(no_mangle)]
-pub extern "C" fn ds_filter_contains_i64(alloc: Global, handle: &mut SketchHandle, item: i64) -> i32
+pub extern "C" fn ds_bloom_contains_i64(alloc: Global, handle: &mut SketchHandle, item: i64) -> i32
     ensures kept { handle.new.value ≡ handle.old.value }
     ensures answer { OnFilter handle.old.value handle.new.value result (λ s.
         result ≡ (if contains_item s (fed_bytes fed.i64 item) then yes else no)) }
@@ -178,9 +205,14 @@ pub extern "C" fn ds_filter_contains_i64(alloc: Global, handle: &mut SketchHandl
     contains(alloc, handle, &item)
 }
 
-/// Returns `YES` if the filter contains a string, `NO` otherwise, and `InvalidUtf8` if the bytes are not UTF-8.
+/// Returns `YES` if the filter contains a string, and `NO` otherwise.
+///
+/// Returns the first of these errors, and then changes nothing:
+///
+/// - `InvalidUtf8` if the bytes are not UTF-8.
+/// - `NO_SKETCH` if the handle has no sketch, and `WRONG_KIND` if its sketch is of another kind.
 #[unsafe(no_mangle)]
-pub extern "C" fn ds_filter_contains_text(
+pub extern "C" fn ds_bloom_contains_string(
     alloc: Global,
     handle: &mut SketchHandle,
     item: &[u8],
@@ -193,7 +225,8 @@ pub extern "C" fn ds_filter_contains_text(
     on_text!(item => contains(alloc, handle, &item))
 }
 
-/// Writes down for each item whether the filter contains it, for the calls below. There are as many answers as items.
+/// Writes for each item whether the filter contains it, for the calls below. Returns `NO_ROOM` if `items` and `answers`
+/// differ in length.
 #[inline]
 fn contains_all<I: Hash>(
     alloc: Global,
@@ -217,10 +250,14 @@ fn contains_all<I: Hash>(
     })
 }
 
-/// Writes for each number whether the filter contains it. Returns `NO_ROOM` unless there are as many answers as
-/// numbers.
+/// Writes for each number whether the filter contains it.
+///
+/// Returns the first of these errors, and then changes nothing:
+///
+/// - `NO_ROOM` if `items` and `answers` differ in length.
+/// - `NO_SKETCH` if the handle has no sketch, and `WRONG_KIND` if its sketch is of another kind.
 #[unsafe(no_mangle)]
-pub extern "C" fn ds_filter_contains_all_u64(
+pub extern "C" fn ds_bloom_contains_all_u64(
     alloc: Global,
     handle: &mut SketchHandle,
     items: &[u64],
@@ -236,10 +273,14 @@ pub extern "C" fn ds_filter_contains_all_u64(
     contains_all(alloc, handle, items, answers)
 }
 
-/// Writes for each number whether the filter contains it. Returns `NO_ROOM` unless there are as many answers as
-/// numbers.
+/// Writes for each number whether the filter contains it.
+///
+/// Returns the first of these errors, and then changes nothing:
+///
+/// - `NO_ROOM` if `items` and `answers` differ in length.
+/// - `NO_SKETCH` if the handle has no sketch, and `WRONG_KIND` if its sketch is of another kind.
 #[unsafe(no_mangle)]
-pub extern "C" fn ds_filter_contains_all_i64(
+pub extern "C" fn ds_bloom_contains_all_i64(
     alloc: Global,
     handle: &mut SketchHandle,
     items: &[i64],
@@ -255,7 +296,7 @@ pub extern "C" fn ds_filter_contains_all_i64(
     contains_all(alloc, handle, items, answers)
 }
 
-/// What becomes of the first of two filters.
+/// The set operations that combine a filter with another.
 #[derive(Clone, Copy)]
 pub(crate) enum SetOperation {
     Union,
@@ -279,10 +320,15 @@ impl Joins<SetOperation> for BloomFilter {
     }
 }
 
-/// Adds the other filter's positions. The other filter stays as it was. Returns `Mismatch` if bits, hashes or seeds
-/// differ.
+/// Adds the other filter's positions. The other filter stays as it was.
+///
+/// Returns the first of these errors, and then changes nothing:
+///
+/// - `NO_SKETCH` if a handle has no sketch, and `WRONG_KIND` if its sketch is of another kind. The errors of `handle`
+///   come before those of `other`.
+/// - `Mismatch` if the numbers of bits, the numbers of hashes, or the seeds differ.
 #[unsafe(no_mangle)]
-pub extern "C" fn ds_filter_union(
+pub extern "C" fn ds_bloom_union(
     alloc: Global,
     handle: &mut SketchHandle,
     other: &mut SketchHandle,
@@ -298,10 +344,15 @@ pub extern "C" fn ds_filter_union(
     join::<BloomFilter, SetOperation>(alloc, handle, other, SetOperation::Union)
 }
 
-/// Keeps the positions that both filters have. The other filter stays as it was. Returns `Mismatch` if bits, hashes or
-/// seeds differ.
+/// Keeps the positions that both filters have. The other filter stays as it was.
+///
+/// Returns the first of these errors, and then changes nothing:
+///
+/// - `NO_SKETCH` if a handle has no sketch, and `WRONG_KIND` if its sketch is of another kind. The errors of `handle`
+///   come before those of `other`.
+/// - `Mismatch` if the numbers of bits, the numbers of hashes, or the seeds differ.
 #[unsafe(no_mangle)]
-pub extern "C" fn ds_filter_intersect(
+pub extern "C" fn ds_bloom_intersect(
     alloc: Global,
     handle: &mut SketchHandle,
     other: &mut SketchHandle,
@@ -317,10 +368,15 @@ pub extern "C" fn ds_filter_intersect(
     join::<BloomFilter, SetOperation>(alloc, handle, other, SetOperation::Intersection)
 }
 
-/// Removes the other filter's positions. The other filter stays as it was. Returns `Mismatch` if bits, hashes or seeds
-/// differ.
+/// Removes the other filter's positions. The other filter stays as it was.
+///
+/// Returns the first of these errors, and then changes nothing:
+///
+/// - `NO_SKETCH` if a handle has no sketch, and `WRONG_KIND` if its sketch is of another kind. The errors of `handle`
+///   come before those of `other`.
+/// - `Mismatch` if the numbers of bits, the numbers of hashes, or the seeds differ.
 #[unsafe(no_mangle)]
-pub extern "C" fn ds_filter_difference(
+pub extern "C" fn ds_bloom_difference(
     alloc: Global,
     handle: &mut SketchHandle,
     other: &mut SketchHandle,
@@ -336,7 +392,7 @@ pub extern "C" fn ds_filter_difference(
     join::<BloomFilter, SetOperation>(alloc, handle, other, SetOperation::Difference)
 }
 
-/// A filter's numbers.
+/// The numbers of a filter.
 #[repr(C)]
 #[derive(Clone, Copy)]
 pub struct FilterStatus {
@@ -347,8 +403,11 @@ pub struct FilterStatus {
 }
 
 /// Removes all positions.
+///
+/// Returns `NO_SKETCH` if the handle has no sketch, and `WRONG_KIND` if its sketch is of another kind. Then nothing
+/// changes.
 #[unsafe(no_mangle)]
-pub extern "C" fn ds_filter_reset(alloc: Global, handle: &mut SketchHandle) -> i32
+pub extern "C" fn ds_bloom_reset(alloc: Global, handle: &mut SketchHandle) -> i32
     ensures { OnFilter handle.old.value handle.new.value result (λ s.
         (result ≡ ok) × (handle.new.value ≡ Some (Filter (cleared s))) × Extends s (cleared s) Reset) }
 {
@@ -358,9 +417,12 @@ pub extern "C" fn ds_filter_reset(alloc: Global, handle: &mut SketchHandle) -> i
     })
 }
 
-/// Writes the filter's numbers.
+/// Writes the filter's numbers: its set bits, all its bits, the seed, and the number of hashes.
+///
+/// Returns `NO_SKETCH` if the handle has no sketch, and `WRONG_KIND` if its sketch is of another kind. Then nothing
+/// changes.
 #[unsafe(no_mangle)]
-pub extern "C" fn ds_filter_status(
+pub extern "C" fn ds_bloom_get_status(
     alloc: Global,
     handle: &mut SketchHandle,
     status: &mut FilterStatus,
@@ -393,11 +455,17 @@ impl HasImage for BloomFilter {
     }
 }
 
-/// Writes the filter's image to the front of `out`, and its length in bytes to `written`.
+/// Writes the filter's image to the front of `out`, and the image's length in bytes to `written`. The rest of `out`
+/// stays as it was.
 ///
-/// Returns `NoMemory`, or `NO_ROOM` if the image is longer than `out`; then `written` is its length.
+/// Returns the first of these errors, and then changes nothing:
+///
+/// - `NO_SKETCH` if the handle has no sketch, and `WRONG_KIND` if its sketch is of another kind.
+/// - `NoMemory` if an allocation fails.
+///
+/// Returns `NO_ROOM` if the image is longer than `out`. Then `written` is the image's length, and `out` is unchanged.
 #[unsafe(no_mangle)]
-pub extern "C" fn ds_filter_to_bytes(
+pub extern "C" fn ds_bloom_serialize(
     alloc: Global,
     handle: &mut SketchHandle,
     out: &mut [u8],
@@ -414,19 +482,23 @@ pub extern "C" fn ds_filter_to_bytes(
 
 /// Reads a filter from its image, puts it into the handle, and frees what the handle had.
 ///
-/// Returns the fault of the image's first failed check, `TableTooLarge` if the words, of 8 bytes each, take more than
-/// `most_bytes`, and `NoMemory`.
+/// Returns the first of these errors, and then changes nothing:
+///
+/// - The error of the first failed check of the image's length and fields.
+/// - `TableTooLarge` if the words, of 8 bytes each, take more than `max_bytes`.
+/// - `NoMemory` if an allocation fails.
+/// - `BadBitCount` if the image's number of set bits is wrong.
 #[unsafe(no_mangle)]
-pub extern "C" fn ds_filter_from_bytes(
+pub extern "C" fn ds_bloom_deserialize(
     alloc: Global,
     handle: &mut SketchHandle,
     image: &[u8],
-    most_bytes: usize,
+    max_bytes: usize,
 ) -> i32
-    ensures done { OnDone result ((result ≡ ok) × HoldsFilter handle.new.value (IsRestored image.now most_bytes)) }
+    ensures done { OnDone result ((result ≡ ok) × HoldsFilter handle.new.value (IsRestored image.now max_bytes)) }
     ensures refused { OnRefused result ((handle.new.value ≡ handle.old.value) × IsRefusedImage
-        (early_fault_within most_bytes image.now) (first_fault_within most_bytes image.now) result) }
+        (early_fault_within max_bytes image.now) (first_fault_within max_bytes image.now) result) }
 {
-    let read = BloomFilter::deserialize_with_limit(alloc, image, most_bytes);
+    let read = BloomFilter::deserialize_with_limit(alloc, image, max_bytes);
     put_made(alloc, handle, read)
 }

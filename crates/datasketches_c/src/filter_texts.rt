@@ -1,4 +1,4 @@
-//! Filters: many texts, inserted and asked for.
+//! Filters and many strings: insert and look up.
 ghost use Rattle.std.specs.Hash as fed;
 ghost use Rattle.std.specs.Prelude.{◌≡◌, length, map};
 ghost use Rattle.sketch_base.specs.Hashes.{fed_bytes};
@@ -10,7 +10,7 @@ ghost use Rattle.datasketches_c.specs.Texts.{AreTexts, AreTextsIn, texts_of};
 use crate::texts::{num_texts, text_at};
 use sketch_bloom::BloomFilter;
 
-/// Inserts each text of a buffer.
+/// Inserts each string of a buffer.
 pub(crate) fn insert_texts(filter: &mut BloomFilter, bytes: &[u8], offsets: &[u64])
     requires { AreTexts bytes.now offsets.now }
     ensures insertions { filter.new ≡ all_inserted filter.old (map (fed_bytes fed.str) (texts_of bytes.now offsets.now)) }
@@ -23,7 +23,7 @@ pub(crate) fn insert_texts(filter: &mut BloomFilter, bytes: &[u8], offsets: &[u6
     }
 }
 
-/// Writes down for each text of a buffer whether the filter contains it.
+/// Writes for each string of a buffer whether the filter contains it.
 pub(crate) fn contains_texts(
     filter: &BloomFilter,
     bytes: &[u8],

@@ -1,4 +1,4 @@
-//! Frequent-items sketches behind handles, whatever the items.
+//! Calls on sketches of frequent items in handles, for any type of items.
 ghost use Rattle.std.specs.Ordering.{int_eq};
 ghost use Rattle.std.specs.Prelude.{◌≡◌, ◌≢◌, IsTrue, length, nat_eq};
 ghost use Rattle.sketch_frequencies.specs.Items.{i64_codec, u64_codec};
@@ -24,7 +24,7 @@ use sketch_frequencies::{FrequentItemValue, FrequentItemsSketch};
 use std::alloc::Global;
 use std::hash::Hash;
 
-/// What a sketch says of an item's weight: it lies between both bounds.
+/// The estimate of an item's weight, and its bounds. The true weight lies between the bounds.
 #[repr(C)]
 #[derive(Clone, Copy)]
 pub struct FrequentBounds {
@@ -33,7 +33,7 @@ pub struct FrequentBounds {
     pub upper_bound: u64,
 }
 
-/// A sketch's numbers.
+/// The numbers of a sketch of frequent items.
 #[repr(C)]
 #[derive(Clone, Copy)]
 pub struct FrequentStatus {
@@ -46,7 +46,7 @@ pub struct FrequentStatus {
     pub sample_size: u64,
 }
 
-/// Adds a weight to an item's in a sketch.
+/// Adds a weight to an item's in a sketch. Returns the result's number.
 pub(crate) fn add<T: Eq + Hash + Drop>(
     sketch: &mut FrequentItemsSketch<T>,
     item: T,
@@ -77,7 +77,7 @@ where
     on_kind!(alloc, handle, FrequentItemsSketch<T>, sketch => add(sketch, item, weight))
 }
 
-/// Adds 1 to the weight of each item in a sketch.
+/// Adds 1 to the weight of each item in a sketch, in order. Returns the result's number.
 fn add_all<T: Eq + Hash + Clone + Drop>(sketch: &mut FrequentItemsSketch<T>, items: &[T]) -> i32
     requires clones { (x y : T) → T.is_clone x y → IsTrue (T.eq x y) }
     ensures { UpdatesMany T.eq sketch.old items.now sketch.new result }
@@ -88,7 +88,7 @@ fn add_all<T: Eq + Hash + Clone + Drop>(sketch: &mut FrequentItemsSketch<T>, ite
     }
 }
 
-/// Adds 1 to the weight of each item, one after another.
+/// Adds 1 to the weight of each item, in order.
 pub(crate) fn update_all<T: Eq + Hash + Clone + Drop>(
     alloc: Global,
     handle: &mut SketchHandle,
@@ -103,7 +103,7 @@ where
     on_kind!(alloc, handle, FrequentItemsSketch<T>, sketch => add_all(sketch, items))
 }
 
-/// Adds a weight to that of each item, one after another.
+/// Adds a weight to each item's, in order. Returns `NO_ROOM` if `items` and `weights` differ in length.
 pub(crate) fn update_all_weighted<T: Eq + Hash + Copy + Drop>(
     alloc: Global,
     handle: &mut SketchHandle,
@@ -124,7 +124,7 @@ where
     on_kind!(alloc, handle, FrequentItemsSketch<T>, sketch => add_weighted(sketch, items, weights))
 }
 
-/// What the sketch says of an item.
+/// Returns the bounds and the estimate of an item's weight.
 pub(crate) fn bounds_of<T: Eq + Hash + Drop>(
     sketch: &FrequentItemsSketch<T>,
     item: &T,
@@ -138,7 +138,7 @@ pub(crate) fn bounds_of<T: Eq + Hash + Drop>(
     }
 }
 
-/// Writes down the bounds and the estimate of an item's weight.
+/// Writes the bounds and the estimate of an item's weight.
 pub(crate) fn bounds<T: Eq + Hash + Drop>(
     alloc: Global,
     handle: &mut SketchHandle,
@@ -156,7 +156,7 @@ where
     })
 }
 
-/// Writes down what the sketch says of each item.
+/// Writes a sketch's bounds and estimate of each item's weight.
 fn bounds_of_all<T: Eq + Hash + Drop>(
     sketch: &FrequentItemsSketch<T>,
     items: &[T],
@@ -170,7 +170,8 @@ fn bounds_of_all<T: Eq + Hash + Drop>(
     }
 }
 
-/// Writes down the bounds and the estimate of each item's weight. There are as many bounds as items.
+/// Writes the bounds and the estimate of each item's weight. Returns `NO_ROOM` if `items` and `bounds` differ in
+/// length.
 pub(crate) fn bounds_all<T: Eq + Hash + Drop>(
     alloc: Global,
     handle: &mut SketchHandle,
@@ -192,7 +193,7 @@ where
     })
 }
 
-/// Merges the other sketch into this one.
+/// Merges the other sketch into this one. Returns the result's number.
 fn merge<T: Eq + Hash + Clone + Drop>(
     sketch: &mut FrequentItemsSketch<T>,
     other: &FrequentItemsSketch<T>,
@@ -231,7 +232,8 @@ impl Joins<()> for FrequentItemsSketch<String> {
     }
 }
 
-/// Writes the report's rows to the front of both buffers, and says how many there are, also where there is no room.
+/// Writes a report's rows to the front of both buffers, and the number of rows to `count`. If a buffer is too short,
+/// only `count` is written.
 pub(crate) fn rows<T: Eq + Hash + Clone + Copy + Drop>(
     alloc: Global,
     handle: &mut SketchHandle,
@@ -255,7 +257,7 @@ where
     })
 }
 
-/// Forgets everything but the sizes.
+/// Removes all items and weights, and keeps the maximum size and the sample size.
 pub(crate) fn reset<T: Eq + Hash + Drop>(alloc: Global, handle: &mut SketchHandle) -> i32
 where
     FrequentItemsSketch<T>: Kind,
@@ -268,7 +270,7 @@ where
     })
 }
 
-/// Sets how many counters later purges of a sketch sample.
+/// Sets the number of counters that later purges of a sketch sample. Returns the result's number.
 fn resample<T: Eq + Hash + Drop>(sketch: &mut FrequentItemsSketch<T>, sample_size: usize) -> i32
     ensures resamples { Resamples T.eq sketch.old sample_size sketch.new result }
     ensures refused { OnRefused result (sketch.new ≡ sketch.old) }
@@ -279,7 +281,7 @@ fn resample<T: Eq + Hash + Drop>(sketch: &mut FrequentItemsSketch<T>, sample_siz
     }
 }
 
-/// Sets how many counters later purges sample.
+/// Sets the number of counters that later purges sample.
 pub(crate) fn set_sample_size<T: Eq + Hash + Drop>(
     alloc: Global,
     handle: &mut SketchHandle,
@@ -294,7 +296,7 @@ where
     on_kind!(alloc, handle, FrequentItemsSketch<T>, sketch => resample(sketch, sample_size))
 }
 
-/// The sketch's numbers.
+/// Returns the sketch's numbers.
 fn status_of<T: Eq + Hash + Drop>(sketch: &FrequentItemsSketch<T>) -> FrequentStatus
     ensures { AreNumbers sketch.now result }
 {
@@ -309,7 +311,7 @@ fn status_of<T: Eq + Hash + Drop>(sketch: &FrequentItemsSketch<T>) -> FrequentSt
     }
 }
 
-/// Writes down the sketch's numbers.
+/// Writes the sketch's numbers.
 pub(crate) fn status<T: Eq + Hash + Drop>(
     alloc: Global,
     handle: &mut SketchHandle,
@@ -326,8 +328,8 @@ where
     })
 }
 
-/// Writes the image of a sketch of numbers to the front of the caller's buffer. A number always has bytes, so the library
-/// refuses memory alone.
+/// Writes the image of a sketch of numbers to the front of the caller's buffer. Each number can be written, so the only
+/// error of the library is `NoMemory`.
 fn write_numbers<T: FrequentItemValue + Drop>(
     sketch: &FrequentItemsSketch<T>,
     out: &mut [u8],

@@ -1,4 +1,4 @@
-//! Weights that are added to sketches of frequent items, and what these say of items: bounds, and reports.
+//! Calls that add weights to sketches of frequent items, or read from them: bounds of items, and reports.
 ghost use Rattle.std.specs.Ordering.{int_eq};
 ghost use Rattle.std.specs.Prelude.{All, length, nat_eq, ◌+◌, ◌≡◌, ◌≢◌};
 ghost use Rattle.std.specs.Str.{IsUtf8};
@@ -24,10 +24,15 @@ use std::alloc::Global;
 
 /// Adds a weight to a string's. A weight of 0 changes nothing.
 ///
-/// Returns `InvalidUtf8` if the bytes are not UTF-8, `NoMemory` if the string cannot be copied or the table cannot
-/// grow, and `WeightOverflow` if the total would exceed the greatest `u64`.
+/// Returns the first of these errors, and then changes nothing:
+///
+/// - `InvalidUtf8` if the bytes are not UTF-8.
+/// - `NO_SKETCH` if the handle has no sketch, and `WRONG_KIND` if its sketch is of another kind.
+/// - `NoMemory` if the string cannot be copied.
+/// - `WeightOverflow` if the total would exceed 2^64 - 1.
+/// - `NoMemory` if the table cannot grow.
 #[unsafe(no_mangle)]
-pub extern "C" fn ds_frequent_text_update(
+pub extern "C" fn ds_frequent_items_string_update(
     alloc: Global,
     handle: &mut SketchHandle,
     item: &[u8],
@@ -45,9 +50,13 @@ pub extern "C" fn ds_frequent_text_update(
 
 /// Adds a weight to a number's. A weight of 0 changes nothing.
 ///
-/// Returns `WeightOverflow` if the total would exceed the greatest `u64`, and `NoMemory` if the table cannot grow.
+/// Returns the first of these errors, and then changes nothing:
+///
+/// - `NO_SKETCH` if the handle has no sketch, and `WRONG_KIND` if its sketch is of another kind.
+/// - `WeightOverflow` if the total would exceed 2^64 - 1.
+/// - `NoMemory` if the table cannot grow.
 #[unsafe(no_mangle)]
-pub extern "C" fn ds_frequent_u64_update(
+pub extern "C" fn ds_frequent_items_u64_update(
     alloc: Global,
     handle: &mut SketchHandle,
     item: u64,
@@ -62,9 +71,13 @@ pub extern "C" fn ds_frequent_u64_update(
 
 /// Adds a weight to a number's. A weight of 0 changes nothing.
 ///
-/// Returns `WeightOverflow` if the total would exceed the greatest `u64`, and `NoMemory` if the table cannot grow.
+/// Returns the first of these errors, and then changes nothing:
+///
+/// - `NO_SKETCH` if the handle has no sketch, and `WRONG_KIND` if its sketch is of another kind.
+/// - `WeightOverflow` if the total would exceed 2^64 - 1.
+/// - `NoMemory` if the table cannot grow.
 #[unsafe(no_mangle)]
-pub extern "C" fn ds_frequent_i64_update(
+pub extern "C" fn ds_frequent_items_i64_update(
     alloc: Global,
     handle: &mut SketchHandle,
     item: i64,
@@ -79,10 +92,13 @@ pub extern "C" fn ds_frequent_i64_update(
 
 /// Adds 1 to the weight of each number, in order.
 ///
-/// Returns the error of the first number for which `ds_frequent_u64_update` returns one; then the numbers before it are
-/// added, and no others.
+/// Returns `NO_SKETCH` if the handle has no sketch, and `WRONG_KIND` if its sketch is of another kind. Then nothing
+/// changes.
+///
+/// Returns the error of the first number for which `ds_frequent_items_u64_update` returns one. Then the numbers before
+/// it are added, and no others.
 #[unsafe(no_mangle)]
-pub extern "C" fn ds_frequent_u64_update_all(
+pub extern "C" fn ds_frequent_items_u64_update_all(
     alloc: Global,
     handle: &mut SketchHandle,
     items: &[u64],
@@ -95,10 +111,13 @@ pub extern "C" fn ds_frequent_u64_update_all(
 
 /// Adds 1 to the weight of each number, in order.
 ///
-/// Returns the error of the first number for which `ds_frequent_i64_update` returns one; then the numbers before it are
-/// added, and no others.
+/// Returns `NO_SKETCH` if the handle has no sketch, and `WRONG_KIND` if its sketch is of another kind. Then nothing
+/// changes.
+///
+/// Returns the error of the first number for which `ds_frequent_items_i64_update` returns one. Then the numbers before
+/// it are added, and no others.
 #[unsafe(no_mangle)]
-pub extern "C" fn ds_frequent_i64_update_all(
+pub extern "C" fn ds_frequent_items_i64_update_all(
     alloc: Global,
     handle: &mut SketchHandle,
     items: &[i64],
@@ -110,14 +129,21 @@ pub extern "C" fn ds_frequent_i64_update_all(
 }
 
 /// Adds a weight to each string's, in order. A weight of 0 changes nothing. The strings are the bytes between each
-/// offset and the next.
+/// offset and the next, so n strings have n + 1 offsets.
 ///
-/// Returns `BAD_OFFSETS` if there is no offset, one is below the one before it, or one passes the end of the bytes,
-/// then `NO_ROOM` unless there are as many weights as strings, then `InvalidUtf8` if some string is not UTF-8, and
-/// `WeightOverflow` if the total would exceed the greatest `u64` with all weights; then none is added. Returns
-/// `NoMemory` for the first string without memory; then the strings before it are added, and no others.
+/// Returns the first of these errors, and then changes nothing:
+///
+/// - `BAD_OFFSETS` if there is no offset, an offset is below the one before it, or an offset exceeds the number of
+///   bytes.
+/// - `NO_ROOM` if the number of strings is not the length of `weights`.
+/// - `InvalidUtf8` if a string is not UTF-8.
+/// - `NO_SKETCH` if the handle has no sketch, and `WRONG_KIND` if its sketch is of another kind.
+/// - `WeightOverflow` if the total would exceed 2^64 - 1 with all weights.
+///
+/// Returns `NoMemory` for the first string that cannot be copied, or for which the table cannot grow. Then the strings
+/// before it are added, and no others.
 #[unsafe(no_mangle)]
-pub extern "C" fn ds_frequent_text_update_all_weighted(
+pub extern "C" fn ds_frequent_items_string_update_all_weighted(
     alloc: Global,
     handle: &mut SketchHandle,
     bytes: &[u8],
@@ -143,11 +169,16 @@ pub extern "C" fn ds_frequent_text_update_all_weighted(
 
 /// Adds a weight to each number's, in order. A weight of 0 changes nothing.
 ///
-/// Returns `NO_ROOM` unless there are as many weights as numbers, and `WeightOverflow` if the total would exceed the
-/// greatest `u64` with all weights; then none is added. Returns `NoMemory` for the first number for which the table
-/// cannot grow; then the numbers before it are added, and no others.
+/// Returns the first of these errors, and then changes nothing:
+///
+/// - `NO_ROOM` if `items` and `weights` differ in length.
+/// - `NO_SKETCH` if the handle has no sketch, and `WRONG_KIND` if its sketch is of another kind.
+/// - `WeightOverflow` if the total would exceed 2^64 - 1 with all weights.
+///
+/// Returns `NoMemory` for the first number for which the table cannot grow. Then the numbers before it are added, and
+/// no others.
 #[unsafe(no_mangle)]
-pub extern "C" fn ds_frequent_u64_update_all_weighted(
+pub extern "C" fn ds_frequent_items_u64_update_all_weighted(
     alloc: Global,
     handle: &mut SketchHandle,
     items: &[u64],
@@ -164,11 +195,16 @@ pub extern "C" fn ds_frequent_u64_update_all_weighted(
 
 /// Adds a weight to each number's, in order. A weight of 0 changes nothing.
 ///
-/// Returns `NO_ROOM` unless there are as many weights as numbers, and `WeightOverflow` if the total would exceed the
-/// greatest `u64` with all weights; then none is added. Returns `NoMemory` for the first number for which the table
-/// cannot grow; then the numbers before it are added, and no others.
+/// Returns the first of these errors, and then changes nothing:
+///
+/// - `NO_ROOM` if `items` and `weights` differ in length.
+/// - `NO_SKETCH` if the handle has no sketch, and `WRONG_KIND` if its sketch is of another kind.
+/// - `WeightOverflow` if the total would exceed 2^64 - 1 with all weights.
+///
+/// Returns `NoMemory` for the first number for which the table cannot grow. Then the numbers before it are added, and
+/// no others.
 #[unsafe(no_mangle)]
-pub extern "C" fn ds_frequent_i64_update_all_weighted(
+pub extern "C" fn ds_frequent_items_i64_update_all_weighted(
     alloc: Global,
     handle: &mut SketchHandle,
     items: &[i64],
@@ -183,10 +219,15 @@ pub extern "C" fn ds_frequent_i64_update_all_weighted(
     frequent::update_all_weighted(alloc, handle, items, weights)
 }
 
-/// Writes the bounds and the estimate of a string's weight. Returns `InvalidUtf8` if the bytes are not UTF-8, and
-/// `NoMemory` if the string cannot be copied.
+/// Writes the bounds and the estimate of a string's weight.
+///
+/// Returns the first of these errors, and then changes nothing:
+///
+/// - `InvalidUtf8` if the bytes are not UTF-8.
+/// - `NO_SKETCH` if the handle has no sketch, and `WRONG_KIND` if its sketch is of another kind.
+/// - `NoMemory` if the string cannot be copied.
 #[unsafe(no_mangle)]
-pub extern "C" fn ds_frequent_text_bounds(
+pub extern "C" fn ds_frequent_items_string_bounds(
     alloc: Global,
     handle: &mut SketchHandle,
     item: &[u8],
@@ -204,8 +245,11 @@ pub extern "C" fn ds_frequent_text_bounds(
 }
 
 /// Writes the bounds and the estimate of a number's weight.
+///
+/// Returns `NO_SKETCH` if the handle has no sketch, and `WRONG_KIND` if its sketch is of another kind. Then nothing
+/// changes.
 #[unsafe(no_mangle)]
-pub extern "C" fn ds_frequent_u64_bounds(
+pub extern "C" fn ds_frequent_items_u64_bounds(
     alloc: Global,
     handle: &mut SketchHandle,
     item: u64,
@@ -220,8 +264,11 @@ pub extern "C" fn ds_frequent_u64_bounds(
 }
 
 /// Writes the bounds and the estimate of a number's weight.
+///
+/// Returns `NO_SKETCH` if the handle has no sketch, and `WRONG_KIND` if its sketch is of another kind. Then nothing
+/// changes.
 #[unsafe(no_mangle)]
-pub extern "C" fn ds_frequent_i64_bounds(
+pub extern "C" fn ds_frequent_items_i64_bounds(
     alloc: Global,
     handle: &mut SketchHandle,
     item: i64,
@@ -235,10 +282,14 @@ pub extern "C" fn ds_frequent_i64_bounds(
     frequent::bounds(alloc, handle, &item, bounds)
 }
 
-/// Writes the bounds and the estimate of each number's weight. Returns `NO_ROOM` unless there are as many bounds as
-/// numbers.
+/// Writes the bounds and the estimate of each number's weight.
+///
+/// Returns the first of these errors, and then changes nothing:
+///
+/// - `NO_ROOM` if `items` and `bounds` differ in length.
+/// - `NO_SKETCH` if the handle has no sketch, and `WRONG_KIND` if its sketch is of another kind.
 #[unsafe(no_mangle)]
-pub extern "C" fn ds_frequent_u64_bounds_all(
+pub extern "C" fn ds_frequent_items_u64_bounds_all(
     alloc: Global,
     handle: &mut SketchHandle,
     items: &[u64],
@@ -254,10 +305,14 @@ pub extern "C" fn ds_frequent_u64_bounds_all(
     frequent::bounds_all(alloc, handle, items, bounds)
 }
 
-/// Writes the bounds and the estimate of each number's weight. Returns `NO_ROOM` unless there are as many bounds as
-/// numbers.
+/// Writes the bounds and the estimate of each number's weight.
+///
+/// Returns the first of these errors, and then changes nothing:
+///
+/// - `NO_ROOM` if `items` and `bounds` differ in length.
+/// - `NO_SKETCH` if the handle has no sketch, and `WRONG_KIND` if its sketch is of another kind.
 #[unsafe(no_mangle)]
-pub extern "C" fn ds_frequent_i64_bounds_all(
+pub extern "C" fn ds_frequent_items_i64_bounds_all(
     alloc: Global,
     handle: &mut SketchHandle,
     items: &[i64],
@@ -274,16 +329,22 @@ pub extern "C" fn ds_frequent_i64_bounds_all(
 }
 
 /// Writes the tracked strings whose bound exceeds both the threshold and the error, in rows of descending estimates.
-/// The strings stand one after another at the front of `bytes`, string i from offset i up to offset i + 1, and their
-/// bounds at the front of `bounds`. The first offset is 0, and there is one more offset than rows. `count` is the
-/// number of rows, and `num_bytes` that of the bytes of all strings.
+/// The strings are written one after another to the front of `bytes`, and their bounds to the front of `bounds`. String
+/// i is the bytes from offset i up to offset i + 1. The first offset is 0, and there is one more offset than rows.
+/// `count` is the number of rows, and `num_bytes` is the number of bytes of all strings. The rest of the buffers stays
+/// as it was.
 ///
-/// With `no_false_negatives` the upper bound is compared, and each string is there whose true weight exceeds both.
-/// Otherwise the lower bound is compared, and no other string is there.
+/// With `no_false_negatives` the upper bound is compared. Then each string whose true weight exceeds both is listed.
+/// Otherwise the lower bound is compared. Then no other string is listed.
 ///
-/// Returns `NoMemory`, or `NO_ROOM` if a buffer is too short; then only `count` and `num_bytes` are written.
+/// Returns the first of these errors, and then changes nothing:
+///
+/// - `NO_SKETCH` if the handle has no sketch, and `WRONG_KIND` if its sketch is of another kind.
+/// - `NoMemory` if an allocation fails.
+///
+/// Returns `NO_ROOM` if a buffer is too short. Then only `count` and `num_bytes` are written.
 #[unsafe(no_mangle)]
-pub extern "C" fn ds_frequent_text_rows(
+pub extern "C" fn ds_frequent_items_string_rows(
     alloc: Global,
     handle: &mut SketchHandle,
     no_false_negatives: bool,
@@ -307,15 +368,21 @@ pub extern "C" fn ds_frequent_text_rows(
     on_kind!(alloc, handle, FrequentItemsSketch<String>, sketch => write_rows(sketch, no_false_negatives, threshold, bytes, offsets, bounds, count, num_bytes))
 }
 
-/// Writes the tracked numbers whose bound exceeds both the threshold and the error, in rows of descending estimates: a
-/// number and its bounds each, at the front of both buffers. `count` is the number of rows.
+/// Writes the tracked numbers whose bound exceeds both the threshold and the error, in rows of descending estimates. A
+/// row is a number at the front of `items`, and its bounds at the same index of `bounds`. `count` is the number of
+/// rows. The rest of both buffers stays as it was.
 ///
-/// With `no_false_negatives` the upper bound is compared, and each number is there whose true weight exceeds both.
-/// Otherwise the lower bound is compared, and no other number is there.
+/// With `no_false_negatives` the upper bound is compared. Then each number whose true weight exceeds both is listed.
+/// Otherwise the lower bound is compared. Then no other number is listed.
 ///
-/// Returns `NoMemory`, or `NO_ROOM` if a buffer is too short; then only `count` is written.
+/// Returns the first of these errors, and then changes nothing:
+///
+/// - `NO_SKETCH` if the handle has no sketch, and `WRONG_KIND` if its sketch is of another kind.
+/// - `NoMemory` if an allocation fails.
+///
+/// Returns `NO_ROOM` if a buffer has fewer places than there are rows. Then only `count` is written.
 #[unsafe(no_mangle)]
-pub extern "C" fn ds_frequent_u64_rows(
+pub extern "C" fn ds_frequent_items_u64_rows(
     alloc: Global,
     handle: &mut SketchHandle,
     no_false_negatives: bool,
@@ -342,15 +409,21 @@ pub extern "C" fn ds_frequent_u64_rows(
     )
 }
 
-/// Writes the tracked numbers whose bound exceeds both the threshold and the error, in rows of descending estimates: a
-/// number and its bounds each, at the front of both buffers. `count` is the number of rows.
+/// Writes the tracked numbers whose bound exceeds both the threshold and the error, in rows of descending estimates. A
+/// row is a number at the front of `items`, and its bounds at the same index of `bounds`. `count` is the number of
+/// rows. The rest of both buffers stays as it was.
 ///
-/// With `no_false_negatives` the upper bound is compared, and each number is there whose true weight exceeds both.
-/// Otherwise the lower bound is compared, and no other number is there.
+/// With `no_false_negatives` the upper bound is compared. Then each number whose true weight exceeds both is listed.
+/// Otherwise the lower bound is compared. Then no other number is listed.
 ///
-/// Returns `NoMemory`, or `NO_ROOM` if a buffer is too short; then only `count` is written.
+/// Returns the first of these errors, and then changes nothing:
+///
+/// - `NO_SKETCH` if the handle has no sketch, and `WRONG_KIND` if its sketch is of another kind.
+/// - `NoMemory` if an allocation fails.
+///
+/// Returns `NO_ROOM` if a buffer has fewer places than there are rows. Then only `count` is written.
 #[unsafe(no_mangle)]
-pub extern "C" fn ds_frequent_i64_rows(
+pub extern "C" fn ds_frequent_items_i64_rows(
     alloc: Global,
     handle: &mut SketchHandle,
     no_false_negatives: bool,

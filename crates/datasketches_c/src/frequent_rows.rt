@@ -1,4 +1,4 @@
-//! Reports on frequent items, whatever these are: rows in the caller's buffers.
+//! Reports on frequent items of any type, as rows in the caller's buffers.
 ghost use Rattle.std.specs.Prelude.{◌≡◌, ◌<◌, ◌≤◌, IsTrue, length, map};
 ghost use Rattle.datasketches_c.specs.FrequentRows.{LeavesRows, StandAtFront, WritesRows, bounds_in, error_type};
 ghost use Rattle.datasketches_c.specs.Numbers.{ok, no_room};
@@ -8,7 +8,8 @@ use crate::status_code::{NO_ROOM, OK, refusal_number};
 use sketch_frequencies::{ErrorType, FrequentItemsSketch, Row};
 use std::hash::Hash;
 
-/// Writes the report's rows to the front of both buffers, and says how many there are, also where there is no room.
+/// Writes a report's rows to the front of both buffers, and the number of rows to `count`. If a buffer is too short,
+/// only `count` is written.
 pub(crate) fn write_rows<T: Eq + Hash + Clone + Copy + Drop>(
     sketch: &FrequentItemsSketch<T>,
     no_false_negatives: bool,
@@ -28,7 +29,7 @@ pub(crate) fn write_rows<T: Eq + Hash + Clone + Copy + Drop>(
     }
 }
 
-/// Which mistakes a report may make.
+/// Returns the error type of a report.
 pub(crate) fn error_type_of(no_false_negatives: bool) -> ErrorType
     ensures { result ≡ error_type no_false_negatives }
 {
@@ -39,7 +40,8 @@ pub(crate) fn error_type_of(no_false_negatives: bool) -> ErrorType
     }
 }
 
-/// Copies rows to the front of both buffers, where there is room, and says how many there are.
+/// Copies rows to the front of both buffers, and writes the number of rows. Returns `NO_ROOM` if a buffer is too short.
+/// Then the buffers are unchanged.
 fn copy_rows<T: Copy>(
     rows: &[Row<T>],
     items: &mut [T],
@@ -63,7 +65,7 @@ fn copy_rows<T: Copy>(
     OK
 }
 
-/// Writes down the items of rows.
+/// Writes the items of rows.
 fn copy_items<T: Copy>(rows: &[Row<T>], items: &mut [T])
     requires same { length items.old ≡ length rows.now }
     ensures { items.new ≡ map (λ row. row.item) rows.now }
@@ -73,7 +75,7 @@ fn copy_items<T: Copy>(rows: &[Row<T>], items: &mut [T])
     }
 }
 
-/// Writes down the bounds of rows.
+/// Writes the bounds of rows.
 pub(crate) fn copy_bounds<T>(rows: &[Row<T>], bounds: &mut [FrequentBounds])
     requires same { length bounds.old ≡ length rows.now }
     ensures { bounds.new ≡ map bounds_in rows.now }

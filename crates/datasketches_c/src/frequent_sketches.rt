@@ -1,4 +1,4 @@
-//! Sketches of frequent items as wholes: made, merged, emptied, described, written and read.
+//! Calls on whole sketches of frequent items: create, merge, reset, describe, write and read.
 ghost use Rattle.std.specs.Ordering.{int_eq};
 ghost use Rattle.std.specs.Prelude.{None, Some, nat_eq, ◌≡◌, ◌≢◌};
 ghost use Rattle.std.specs.String.{string_bytes};
@@ -27,13 +27,17 @@ use sketch_frequencies::FrequentItemsSketch;
 use std::alloc::Global;
 
 /// Puts an empty sketch of frequent strings into the handle, and frees what the handle had. Its table may grow to
-/// `max_map_size` slots, a power of two from 8 to 2^30. Its purges sample `sample_size` counters, an even number from 2
-/// to three quarters of `max_map_size`, at most 1024.
+/// `max_map_size` slots. Its purges sample `sample_size` counters.
 ///
-/// Returns, in this order, `MapSizeNotPowerOfTwo`, `MapSizeTooSmall`, `MapSizeTooLarge`, `BadSampleSize` and
-/// `NoMemory`.
+/// Returns the first of these errors, and then changes nothing:
+///
+/// - `MapSizeNotPowerOfTwo` if `max_map_size` is not a power of two.
+/// - `MapSizeTooSmall` if `max_map_size` is below 8.
+/// - `MapSizeTooLarge` if `max_map_size` exceeds 2^30.
+/// - `BadSampleSize` unless `sample_size` is even, and from 2 to three quarters of `max_map_size`, at most 1024.
+/// - `NoMemory` if an allocation fails.
 #[unsafe(no_mangle)]
-pub extern "C" fn ds_frequent_text_new(
+pub extern "C" fn ds_frequent_items_string_new(
     alloc: Global,
     handle: &mut SketchHandle,
     max_map_size: usize,
@@ -52,13 +56,17 @@ pub extern "C" fn ds_frequent_text_new(
 }
 
 /// Puts an empty sketch of frequent numbers into the handle, and frees what the handle had. Its table may grow to
-/// `max_map_size` slots, a power of two from 8 to 2^30. Its purges sample `sample_size` counters, an even number from 2
-/// to three quarters of `max_map_size`, at most 1024.
+/// `max_map_size` slots. Its purges sample `sample_size` counters.
 ///
-/// Returns, in this order, `MapSizeNotPowerOfTwo`, `MapSizeTooSmall`, `MapSizeTooLarge`, `BadSampleSize` and
-/// `NoMemory`.
+/// Returns the first of these errors, and then changes nothing:
+///
+/// - `MapSizeNotPowerOfTwo` if `max_map_size` is not a power of two.
+/// - `MapSizeTooSmall` if `max_map_size` is below 8.
+/// - `MapSizeTooLarge` if `max_map_size` exceeds 2^30.
+/// - `BadSampleSize` unless `sample_size` is even, and from 2 to three quarters of `max_map_size`, at most 1024.
+/// - `NoMemory` if an allocation fails.
 #[unsafe(no_mangle)]
-pub extern "C" fn ds_frequent_u64_new(
+pub extern "C" fn ds_frequent_items_u64_new(
     alloc: Global,
     handle: &mut SketchHandle,
     max_map_size: usize,
@@ -77,13 +85,17 @@ pub extern "C" fn ds_frequent_u64_new(
 }
 
 /// Puts an empty sketch of frequent numbers into the handle, and frees what the handle had. Its table may grow to
-/// `max_map_size` slots, a power of two from 8 to 2^30. Its purges sample `sample_size` counters, an even number from 2
-/// to three quarters of `max_map_size`, at most 1024.
+/// `max_map_size` slots. Its purges sample `sample_size` counters.
 ///
-/// Returns, in this order, `MapSizeNotPowerOfTwo`, `MapSizeTooSmall`, `MapSizeTooLarge`, `BadSampleSize` and
-/// `NoMemory`.
+/// Returns the first of these errors, and then changes nothing:
+///
+/// - `MapSizeNotPowerOfTwo` if `max_map_size` is not a power of two.
+/// - `MapSizeTooSmall` if `max_map_size` is below 8.
+/// - `MapSizeTooLarge` if `max_map_size` exceeds 2^30.
+/// - `BadSampleSize` unless `sample_size` is even, and from 2 to three quarters of `max_map_size`, at most 1024.
+/// - `NoMemory` if an allocation fails.
 #[unsafe(no_mangle)]
-pub extern "C" fn ds_frequent_i64_new(
+pub extern "C" fn ds_frequent_items_i64_new(
     alloc: Global,
     handle: &mut SketchHandle,
     max_map_size: usize,
@@ -104,9 +116,14 @@ pub extern "C" fn ds_frequent_i64_new(
 /// Merges the other sketch into this one, which then stands for both streams and keeps its own sizes. The other sketch
 /// stays as it was.
 ///
-/// Returns `WeightOverflow` if the totals together exceed the greatest `u64`, and `NoMemory`.
+/// Returns the first of these errors, and then changes nothing:
+///
+/// - `NO_SKETCH` if a handle has no sketch, and `WRONG_KIND` if its sketch is of another kind. The errors of `handle`
+///   come before those of `other`.
+/// - `WeightOverflow` if the totals together exceed 2^64 - 1.
+/// - `NoMemory` if an allocation fails.
 #[unsafe(no_mangle)]
-pub extern "C" fn ds_frequent_text_merge(
+pub extern "C" fn ds_frequent_items_string_merge(
     alloc: Global,
     handle: &mut SketchHandle,
     other: &mut SketchHandle,
@@ -123,9 +140,14 @@ pub extern "C" fn ds_frequent_text_merge(
 /// Merges the other sketch into this one, which then stands for both streams and keeps its own sizes. The other sketch
 /// stays as it was.
 ///
-/// Returns `WeightOverflow` if the totals together exceed the greatest `u64`, and `NoMemory`.
+/// Returns the first of these errors, and then changes nothing:
+///
+/// - `NO_SKETCH` if a handle has no sketch, and `WRONG_KIND` if its sketch is of another kind. The errors of `handle`
+///   come before those of `other`.
+/// - `WeightOverflow` if the totals together exceed 2^64 - 1.
+/// - `NoMemory` if an allocation fails.
 #[unsafe(no_mangle)]
-pub extern "C" fn ds_frequent_u64_merge(
+pub extern "C" fn ds_frequent_items_u64_merge(
     alloc: Global,
     handle: &mut SketchHandle,
     other: &mut SketchHandle,
@@ -142,9 +164,14 @@ pub extern "C" fn ds_frequent_u64_merge(
 /// Merges the other sketch into this one, which then stands for both streams and keeps its own sizes. The other sketch
 /// stays as it was.
 ///
-/// Returns `WeightOverflow` if the totals together exceed the greatest `u64`, and `NoMemory`.
+/// Returns the first of these errors, and then changes nothing:
+///
+/// - `NO_SKETCH` if a handle has no sketch, and `WRONG_KIND` if its sketch is of another kind. The errors of `handle`
+///   come before those of `other`.
+/// - `WeightOverflow` if the totals together exceed 2^64 - 1.
+/// - `NoMemory` if an allocation fails.
 #[unsafe(no_mangle)]
-pub extern "C" fn ds_frequent_i64_merge(
+pub extern "C" fn ds_frequent_items_i64_merge(
     alloc: Global,
     handle: &mut SketchHandle,
     other: &mut SketchHandle,
@@ -158,37 +185,50 @@ pub extern "C" fn ds_frequent_i64_merge(
     join::<FrequentItemsSketch<i64>, ()>(alloc, handle, other, ())
 }
 
-/// Removes all items and weights. The greatest size and the sample size stay as they were.
+/// Removes all items and weights. The maximum size and the sample size stay as they were.
+///
+/// Returns `NO_SKETCH` if the handle has no sketch, and `WRONG_KIND` if its sketch is of another kind. Then nothing
+/// changes.
 #[unsafe(no_mangle)]
-pub extern "C" fn ds_frequent_text_reset(alloc: Global, handle: &mut SketchHandle) -> i32
+pub extern "C" fn ds_frequent_items_string_reset(alloc: Global, handle: &mut SketchHandle) -> i32
     ensures { OnFrequentTexts handle.old.value handle.new.value result (λ s.
         (result ≡ ok) × HoldsFrequentTexts handle.new.value (Empties text_eq s)) }
 {
     frequent::reset::<String>(alloc, handle)
 }
 
-/// Removes all items and weights. The greatest size and the sample size stay as they were.
+/// Removes all items and weights. The maximum size and the sample size stay as they were.
+///
+/// Returns `NO_SKETCH` if the handle has no sketch, and `WRONG_KIND` if its sketch is of another kind. Then nothing
+/// changes.
 #[unsafe(no_mangle)]
-pub extern "C" fn ds_frequent_u64_reset(alloc: Global, handle: &mut SketchHandle) -> i32
+pub extern "C" fn ds_frequent_items_u64_reset(alloc: Global, handle: &mut SketchHandle) -> i32
     ensures { OnFrequentU64 handle.old.value handle.new.value result (λ s.
         (result ≡ ok) × HoldsFrequentU64 handle.new.value (Empties nat_eq s)) }
 {
     frequent::reset::<u64>(alloc, handle)
 }
 
-/// Removes all items and weights. The greatest size and the sample size stay as they were.
+/// Removes all items and weights. The maximum size and the sample size stay as they were.
+///
+/// Returns `NO_SKETCH` if the handle has no sketch, and `WRONG_KIND` if its sketch is of another kind. Then nothing
+/// changes.
 #[unsafe(no_mangle)]
-pub extern "C" fn ds_frequent_i64_reset(alloc: Global, handle: &mut SketchHandle) -> i32
+pub extern "C" fn ds_frequent_items_i64_reset(alloc: Global, handle: &mut SketchHandle) -> i32
     ensures { OnFrequentI64 handle.old.value handle.new.value result (λ s.
         (result ≡ ok) × HoldsFrequentI64 handle.new.value (Empties int_eq s)) }
 {
     frequent::reset::<i64>(alloc, handle)
 }
 
-/// Sets how many counters later purges sample: an even number from 2 to three quarters of the greatest size, at most 1024. Nothing
-/// else changes. Returns `BadSampleSize` for another number; the sketch is then unchanged.
+/// Sets the number of counters that later purges sample. Nothing else changes.
+///
+/// Returns the first of these errors, and then changes nothing:
+///
+/// - `NO_SKETCH` if the handle has no sketch, and `WRONG_KIND` if its sketch is of another kind.
+/// - `BadSampleSize` unless `sample_size` is even, and from 2 to three quarters of the maximum size, at most 1024.
 #[unsafe(no_mangle)]
-pub extern "C" fn ds_frequent_text_set_sample_size(
+pub extern "C" fn ds_frequent_items_string_set_sample_size(
     alloc: Global,
     handle: &mut SketchHandle,
     sample_size: usize,
@@ -200,10 +240,14 @@ pub extern "C" fn ds_frequent_text_set_sample_size(
     frequent::set_sample_size::<String>(alloc, handle, sample_size)
 }
 
-/// Sets how many counters later purges sample: an even number from 2 to three quarters of the greatest size, at most 1024. Nothing
-/// else changes. Returns `BadSampleSize` for another number; the sketch is then unchanged.
+/// Sets the number of counters that later purges sample. Nothing else changes.
+///
+/// Returns the first of these errors, and then changes nothing:
+///
+/// - `NO_SKETCH` if the handle has no sketch, and `WRONG_KIND` if its sketch is of another kind.
+/// - `BadSampleSize` unless `sample_size` is even, and from 2 to three quarters of the maximum size, at most 1024.
 #[unsafe(no_mangle)]
-pub extern "C" fn ds_frequent_u64_set_sample_size(
+pub extern "C" fn ds_frequent_items_u64_set_sample_size(
     alloc: Global,
     handle: &mut SketchHandle,
     sample_size: usize,
@@ -215,10 +259,14 @@ pub extern "C" fn ds_frequent_u64_set_sample_size(
     frequent::set_sample_size::<u64>(alloc, handle, sample_size)
 }
 
-/// Sets how many counters later purges sample: an even number from 2 to three quarters of the greatest size, at most 1024. Nothing
-/// else changes. Returns `BadSampleSize` for another number; the sketch is then unchanged.
+/// Sets the number of counters that later purges sample. Nothing else changes.
+///
+/// Returns the first of these errors, and then changes nothing:
+///
+/// - `NO_SKETCH` if the handle has no sketch, and `WRONG_KIND` if its sketch is of another kind.
+/// - `BadSampleSize` unless `sample_size` is even, and from 2 to three quarters of the maximum size, at most 1024.
 #[unsafe(no_mangle)]
-pub extern "C" fn ds_frequent_i64_set_sample_size(
+pub extern "C" fn ds_frequent_items_i64_set_sample_size(
     alloc: Global,
     handle: &mut SketchHandle,
     sample_size: usize,
@@ -231,8 +279,11 @@ pub extern "C" fn ds_frequent_i64_set_sample_size(
 }
 
 /// Writes the sketch's numbers. Sizes are in slots, and capacities in counters.
+///
+/// Returns `NO_SKETCH` if the handle has no sketch, and `WRONG_KIND` if its sketch is of another kind. Then nothing
+/// changes.
 #[unsafe(no_mangle)]
-pub extern "C" fn ds_frequent_text_status(
+pub extern "C" fn ds_frequent_items_string_get_status(
     alloc: Global,
     handle: &mut SketchHandle,
     status: &mut FrequentStatus,
@@ -246,8 +297,11 @@ pub extern "C" fn ds_frequent_text_status(
 }
 
 /// Writes the sketch's numbers. Sizes are in slots, and capacities in counters.
+///
+/// Returns `NO_SKETCH` if the handle has no sketch, and `WRONG_KIND` if its sketch is of another kind. Then nothing
+/// changes.
 #[unsafe(no_mangle)]
-pub extern "C" fn ds_frequent_u64_status(
+pub extern "C" fn ds_frequent_items_u64_get_status(
     alloc: Global,
     handle: &mut SketchHandle,
     status: &mut FrequentStatus,
@@ -261,8 +315,11 @@ pub extern "C" fn ds_frequent_u64_status(
 }
 
 /// Writes the sketch's numbers. Sizes are in slots, and capacities in counters.
+///
+/// Returns `NO_SKETCH` if the handle has no sketch, and `WRONG_KIND` if its sketch is of another kind. Then nothing
+/// changes.
 #[unsafe(no_mangle)]
-pub extern "C" fn ds_frequent_i64_status(
+pub extern "C" fn ds_frequent_items_i64_get_status(
     alloc: Global,
     handle: &mut SketchHandle,
     status: &mut FrequentStatus,
@@ -275,12 +332,17 @@ pub extern "C" fn ds_frequent_i64_status(
     frequent::status::<i64>(alloc, handle, status)
 }
 
-/// Writes the sketch's image, without its sample size, to the front of `out`, and its length in bytes to `written`.
+/// Writes the sketch's image, without its sample size, to the front of `out`, and the image's length in bytes to
+/// `written`. The rest of `out` stays as it was.
 ///
-/// Returns `NoMemory`, `ItemTooLong` if a string has 2^32 bytes or more, or `NO_ROOM` if the image is longer than
-/// `out`; then `written` is its length.
+/// Returns the first of these errors, and then changes nothing:
+///
+/// - `NO_SKETCH` if the handle has no sketch, and `WRONG_KIND` if its sketch is of another kind.
+/// - `NoMemory` if an allocation fails, or `ItemTooLong` if a string has 2^32 bytes or more.
+///
+/// Returns `NO_ROOM` if the image is longer than `out`. Then `written` is the image's length, and `out` is unchanged.
 #[unsafe(no_mangle)]
-pub extern "C" fn ds_frequent_text_to_bytes(
+pub extern "C" fn ds_frequent_items_string_serialize(
     alloc: Global,
     handle: &mut SketchHandle,
     out: &mut [u8],
@@ -295,11 +357,17 @@ pub extern "C" fn ds_frequent_text_to_bytes(
     to_bytes::<FrequentItemsSketch<String>>(alloc, handle, out, written)
 }
 
-/// Writes the sketch's image, without its sample size, to the front of `out`, and its length in bytes to `written`.
+/// Writes the sketch's image, without its sample size, to the front of `out`, and the image's length in bytes to
+/// `written`. The rest of `out` stays as it was.
 ///
-/// Returns `NoMemory`, or `NO_ROOM` if the image is longer than `out`; then `written` is its length.
+/// Returns the first of these errors, and then changes nothing:
+///
+/// - `NO_SKETCH` if the handle has no sketch, and `WRONG_KIND` if its sketch is of another kind.
+/// - `NoMemory` if an allocation fails.
+///
+/// Returns `NO_ROOM` if the image is longer than `out`. Then `written` is the image's length, and `out` is unchanged.
 #[unsafe(no_mangle)]
-pub extern "C" fn ds_frequent_u64_to_bytes(
+pub extern "C" fn ds_frequent_items_u64_serialize(
     alloc: Global,
     handle: &mut SketchHandle,
     out: &mut [u8],
@@ -314,11 +382,17 @@ pub extern "C" fn ds_frequent_u64_to_bytes(
     to_bytes::<FrequentItemsSketch<u64>>(alloc, handle, out, written)
 }
 
-/// Writes the sketch's image, without its sample size, to the front of `out`, and its length in bytes to `written`.
+/// Writes the sketch's image, without its sample size, to the front of `out`, and the image's length in bytes to
+/// `written`. The rest of `out` stays as it was.
 ///
-/// Returns `NoMemory`, or `NO_ROOM` if the image is longer than `out`; then `written` is its length.
+/// Returns the first of these errors, and then changes nothing:
+///
+/// - `NO_SKETCH` if the handle has no sketch, and `WRONG_KIND` if its sketch is of another kind.
+/// - `NoMemory` if an allocation fails.
+///
+/// Returns `NO_ROOM` if the image is longer than `out`. Then `written` is the image's length, and `out` is unchanged.
 #[unsafe(no_mangle)]
-pub extern "C" fn ds_frequent_i64_to_bytes(
+pub extern "C" fn ds_frequent_items_i64_serialize(
     alloc: Global,
     handle: &mut SketchHandle,
     out: &mut [u8],
@@ -333,68 +407,81 @@ pub extern "C" fn ds_frequent_i64_to_bytes(
     to_bytes::<FrequentItemsSketch<i64>>(alloc, handle, out, written)
 }
 
-/// Reads a sketch from its image, puts it into the handle, and frees what the handle had. It takes the largest sample
-/// size, since an image has none.
+/// Reads a sketch from its image, puts it into the handle, and frees what the handle had. The sketch takes the maximum
+/// sample size, since an image has none.
 ///
-/// Returns the fault of the image's first failed check, `TableTooLarge` if the table, by its formula, and all bytes
-/// after the weights are more than `most_bytes`, and `NoMemory`.
+/// Returns the first of these errors, and then changes nothing:
+///
+/// - The error of the first failed check of the image's length and fields.
+/// - `TableTooLarge` if the table, by the formula of `ds_memory_bytes`, and all bytes of the image after the weights
+///   take more than `max_bytes`.
+/// - `NoMemory` if an allocation fails.
+/// - The error of the first failed check of the weights and the items.
 #[unsafe(no_mangle)]
-pub extern "C" fn ds_frequent_text_from_bytes(
+pub extern "C" fn ds_frequent_items_string_deserialize(
     alloc: Global,
     handle: &mut SketchHandle,
     image: &[u8],
-    most_bytes: usize,
+    max_bytes: usize,
 ) -> i32
     ensures done { OnDone result ((result ≡ ok) × HoldsFrequentTexts handle.new.value
-        (IsRestored text_row text_eq text_codec (λ text. string_bytes text) image.now most_bytes)) }
+        (IsRestored text_row text_eq text_codec (λ text. string_bytes text) image.now max_bytes)) }
     ensures refused { OnRefused result ((handle.new.value ≡ handle.old.value) × IsRefusedImage
-        (early_fault_within text_row most_bytes text_codec image.now)
-        (first_fault_within text_row most_bytes text_codec image.now) result) }
+        (early_fault_within text_row max_bytes text_codec image.now)
+        (first_fault_within text_row max_bytes text_codec image.now) result) }
 {
-    let read = FrequentItemsSketch::<String>::deserialize_with_limit(alloc, image, most_bytes);
+    let read = FrequentItemsSketch::<String>::deserialize_with_limit(alloc, image, max_bytes);
     put_made(alloc, handle, read)
 }
 
-/// Reads a sketch from its image, puts it into the handle, and frees what the handle had. It takes the largest sample
-/// size, since an image has none.
+/// Reads a sketch from its image, puts it into the handle, and frees what the handle had. The sketch takes the maximum
+/// sample size, since an image has none.
 ///
-/// Returns the fault of the image's first failed check, `TableTooLarge` if the table, by its formula, takes more than
-/// `most_bytes`, and `NoMemory`.
+/// Returns the first of these errors, and then changes nothing:
+///
+/// - The error of the first failed check of the image's length and fields.
+/// - `TableTooLarge` if the table takes more than `max_bytes` by the formula of `ds_memory_bytes`.
+/// - `NoMemory` if an allocation fails.
+/// - The error of the first failed check of the weights and the items.
 #[unsafe(no_mangle)]
-pub extern "C" fn ds_frequent_u64_from_bytes(
+pub extern "C" fn ds_frequent_items_u64_deserialize(
     alloc: Global,
     handle: &mut SketchHandle,
     image: &[u8],
-    most_bytes: usize,
+    max_bytes: usize,
 ) -> i32
     ensures done { OnDone result ((result ≡ ok) × HoldsFrequentU64 handle.new.value
-        (IsRestored u64_row nat_eq u64_codec (λ n. n) image.now most_bytes)) }
+        (IsRestored u64_row nat_eq u64_codec (λ n. n) image.now max_bytes)) }
     ensures refused { OnRefused result ((handle.new.value ≡ handle.old.value) × IsRefusedImage
-        (early_fault_within u64_row most_bytes u64_codec image.now)
-        (first_fault_within u64_row most_bytes u64_codec image.now) result) }
+        (early_fault_within u64_row max_bytes u64_codec image.now)
+        (first_fault_within u64_row max_bytes u64_codec image.now) result) }
 {
-    let read = FrequentItemsSketch::<u64>::deserialize_with_limit(alloc, image, most_bytes);
+    let read = FrequentItemsSketch::<u64>::deserialize_with_limit(alloc, image, max_bytes);
     put_made(alloc, handle, read)
 }
 
-/// Reads a sketch from its image, puts it into the handle, and frees what the handle had. It takes the largest sample
-/// size, since an image has none.
+/// Reads a sketch from its image, puts it into the handle, and frees what the handle had. The sketch takes the maximum
+/// sample size, since an image has none.
 ///
-/// Returns the fault of the image's first failed check, `TableTooLarge` if the table, by its formula, takes more than
-/// `most_bytes`, and `NoMemory`.
+/// Returns the first of these errors, and then changes nothing:
+///
+/// - The error of the first failed check of the image's length and fields.
+/// - `TableTooLarge` if the table takes more than `max_bytes` by the formula of `ds_memory_bytes`.
+/// - `NoMemory` if an allocation fails.
+/// - The error of the first failed check of the weights and the items.
 #[unsafe(no_mangle)]
-pub extern "C" fn ds_frequent_i64_from_bytes(
+pub extern "C" fn ds_frequent_items_i64_deserialize(
     alloc: Global,
     handle: &mut SketchHandle,
     image: &[u8],
-    most_bytes: usize,
+    max_bytes: usize,
 ) -> i32
     ensures done { OnDone result ((result ≡ ok) × HoldsFrequentI64 handle.new.value
-        (IsRestored i64_row int_eq i64_codec (λ n. n) image.now most_bytes)) }
+        (IsRestored i64_row int_eq i64_codec (λ n. n) image.now max_bytes)) }
     ensures refused { OnRefused result ((handle.new.value ≡ handle.old.value) × IsRefusedImage
-        (early_fault_within i64_row most_bytes i64_codec image.now)
-        (first_fault_within i64_row most_bytes i64_codec image.now) result) }
+        (early_fault_within i64_row max_bytes i64_codec image.now)
+        (first_fault_within i64_row max_bytes i64_codec image.now) result) }
 {
-    let read = FrequentItemsSketch::<i64>::deserialize_with_limit(alloc, image, most_bytes);
+    let read = FrequentItemsSketch::<i64>::deserialize_with_limit(alloc, image, max_bytes);
     put_made(alloc, handle, read)
 }

@@ -1,4 +1,4 @@
-//! Sketches of frequent texts: a text is made an item, many texts are added and asked for, and reports have texts.
+//! Sketches of frequent strings: updates and bounds of one string or many, and reports.
 ghost use Rattle.std.specs.List.{concat};
 ghost use Rattle.std.specs.Prelude.{◌≡◌, ◌+◌, length, ◌≤◌, ◌^◌, MatchOption};
 ghost use Rattle.datasketches_c.specs.FrequentBatches.{TellsOfTexts};
@@ -17,7 +17,7 @@ use sketch_base::Fault;
 use sketch_frequencies::{FrequentItemsSketch, Row};
 use std::alloc::Global;
 
-/// Adds a weight to a text's.
+/// Adds a weight to a string's. Returns the result's number.
 pub(crate) fn update_text(
     alloc: Global,
     sketch: &mut FrequentItemsSketch<String>,
@@ -34,7 +34,7 @@ pub(crate) fn update_text(
     }
 }
 
-/// Writes down what the sketch says of a text.
+/// Writes the bounds and the estimate of a string's weight. Returns `NoMemory` if the string cannot be copied.
 pub(crate) fn bounds_of_text(
     alloc: Global,
     sketch: &FrequentItemsSketch<String>,
@@ -53,7 +53,8 @@ pub(crate) fn bounds_of_text(
     }
 }
 
-/// Adds 1 to the weight of each text of a buffer, one after another.
+/// Adds 1 to the weight of each string of a buffer, in order. Returns the first error. Then the strings before it are
+/// added, and no others.
 pub(crate) fn update_texts(
     alloc: Global,
     sketch: &mut FrequentItemsSketch<String>,
@@ -73,7 +74,9 @@ pub(crate) fn update_texts(
     OK
 }
 
-/// What the sketch says of each text of a buffer.
+/// Writes the bounds and the estimate of each string's weight, for the strings of a buffer. Returns `NoMemory` for the
+/// first string that cannot be copied. Then the bounds of the strings before it are written, and the others stay as
+/// they were.
 pub(crate) fn bounds_of_texts(
     alloc: Global,
     sketch: &FrequentItemsSketch<String>,
@@ -94,7 +97,7 @@ pub(crate) fn bounds_of_texts(
     OK
 }
 
-/// How many bytes the texts of rows have, where that is below 2^64.
+/// Returns the number of bytes of all strings of rows, or `None` if it is 2^64 or more.
 fn num_bytes_of(rows: &[Row<String>]) -> Option<usize>
     ensures { MatchOption result (2 ^ 64 ≤ length (concat (row_texts rows.now))) (λ n. n ≡ length (concat (row_texts rows.now))) }
 {
@@ -109,7 +112,8 @@ fn num_bytes_of(rows: &[Row<String>]) -> Option<usize>
     Some(total)
 }
 
-/// Writes down the texts of rows one behind the other, and where each begins and the last one ends.
+/// Writes the strings of rows one after another, and their offsets: where each string begins, and where the last one
+/// ends.
 fn copy_texts(rows: &[Row<String>], bytes: &mut [u8], offsets: &mut [u64])
     requires bytes { length bytes.old ≡ length (concat (row_texts rows.now)) }
     requires offsets { length offsets.old ≡ length rows.now + 1 }
@@ -127,7 +131,8 @@ fn copy_texts(rows: &[Row<String>], bytes: &mut [u8], offsets: &mut [u64])
     }
 }
 
-/// Copies rows, whose texts have so many bytes, to the front of the buffers, where there is room.
+/// Copies rows, whose strings have `num_bytes` bytes, to the front of the buffers. Returns `NO_ROOM` if a buffer is too
+/// short. Then the buffers are unchanged.
 fn copy_rows(
     rows: &[Row<String>],
     num_bytes: usize,
@@ -151,8 +156,8 @@ fn copy_rows(
     OK
 }
 
-/// Writes the report's rows to the front of the buffers, and says how many rows and bytes there are, also where there is no
-/// room.
+/// Writes a report's rows to the front of the buffers, the number of rows to `count`, and the number of bytes to
+/// `num_bytes`. If a buffer is too short, only both numbers are written.
 pub(crate) fn write_rows(
     sketch: &FrequentItemsSketch<String>,
     no_false_negatives: bool,

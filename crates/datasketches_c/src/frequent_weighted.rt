@@ -1,8 +1,8 @@
-//! Frequent items: many of them, each with a weight.
+//! Sketches of frequent items and many items, each with a weight.
 ghost use Rattle.std.specs.Prelude.{◌≡◌, ◌+◌, ◌≤◌, ◌↔◌, length, sum, IsTrue};
 ghost use Rattle.datasketches_c.specs.FrequentCalls.{Updates};
 ghost use Rattle.datasketches_c.specs.FrequentTexts.{UpdatesText};
-ghost use Rattle.datasketches_c.specs.Numbers.{greatest_u64};
+ghost use Rattle.datasketches_c.specs.Numbers.{max_u64};
 ghost use Rattle.datasketches_c.specs.Texts.{AreTextsIn, texts_of};
 ghost use Rattle.datasketches_c.specs.Weights.{AddsWeights};
 
@@ -15,9 +15,9 @@ use sketch_frequencies::FrequentItemsSketch;
 use std::alloc::Global;
 use std::hash::Hash;
 
-/// Whether a total has room for all weights.
+/// Returns whether a total has room for all weights.
 fn weights_fit(total: u64, weights: &[u64]) -> bool
-    ensures { IsTrue result ↔ (total + sum weights.now ≤ greatest_u64) }
+    ensures { IsTrue result ↔ (total + sum weights.now ≤ max_u64) }
 {
     let mut room = u64::MAX - total;
     'each: for i in 0..weights.len() {
@@ -29,7 +29,10 @@ fn weights_fit(total: u64, weights: &[u64]) -> bool
     true
 }
 
-/// Adds a weight to that of each item, one after another, unless the total would pass the greatest `u64`.
+/// Adds a weight to each item's, in order.
+///
+/// Returns `WeightOverflow` if the total would exceed 2^64 - 1 with all weights. Then none is added. Returns `NoMemory`
+/// for the first item without memory. Then the items before it are added, and no others.
 pub(crate) fn add_weighted<T: Eq + Hash + Copy + Drop>(
     sketch: &mut FrequentItemsSketch<T>,
     items: &[T],
@@ -50,7 +53,10 @@ pub(crate) fn add_weighted<T: Eq + Hash + Copy + Drop>(
     OK
 }
 
-/// The same for each text of a buffer.
+/// Adds a weight to each string's, in order, for the strings of a buffer.
+///
+/// Returns `WeightOverflow` if the total would exceed 2^64 - 1 with all weights. Then none is added. Returns `NoMemory`
+/// for the first string without memory. Then the strings before it are added, and no others.
 pub(crate) fn add_weighted_texts(
     alloc: Global,
     sketch: &mut FrequentItemsSketch<String>,

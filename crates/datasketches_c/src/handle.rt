@@ -1,4 +1,4 @@
-//! What C holds of a sketch.
+//! Handles, which hold sketches for C.
 ghost use Rattle.std.specs.Prelude.{◌≡◌, Option, None, Some, MatchOption};
 ghost use Rattle.std.specs.Coded.{coded_option};
 ghost use Rattle.datasketches_c.specs.Numbers.{OnDone, OnRefused, ok, refusal_number};
@@ -12,7 +12,7 @@ use sketch_base::Fault;
 use std::alloc::Global;
 use std::marker::Model;
 
-/// A sketch on the heap, or none where the pointer is null.
+/// A pointer to a sketch on the heap. It is null if the handle has no sketch.
 #[repr(C)]
 pub struct SketchHandle {
     pub(crate) pointer: *mut u8,
@@ -30,7 +30,7 @@ impl Model for SketchHandle {
 }
 
 impl SketchHandle {
-    /// The handle of no sketch.
+    /// Creates a handle of no sketch.
     pub(crate) fn none(alloc: Global) -> SketchHandle
         ensures { result.value ≡ None }
     {
@@ -63,14 +63,14 @@ impl SketchHandle {
         })
     }
 
-    /// The handle of a sketch.
+    /// Creates the handle of a sketch.
     pub(crate) fn of(sketch: Box<AnySketch>) -> SketchHandle
         ensures { result.value ≡ Some sketch.value }
     {
         SketchHandle::from_raw_box(RawBox::of(sketch))
     }
 
-    /// The sketch of a handle.
+    /// Returns the sketch of a handle, if any.
     pub(crate) fn into_box(self) -> Option<Box<AnySketch>>
         ensures { MatchOption result (self.value ≡ None) (λ boxed. self.value ≡ Some boxed.value) }
     {
@@ -89,7 +89,7 @@ impl SketchHandle {
         std::mem::replace(self, SketchHandle::none(alloc)).into_box()
     }
 
-    /// Gives the handle, which has none, a sketch.
+    /// Puts a sketch into the handle, which has none.
     #[inline]
     pub(crate) fn give(&mut self, sketch: Box<AnySketch>)
         ensures { self.new.value ≡ Some sketch.value }
@@ -97,7 +97,8 @@ impl SketchHandle {
         *self = SketchHandle::of(sketch);
     }
 
-    /// Puts a sketch in place of what the handle has, which is freed.
+    /// Puts a sketch into the handle, and frees what the handle had. Returns `NoMemory` if an allocation fails. Then
+    /// the handle is unchanged.
     pub(crate) fn put(&mut self, alloc: Global, sketch: AnySketch) -> i32
         ensures done { OnDone result ((result ≡ ok) × (self.new.value ≡ Some sketch)) }
         ensures refused { OnRefused result
@@ -113,12 +114,12 @@ impl SketchHandle {
     }
 }
 
-/// Gives the sketch's memory back, where there is a sketch.
+/// Frees the handle's sketch, if any.
 impl Drop for SketchHandle {
     fn drop(self) {
         drop(self.into_box());
     }
 }
 
-// A thread may hand a handle to another: it owns its sketch alone. The law is proved.
+// A thread may pass a handle to another thread, since a handle alone owns its sketch. The law is proved.
 unsafe impl Send for SketchHandle {}

@@ -8,7 +8,8 @@ use crate::kind::{Kind, on_kind};
 use crate::status_code::{NO_ROOM, OK};
 use std::alloc::Global;
 
-/// Copies an image to the front of the caller's buffer, where there is room, and says how long it is.
+/// Copies an image to the front of the caller's buffer, and writes its length. Returns `NO_ROOM` if the buffer is too
+/// short. Then the buffer is unchanged.
 pub(crate) fn copy_out(image: &[u8], out: &mut [u8], written: &mut usize) -> i32
     ensures length { written.new ≡ length image.now }
     ensures uncounted { result ≢ ok → result ≢ no_room → written.new ≡ written.old }
@@ -25,11 +26,11 @@ pub(crate) fn copy_out(image: &[u8], out: &mut [u8], written: &mut usize) -> i32
     OK
 }
 
-/// A kind of sketches that are written as images.
+/// A kind of sketches that can be written as images.
 pub(crate) trait HasImage: Kind {
     ghost writes: { Self → List ℕ → List ℕ → ℕ → ℤ → Type 0 };
 
-    /// Writes the sketch's image to the front of the caller's buffer, and answers the call's number.
+    /// Writes the sketch's image to the front of the caller's buffer. Returns the result's number.
     fn write_to(&self, out: &mut [u8], written: &mut usize) -> i32
         ensures image { writes self.now out.old out.new written.new result }
         ensures untouched { OnRefused result (out.new ≡ out.old) }

@@ -1,4 +1,4 @@
-//! The sketches of two handles, joined.
+//! Calls that combine the sketches of two handles.
 ghost use Rattle.std.specs.Prelude.{◌≡◌, ℤ};
 ghost use Rattle.datasketches_c.specs.Kinds.{OnKind, HoldsKind};
 ghost use Rattle.datasketches_c.specs.Numbers.{OnRefused};
@@ -7,17 +7,17 @@ use crate::handle::SketchHandle;
 use crate::kind::{Kind, on_kind};
 use std::alloc::Global;
 
-/// A kind of sketches that others of the kind are joined to, in one of some ways.
+/// A kind of sketches that can be combined with other sketches of the kind. A value of type `W` selects the way.
 pub(crate) trait Joins<W>: Kind {
     ghost joins: { W → Self → Self → Self → ℤ → Type 0 };
 
-    /// Joins the other sketch to this one, and answers the call's number.
+    /// Combines the other sketch into this one. Returns the result's number.
     fn join_with(&mut self, other: &Self, way: W) -> i32
         ensures call { joins way self.old other.now self.new result }
         ensures refused { OnRefused result (self.new ≡ self.old) };
 }
 
-/// Joins the sketch of a handle, which keeps it, to a sketch.
+/// Combines the sketch of a handle, which keeps it, into a sketch.
 fn join_into<K: Joins<W>, W: Copy>(
     alloc: Global,
     sketch: &mut K,
@@ -32,8 +32,8 @@ fn join_into<K: Joins<W>, W: Copy>(
     on_kind!(alloc, handle, K, other => sketch.join_with(other, way))
 }
 
-/// Joins the sketch of the other handle, which keeps it, to that of a handle, both of a kind. The first of them that is
-/// not there, or is of another kind, says the answer.
+/// Combines the sketch of the other handle, which keeps it, into the sketch of a handle. Returns `NO_SKETCH` or
+/// `WRONG_KIND` for the first handle without a sketch of the kind.
 pub(crate) fn join<K: Joins<W>, W: Copy>(
     alloc: Global,
     handle: &mut SketchHandle,

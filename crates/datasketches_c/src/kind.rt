@@ -17,13 +17,13 @@ pub(crate) trait Kind: Drop {
 
     ghost whole: { Self → OfAnyKind };
 
-    /// The sketch of this kind, where it is one.
+    /// Returns the sketch if it is of this kind.
     fn part_of(any: &mut AnySketch) -> Option<&mut Self>
         ensures* lends { sem 𝓛 (LendsIf any_sketch.the_row Self.row any.entry result whole any.old) }
         ensures which { MatchOption result (part any.old ≡ None)
             (λ s. (part any.old ≡ Some s.now) × (any.old ≡ whole s.now)) };
 
-    /// The sketch, of any kind.
+    /// Returns the sketch as one of any kind.
     fn into_any(self) -> AnySketch
         ensures { result ≡ whole self };
 
@@ -156,8 +156,11 @@ impl Kind for FrequentItemsSketch<String> {
     ghost back = { λ s. refl };
 }
 
-/// What a call answers that does its work with the sketch of a handle, where that is of a kind: the sketch is taken out,
-/// and put back. Where there is no sketch, or one of another kind, the handle keeps what it has and the answer says so.
+/// Does `$work` on the sketch of a handle, and gives the result of `$work`. The sketch is taken out of the handle, and
+/// put back after the work.
+///
+/// Returns from the function with `NO_SKETCH` if the handle has no sketch, and with `WRONG_KIND` if its sketch is not
+/// of the kind. Then the handle keeps what it has.
 macro_rules! on_kind {
     ($alloc:expr, $handle:expr, $kind:ty, $sketch:ident => $work:expr) => {{
         let Some(mut boxed) = $handle.take($alloc) else {

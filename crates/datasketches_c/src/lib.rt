@@ -1,4 +1,4 @@
-//! Sketches for C: each behind one pointer, with calls whose contracts are those of the libraries.
+//! Sketches for C. Each is held by one pointer, and the contracts of its calls are those of the libraries.
 #![tactic(auto)]
 
 pub mod any_sketch;

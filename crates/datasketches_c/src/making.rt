@@ -1,4 +1,4 @@
-//! Sketches that were made, or read from images, put in a handle.
+//! Sketches that were created, or read from images, and are put into handles.
 ghost use Rattle.std.specs.Prelude.{◌≡◌, Some, Ok, MatchResult};
 ghost use Rattle.datasketches_c.specs.Numbers.{OnDone, OnRefused, ok, refusal_number};
 
@@ -8,7 +8,10 @@ use crate::status_code::refusal_number;
 use sketch_base::{Error, Fault};
 use std::alloc::Global;
 
-/// Puts a sketch, where it was made, in place of what the handle has, which is freed, and else answers why it was not.
+/// Puts a sketch into the handle, frees what the handle had, and returns `OK`.
+///
+/// Returns the error's number if the sketch was not created, and `NoMemory` if an allocation fails. Then the handle is
+/// unchanged.
 pub(crate) fn put_made<K: Kind>(
     alloc: Global,
     handle: &mut SketchHandle,

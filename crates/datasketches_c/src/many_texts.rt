@@ -1,4 +1,5 @@
-//! Many texts at once, as one buffer with offsets: inserted in a filter, counted, added, and asked for.
+//! Calls for many strings in one buffer with offsets: insert into filters, look up in them, add weights, and read
+//! weights.
 ghost use Rattle.std.specs.Hash as fed;
 ghost use Rattle.std.specs.Prelude.{All, Some, length, map, pos, ◌+◌, ◌≡◌, ◌≢◌};
 ghost use Rattle.std.specs.Str.{IsUtf8};
@@ -11,7 +12,7 @@ ghost use Rattle.datasketches_c.specs.FrequentBatches.{TellsOfTexts};
 ghost use Rattle.datasketches_c.specs.FrequentTexts.{UpdatesText};
 ghost use Rattle.datasketches_c.specs.InTurn.{CallsInTurn};
 ghost use Rattle.datasketches_c.specs.Kinds.{HoldsFrequentTexts, OnFilter, OnFrequentTexts, count_i64_of, count_u64_of};
-ghost use Rattle.datasketches_c.specs.Numbers.{OnRefused, bad_offsets, greatest_i64, greatest_u64, no_room, ok, refusal_number};
+ghost use Rattle.datasketches_c.specs.Numbers.{OnRefused, bad_offsets, max_i64, max_u64, no_room, ok, refusal_number};
 ghost use Rattle.datasketches_c.specs.Texts.{AreOffsets, AreTexts, texts_of};
 ghost use Rattle.datasketches_c.specs.declared.any_sketch.AnySketch.TheVariants.{Filter};
 
@@ -28,13 +29,17 @@ use sketch_bloom::BloomFilter;
 use sketch_frequencies::FrequentItemsSketch;
 use std::alloc::Global;
 
-/// Inserts many strings, as one after another. They are the bytes between each offset and the next, so there is one
-/// more offset than strings.
+/// Inserts many strings, as one after another. The strings are the bytes between each offset and the next, so n strings
+/// have n + 1 offsets.
 ///
-/// Returns `BAD_OFFSETS` if there is no offset, one is below the one before it, or one passes the end of the bytes,
-/// then `InvalidUtf8` if some string is not UTF-8.
+/// Returns the first of these errors, and then changes nothing:
+///
+/// - `BAD_OFFSETS` if there is no offset, an offset is below the one before it, or an offset exceeds the number of
+///   bytes.
+/// - `InvalidUtf8` if a string is not UTF-8.
+/// - `NO_SKETCH` if the handle has no sketch, and `WRONG_KIND` if its sketch is of another kind.
 #[unsafe(no_mangle)]
-pub extern "C" fn ds_filter_insert_all_text(
+pub extern "C" fn ds_bloom_insert_all_string(
     alloc: Global,
     handle: &mut SketchHandle,
     bytes: &[u8],
@@ -59,12 +64,18 @@ pub extern "C" fn ds_filter_insert_all_text(
     })
 }
 
-/// Writes for each string whether the filter contains it. The strings are the bytes between each offset and the next.
+/// Writes for each string whether the filter contains it. The strings are the bytes between each offset and the next,
+/// so n strings have n + 1 offsets.
 ///
-/// Returns `BAD_OFFSETS` if there is no offset, one is below the one before it, or one passes the end of the bytes,
-/// then `NO_ROOM` unless there are as many answers as strings, then `InvalidUtf8` if some string is not UTF-8.
+/// Returns the first of these errors, and then changes nothing:
+///
+/// - `BAD_OFFSETS` if there is no offset, an offset is below the one before it, or an offset exceeds the number of
+///   bytes.
+/// - `NO_ROOM` if the number of strings is not the length of `answers`.
+/// - `InvalidUtf8` if a string is not UTF-8.
+/// - `NO_SKETCH` if the handle has no sketch, and `WRONG_KIND` if its sketch is of another kind.
 #[unsafe(no_mangle)]
-pub extern "C" fn ds_filter_contains_all_text(
+pub extern "C" fn ds_bloom_contains_all_string(
     alloc: Global,
     handle: &mut SketchHandle,
     bytes: &[u8],
@@ -90,20 +101,27 @@ pub extern "C" fn ds_filter_contains_all_text(
     })
 }
 
-/// Adds 1 to the weight of each string, in order. The strings are the bytes between each offset and the next.
+/// Adds 1 to the weight of each string, in order. The strings are the bytes between each offset and the next, so n
+/// strings have n + 1 offsets.
 ///
-/// Returns `BAD_OFFSETS` if there is no offset, one is below the one before it, or one passes the end of the bytes,
-/// then `InvalidUtf8` if some string is not UTF-8; then none is counted. Returns `WeightOverflow` if the total has no
-/// room for all; then the strings before the first that does not fit are counted.
+/// Returns the first of these errors, and then changes nothing:
+///
+/// - `BAD_OFFSETS` if there is no offset, an offset is below the one before it, or an offset exceeds the number of
+///   bytes.
+/// - `InvalidUtf8` if a string is not UTF-8.
+/// - `NO_SKETCH` if the handle has no sketch, and `WRONG_KIND` if its sketch is of another kind.
+///
+/// Returns `WeightOverflow` if the total would exceed 2^64 - 1. Then the strings before the first that does not fit are
+/// counted, and no others.
 #[unsafe(no_mangle)]
-pub extern "C" fn ds_count_u64_update_all_text(
+pub extern "C" fn ds_count_min_u64_update_all_string(
     alloc: Global,
     handle: &mut SketchHandle,
     bytes: &[u8],
     offsets: &[u64],
 ) -> i32
     ensures texts { AreTexts bytes.now offsets.now
-        → AddsEach count_u64_of greatest_u64 handle.old.value handle.new.value result (fed_bytes fed.str) (texts_of bytes.now offsets.now) }
+        → AddsEach count_u64_of max_u64 handle.old.value handle.new.value result (fed_bytes fed.str) (texts_of bytes.now offsets.now) }
     ensures bad_offsets { ¬ AreOffsets bytes.now offsets.now
         → (result ≡ bad_offsets) × (handle.new.value ≡ handle.old.value) }
     ensures no_text { AreOffsets bytes.now offsets.now → ¬ All IsUtf8 (texts_of bytes.now offsets.now)
@@ -112,20 +130,27 @@ pub extern "C" fn ds_count_u64_update_all_text(
     count::update_all_text::<u64>(alloc, handle, bytes, offsets)
 }
 
-/// Adds 1 to the weight of each string, in order. The strings are the bytes between each offset and the next.
+/// Adds 1 to the weight of each string, in order. The strings are the bytes between each offset and the next, so n
+/// strings have n + 1 offsets.
 ///
-/// Returns `BAD_OFFSETS` if there is no offset, one is below the one before it, or one passes the end of the bytes,
-/// then `InvalidUtf8` if some string is not UTF-8; then none is counted. Returns `WeightOverflow` if the total has no
-/// room for all; then the strings before the first that does not fit are counted.
+/// Returns the first of these errors, and then changes nothing:
+///
+/// - `BAD_OFFSETS` if there is no offset, an offset is below the one before it, or an offset exceeds the number of
+///   bytes.
+/// - `InvalidUtf8` if a string is not UTF-8.
+/// - `NO_SKETCH` if the handle has no sketch, and `WRONG_KIND` if its sketch is of another kind.
+///
+/// Returns `WeightOverflow` if the total would exceed 2^63 - 1. Then the strings before the first that does not fit are
+/// counted, and no others.
 #[unsafe(no_mangle)]
-pub extern "C" fn ds_count_i64_update_all_text(
+pub extern "C" fn ds_count_min_i64_update_all_string(
     alloc: Global,
     handle: &mut SketchHandle,
     bytes: &[u8],
     offsets: &[u64],
 ) -> i32
     ensures texts { AreTexts bytes.now offsets.now
-        → AddsEach count_i64_of greatest_i64 handle.old.value handle.new.value result (fed_bytes fed.str) (texts_of bytes.now offsets.now) }
+        → AddsEach count_i64_of max_i64 handle.old.value handle.new.value result (fed_bytes fed.str) (texts_of bytes.now offsets.now) }
     ensures bad_offsets { ¬ AreOffsets bytes.now offsets.now
         → (result ≡ bad_offsets) × (handle.new.value ≡ handle.old.value) }
     ensures no_text { AreOffsets bytes.now offsets.now → ¬ All IsUtf8 (texts_of bytes.now offsets.now)
@@ -134,14 +159,20 @@ pub extern "C" fn ds_count_i64_update_all_text(
     count::update_all_text::<i64>(alloc, handle, bytes, offsets)
 }
 
-/// Adds 1 to the weight of each string, in order. The strings are the bytes between each offset and the next, so there
-/// is one more offset than strings.
+/// Adds 1 to the weight of each string, in order. The strings are the bytes between each offset and the next, so n
+/// strings have n + 1 offsets.
 ///
-/// Returns `BAD_OFFSETS` if there is no offset, one is below the one before it, or one passes the end of the bytes,
-/// then `InvalidUtf8` if some string is not UTF-8; then none is added. Returns the error of the first string for which
-/// `ds_frequent_text_update` returns one; then the strings before it are added, and no others.
+/// Returns the first of these errors, and then changes nothing:
+///
+/// - `BAD_OFFSETS` if there is no offset, an offset is below the one before it, or an offset exceeds the number of
+///   bytes.
+/// - `InvalidUtf8` if a string is not UTF-8.
+/// - `NO_SKETCH` if the handle has no sketch, and `WRONG_KIND` if its sketch is of another kind.
+///
+/// Returns the error of the first string for which `ds_frequent_items_string_update` returns one. Then the strings
+/// before it are added, and no others.
 #[unsafe(no_mangle)]
-pub extern "C" fn ds_frequent_text_update_all(
+pub extern "C" fn ds_frequent_items_string_update_all(
     alloc: Global,
     handle: &mut SketchHandle,
     bytes: &[u8],
@@ -161,12 +192,18 @@ pub extern "C" fn ds_frequent_text_update_all(
     on_kind!(alloc, handle, FrequentItemsSketch<String>, sketch => update_texts(alloc, sketch, bytes, offsets))
 }
 
-/// Writes the estimate of each string's weight. The strings are the bytes between each offset and the next.
+/// Writes the estimate of each string's weight. The strings are the bytes between each offset and the next, so n
+/// strings have n + 1 offsets.
 ///
-/// Returns `BAD_OFFSETS` if there is no offset, one is below the one before it, or one passes the end of the bytes,
-/// then `NO_ROOM` unless there are as many estimates as strings, then `InvalidUtf8` if some string is not UTF-8.
+/// Returns the first of these errors, and then changes nothing:
+///
+/// - `BAD_OFFSETS` if there is no offset, an offset is below the one before it, or an offset exceeds the number of
+///   bytes.
+/// - `NO_ROOM` if the number of strings is not the length of `estimates`.
+/// - `InvalidUtf8` if a string is not UTF-8.
+/// - `NO_SKETCH` if the handle has no sketch, and `WRONG_KIND` if its sketch is of another kind.
 #[unsafe(no_mangle)]
-pub extern "C" fn ds_count_u64_estimate_all_text(
+pub extern "C" fn ds_count_min_u64_estimate_all_string(
     alloc: Global,
     handle: &mut SketchHandle,
     bytes: &[u8],
@@ -186,12 +223,18 @@ pub extern "C" fn ds_count_u64_estimate_all_text(
     count::estimate_all_text(alloc, handle, bytes, offsets, estimates)
 }
 
-/// Writes the estimate of each string's weight. The strings are the bytes between each offset and the next.
+/// Writes the estimate of each string's weight. The strings are the bytes between each offset and the next, so n
+/// strings have n + 1 offsets.
 ///
-/// Returns `BAD_OFFSETS` if there is no offset, one is below the one before it, or one passes the end of the bytes,
-/// then `NO_ROOM` unless there are as many estimates as strings, then `InvalidUtf8` if some string is not UTF-8.
+/// Returns the first of these errors, and then changes nothing:
+///
+/// - `BAD_OFFSETS` if there is no offset, an offset is below the one before it, or an offset exceeds the number of
+///   bytes.
+/// - `NO_ROOM` if the number of strings is not the length of `estimates`.
+/// - `InvalidUtf8` if a string is not UTF-8.
+/// - `NO_SKETCH` if the handle has no sketch, and `WRONG_KIND` if its sketch is of another kind.
 #[unsafe(no_mangle)]
-pub extern "C" fn ds_count_i64_estimate_all_text(
+pub extern "C" fn ds_count_min_i64_estimate_all_string(
     alloc: Global,
     handle: &mut SketchHandle,
     bytes: &[u8],
@@ -212,14 +255,20 @@ pub extern "C" fn ds_count_i64_estimate_all_text(
 }
 
 /// Writes the bounds and the estimate of each string's weight. The strings are the bytes between each offset and the
-/// next.
+/// next, so n strings have n + 1 offsets.
 ///
-/// Returns `BAD_OFFSETS` if there is no offset, one is below the one before it, or one passes the end of the bytes,
-/// then `NO_ROOM` unless there are as many bounds as strings, then `InvalidUtf8` if some string is not UTF-8. Returns
-/// `NoMemory` for the first string that cannot be copied; then the bounds of the strings before it are written, and the
-/// others stay as they were.
+/// Returns the first of these errors, and then changes nothing:
+///
+/// - `BAD_OFFSETS` if there is no offset, an offset is below the one before it, or an offset exceeds the number of
+///   bytes.
+/// - `NO_ROOM` if the number of strings is not the length of `bounds`.
+/// - `InvalidUtf8` if a string is not UTF-8.
+/// - `NO_SKETCH` if the handle has no sketch, and `WRONG_KIND` if its sketch is of another kind.
+///
+/// Returns `NoMemory` for the first string that cannot be copied. Then the bounds of the strings before it are written,
+/// and the others stay as they were.
 #[unsafe(no_mangle)]
-pub extern "C" fn ds_frequent_text_bounds_all(
+pub extern "C" fn ds_frequent_items_string_bounds_all(
     alloc: Global,
     handle: &mut SketchHandle,
     bytes: &[u8],

@@ -1,4 +1,4 @@
-//! How many bytes the sketches of handles take.
+//! The number of bytes that the sketches of handles take.
 ghost use Rattle.std.specs.Prelude.{◌≡◌};
 ghost use Rattle.datasketches_c.specs.MemoryBytes.{Measures, bytes_of};
 
@@ -7,7 +7,7 @@ use crate::handle::SketchHandle;
 use crate::status_code::{NO_SKETCH, OK};
 use std::alloc::Global;
 
-/// Returns the bytes that a sketch takes.
+/// Returns the number of bytes that a sketch takes.
 fn bytes_of(sketch: &AnySketch) -> usize
     ensures { result ≡ bytes_of sketch.now }
 {
@@ -21,10 +21,14 @@ fn bytes_of(sketch: &AnySketch) -> usize
     }
 }
 
-/// Writes how many bytes the sketch takes, of any kind: 8 for each word of a filter, 8 for each cell and each row of a
-/// Count-Min sketch, and the table of frequent items by its formula, with the bytes of strings.
+/// Writes the number of bytes that the sketch takes, of any kind, by a formula:
 ///
-/// Returns `NO_SKETCH` if the handle has none.
+/// - A filter takes 8 for each word.
+/// - A Count-Min sketch takes 8 for each cell and each row.
+/// - A sketch of frequent numbers takes 28 for each slot of its table.
+/// - A sketch of frequent strings takes 44 for each slot of its table, and the bytes of its strings.
+///
+/// Returns `NO_SKETCH` if the handle has no sketch. Then nothing changes.
 #[unsafe(no_mangle)]
 pub extern "C" fn ds_memory_bytes(
     alloc: Global,

@@ -5,7 +5,7 @@ ghost use Rattle.std.specs.Box.Ownership.{box_owns};
 use std::alloc::Allocator;
 use std::marker::Model;
 
-/// What a box owns, with its pointer in sight of this crate.
+/// The parts of a box, whose pointer this crate can read.
 pub(crate) struct RawBox<T, A: Allocator> {
     pub(crate) pointer: *mut T,
     pub(crate) alloc: A,
@@ -17,7 +17,7 @@ impl<T, A: Allocator> Model for RawBox<T, A> {
 }
 
 impl<T: Drop, A: Allocator> RawBox<T, A> {
-    /// The parts of the box.
+    /// Splits a box into its parts.
     pub(crate) fn of(boxed: Box<T, A>) -> RawBox<T, A>
         ensures { result.value ≡ boxed.value }
     {
@@ -25,7 +25,7 @@ impl<T: Drop, A: Allocator> RawBox<T, A> {
         RawBox { pointer, alloc }
     }
 
-    /// The box of these parts.
+    /// Makes a box of its parts.
     pub(crate) fn into_box(self) -> Box<T, A>
         ensures { result.value ≡ self.value }
     {

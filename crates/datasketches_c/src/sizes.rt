@@ -1,4 +1,4 @@
-//! Sizes to choose from what one can bear.
+//! Sizes from error targets.
 ghost use Rattle.std.specs.Prelude.{◌≡◌, ℕ, ◌*◌, ◌<◌, ◌≤◌, None};
 ghost use Rattle.sketch_bloom.specs.Sizes.{IsLn2TimesWithin, AreEnoughBits, AreEnoughBitsRounded};
 ghost use Rattle.sketch_countmin.specs.Sizes.{IsETimesWithin, IsWithinPowerOfE};
@@ -10,7 +10,7 @@ use crate::status_code::{OK, refusal_number};
 use sketch_base::Fault;
 use sketch_frequencies::suggest_max_map_size;
 
-/// Writes down what was found, and answers the call's number.
+/// Writes what was found, and gives `OK`. If there is an error, gives its number and leaves the place unchanged.
 macro_rules! write_down {
     ($found:expr => $place:ident) => {
         match $found {
@@ -23,12 +23,15 @@ macro_rules! write_down {
     };
 }
 
-/// Writes the least greatest size of a sketch of frequent items whose guarantee is an error of at most the total over
-/// `parts`, for every stream.
+/// Writes the smallest maximum size of a sketch of frequent items that has this guarantee for every stream: the error
+/// is at most the total weight over `parts`.
 ///
-/// Returns `MapSizeTooLarge` above 512 parts.
+/// Returns `MapSizeTooLarge` if `parts` exceeds 512. Then nothing is written.
 #[unsafe(no_mangle)]
-pub extern "C" fn ds_frequent_map_size_for(parts: usize, max_map_size: &mut usize) -> i32
+pub extern "C" fn ds_frequent_items_suggest_max_map_size(
+    parts: usize,
+    max_map_size: &mut usize,
+) -> i32
     ensures done { OnDone result ((result ≡ ok) × (parts ≤ usual_budget max_map_size.new)
         × (size_fault max_map_size.new ≡ None)
         × ((m : ℕ) → size_fault m ≡ None → parts ≤ usual_budget m → max_map_size.new ≤ m)) }
@@ -38,11 +41,12 @@ pub extern "C" fn ds_frequent_map_size_for(parts: usize, max_map_size: &mut usiz
     write_down!(suggest_max_map_size(parts) => max_map_size)
 }
 
-/// Writes the buckets of Count-Min by the published formula: e times `parts`, rounded up.
+/// Writes the number of buckets of a Count-Min sketch by the published formula: e times `parts`, rounded up.
 ///
-/// Returns `BadNumBuckets` for 0 parts, and `TableTooLarge` for 2^30 buckets and more.
+/// Returns `BadNumBuckets` if `parts` is 0, and `TableTooLarge` if the number would be 2^30 or more. Then nothing is
+/// written.
 #[unsafe(no_mangle)]
-pub extern "C" fn ds_count_buckets_for(parts: u64, num_buckets: &mut u32) -> i32
+pub extern "C" fn ds_count_min_suggest_num_buckets(parts: u64, num_buckets: &mut u32) -> i32
     ensures done { OnDone result ((result ≡ ok) × IsETimesWithin parts num_buckets.new
         × ((m : ℕ) → IsETimesWithin parts m → num_buckets.new ≤ m)) }
     ensures none { parts ≡ 0 → result ≡ refusal_number Fault.BadNumBuckets }
@@ -53,11 +57,12 @@ pub extern "C" fn ds_count_buckets_for(parts: u64, num_buckets: &mut u32) -> i32
     write_down!(sketch_countmin::suggest_num_buckets(parts) => num_buckets)
 }
 
-/// Writes the hashes of Count-Min by the published formula: the natural logarithm of `questions`, rounded up.
+/// Writes the number of hashes of a Count-Min sketch by the published formula: the natural logarithm of `questions`,
+/// rounded up.
 ///
-/// Returns `BadNumHashes` for 0 and 1 question.
+/// Returns `BadNumHashes` if `questions` is 0 or 1. Then nothing is written.
 #[unsafe(no_mangle)]
-pub extern "C" fn ds_count_hashes_for(questions: u64, num_hashes: &mut u8) -> i32
+pub extern "C" fn ds_count_min_suggest_num_hashes(questions: u64, num_hashes: &mut u8) -> i32
     ensures done { OnDone result ((result ≡ ok) × IsWithinPowerOfE questions num_hashes.new
         × ((m : ℕ) → IsWithinPowerOfE questions m → num_hashes.new ≤ m)) }
     ensures none { questions ≤ 1 → result ≡ refusal_number Fault.BadNumHashes }
@@ -67,13 +72,18 @@ pub extern "C" fn ds_count_hashes_for(questions: u64, num_hashes: &mut u8) -> i3
     write_down!(sketch_countmin::suggest_num_hashes(questions) => num_hashes)
 }
 
-/// Writes the bits of a filter by the published formula: items times ln `questions` over the square of ln 2, with the
-/// binary logarithm of `questions` rounded up to 64ths. Under ideal hashes the false-positive rate is about 1 in
-/// `questions`.
+/// Writes the number of bits of a filter by the published formula: `num_items` times ln `questions` over the square of
+/// ln 2. The binary logarithm of `questions` is rounded up to 64ths. Under ideal hashes the false-positive rate is
+/// about 1/`questions`.
 ///
-/// Returns `BadNumBits` for 0 items, for 0 and 1 question, and above 137438953152 bits.
+/// Returns `BadNumBits` if `num_items` is 0, if `questions` is 0 or 1, or if the number would exceed 137438953152. Then
+/// nothing is written.
 #[unsafe(no_mangle)]
-pub extern "C" fn ds_filter_bits_for(num_items: u64, questions: u64, num_bits: &mut u64) -> i32
+pub extern "C" fn ds_bloom_suggest_num_bits(
+    num_items: u64,
+    questions: u64,
+    num_bits: &mut u64,
+) -> i32
     ensures done { OnDone result ((result ≡ ok) × AreEnoughBits num_items questions num_bits.new
         × AreEnoughBitsRounded num_items questions num_bits.new
         × ((m : ℕ) → AreEnoughBitsRounded num_items questions m → num_bits.new ≤ m)) }
@@ -86,12 +96,19 @@ pub extern "C" fn ds_filter_bits_for(num_items: u64, questions: u64, num_bits: &
     write_down!(sketch_bloom::suggest_num_bits(num_items, questions) => num_bits)
 }
 
-/// Writes the hashes of a filter by the published formula: bits over items times ln 2, rounded up.
+/// Writes the number of hashes of a filter by the published formula: `num_bits` over `num_items` times ln 2, rounded
+/// up.
 ///
-/// Returns `BadNumBits` unless there are 1 to 137438953152 bits, and then `BadNumHashes` for 0 items and above 32767
-/// hashes.
+/// Returns the first of these errors, and then writes nothing:
+///
+/// - `BadNumBits` unless `num_bits` is from 1 to 137438953152.
+/// - `BadNumHashes` if `num_items` is 0, or if the number would exceed 32767.
 #[unsafe(no_mangle)]
-pub extern "C" fn ds_filter_hashes_for(num_bits: u64, num_items: u64, num_hashes: &mut u16) -> i32
+pub extern "C" fn ds_bloom_suggest_num_hashes(
+    num_bits: u64,
+    num_items: u64,
+    num_hashes: &mut u16,
+) -> i32
     ensures done { OnDone result ((result ≡ ok) × IsLn2TimesWithin num_bits (num_hashes.new * num_items)
         × ((m : ℕ) → IsLn2TimesWithin num_bits (m * num_items) → num_hashes.new ≤ m)) }
     ensures no_bits { num_bits ≡ 0 → result ≡ refusal_number Fault.BadNumBits }

@@ -1,4 +1,4 @@
-//! The numbers that calls answer.
+//! The numbers that calls return.
 ghost use Rattle.std.specs.Prelude.{◌≡◌};
 ghost use Rattle.datasketches_c.specs.Numbers.{refusal_number};
 
@@ -7,28 +7,29 @@ use sketch_base::Fault;
 /// The call was done.
 pub const OK: i32 = 0;
 
-/// No, as the answer to a question.
+/// No, as the result of a test.
 pub const NO: i32 = 0;
 
-/// Yes, as the answer to a question.
+/// Yes, as the result of a test.
 pub const YES: i32 = 1;
 
 /// The handle has no sketch.
 pub const NO_SKETCH: i32 = -1;
 
-/// The handle's sketch is of a kind that does not know the call.
+/// The handle's sketch is of a kind without this call.
 pub const WRONG_KIND: i32 = -2;
 
-/// A buffer of the caller's has not the length that the call needs.
+/// A buffer of the caller does not have the length that the call needs.
 pub const NO_ROOM: i32 = -3;
 
 /// A fraction is not above 0 and at most 1.
 pub const BAD_FRACTION: i32 = -4;
 
-/// Offsets into a buffer are none, or descend, or pass its end. The header for C has -5.
+/// There is no offset, an offset is below the one before it, or an offset exceeds the number of bytes. The number -5 is
+/// used by the header for C.
 pub const BAD_OFFSETS: i32 = -6;
 
-/// The number of a refusal for this fault: from -11 on.
+/// Returns the number of a fault, -11 or less.
 pub(crate) fn refusal_number(fault: Fault) -> i32
     ensures { result ≡ refusal_number fault }
 {

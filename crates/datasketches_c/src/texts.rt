@@ -1,7 +1,7 @@
-//! Texts that a call is given: one as bytes, and many as one buffer of bytes with offsets.
+//! Strings as arguments of calls: one string as bytes, and many strings as one buffer of bytes with offsets.
 //!
-//! n texts have n + 1 offsets, of 64 bits each, as in Arrow's `large_utf8`: a buffer may then be longer than 2^31 bytes, and a caller
-//! who has 32-bit offsets widens them.
+//! n strings have n + 1 offsets of 64 bits each, as in Arrow's `large_utf8`. So a buffer may be longer than 2^31 bytes.
+//! A caller with 32-bit offsets widens them.
 ghost use Rattle.std.specs.Prelude.{◌≡◌, ◌+◌, ◌<◌, ◌↔◌, [], length, slice_index_or, All, IsTrue, MatchOption};
 ghost use Rattle.std.specs.Str.{IsUtf8};
 ghost use Rattle.datasketches_c.specs.Texts.{AreOffsets, AreTexts, AreTextsIn, AreRefused, AreRefusedIn, texts_of};
@@ -9,7 +9,7 @@ ghost use Rattle.datasketches_c.specs.Texts.{AreOffsets, AreTexts, AreTextsIn, A
 use crate::status_code::{BAD_OFFSETS, NO_ROOM, refusal_number};
 use sketch_base::Fault;
 
-/// Whether there is an offset, none is below the one before it, and none passes the end of the buffer.
+/// Returns whether there is an offset, no offset is below the one before it, and no offset exceeds the number of bytes.
 pub(crate) fn are_offsets(bytes: &[u8], offsets: &[u64]) -> bool
     ensures { IsTrue result ↔ AreOffsets bytes.now offsets.now }
 {
@@ -25,7 +25,7 @@ pub(crate) fn are_offsets(bytes: &[u8], offsets: &[u64]) -> bool
     !offsets.is_empty()
 }
 
-/// How many texts the buffer has.
+/// Returns the number of strings in the buffer.
 pub(crate) fn num_texts(bytes: &[u8], offsets: &[u64]) -> usize
     requires { AreOffsets bytes.now offsets.now }
     ensures texts { result ≡ length (texts_of bytes.now offsets.now) }
@@ -34,7 +34,7 @@ pub(crate) fn num_texts(bytes: &[u8], offsets: &[u64]) -> usize
     offsets.len() - 1
 }
 
-/// The bytes of a text.
+/// Returns the bytes of string `i`.
 fn bytes_at<'a>(bytes: &'a [u8], offsets: &[u64], i: usize) -> &'a [u8]
     requires offsets { AreOffsets bytes.now offsets.now }
     requires there { i + 1 < length offsets.now }
@@ -43,7 +43,7 @@ fn bytes_at<'a>(bytes: &'a [u8], offsets: &[u64], i: usize) -> &'a [u8]
     &bytes[offsets[i] as usize..offsets[i + 1] as usize]
 }
 
-/// Whether what lies between each offset and the next is UTF-8.
+/// Returns whether the bytes between each offset and the next are UTF-8.
 pub(crate) fn are_utf8(bytes: &[u8], offsets: &[u64]) -> bool
     requires { AreOffsets bytes.now offsets.now }
     ensures { IsTrue result ↔ All IsUtf8 (texts_of bytes.now offsets.now) }
@@ -57,7 +57,7 @@ pub(crate) fn are_utf8(bytes: &[u8], offsets: &[u64]) -> bool
     true
 }
 
-/// A text.
+/// Returns string `i`.
 #[inline]
 pub(crate) fn text_at<'a>(bytes: &'a [u8], offsets: &[u64], i: usize) -> &'a str
     requires texts { AreTexts bytes.now offsets.now }
@@ -67,7 +67,8 @@ pub(crate) fn text_at<'a>(bytes: &'a [u8], offsets: &[u64], i: usize) -> &'a str
     unsafe { str::from_utf8_unchecked(bytes_at(bytes, offsets, i)) }
 }
 
-/// The answer that refuses the texts of a buffer, unless each is there and is UTF-8.
+/// Returns the number of the first error of the offsets and the strings of a buffer, if any: `BAD_OFFSETS` or
+/// `InvalidUtf8`.
 pub(crate) fn refusal_of_texts(bytes: &[u8], offsets: &[u64]) -> Option<i32>
     ensures { MatchOption result (AreTexts bytes.now offsets.now) (AreRefused bytes.now offsets.now) }
 {
@@ -80,7 +81,8 @@ pub(crate) fn refusal_of_texts(bytes: &[u8], offsets: &[u64]) -> Option<i32>
     None
 }
 
-/// The answer that refuses the texts of a buffer, unless each is there and is UTF-8, and has one of so many places.
+/// Returns the number of the first error of the offsets and the strings of a buffer, if any: `BAD_OFFSETS`, `NO_ROOM`
+/// or `InvalidUtf8`. It is `NO_ROOM` if the number of strings is not `places`.
 pub(crate) fn refusal_of_texts_in(places: usize, bytes: &[u8], offsets: &[u64]) -> Option<i32>
     ensures { MatchOption result (AreTextsIn places bytes.now offsets.now)
         (AreRefusedIn places bytes.now offsets.now) }
@@ -97,7 +99,8 @@ pub(crate) fn refusal_of_texts_in(places: usize, bytes: &[u8], offsets: &[u64]) 
     None
 }
 
-/// What a call answers that does its work with a text: bytes that are no text are refused.
+/// Does `$work` on a string, and gives the result of `$work`. Returns from the function with `InvalidUtf8` if the bytes
+/// are not UTF-8.
 macro_rules! on_text {
     ($item:ident => $work:expr) => {{
         let Ok($item) = str::from_utf8($item) else {

@@ -20,7 +20,7 @@ use Rattle.datasketches.specs.declared.action.Action.TheVariants as action
 use Rattle.datasketches.specs.declared.image_kind.ImageKind.{ImageKind}
 use Rattle.datasketches.specs.declared.image_kind.ImageKind.TheVariants as kind
 use Rattle.datasketches_cli.specs.Asking.{Ask}
-use Rattle.datasketches_cli.specs.Grammar.{bytes_of_digits, words_of, Make, MakeLoad}
+use Rattle.datasketches_cli.specs.Grammar.{bytes_of_digits, split_words, Make, MakeLoad}
 use Rattle.datasketches_cli.specs.Laws.{IsShownAs, LoadsWhatWasShown, DigitsMakeWhatWasShown}
 use Rattle.datasketches_cli.specs.Parsing.{AskForBytes}
 use Rattle.datasketches_cli.specs.Texts.{Text}
@@ -157,7 +157,7 @@ of_asked words front digits name k image most e (inr asked) = absurd asked
 pub loads_what_was_shown : LoadsWhatWasShown
 loads_what_was_shown digits shown is line front name k image most words says =
     let own : digits ≡ encode_lower shown.items = shown_digits digits shown is in
-    read_back shown.items image.items (ap bytes_of_digits (sym own) ∙ of_asked (words_of line) front digits name k image most words says.1)
+    read_back shown.items image.items (ap bytes_of_digits (sym own) ∙ of_asked (split_words line) front digits name k image most words says.1)
 
 pub digits_make_what_was_shown : DigitsMakeWhatWasShown
 digits_make_what_was_shown digits shown is bytes =

@@ -20,13 +20,13 @@ use Rattle.datasketches.specs.declared.join.Join.TheVariants as join
 use Rattle.datasketches.specs.declared.shape.Shape.{Shape}
 use Rattle.datasketches.specs.declared.shape.Shape.TheVariants as shape
 use Rattle.datasketches_cli.specs.Texts.{Text}
-use Rattle.datasketches_cli.specs.Grammar.{words_of, join_word, number_below, report_word, Make, MakeShape, MakeChange, MakeLoad, AreCounts}
+use Rattle.datasketches_cli.specs.Grammar.{split_words, join_word, number_below, report_word, Make, MakeShape, MakeChange, MakeLoad, AreCounts}
 use Rattle.datasketches_cli.specs.Asking.{Ask, Says}
 use Rattle.datasketches_cli.specs.declared.request.Request.{Request}
 use Rattle.datasketches_cli.specs.declared.request.Request.TheVariants as request
-use Rattle.datasketches_cli.specs.declared.parse.OnTwo.{OnTwo}
-use Rattle.datasketches_cli.specs.declared.parse.OnTwo.TheVariants as two
-use Rattle.datasketches_cli.specs.Parsing.{IsChangeOf, MakeThreshold, MakeTwo, texts_of, two_word}
+use Rattle.datasketches_cli.specs.declared.parse.BinaryVerb.{BinaryVerb}
+use Rattle.datasketches_cli.specs.declared.parse.BinaryVerb.TheVariants as two
+use Rattle.datasketches_cli.specs.Parsing.{IsChangeOf, MakeThreshold, MakeTwo, texts_of, binary_word}
 
 -- at most three words follow the verb and the name
 short_counts : (words : List (List ℕ)) (hashes buckets seed : ℕ) → AreCounts words hashes buckets seed → length words ≤ 3
@@ -82,11 +82,11 @@ first_are_all : (words : List (List ℕ)) (asked : Request) → Ask (take 7 word
 first_are_all words asked asks = take_all 7 words (omega (arith, length-take 7 words, short_asked (take 7 words) asked asks))
 
 -- a line whose first words make a request says it
-pub says_this : (line text : List ℕ) (words : List (Bor (List ℕ))) (asked : Request) → text ≡ line → IsUtf8 line → texts_of words ≡ take 7 (words_of text) → Ask (texts_of words) asked → Says line asked
+pub says_this : (line text : List ℕ) (words : List (Bor (List ℕ))) (asked : Request) → text ≡ line → IsUtf8 line → texts_of words ≡ take 7 (split_words text) → Ask (texts_of words) asked → Says line asked
 says_this line text words asked same utf8 told asks =
-    let here : texts_of words ≡ take 7 (words_of line) = told ∙ ap (λ (l : List ℕ). take 7 (words_of l)) same in
-    let asks_first : Ask (take 7 (words_of line)) asked = subst (λ (l : List (List ℕ)). Ask l asked) here asks in
-    (utf8, subst (λ (l : List (List ℕ)). Ask l asked) (first_are_all (words_of line) asked asks_first) asks_first)
+    let here : texts_of words ≡ take 7 (split_words line) = told ∙ ap (λ (l : List ℕ). take 7 (split_words l)) same in
+    let asks_first : Ask (take 7 (split_words line)) asked = subst (λ (l : List (List ℕ)). Ask l asked) here asks in
+    (utf8, subst (λ (l : List (List ℕ)). Ask l asked) (first_are_all (split_words line) asked asks_first) asks_first)
 
 -- all verbs, each with the number of what it asks for
 abbrev verbs : List (List ℕ × ℕ)
@@ -162,7 +162,7 @@ no_change v name rest is none a made = omega (arith, is, number_made v name rest
 
 -- words that make nothing of any kind make no action
 pub no_kind : (v name : List ℕ) (rest : List (List ℕ)) → v ≢ codes "image" → v ≢ codes "status" → v ≢ codes "ask" → v ≢ codes "rows" → v ≢ codes "load" → ((c : Change Text) → ¬ MakeChange v rest c)
-    → ((asked : OnTwo) → v ≢ two_word asked) → ((s : Shape) → ¬ MakeShape v rest s) → (a : Action Text) → ¬ Make (v ∷ name ∷ rest) a
+    → ((asked : BinaryVerb) → v ≢ binary_word asked) → ((s : Shape) → ¬ MakeShape v rest s) → (a : Action Text) → ¬ Make (v ∷ name ∷ rest) a
 no_kind v name rest i j k l m c t s (action.Create n x) (w, r, e, made) =
     let verb_is : w ≡ v = same_verb v w name (string_bytes n) rest r e in
     let rest_is : r ≡ rest = sym (ap (drop 2) e) in
@@ -181,7 +181,7 @@ no_kind v name rest i j k l m c t s (action.ListRows n error_type threshold) (x,
 no_kind v name rest i j k l m c t s (action.Load n kind image most) (r, digits, e, x, b) = m (first_word e)
 
 -- a verb before two names, and no word or several behind the first name, make no action
-pub none_of_others : (asked : OnTwo) (name : List ℕ) (words : List (Bor (List ℕ))) → length words ≢ 1 → (a : Action Text) → ¬ Make (two_word asked ∷ name ∷ texts_of words) a
+pub none_of_others : (asked : BinaryVerb) (name : List ℕ) (words : List (Bor (List ℕ))) → length words ≢ 1 → (a : Action Text) → ¬ Make (binary_word asked ∷ name ∷ texts_of words) a
 none_of_others asked name words others (action.Join into other j) e = others (omega (arith, ap length e, length-map words (λ word. word.now)))
 none_of_others asked name words others (action.Save n image) e = others (omega (arith, ap length e, length-map words (λ word. word.now)))
 none_of_others asked name words others (action.Restore image n) e = others (omega (arith, ap length e, length-map words (λ word. word.now)))

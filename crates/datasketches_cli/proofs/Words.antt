@@ -9,7 +9,7 @@ use Rattle.std.proofs.lemmas.List.{drop_more, take_all, drop_all, length-set, ta
 use Rattle.std.proofs.lemmas.List.Sums.{passes_at_first}
 use Rattle.std.proofs.lemmas.List.Splits.{slice_split_first}
 use Rattle.std.proofs.lemmas.Str.{IsCharBoundary-end, IsCharBoundary-before_ascii, IsCharBoundary-after_ascii}
-use Rattle.datasketches_cli.specs.Grammar.{words_of}
+use Rattle.datasketches_cli.specs.Grammar.{split_words}
 use Rattle.datasketches_cli.specs.Parsing.{texts_of, with_word}
 
 abbrev is_space : ℕ → Bool
@@ -17,10 +17,10 @@ is_space byte = eqb byte 32
 
 -- the words from a place on are all of them, and the text may be cut there
 abbrev pub HasSkipped : List ℕ → ℕ → Type 0
-HasSkipped text at = (at ≤ length text) × IsCharBoundary text at × (words_of (drop at text) ≡ words_of text)
+HasSkipped text at = (at ≤ length text) × IsCharBoundary text at × (split_words (drop at text) ≡ split_words text)
 
-after_space : (xs : List ℕ) (at : ℕ) → at < length xs → get_or xs at 0 ≡ 32 → words_of (drop at xs) ≡ words_of (drop (at + 1) xs)
-after_space xs at less space = ap words_of (drop_more xs at 0 less ∙ ap (λ (n : ℕ). n ∷ drop (at + 1) xs) space)
+after_space : (xs : List ℕ) (at : ℕ) → at < length xs → get_or xs at 0 ≡ 32 → split_words (drop at xs) ≡ split_words (drop (at + 1) xs)
+after_space xs at less space = ap split_words (drop_more xs at 0 less ∙ ap (λ (n : ℕ). n ∷ drop (at + 1) xs) space)
 
 -- one more space
 pub skips : (text : List ℕ) (at : ℕ) → IsUtf8 text → HasSkipped text at → at < length text → get_or text at 0 ≡ 32 → HasSkipped text (at + 1)
@@ -67,7 +67,7 @@ first_of (x ∷ xs) parts some =
     rw test refl
 
 -- a text that does not begin with a space begins with its first word
-pub first_word : (xs word rest : List ℕ) (at : ℕ) → (0 < length xs → get_or xs 0 0 ≢ 32) → at ≡ position_or_len is_space xs → at ≤ length xs → word ≡ take at xs → rest ≡ drop at xs → words_of xs ≡ with_word word (words_of rest)
+pub first_word : (xs word rest : List ℕ) (at : ℕ) → (0 < length xs → get_or xs 0 0 ≢ 32) → at ≡ position_or_len is_space xs → at ≤ length xs → word ≡ take at xs → rest ≡ drop at xs → split_words xs ≡ with_word word (split_words rest)
 first_word [] word rest at plain e le w r =
     let none : word ≡ [] = w ∙ take_all at [] (omega arith) in
     rw none refl
@@ -76,12 +76,12 @@ first_word (x ∷ xs) word rest (suc n) plain e le w r = ⊎_elim
     (λ less.
     let here : position_or_len is_space (x ∷ xs) < length (x ∷ xs) = omega (arith, e) in
     let space : get_or (x ∷ xs) (suc n) 0 ≡ 32 = eqb-true _ 32 (rw (← e) at (passes_at_first is_space (x ∷ xs) 0 here)) in
-    let more : words_of rest ≡ words_of (drop (suc n + 1) (x ∷ xs)) = ap words_of r ∙ after_space (x ∷ xs) (suc n) less space in
+    let more : split_words rest ≡ split_words (drop (suc n + 1) (x ∷ xs)) = ap split_words r ∙ after_space (x ∷ xs) (suc n) less space in
     ap (filter not_empty) (slice_split_first is_space (x ∷ xs) 0 here)
     ∙ ap (λ (k : ℕ). filter not_empty (take k (x ∷ xs) ∷ slice_split is_space (drop (k + 1) (x ∷ xs)))) (sym e)
     ∙ first_of (take (suc n) (x ∷ xs)) (slice_split is_space (drop (suc n + 1) (x ∷ xs))) (omega arith)
     ∙ ap (λ (l : List (List ℕ)). with_word (take (suc n) (x ∷ xs)) l) (sym more)
-    ∙ ap (λ (l : List ℕ). with_word l (words_of rest)) (sym w))
+    ∙ ap (λ (l : List ℕ). with_word l (split_words rest)) (sym w))
     (λ ge.
     let whole : word ≡ x ∷ xs = w ∙ take_all (suc n) (x ∷ xs) ge in
     let nothing : rest ≡ [] = r ∙ drop_all (suc n) (x ∷ xs) ge in
@@ -93,7 +93,7 @@ first_word (x ∷ xs) word rest (suc n) plain e le w r = ⊎_elim
 -- the first words, and those of the text behind them
 abbrev pub HasTaken : ℕ → List ℕ → List (Bor (List ℕ)) → ℕ → List ℕ → Type 0
 HasTaken most text words count rest =
-    (count ≤ most) × (length words ≡ most) × (take most (words_of text) ≡ texts_of (take count words) ++ take (most - count) (words_of rest))
+    (count ≤ most) × (length words ≡ most) × (take most (split_words text) ≡ texts_of (take count words) ++ take (most - count) (split_words rest))
 
 take_next : (n : ℕ) (word : List ℕ) (words : List (List ℕ)) → 0 < length word → take (suc n) (with_word word words) ≡ word ∷ take n words
 take_next n [] words some = absurd (omega arith)
@@ -104,14 +104,14 @@ texts_push [] word = refl
 texts_push (x ∷ xs) word = ap (λ (l : List (List ℕ)). x.now ∷ l) (texts_push xs word)
 
 -- one more word
-pub takes_one : (most : ℕ) (text rest after : List ℕ) (words : List (Bor (List ℕ))) (word : Bor (List ℕ)) (count : ℕ) → HasTaken most text words count rest → count < most → eqb (length word.now) 0 ≡ false → words_of rest ≡ with_word word.now (words_of after)
+pub takes_one : (most : ℕ) (text rest after : List ℕ) (words : List (Bor (List ℕ))) (word : Bor (List ℕ)) (count : ℕ) → HasTaken most text words count rest → count < most → eqb (length word.now) 0 ≡ false → split_words rest ≡ with_word word.now (split_words after)
     → HasTaken most text (set words count word) (count + 1) after
 takes_one most text rest after words word count (le, long, told) less some next =
     let some' : 0 < length word.now = grind (arith, nat_tests) in
     let left : most - count ≡ suc (most - (count + 1)) = omega arith in
-    let more : take (most - count) (words_of rest) ≡ word.now ∷ take (most - (count + 1)) (words_of after) = ap (λ (k : ℕ). take k (words_of rest)) left ∙ ap (take (suc (most - (count + 1)))) next ∙ take_next _ word.now (words_of after) some' in (
+    let more : take (most - count) (split_words rest) ≡ word.now ∷ take (most - (count + 1)) (split_words after) = ap (λ (k : ℕ). take k (split_words rest)) left ∙ ap (take (suc (most - (count + 1)))) next ∙ take_next _ word.now (split_words after) some' in (
       omega arith,
       length-set words count word ∙ long,
-      told ∙ ap (λ (l : List (List ℕ)). texts_of (take count words) ++ l) more ∙ sym (append_assoc (texts_of (take count words)) (word.now ∷ []) (take (most - (count + 1)) (words_of after)))
-          ∙ ap (λ (l : List (List ℕ)). l ++ take (most - (count + 1)) (words_of after)) (sym (texts_push (take count words) word) ∙ ap texts_of (sym (take_more_set words count word (omega arith)))),
+      told ∙ ap (λ (l : List (List ℕ)). texts_of (take count words) ++ l) more ∙ sym (append_assoc (texts_of (take count words)) (word.now ∷ []) (take (most - (count + 1)) (split_words after)))
+          ∙ ap (λ (l : List (List ℕ)). l ++ take (most - (count + 1)) (split_words after)) (sym (texts_push (take count words) word) ∙ ap texts_of (sym (take_more_set words count word (omega arith)))),
     )

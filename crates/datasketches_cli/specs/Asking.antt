@@ -1,17 +1,17 @@
--- The requests that the words of a line make.
+-- The requests that the words of a line spell.
 use Rattle.std.specs.Prelude.{◌≡◌, ℕ, ◌^◌, ◌⊎◌, List, [], ◌∷◌, Some, codes}
 use Rattle.std.specs.Str.{IsUtf8}
 use Rattle.std.specs.String.{string_bytes}
 use Rattle.datasketches_cli.specs.declared.request.Request.{Request}
 use Rattle.datasketches_cli.specs.declared.request.Request.TheVariants as request
-use Rattle.datasketches_cli.specs.Grammar.{words_of, number_below, report_word, Make, IsBlank}
+use Rattle.datasketches_cli.specs.Grammar.{split_words, number_below, report_word, Make, IsBlank}
 
--- the words make the request, which is an action of the session
+-- the words spell the request, which is an action of the session
 abbrev pub AskAction : List (List ℕ) → Request → Type 0
 AskAction words (request.Action action) = Make words action
 AskAction _ _ = ⊥
 
--- the words make the request, which is one on windows
+-- the words spell the request, which is one on windows
 abbrev pub AskOnWindows : List (List ℕ) → Request → Type 0
 AskOnWindows words (request.Windows windows max_map_size) =
     (n m : List ℕ) × (words ≡ codes "windows" ∷ n ∷ m ∷ []) × (number_below (2 ^ 64) n ≡ Some windows)
@@ -26,14 +26,14 @@ AskOnWindows words (request.Report tenant error_type threshold) =
     × (number_below (2 ^ 64) t ≡ Some tenant) × (number_below (2 ^ 64) n ≡ Some threshold)
 AskOnWindows _ _ = ⊥
 
--- the words make the request
+-- the words spell the request
 abbrev pub Ask : List (List ℕ) → Request → Type 0
 Ask words request = AskAction words request ⊎ AskOnWindows words request
 
--- the line is text, and its words make the request
+-- the line is UTF-8, and its words spell the request
 abbrev pub Says : List ℕ → Request → Type 0
-Says line request = IsUtf8 line × Ask (words_of line) request
+Says line request = IsUtf8 line × Ask (split_words line) request
 
--- the line is not blank, and says no request
+-- the line is not blank, and spells no request
 abbrev pub IsBad : List ℕ → Type 0
 IsBad line = ¬ IsBlank line × ((request : Request) → ¬ Says line request)

@@ -1,4 +1,4 @@
--- What one run shows and another one loads.
+-- Images that one run prints and another run loads.
 use Rattle.std.specs.Prelude.{◌≡◌, ◌<◌, ℕ, List, [], ◌∷◌, ◌++◌, Some, All, codes}
 use Rattle.std.specs.Global.{Global}
 use Rattle.std.specs.declared.vec.Vec.{Vec}
@@ -8,22 +8,22 @@ use Rattle.datasketches.specs.declared.reply.Reply.TheVariants.{Image}
 use Rattle.datasketches_cli.specs.declared.request.Answer.TheVariants.{Reply}
 use Rattle.datasketches_cli.specs.declared.request.Request.TheVariants.{Action}
 use Rattle.datasketches_cli.specs.Asking.{Says}
-use Rattle.datasketches_cli.specs.Grammar.{words_of, bytes_of_digits}
+use Rattle.datasketches_cli.specs.Grammar.{split_words, bytes_of_digits}
 use Rattle.datasketches_cli.specs.Texts.{Text}
 use Rattle.datasketches_cli.specs.Transcript.{answer_line}
 
--- a run answers with these digits where it shows the bytes
+-- these are the digits that a run prints for these bytes
 abbrev pub IsShownAs : List ℕ → Vec ℕ Global → Type 0
 IsShownAs digits shown = answer_line (Reply (Image shown)) ≡ codes "image " ++ digits ++ codes "\n"
 
--- a line whose last word are the digits that a run showed loads the bytes that it showed
+-- a line whose last word is the digits that a run printed loads the bytes for which it printed them
 abbrev pub LoadsWhatWasShown : Type 0
 LoadsWhatWasShown = (digits : List ℕ) (shown : Vec ℕ Global) → IsShownAs digits shown
-    → (line : List ℕ) (front : List (List ℕ)) (name : Text) (kind : ImageKind) (image : Vec ℕ Global) (most_bytes : ℕ)
-    → words_of line ≡ front ++ digits ∷ [] → Says line (Action (Load name kind image most_bytes))
+    → (line : List ℕ) (front : List (List ℕ)) (name : Text) (kind : ImageKind) (image : Vec ℕ Global) (max_bytes : ℕ)
+    → split_words line ≡ front ++ digits ∷ [] → Says line (Action (Load name kind image max_bytes))
     → image.items ≡ shown.items
 
--- and such digits make those bytes, so that a line with them is no bad one for their sake
+-- the digits that a run printed spell its bytes, so a line is never bad because of them
 abbrev pub DigitsMakeWhatWasShown : Type 0
 DigitsMakeWhatWasShown = (digits : List ℕ) (shown : Vec ℕ Global) → IsShownAs digits shown
     → All (λ byte. byte < 256) shown.items → bytes_of_digits digits ≡ Some shown.items

@@ -1,4 +1,4 @@
--- What a reply prints.
+-- The line that each reply prints.
 use Rattle.std.specs.Prelude.{ℕ, true, false, List, ◌++◌, length, codes}
 use Rattle.std.specs.Fmt.{decimal, signed_decimal}
 use Rattle.std.specs.List.{flat_map}
@@ -36,7 +36,7 @@ row_text row =
     codes " " ++ string_bytes row.item ++ codes " " ++ decimal row.estimate
     ++ codes " " ++ decimal row.lower_bound ++ codes " " ++ decimal row.upper_bound
 
--- a reply's line, without its end
+-- a reply's line, without its line feed
 abbrev pub reply_text : Reply Text → List ℕ
 reply_text reply.Done = codes "ok"
 reply_text (reply.Bounds estimate lower upper) =
@@ -49,13 +49,13 @@ reply_text (reply.Rows rows) = codes "rows " ++ decimal (length rows.items) ++ f
 reply_text (reply.Image bytes) = codes "image " ++ encode_lower bytes.items
 reply_text (reply.Refused refusal) = codes "refused " ++ refusal_name refusal
 
--- the line of a report on a tenant, without its end
+-- the line of a report on a tenant, without its line feed
 abbrev pub report_text : Report Text → List ℕ
 report_text report =
     codes "report total " ++ decimal report.total_weight ++ codes " error " ++ decimal report.maximum_error
     ++ codes " rows " ++ decimal (length report.rows.items) ++ flat_map row_text report.rows.items
 
--- an answer's line, without its end
+-- the line of an `Answer`, without its line feed
 abbrev pub answer_text : Answer → List ℕ
 answer_text (answer.Reply reply) = reply_text reply
 answer_text (answer.Report report) = report_text report

@@ -1,4 +1,4 @@
--- What the parts of the loop do.
+-- Effects of the parts of the loop.
 use Rattle.std.specs.Prelude.{◌≡◌, ℕ, Bool, true, false, List, [], ◌++◌, Option, None, Some, IfSome}
 use Rattle.std.specs.Io.BufRead.{strip_last}
 use Rattle.std.specs.Io.KnownBytes.{Appends, IsAtEnd}
@@ -25,47 +25,47 @@ use Rattle.datasketches_cli.specs.Transcript.{answer_line, Serves}
 abbrev pub WritesFront : Option (List ℕ) → Option (List ℕ) → List ℕ → List ℕ → Type 0
 WritesFront held holds gathered left = (front : List ℕ) × Appends held holds front × (gathered ≡ front ++ left)
 
--- the request was done, and its answer stands behind what was gathered
+-- the request was done, and the line of its `Answer` was appended to the gathered replies
 abbrev pub HasAnswered : Request → Responder → Responder → Type 0
 HasAnswered request old new =
     (answer : Answer) × ServingStep old.state request answer new.state
     × (string_bytes new.replies ≡ string_bytes old.replies ++ answer_line answer)
 
--- nothing was done, and nothing gathered
+-- nothing was done, and nothing was gathered
 abbrev pub IsIdle : Responder → Responder → Type 0
 IsIdle old new = (new.state ≡ old.state) × (string_bytes new.replies ≡ string_bytes old.replies)
 
--- a request that is asked for was answered, or there is none
+-- a request as in `IsAsked` was done and answered; or there is none, and nothing was done
 abbrev pub Answers : (Request → Type 0) → Bool → Responder → Responder → Type 0
 Answers IsAsked true old new = (request : Request) × IsAsked request × HasAnswered request old new
 Answers IsAsked false old new = ((request : Request) → ¬ IsAsked request) × IsIdle old new
 
--- the request is the action, if there is one
+-- the request is the action, if any
 abbrev pub IsRequest : Option (Action Text) → Request → Type 0
 IsRequest None asked = ⊥
 IsRequest (Some action) asked = asked ≡ request.Action action
 
--- the change of the sketch of this name was done and answered, if there is one
+-- the change, if any, was done on the sketch of this name and answered
 abbrev pub AnswersChange : List ℕ → Option (Change Text) → Bool → Responder → Responder → Type 0
 AnswersChange name None found old new = (found ≡ false) × IsIdle old new
 AnswersChange name (Some change) found old new =
     (found ≡ true) × (named : Text) × (string_bytes named ≡ name)
     × HasAnswered (request.Action (action.Change named change)) old new
 
--- what became of the line
+-- the outcome of the line
 abbrev pub IsAnswered : List ℕ → Responder → Responder → LineOutcome → Type 0
 IsAnswered text old new line.Blank = IsBlank text × IsIdle old new
 IsAnswered text old new line.Answered = Answers (Says text) true old new
 IsAnswered text old new line.Bad = IsBad text × IsIdle old new
 
--- what became of the next line, or none where no input is left
+-- the outcome of the next line, or none if no input is left
 abbrev pub AnswersNext : Option (List ℕ) → Option (List ℕ) → Responder → Responder → Option LineOutcome → Type 0
 AnswersNext was is old new None = IfSome was (λ bytes. bytes ≡ []) × IsIdle old new
 AnswersNext was is old new (Some became) =
     (line : List ℕ) × TakesLine true was is line
     × IsAnswered (strip_last 13 (strip_last 10 line)) old new became
 
--- a run of the loop: it served its input and wrote all of it with no failure, and where all lines were read nothing is left
+-- a run of the loop: it served its input and wrote all output with no failure. If all lines were read, no input is left
 pub record HasServed (input left held holds : Option (List ℕ)) (before now : ℕ) (ended : Ended) : Type 0 where
   pub served : Serves input held holds ended
   pub all_read : ended ≡ All → IsAtEnd left

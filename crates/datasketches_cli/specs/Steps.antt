@@ -1,4 +1,4 @@
--- What serves the lines, and what a request does to it.
+-- The state of the program, and the effect of each request on it.
 use Rattle.std.specs.Prelude.{◌≡◌, ℕ, [], Option, Some, None, Result, Ok, Err, ⊤}
 use Rattle.std.specs.String.{string_bytes, string_eq}
 use Rattle.datasketches.specs.ErrorType.{ErrorType}
@@ -19,20 +19,20 @@ use Rattle.datasketches_cli.specs.declared.request.Request.TheVariants as reques
 use Rattle.datasketches_cli.specs.declared.state.State.{State}
 use Rattle.datasketches_cli.specs.Texts.{Text, text_input, text_slot}
 
--- windows of tenants, if there are any
+-- the windows of tenants, if any
 abbrev pub Windows : Type 0
 Windows = Option (WindowsState Text)
 
--- no sketch, no image and no windows
+-- the state without sketches, images and windows
 abbrev pub nothing_served : State
 nothing_served = record { session = record { sketches = []; images = [] }; windows = None }
 
--- a call's refusal is the request's
+-- the result of a call, with its error as the rejection of the request
 abbrev pub passed_on : {X : Type 0} → Result X ErrorValue → Result X Refusal
 passed_on (Ok x) = Ok x
 passed_on (Err e) = Err (Call e)
 
--- windows are made where there are none
+-- windows are created if there are none. Otherwise the outcome is `NameTaken`
 abbrev pub Opens : ℕ → ℕ → Windows → Result ⊤ Refusal → Windows → Type 0
 Opens windows max_map_size (Some old) outcome new = (outcome ≡ Err NameTaken) × (new ≡ Some old)
 Opens windows max_map_size None (Ok _) new =
@@ -40,7 +40,7 @@ Opens windows max_map_size None (Ok _) new =
 Opens windows max_map_size None (Err refusal) new =
     (e : ErrorValue) × IsMade {T = Text} windows max_map_size (Err e) × (refusal ≡ Call e) × (new ≡ None)
 
--- a call is made where there are windows
+-- a call is made on the windows. If there are none, the outcome is `NoSuchName`
 abbrev pub OnWindows : (WindowsState Text → Result ⊤ ErrorValue → WindowsState Text → Type 0) → Windows → Result ⊤ Refusal → Windows → Type 0
 OnWindows Does None outcome new = (outcome ≡ Err NoSuchName) × (new ≡ None)
 OnWindows Does (Some old) outcome new =
@@ -57,23 +57,23 @@ ReportsOn tenant kind threshold None outcome = outcome ≡ Err NoSuchName
 ReportsOn tenant kind threshold (Some windows) outcome =
     (result : Result (Report Text) ErrorValue) × IsReport string_eq tenant kind threshold windows result × (outcome ≡ passed_on result)
 
--- the answer to what was done or refused
+-- the `Answer` to a request that succeeded or was rejected
 abbrev pub done_or_refused : Result ⊤ Refusal → Answer
 done_or_refused (Ok _) = answer.Reply Done
 done_or_refused (Err refusal) = answer.Reply (Refused refusal)
 
--- the answer to what was reported or refused
+-- the `Answer` to a request for a report, which succeeded or was rejected
 abbrev pub report_or_refused : Result (Report Text) Refusal → Answer
 report_or_refused (Ok report) = answer.Report report
 report_or_refused (Err refusal) = answer.Reply (Refused refusal)
 
--- a request to windows had this outcome, and left the session alone
+-- a request on windows had this outcome, and left the session unchanged
 abbrev pub OfWindows : (Windows → Result ⊤ Refusal → Windows → Type 0) → State → Answer → State → Type 0
 OfWindows Does old given new =
     (outcome : Result ⊤ Refusal) × Does old.windows outcome new.windows × (given ≡ done_or_refused outcome)
     × (new.session ≡ old.session)
 
--- what a request does: an action is a step of the session; the others are calls on the windows
+-- the effect of a request. An action is a step of the session; the others are calls on the windows
 abbrev pub ServingStep : State → Request → Answer → State → Type 0
 ServingStep old (request.Action action) given new =
     (reply : Reply Text) × Performs text_slot string_eq text_input text_codec string_bytes old.session action reply new.session

@@ -1,18 +1,18 @@
--- Items, which are texts.
+-- Items and names, which are strings.
 use Rattle.std.specs.Prelude.{ℕ, List}
 use Rattle.std.specs.Global.{Global}
 use Rattle.std.specs.Hash as fed
 use Rattle.std.specs.String.{string_bytes}
 use Rattle.std.specs.declared.string.String.{String}
 
--- an item that a sketch counts, or a name
+-- a string: an item that a sketch counts, or a name
 abbrev pub Text : Type 0
 Text = String Global
 
--- what a text feeds to a hash: its bytes, and then 255
+-- what a string feeds to a hasher: its bytes, and then 255
 abbrev pub text_input : Text → List (List ℕ)
 text_input item = fed.str (string_bytes item)
 
--- the bytes of an `Option` of a text, by which the table of a sketch is measured where its bytes are limited
+-- the bytes of an `Option` of a string, by which the table of a sketch is measured if its bytes are limited
 abbrev pub text_slot : ℕ
 text_slot = 32

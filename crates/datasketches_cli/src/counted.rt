@@ -1,4 +1,4 @@
-//! Streams that count their failures.
+//! Streams that count their failed calls.
 ghost use Rattle.std.specs.Prelude.{◌≡◌, ◌^◌, ◌-◌, OnOk, OnErr, IsErr};
 ghost use Rattle.std.specs.Io.{ReadsAtMost, WritesAtMost};
 ghost use Rattle.std.specs.Io.KnownBytes.{Appends, Keeps, ReadConsumes, WriteAppends};
@@ -7,9 +7,9 @@ ghost use Rattle.datasketches_cli.specs.Counts.{one_more, greatest};
 use std::io::{Error, ErrorKind, Read, Result, Write};
 use std::marker::Model;
 
-/// A reader or a writer with the number of its calls that failed, up to the greatest `u64`.
+/// A reader or writer with the number of its failed calls, up to `u64::MAX`.
 ///
-/// It reads at most 2^64 - 1 times, and a later read fails: so an endless input ends.
+/// It reads at most 2^64 - 1 times. A later read returns an error, so an endless input ends.
 #[derive(Drop)]
 pub struct Counted<S> {
     inner: S,
@@ -26,7 +26,7 @@ impl<S> Model for Counted<S> {
 }
 
 impl<S> Counted<S> {
-    /// The stream, none of whose calls has failed yet.
+    /// Wraps a stream. No call has failed yet.
     pub fn new(inner: S) -> Self
         ensures { result ≡ record { inner = inner; failures = 0; reads = 0 } }
     {
@@ -37,14 +37,14 @@ impl<S> Counted<S> {
         }
     }
 
-    /// How many calls have failed; it stays at the greatest `u64` once it is there.
+    /// Returns the number of failed calls. It saturates at `u64::MAX`.
     pub fn failures(&self) -> u64
         ensures { result ≡ self.now.failures }
     {
         self.failures
     }
 
-    /// Returns the stream itself, which is not counted any more.
+    /// Returns the stream itself. Its calls are no longer counted.
     pub fn into_inner(self) -> S
         ensures { result ≡ self.inner }
     {
@@ -57,7 +57,7 @@ impl<S> Counted<S> {
     }
 }
 
-/// What a call gave, counted where it failed.
+/// Returns the outcome of a call, and counts it if it is an error.
 fn counting<T>(failures: &mut u64, outcome: Result<T>) -> Result<T>
     ensures same { result ≡ outcome }
     ensures kept { OnOk outcome (failures.new ≡ failures.old) }

@@ -1,9 +1,11 @@
-//! What holds of two runs. No function here does anything: what it ensures is the law.
+//! Laws of two runs. The functions do nothing: their `ensures` clauses are the laws.
 ghost use Rattle.datasketches_cli.specs.Laws.{DigitsMakeWhatWasShown, LoadsWhatWasShown};
 
-/// What one run writes behind `image` is, as digits, the bytes that another run's `load` reads: a line that asks for a load of
-/// these digits loads those bytes, of whatever kind, and the digits of an image make bytes.
-pub fn what_images_carry()
+/// States that `load` in one run reads the bytes that another run printed after `image`.
+///
+/// A `load` line with these digits loads those bytes, for every kind (`loads`). The digits of an image are the digits
+/// of bytes (`digits`).
+pub fn images_are_loaded()
     ensures loads { LoadsWhatWasShown }
     ensures digits { DigitsMakeWhatWasShown }
 {}

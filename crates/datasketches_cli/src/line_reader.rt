@@ -1,4 +1,4 @@
-//! The lines of a reader that is handed over at each call.
+//! Lines of a reader that is passed at each call.
 ghost use Rattle.std.specs.Prelude.{◌≡◌, ◌≢◌, ◌≤◌, ◌+◌, ◌==◌, ◌↔◌, [], false, true, not, length, IsTrue, IfOk, OnOk, Contains};
 ghost use Rattle.std.specs.Io.BufRead.{take_through, drop_through};
 ghost use Rattle.std.specs.Io.KnownBytes.{IsAtEnd, prepend_known};
@@ -7,23 +7,23 @@ ghost use Rattle.datasketches_cli.specs.Counts.{one_more};
 ghost use Rattle.datasketches_cli.specs.Reading.{Fills, TakesFront, TakesLine};
 
 use crate::counted::Counted;
-use crate::search::first_place;
+use crate::search::find_byte;
 use std::alloc::Global;
 use std::io::{Error, ErrorKind, Read, Result};
 use std::marker::Model;
 
-/// How many bytes are read at once.
+/// The number of bytes that one read can return.
 const READ_SIZE: usize = 1 << 16;
 
-/// Bytes of a reader that were read and are not handed on yet. A contract sees the list of them.
+/// Bytes that were read and not returned yet. A contract sees the list of them.
 ///
-/// The reader is handed over at each call, and has to be the same at all of them: so it can be looked at in between.
+/// The reader is passed at each call, and must be the same at all calls. So it can be inspected between calls.
 #[derive(Drop)]
 pub struct LineReader {
     buffer: Vec<u8>,
     start: usize,
     end: usize,
-    /// The place of the first line feed, or the end where there is none.
+    /// The index of the first line feed, or `end` if there is none.
     feed: usize,
 }
 
@@ -40,7 +40,7 @@ impl Model for LineReader {
 }
 
 impl LineReader {
-    /// Before the first read.
+    /// Creates a line reader that has read nothing. Returns an error if its buffer cannot be allocated.
     pub fn new(alloc: Global) -> Result<Self>
         ensures { IfOk result (λ lines. lines ≡ []) }
     {
@@ -52,14 +52,14 @@ impl LineReader {
         })
     }
 
-    /// Whether the next line was read already, with its end.
+    /// Returns whether the next line was read already, with its line feed.
     pub fn has_line(&self) -> bool
         ensures { IsTrue result ↔ Contains self.now 10 }
     {
         self.feed < self.end
     }
 
-    /// The next line with its end, where it was read already.
+    /// Returns the next line with its line feed. It must have been read already.
     pub fn line(&self) -> &[u8]
         requires { Contains self.now 10 }
         ensures { result.now ≡ take_through 10 self.now }
@@ -67,7 +67,7 @@ impl LineReader {
         &self.buffer[self.start..self.feed + 1]
     }
 
-    /// Goes past it.
+    /// Skips the next line. It must have been read already.
     pub fn skip_line(&mut self)
         requires { Contains self.old 10 }
         ensures { self.new ≡ drop_through 10 self.old }
@@ -76,10 +76,10 @@ impl LineReader {
         self.feed = first_feed(&self.buffer, self.start, self.end);
     }
 
-    /// Puts the next line, with its end, in the place of what `line` holds: no byte where no input is left. Answers whether
-    /// there may be more input.
+    /// Replaces the contents of `line` by the next line with its end, or by nothing if no input is left. Returns
+    /// whether there may be more input.
     ///
-    /// It reads only where the line was not read already, and tries again after a read that a signal interrupted.
+    /// Reads only if the line was not read already. Retries a read that a signal interrupted.
     pub fn read_line<R: Read>(
         &mut self,
         reader: &mut Counted<R>,
@@ -105,7 +105,8 @@ impl LineReader {
         Err(Error::from(ErrorKind::Other))
     }
 
-    /// Moves what was read, through the first line feed, to the end of `line`. Answers whether there was one.
+    /// Moves the bytes that were read, through the first line feed, to the end of `line`. Returns whether there was a
+    /// line feed.
     fn take_line(&mut self, line: &mut Vec<u8>) -> Result<bool>
         ensures { IfOk result (λ ended. TakesFront ended self.old self.new line.old.items line.new.items) }
     {
@@ -119,8 +120,10 @@ impl LineReader {
         Ok(false)
     }
 
-    /// Reads more, where all that was read is handed on. Answers whether there may be more input: something was read
-    /// then, or the read failed and is to be tried again.
+    /// Reads more input. All bytes that were read must have been returned.
+    ///
+    /// Returns whether there may be more input: bytes were read, or a signal interrupted the read and it must be
+    /// retried.
     fn fill<R: Read>(&mut self, reader: &mut Counted<R>) -> Result<bool>
         requires { self.old ≡ [] }
         ensures bytes { IfOk result (λ more. Fills more (R.remaining reader.old.inner) self.new
@@ -142,11 +145,11 @@ impl LineReader {
     }
 }
 
-/// The place of the first line feed in a range, or its end where there is none.
+/// Returns the index of the first line feed in a range, or the end of the range if there is none.
 fn first_feed(bytes: &[u8], start: usize, end: usize) -> usize
     requires ordered { start ≤ end }
     requires within { end ≤ length bytes.now }
     ensures { result ≡ start + position_or_len (λ byte. byte == 10) (slice_range bytes.now start end) }
 {
-    start + first_place(b'\n', &bytes[start..end])
+    start + find_byte(b'\n', &bytes[start..end])
 }

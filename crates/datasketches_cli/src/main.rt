@@ -1,11 +1,12 @@
-//! Sketches and saved images of them under names, and windows of tenants beside them, driven by lines.
+//! Named sketches, their saved images, and windows of tenants, driven by lines.
 //!
-//! The program takes no arguments. It reads lines from standard input, and writes a line for each to standard output; every
-//! line and its answer stands in `docs/FORMATS.md`.
+//! The program takes no arguments. It reads lines from standard input and writes a reply line for each to standard
+//! output. `docs/FORMATS.md` lists all lines and their replies.
 //!
-//! A line that is not UTF-8 or no command is answered by `bad line` and its number, counted from 1 over all lines, and
-//! ends the program with status 1. After a failed read or write it prints `input or output failed` on standard error,
-//! and where memory was refused outside a command `no memory`, each with status 2. Else the status is 0.
+//! If a line is not UTF-8 or not a command, the program prints `bad line` and its number, and exits with status 1.
+//! Numbers count all lines from 1. After a failed read or write it prints `input or output failed` on standard error
+//! and exits with status 2. If memory runs out outside a command, it prints `no memory` on standard error and exits
+//! with status 2. Otherwise the status is 0.
 #![tactic(auto)]
 
 mod counted;

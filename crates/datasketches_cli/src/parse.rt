@@ -1,7 +1,7 @@
-//! Words to actions.
-ghost use Rattle.std.specs.Prelude.{[], ◌∷◌, IfOk, codes, string_bytes};
+//! Parsing of words into actions.
+ghost use Rattle.std.specs.Prelude.{◌≢◌, [], ◌∷◌, IfOk, codes, string_bytes};
 ghost use Rattle.datasketches_cli.specs.Grammar.{Make};
-ghost use Rattle.datasketches_cli.specs.Parsing.{AsksOfTwo, IsActionOf, one_word, texts_of, two_word};
+ghost use Rattle.datasketches_cli.specs.Parsing.{IsBinaryVerb, IsActionOf, unary_word, texts_of, binary_word};
 
 pub mod change;
 mod load;
@@ -17,10 +17,10 @@ use shape::shape_of;
 use std::alloc::{AllocError, Global};
 use words::{copied, report_of};
 
-/// The action that some words make, if they make one.
+/// The action that words make, if any.
 type ParsedAction = Result<Option<Action<String>>, AllocError>;
 
-/// The action that a verb, a name and the words behind it make.
+/// Returns the action that a verb, a name and the words after it make, if any.
 pub fn action_of(
     alloc: Global,
     verb: &str,
@@ -28,12 +28,14 @@ pub fn action_of(
     words: &[&str],
     recycled: &mut Recycled<String>,
 ) -> ParsedAction
+    requires not_add { verb.now ≢ codes "add" }
+    requires not_insert { verb.now ≢ codes "insert" }
+    requires not_ask { verb.now ≢ codes "ask" }
     ensures { IfOk result (IsActionOf (verb.now ∷ name.now ∷ texts_of words.now)) }
 {
     match verb {
-        "image" => on_one(alloc, OnOne::ShowImage, name, words),
-        "status" => on_one(alloc, OnOne::GetStatus, name, words),
-        "ask" => ask(alloc, name, words, recycled),
+        "image" => parse_unary(alloc, UnaryVerb::ShowImage, name, words),
+        "status" => parse_unary(alloc, UnaryVerb::GetStatus, name, words),
         "rows" => rows(alloc, name, words),
         "load" => load(alloc, name, words),
         _ => {
@@ -41,8 +43,8 @@ pub fn action_of(
                 let name = copied(alloc, name, &mut recycled.name)?;
                 return Ok(Some(Action::Change { name, change }));
             }
-            if let Some(asked) = two_of(verb) {
-                return on_two(alloc, asked, name, words);
+            if let Some(asked) = binary_verb(verb) {
+                return parse_binary(alloc, asked, name, words);
             }
             if let Some(shape) = shape_of(verb, words) {
                 let name = String::from_str(alloc, name)?;
@@ -53,76 +55,76 @@ pub fn action_of(
     }
 }
 
-/// What is asked for by a verb and a name alone.
+/// An action of a verb and one name.
 #[derive(Clone, Copy)]
-enum OnOne {
+enum UnaryVerb {
     ShowImage,
     GetStatus,
 }
 
-/// What is asked for by a verb, a name and another name.
+/// An action of a verb and two names.
 #[derive(Clone, Copy)]
-enum OnTwo {
+enum BinaryVerb {
     Save,
     Restore,
     Join(Join),
 }
 
-/// What a verb asks for that stands before two names.
-fn two_of(verb: &str) -> Option<OnTwo>
-    ensures { AsksOfTwo verb.now result }
+/// Returns the action of a verb before two names, if any.
+fn binary_verb(verb: &str) -> Option<BinaryVerb>
+    ensures { IsBinaryVerb verb.now result }
 {
     match verb {
-        "save" => Some(OnTwo::Save),
-        "restore" => Some(OnTwo::Restore),
-        "merge" => Some(OnTwo::Join(Join::Merge)),
-        "union" => Some(OnTwo::Join(Join::Union)),
-        "intersect" => Some(OnTwo::Join(Join::Intersect)),
-        "difference" => Some(OnTwo::Join(Join::Difference)),
+        "save" => Some(BinaryVerb::Save),
+        "restore" => Some(BinaryVerb::Restore),
+        "merge" => Some(BinaryVerb::Join(Join::Merge)),
+        "union" => Some(BinaryVerb::Join(Join::Union)),
+        "intersect" => Some(BinaryVerb::Join(Join::Intersect)),
+        "difference" => Some(BinaryVerb::Join(Join::Difference)),
         _ => None,
     }
 }
 
-fn on_one(alloc: Global, asked: OnOne, name: &str, words: &[&str]) -> ParsedAction
-    ensures { IfOk result (IsActionOf (one_word asked ∷ name.now ∷ texts_of words.now)) }
+fn parse_unary(alloc: Global, asked: UnaryVerb, name: &str, words: &[&str]) -> ParsedAction
+    ensures { IfOk result (IsActionOf (unary_word asked ∷ name.now ∷ texts_of words.now)) }
 {
     if !words.is_empty() {
         return Ok(None);
     }
     let name = String::from_str(alloc, name)?;
-    Ok(Some(action_on_one(asked, name)))
+    Ok(Some(unary_action(asked, name)))
 }
 
-fn action_on_one(asked: OnOne, name: String) -> Action<String>
-    ensures { Make (one_word asked ∷ string_bytes name ∷ []) result }
+fn unary_action(asked: UnaryVerb, name: String) -> Action<String>
+    ensures { Make (unary_word asked ∷ string_bytes name ∷ []) result }
 {
     match asked {
-        OnOne::ShowImage => Action::ShowImage { image: name },
-        OnOne::GetStatus => Action::GetStatus { name },
+        UnaryVerb::ShowImage => Action::ShowImage { image: name },
+        UnaryVerb::GetStatus => Action::GetStatus { name },
     }
 }
 
-fn on_two(alloc: Global, asked: OnTwo, name: &str, words: &[&str]) -> ParsedAction
-    ensures { IfOk result (IsActionOf (two_word asked ∷ name.now ∷ texts_of words.now)) }
+fn parse_binary(alloc: Global, asked: BinaryVerb, name: &str, words: &[&str]) -> ParsedAction
+    ensures { IfOk result (IsActionOf (binary_word asked ∷ name.now ∷ texts_of words.now)) }
 {
     let [other] = words else {
         return Ok(None);
     };
     let name = String::from_str(alloc, name)?;
     let other = String::from_str(alloc, other)?;
-    Ok(Some(action_on_two(asked, name, other)))
+    Ok(Some(binary_action(asked, name, other)))
 }
 
-fn action_on_two(asked: OnTwo, name: String, other: String) -> Action<String>
-    ensures { Make (two_word asked ∷ string_bytes name ∷ string_bytes other ∷ []) result }
+fn binary_action(asked: BinaryVerb, name: String, other: String) -> Action<String>
+    ensures { Make (binary_word asked ∷ string_bytes name ∷ string_bytes other ∷ []) result }
 {
     match asked {
-        OnTwo::Save => Action::Save { name, image: other },
-        OnTwo::Restore => Action::Restore {
+        BinaryVerb::Save => Action::Save { name, image: other },
+        BinaryVerb::Restore => Action::Restore {
             image: name,
             name: other,
         },
-        OnTwo::Join(join) => Action::Join {
+        BinaryVerb::Join(join) => Action::Join {
             into: name,
             other,
             join,
@@ -130,7 +132,7 @@ fn action_on_two(asked: OnTwo, name: String, other: String) -> Action<String>
     }
 }
 
-/// The action of `ask`.
+/// Returns the action of `ask`, if exactly one word follows the name.
 #[inline(always)]
 pub fn ask(
     alloc: Global,

@@ -1,4 +1,4 @@
-//! The lines that replies print.
+//! Printing of replies.
 ghost use Rattle.std.specs.Prelude.{◌≡◌, ◌++◌, OnOk, string_bytes, codes};
 ghost use Rattle.hex.specs.Hex.{encode_lower};
 ghost use Rattle.std.specs.List.{flat_map};
@@ -12,7 +12,7 @@ use heavy_windows::Report;
 use std::alloc::{AllocError, Global};
 use std::fmt::Write;
 
-/// Writes an answer's line.
+/// Writes the line of an answer.
 #[inline(always)]
 pub fn write_answer(alloc: Global, out: &mut String, answer: &Answer) -> Result<(), AllocError>
     ensures { OnOk result (string_bytes out.new ≡ string_bytes out.old ++ answer_line answer.now) }
@@ -23,7 +23,7 @@ pub fn write_answer(alloc: Global, out: &mut String, answer: &Answer) -> Result<
     }
 }
 
-/// Writes the line of what weighed most in a tenant's windows.
+/// Writes the line of a report on a tenant's windows.
 fn write_report(out: &mut String, report: &Report<String>) -> Result<(), AllocError>
     ensures { OnOk result (string_bytes out.new ≡ string_bytes out.old ++ (report_text report.now ++ codes "\n")) }
 {
@@ -37,7 +37,7 @@ fn write_report(out: &mut String, report: &Report<String>) -> Result<(), AllocEr
     write_rows(out, &report.rows)
 }
 
-/// Writes a reply's line.
+/// Writes the line of a reply.
 #[inline(always)]
 fn write_reply(alloc: Global, out: &mut String, reply: &Reply<String>) -> Result<(), AllocError>
     ensures { OnOk result (string_bytes out.new ≡ string_bytes out.old ++ (reply_text reply.now ++ codes "\n")) }
@@ -64,7 +64,7 @@ fn write_reply(alloc: Global, out: &mut String, reply: &Reply<String>) -> Result
     }
 }
 
-/// Writes a sketch's kind and its numbers, without the line's end.
+/// Writes a sketch's kind and its numbers, without a line feed.
 fn write_status(out: &mut String, status: &Status) -> Result<(), AllocError>
     ensures { OnOk result (string_bytes out.new ≡ string_bytes out.old ++ status_text status.now) }
 {
@@ -110,7 +110,7 @@ fn write_status(out: &mut String, status: &Status) -> Result<(), AllocError>
     }
 }
 
-/// Writes the line of an image's bytes, as hexadecimal digits.
+/// Writes the line of an image: its bytes as hexadecimal digits.
 fn write_image(alloc: Global, out: &mut String, bytes: &[u8]) -> Result<(), AllocError>
     ensures { OnOk result (string_bytes out.new ≡ string_bytes out.old ++ (codes "image " ++ encode_lower bytes.now ++ codes "\n")) }
 {
@@ -118,7 +118,7 @@ fn write_image(alloc: Global, out: &mut String, bytes: &[u8]) -> Result<(), Allo
     writeln!(out, "image {digits}")
 }
 
-/// Writes the items of a report with their numbers, and the end of the line.
+/// Writes the items of a report with their numbers, and a line feed.
 fn write_rows(out: &mut String, rows: &[Row<String>]) -> Result<(), AllocError>
     ensures { OnOk result (string_bytes out.new ≡ string_bytes out.old ++ (flat_map row_text rows.now ++ codes "\n")) }
 {

@@ -1,4 +1,4 @@
-//! Lines to answers.
+//! From lines to replies.
 ghost use Rattle.std.specs.Prelude.{◌≡◌, [], IfOk, OnOk, string_bytes};
 ghost use Rattle.datasketches_cli.specs.Asking.{Ask, AskAction};
 ghost use Rattle.datasketches_cli.specs.Parsing.{texts_of};
@@ -7,7 +7,7 @@ ghost use Rattle.datasketches_cli.specs.Steps.{nothing_served};
 
 use crate::parse::change::{add, insert};
 use crate::parse::windows::windows_request_of;
-use crate::parse::words::{MOST_WORDS, copied, first_words};
+use crate::parse::words::{MAX_WORDS, copied, first_words};
 use crate::parse::{action_of, ask};
 use crate::reply::write_answer;
 use crate::request::Request;
@@ -15,31 +15,31 @@ use crate::state::State;
 use datasketches::{Action, Change, Recycled};
 use std::alloc::{AllocError, Global};
 
-/// What became of a line.
+/// The outcome of a line.
 #[derive(Clone, Copy)]
 pub enum LineOutcome {
-    /// It has no word.
+    /// The line has no words.
     Blank,
-    /// What it asks for was done or refused, and answered.
+    /// The request of the line was done or rejected, and its reply was gathered.
     Answered,
-    /// It is no text, or asks for nothing.
+    /// The line is not UTF-8 or not a request.
     Bad,
 }
 
-/// What the lines of one input are answered by.
+/// The state on which the lines of one input run, and their gathered replies.
 #[derive(Drop)]
 pub struct Responder {
     alloc: Global,
-    /// What does as the lines ask.
+    /// The session and the windows.
     state: State,
-    /// The memory of names and items that an earlier line left.
+    /// A name and an item of earlier lines, whose memory is reused.
     recycled: Recycled<String>,
-    /// The answers that were gathered, and are not written yet.
+    /// The replies that were gathered and are not written yet.
     pub replies: String,
 }
 
 impl Responder {
-    /// Before the first line. It takes no memory.
+    /// Creates a responder with an empty state and no replies. Does not allocate.
     pub fn new(alloc: Global) -> Self
         ensures serves { result.state ≡ nothing_served }
         ensures gathers { string_bytes result.replies ≡ [] }
@@ -52,14 +52,14 @@ impl Responder {
         }
     }
 
-    /// Does what a line asks for, which stands without its end, and gathers its answer.
+    /// Runs the request of a line without its end, and gathers the reply.
     pub fn answer_line(&mut self, line: &[u8]) -> Result<LineOutcome, AllocError>
         ensures { IfOk result (IsAnswered line.now self.old self.new) }
     {
         let Ok(text) = str::from_utf8(line) else {
             return Ok(LineOutcome::Bad);
         };
-        let mut words = [""; MOST_WORDS];
+        let mut words = [""; MAX_WORDS];
         let count = first_words(text, &mut words);
         let words = &words[..count];
         if words.is_empty() {
@@ -72,7 +72,7 @@ impl Responder {
         }
     }
 
-    /// Does what the words ask for, and gathers its answer. Answers whether they ask for something.
+    /// Runs the request of the words and gathers its reply. Returns whether the words are a request.
     fn answer_words(&mut self, words: &[&str]) -> Result<bool, AllocError>
         ensures { IfOk result (λ found. Answers (Ask (texts_of words.now)) found self.old self.new) }
     {
@@ -88,9 +88,9 @@ impl Responder {
         }
     }
 
-    /// The same of actions.
+    /// Runs the action of the words and gathers its reply. Returns whether the words are an action.
     ///
-    /// What most lines ask for is made and done in a place of its own, so that it is not copied on its way.
+    /// The most frequent verbs have their own cases, so that their actions are not copied.
     fn answer_on_sketches(&mut self, words: &[&str]) -> Result<bool, AllocError>
         ensures { IfOk result (λ found. Answers (AskAction (texts_of words.now)) found self.old self.new) }
     {
@@ -117,7 +117,7 @@ impl Responder {
         }
     }
 
-    /// Makes a change of the named sketch, if there is one, and gathers its answer. Answers whether there is one.
+    /// Makes a change of the named sketch, if any is given, and gathers its reply. Returns whether one is given.
     #[inline(always)]
     fn answer_change(
         &mut self,
@@ -136,7 +136,7 @@ impl Responder {
         }
     }
 
-    /// Does an action, if there is one, and gathers its answer. Answers whether there is one.
+    /// Runs an action, if any is given, and gathers its reply. Returns whether one is given.
     #[inline(always)]
     fn answer_action(&mut self, action: Option<Action<String>>) -> Result<bool, AllocError>
         ensures { IfOk result (λ found. Answers (IsRequest action) found self.old self.new) }
@@ -150,7 +150,7 @@ impl Responder {
         }
     }
 
-    /// Does what is asked for, and gathers its answer.
+    /// Runs a request and gathers its reply.
     #[inline(always)]
     fn answer(&mut self, request: Request) -> Result<(), AllocError>
         ensures { OnOk result (HasAnswered request self.old self.new) }

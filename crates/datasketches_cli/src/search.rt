@@ -1,25 +1,25 @@
-//! The first place of a byte.
+//! Search for a byte.
 ghost use Rattle.std.specs.Prelude.{◌≡◌, ◌+◌, ◌≤◌, ◌==◌, length};
 ghost use Rattle.std.specs.List.{position_or_len, slice_range};
 
 use std::simd::prelude::*;
 
-/// The first place of a byte, or the number of bytes where it is none of them.
+/// Returns the first index of `byte`, or the number of bytes if it is none of them.
 #[inline(always)]
-pub fn first_place(byte: u8, bytes: &[u8]) -> usize
+pub fn find_byte(byte: u8, bytes: &[u8]) -> usize
     ensures value { result ≡ position_or_len (λ other. other == byte) bytes.now }
     ensures bound { result ≤ length bytes.now }
 {
     let mut at = 0;
     while bytes.len() - at >= 16 {
-        let found = first_in::<16>(byte, bytes, at);
+        let found = find_byte_in::<16>(byte, bytes, at);
         if found < 16 {
             return at + found;
         }
         at += 16;
     }
     if bytes.len() - at >= 8 {
-        let found = first_in::<8>(byte, bytes, at);
+        let found = find_byte_in::<8>(byte, bytes, at);
         if found < 8 {
             return at + found;
         }
@@ -31,9 +31,9 @@ pub fn first_place(byte: u8, bytes: &[u8]) -> usize
     at
 }
 
-/// The same of `N` bytes, counted from the first of them.
+/// Returns the same for the `N` bytes from index `at`, as an index from `at`.
 #[inline(always)]
-fn first_in<const N: usize>(byte: u8, bytes: &[u8], at: usize) -> usize
+fn find_byte_in<const N: usize>(byte: u8, bytes: &[u8], at: usize) -> usize
     requires lanes { N ≤ 64 }
     requires room { at + N ≤ length bytes.now }
     ensures { result ≡ position_or_len (λ other. other == byte) (slice_range bytes.now at (at + N)) }

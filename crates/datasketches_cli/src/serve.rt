@@ -1,4 +1,4 @@
-//! The loop from lines to replies.
+//! The loop that reads lines and writes replies.
 ghost use Rattle.std.specs.Prelude.{◌≡◌, ◌<◌, ◌⊎◌, ◌↔◌, [], ◌++◌, true, false, Some, IsSome, IsTrue, IfOk, IfErr, OnOk, Contains};
 ghost use Rattle.std.specs.Prelude.{string_bytes, string_len};
 ghost use Rattle.std.specs.Io.BufRead.{strip_last};
@@ -16,38 +16,39 @@ use std::alloc::Global;
 use std::fmt::Write as _;
 use std::io::{Read, Write};
 
-/// How a run ended.
+/// The end of a run that had no error.
 #[derive(Clone, Copy, Debug, PartialEq, Eq)]
 pub enum Ended {
-    /// All lines were read, and each request was answered.
+    /// All lines were read, and the reply to each request was written.
     All,
-    /// The line of this number, counted from 1, asks for nothing.
+    /// The line of this number, counted from 1, is not a request.
     BadLine(u128),
 }
 
-/// What stopped a run.
+/// The error of a run.
 #[derive(Clone, Copy, Debug, PartialEq, Eq)]
 pub enum CliFault {
     /// A read or a write failed.
     Io,
-    /// There was no memory, outside of any request.
+    /// Memory ran out outside a request.
     Memory,
 }
 
-/// How many bytes of replies are gathered before they are written.
+/// The number of gathered bytes at which replies are written.
 const WRITE_SIZE: usize = 1 << 16;
 
-/// Does what the reader's lines ask for, in a session and with windows of its own, and writes a line for each.
+/// Runs the requests of the reader's lines on a new session and new windows, and writes a reply line for each.
 ///
-/// A line ends at a line feed or at the end of input, and one carriage return before that is dropped. A line without a
-/// word gets no answer. After a line that asks for nothing, `bad line` and its number are written, and nothing more is
-/// done. Replies are written before more input is waited for, and no more is read behind the read that finds the end. Where
-/// it answers without an error, the writer's count of failures is as it was, and after `All` the reader has no byte left.
+/// A line ends at a line feed or at the end of input. One carriage return before that is dropped. A line without a word
+/// has no reply. After a line that is not a request, it writes `bad line` and the line's number, and stops.
+///
+/// Replies are written before more input is read. Reading stops at end of file. If no error is returned, the writer's
+/// count of failures is unchanged. After `All` the reader has no bytes left.
 ///
 /// # Errors
 ///
-/// `Io` where a call of the reader or the writer failed in this run, or where a count of failures stands at the
-/// greatest `u64`, and else `Memory`. Replies to earlier lines may be written by then.
+/// Returns `Io` if a call of the reader or the writer failed in this run, or if a count of failures is `u64::MAX`.
+/// Otherwise returns `Memory`. Replies to earlier lines may already be written.
 pub fn serve<R: Read, W: Write>(
     alloc: Global,
     reader: &mut Counted<R>,
@@ -75,14 +76,14 @@ pub fn serve<R: Read, W: Write>(
     }
 }
 
-/// Whether a count may have grown.
+/// Returns whether a count of failures may have grown.
 fn has_grown(before: u64, now: u64) -> bool
     ensures { IsTrue result ↔ HasGrown before now }
 {
     before < now || now == u64::MAX
 }
 
-/// Does the commands of the lines.
+/// Runs the requests of the lines.
 fn serve_lines<R: Read, W: Write>(
     alloc: Global,
     reader: &mut Counted<R>,
@@ -97,7 +98,7 @@ fn serve_lines<R: Read, W: Write>(
     answer_lines(&mut responder, &mut lines, reader, writer, &mut line)
 }
 
-/// The same, over what is kept from line to line: so nothing is let go where a call stops.
+/// Runs the requests of the lines on state that the caller owns, so that nothing is dropped where a call fails.
 fn answer_lines<R: Read, W: Write>(
     responder: &mut Responder,
     lines: &mut LineReader,
@@ -127,11 +128,12 @@ fn answer_lines<R: Read, W: Write>(
     Err(Stopped)
 }
 
-/// Does what the next line asks for, and gathers its answer: what became of it, or `None` where no input is left, and
-/// whether there may be more input.
+/// Runs the request of the next line and gathers its reply.
 ///
-/// A line that was read whole is looked at where it lies. Else it comes into the place of what `line` holds, and more is
-/// read, which is only asked for where no reply is gathered.
+/// Returns the outcome of the line, or `None` if no input is left, and whether there may be more input.
+///
+/// A line that was read whole is parsed in place. Otherwise more input is read, and the line replaces the contents of
+/// `line`. No replies may be gathered in this case.
 fn answer_next<R: Read>(
     responder: &mut Responder,
     lines: &mut LineReader,
@@ -159,14 +161,14 @@ fn answer_next<R: Read>(
     Ok((Some(became), more))
 }
 
-/// Whether a line asks for nothing.
+/// Returns whether a line is not a request.
 fn is_bad(became: Option<LineOutcome>) -> bool
     ensures { IsTrue result ↔ (became ≡ Some LineOutcome.Bad) }
 {
     matches!(became, Some(LineOutcome::Bad))
 }
 
-/// Writes the gathered replies, and names a bad line.
+/// Writes the gathered replies, then `bad line` and the line's number.
 fn write_bad<W: Write>(
     writer: &mut Counted<W>,
     replies: &mut String,
@@ -180,14 +182,14 @@ fn write_bad<W: Write>(
     write_out(writer, replies)
 }
 
-/// The line without its end.
+/// Returns the line without its line feed, and without one carriage return before it.
 fn without_end(line: &[u8]) -> &[u8]
     ensures { result.now ≡ strip_last 13 (strip_last 10 line.now) }
 {
     without_last(b'\r', without_last(b'\n', line))
 }
 
-/// The bytes without the last one, if that is `byte`.
+/// Returns the bytes without the last one, if that is `byte`. Otherwise returns all bytes.
 fn without_last(byte: u8, bytes: &[u8]) -> &[u8]
     ensures { result.now ≡ strip_last byte bytes.now }
 {
@@ -197,7 +199,7 @@ fn without_last(byte: u8, bytes: &[u8]) -> &[u8]
     }
 }
 
-/// Writes the gathered replies, where more input is read next or they are many.
+/// Writes the gathered replies, if more input is read next or if they are at least `WRITE_SIZE` bytes.
 fn write_due<W: Write>(
     lines: &LineReader,
     writer: &mut Counted<W>,
@@ -226,8 +228,8 @@ fn write_out<W: Write>(writer: &mut Counted<W>, replies: &mut String) -> Result<
         return Ok(());
     }
     writer.write_all(replies.as_bytes())?;
-    // For a writer that buffers. No clause and no test can tell whether this call is made: in a clause, a writer's contents
-    // have the bytes that it buffers, and standard output buffers none.
+    // For a writer that buffers. No clause and no test detects whether this call is made. In clauses, a writer's
+    // contents include the bytes that it buffers. Standard output buffers none.
     writer.flush()?;
     replies.clear();
     Ok(())

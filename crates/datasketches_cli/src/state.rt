@@ -1,4 +1,4 @@
-//! A session, and windows of tenants beside it.
+//! A session and windows of tenants.
 ghost use Rattle.std.specs.Prelude.{◌≡◌};
 ghost use Rattle.datasketches_cli.specs.Steps.{nothing_served, done_or_refused, Opens, AddsTo, TurnsFor, ReportsOn, ServingStep};
 
@@ -8,7 +8,7 @@ use datasketches::{Recycled, Refusal, Reply, Session};
 use heavy_windows::{HeavyWindows, Report};
 use std::alloc::Global;
 
-/// What the lines of one input are served by: a session, and at most one set of windows.
+/// The state on which the lines of one input run: a session, and at most one set of windows.
 #[derive(Drop)]
 pub struct State {
     pub session: Session<String>,
@@ -16,7 +16,7 @@ pub struct State {
 }
 
 impl State {
-    /// No sketch, no image and no windows. It takes no memory.
+    /// Creates a state with no sketch, no image and no windows. Does not allocate.
     pub fn new(alloc: Global) -> Self
         ensures { result ≡ nothing_served }
     {
@@ -26,7 +26,7 @@ impl State {
         }
     }
 
-    /// Does what a line asks for. A refused request changes nothing.
+    /// Runs a request. A rejected request changes nothing.
     #[inline(always)]
     pub fn apply(
         &mut self,
@@ -62,7 +62,7 @@ impl State {
     }
 }
 
-/// The answer to what was done or refused.
+/// Returns the answer `Done`, or `Refused` with the error.
 fn done_or_refused(outcome: Result<(), Refusal>) -> Answer
     ensures { result ≡ done_or_refused outcome }
 {
@@ -72,7 +72,7 @@ fn done_or_refused(outcome: Result<(), Refusal>) -> Answer
     }
 }
 
-/// Makes windows where there are none.
+/// Creates windows if there are none. Returns `NameTaken` if there are any, and the errors of [`HeavyWindows::new`].
 fn open(
     alloc: Global,
     windows: &mut Option<HeavyWindows<String>>,
@@ -90,6 +90,8 @@ fn open(
 }
 
 /// Adds a weight to an item in a tenant's newest window.
+///
+/// Returns `NoSuchName` if there are no windows, and the errors of [`HeavyWindows::add`].
 fn add(
     windows: &mut Option<HeavyWindows<String>>,
     tenant: u64,
@@ -105,6 +107,8 @@ fn add(
 }
 
 /// Opens an empty window for a tenant.
+///
+/// Returns `NoSuchName` if there are no windows, and the errors of [`HeavyWindows::turn`].
 fn turn(windows: &mut Option<HeavyWindows<String>>, tenant: u64) -> Result<(), Refusal>
     ensures { TurnsFor tenant windows.old result windows.new }
 {
@@ -114,7 +118,9 @@ fn turn(windows: &mut Option<HeavyWindows<String>>, tenant: u64) -> Result<(), R
     }
 }
 
-/// What weighed most in a tenant's windows.
+/// Returns the heavy hitters of a tenant's windows.
+///
+/// Returns `NoSuchName` if there are no windows, and the errors of [`HeavyWindows::report`].
 fn report(
     windows: &Option<HeavyWindows<String>>,
     tenant: u64,

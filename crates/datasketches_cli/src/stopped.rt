@@ -1,8 +1,8 @@
-//! What stops the loop.
+//! The error of the loop.
 use std::alloc::AllocError;
 use std::io;
 
-/// A read, a write or a request for memory failed: which of them it was, the streams' counts tell.
+/// A failed read, write or allocation. The streams' counts of failures distinguish them.
 #[derive(Drop)]
 pub struct Stopped;
 

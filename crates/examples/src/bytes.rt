@@ -1,12 +1,12 @@
-//! Bytes that are hashed, written and read.
+//! Examples of bytes that are hashed, written and read.
 use sketch_base::{
-    Divisor, Error, ErrorKind, Family, Fault, MurmurHash3X64128, SeedlessItem, SketchBytes,
+    Divisor, Error, ErrorKind, Family, Fault, MurmurHash3X64128, RehashableItem, SketchBytes,
     SketchSlice, XxHash64,
 };
 use std::alloc::Global;
 use std::hash::{Hash, Hasher};
 
-/// A number, written and read again.
+/// Writes a number and reads it again.
 pub fn there_and_back(alloc: Global, n: u32) -> Result<u32, Error> {
     let mut out = SketchBytes::with_capacity(alloc, 4)?;
     out.write_u32_le(n)?;
@@ -14,7 +14,7 @@ pub fn there_and_back(alloc: Global, n: u32) -> Result<u32, Error> {
     SketchSlice::new(&image).read_u32_le()
 }
 
-/// Two fields of an image.
+/// Reads two fields of an image.
 pub fn version_and_seed(image: &[u8]) -> Result<(u8, u64), Error> {
     let mut unread = SketchSlice::new(image);
     let version = unread.read_u8()?;
@@ -22,7 +22,7 @@ pub fn version_and_seed(image: &[u8]) -> Result<(u8, u64), Error> {
     Ok((version, seed))
 }
 
-/// The hash of two pieces, which is that of both as one.
+/// Returns the hash of two pieces, which is the hash of both as one piece.
 pub fn hash_of_both(first: &[u8], second: &[u8]) -> u64 {
     let mut hasher = XxHash64::with_seed(9001);
     hasher.write(first);
@@ -30,42 +30,42 @@ pub fn hash_of_both(first: &[u8], second: &[u8]) -> u64 {
     hasher.finish()
 }
 
-/// Both halves of the hash of an item.
+/// Returns both halves of the hash of an item.
 pub fn halves_of<T: Hash>(item: &T) -> (u64, u64) {
     let mut hasher = MurmurHash3X64128::default();
     item.hash(&mut hasher);
     hasher.finish128()
 }
 
-/// The hashes of a user under the seeds of two rows.
+/// Returns the hashes of a user under the seeds of two rows.
 pub fn hashes_of_both_rows(user: u64, seeds: (u64, u64)) -> (u64, u64) {
-    let item = SeedlessItem::new(&user);
+    let item = RehashableItem::new(&user);
     (item.murmur3(seeds.0).0, item.murmur3(seeds.1).0)
 }
 
-/// How many bytes a number feeds, which are few enough to be kept.
+/// Returns the number of bytes that a number feeds to a hasher, if they are few enough to be kept.
 pub fn kept_bytes(user: u64) -> Option<usize> {
-    let item = SeedlessItem::new(&user);
+    let item = RehashableItem::new(&user);
     item.short().map(|bytes| bytes.len())
 }
 
-/// The bucket of a hash, of 128 buckets.
+/// Returns the bucket of a hash, of 128 buckets.
 pub fn bucket(hash: u64) -> u64 {
     let buckets = Divisor::new(128);
     buckets.rem(hash)
 }
 
-/// Whether an image lacks bytes at its end.
+/// Returns whether an error means that an image lacks bytes at its end.
 pub fn is_cut_short(error: &Error) -> bool {
     error.kind() == ErrorKind::InvalidData && error.fault() == Fault::InsufficientData
 }
 
-/// Whether an image is one of a filter, by the number of its family.
+/// Returns whether an image is one of a filter, by the number of its family.
 pub fn is_of_a_filter(family: u8) -> bool {
     Family::BLOOMFILTER.validate_id(family).is_ok()
 }
 
-/// What was wrong, for a reader.
+/// Returns the message of an error, for a reader.
 pub fn reason(error: &Error) -> &'static str {
     error.fault().text()
 }

@@ -1,4 +1,4 @@
-//! Callers with promises of their own, which follow from the contracts of the calls.
+//! Callers with contracts of their own, which follow from the contracts of the calls.
 ghost use Rattle.std.specs.Prelude.{◌≡◌, ◌≤◌, ◌≤ℤ◌, pos, true, IfOk, nat_eq};
 ghost use Rattle.std.specs.Hash as fed;
 ghost use Rattle.sketch_base.specs.Hashes.{fed_bytes};
@@ -12,7 +12,7 @@ use sketch_countmin::CountMinSketch;
 use sketch_frequencies::FrequentItemsSketch;
 use std::alloc::Global;
 
-/// What a visitor surely weighs after two visits: at most what it does weigh.
+/// Returns a lower bound of a visitor's weight after two visits. It is at most the true weight.
 pub fn surely_weighs(alloc: Global, first: u64, second: u64, visitor: u64) -> Result<u64, Error>
     ensures { IfOk result (λ bound.
         bound ≤ true_weight nat_eq (Update (Update (New 64 48) first 3) second 4) visitor) }
@@ -23,11 +23,11 @@ pub fn surely_weighs(alloc: Global, first: u64, second: u64, visitor: u64) -> Re
     Ok(visits.lower_bound(&visitor))
 }
 
-/// Whether a key that one of two machines has seen is in the union of their filters. It is.
+/// Returns whether a key that one of two machines has seen is in the union of their filters. It is.
 pub fn is_in_union(alloc: Global, key: u64, other: u64) -> Result<bool, Error>
     ensures { IfOk result (λ found. found ≡ true) }
 {
-    laws::what_is_contained();
+    laws::membership();
     laws::union_is_set_union();
     let mut north = BloomFilterBuilder::with_size(959, 7).build(alloc)?;
     let mut south = BloomFilterBuilder::with_size(959, 7).build(alloc)?;
@@ -37,7 +37,7 @@ pub fn is_in_union(alloc: Global, key: u64, other: u64) -> Result<bool, Error>
     Ok(south.contains(&key))
 }
 
-/// An estimate after halving: at least half of what came, rounded down.
+/// Returns an estimate after halving. It is at least half of the weight that was added, rounded down.
 pub fn aged_estimate(alloc: Global, item: u64, bytes: u64) -> Result<u64, Error>
     ensures { IfOk result (λ estimate.
         counts.own_value (counts.Halve (counts.Update (counts.New 4 128 9001) (fed_bytes fed.u64 item) (pos bytes)))

@@ -1,11 +1,11 @@
-//! Weights in a table of a fixed size.
+//! Examples of Count-Min sketches: weights in a table of a fixed size.
 use sketch_base::Error;
 use sketch_countmin::{
     CountMinSketch, CountMinValue, UnsignedCountMinValue, suggest_num_buckets, suggest_num_hashes,
 };
 use std::alloc::Global;
 
-/// The weight of an apple, aged by a half.
+/// Returns the weight of an apple after halving.
 pub fn bytes_of_apple(alloc: Global) -> Result<u64, Error> {
     let mut traffic: CountMinSketch<u64> = CountMinSketch::new(alloc, 4, 128)?;
     traffic.update_with_weight("apple", 90)?;
@@ -13,12 +13,12 @@ pub fn bytes_of_apple(alloc: Global) -> Result<u64, Error> {
     Ok(traffic.estimate("apple"))
 }
 
-/// A sketch whose estimates are at most a thousandth of the total too high, but for one question in fifty.
+/// Creates a sketch whose estimates are at most a thousandth of the total too high, except for one look-up in fifty.
 pub fn bytes_within_a_thousandth(alloc: Global) -> Result<CountMinSketch<u64>, Error> {
     CountMinSketch::new(alloc, suggest_num_hashes(50)?, suggest_num_buckets(1000)?)
 }
 
-/// The bounds of what came on either of two days.
+/// Returns the bounds of the weight that was added on two days.
 pub fn apples_of_both_days(alloc: Global) -> Result<(u64, u64), Error> {
     let mut monday: CountMinSketch<u64> = CountMinSketch::new(alloc, 4, 128)?;
     let mut tuesday: CountMinSketch<u64> = CountMinSketch::new(alloc, 4, 128)?;
@@ -28,12 +28,12 @@ pub fn apples_of_both_days(alloc: Global) -> Result<(u64, u64), Error> {
     Ok((monday.lower_bound("apple"), monday.upper_bound("apple")))
 }
 
-/// Nine tenths of each weight.
+/// Reduces each weight to nine tenths.
 pub fn age(traffic: &mut CountMinSketch<u64>) {
     traffic.decay(9, 10);
 }
 
-/// A sketch as it comes back from its bytes, which may ask for a MiB.
+/// Writes a sketch as bytes and reads it again, with a limit of a MiB.
 pub fn sent_counts(
     alloc: Global,
     counts: &CountMinSketch<u64>,
@@ -42,7 +42,7 @@ pub fn sent_counts(
     CountMinSketch::deserialize_with_seed_and_limit(alloc, &image, counts.seed(), 1 << 20)
 }
 
-/// What is left of the apples.
+/// Returns the weight of the apples that are left.
 pub fn apples_in_store(alloc: Global) -> Result<i64, Error> {
     let mut store: CountMinSketch<i64> = CountMinSketch::new(alloc, 4, 128)?;
     store.update_with_weight("apple", 90)?;
@@ -50,24 +50,24 @@ pub fn apples_in_store(alloc: Global) -> Result<i64, Error> {
     Ok(store.estimate("apple"))
 }
 
-/// The weight of all items, over any type of numbers.
+/// Returns the weight of all items, for any type of weights.
 pub fn weight_of_all<T: CountMinValue>(counts: &CountMinSketch<T>) -> T {
     counts.total_weight()
 }
 
-/// A batch of visits, counted at once.
+/// Counts a batch of visits in one call.
 pub fn count_batch(visits: &mut CountMinSketch<u32>, users: &[u64]) -> Result<(), Error> {
     visits.update_all(users)
 }
 
-/// The visits of two users.
+/// Returns the visits of two users.
 pub fn visits_of(visits: &CountMinSketch<u32>, users: [u64; 2]) -> [u32; 2] {
     let mut estimates = [0; 2];
     visits.estimate_all(&users, &mut estimates);
     estimates
 }
 
-/// Half of each weight, over any type without numbers below zero.
+/// Halves each weight, for any type of weights without numbers below zero.
 pub fn halve<T: UnsignedCountMinValue>(counts: &mut CountMinSketch<T>) {
     counts.halve();
 }

@@ -1,9 +1,9 @@
-//! Which items were seen.
+//! Examples of filters: which items were seen.
 use sketch_base::Error;
 use sketch_bloom::{BloomFilter, BloomFilterBuilder, suggest_num_bits, suggest_num_hashes};
 use std::alloc::Global;
 
-/// Whether an apple was seen today and yesterday.
+/// Returns whether an apple was seen today and yesterday.
 pub fn seen_by_both(alloc: Global) -> Result<bool, Error> {
     let mut today = BloomFilterBuilder::with_size(959, 7).build(alloc)?;
     let mut yesterday = BloomFilterBuilder::with_size(959, 7).build(alloc)?;
@@ -13,24 +13,24 @@ pub fn seen_by_both(alloc: Global) -> Result<bool, Error> {
     Ok(today.contains(&"apple"))
 }
 
-/// A filter of a seed of its own.
+/// Creates a filter with a seed of its own.
 pub fn filter_of_visitors(alloc: Global) -> Result<BloomFilter, Error> {
     BloomFilterBuilder::with_size(959, 7).seed(42).build(alloc)
 }
 
-/// A filter for so many visitors that answers yes wrongly to about one question in a hundred.
+/// Creates a filter for `visitors` visitors, with a false-positive rate of about 1/100.
 pub fn filter_for(alloc: Global, visitors: u64) -> Result<BloomFilter, Error> {
     let num_bits = suggest_num_bits(visitors, 100)?;
     let num_hashes = suggest_num_hashes(num_bits, visitors)?;
     BloomFilterBuilder::with_size(num_bits, num_hashes).build(alloc)
 }
 
-/// Whether someone comes for the first time.
+/// Inserts a visitor, and returns whether this is the first visit.
 pub fn is_first_visit(seen: &mut BloomFilter, visitor: u64) -> bool {
     !seen.contains_and_insert(&visitor)
 }
 
-/// Whether two names are refused once one of them was taken back.
+/// Returns whether each of two names is still rejected after one of them was taken back.
 pub fn still_refused(alloc: Global) -> Result<(bool, bool), Error> {
     let mut refused = BloomFilterBuilder::with_size(1 << 16, 7)
         .seed(1)
@@ -48,7 +48,7 @@ pub fn still_refused(alloc: Global) -> Result<(bool, bool), Error> {
     ))
 }
 
-/// The orders that may have a customer on the other side of a join.
+/// Returns the orders that may have a customer on the other side of a join.
 pub fn orders_to_join(alloc: Global, customers: &[u64], orders: &[u64]) -> Result<Vec<u64>, Error> {
     let mut filter = BloomFilterBuilder::with_size(1 << 16, 7).build(alloc)?;
     filter.insert_all(customers);
@@ -63,7 +63,7 @@ pub fn orders_to_join(alloc: Global, customers: &[u64], orders: &[u64]) -> Resul
     Ok(kept)
 }
 
-/// Which of four visitors are known.
+/// Returns which of four visitors are known.
 pub fn known_of_four(seen: &BloomFilter, visitors: &[u64; 4]) -> [bool; 4] {
     let mut known = [false; 4];
     seen.contains_all(visitors, &mut known);

@@ -1,4 +1,4 @@
-//! The items that weigh most.
+//! Examples of frequent items: the items of the largest weights.
 use counter_table::{ReversePurgeItemHashMap, Slot};
 use sketch_base::SketchBytes;
 use sketch_frequencies::{
@@ -6,7 +6,7 @@ use sketch_frequencies::{
 };
 use std::alloc::Global;
 
-/// The greatest estimate among the numbers.
+/// Returns the maximum estimate among the numbers.
 pub fn heaviest(alloc: Global, numbers: &[u64]) -> Result<Option<u64>, Error> {
     let mut sketch = FrequentItemsSketch::new(alloc, 64)?;
     for number in numbers {
@@ -16,7 +16,7 @@ pub fn heaviest(alloc: Global, numbers: &[u64]) -> Result<Option<u64>, Error> {
     Ok(rows.first().map(|row| row.estimate()))
 }
 
-/// A sketch of the visitors, by one call.
+/// Creates a sketch of the visitors in one call.
 pub fn sketch_of_visitors(
     alloc: Global,
     visitors: &[u64],
@@ -26,33 +26,33 @@ pub fn sketch_of_visitors(
     Ok(sketch)
 }
 
-/// A sketch whose error is at most a hundredth of all visits.
+/// Creates a sketch whose error is at most a hundredth of all visits.
 pub fn visits_within_a_percent(alloc: Global) -> Result<FrequentItemsSketch<u64>, Error> {
     FrequentItemsSketch::new(alloc, suggest_max_map_size(100)?)
 }
 
-/// The weights of four pages, by one call.
+/// Returns the weights of four pages in one call.
 pub fn weights_of_four(visits: &FrequentItemsSketch<u64>, pages: &[u64; 4]) -> [u64; 4] {
     let mut weights = [0; 4];
     visits.estimate_all(pages, &mut weights);
     weights
 }
 
-/// A sketch of so many apples.
+/// Creates a sketch of `apples` apples.
 fn shop(alloc: Global, apples: u64) -> Result<FrequentItemsSketch<&'static str>, Error> {
     let mut shop = FrequentItemsSketch::with_sample_size(alloc, 1024, 100)?;
     shop.update_with_count("apple", apples)?;
     Ok(shop)
 }
 
-/// Between which bounds the apples of both shops lie.
+/// Returns the bounds of the number of apples of both shops.
 pub fn apples_of_both_shops(alloc: Global) -> Result<(u64, u64), Error> {
     let mut both = shop(alloc, 30)?;
     both.merge(&shop(alloc, 12)?)?;
     Ok((both.lower_bound(&"apple"), both.upper_bound(&"apple")))
 }
 
-/// How many pages surely weigh more than the threshold, and how many may.
+/// Returns the number of pages that surely weigh more than the threshold, and the number that may.
 pub fn heavier_pages(
     pages: &FrequentItemsSketch<u64>,
     threshold: u64,
@@ -62,7 +62,7 @@ pub fn heavier_pages(
     Ok((surely.len(), perhaps.len()))
 }
 
-/// The kind of a report that may miss an item, or else of one that misses none.
+/// Returns the error type of a report that may miss items, or of one that misses none.
 pub fn kind_of_report(may_miss_items: bool) -> ErrorType {
     if may_miss_items {
         ErrorType::NoFalsePositives
@@ -71,12 +71,12 @@ pub fn kind_of_report(may_miss_items: bool) -> ErrorType {
     }
 }
 
-/// Whether one item surely weighs more than another.
+/// Returns whether one item surely weighs more than another.
 pub fn surely_weighs_more(one: &Row<u64>, other: &Row<u64>) -> bool {
     one.lower_bound() > other.upper_bound()
 }
 
-/// A sketch as it comes back from its bytes, which may ask for a MiB.
+/// Writes a sketch as bytes and reads it again, with a limit of a MiB.
 pub fn sent_pages(
     alloc: Global,
     pages: &FrequentItemsSketch<u64>,
@@ -90,14 +90,14 @@ pub fn takes_too_much(pages: &FrequentItemsSketch<String>, budget: usize) -> boo
     pages.memory_bytes() > budget
 }
 
-/// An item as it stands in an image.
+/// Returns the bytes of an item in an image.
 pub fn bytes_of<T: FrequentItemValue>(alloc: Global, item: &T) -> Result<Vec<u8>, Error> {
     let mut out = SketchBytes::with_capacity(alloc, T::serialize_size(item))?;
     item.serialize_value(&mut out)?;
     Ok(out.into_bytes())
 }
 
-/// Counts a visit where there is room for it, and answers whether there is.
+/// Counts a visit if there is room for it, and returns whether there is.
 pub fn counts_visit(visits: &mut ReversePurgeItemHashMap<u64>, page: u64) -> bool {
     if visits.num_active() >= visits.capacity() || visits.get(&page) == u64::MAX {
         return false;
@@ -106,14 +106,14 @@ pub fn counts_visit(visits: &mut ReversePurgeItemHashMap<u64>, page: u64) -> boo
     true
 }
 
-/// The visits of four pages, by one call.
+/// Returns the visits of four pages in one call.
 pub fn visits_of_four(visits: &ReversePurgeItemHashMap<u64>, pages: &[u64; 4]) -> [u64; 4] {
     let mut counts = [0; 4];
     visits.get_all(pages, &mut counts);
     counts
 }
 
-/// How many slots the longest look-up of a page looks at.
+/// Returns the number of slots that the longest look-up of a page probes.
 pub fn longest_look_up(visits: &ReversePurgeItemHashMap<u64>) -> u32 {
     let mut longest = 0;
     for slot in visits.slots() {
@@ -124,7 +124,7 @@ pub fn longest_look_up(visits: &ReversePurgeItemHashMap<u64>) -> u32 {
     longest
 }
 
-/// The page that was visited most.
+/// Returns the page with the most visits.
 pub fn most_visited(visits: &ReversePurgeItemHashMap<u64>) -> Option<u64> {
     let mut most = None;
     let mut greatest = 0;

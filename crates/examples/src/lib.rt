@@ -1,6 +1,6 @@
-//! The examples of the READMEs and of the libraries' docs, a function each, proved and run by the gate.
+//! The examples of the READMEs and of the libraries' docs, a function each. CI proves and runs them.
 //!
-//! They stand in tests, so that each is proved once.
+//! They are test code, so that each is proved once.
 #![tactic(auto)]
 
 #[cfg(test)]

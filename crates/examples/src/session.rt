@@ -1,16 +1,16 @@
-//! Commands on named sketches.
+//! Examples of commands on named sketches.
 use datasketches::error::Error;
 use datasketches::{
     Action, Change, Command, ImageKind, Join, Recycled, Refusal, Reply, Session, Shape, Status,
 };
 use std::alloc::Global;
 
-/// Whether a filter of a session has seen the number 7.
+/// Returns whether a filter of a session has seen the number 7.
 pub fn has_seen_seven(alloc: Global) -> Result<bool, Error> {
     insert_and_ask(alloc, &mut Session::new(alloc))
 }
 
-/// Makes a filter, inserts the number, and asks for it.
+/// Creates a filter, inserts the number, and looks it up.
 fn insert_and_ask(alloc: Global, session: &mut Session<u64>) -> Result<bool, Error> {
     let name = String::from_str(alloc, "seen")?;
     if let Reply::Refused(_) = session.apply(Command::CreateBloom {
@@ -28,7 +28,7 @@ fn insert_and_ask(alloc: Global, session: &mut Session<u64>) -> Result<bool, Err
     Ok(matches!(told, Reply::Contains(true)))
 }
 
-/// What a session says of the visits by 7.
+/// Returns the reply of a session about the visits by 7.
 pub fn visits_by_seven(alloc: Global) -> Result<Reply<u64>, Error> {
     let mut session = Session::new(alloc);
     let name = String::from_str(alloc, "visits")?;
@@ -46,7 +46,7 @@ pub fn visits_by_seven(alloc: Global) -> Result<Reply<u64>, Error> {
     Ok(session.apply(Command::Ask { name, item: 7 }))
 }
 
-/// Why nothing is inserted where no sketch has the name.
+/// Returns the error of an insertion if no sketch has the name.
 pub fn refusal_of_an_unknown_name(alloc: Global) -> Result<Option<Refusal>, Error> {
     let name = String::from_str(alloc, "visits")?;
     let mut session = Session::new(alloc);
@@ -56,7 +56,7 @@ pub fn refusal_of_an_unknown_name(alloc: Global) -> Result<Option<Refusal>, Erro
     }
 }
 
-/// The shape of the sketch that a command makes.
+/// Returns the shape of the sketch that a command creates.
 pub fn made_shape(command: Command<u64>) -> Option<Shape> {
     match Action::from(command) {
         Action::Create { shape, .. } => Some(shape),
@@ -64,20 +64,20 @@ pub fn made_shape(command: Command<u64>) -> Option<Shape> {
     }
 }
 
-/// How many slots a sketch of frequent items may have.
-pub fn most_slots(status: Status) -> Option<usize> {
+/// Returns the maximum number of slots of a sketch of frequent items.
+pub fn max_slots(status: Status) -> Option<usize> {
     match status {
         Status::Frequent { max, .. } => Some(max),
         _ => None,
     }
 }
 
-/// The word for a refusal, as the program prints it.
+/// Returns the name of an error, as the program prints it.
 pub fn word_for(refusal: Refusal) -> &'static str {
     refusal.name()
 }
 
-/// An item that goes into a filter.
+/// Returns the action that inserts an item into a filter.
 pub fn insertion(name: String, item: u64) -> Action<u64> {
     Action::Change {
         name,
@@ -85,7 +85,7 @@ pub fn insertion(name: String, item: u64) -> Action<u64> {
     }
 }
 
-/// A filter that takes in what another has.
+/// Returns the action that adds another filter's positions to a filter.
 pub fn union(into: String, other: String) -> Action<u64> {
     Action::Join {
         into,
@@ -94,20 +94,20 @@ pub fn union(into: String, other: String) -> Action<u64> {
     }
 }
 
-/// Inserts an item, and answers whether its name can be used again.
+/// Inserts an item, and returns whether its name can be used again.
 pub fn recycles(session: &mut Session<u64>, name: String, item: u64) -> bool {
     let mut recycled = Recycled::new();
     session.apply_recycling(Command::Insert { name, item }, &mut recycled);
     recycled.name.is_some()
 }
 
-/// Takes a filter's image into a session, where it takes at most a mebibyte.
+/// Loads a filter's image into a session, and returns whether it was accepted. The filter may take a mebibyte.
 pub fn takes_filter(session: &mut Session<u64>, name: String, image: Vec<u8>) -> bool {
     let told = session.apply(Command::Load {
         name,
         kind: ImageKind::Bloom,
         image,
-        most_bytes: 1 << 20,
+        max_bytes: 1 << 20,
     });
     matches!(told, Reply::Done)
 }

@@ -1,4 +1,4 @@
-//! What the examples answer.
+//! Tests of what the examples return.
 use crate::bytes::{
     bucket, halves_of, hash_of_both, hashes_of_both_rows, is_cut_short, is_of_a_filter, kept_bytes,
     reason, there_and_back, version_and_seed,
@@ -19,7 +19,7 @@ use crate::frequent_items::{
 };
 use crate::images::sent;
 use crate::session::{
-    has_seen_seven, insertion, made_shape, most_slots, recycles, refusal_of_an_unknown_name,
+    has_seen_seven, insertion, made_shape, max_slots, recycles, refusal_of_an_unknown_name,
     takes_filter, union, visits_by_seven, word_for,
 };
 use crate::windows::{load_of_a_customer, weight_of_the_first};
@@ -33,14 +33,14 @@ use sketch_frequencies::{ErrorType, FrequentItemsSketch};
 use std::alloc::Global;
 use std::test::Fail;
 
-/// The estimate and the lower bound of the first row.
+/// Returns the estimate and the lower bound of the first row.
 fn row_of_a_customer(alloc: Global) -> Result<Option<(u64, u64)>, Error> {
     let report = load_of_a_customer(alloc)?;
     let row = report.rows.first();
     Ok(row.map(|row| (row.estimate(), row.lower_bound())))
 }
 
-/// Whether a filter comes back.
+/// Returns whether a filter equals the one that is read from its bytes.
 fn comes_back(alloc: Global) -> Result<bool, Error> {
     let mut filter = BloomFilterBuilder::with_size(64, 1).build(alloc)?;
     filter.insert("apple");
@@ -73,7 +73,7 @@ fn hashes_are_as_the_docs_say(rt: HostRuntime) {
     assert!(rt; hashes_of_both_rows(7, (9001, 9001)).1 == 0xF987_0733_D517_E9C1);
 }
 
-/// Whether a visitor is new, and then no more, and which of four visitors are known.
+/// Returns whether a visitor is new at a first and at a second visit, and which of four visitors are known.
 fn visits(alloc: Global) -> Result<(bool, bool, [bool; 4]), Error> {
     let mut seen = filter_of_visitors(alloc)?;
     let first = is_first_visit(&mut seen, 7);
@@ -81,7 +81,7 @@ fn visits(alloc: Global) -> Result<(bool, bool, [bool; 4]), Error> {
     Ok((first, again, known_of_four(&seen, &[7, 8, 9, 10])))
 }
 
-/// A sketch of ten apples, aged.
+/// Creates a sketch of ten apples, and ages it.
 fn aged(alloc: Global) -> Result<CountMinSketch<u64>, Error> {
     let mut counts = CountMinSketch::new(alloc, 4, 128)?;
     counts.update_with_weight("apple", 10)?;
@@ -89,14 +89,14 @@ fn aged(alloc: Global) -> Result<CountMinSketch<u64>, Error> {
     Ok(counts)
 }
 
-/// Whether an aged sketch comes back.
+/// Returns the estimate of a sketch that is read from its bytes, and whether it equals the original.
 fn counts_come_back(alloc: Global) -> Result<(u64, bool), Error> {
     let counts = aged(alloc)?;
     let copy = sent_counts(alloc, &counts)?;
     Ok((copy.estimate("apple"), copy == counts))
 }
 
-/// The visits of two users, after a batch.
+/// Returns the visits of two users after a batch.
 fn batch_of_visits(alloc: Global) -> Result<[u32; 2], Error> {
     let mut visits = CountMinSketch::new(alloc, 4, 128)?;
     count_batch(&mut visits, &[7, 9, 7])?;
@@ -111,25 +111,25 @@ fn sketches_are_as_the_docs_say(rt: HostRuntime) {
     assert!(rt; batch_of_visits(rt.alloc()) == Ok([2, 1]));
 }
 
-/// The hashes and buckets of counts, as they were chosen.
+/// Returns the numbers of hashes and buckets that were suggested for a Count-Min sketch.
 fn chosen_shape(alloc: Global) -> Result<(u8, u32), Error> {
     let counts = bytes_within_a_thousandth(alloc)?;
     Ok((counts.num_hashes(), counts.num_buckets()))
 }
 
-/// The bits and hashes of a filter.
+/// Returns the numbers of bits and hashes that were suggested for a filter.
 fn chosen_bits(alloc: Global) -> Result<(usize, u16), Error> {
     let filter = filter_for(alloc, 1000)?;
     Ok((filter.capacity(), filter.num_hashes()))
 }
 
-/// The greatest size of visits.
+/// Returns the maximum size that was suggested for a sketch of visits.
 fn chosen_slots(alloc: Global) -> Result<usize, Error> {
     let visits = visits_within_a_percent(alloc)?;
     Ok(visits.max_map_size())
 }
 
-// 9603 bits are asked for: 151 words.
+// 9603 bits are requested, and rounded up to 151 words.
 #[test]
 fn sizes_are_as_the_docs_say(rt: HostRuntime) {
     assert!(rt; chosen_shape(rt.alloc()) == Ok((4, 2719)));
@@ -137,7 +137,7 @@ fn sizes_are_as_the_docs_say(rt: HostRuntime) {
     assert!(rt; chosen_slots(rt.alloc()) == Ok(512));
 }
 
-/// A sketch of two pages.
+/// Creates a sketch of two pages.
 fn of_two_pages(alloc: Global) -> Result<FrequentItemsSketch<u64>, Error> {
     let mut pages = FrequentItemsSketch::new(alloc, 8)?;
     pages.update_with_count(1, 5)?;
@@ -145,20 +145,20 @@ fn of_two_pages(alloc: Global) -> Result<FrequentItemsSketch<u64>, Error> {
     Ok(pages)
 }
 
-/// How many of two pages are heavier than 3, in a sketch that comes back.
+/// Returns the numbers of pages that surely weigh more than 3, and that may, in a sketch that is read from its bytes.
 fn heavier_than_three(alloc: Global) -> Result<(usize, usize), Error> {
     let pages = of_two_pages(alloc)?;
     heavier_pages(&sent_pages(alloc, &pages)?, 3)
 }
 
-/// Whether the first row of a sketch surely weighs more than itself.
+/// Returns whether the first row of a sketch surely weighs more than itself.
 fn is_above_itself(alloc: Global) -> Result<Option<bool>, Error> {
     let rows = of_two_pages(alloc)?.frequent_items(ErrorType::NoFalsePositives)?;
     Ok(rows.first().map(|row| surely_weighs_more(row, row)))
 }
 
-/// Whether a visit is counted in a table of so many slots, a power of two, the visits of four pages then, the page
-/// that was visited most, and the longest look-up.
+/// Counts a visit in a table of `size` slots, a power of two. Returns whether it was counted, the visits of four pages,
+/// the page with the most visits, and the length of the longest look-up.
 fn visit(alloc: Global, size: usize) -> Result<(bool, [u64; 4], Option<u64>, u32), Error> {
     if !size.is_power_of_two() || size > 8 {
         return Err(Error::invalid_argument(Fault::MapSizeNotPowerOfTwo));
@@ -174,12 +174,12 @@ fn visit(alloc: Global, size: usize) -> Result<(bool, [u64; 4], Option<u64>, u32
     ))
 }
 
-/// The weights of four pages, of which two visitors came.
+/// Returns the weights of four pages after three visits of two pages.
 fn weights_of_pages(alloc: Global) -> Result<[u64; 4], Error> {
     Ok(weights_of_four(&sketch_of_visitors(alloc, &[7, 8, 7])?, &[7, 8, 9, 7]))
 }
 
-/// Whether a sketch of one page of two bytes takes more bytes than the budget.
+/// Returns whether a sketch of one page of two bytes takes more bytes than the budget.
 fn page_takes_too_much(alloc: Global, budget: usize) -> Result<bool, Error> {
     let mut pages = FrequentItemsSketch::new(alloc, 8)?;
     pages.update(String::from_str(alloc, "ab")?)?;
@@ -193,7 +193,7 @@ fn frequent_items_and_tables_are_as_the_docs_say(rt: HostRuntime) {
     assert!(rt; kind_of_report(true) == ErrorType::NoFalsePositives);
     assert!(rt; weights_of_pages(rt.alloc()) == Ok([2, 1, 0, 2]));
     assert!(rt; visit(rt.alloc(), 8) == Ok((true, [1, 0, 1, 0], Some(7), 1)));
-    // eight slots of 44 bytes, and two
+    // eight slots of 44 bytes, and the two bytes of the page
     assert!(rt; page_takes_too_much(rt.alloc(), 353) == Ok(true));
     assert!(rt; page_takes_too_much(rt.alloc(), 354) == Ok(false));
 }
@@ -215,7 +215,7 @@ fn lists_are_as_the_docs_say(rt: HostRuntime) -> Result<(), Fail> {
     Ok(())
 }
 
-/// The shape of a command that makes a sketch of an empty name.
+/// Returns the shape of a command that creates a sketch with an empty name.
 fn shape_of_visits(alloc: Global) -> Option<Shape> {
     made_shape(Command::CreateFrequent {
         name: String::new(alloc),
@@ -237,7 +237,7 @@ fn sessions_are_as_the_docs_say(rt: HostRuntime) {
     );
 }
 
-/// Half of a weight of 16.
+/// Returns half of a weight of 16.
 fn half_of_sixteen(alloc: Global) -> Result<u64, Error> {
     let mut counts: CountMinSketch<u64> = CountMinSketch::new(alloc, 4, 128)?;
     counts.update_with_weight("apple", 16)?;
@@ -245,12 +245,12 @@ fn half_of_sixteen(alloc: Global) -> Result<u64, Error> {
     Ok(weight_of_all(&counts))
 }
 
-/// Whether an item and a name make an insertion.
+/// Returns whether `insertion` returns a change.
 fn inserts(alloc: Global) -> bool {
     matches!(insertion(String::new(alloc), 7), Action::Change { .. })
 }
 
-/// Whether two names make a union.
+/// Returns whether `union` returns a join.
 fn unites(alloc: Global) -> bool {
     matches!(
         union(String::new(alloc), String::new(alloc)),
@@ -258,20 +258,20 @@ fn unites(alloc: Global) -> bool {
     )
 }
 
-/// Whether the name of a refused insertion can be used again.
+/// Returns whether the name of a rejected insertion can be used again.
 fn recycles_a_name(alloc: Global) -> bool {
     let mut session = Session::new(alloc);
     recycles(&mut session, String::new(alloc), 7)
 }
 
-/// Whether a session takes an empty filter's image under an empty name.
+/// Returns whether a session accepts an empty filter's image under an empty name.
 fn takes_image(alloc: Global, session: &mut Session<u64>) -> Result<bool, Error> {
     let filter = BloomFilterBuilder::with_size(64, 1).build(alloc)?;
     let image = filter.serialize()?;
     Ok(takes_filter(session, String::new(alloc), image))
 }
 
-/// Whether an image is taken under a name, and whether it is once more under the same.
+/// Returns whether an image is accepted under a name, and whether it is accepted again under the same name.
 fn takes_a_filter_once(alloc: Global) -> (Result<bool, Error>, Result<bool, Error>) {
     let mut session = Session::new(alloc);
     let first = takes_image(alloc, &mut session);
@@ -289,7 +289,7 @@ fn types_are_as_their_docs_say(rt: HostRuntime) {
     assert!(rt; half_of_sixteen(rt.alloc()) == Ok(8));
     assert!(rt; inserts(rt.alloc()) && unites(rt.alloc()) && recycles_a_name(rt.alloc()));
     assert!(rt; takes_a_filter_once(rt.alloc()) == (Ok(true), Ok(false)));
-    assert!(rt; most_slots(status) == None);
+    assert!(rt; max_slots(status) == None);
     assert!(rt; word_for(Refusal::NameTaken) == "NameTaken");
     assert!(rt; reason(&Error::invalid_data(Fault::BadFamily)) == "wrong family");
 }

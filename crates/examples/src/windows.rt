@@ -1,8 +1,8 @@
-//! Heavy hitters of each customer.
+//! Examples of heavy hitters of each customer.
 use heavy_windows::{Error, ErrorType, HeavyWindows, Report};
 use std::alloc::Global;
 
-/// What the load of customer 7 was made of.
+/// Returns a report on the load of customer 7.
 pub fn load_of_a_customer(alloc: Global) -> Result<Report<&'static str>, Error> {
     let mut load = HeavyWindows::new(alloc, 24, 1024)?;
     load.add(7, "/search", 5_300)?;
@@ -11,7 +11,7 @@ pub fn load_of_a_customer(alloc: Global) -> Result<Report<&'static str>, Error> 
     load.report(7, ErrorType::NoFalsePositives, 1_000)
 }
 
-/// What the windows of tenant 1 weigh, whatever tenant 2 sent.
+/// Returns the total weight of tenant 1's windows, which does not depend on tenant 2.
 pub fn weight_of_the_first(alloc: Global) -> Result<u64, Error> {
     let mut windows = HeavyWindows::new(alloc, 2, 64)?;
     windows.add(1, "/search", 5)?;

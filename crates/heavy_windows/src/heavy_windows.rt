@@ -17,7 +17,7 @@ use std::hash::Hash;
 use std::marker::Model;
 
 /// The maximum number of windows of a tenant.
-const MOST_WINDOWS: usize = 1024;
+const MAX_WINDOWS: usize = 1024;
 
 /// The heavy hitters of each tenant over its last windows.
 ///
@@ -202,7 +202,7 @@ fn check_limits(windows: usize, max_map_size: usize) -> Result<(), Error>
     ensures accepted { limits_fault windows max_map_size ≡ None → IsOk result }
     ensures refused { IfErr result (λ e. e ≡ refusal_of (limits_fault windows max_map_size)) }
 {
-    if windows == 0 || windows > MOST_WINDOWS {
+    if windows == 0 || windows > MAX_WINDOWS {
         return Err(Error::invalid_argument(Fault::BadWindows));
     }
     check_map_size(max_map_size)

@@ -5,7 +5,7 @@ ghost use Rattle.heavy_windows.specs.Laws.{ItemsWeighAsInWindows, TotalIsOfWindo
 ///
 /// In this history a tenant's windows are merged into a new sketch. The weight of each item is the sum of its weights
 /// in the windows. The same holds for the total weight, and for the weight of all items outside a set.
-pub fn what_a_report_weighs<T: Eq>()
+pub fn report_weights<T: Eq>()
     ensures items { ItemsWeighAsInWindows T.eq }
     ensures total { TotalIsOfWindows T.eq }
     ensures others { OthersWeighAsInWindows T.eq }

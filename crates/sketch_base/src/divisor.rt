@@ -76,14 +76,14 @@ impl Divisor {
         if self.is_power_of_two() {
             self.rem_by_mask(a)
         } else {
-            self.rem_by_products(a)
+            self.rem_by_reciprocal(a)
         }
     }
 
     /// Returns whether the divisor is a power of two.
     ///
     /// In a loop, test this once and call [`rem_by_mask`](Self::rem_by_mask) or
-    /// [`rem_by_products`](Self::rem_by_products).
+    /// [`rem_by_reciprocal`](Self::rem_by_reciprocal).
     #[inline(always)]
     pub fn is_power_of_two(self) -> bool
         ensures { result ≡ is_power_of_two self }
@@ -103,7 +103,7 @@ impl Divisor {
 
     /// Returns `a` modulo the divisor by two products. Every divisor is allowed.
     #[inline(always)]
-    pub fn rem_by_products(self, a: u64) -> u64
+    pub fn rem_by_reciprocal(self, a: u64) -> u64
         ensures value { result ≡ a % self }
         ensures below { result < self }
     {

@@ -9,7 +9,7 @@ use crate::murmurhash::DEFAULT_UPDATE_SEED;
 ///
 /// They are the id of each family with the range of its preamble's longs, the version of the formats, and the default
 /// seed.
-pub fn what_the_constants_are()
+pub fn constants()
     ensures frequency { Family.FREQUENCY ≡ record { id = 10; min_pre_longs = 1; max_pre_longs = 4 } }
     ensures countmin { Family.COUNTMIN ≡ record { id = 18; min_pre_longs = 2; max_pre_longs = 2 } }
     ensures bloomfilter { Family.BLOOMFILTER ≡ record { id = 21; min_pre_longs = 3; max_pre_longs = 4 } }

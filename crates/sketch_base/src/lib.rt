@@ -3,7 +3,7 @@
 //! - [`XxHash64`] and [`MurmurHash3X64128`] hash bytes that arrive in pieces. Contracts see each result as the hash of
 //!   the whole list of bytes.
 //! - [`xxh64_of`], [`murmur3_of`] and [`murmur3_of_u64`] hash a whole item or number.
-//! - [`SeedlessItem`] hashes one item under several seeds. It feeds an item of few bytes once, and keeps them as
+//! - [`RehashableItem`] hashes one item under several seeds. It feeds an item of few bytes once, and keeps them as
 //!   [`ShortBytes`].
 //! - [`compute_seed_hash`] hashes a seed, and [`check_seed_hash`] compares two such hashes.
 //! - [`SketchSlice`] reads numbers from bytes, and [`SketchBytes`] writes them. Contracts see the bytes that are
@@ -22,8 +22,8 @@ pub mod image;
 mod item_hash;
 pub mod laws;
 mod murmurhash;
+mod rehashable_item;
 mod seed_hash;
-mod seedless_item;
 mod short_bytes;
 mod short_copy;
 mod sketch_bytes;
@@ -37,8 +37,8 @@ pub use family::Family;
 pub use fault::Fault;
 pub use item_hash::{murmur3_of, murmur3_of_u64, xxh64_of};
 pub use murmurhash::{DEFAULT_UPDATE_SEED, MurmurHash3X64128};
+pub use rehashable_item::RehashableItem;
 pub use seed_hash::{check_seed_hash, compute_seed_hash};
-pub use seedless_item::SeedlessItem;
 pub use short_bytes::ShortBytes;
 pub use sketch_bytes::SketchBytes;
 pub use sketch_slice::SketchSlice;

@@ -4,7 +4,7 @@ ghost use Rattle.sketch_base.specs.Murmur3 as spec;
 ghost use Rattle.sketch_base.specs.Murmur3State as pieces;
 
 use crate::short_copy::copy_short;
-use crate::words::{turn_left, word_at};
+use crate::words::{rotate_left, word_at};
 use std::hash::Hasher;
 use std::marker::Model;
 
@@ -20,7 +20,7 @@ const C2: u64 = 0x4CF5_AD43_2745_937F;
 fn mix_k1(k: u64) -> u64
     ensures { result ≡ spec.mix_k1 k }
 {
-    turn_left(k.wrapping_mul(C1), 31).wrapping_mul(C2)
+    rotate_left(k.wrapping_mul(C1), 31).wrapping_mul(C2)
 }
 
 #[tactic(auto, unfolding(crate::specs::Murmur3::mix_k2))]
@@ -28,7 +28,7 @@ fn mix_k1(k: u64) -> u64
 fn mix_k2(k: u64) -> u64
     ensures { result ≡ spec.mix_k2 k }
 {
-    turn_left(k.wrapping_mul(C2), 33).wrapping_mul(C1)
+    rotate_left(k.wrapping_mul(C2), 33).wrapping_mul(C1)
 }
 
 #[tactic(auto, unfolding(crate::specs::Murmur3::block))]
@@ -150,7 +150,7 @@ impl MurmurHash3X64128 {
     }
 
     #[inline(always)]
-    fn take_in(&mut self, bytes: &[u8])
+    fn absorb(&mut self, bytes: &[u8])
         ensures { self.new ≡ pieces.write self.old bytes.now }
     {
         let used = (self.total % 16) as usize;
@@ -241,6 +241,6 @@ impl Hasher for MurmurHash3X64128 {
         ensures fed { (seed : ℕ) (before : List ℕ) → pieces.HasFed seed before self.old
             → pieces.HasFed seed (before ++ bytes.now) self.new }
     {
-        self.take_in(bytes);
+        self.absorb(bytes);
     }
 }

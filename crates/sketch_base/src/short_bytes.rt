@@ -10,16 +10,16 @@ use std::marker::Model;
 
 /// The bytes that an item feeds, kept while there are fewer than 16.
 ///
-/// [`SeedlessItem::short`](crate::SeedlessItem::short) returns them. As a `Hasher` it only collects bytes: its `finish`
+/// [`RehashableItem::short`](crate::RehashableItem::short) returns them. As a `Hasher` it only collects bytes: its `finish`
 /// returns their number, which is no hash.
 ///
 /// # Examples
 ///
 /// ```
-/// use sketch_base::SeedlessItem;
+/// use sketch_base::RehashableItem;
 ///
 /// fn kept_bytes(user: u64) -> Option<usize> {
-///     let item = SeedlessItem::new(&user);
+///     let item = RehashableItem::new(&user);
 ///     item.short().map(|bytes| bytes.len())
 /// }
 /// ```

@@ -35,7 +35,7 @@ pub fn half_word_at(bytes: &[u8], at: usize) -> u64
 /// It shifts two copies of `x` side by side. If `x` is a product by a constant, the compiler turns the two shifts of
 /// `rotate_left` into two products. This remains one rotation.
 #[inline(always)]
-pub fn turn_left(x: u64, n: u32) -> u64
+pub fn rotate_left(x: u64, n: u32) -> u64
     requires above { 0 < n }
     requires below { n < 64 }
     ensures { result ≡ rotate_left w64 x n }

@@ -7,7 +7,7 @@ ghost use Rattle.sketch_base.specs.Xxh64 as spec;
 ghost use Rattle.sketch_base.specs.Xxh64State as pieces;
 
 use crate::short_copy::copy_short;
-use crate::words::{half_word_at, turn_left, word_at};
+use crate::words::{half_word_at, rotate_left, word_at};
 use std::hash::Hasher;
 use std::marker::Model;
 
@@ -28,7 +28,7 @@ type Accumulators = (u64, u64, u64, u64);
 fn round(acc: u64, lane: u64) -> u64
     ensures { result ≡ spec.round acc lane }
 {
-    turn_left(acc.wrapping_add(lane.wrapping_mul(PRIME64_2)), 31).wrapping_mul(PRIME64_1)
+    rotate_left(acc.wrapping_add(lane.wrapping_mul(PRIME64_2)), 31).wrapping_mul(PRIME64_1)
 }
 
 #[tactic(auto, unfolding(crate::specs::Xxh64::initial_accumulators))]
@@ -258,7 +258,7 @@ impl XxHash64 {
     }
 
     #[inline(always)]
-    fn take_in(&mut self, bytes: &[u8])
+    fn absorb(&mut self, bytes: &[u8])
         ensures { self.new ≡ pieces.write self.old bytes.now }
     {
         let used = (self.total % 32) as usize;
@@ -326,6 +326,6 @@ impl Hasher for XxHash64 {
         ensures fed { (seed : ℕ) (before : List ℕ) → pieces.HasFed seed before self.old
             → pieces.HasFed seed (before ++ bytes.now) self.new }
     {
-        self.take_in(bytes);
+        self.absorb(bytes);
     }
 }

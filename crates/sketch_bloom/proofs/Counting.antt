@@ -90,7 +90,7 @@ ones-suc w k =
     ones_of_bit (suc zero) l = refl
     ones_of_bit (suc (suc b)) l = absurd (omega arith)
 
--- the numbers below a place in word i, when those below the word are known
+-- the numbers below a index in word i, when those below the word are known
 len-in_word : (words : List ℕ) (i k : ℕ) → k ≤ 64 → set.len (set_below words (64 * i + k)) ≡ set.len (set_below words (64 * i)) + count_ones (get_or words i 0 % 2 ^ k)
 unfolding count_ones
 len-in_word words i zero l =
@@ -118,8 +118,8 @@ len-first_words words (suc i) l fits =
     let sums : sum_by count_ones (take (i + 1) words) ≡ sum_by count_ones (take i words) + count_ones (get_or words i 0) = sum_by_more count_ones words i 0 (omega arith) in
     let one : i + 1 ≡ suc i = omega arith in
     let next : sum_by count_ones (take (i + 1) words) ≡ sum_by count_ones (take (suc i) words) = ap (λ n. sum_by count_ones (take n words)) one in
-    let places : 64 * suc i ≡ 64 * i + 64 = omega arith in
-    ap (λ n. set.len (set_below words n)) places ∙ omega arith
+    let indices : 64 * suc i ≡ 64 * i + 64 = omega arith in
+    ap (λ n. set.len (set_below words n)) indices ∙ omega arith
 
 -- the size of the set is the number of bits that are set
 pub len-set_of : (words : List ℕ) → ((k : ℕ) → get_or words k 0 < 2 ^ 64) → set.len (set_of words) ≡ sum_by count_ones words

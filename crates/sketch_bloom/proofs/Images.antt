@@ -22,12 +22,12 @@ length-words_in zero bytes = refl
 length-words_in (suc n) bytes = omega (arith, length-words_in n (drop 8 bytes))
 
 -- a word that was read is the first of those that were still to be read
-pub next_word : (words : List ℕ) (left after place word : ℕ) (bytes rest : List ℕ) → left ≡ suc after → word ≡ le_at w64 bytes place → rest ≡ drop 8 (drop place bytes) → (words ++ word ∷ []) ++ words_in after rest ≡ words ++ words_in left (drop place bytes)
+pub next_word : (words : List ℕ) (left after index word : ℕ) (bytes rest : List ℕ) → left ≡ suc after → word ≡ le_at w64 bytes index → rest ≡ drop 8 (drop index bytes) → (words ++ word ∷ []) ++ words_in after rest ≡ words ++ words_in left (drop index bytes)
 unfolding le_at
-next_word words left after place word bytes rest left_is word_is rest_is =
-    rw (left_is, word_is, rest_is) (append_assoc words (le_at w64 bytes place ∷ []) (words_in after (drop 8 (drop place bytes))))
+next_word words left after index word bytes rest left_is word_is rest_is =
+    rw (left_is, word_is, rest_is) (append_assoc words (le_at w64 bytes index ∷ []) (words_in after (drop 8 (drop index bytes))))
 
--- a number at any place fits where all do
+-- a number at any index fits where all do
 pub all_fit : (words : List ℕ) → All (λ (w : ℕ). w < 2 ^ 64) words → (k : ℕ) → get_or words k 0 < 2 ^ 64
 all_fit words fit k = elim (cases_lt k (length words)) as (λ _. get_or words k 0 < 2 ^ 64) [
   | inl l ↦ All-get_or (λ (w : ℕ). w < 2 ^ 64) words k 0 l fit

@@ -8,7 +8,7 @@ use Rattle.std.proofs.lemmas.List.{append_assoc, append-nil, drop-drop, drop_at,
 use Rattle.std.proofs.lemmas.Simd.{length-zip2, put_chunk_is, length-chunk, take_more_put_chunk}
 use lib.Lanes.{zip2, chunk, put_chunk}
 
--- each word of xs with the word of ys at its place, for the first n words
+-- each word of xs with the word of ys at its index, for the first n words
 unfoldable pub first_with : (ℕ → ℕ → ℕ) → ℕ → List ℕ → List ℕ → List ℕ
 first_with f n xs ys = zip2 f (take n xs) (take n ys) ++ drop n xs
 

@@ -50,7 +50,7 @@ table_holds : are_powers 4032 POWERS_OF_TWO ≡ true
 unfolding are_powers
 table_holds = refl
 
--- the numbers n that are moved up by s places
+-- the numbers n that are moved up by s indices
 moved : (n s : ℕ) → (n * 2 ^ s) ^ 64 ≡ n ^ 64 * 2 ^ (s * 64)
 moved n s = omega (arith, mul-pow n (2 ^ s) 64, ap (λ (x : ℕ). n ^ 64 * x) (pow-pow 2 s 64))
 

@@ -22,7 +22,7 @@ pub below_capacity : (words : List ℕ) (p : ℕ) → numbers.contains (set_of w
 unfolding set_of
 below_capacity words p h = (in_set_below words (64 * length words) p h).0
 
--- the word at a place after an operation on each
+-- the word at a index after an operation on each
 word_of_each : (f : ℕ → ℕ → ℕ) → f 0 0 ≡ 0 → (xs ys : List ℕ) → length xs ≡ length ys → (i : ℕ) → get_or (zip2 f xs ys) i 0 ≡ f (get_or xs i 0) (get_or ys i 0)
 word_of_each f z [] [] e i = sym z
 word_of_each f z [] (y ∷ ys) e i = absurd (omega arith)
@@ -99,7 +99,7 @@ pub words_fit : (o : SetOperation) (xs ys : List ℕ) → length xs ≡ length y
 words_fit o xs ys e fx fy k =
     subst (λ n. n < 2 ^ 64) (sym (word_of_each (on_words o) (zeros_stay o) xs ys e k)) (word_fits o (get_or xs k 0) (get_or ys k 0) (fx k) (fy k))
 
--- a bit is set at a number's place
+-- a bit is set at a number's index
 pub set_of-set : (words : List ℕ) (p : ℕ) → p < 64 * length words
     → set_of (set words (p / 64) (bit_or (get_or words (p / 64) 0) (1 * 2 ^ (p % 64) % 2 ^ 64))) ≡ numbers.insert (set_of words) p
 set_of-set words p l =
@@ -145,7 +145,7 @@ set_of-zeros words zeros = same_members (set_of words) numbers.empty (λ q.
     ∙ ap (λ n. n == 1) (bit_at-zero (q % 64))
     ∙ sym (contains-empty q))
 
--- two lists of one length that agree at each place
+-- two lists of one length that agree at each index
 pub same_lists : (xs ys : List ℕ) → length xs ≡ length ys → ((i : ℕ) → get_or xs i 0 ≡ get_or ys i 0) → xs ≡ ys
 same_lists [] [] e h = refl
 same_lists [] (y ∷ ys) e h = absurd (omega arith)
@@ -175,7 +175,7 @@ same_words xs ys e fx fy s = same_lists xs ys e (λ i. same_from_bits_below 64 (
         let one : bit_in xs (64 * i + k) ≡ bit_in ys (64 * i + k) = sym (contains-set_of xs (64 * i + k)) ∙ ap (λ t. numbers.contains t (64 * i + k)) s ∙ contains-set_of ys (64 * i + k) in
         same_number (bit_at (get_or xs i 0) k) (bit_at (get_or ys i 0) k) (bit_at-lt (get_or xs i 0) k) (bit_at-lt (get_or ys i 0) k) (sym at_x ∙ one ∙ at_y)
 
--- a list of zeros is zero at each place
+-- a list of zeros is zero at each index
 pub zero_everywhere : (words : List ℕ) (n : ℕ) → words ≡ replicate n 0 → (i : ℕ) → get_or words i 0 ≡ 0
 zero_everywhere words n e i = ap (λ ws. get_or ws i 0) e ∙ of_copies n i
   where

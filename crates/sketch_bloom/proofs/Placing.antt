@@ -148,10 +148,10 @@ inserts_one old placed words added p l before =
     not_one n l e = grind (arith, nat_tests)
 
 -- what the code computes of the running sum is the next position
-pub place_is : (capacity h0 h1 i hash place : ℕ) → hash ≡ (h0 + i * h1) % 2 ^ 64 → place ≡ (hash + h1) % 2 ^ 64 / 2 % capacity → place ≡ position capacity h0 h1 (i + 1)
-place_is capacity h0 h1 i hash place e p = p ∙ ap (λ n. n / 2 % capacity) (running_sum h0 h1 i hash e)
+pub place_is : (capacity h0 h1 i hash index : ℕ) → hash ≡ (h0 + i * h1) % 2 ^ 64 → index ≡ (hash + h1) % 2 ^ 64 / 2 % capacity → index ≡ position capacity h0 h1 (i + 1)
+place_is capacity h0 h1 i hash index e p = p ∙ ap (λ n. n / 2 % capacity) (running_sum h0 h1 i hash e)
 
--- the bit at a number's place says whether it stands in the words
+-- the bit at a number's index says whether it stands in the words
 pub reads_unset : (words : List ℕ) (p : ℕ) → bit_and (get_or words (p / 64) 0 / 2 ^ (p % 64)) 1 ≡ 0 → set.contains (set_of words) p ≡ false
 reads_unset words p e =
     contains-set_of words p ∙ ap (λ n. n == 1) (sym (shr_and_one (get_or words (p / 64) 0) (p % 64)) ∙ e)
@@ -172,7 +172,7 @@ first_position capacity h0 h1 s =
     ∙ ap (λ t. set.is_subset t s && set.contains s (position capacity h0 h1 1)) (positions-zero capacity h0 h1)
     ∙ ap (λ b. b && set.contains s (position capacity h0 h1 1)) (is_subset-empty s)
 
--- the test of the bit at a number's place
+-- the test of the bit at a number's index
 pub reads_test : (words : List ℕ) (p : ℕ) → not (bit_and (get_or words (p / 64) 0 / 2 ^ (p % 64)) 1 == 0) ≡ set.contains (set_of words) p
 reads_test words p =
     let bit : ℕ = bit_and (get_or words (p / 64) 0 / 2 ^ (p % 64)) 1 in
@@ -182,8 +182,8 @@ reads_test words p =
     ] refl
 
 -- a sum of hashes to begin with
-pub sum_from : (h0 h1 looked : ℕ) → (h0 + h1 * looked % 2 ^ 64) % 2 ^ 64 ≡ (h0 + looked * h1) % 2 ^ 64
-sum_from h0 h1 looked =
-    ap (λ n. n % 2 ^ 64) (add_comm h0 (h1 * looked % 2 ^ 64))
-    ∙ mod-add-mod (h1 * looked) (2 ^ 64) h0
-    ∙ ap (λ n. n % 2 ^ 64) (add_comm (h1 * looked) h0 ∙ ap (λ n. h0 + n) (mul_comm h1 looked))
+pub sum_from : (h0 h1 probed : ℕ) → (h0 + h1 * probed % 2 ^ 64) % 2 ^ 64 ≡ (h0 + probed * h1) % 2 ^ 64
+sum_from h0 h1 probed =
+    ap (λ n. n % 2 ^ 64) (add_comm h0 (h1 * probed % 2 ^ 64))
+    ∙ mod-add-mod (h1 * probed) (2 ^ 64) h0
+    ∙ ap (λ n. n % 2 ^ 64) (add_comm (h1 * probed) h0 ∙ ap (λ n. h0 + n) (mul_comm h1 probed))

@@ -72,14 +72,14 @@ first_fault image = or_else (early_fault image) (first_failing (late_checks imag
 
 -- a reader's own limit, in bytes of words, is checked after the early checks
 abbrev pub limit_fault : ℕ → List ℕ → Option Fault
-limit_fault most_bytes image = if nat_lt most_bytes (8 * num_words_at image) then Some TableTooLarge else None
+limit_fault max_bytes image = if nat_lt max_bytes (8 * num_words_at image) then Some TableTooLarge else None
 
 abbrev pub early_fault_within : ℕ → List ℕ → Option Fault
-early_fault_within most_bytes image = or_else (early_fault image) (limit_fault most_bytes image)
+early_fault_within max_bytes image = or_else (early_fault image) (limit_fault max_bytes image)
 
 abbrev pub first_fault_within : ℕ → List ℕ → Option Fault
-first_fault_within most_bytes image =
-    or_else (early_fault_within most_bytes image) (first_failing (late_checks image))
+first_fault_within max_bytes image =
+    or_else (early_fault_within max_bytes image) (first_failing (late_checks image))
 
 -- ---- the value of an image
 

@@ -26,7 +26,7 @@ abbrev pub IsWithinLn2Times : (n m : ℕ) → Type 0
 IsWithinLn2Times n m = (k : ℕ) × (n * denominator k ≤ sum_to_ln2 k * m)
 
 -- the bits are at least those of the formula: items * ln n is at most bits * (ln 2)^2, so n^items is at most
--- 2^(bits * ln 2); some sum in place of ln 2 suffices
+-- 2^(bits * ln 2); some sum in index of ln 2 suffices
 abbrev pub AreEnoughBits : (items n bits : ℕ) → Type 0
 AreEnoughBits items n bits = (k : ℕ) × (n ^ (items * denominator k) ≤ 2 ^ (sum_to_ln2 k * bits))
 

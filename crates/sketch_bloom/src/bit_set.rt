@@ -18,7 +18,7 @@ use std::simd::prelude::*;
 
 /// Returns the position of a sum of hashes: its half, modulo the capacity.
 #[inline(always)]
-fn place_of(hash: u64, capacity: Divisor) -> u64
+fn index_of(hash: u64, capacity: Divisor) -> u64
     ensures value { result ≡ hash / 2 % capacity }
     ensures below { result < capacity }
 {
@@ -40,29 +40,29 @@ pub fn contains_positions(
     contains_others(words, capacity, 0, num_hashes, h0, h1)
 }
 
-/// Returns whether all positions of two hashes are in the set, given that the first `looked` are. Stops at the first
+/// Returns whether all positions of two hashes are in the set, given that the first `probed` are. Stops at the first
 /// that is not.
 #[inline(always)]
 fn contains_others(
     words: &[u64],
     capacity: Divisor,
-    looked: u16,
+    probed: u16,
     num_hashes: u16,
     h0: u64,
     h1: u64,
 ) -> bool
     requires capacity { capacity ≡ 64 * length words.now }
-    requires few { looked ≤ num_hashes }
-    requires found { set.is_subset (positions capacity looked h0 h1) (set_of words.now) ≡ true }
+    requires few { probed ≤ num_hashes }
+    requires found { set.is_subset (positions capacity probed h0 h1) (set_of words.now) ≡ true }
     ensures { result ≡ set.is_subset (positions capacity num_hashes h0 h1) (set_of words.now) }
 {
-    let mut hash = h0.wrapping_add(h1.wrapping_mul(looked as u64));
+    let mut hash = h0.wrapping_add(h1.wrapping_mul(probed as u64));
     // The label is for the prover.
-    'looks: for _i in looked..num_hashes {
+    'probes: for _i in probed..num_hashes {
         hash = hash.wrapping_add(h1);
-        let place = place_of(hash, capacity);
-        let word = words[(place / 64) as usize];
-        if word >> (place % 64) & 1 == 0 {
+        let index = index_of(hash, capacity);
+        let word = words[(index / 64) as usize];
+        if word >> (index % 64) & 1 == 0 {
             return false;
         }
     }
@@ -75,8 +75,8 @@ fn contains_first(words: &[u64], capacity: Divisor, h0: u64, h1: u64) -> bool
     requires { capacity ≡ 64 * length words.now }
     ensures { result ≡ set.contains (set_of words.now) (position capacity h0 h1 1) }
 {
-    let place = place_of(h0.wrapping_add(h1), capacity);
-    words[(place / 64) as usize] >> (place % 64) & 1 != 0
+    let index = index_of(h0.wrapping_add(h1), capacity);
+    words[(index / 64) as usize] >> (index % 64) & 1 != 0
 }
 
 /// Returns whether all positions of two hashes are in the set, given in `found` whether the first is.
@@ -165,11 +165,11 @@ pub fn insert_positions(
     // The label is for the prover.
     'inserts: for _i in 0..num_hashes {
         hash = hash.wrapping_add(h1);
-        let place = place_of(hash, capacity);
-        let at = (place / 64) as usize;
+        let index = index_of(hash, capacity);
+        let at = (index / 64) as usize;
         let word = words[at];
-        words[at] = word | 1 << (place % 64);
-        added += (word >> (place % 64) & 1 == 0) as u64;
+        words[at] = word | 1 << (index % 64);
+        added += (word >> (index % 64) & 1 == 0) as u64;
     }
     added
 }

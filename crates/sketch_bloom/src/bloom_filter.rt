@@ -418,7 +418,7 @@ impl BloomFilter {
         Self::deserialize_with_limit(alloc, image, usize::MAX)
     }
 
-    /// Reads a filter from an image if its words take at most `most_bytes` bytes.
+    /// Reads a filter from an image if its words take at most `max_bytes` bytes.
     ///
     /// It does the same as [`deserialize`](Self::deserialize) otherwise.
     ///
@@ -442,17 +442,17 @@ impl BloomFilter {
     pub fn deserialize_with_limit(
         alloc: Global,
         image: &[u8],
-        most_bytes: usize,
+        max_bytes: usize,
     ) -> Result<Self, Error>
         ensures image { IfOk result (λ filter. IsImage image.now filter) }
         ensures state { IfOk result (λ filter. IsFilterState filter) }
         ensures stands { IfOk result (λ filter. Restores image.now filter) }
-        ensures within { IfOk result (λ filter. 8 * filter.num_words ≤ most_bytes) }
+        ensures within { IfOk result (λ filter. 8 * filter.num_words ≤ max_bytes) }
         ensures err { IfErr result
-            (IsImageRefusal (early_fault_within most_bytes image.now) (first_fault_within most_bytes image.now)) }
+            (IsImageRefusal (early_fault_within max_bytes image.now) (first_fault_within max_bytes image.now)) }
     {
         let preamble = read_preamble(image)?;
-        if 8 * preamble.num_words > most_bytes {
+        if 8 * preamble.num_words > max_bytes {
             return Err(Error::invalid_data(Fault::TableTooLarge));
         }
         let num_words = preamble.num_words;

@@ -24,7 +24,7 @@ pub fn union_is_set_union()
 {}
 
 /// States that a filter with an empty set contains no item, and that an item is contained after it was inserted.
-pub fn what_is_contained()
+pub fn membership()
     ensures empty { EmptyContainsNothing }
     ensures inserted { InsertedIsContained }
 {}
@@ -51,7 +51,7 @@ pub fn equality_is_an_equivalence()
 ///
 /// What is written for a filter is an image of it. No bytes are an image of two filters. Bytes are an image of some
 /// filter exactly if no check fails.
-pub fn what_images_say()
+pub fn image_laws()
     ensures spelled { SpelledIsImage }
     ensures one { ImageIsOfOne }
     ensures some { ImageIsOfSome }

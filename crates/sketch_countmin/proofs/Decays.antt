@@ -12,7 +12,7 @@ use Rattle.sketch_countmin.specs.Table.{IsTable, state_of}
 use Rattle.sketch_countmin.proofs.Numbers.{scaled_below}
 use Rattle.sketch_countmin.proofs.Tables.{rows_of-map, remade}
 
--- a function that keeps 0 is read at each place, also past the end
+-- a function that keeps 0 is read at each index, also past the end
 pub read_map : (f : ℤ → ℤ) → f (pos 0) ≡ pos 0 → (xs : List ℤ) (k : ℕ) → get_or (map f xs) k (pos 0) ≡ f (get_or xs k (pos 0))
 read_map f z [] k = sym z
 read_map f z (x ∷ xs) zero = refl

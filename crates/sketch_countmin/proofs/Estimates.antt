@@ -6,11 +6,11 @@ use Rattle.std.specs.Int.{int_min}
 use Rattle.std.proofs.lemmas.Int.{ints, clamps, by_lt_z}
 use Rattle.std.proofs.lemmas.Nat.{mod_below}
 use Rattle.sketch_base.specs.Murmur3.{murmur3_x64_128}
-use Rattle.sketch_countmin.specs.Cells.{flat_at, IsLeastOf}
+use Rattle.sketch_countmin.specs.Cells.{flat_at, IsMinOf}
 use Rattle.sketch_countmin.specs.Values.{InRange}
 use Rattle.sketch_countmin.specs.Rows.{cell_at, rows_of}
 use Rattle.sketch_countmin.specs.Buckets.{row_seed, bucket_by, bucket_of}
-use Rattle.sketch_countmin.specs.State.{CountState, IsLeastCell}
+use Rattle.sketch_countmin.specs.State.{CountState, IsMinCell}
 use Rattle.sketch_countmin.specs.Table.{IsTable, state_of}
 use Rattle.sketch_countmin.proofs.Tables.{read_rows}
 use Rattle.sketch_countmin.proofs.Updates.{row_bucket}
@@ -22,15 +22,15 @@ bucket_below d seed r bytes p = mod_below (murmur3_x64_128 bytes (row_seed r see
 
 -- what a loop found over the lists that it was lent holds of the sketch's own
 pub least_own : {T : Type 0} (number : T → ℤ) (d : ℕ) (bytes : List ℕ) (row_seeds seeds : List ℕ) (items lent : List T) (z : ℤ) → seeds ≡ row_seeds → lent ≡ items
-    → IsLeastOf d (map number lent) (λ r. bucket_by d (slice_index seeds r) bytes) (length seeds) z
-    → IsLeastOf d (map number items) (λ r. bucket_by d (slice_index row_seeds r) bytes) (length row_seeds) z
+    → IsMinOf d (map number lent) (λ r. bucket_by d (slice_index seeds r) bytes) (length seeds) z
+    → IsMinOf d (map number items) (λ r. bucket_by d (slice_index row_seeds r) bytes) (length row_seeds) z
 least_own number d bytes row_seeds seeds items lent z se le h =
-    subst (λ (l : List ℕ). IsLeastOf d (map number items) (λ r. bucket_by d (slice_index l r) bytes) (length l) z) se
-    (subst (λ (l : List _). IsLeastOf d (map number l) (λ r. bucket_by d (slice_index seeds r) bytes) (length seeds) z) le h)
+    subst (λ (l : List ℕ). IsMinOf d (map number items) (λ r. bucket_by d (slice_index l r) bytes) (length l) z) se
+    (subst (λ (l : List _). IsMinOf d (map number l) (λ r. bucket_by d (slice_index seeds r) bytes) (length seeds) z) le h)
 
 -- the least cell that the rows' seeds lead to is the item's least cell
 pub least_here : (greatest : ℕ) (row_seeds : List ℕ) (d seed : ℕ) (t : ℤ) (cells : List ℤ) (bytes : List ℕ) (z : ℤ) → IsTable greatest row_seeds d seed t cells
-    → IsLeastOf d cells (λ r. bucket_by d (slice_index row_seeds r) bytes) (length row_seeds) z → IsLeastCell (state_of row_seeds d seed t cells) bytes z
+    → IsMinOf d cells (λ r. bucket_by d (slice_index row_seeds r) bytes) (length row_seeds) z → IsMinCell (state_of row_seeds d seed t cells) bytes z
 least_here greatest row_seeds d seed t cells bytes z i h = record {
   below = λ r lr. subst (λ (w : ℤ). z ≤ℤ w) (same r lr) (h.below r lr);
   reached = let found = h.reached in (found.0, found.1, found.2 ∙ same found.0 found.1);
@@ -41,7 +41,7 @@ least_here greatest row_seeds d seed t cells bytes z i h = record {
         ∙ sym (read_rows (length row_seeds) d cells r (bucket_of d seed r bytes) lr (bucket_below d seed r bytes (omega (arith, i.some_buckets))))
 
 -- there is one least cell
-pub least_unique : (s : CountState) (bytes : List ℕ) (y z : ℤ) → IsLeastCell s bytes y → IsLeastCell s bytes z → y ≡ z
+pub least_unique : (s : CountState) (bytes : List ℕ) (y z : ℤ) → IsMinCell s bytes y → IsMinCell s bytes z → y ≡ z
 least_unique s bytes y z a b =
     let ra = a.reached in
     let rb = b.reached in

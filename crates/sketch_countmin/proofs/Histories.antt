@@ -9,7 +9,7 @@ use Rattle.std.proofs.lemmas.Bool.{eq-eqb, false≢true}
 use Rattle.std.proofs.lemmas.Slice.Eq.{bytes_eq-Decides}
 use Rattle.sketch_countmin.specs.Values.{scaled, halved}
 use Rattle.sketch_countmin.specs.Buckets.{bucket_of}
-use Rattle.sketch_countmin.specs.State.{CountState, IsLeast, IsLeastCell, item_cell}
+use Rattle.sketch_countmin.specs.State.{CountState, IsMin, IsMinCell, item_cell}
 use Rattle.sketch_countmin.specs.History.{CountHistory, value_over, own_value, others_share, cell_share, absolute_weight, IsNonnegative, IsExact, followed_by, of_first}
 use Rattle.sketch_countmin.specs.History.CountHistory.{New, Update, Merge, Halve, Decay, Restored}
 use Rattle.sketch_countmin.specs.Stands.{StandsFor}
@@ -90,7 +90,7 @@ own_bucket : (d seed r : ℕ) (bytes other : List ℕ) → bytes_eq bytes other 
 own_bucket d seed r bytes other same = eq-eqb (bucket_of d seed r other) (bucket_of d seed r bytes) (ap (bucket_of d seed r) (sym ((bytes_eq-Decides bytes other).0 same)))
 
 -- where no weight is below zero, the least cell lies between the own value and the total
-pub enclosed : (s : CountState) (h : CountHistory) (bytes : List ℕ) (z : ℤ) → 0 < s.buckets → IsLeastCell s bytes z → StandsFor s h → IsNonnegative h → (own_value h bytes ≤ℤ z) × (z ≤ℤ pos s.total)
+pub enclosed : (s : CountState) (h : CountHistory) (bytes : List ℕ) (z : ℤ) → 0 < s.buckets → IsMinCell s bytes z → StandsFor s h → IsNonnegative h → (own_value h bytes ≤ℤ z) × (z ≤ℤ pos s.total)
 enclosed s h bytes z p least stands i =
     let row = least.reached in
     let r : ℕ = row.0 in
@@ -141,8 +141,8 @@ own_share d seed h bytes r i =
     (value_same h (λ other. inside other && bytes_eq bytes other) (bytes_eq bytes) (λ other. and_follows (inside other) (bytes_eq bytes other) (own_bucket d seed r bytes other)))
 
 -- where nothing was rounded, the least cell is above the own value by the least share of the others
-pub raised_by_others : (s : CountState) (h : CountHistory) (bytes : List ℕ) (z : ℤ) → 0 < s.buckets → IsLeastCell s bytes z → StandsFor s h → IsExact h
-    → IsLeast s.hashes (others_share s.buckets s.seed h bytes) (z -ℤ own_value h bytes)
+pub raised_by_others : (s : CountState) (h : CountHistory) (bytes : List ℕ) (z : ℤ) → 0 < s.buckets → IsMinCell s bytes z → StandsFor s h → IsExact h
+    → IsMin s.hashes (others_share s.buckets s.seed h bytes) (z -ℤ own_value h bytes)
 raised_by_others s h bytes z p least stands i = record {
   below = λ r lr. let low = least.below r lr in let share = cell r lr in omega (arith, ints, low, share);
   reached = let row = least.reached in let share = cell row.0 row.1 in (row.0, row.1, omega (arith, ints, row.2, share));

@@ -174,37 +174,37 @@ of_either : (b : Bool) (x y : CountState) (f : CountState → ℕ) (k : ℕ) →
 of_either true x y f k e h = e
 of_either false x y f k e h = h
 
-module _ (least : ℤ) (greatest size most_bytes seed : ℕ) (image : List ℕ) where
+module _ (least : ℤ) (greatest size max_bytes seed : ℕ) (image : List ℕ) where
   -- a fault of the early checks is the first
-  pub early_first : (fault : Fault) → early_fault seed image ≡ Some fault → first_fault_within least greatest size most_bytes seed image ≡ Some fault
-  early_first fault e = ap (λ (o : Option Fault). or_else (or_else o (limit_fault size most_bytes image)) (late_fault least greatest image)) e
+  pub early_first : (fault : Fault) → early_fault seed image ≡ Some fault → first_fault_within least greatest size max_bytes seed image ≡ Some fault
+  early_first fault e = ap (λ (o : Option Fault). or_else (or_else o (limit_fault size max_bytes image)) (late_fault least greatest image)) e
 
   module _ (p : Preamble) (fields : IsPreamble image p) (passes : early_fault seed image ≡ None) where
     bytes_are : p.num_hashes * p.num_buckets * size + 8 * p.num_hashes ≡ num_cells_at image * size + 8 * hashes_at image
     bytes_are = rw (fields.num_hashes, fields.num_buckets) refl
 
     -- the limit by the fields that were read
-    pub limit_first : most_bytes < p.num_hashes * p.num_buckets * size + 8 * p.num_hashes → first_fault_within least greatest size most_bytes seed image ≡ Some (Fault.TableTooLarge)
-    limit_first above = rw (passes, lt-ltb most_bytes (num_cells_at image * size + 8 * hashes_at image) (subst (λ (n : ℕ). most_bytes < n) bytes_are above)) refl
+    pub limit_first : max_bytes < p.num_hashes * p.num_buckets * size + 8 * p.num_hashes → first_fault_within least greatest size max_bytes seed image ≡ Some (Fault.TableTooLarge)
+    limit_first above = rw (passes, lt-ltb max_bytes (num_cells_at image * size + 8 * hashes_at image) (subst (λ (n : ℕ). max_bytes < n) bytes_are above)) refl
 
-    within_limit : p.num_hashes * p.num_buckets * size + 8 * p.num_hashes ≤ most_bytes → early_fault_within size most_bytes seed image ≡ None
-    within_limit below = rw (passes, le-ltb most_bytes (num_cells_at image * size + 8 * hashes_at image) (subst (λ (n : ℕ). n ≤ most_bytes) bytes_are below)) refl
+    within_limit : p.num_hashes * p.num_buckets * size + 8 * p.num_hashes ≤ max_bytes → early_fault_within size max_bytes seed image ≡ None
+    within_limit below = rw (passes, le-ltb max_bytes (num_cells_at image * size + 8 * hashes_at image) (subst (λ (n : ℕ). n ≤ max_bytes) bytes_are below)) refl
 
     -- within it nothing was wrong before memory was asked for
-    pub memory_refusal : p.num_hashes * p.num_buckets * size + 8 * p.num_hashes ≤ most_bytes → (e : ErrorValue) → e ≡ no_memory
-        → IsImageRefusal (early_fault_within size most_bytes seed image) (first_fault_within least greatest size most_bytes seed image) e
+    pub memory_refusal : p.num_hashes * p.num_buckets * size + 8 * p.num_hashes ≤ max_bytes → (e : ErrorValue) → e ≡ no_memory
+        → IsImageRefusal (early_fault_within size max_bytes seed image) (first_fault_within least greatest size max_bytes seed image) e
     memory_refusal below e h = inl (h, within_limit below)
 
     -- and the faults are the late ones
-    pub late_refusal : p.num_hashes * p.num_buckets * size + 8 * p.num_hashes ≤ most_bytes → (e : ErrorValue) → IsImageRefusal None (late_fault least greatest image) e
-        → IsImageRefusal (early_fault_within size most_bytes seed image) (first_fault_within least greatest size most_bytes seed image) e
+    pub late_refusal : p.num_hashes * p.num_buckets * size + 8 * p.num_hashes ≤ max_bytes → (e : ErrorValue) → IsImageRefusal None (late_fault least greatest image) e
+        → IsImageRefusal (early_fault_within size max_bytes seed image) (first_fault_within least greatest size max_bytes seed image) e
     late_refusal below e h = subst (λ (early : Option Fault). IsImageRefusal early (or_else early (late_fault least greatest image)) e) (sym (within_limit below)) h
 
     -- and what the image says is within it
-    pub value_within : p.num_hashes * p.num_buckets * size + 8 * p.num_hashes ≤ most_bytes → (s : CountState) → s ≡ value_at least seed image → s.hashes * s.buckets * size + 8 * s.hashes ≤ most_bytes
+    pub value_within : p.num_hashes * p.num_buckets * size + 8 * p.num_hashes ≤ max_bytes → (s : CountState) → s ≡ value_at least seed image → s.hashes * s.buckets * size + 8 * s.hashes ≤ max_bytes
     value_within below s s_is =
         let bytes : CountState → ℕ = λ u. u.hashes * u.buckets * size + 8 * u.hashes in
-        subst (λ (n : ℕ). n ≤ most_bytes) (bytes_are ∙ sym (ap bytes s_is ∙ of_either (says_empty image) _ _ bytes _ refl refl)) below
+        subst (λ (n : ℕ). n ≤ max_bytes) (bytes_are ∙ sym (ap bytes s_is ∙ of_either (says_empty image) _ _ bytes _ refl refl)) below
 
 -- ---- what was read is what the image says
 

@@ -43,10 +43,10 @@ joins_here row_seeds others d e seed seed' t t' u old other new same h total = r
   total = total;
   cells = λ r lr b lb.
       let there : cell_at (rows_of (length others) e other) r b ≡ get_or other (r * e + b) (pos 0) = read_rows (length others) e other r b (omega (arith, lr, same.hashes)) (omega (arith, lb, same.buckets)) in
-      let place : get_or other (r * d + b) (pos 0) ≡ get_or other (r * e + b) (pos 0) = ap (λ (n : ℕ). get_or other (r * n + b) (pos 0)) same.buckets in
+      let index : get_or other (r * d + b) (pos 0) ≡ get_or other (r * e + b) (pos 0) = ap (λ (n : ℕ). get_or other (r * n + b) (pos 0)) same.buckets in
       read_rows (length row_seeds) d new r b lr lb ∙ (h.cells (r * d + b)
       ∙ (ap (λ (z : ℤ). z +ℤ get_or other (r * d + b) (pos 0)) (sym (read_rows (length row_seeds) d old r b lr lb))
-      ∙ ap (λ (z : ℤ). cell_at (rows_of (length row_seeds) d old) r b +ℤ z) (place ∙ sym there)));
+      ∙ ap (λ (z : ℤ). cell_at (rows_of (length row_seeds) d old) r b +ℤ z) (index ∙ sym there)));
 }
 
 -- sketches that are others have the shapes of these

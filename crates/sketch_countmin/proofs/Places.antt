@@ -5,18 +5,18 @@ use Rattle.std.proofs.lemmas.Nat.{mul-le}
 use Rattle.std.proofs.lemmas.Int.{ints}
 use Rattle.std.proofs.lemmas.List.{length-map, get_or_past}
 use Rattle.std.specs.Prelude.{◌≤ℤ◌}
-use Rattle.sketch_countmin.specs.Cells.{flat_at, RowsAdded, CellsAdded, IsLeastOf}
+use Rattle.sketch_countmin.specs.Cells.{flat_at, RowsAdded, CellsAdded, IsMinOf}
 use Rattle.sketch_countmin.proofs.RowSteps.{inside, plus_zero, read_cell, rows_added_next}
 
--- a place in the first row
+-- a index in the first row
 pub inside_first : (d rows b l : ℕ) → l ≡ rows * d → 0 < rows → b < d → b < l
 inside_first d rows b l e some p = omega (arith, inside d rows 0 b l e some p)
 
--- a place in a row, where the width has two spellings
+-- a index in a row, where the width has two spellings
 pub inside_wide : (d rows n b l w : ℕ) → w ≡ d → l ≡ rows * d → n < rows → b < d → n * w + b < l
 inside_wide d rows n b l w same e lt p = subst (λ (w : ℕ). n * w + b < l) (sym same) (inside d rows n b l e lt p)
 
--- a place in a table, where the number of its cells has two spellings
+-- a index in a table, where the number of its cells has two spellings
 pub within : (k l m : ℕ) → k < m → l ≡ m → k < l
 within k l m lt e = omega (arith, lt, e)
 
@@ -25,22 +25,22 @@ within k l m lt e = omega (arith, lt, e)
 -- the cells behind those rows have the room that they had
 pub room_behind : (d : ℕ) (w : ℤ) (most : ℕ) (bucket : ℕ → ℕ) (n k : ℕ) (old mid : List ℤ) → RowsAdded d w bucket n old mid → k ≡ n * d + bucket n
     → ((j : ℕ) → unsigned_abs (get_or old j (pos 0) +ℤ w) ≤ most) → unsigned_abs (get_or mid k (pos 0) +ℤ w) ≤ most
-room_behind d w most bucket n k old mid h place room = subst (λ (z : ℤ). unsigned_abs (z +ℤ w) ≤ most) (sym (h.rest k (omega (arith, place)))) (room k)
+room_behind d w most bucket n k old mid h index room = subst (λ (z : ℤ). unsigned_abs (z +ℤ w) ≤ most) (sym (h.rest k (omega (arith, index)))) (room k)
 
 -- a later row's cell has the room that it had before an earlier row was given its weight
 pub room_stays : (d : ℕ) (w v : ℤ) (most : ℕ) (bucket : ℕ → ℕ) (n m k j : ℕ) (mid new : List ℤ) → n < m → bucket n < d → k ≡ n * d + bucket n → j ≡ m * d + bucket m → new ≡ set mid k v
     → unsigned_abs (get_or mid j (pos 0) +ℤ w) ≤ most → unsigned_abs (get_or new j (pos 0) +ℤ w) ≤ most
-room_stays d w v most bucket n m k j mid new later in_row at place e room =
+room_stays d w v most bucket n m k j mid new later in_row at index e room =
     let behind : (n + 1) * d ≤ m * d = mul-le (n + 1) d m d (omega (arith, later)) (omega arith) in
-    let other : j ≢ k = omega (arith, behind, in_row, at, place) in
+    let other : j ≢ k = omega (arith, behind, in_row, at, index) in
     subst (λ (z : ℤ). unsigned_abs (z +ℤ w) ≤ most) (sym (ap (λ (l : List ℤ). get_or l j (pos 0)) e ∙ get_or-set_other mid k j v (pos 0) other)) room
 
 -- one row more
 pub row_added : {T : Type 0} (number : T → ℤ) (d : ℕ) (w : ℤ) (bucket : ℕ → ℕ) (n m k size : ℕ) (old : List ℤ) (mid new : List T) → RowsAdded d w bucket n old (map number mid) → m ≡ n + 1
     → bucket n < d → k ≡ n * d + bucket n → k < size → length mid ≡ size → map number new ≡ set (map number mid) k (get_or (map number mid) k (pos 0) +ℤ w)
     → RowsAdded d w bucket m old (map number new)
-row_added number d w bucket n m k size old mid new h next in_row place fits long e =
-    rows_added_next d w bucket n m old (map number mid) (map number new) h next k in_row place (omega (arith, length-map mid number, fits, long)) e
+row_added number d w bucket n m k size old mid new h next in_row index fits long e =
+    rows_added_next d w bucket n m old (map number mid) (map number new) h next k in_row index (omega (arith, length-map mid number, fits, long)) e
 
 -- ---- cells that those of another table are added to
 
@@ -75,7 +75,7 @@ cells_all_added number n old new other h end k =
 -- ---- the least cell
 
 -- the least of the first row alone
-pub least_at_first : (d : ℕ) (cells : List ℤ) (bucket : ℕ → ℕ) (z : ℤ) → z ≡ get_or cells (bucket 0) (pos 0) → IsLeastOf d cells bucket 1 z
+pub least_at_first : (d : ℕ) (cells : List ℤ) (bucket : ℕ → ℕ) (z : ℤ) → z ≡ get_or cells (bucket 0) (pos 0) → IsMinOf d cells bucket 1 z
 least_at_first d cells bucket z e =
     let start : 0 * d + bucket 0 ≡ bucket 0 = omega arith in
     let here : flat_at d cells 0 (bucket 0) ≡ z = ap (λ (j : ℕ). get_or cells j (pos 0)) start ∙ sym e in

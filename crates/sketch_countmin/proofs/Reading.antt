@@ -34,44 +34,44 @@ pub first_failing-append : (xs ys : List (Bool × Fault)) → first_failing (xs 
 first_failing-append [] ys = refl
 first_failing-append (x ∷ xs) ys = one_more x.0 x.1 (first_failing (xs ++ ys)) (first_failing xs) (first_failing ys) (first_failing-append xs ys)
 
--- the first number of those that are left stands at their place
-first_number : (least : ℤ) (bytes : List ℕ) (place : ℕ) → number_at least (drop place bytes) 0 ≡ number_at least bytes place
+-- the first number of those that are left stands at their index
+first_number : (least : ℤ) (bytes : List ℕ) (index : ℕ) → number_at least (drop index bytes) 0 ≡ number_at least bytes index
 unfolding number_at
-first_number least bytes place = refl
+first_number least bytes index = refl
 
 -- what is left, by its first number
-left_over : (least : ℤ) (bytes : List ℕ) (place next left after : ℕ) → left ≡ suc after → next ≡ place + 8 → numbers_in least left (drop place bytes) ≡ number_at least bytes place ∷ numbers_in least after (drop next bytes)
-left_over least bytes place next left after left_is next_is =
-    let rest : drop next bytes ≡ drop 8 (drop place bytes) = ap (λ (n : ℕ). drop n bytes) (omega arith) ∙ sym (drop-drop 8 place bytes) in
-    ap (λ (n : ℕ). numbers_in least n (drop place bytes)) left_is
-    ∙ (ap (λ (z : ℤ). z ∷ numbers_in least after (drop 8 (drop place bytes))) (first_number least bytes place)
-    ∙ ap (λ (bs : List ℕ). number_at least bytes place ∷ numbers_in least after bs) (sym rest))
+left_over : (least : ℤ) (bytes : List ℕ) (index next left after : ℕ) → left ≡ suc after → next ≡ index + 8 → numbers_in least left (drop index bytes) ≡ number_at least bytes index ∷ numbers_in least after (drop next bytes)
+left_over least bytes index next left after left_is next_is =
+    let rest : drop next bytes ≡ drop 8 (drop index bytes) = ap (λ (n : ℕ). drop n bytes) (omega arith) ∙ sym (drop-drop 8 index bytes) in
+    ap (λ (n : ℕ). numbers_in least n (drop index bytes)) left_is
+    ∙ (ap (λ (z : ℤ). z ∷ numbers_in least after (drop 8 (drop index bytes))) (first_number least bytes index)
+    ∙ ap (λ (bs : List ℕ). number_at least bytes index ∷ numbers_in least after bs) (sym rest))
 
 -- a cell that was read is the first of those that were still to be read
-pub cells_more : {T : Type 0} (number : T → ℤ) (items new : List T) (x : T) (least : ℤ) (bytes : List ℕ) (place next left after : ℕ) (all : List ℤ) → new ≡ items ++ x ∷ [] → left ≡ suc after → next ≡ place + 8
-    → number x ≡ number_at least bytes place → map number items ++ numbers_in least left (drop place bytes) ≡ all → map number new ++ numbers_in least after (drop next bytes) ≡ all
-cells_more number items new x least bytes place next left after all new_is left_is next_is value before =
+pub cells_more : {T : Type 0} (number : T → ℤ) (items new : List T) (x : T) (least : ℤ) (bytes : List ℕ) (index next left after : ℕ) (all : List ℤ) → new ≡ items ++ x ∷ [] → left ≡ suc after → next ≡ index + 8
+    → number x ≡ number_at least bytes index → map number items ++ numbers_in least left (drop index bytes) ≡ all → map number new ++ numbers_in least after (drop next bytes) ≡ all
+cells_more number items new x least bytes index next left after all new_is left_is next_is value before =
     let rest : List ℤ = numbers_in least after (drop next bytes) in
     ap (λ (zs : List ℤ). zs ++ rest) (ap (map number) new_is ∙ map-append number items (x ∷ []))
     ∙ (append_assoc (map number items) (number x ∷ []) rest
-    ∙ (ap (λ (zs : List ℤ). map number items ++ zs) (ap (λ (z : ℤ). z ∷ rest) value ∙ sym (left_over least bytes place next left after left_is next_is))
+    ∙ (ap (λ (zs : List ℤ). map number items ++ zs) (ap (λ (z : ℤ). z ∷ rest) value ∙ sym (left_over least bytes index next left after left_is next_is))
     ∙ before))
 
-module _ (least : ℤ) (greatest total : ℕ) (bytes : List ℕ) (place next left after : ℕ) (left_is : left ≡ suc after) (next_is : next ≡ place + 8) where
+module _ (least : ℤ) (greatest total : ℕ) (bytes : List ℕ) (index next left after : ℕ) (left_is : left ≡ suc after) (next_is : next ≡ index + 8) where
   -- the first fault of what is left, by its first cell
-  by_first : first_failing (cells_checks least greatest total (numbers_in least left (drop place bytes)))
-      ≡ or_else (first_failing (cell_checks least greatest total (number_at least bytes place))) (first_failing (cells_checks least greatest total (numbers_in least after (drop next bytes))))
+  by_first : first_failing (cells_checks least greatest total (numbers_in least left (drop index bytes)))
+      ≡ or_else (first_failing (cell_checks least greatest total (number_at least bytes index))) (first_failing (cells_checks least greatest total (numbers_in least after (drop next bytes))))
   by_first =
       let rest : List ℤ = numbers_in least after (drop next bytes) in
-      ap (λ (zs : List ℤ). first_failing (cells_checks least greatest total zs)) (left_over least bytes place next left after left_is next_is)
-      ∙ (ap first_failing (flat_map-cons (cell_checks least greatest total) (number_at least bytes place) rest)
-      ∙ first_failing-append (cell_checks least greatest total (number_at least bytes place)) (cells_checks least greatest total rest))
+      ap (λ (zs : List ℤ). first_failing (cells_checks least greatest total zs)) (left_over least bytes index next left after left_is next_is)
+      ∙ (ap first_failing (flat_map-cons (cell_checks least greatest total) (number_at least bytes index) rest)
+      ∙ first_failing-append (cell_checks least greatest total (number_at least bytes index)) (cells_checks least greatest total rest))
 
   -- where that passes, it is one of the others
-  pub fault_more : (whole : Option Fault) → whole ≡ first_failing (cells_checks least greatest total (numbers_in least left (drop place bytes))) → first_failing (cell_checks least greatest total (number_at least bytes place)) ≡ None
+  pub fault_more : (whole : Option Fault) → whole ≡ first_failing (cells_checks least greatest total (numbers_in least left (drop index bytes))) → first_failing (cell_checks least greatest total (number_at least bytes index)) ≡ None
       → whole ≡ first_failing (cells_checks least greatest total (numbers_in least after (drop next bytes)))
   fault_more whole before passes = before ∙ (by_first ∙ ap (λ (o : Option Fault). or_else o (first_failing (cells_checks least greatest total (numbers_in least after (drop next bytes))))) passes)
 
   -- and where it fails, it is that cell's
-  pub fault_here : (whole : Option Fault) (fault : Fault) → whole ≡ first_failing (cells_checks least greatest total (numbers_in least left (drop place bytes))) → first_failing (cell_checks least greatest total (number_at least bytes place)) ≡ Some fault → whole ≡ Some fault
+  pub fault_here : (whole : Option Fault) (fault : Fault) → whole ≡ first_failing (cells_checks least greatest total (numbers_in least left (drop index bytes))) → first_failing (cell_checks least greatest total (number_at least bytes index)) ≡ Some fault → whole ≡ Some fault
   fault_here whole fault before fails = before ∙ (by_first ∙ ap (λ (o : Option Fault). or_else o (first_failing (cells_checks least greatest total (numbers_in least after (drop next bytes))))) fails)

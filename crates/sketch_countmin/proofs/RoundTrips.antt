@@ -20,7 +20,7 @@ use Rattle.sketch_countmin.specs.State.{CountState, IsCountState}
 use Rattle.sketch_countmin.specs.Values.{InRange, bytes_of, number_in}
 use Rattle.sketch_countmin.proofs.Reading.{first_failing-append, passes_test, in_range_test, cell_passes}
 use Rattle.sketch_countmin.proofs.States.{rows_same, zero_cells}
-use Rattle.sketch_countmin.proofs.Tables.{by_place, read_rows}
+use Rattle.sketch_countmin.proofs.Tables.{by_index, read_rows}
 
 -- ---- the fields are read as they were written, whatever stands behind them
 
@@ -79,7 +79,7 @@ length-all_cells d (row ∷ rows) wide =
 all_hold : (P : ℤ → Type 0) (d : ℕ) (rows : List (List ℤ)) → 0 < d → All (λ row. length row ≡ d) rows → ((r b : ℕ) → P (cell_at rows r b)) → All P (all_cells rows)
 all_hold P d rows some wide h =
     let cells = all_cells rows in
-    All-from_get_or P cells (pos 0) (λ k lt. by_place (λ k. P (get_or cells k (pos 0))) d (length rows) some
+    All-from_get_or P cells (pos 0) (λ k lt. by_index (λ k. P (get_or cells k (pos 0))) d (length rows) some
     (λ r lr b lb. subst P (ap (λ (rs : List (List ℤ)). cell_at rs r b) (sym (rows_back d rows wide)) ∙ read_rows (length rows) d cells r b lr lb) (h r b)) k (omega (arith, lt, length-all_cells d rows wide)))
 
 -- rows of zeros

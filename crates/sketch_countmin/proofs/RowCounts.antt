@@ -45,9 +45,9 @@ at_item d n bucket items i old mid h lt fits b false e p =
 pub row_counted : (d n : ℕ) (bucket : List ℕ → ℕ) (items : List (List ℕ)) (i : ℕ) (old mid new : List ℤ) → RowCounted d bucket (take i items) n old mid → i < length items
     → (k : ℕ) → bucket (get_or items i []) < d → k ≡ n * d + bucket (get_or items i []) → k < length mid → new ≡ set mid k (get_or mid k (pos 0) +ℤ pos 1)
     → RowCounted d bucket (take (i + 1) items) n old new
-row_counted d n bucket items i old mid new h lt k in_row place fits e =
-    subst (λ (cells : List ℤ). RowCounted d bucket (take (i + 1) items) n old cells) (ap (λ (j : ℕ). set mid j (get_or mid j (pos 0) +ℤ pos 1)) (sym place) ∙ sym e) record {
-      done = λ b p. at_item d n bucket items i old mid h lt (omega (arith, place, fits)) b (eqb c b) refl p;
+row_counted d n bucket items i old mid new h lt k in_row index fits e =
+    subst (λ (cells : List ℤ). RowCounted d bucket (take (i + 1) items) n old cells) (ap (λ (j : ℕ). set mid j (get_or mid j (pos 0) +ℤ pos 1)) (sym index) ∙ sym e) record {
+      done = λ b p. at_item d n bucket items i old mid h lt (omega (arith, index, fits)) b (eqb c b) refl p;
       before = λ j lj. let ne : j ≢ n * d + c = omega arith in get_or-set_other mid (n * d + c) j (get_or mid (n * d + c) (pos 0) +ℤ pos 1) (pos 0) ne ∙ h.before j lj;
       behind = λ j le. let ne : j ≢ n * d + c = omega (arith, in_row) in get_or-set_other mid (n * d + c) j (get_or mid (n * d + c) (pos 0) +ℤ pos 1) (pos 0) ne ∙ h.behind j le;
     }
@@ -58,9 +58,9 @@ row_counted d n bucket items i old mid new h lt k in_row place fits e =
 -- there is room for one more
 pub room_in_row : (d n greatest : ℕ) (bucket : List ℕ → ℕ) (items : List (List ℕ)) (i : ℕ) (old mid : List ℤ) (b k : ℕ) → RowCounted d bucket (take i items) n old mid → i < length items
     → b < d → k ≡ n * d + b → unsigned_abs (flat_at d old n b) + length items ≤ greatest → unsigned_abs (get_or mid k (pos 0) +ℤ pos 1) ≤ greatest
-room_in_row d n greatest bucket items i old mid b k h lt p place room =
+room_in_row d n greatest bucket items i old mid b k h lt p index room =
     let few : count_by (λ bytes. bucket bytes == b) (take i items) ≤ length (take i items) = count_by-le-length (λ bytes. bucket bytes == b) (take i items) in
-    let here : get_or mid k (pos 0) ≡ flat_at d old n b +ℤ held bucket b (take i items) = ap (λ (j : ℕ). get_or mid j (pos 0)) place ∙ h.done b p in
+    let here : get_or mid k (pos 0) ≡ flat_at d old n b +ℤ held bucket b (take i items) = ap (λ (j : ℕ). get_or mid j (pos 0)) index ∙ h.done b p in
     rw here (omega (arith, ints, few, length-take-le i items (omega arith), room))
 
 -- ---- row after row

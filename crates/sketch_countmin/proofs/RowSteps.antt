@@ -10,12 +10,12 @@ use Rattle.std.specs.Prelude.{◌≤ℤ◌, ◌<ℤ◌}
 use Rattle.std.proofs.lemmas.Int.{ints}
 use Rattle.std.proofs.lemmas.Nat.{mul-le}
 use Rattle.std.proofs.lemmas.Bool.{eqb-true, eqb-false}
-use Rattle.sketch_countmin.specs.Cells.{flat_at, RowsAdded, IsLeastOf, IsLesser}
+use Rattle.sketch_countmin.specs.Cells.{flat_at, RowsAdded, IsMinOf, IsLesser}
 use Rattle.sketch_countmin.specs.Buckets.{row_seed, bucket_by}
 
 -- where an item is counted in a row, by its hash under the row's seed
-pub bucket_found : (d seed place : ℕ) (hash : ℕ × ℕ) (hashed bytes : List ℕ) → place ≡ hash.0 % d → hash ≡ murmur3_x64_128 hashed seed → hashed ≡ bytes → place ≡ bucket_by d seed bytes
-bucket_found d seed place hash hashed bytes at h e = at ∙ (ap (λ (h : ℕ × ℕ). h.0 % d) h ∙ ap (bucket_by d seed) e)
+pub bucket_found : (d seed index : ℕ) (hash : ℕ × ℕ) (hashed bytes : List ℕ) → index ≡ hash.0 % d → hash ≡ murmur3_x64_128 hashed seed → hashed ≡ bytes → index ≡ bucket_by d seed bytes
+bucket_found d seed index hash hashed bytes at h e = at ∙ (ap (λ (h : ℕ × ℕ). h.0 % d) h ∙ ap (bucket_by d seed) e)
 
 pub plus_zero : (z : ℤ) → z ≡ z +ℤ pos 0
 plus_zero z = omega (arith, ints)
@@ -23,11 +23,11 @@ plus_zero z = omega (arith, ints)
 pub rows_none : (d : ℕ) (w : ℤ) (bucket : ℕ → ℕ) (old : List ℤ) → RowsAdded d w bucket 0 old old
 rows_none d w bucket old = record { done = λ r h _ _. absurd (omega arith); rest = λ k _. refl }
 
--- a place in an earlier row is before the row n
+-- a index in an earlier row is before the row n
 row_before : (d r n b : ℕ) → r < n → b < d → r * d + b < n * d
 row_before d r n b h p = omega (arith, mul-le (r + 1) d n d (omega arith) (omega arith))
 
--- a place in one of the rows
+-- a index in one of the rows
 pub inside : (d rows n b l : ℕ) → l ≡ rows * d → n < rows → b < d → n * d + b < l
 inside d rows n b l e lt p = omega (arith, e, row_before d n rows b lt p)
 
@@ -70,16 +70,16 @@ added_at num xs k x s w fits e sum =
 pub rows_added_here : (d : ℕ) (w : ℤ) (bucket : ℕ → ℕ) (n : ℕ) (old mid new : List ℤ) → RowsAdded d w bucket n old mid
     → (k : ℕ) → bucket n < d → k ≡ n * d + bucket n → k < length mid → new ≡ set mid k (get_or mid k (pos 0) +ℤ w)
     → RowsAdded d w bucket (n + 1) old new
-rows_added_here d w bucket n old mid new h k in_row place fits e =
-    let after : set mid (n * d + bucket n) (get_or mid (n * d + bucket n) (pos 0) +ℤ w) ≡ new = ap (λ (j : ℕ). set mid j (get_or mid j (pos 0) +ℤ w)) (sym place) ∙ sym e in
+rows_added_here d w bucket n old mid new h k in_row index fits e =
+    let after : set mid (n * d + bucket n) (get_or mid (n * d + bucket n) (pos 0) +ℤ w) ≡ new = ap (λ (j : ℕ). set mid j (get_or mid j (pos 0) +ℤ w)) (sym index) ∙ sym e in
     subst (λ (cells : List ℤ). RowsAdded d w bucket (n + 1) old cells) after (rows_more d w bucket n old mid h in_row (omega arith))
 
 -- the row n, whose number has two spellings
 pub rows_added_next : (d : ℕ) (w : ℤ) (bucket : ℕ → ℕ) (n m : ℕ) (old mid new : List ℤ) → RowsAdded d w bucket n old mid → m ≡ n + 1
     → (k : ℕ) → bucket n < d → k ≡ n * d + bucket n → k < length mid → new ≡ set mid k (get_or mid k (pos 0) +ℤ w)
     → RowsAdded d w bucket m old new
-rows_added_next d w bucket n m old mid new h next k in_row place fits e =
-    subst (λ (l : ℕ). RowsAdded d w bucket l old new) (sym next) (rows_added_here d w bucket n old mid new h k in_row place fits e)
+rows_added_next d w bucket n m old mid new h next k in_row index fits e =
+    subst (λ (l : ℕ). RowsAdded d w bucket l old new) (sym next) (rows_added_here d w bucket n old mid new h k in_row index fits e)
 
 -- ---- the least cell
 
@@ -89,7 +89,7 @@ lesser num a b Less h = record { first = omega (arith, ints); second = omega (ar
 lesser num a b Equal h = record { first = omega (arith, ints); second = omega (arith, ints); either = inl refl }
 lesser num a b Greater h = record { first = omega (arith, ints); second = omega (arith, ints); either = inl refl }
 
--- the lesser of a value and of the cell at a place
+-- the lesser of a value and of the cell at a index
 pub lesser_here : {T : Type 0} (num : T → ℤ) (cmp : T → T → Ordering) (a b c : T) (x y : ℤ)
     → ((x y : T) → MatchOrdering (cmp x y) (num x <ℤ num y) (num x ≡ num y) (num y <ℤ num x)) → num a ≡ x → num b ≡ y → c ≡ cond (is_lt (cmp b a)) b a → IsLesser x y (num c)
 lesser_here num cmp a b c x y ordered ex ey chosen =
@@ -98,16 +98,16 @@ lesser_here num cmp a b c x y ordered ex ey chosen =
     (subst (λ (c : _). IsLesser (num a) (num b) (num c)) (sym chosen) (lesser num a b (cmp b a) (ordered b a))))
 
 pub least_first : {T : Type 0} (num : T → ℤ) (d : ℕ) (bucket : ℕ → ℕ) (xs : List T) (k : ℕ) (x : T) → k ≡ bucket 0 → k < length xs → x ≡ get_or xs k x
-    → IsLeastOf d (map num xs) bucket 1 (num x)
-least_first num d bucket xs k x place fits e =
-    let here : flat_at d (map num xs) 0 (bucket 0) ≡ num x = ap (λ (j : ℕ). get_or (map num xs) j (pos 0)) (omega (arith, place)) ∙ read_cell num xs k x fits e in
+    → IsMinOf d (map num xs) bucket 1 (num x)
+least_first num d bucket xs k x index fits e =
+    let here : flat_at d (map num xs) 0 (bucket 0) ≡ num x = ap (λ (j : ℕ). get_or (map num xs) j (pos 0)) (omega (arith, index)) ∙ read_cell num xs k x fits e in
     record {
       below = λ r lt. let at_zero : 0 ≡ r = omega arith in subst (λ (r : ℕ). num x ≤ℤ flat_at d (map num xs) r (bucket r)) at_zero (omega (arith, ints, here));
       reached = (0, omega arith, sym here);
     }
 
 -- with the cell of one row more
-pub least_lesser : (d : ℕ) (cells : List ℤ) (bucket : ℕ → ℕ) (n : ℕ) (x z : ℤ) → IsLeastOf d cells bucket n x → IsLesser x (flat_at d cells n (bucket n)) z → IsLeastOf d cells bucket (n + 1) z
+pub least_lesser : (d : ℕ) (cells : List ℤ) (bucket : ℕ → ℕ) (n : ℕ) (x z : ℤ) → IsMinOf d cells bucket n x → IsLesser x (flat_at d cells n (bucket n)) z → IsMinOf d cells bucket (n + 1) z
 least_lesser d cells bucket n x z h l = record {
   below = below_more (λ (r : ℕ). z ≤ℤ flat_at d cells r (bucket r)) n (λ r lt. let prior = h.below r lt in omega (arith, ints, l.first, prior)) l.second;
   reached = ⊎_elim (λ (same : z ≡ x). let there = h.reached in (there.0, omega (arith, there.1), same ∙ there.2)) (λ (same : z ≡ flat_at d cells n (bucket n)). (n, omega arith, same)) l.either;
@@ -115,12 +115,12 @@ least_lesser d cells bucket n x z h l = record {
 
 pub least_more : {T : Type 0} (num : T → ℤ) (cmp : T → T → Ordering) (d : ℕ) (bucket : ℕ → ℕ) (n : ℕ) (xs : List T) (a : T)
     → ((x y : T) → MatchOrdering (cmp x y) (num x <ℤ num y) (num x ≡ num y) (num y <ℤ num x))
-    → IsLeastOf d (map num xs) bucket n (num a)
+    → IsMinOf d (map num xs) bucket n (num a)
     → (k : ℕ) (b c : T) → k ≡ n * d + bucket n → k < length xs → b ≡ get_or xs k b → c ≡ cond (is_lt (cmp b a)) b a
-    → IsLeastOf d (map num xs) bucket (n + 1) (num c)
-least_more num cmp d bucket n xs a ordered h k b c place fits e chosen =
+    → IsMinOf d (map num xs) bucket (n + 1) (num c)
+least_more num cmp d bucket n xs a ordered h k b c index fits e chosen =
     let l : IsLesser (num a) (num b) (num c) = subst (λ (c : _). IsLesser (num a) (num b) (num c)) (sym chosen) (lesser num a b (cmp b a) (ordered b a)) in
-    let here : flat_at d (map num xs) n (bucket n) ≡ num b = ap (λ (j : ℕ). get_or (map num xs) j (pos 0)) (sym place) ∙ read_cell num xs k b fits e in
+    let here : flat_at d (map num xs) n (bucket n) ≡ num b = ap (λ (j : ℕ). get_or (map num xs) j (pos 0)) (sym index) ∙ read_cell num xs k b fits e in
     least_lesser d (map num xs) bucket n (num a) (num c) h (subst (λ (z : ℤ). IsLesser (num a) z (num c)) (sym here) l)
 
 -- ---- what a new sketch is made of

@@ -8,9 +8,9 @@ use Rattle.sketch_countmin.specs.Rows.{cell_at, rows_of}
 use Rattle.sketch_countmin.specs.State.{CountState, IsCountState, empty_state}
 use Rattle.sketch_countmin.specs.Table.{IsTable, IsTableShape, state_of}
 
--- what holds of each row and bucket holds of each place
-pub by_place : (P : ℕ → Type 0) (d rows : ℕ) → 0 < d → ((r : ℕ) → r < rows → (b : ℕ) → b < d → P (r * d + b)) → (k : ℕ) → k < rows * d → P k
-by_place P d rows pos_d h k lt = subst P (div-add-mod' k d) (h (k / d) (div_below k d rows pos_d lt) (k % d) (mod_below k d pos_d))
+-- what holds of each row and bucket holds of each index
+pub by_index : (P : ℕ → Type 0) (d rows : ℕ) → 0 < d → ((r : ℕ) → r < rows → (b : ℕ) → b < d → P (r * d + b)) → (k : ℕ) → k < rows * d → P k
+by_index P d rows pos_d h k lt = subst P (div-add-mod' k d) (h (k / d) (div_below k d rows pos_d lt) (k % d) (mod_below k d pos_d))
 
 -- a cell of a row is where it lies in the list
 pub read_rows : (m d : ℕ) (cells : List ℤ) (r b : ℕ) → r < m → b < d → cell_at (rows_of m d cells) r b ≡ get_or cells (r * d + b) (pos 0)
@@ -63,7 +63,7 @@ rows_of-replicate (suc m) d z =
 
 -- lists of one length with the same rows are the same
 pub rows_of-same : (m d : ℕ) (xs ys : List ℤ) → 0 < d → length xs ≡ m * d → length ys ≡ m * d → rows_of m d xs ≡ rows_of m d ys → xs ≡ ys
-rows_of-same m d xs ys p lx ly e = ext_get_or (pos 0) xs ys (lx ∙ sym ly) (λ k lt. by_place (λ (k : ℕ). get_or xs k (pos 0) ≡ get_or ys k (pos 0)) d m p at k (omega (arith, lt, lx)))
+rows_of-same m d xs ys p lx ly e = ext_get_or (pos 0) xs ys (lx ∙ sym ly) (λ k lt. by_index (λ (k : ℕ). get_or xs k (pos 0) ≡ get_or ys k (pos 0)) d m p at k (omega (arith, lt, lx)))
   where
     at : (r : ℕ) → r < m → (b : ℕ) → b < d → get_or xs (r * d + b) (pos 0) ≡ get_or ys (r * d + b) (pos 0)
     at r lr b lb = sym (read_rows m d xs r b lr lb) ∙ (ap (λ (rows : List (List ℤ)). cell_at rows r b) e ∙ read_rows m d ys r b lr lb)
@@ -119,7 +119,7 @@ remade_rows greatest row_seeds d seed t t' old new w i long sum fits grown rest 
     at r lr b lb = omega (arith, grown r lr b lb, i.bounded (r * d + b), total)
 
     within : (k : ℕ) → k < length row_seeds * d → unsigned_abs (get_or new k (pos 0)) ≤ unsigned_abs t'
-    within k lt = by_place (λ (k : ℕ). unsigned_abs (get_or new k (pos 0)) ≤ unsigned_abs t') d (length row_seeds) (omega (arith, i.some_buckets)) at k lt
+    within k lt = by_index (λ (k : ℕ). unsigned_abs (get_or new k (pos 0)) ≤ unsigned_abs t') d (length row_seeds) (omega (arith, i.some_buckets)) at k lt
 
     past : (k : ℕ) → length row_seeds * d ≤ k → unsigned_abs (get_or new k (pos 0)) ≤ unsigned_abs t'
     past k le = rw (rest k le) (omega (arith, i.bounded k, total))

@@ -34,7 +34,7 @@ pub record CellsAdded (n : ℕ) (old other new : List ℤ) : Type 0 where
   pub rest : (k : ℕ) → n ≤ k → cell_in new k ≡ cell_in old k
 
 -- z is the minimum of the cells at the buckets of the first n rows
-pub record IsLeastOf (buckets : ℕ) (cells : List ℤ) (bucket : ℕ → ℕ) (n : ℕ) (z : ℤ) : Type 0 where
+pub record IsMinOf (buckets : ℕ) (cells : List ℤ) (bucket : ℕ → ℕ) (n : ℕ) (z : ℤ) : Type 0 where
   pub below : (r : ℕ) → r < n → z ≤ℤ flat_at buckets cells r (bucket r)
   pub reached : (r : ℕ) × (r < n) × (z ≡ flat_at buckets cells r (bucket r))
 

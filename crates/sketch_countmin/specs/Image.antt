@@ -10,6 +10,7 @@ use Rattle.sketch_base.specs.declared.fault.Fault.{Fault}
 use Rattle.sketch_base.specs.declared.fault.Fault.TheVariants.{InsufficientData, BadFamily, BadVersion, BadPreamble, ZeroSeedHash, SeedHashMismatch, BadNumHashes, BadNumBuckets, TableTooLarge, ValueOutOfRange, NegativeTotal, CellAboveTotal}
 use Rattle.sketch_countmin.specs.History.CountHistory.{Restored}
 use Rattle.sketch_countmin.specs.Rows.{cell_at, rows_of}
+use Rattle.sketch_countmin.specs.Shapes.{grid_bytes}
 use Rattle.sketch_countmin.specs.Stands.{Extends}
 use Rattle.sketch_countmin.specs.State.{CountState, IsCountState, empty_state}
 use Rattle.sketch_countmin.specs.Values.{InRange, bytes_of, number_in}
@@ -35,7 +36,7 @@ num_cells_at image = hashes_at image * buckets_at image
 
 -- the number of eight bytes at an offset
 unfoldable pub number_at : ℤ → List ℕ → ℕ → ℤ
-number_at least image place = number_in least (take 8 (drop place image))
+number_at least image index = number_in least (take 8 (drop index image))
 
 -- the first n numbers of eight bytes
 abbrev pub numbers_in : ℤ → ℕ → List ℕ → List ℤ
@@ -105,16 +106,16 @@ abbrev pub first_fault : ℤ → ℕ → (seed : ℕ) → List ℕ → Option Fa
 first_fault least greatest seed image = or_else (early_fault seed image) (late_fault least greatest image)
 
 -- a reader's own limit, in bytes of the sketch, is checked after the early checks; a value takes `size` bytes
-abbrev pub limit_fault : (size most_bytes : ℕ) → List ℕ → Option Fault
-limit_fault size most_bytes image =
-    if nat_lt most_bytes (num_cells_at image * size + 8 * hashes_at image) then Some TableTooLarge else None
+abbrev pub limit_fault : (size max_bytes : ℕ) → List ℕ → Option Fault
+limit_fault size max_bytes image =
+    if nat_lt max_bytes (grid_bytes size (hashes_at image) (buckets_at image)) then Some TableTooLarge else None
 
-abbrev pub early_fault_within : (size most_bytes seed : ℕ) → List ℕ → Option Fault
-early_fault_within size most_bytes seed image = or_else (early_fault seed image) (limit_fault size most_bytes image)
+abbrev pub early_fault_within : (size max_bytes seed : ℕ) → List ℕ → Option Fault
+early_fault_within size max_bytes seed image = or_else (early_fault seed image) (limit_fault size max_bytes image)
 
-abbrev pub first_fault_within : ℤ → ℕ → (size most_bytes seed : ℕ) → List ℕ → Option Fault
-first_fault_within least greatest size most_bytes seed image =
-    or_else (early_fault_within size most_bytes seed image) (late_fault least greatest image)
+abbrev pub first_fault_within : ℤ → ℕ → (size max_bytes seed : ℕ) → List ℕ → Option Fault
+first_fault_within least greatest size max_bytes seed image =
+    or_else (early_fault_within size max_bytes seed image) (late_fault least greatest image)
 
 -- ---- the value of an image
 

@@ -81,13 +81,13 @@ abbrev pub item_cell : CountState → List ℕ → ℕ → ℤ
 item_cell s bytes r = cell_at s.rows r (bucket_of s.buckets s.seed r bytes)
 
 -- z is the minimum of the first n numbers
-pub record IsLeast (n : ℕ) (f : ℕ → ℤ) (z : ℤ) : Type 0 where
+pub record IsMin (n : ℕ) (f : ℕ → ℤ) (z : ℤ) : Type 0 where
   pub below : (r : ℕ) → r < n → z ≤ℤ f r
   pub reached : (r : ℕ) × (r < n) × (z ≡ f r)
 
 -- z is the minimum of the cells of a byte list, one in each row
-abbrev pub IsLeastCell : CountState → List ℕ → ℤ → Type 0
-IsLeastCell s bytes z = IsLeast s.hashes (item_cell s bytes) z
+abbrev pub IsMinCell : CountState → List ℕ → ℤ → Type 0
+IsMinCell s bytes z = IsMin s.hashes (item_cell s bytes) z
 
 -- the upper bound minus the estimate: the total times e over the number of buckets, rounded down; e is given as a
 -- fraction of whole numbers

@@ -2,13 +2,13 @@
 ghost use Rattle.std.specs.Prelude.{◌≡◌, ℕ, ◌+◌, ◌*◌, ◌<◌, ◌≤◌, [], map, length, slice_index, slice_index_or, slice_set, pos, ◌+ℤ◌, unsigned_abs, replicate, vec_len, IfOk, IsTrue, ◌↔◌};
 ghost use Rattle.sketch_base.specs.Hashes.{fed_bytes};
 ghost use Rattle.sketch_countmin.specs.Values.{scaled, halved};
-ghost use Rattle.sketch_countmin.specs.Cells.{cell_in, flat_at, RowCounted, RowsCounted, IsLeastOf, IsLesser};
+ghost use Rattle.sketch_countmin.specs.Cells.{cell_in, flat_at, RowCounted, RowsCounted, IsMinOf, IsLesser};
 ghost use Rattle.sketch_countmin.specs.Buckets.{row_seed, bucket_by, buckets_by};
 
 use crate::count_min_value::CountMinValue;
 use crate::fraction::Fraction;
 use crate::unsigned_count_min_value::UnsignedCountMinValue;
-use sketch_base::{Divisor, SeedlessItem, murmur3_of, murmur3_of_u64};
+use sketch_base::{Divisor, RehashableItem, murmur3_of, murmur3_of_u64};
 use std::alloc::{AllocError, Global};
 use std::hash::Hash;
 
@@ -35,16 +35,16 @@ pub fn zeros<T: CountMinValue>(alloc: Global, size: usize) -> Result<Vec<T>, All
     Ok(counts)
 }
 
-/// Adds the weight to the cell at the index `place`.
+/// Adds the weight to the cell at `index`.
 #[inline(always)]
-pub(crate) fn add_at<T: CountMinValue>(counts: &mut [T], place: usize, weight: T)
-    requires bounds { place < length counts.old }
-    requires room { unsigned_abs (cell_in (map T.number counts.old) place +ℤ T.number weight) ≤ T.greatest }
+pub(crate) fn add_at<T: CountMinValue>(counts: &mut [T], index: usize, weight: T)
+    requires bounds { index < length counts.old }
+    requires room { unsigned_abs (cell_in (map T.number counts.old) index +ℤ T.number weight) ≤ T.greatest }
     ensures { let cells = map T.number counts.old in
-        map T.number counts.new ≡ slice_set cells place (cell_in cells place +ℤ T.number weight) }
+        map T.number counts.new ≡ slice_set cells index (cell_in cells index +ℤ T.number weight) }
 {
-    let sum = counts[place].to_number() + weight.to_number();
-    counts[place] = T::from_number_in_range(sum);
+    let sum = counts[index].to_number() + weight.to_number();
+    counts[index] = T::from_number_in_range(sum);
 }
 
 /// Adds 1 at each item's bucket of each row.
@@ -85,8 +85,8 @@ fn count_in_row<T: CountMinValue, I: Hash>(
 {
     let start = row * buckets.divisor() as usize;
     for item in items {
-        let place = start + buckets.rem(murmur3_of(item, seed).0) as usize;
-        add_at(counts, place, T::ONE);
+        let index = start + buckets.rem(murmur3_of(item, seed).0) as usize;
+        add_at(counts, index, T::ONE);
     }
 }
 
@@ -98,8 +98,8 @@ pub fn add_all<T: CountMinValue>(counts: &mut [T], other: &[T])
     ensures { (k : ℕ) → cell_in (map T.number counts.new) k
         ≡ cell_in (map T.number counts.old) k +ℤ cell_in (map T.number other.now) k }
 {
-    for place in 0..other.len() {
-        add_at(counts, place, other[place]);
+    for index in 0..other.len() {
+        add_at(counts, index, other[index]);
     }
 }
 
@@ -142,7 +142,7 @@ fn scale_by<T: UnsignedCountMinValue>(value: T, fraction: &Fraction) -> T
 ///
 /// It goes row by row, so that the cells of one row stay in a cache for all items.
 #[inline]
-pub fn least_cells<T: CountMinValue, I: Hash>(
+pub fn min_cells<T: CountMinValue, I: Hash>(
     counts: &[T],
     buckets: Divisor,
     row_seeds: &[u64],
@@ -152,7 +152,7 @@ pub fn least_cells<T: CountMinValue, I: Hash>(
     requires shape { length counts.now ≡ length row_seeds.now * buckets }
     requires rows { 0 < length row_seeds.now }
     requires same { length least.old ≡ length items.now }
-    ensures { (i : ℕ) → i < length items.now → IsLeastOf buckets (map T.number counts.now)
+    ensures { (i : ℕ) → i < length items.now → IsMinOf buckets (map T.number counts.now)
         (buckets_by buckets row_seeds.now (slice_index_or (map (fed_bytes I.hash_input) items.now) i []))
         (length row_seeds.now) (slice_index_or (map T.number least.new) i (pos 0)) }
 {
@@ -203,8 +203,8 @@ fn lesser_cells<T: CountMinValue, I: Hash>(
 {
     let start = row * buckets.divisor() as usize;
     for (i, item) in items.iter().enumerate() {
-        let place = start + buckets.rem(murmur3_of(item, seed).0) as usize;
-        let cell = counts[place];
+        let index = start + buckets.rem(murmur3_of(item, seed).0) as usize;
+        let cell = counts[index];
         least[i] = least[i].min(cell);
     }
 }
@@ -216,8 +216,8 @@ pub fn same_cells<T: CountMinValue>(first: &[T], second: &[T]) -> bool
     if first.len() != second.len() {
         return false;
     }
-    for place in 0..first.len() {
-        if first[place].to_number() != second[place].to_number() {
+    for index in 0..first.len() {
+        if first[index].to_number() != second[index].to_number() {
             return false;
         }
     }

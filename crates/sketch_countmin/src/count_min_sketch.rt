@@ -7,16 +7,16 @@ ghost use Rattle.sketch_countmin.specs.History.CountHistory.{New, Update, Merge,
 ghost use Rattle.sketch_countmin.specs.Rows.{cell_at};
 ghost use Rattle.sketch_countmin.specs.Shapes.{shape_fault};
 ghost use Rattle.sketch_countmin.specs.Stands.{StandsFor, Extends, ExtendsBoth};
-ghost use Rattle.sketch_countmin.specs.State.{IsCountState, SameShape, Counts, CountsAll, Joins, IsLeast, IsLeastCell, empty_state, halved_state, decayed_state, upper_bound_of};
+ghost use Rattle.sketch_countmin.specs.State.{IsCountState, SameShape, Counts, CountsAll, Joins, IsMin, IsMinCell, empty_state, halved_state, decayed_state, upper_bound_of};
 
 mod images;
 
 use crate::cells::{
-    add_all, count_in_rows, halve_all, least_cells, row_seeds, same_cells, scale_all, zeros,
+    add_all, count_in_rows, halve_all, min_cells, row_seeds, same_cells, scale_all, zeros,
 };
 use crate::count_min_value::CountMinValue;
 use crate::limits::{MAX_TABLE_ENTRIES, MIN_NUM_BUCKETS};
-use crate::rows::{add_to_rows, least_cell};
+use crate::rows::{add_to_rows, min_cell};
 use crate::unsigned_count_min_value::UnsignedCountMinValue;
 use sketch_base::{DEFAULT_UPDATE_SEED, Divisor, Error, ErrorKind, Fault, compute_seed_hash};
 use std::alloc::{AllocError, Global};
@@ -328,7 +328,7 @@ impl<T: CountMinValue> CountMinSketch<T> {
     /// large excess is, is not proved: see [`suggest_num_hashes`](crate::suggest_num_hashes).
     #[inline(always)]
     pub fn estimate<I: Hash + Drop>(&self, item: I) -> T
-        ensures least { IsLeastCell self.now (fed_bytes I.hash_input item) (T.number result) }
+        ensures least { IsMinCell self.now (fed_bytes I.hash_input item) (T.number result) }
 
         // If no weight is negative, the item's own share is at most the estimate, and this is at most the total.
         ensures encloses { (h : CountHistory) → StandsFor self.now h → IsNonnegative h
@@ -339,10 +339,10 @@ impl<T: CountMinValue> CountMinSketch<T> {
         // other items' share of the bucket.
         ensures raised { (h : CountHistory) → StandsFor self.now h → IsExact h
             → let bytes = fed_bytes I.hash_input item in
-            IsLeast self.now.hashes (others_share self.now.buckets self.now.seed h bytes)
+            IsMin self.now.hashes (others_share self.now.buckets self.now.seed h bytes)
             (T.number result -ℤ own_value h bytes) }
     {
-        least_cell(&self.counts, self.buckets, &self.row_seeds, &item)
+        min_cell(&self.counts, self.buckets, &self.row_seeds, &item)
     }
 
     /// Writes the estimate of each item to `estimates`, as [`estimate`](Self::estimate) returns it. Does not allocate.
@@ -364,11 +364,11 @@ impl<T: CountMinValue> CountMinSketch<T> {
     pub fn estimate_all<I: Hash>(&self, items: &[I], estimates: &mut [T])
         requires same_length { length items.now ≡ length estimates.old }
         ensures length { length estimates.new ≡ length items.now }
-        ensures least { (i : ℕ) → i < length items.now → IsLeastCell self.now
+        ensures least { (i : ℕ) → i < length items.now → IsMinCell self.now
             (slice_index_or (map (fed_bytes I.hash_input) items.now) i [])
             (slice_index_or (map T.number estimates.new) i (pos 0)) }
     {
-        least_cells(
+        min_cells(
             &self.counts,
             self.buckets,
             &self.row_seeds,
@@ -380,7 +380,7 @@ impl<T: CountMinValue> CountMinSketch<T> {
     /// Returns the estimate. It is no lower bound of the item's true weight: collisions can raise it above that.
     #[inline]
     pub fn lower_bound<I: Hash + Drop>(&self, item: I) -> T
-        ensures { IsLeastCell self.now (fed_bytes I.hash_input item) (T.number result) }
+        ensures { IsMinCell self.now (fed_bytes I.hash_input item) (T.number result) }
     {
         self.estimate(item)
     }
@@ -390,7 +390,7 @@ impl<T: CountMinValue> CountMinSketch<T> {
     /// The margin is `total * 2718281828459045235 / (10^18 * buckets)`, rounded down. It is e times the mean weight of
     /// a bucket, the error bound of Cormode & Muthukrishnan 2005.
     pub fn upper_bound<I: Hash + Drop>(&self, item: I) -> T
-        ensures { (estimate : ℤ) → IsLeastCell self.now (fed_bytes I.hash_input item) estimate
+        ensures { (estimate : ℤ) → IsMinCell self.now (fed_bytes I.hash_input item) estimate
             → T.number result ≡ upper_bound_of T.greatest self.now estimate }
     {
         let scale = E_DENOMINATOR * self.buckets.divisor() as u128;

@@ -88,19 +88,19 @@ fn fault_of(image: &[u8], seed: u64) -> Option<Fault>
     None
 }
 
-/// Reads the value of eight bytes at the offset `place`, and checks its range.
+/// Reads the value of eight bytes from `offset` on, and checks its range.
 #[tactic(auto, unfolding(crate::specs::Image::number_at))]
 #[inline(always)]
-fn read_value<T: CountMinValue>(image: &[u8], place: usize) -> Result<T, Error>
-    requires { place + 8 ≤ length image.now }
+fn read_value<T: CountMinValue>(image: &[u8], offset: usize) -> Result<T, Error>
+    requires { offset + 8 ≤ length image.now }
     ensures { MatchResult result
-        (λ v. (T.number v ≡ number_at T.least image.now place)
-        × InRange T.least T.greatest (number_at T.least image.now place))
+        (λ v. (T.number v ≡ number_at T.least image.now offset)
+        × InRange T.least T.greatest (number_at T.least image.now offset))
         (λ e. (e ≡ invalid_data Fault.ValueOutOfRange)
-        × ¬ InRange T.least T.greatest (number_at T.least image.now place)) }
+        × ¬ InRange T.least T.greatest (number_at T.least image.now offset)) }
 {
     let mut bytes = [0; 8];
-    bytes.copy_from_slice(&image[place..place + 8]);
+    bytes.copy_from_slice(&image[offset..offset + 8]);
     T::try_from_bytes(bytes)
 }
 
@@ -123,15 +123,15 @@ pub fn read_total<T: CountMinValue>(image: &[u8]) -> Result<T, Error>
 
 /// Reads a cell, and checks that it is in range and no further from zero than the total.
 #[inline(always)]
-fn read_cell<T: CountMinValue>(image: &[u8], place: usize, total: u64) -> Result<T, Error>
-    requires { place + 8 ≤ length image.now }
-    ensures value { IfOk result (λ v. T.number v ≡ number_at T.least image.now place) }
+fn read_cell<T: CountMinValue>(image: &[u8], offset: usize, total: u64) -> Result<T, Error>
+    requires { offset + 8 ≤ length image.now }
+    ensures value { IfOk result (λ v. T.number v ≡ number_at T.least image.now offset) }
     ensures checks { OnOk result
-        (first_failing (cell_checks T.least T.greatest total (number_at T.least image.now place)) ≡ None) }
+        (first_failing (cell_checks T.least T.greatest total (number_at T.least image.now offset)) ≡ None) }
     ensures err { IfErr result (λ e. (e ≡ invalid_data e.fault)
-        × (first_failing (cell_checks T.least T.greatest total (number_at T.least image.now place)) ≡ Some e.fault)) }
+        × (first_failing (cell_checks T.least T.greatest total (number_at T.least image.now offset)) ≡ Some e.fault)) }
 {
-    let value = read_value::<T>(image, place)?;
+    let value = read_value::<T>(image, offset)?;
     if value.to_number().unsigned_abs() as u64 > total {
         return Err(Error::invalid_data(Fault::CellAboveTotal));
     }

@@ -6,7 +6,7 @@ ghost use Rattle.sketch_countmin.specs.Laws.{SpelledIsImage, ImageIsOfOne, Image
 ghost use Rattle.sketch_countmin.specs.Rows.{cell_at};
 ghost use Rattle.sketch_countmin.specs.Sizes.{IsETimesWithin};
 ghost use Rattle.sketch_countmin.specs.Stands.{StandsFor};
-ghost use Rattle.sketch_countmin.specs.State.{CountState, margin, IsCountState, SameShape, Joins, IsLeast, IsLeastCell};
+ghost use Rattle.sketch_countmin.specs.State.{CountState, margin, IsCountState, SameShape, Joins, IsMin, IsMinCell};
 
 use crate::count_min_sketch::CountMinSketch;
 use crate::count_min_value::CountMinValue;
@@ -49,13 +49,13 @@ pub fn merge_as_one_stream<T: CountMinValue>(
 /// - If nothing was halved or decayed, it exceeds the own share by the minimum, over the rows, of the other items'
 ///   share of the bucket.
 /// - If the total is 0, every cell is 0.
-pub fn what_the_least_cell_says()
+pub fn min_cell_bounds()
     ensures encloses { (s : CountState) (h : CountHistory) (bytes : List ℕ) (least : ℤ)
-        → 0 < s.buckets → StandsFor s h → IsNonnegative h → IsLeastCell s bytes least
+        → 0 < s.buckets → StandsFor s h → IsNonnegative h → IsMinCell s bytes least
         → (own_value h bytes ≤ℤ least) × (least ≤ℤ pos s.total) }
     ensures raised { (s : CountState) (h : CountHistory) (bytes : List ℕ) (least : ℤ)
-        → 0 < s.buckets → StandsFor s h → IsExact h → IsLeastCell s bytes least
-        → IsLeast s.hashes (others_share s.buckets s.seed h bytes) (least -ℤ own_value h bytes) }
+        → 0 < s.buckets → StandsFor s h → IsExact h → IsMinCell s bytes least
+        → IsMin s.hashes (others_share s.buckets s.seed h bytes) (least -ℤ own_value h bytes) }
     ensures empty { (greatest : ℕ) (s : CountState) → IsCountState greatest s → s.total ≡ 0
         → (r b : ℕ) → cell_at s.rows r b ≡ pos 0 }
 {}
@@ -65,7 +65,7 @@ pub fn what_the_least_cell_says()
 /// If e times n is at most the number of buckets, it is above by at most the total over n. This is so for the buckets
 /// that [`suggest_num_buckets`](crate::suggest_num_buckets) returns for n, or more. How many weights exceed the upper
 /// bound is not proved.
-pub fn what_enough_buckets_say()
+pub fn margin_bound()
     ensures { (s : CountState) (n : ℕ) → IsETimesWithin n s.buckets → n * margin s ≤ s.total }
 {}
 
@@ -73,7 +73,7 @@ pub fn what_enough_buckets_say()
 ///
 /// What is written for a sketch is an image of it. No bytes are an image of two sketches under one seed. Bytes are an
 /// image of some sketch exactly if no check fails, and that sketch is within the limits.
-pub fn what_images_say<T: CountMinValue>()
+pub fn image_laws<T: CountMinValue>()
     ensures spelled { SpelledIsImage T.least T.greatest }
     ensures one { ImageIsOfOne T.least T.greatest }
     ensures some { ImageIsOfSome T.least T.greatest }

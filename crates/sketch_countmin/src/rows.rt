@@ -6,12 +6,12 @@
 ghost use Rattle.std.specs.Prelude.{◌≡◌, ℕ, ◌+◌, ◌*◌, ◌/◌, ◌%◌, ◌^◌, ◌<◌, ◌≤◌, map, length, ℤ, ◌+ℤ◌, unsigned_abs, IsTrue};
 ghost use Rattle.std.specs.Int.{is_power_of_two};
 ghost use Rattle.sketch_base.specs.Hashes.{fed_bytes};
-ghost use Rattle.sketch_countmin.specs.Cells.{cell_in, RowsAdded, IsLeastOf};
+ghost use Rattle.sketch_countmin.specs.Cells.{cell_in, RowsAdded, IsMinOf};
 ghost use Rattle.sketch_countmin.specs.Buckets.{buckets_by};
 
 use crate::cells::add_at;
 use crate::count_min_value::CountMinValue;
-use sketch_base::{Divisor, SeedlessItem, ShortBytes, murmur3_of};
+use sketch_base::{Divisor, RehashableItem, ShortBytes, murmur3_of};
 use std::hash::Hash;
 
 /// Adds the weight at the item's bucket of each row.
@@ -29,7 +29,7 @@ pub fn add_to_rows<T: CountMinValue, I: Hash>(
         (buckets_by buckets row_seeds.now (fed_bytes I.hash_input item.now))
         (length row_seeds.now) (map T.number counts.old) (map T.number counts.new) }
 {
-    let hashed = SeedlessItem::new(item);
+    let hashed = RehashableItem::new(item);
     match hashed.short() {
         Some(bytes) if !buckets.is_power_of_two() => {
             add_to_each(counts, buckets, false, row_seeds, bytes, weight)
@@ -59,8 +59,8 @@ fn add_long<T: CountMinValue, I: Hash>(
 {
     let columns = buckets.divisor() as usize;
     for (row, seed) in row_seeds.iter().enumerate() {
-        let place = row * columns + buckets.rem(murmur3_of(item, *seed).0) as usize;
-        add_at(counts, place, weight);
+        let index = row * columns + buckets.rem(murmur3_of(item, *seed).0) as usize;
+        add_at(counts, index, weight);
     }
 }
 
@@ -81,10 +81,10 @@ fn add_to_four<T: CountMinValue>(
     ensures { RowsAdded buckets (T.number weight) (buckets_by buckets row_seeds.now bytes.now)
         (length row_seeds.now) (map T.number counts.old) (map T.number counts.new) }
 {
-    let first = place_in(buckets, true, row_seeds, bytes, 0);
-    let second = place_in(buckets, true, row_seeds, bytes, 1);
-    let third = place_in(buckets, true, row_seeds, bytes, 2);
-    let fourth = place_in(buckets, true, row_seeds, bytes, 3);
+    let first = index_in(buckets, true, row_seeds, bytes, 0);
+    let second = index_in(buckets, true, row_seeds, bytes, 1);
+    let third = index_in(buckets, true, row_seeds, bytes, 2);
+    let fourth = index_in(buckets, true, row_seeds, bytes, 3);
     add_at(counts, first, weight);
     add_at(counts, second, weight);
     add_at(counts, third, weight);
@@ -109,8 +109,8 @@ fn add_to_each<T: CountMinValue>(
         (length row_seeds.now) (map T.number counts.old) (map T.number counts.new) }
 {
     for row in 0..row_seeds.len() {
-        let place = place_in(buckets, masked, row_seeds, bytes, row);
-        add_at(counts, place, weight);
+        let index = index_in(buckets, masked, row_seeds, bytes, row);
+        add_at(counts, index, weight);
     }
 }
 
@@ -124,13 +124,13 @@ fn bucket_in(buckets: Divisor, masked: bool, hash: u64) -> u64
     if masked {
         buckets.rem_by_mask(hash)
     } else {
-        buckets.rem_by_products(hash)
+        buckets.rem_by_reciprocal(hash)
     }
 }
 
 /// Returns the index of the cell of few bytes in a row. `masked` requires a power of two of buckets.
 #[inline(always)]
-fn place_in(
+fn index_in(
     buckets: Divisor,
     masked: bool,
     row_seeds: &[u64],
@@ -141,7 +141,7 @@ fn place_in(
     requires short { length bytes.now < 16 }
     requires row { row < length row_seeds.now }
     requires fits { length row_seeds.now * buckets < 2 ^ 64 }
-    ensures place { result ≡ row * buckets + buckets_by buckets row_seeds.now bytes.now row }
+    ensures index { result ≡ row * buckets + buckets_by buckets row_seeds.now bytes.now row }
     ensures bucket { buckets_by buckets row_seeds.now bytes.now row < buckets }
     ensures inside { result < length row_seeds.now * buckets }
 {
@@ -151,7 +151,7 @@ fn place_in(
 
 /// Returns the minimum of the item's cells.
 #[inline(always)]
-pub fn least_cell<T: CountMinValue, I: Hash>(
+pub fn min_cell<T: CountMinValue, I: Hash>(
     counts: &[T],
     buckets: Divisor,
     row_seeds: &[u64],
@@ -159,24 +159,24 @@ pub fn least_cell<T: CountMinValue, I: Hash>(
 ) -> T
     requires shape { length counts.now ≡ length row_seeds.now * buckets }
     requires rows { 0 < length row_seeds.now }
-    ensures { IsLeastOf buckets (map T.number counts.now)
+    ensures { IsMinOf buckets (map T.number counts.now)
         (buckets_by buckets row_seeds.now (fed_bytes I.hash_input item.now))
         (length row_seeds.now) (T.number result) }
 {
-    let hashed = SeedlessItem::new(item);
+    let hashed = RehashableItem::new(item);
     match hashed.short() {
         Some(bytes) if !buckets.is_power_of_two() => {
-            least_of_each(counts, buckets, false, row_seeds, bytes)
+            min_of_each(counts, buckets, false, row_seeds, bytes)
         }
-        Some(bytes) if row_seeds.len() == 4 => least_of_four(counts, buckets, row_seeds, bytes),
-        Some(bytes) => least_of_each(counts, buckets, true, row_seeds, bytes),
-        None => least_long(counts, buckets, row_seeds, item),
+        Some(bytes) if row_seeds.len() == 4 => min_of_four(counts, buckets, row_seeds, bytes),
+        Some(bytes) => min_of_each(counts, buckets, true, row_seeds, bytes),
+        None => min_long(counts, buckets, row_seeds, item),
     }
 }
 
-/// Does the same as `least_cell` for an item of many bytes, which is fed again for each row.
+/// Does the same as `min_cell` for an item of many bytes, which is fed again for each row.
 #[inline(never)]
-fn least_long<T: CountMinValue, I: Hash>(
+fn min_long<T: CountMinValue, I: Hash>(
     counts: &[T],
     buckets: Divisor,
     row_seeds: &[u64],
@@ -184,7 +184,7 @@ fn least_long<T: CountMinValue, I: Hash>(
 ) -> T
     requires shape { length counts.now ≡ length row_seeds.now * buckets }
     requires rows { 0 < length row_seeds.now }
-    ensures { IsLeastOf buckets (map T.number counts.now)
+    ensures { IsMinOf buckets (map T.number counts.now)
         (buckets_by buckets row_seeds.now (fed_bytes I.hash_input item.now))
         (length row_seeds.now) (T.number result) }
 {
@@ -192,16 +192,16 @@ fn least_long<T: CountMinValue, I: Hash>(
     let first = buckets.rem(murmur3_of(item, row_seeds[0]).0) as usize;
     let mut least = counts[first];
     for row in 1..row_seeds.len() {
-        let place = row * columns + buckets.rem(murmur3_of(item, row_seeds[row]).0) as usize;
-        let cell = counts[place];
+        let index = row * columns + buckets.rem(murmur3_of(item, row_seeds[row]).0) as usize;
+        let cell = counts[index];
         least = least.min(cell);
     }
     least
 }
 
-/// Does the same as `least_cell` for few bytes, four rows, and a power of two of buckets.
+/// Does the same as `min_cell` for few bytes, four rows, and a power of two of buckets.
 #[inline(always)]
-fn least_of_four<T: CountMinValue>(
+fn min_of_four<T: CountMinValue>(
     counts: &[T],
     buckets: Divisor,
     row_seeds: &[u64],
@@ -211,22 +211,22 @@ fn least_of_four<T: CountMinValue>(
     requires short { length bytes.now < 16 }
     requires four { length row_seeds.now ≡ 4 }
     requires shape { length counts.now ≡ length row_seeds.now * buckets }
-    ensures { IsLeastOf buckets (map T.number counts.now) (buckets_by buckets row_seeds.now bytes.now)
+    ensures { IsMinOf buckets (map T.number counts.now) (buckets_by buckets row_seeds.now bytes.now)
         (length row_seeds.now) (T.number result) }
 {
-    let first = place_in(buckets, true, row_seeds, bytes, 0);
-    let second = place_in(buckets, true, row_seeds, bytes, 1);
-    let third = place_in(buckets, true, row_seeds, bytes, 2);
-    let fourth = place_in(buckets, true, row_seeds, bytes, 3);
+    let first = index_in(buckets, true, row_seeds, bytes, 0);
+    let second = index_in(buckets, true, row_seeds, bytes, 1);
+    let third = index_in(buckets, true, row_seeds, bytes, 2);
+    let fourth = index_in(buckets, true, row_seeds, bytes, 3);
     let one = counts[first];
     let two = one.min(counts[second]);
     let three = two.min(counts[third]);
     three.min(counts[fourth])
 }
 
-/// Does the same as `least_cell` for few bytes, row by row. `masked` requires a power of two of buckets.
+/// Does the same as `min_cell` for few bytes, row by row. `masked` requires a power of two of buckets.
 #[inline(always)]
-fn least_of_each<T: CountMinValue>(
+fn min_of_each<T: CountMinValue>(
     counts: &[T],
     buckets: Divisor,
     masked: bool,
@@ -237,14 +237,14 @@ fn least_of_each<T: CountMinValue>(
     requires short { length bytes.now < 16 }
     requires rows { 0 < length row_seeds.now }
     requires shape { length counts.now ≡ length row_seeds.now * buckets }
-    ensures { IsLeastOf buckets (map T.number counts.now) (buckets_by buckets row_seeds.now bytes.now)
+    ensures { IsMinOf buckets (map T.number counts.now) (buckets_by buckets row_seeds.now bytes.now)
         (length row_seeds.now) (T.number result) }
 {
-    let first = place_in(buckets, masked, row_seeds, bytes, 0);
+    let first = index_in(buckets, masked, row_seeds, bytes, 0);
     let mut least = counts[first];
     for row in 1..row_seeds.len() {
-        let place = place_in(buckets, masked, row_seeds, bytes, row);
-        let cell = counts[place];
+        let index = index_in(buckets, masked, row_seeds, bytes, row);
+        let cell = counts[index];
         least = least.min(cell);
     }
     least

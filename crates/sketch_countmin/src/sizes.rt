@@ -11,11 +11,11 @@ use crate::limits::{MAX_TABLE_ENTRIES, MIN_NUM_BUCKETS};
 use sketch_base::{Error, Fault};
 
 /// The maximum `parts` for which e times `parts`, rounded up, is below the limit of cells.
-const GREATEST_PARTS: u64 = 395_007_541;
+const MAX_PARTS: u64 = 395_007_541;
 
 /// A fraction just above e: the numerator and the denominator.
 ///
-/// Its products with numbers up to `GREATEST_PARTS`, rounded up, are those of e.
+/// Its products with numbers up to `MAX_PARTS`, rounded up, are those of e.
 const ABOVE_E: (u64, u64) = (438_351_041, 161_260_336);
 
 /// The powers of e from 0 up to 44, rounded down.
@@ -71,7 +71,7 @@ const POWERS_OF_E: [u64; 45] = [
 ///
 /// It is proved that this is the minimum whole number that is at least e times `parts`. It is also proved that an upper
 /// bound is then above its estimate by at most the total over `parts`
-/// ([`what_enough_buckets_say`](crate::laws::what_enough_buckets_say)). How many estimates have a larger error is not
+/// ([`margin_bound`](crate::laws::margin_bound)). How many estimates have a larger error is not
 /// proved: see [`suggest_num_hashes`].
 ///
 /// # Errors
@@ -103,7 +103,7 @@ pub fn suggest_num_buckets(parts: u64) -> Result<u32, Error>
     if parts == 0 {
         return Err(Error::invalid_argument(Fault::BadNumBuckets));
     }
-    if parts > GREATEST_PARTS {
+    if parts > MAX_PARTS {
         return Err(Error::invalid_argument(Fault::TableTooLarge));
     }
     Ok((parts * ABOVE_E.0).div_ceil(ABOVE_E.1) as u32)

@@ -19,7 +19,7 @@ use std::alloc::Global;
 /// What is written is an image, no bytes are an image of two sketches but for their sample sizes, and they are one of
 /// some sketch exactly where no check fails. Whoever wrote the image, the counts and the error of what it says are at
 /// most the total.
-pub fn what_images_say<T: FrequentItemValue>()
+pub fn image_laws<T: FrequentItemValue>()
     ensures spelled { SpelledIsImage T.codec }
     ensures one { ImageIsOfOne T.codec }
     ensures some { ImageIsOfSome T.codec }
@@ -29,7 +29,7 @@ pub fn what_images_say<T: FrequentItemValue>()
 /// What the tail budget says of the error. For a sample size L, the least of all that took part, it is at most 2 / L of
 /// the weight of all items. Where all were made by `new`, that is, for a greatest size M, the least of all that took
 /// part, at most 8 / 3M of it where M is up to 1024, and at most 1 / 512 of it above.
-pub fn what_the_error_costs<T: Eq>()
+pub fn error_bounds<T: Eq>()
     ensures sampled { (s : FrequentState T) (h : FrequentHistory T) → Encloses T.eq s h → KeepsTailBudget T.eq s h
         → least_sample h * s.error ≤ 2 * total_weight h }
     ensures small { (s : FrequentState T) (h : FrequentHistory T) → Encloses T.eq s h → KeepsTailBudget T.eq s h
@@ -42,7 +42,7 @@ pub fn what_the_error_costs<T: Eq>()
 /// items (`budget`). So it is where all sketches that took part were made by `new`, and none has a greatest size below one
 /// whose tail budget is n or more (`usual`), as the size that
 /// [`suggest_max_map_size`](crate::suggest_max_map_size) answers for n.
-pub fn what_a_greatest_size_buys<T: Eq>()
+pub fn map_size_bounds<T: Eq>()
     ensures budget { (s : FrequentState T) (h : FrequentHistory T) (n : ℕ) → Encloses T.eq s h → KeepsTailBudget T.eq s h
         → n ≤ budget_size h → n * s.error ≤ total_weight h }
     ensures usual { (s : FrequentState T) (h : FrequentHistory T) (m n : ℕ) → Encloses T.eq s h → KeepsTailBudget T.eq s h

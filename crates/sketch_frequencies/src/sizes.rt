@@ -66,7 +66,7 @@ pub(crate) fn check_sample_size(max_map_size: usize, sample_size: usize) -> Resu
 /// It is for [`new`](crate::FrequentItemsSketch::new), which chooses the greatest sample size: half of that is at least
 /// `parts` with this greatest size, and with no smaller one. So it is a theorem that `parts` times the error is at most
 /// the weight of all items, in whatever order they come, and whatever sketches by `new` of this size or above are merged
-/// ([`what_a_greatest_size_buys`](crate::laws::what_a_greatest_size_buys)). For 0 parts it is the least size, 8.
+/// ([`map_size_bounds`](crate::laws::map_size_bounds)). For 0 parts it is the least size, 8.
 ///
 /// # Errors
 ///

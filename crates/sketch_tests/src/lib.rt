@@ -1,7 +1,7 @@
-//! The tests of the libraries, beside them, so that each library is proved once and not once more for its tests.
+//! The tests of the libraries, in a crate of their own. So each library is proved once, and not again for its tests.
 //!
-//! They say what no contract can: vectors from outside, worked rows, printed texts, and that calls succeed where there is
-//! memory.
+//! They test what contracts do not state: test vectors from outside, worked examples, printed strings, and that calls
+//! succeed while there is memory.
 #![tactic(auto)]
 
 #[cfg(test)]

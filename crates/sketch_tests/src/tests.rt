@@ -1,4 +1,4 @@
-//! A module for each library, for sessions and runs of theirs, and for sizes by the published formulas.
+//! A module for each library, for sessions and runs of sessions, and for sizes by the published formulas.
 mod base;
 mod bloom;
 mod countmin;
@@ -11,7 +11,7 @@ use std::alloc::Global;
 use std::fmt::Debug;
 use std::test::Fail;
 
-/// What is printed of a value for programmers.
+/// Returns the debug output of a value.
 pub fn text_of<V: Debug>(alloc: Global, value: &V) -> Result<String, Fail> {
     Ok(format!(in alloc; "{value:?}")?)
 }

@@ -1,6 +1,6 @@
-//! Items that are hard to hash, to clone, to write or to tell apart, for tests of the sketches of frequent items.
+//! Items that are hard to hash, to clone, to write or to compare, for tests of the sketches of frequent items.
 //!
-//! An item is a number, which is written and read as such. Its kind, one of the constants, says what is hard.
+//! An item is a number, which is written and read as such. Its kind, one of the constants, selects what is hard.
 #![tactic(auto)]
 
 ghost use Rattle.std.specs.Prelude.{◌≡◌};
@@ -13,22 +13,22 @@ use sketch_frequencies::FrequentItemValue;
 use std::alloc::{AllocError, Global};
 use std::hash::{Hash, Hasher};
 
-/// The number of an item that is not cloned, or not written.
+/// The number of an item that cannot be cloned, or cannot be written.
 pub const MARKED: u64 = 13;
 
-/// How many letters are told apart.
+/// The number of letters that are distinguished.
 pub const NUM_LETTERS: u64 = 32;
 
-/// An item that feeds a hasher nothing, so that all have one home.
+/// An item that feeds a hasher nothing, so that all items have one home.
 pub const FEEDS_NOTHING: u8 = 0;
 
-/// An item that is not cloned where it is marked.
+/// An item that cannot be cloned if it is marked.
 pub const UNCLONABLE: u8 = 1;
 
-/// An item that has no bytes where it is marked.
+/// An item that cannot be written if it is marked.
 pub const UNWRITABLE: u8 = 2;
 
-/// An item that equals others: as letters do up to case, which differ by 32.
+/// An item that equals others, as letters do up to case: their numbers differ by multiples of 32.
 pub const LETTER: u8 = 3;
 
 /// A number, as an item of a kind.
@@ -44,7 +44,7 @@ impl<const KIND: u8> Item<KIND> {
         self.0
     }
 
-    /// What the item is told apart by.
+    /// Returns the number by which items are compared.
     fn told_apart_by(&self) -> u64
         ensures { result ≡ told_apart_by KIND self.now.0 }
     {

@@ -11,7 +11,7 @@ use Rattle.sketch_countmin.specs.Buckets.{bucket_of}
 use Rattle.sketch_countmin.specs.History.{CountHistory, absolute_weight, own_value, IsNonnegative}
 use Rattle.sketch_countmin.specs.History.CountHistory.{New, Update, Halve}
 use Rattle.sketch_countmin.specs.Stands.{StandsFor, Extends}
-use Rattle.sketch_countmin.specs.State.{CountState, IsCountState, SameShape, Counts, IsLeast, IsLeastCell, item_cell, halved_state}
+use Rattle.sketch_countmin.specs.State.{CountState, IsCountState, SameShape, Counts, IsMin, IsMinCell, item_cell, halved_state}
 use Rattle.sketch_countmin.specs.Values.{halved}
 use Rattle.uses.specs.Admissions.{AdmissionState, Aged, aged_by, aged, aged_share, after_use, HasSeen, Touches}
 
@@ -62,7 +62,7 @@ share_below s item n encloses uses seen =
     omega (arith, ints, own, below)
 
 -- nor is it above the total
-pub estimate_bounded : (greatest : ℕ) (s : CountState) (item : List ℕ) (n : ℕ) → IsCountState greatest s → IsLeastCell s item (pos n)
+pub estimate_bounded : (greatest : ℕ) (s : CountState) (item : List ℕ) (n : ℕ) → IsCountState greatest s → IsMinCell s item (pos n)
     → n ≤ s.total
 estimate_bounded greatest s item n state least =
     let r = least.reached in
@@ -132,15 +132,15 @@ seen_more recent counted window used same more room uses seen =
     (subst (λ (g : CountHistory). StandsFor counted g) (sym after) stands)
 
 -- there is one least number
-least_below : (n : ℕ) (f : ℕ → ℤ) (x y : ℤ) → IsLeast n f x → IsLeast n f y → x ≤ℤ y
+least_below : (n : ℕ) (f : ℕ → ℤ) (x y : ℤ) → IsMin n f x → IsMin n f y → x ≤ℤ y
 least_below n f x y p q = subst (λ (z : ℤ). x ≤ℤ z) (sym q.reached.2) (p.below q.reached.0 q.reached.1)
 
-least_same : (n : ℕ) (f : ℕ → ℤ) (x y : ℕ) → IsLeast n f (pos x) → IsLeast n f (pos y) → x ≡ y
+least_same : (n : ℕ) (f : ℕ → ℤ) (x y : ℕ) → IsMin n f (pos x) → IsMin n f (pos y) → x ≡ y
 least_same n f x y p q = omega (arith, ints, least_below n f (pos x) (pos y) p q, least_below n f (pos y) (pos x) q p)
 
 -- so a comparison of two estimates is that of the least cells
-pub admits_so : (s : CountState) (newcomer victim : List ℕ) (a b : ℕ) → IsLeastCell s newcomer (pos a) → IsLeastCell s victim (pos b)
-    → (n v : ℕ) → IsLeastCell s newcomer (pos n) → IsLeastCell s victim (pos v) → IsTrue (nat_lt b a) ↔ (v < n)
+pub admits_so : (s : CountState) (newcomer victim : List ℕ) (a b : ℕ) → IsMinCell s newcomer (pos a) → IsMinCell s victim (pos b)
+    → (n v : ℕ) → IsMinCell s newcomer (pos n) → IsMinCell s victim (pos v) → IsTrue (nat_lt b a) ↔ (v < n)
 admits_so s newcomer victim a b p q n v p' q' =
     let e : a ≡ n = least_same s.hashes (item_cell s newcomer) a n p p' in
     let f : b ≡ v = least_same s.hashes (item_cell s victim) b v q q' in

@@ -1,12 +1,12 @@
-//! Whom a cache admits: a newcomer goes in only where it was used more than the one that would go out.
+//! Cache admission: a new item enters only if it was used more than the item that it would replace.
 //!
-//! The uses of late are counted in a table of a fixed size. After a window of uses all counts are halved, so that what was
-//! used long ago fades. An item that comes by once, as in a scan of a whole table, never pushes out what is in use.
+//! Recent uses are counted in a table of a fixed size. After each window of uses all counts are halved, so old uses
+//! fade. An item that is used once, as in a scan of a whole table, never replaces an item in use.
 ghost use Rattle.std.specs.Prelude.{◌≡◌, ℕ, ◌+◌, ◌*◌, ◌<◌, ◌≤◌, ◌↔◌, None, List, [], ◌∷◌, ◌++◌, pos, IfOk, IfErr, IsOk, IsTrue};
 ghost use Rattle.sketch_base.specs.Errors.{refusal_of};
 ghost use Rattle.sketch_base.specs.Hashes.{fed_bytes};
 ghost use Rattle.sketch_countmin.specs.Shapes.{shape_fault};
-ghost use Rattle.sketch_countmin.specs.State.{SameShape, IsLeastCell, empty_state};
+ghost use Rattle.sketch_countmin.specs.State.{SameShape, IsMinCell, empty_state};
 ghost use Rattle.uses.specs.Admissions.{IsAdmission, HasSeen, Touches, aged_share};
 
 use sketch_base::{DEFAULT_UPDATE_SEED, Error};
@@ -15,7 +15,7 @@ use std::alloc::Global;
 use std::hash::Hash;
 use std::marker::Model;
 
-/// The recent uses of the items of a cache, and of those that would like to be in it.
+/// The recent uses of items in a cache and of candidates for it.
 #[derive(Drop)]
 pub struct Admission {
     recent: CountMinSketch<u32>,
@@ -33,11 +33,14 @@ impl Model for Admission {
 }
 
 impl Admission {
-    /// No uses. They are counted in `num_hashes` rows of `num_buckets` cells, and halved after each `window` of them.
+    /// Creates a count of no uses, with `num_hashes` rows of `num_buckets` cells. Counts are halved after each `window`
+    /// uses.
+    ///
+    /// `window` must be above 0.
     ///
     /// # Errors
     ///
-    /// Those of [`CountMinSketch::new`].
+    /// Returns the errors of [`CountMinSketch::new`].
     pub fn new(alloc: Global, num_hashes: u8, num_buckets: u32, window: u32) -> Result<Self, Error>
         requires { 0 < window }
         ensures ok { IfOk result (λ admission. admission
@@ -50,13 +53,13 @@ impl Admission {
         Ok(Admission { recent, window })
     }
 
-    /// Counts a use of an item, whether it is in the cache or not. It takes no memory, and always succeeds.
+    /// Counts a use of an item, whether it is in the cache or not. Does not allocate, and always succeeds.
     pub fn touch<K: Hash + Drop>(&mut self, item: K)
         ensures step { Touches self.old (fed_bytes K.hash_input item) self.new }
         ensures seen { (uses : List (List ℕ)) → HasSeen self.old uses
             → HasSeen self.new (uses ++ fed_bytes K.hash_input item ∷ []) }
 
-        // The state does not grow: its table stays as it is, and its total is below the window.
+        // The state does not grow: its table keeps its shape, and its total is below the window.
         ensures shape { SameShape self.new.recent self.old.recent }
         ensures bounded { IsAdmission self.new }
     {
@@ -69,27 +72,27 @@ impl Admission {
         }
     }
 
-    /// How often an item was used of late: at least its own aged share, and less than the window.
+    /// Returns an estimate of the item's recent uses: at least its own aged share, and less than the window.
     pub fn estimate<K: Hash + Drop>(&self, item: K) -> u32
-        ensures least { IsLeastCell self.now.recent (fed_bytes K.hash_input item) (pos result) }
+        ensures least { IsMinCell self.now.recent (fed_bytes K.hash_input item) (pos result) }
         ensures own { (uses : List (List ℕ)) → HasSeen self.now uses
             → aged_share self.now.window uses (fed_bytes K.hash_input item) ≤ result }
         ensures bounded { result < self.now.window }
     {
-        // for the prover: what holds of every sketch
+        // for the prover: the invariant of every sketch
         let _ = self.recent.num_hashes();
         self.recent.estimate(item)
     }
 
-    /// Whether a newcomer may push out a victim: exactly where its estimate is above the victim's.
+    /// Returns whether a newcomer may replace a victim: exactly if its estimate is above the victim's.
     pub fn admits<K: Hash + Drop, V: Hash + Drop>(&self, newcomer: K, victim: V) -> bool
-        ensures { (n v : ℕ) → IsLeastCell self.now.recent (fed_bytes K.hash_input newcomer) (pos n)
-            → IsLeastCell self.now.recent (fed_bytes V.hash_input victim) (pos v) → (IsTrue result ↔ (v < n)) }
+        ensures { (n v : ℕ) → IsMinCell self.now.recent (fed_bytes K.hash_input newcomer) (pos n)
+            → IsMinCell self.now.recent (fed_bytes V.hash_input victim) (pos v) → (IsTrue result ↔ (v < n)) }
     {
         self.estimate(newcomer) > self.estimate(victim)
     }
 
-    /// The bytes that the table takes, an estimate by a fixed formula: 4 for each cell, and 8 for each row.
+    /// Returns an estimate of the table's bytes: 4 for each cell and 8 for each row.
     pub fn estimated_size(&self) -> usize
         ensures { result ≡ self.now.recent.hashes * self.now.recent.buckets * 4 + 8 * self.now.recent.hashes }
     {

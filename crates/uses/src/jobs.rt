@@ -1,16 +1,16 @@
-//! The callers as jobs over lines, to try them on data of one's own.
+//! The callers as jobs over lines, to try them on your own data.
 //!
-//! The first argument names the job, and numbers follow. The lines are read from standard input, to its end, and then a report
-//! is printed.
+//! The first argument names the job, and the others are numbers. The program reads all lines of standard input, then
+//! prints a report.
 //!
 //! | job | lines | report |
 //! |---|---|---|
-//! | `group-by SIZE THRESHOLD` | `SHARD WEIGHT GROUP` | the heavy groups of all shards, the heaviest first, each with its bounds and a bar |
+//! | `group-by SIZE THRESHOLD` | `SHARD WEIGHT GROUP` | the heavy groups of all shards, heaviest first, with bounds and a bar |
 //! | `join-prefilter BITS HASHES` | `key PART KEY`, `row KEY VALUE`, all numbers | the rows that may join |
-//! | `takedown BITS HASHES` | `refuse ITEM ..`, `back ITEM ..`, `ask ITEM ..` | `refused` or `free` for each item that is asked for |
-//! | `admission HASHES BUCKETS WINDOW CAPACITY` | `ITEM`, a number | how often it was in a cache, with admission and without |
+//! | `takedown BITS HASHES` | `refuse ITEM ..`, `back ITEM ..`, `ask ITEM ..` | `refused` or `free` for each item of `ask` |
+//! | `admission HASHES BUCKETS WINDOW CAPACITY` | `ITEM`, a number | the number of cache hits, with admission and without |
 //!
-//! The status is 0, or 1 with a message and no report where a job does not take what it was given.
+//! The status is 0. If a job rejects its numbers or lines, the status is 1, with a message and no report.
 mod admission;
 mod group_by;
 mod join_prefilter;
@@ -20,7 +20,7 @@ mod words;
 use anyhow::{Result, bail};
 use std::alloc::Global;
 
-/// Does the job of this name.
+/// Runs the job of this name. Returns an error if there is none, and the job's own errors.
 pub fn run(
     alloc: Global,
     job: &str,

@@ -1,8 +1,8 @@
-//! A filter of one side's keys prunes the other side of a join.
+//! A Bloom filter of one side's keys that prunes the other side of a join.
 //!
-//! The smaller side lies in parts, on several machines. Each part makes a filter of its keys and sends the filter's image;
-//! where the larger side is read, the images are united, and a row of it whose key is in no part is left out before it
-//! is moved any further. A few such rows are kept; a row that joins never goes.
+//! The smaller side lies in parts on several machines. Each part creates a filter of its keys and sends the filter's
+//! image. The reader of the larger side unites the images. It removes rows whose key is in no part before they move
+//! further. A few such rows are kept (false positives). A row that joins is never removed.
 ghost use Rattle.std.specs.Prelude.{◌≡◌, ℕ, None, List, filter, map, IfOk, IfErr, IsOk, OnOk, OnErr};
 ghost use Rattle.sketch_base.specs.Errors.{refusal_of};
 ghost use Rattle.sketch_base.specs.Hashes.{fed_bytes};
@@ -17,11 +17,12 @@ use std::alloc::Global;
 use std::hash::Hash;
 use std::marker::Model;
 
-/// The image of a filter of one part's keys.
+/// Returns the image of a filter of one part's keys.
 ///
 /// # Errors
 ///
-/// Those of [`build`](BloomFilterBuilder::build), and `NoMemory` where there is no memory for the filter or the image.
+/// Returns the errors of [`build`](BloomFilterBuilder::build), and `NoMemory` if the filter or the image cannot be
+/// allocated.
 pub fn image_of_keys<K: Hash>(
     alloc: Global,
     builder: BloomFilterBuilder,
@@ -33,7 +34,7 @@ pub fn image_of_keys<K: Hash>(
     ensures accepted { IsOk result → request_fault builder ≡ None }
     ensures refused { IfErr result (λ e. e ≡ refusal_of (request_fault builder)) }
 {
-    laws::what_is_contained();
+    laws::membership();
     let mut filter = builder.build(alloc)?;
     filter.insert_all(keys);
     filter.serialize()
@@ -57,11 +58,11 @@ impl Model for JoinPrefilter {
 }
 
 impl JoinPrefilter {
-    /// A prefilter into which no part was united: it lets no key pass.
+    /// Creates a prefilter of no parts, which lets no key pass.
     ///
     /// # Errors
     ///
-    /// Those of [`build`](BloomFilterBuilder::build).
+    /// Returns the errors of [`build`](BloomFilterBuilder::build).
     pub fn new(alloc: Global, builder: BloomFilterBuilder) -> Result<Self, Error>
         ensures ok { IfOk result (λ prefilter. prefilter ≡ empty_of builder) }
         ensures accepted { IsOk result → request_fault builder ≡ None }
@@ -75,25 +76,25 @@ impl JoinPrefilter {
     ///
     /// # Errors
     ///
-    /// The first fault of the image, as [`deserialize_with_limit`](BloomFilter::deserialize_with_limit) has it for as
-    /// many bytes as the prefilter has words of; `NoMemory` where there is no memory for it; and `Mismatch` where it is
-    /// one of a filter of another shape or seed. The prefilter is then as it was.
+    /// Returns the first fault of the image by [`deserialize_with_limit`](BloomFilter::deserialize_with_limit), with
+    /// the bytes of the prefilter's words as the limit. Returns `NoMemory` if the image's filter cannot be allocated,
+    /// and `Mismatch` if it has another shape or seed. The prefilter is then unchanged.
     pub fn unite(&mut self, image: &[u8]) -> Result<(), Error>
         ensures ok { OnOk result (self.new ≡ united self.old (value_at image.now)) }
         ensures part { OnOk result (IsPart self.old image.now) }
         ensures refused { IfErr result (IsPartRefusal self.old image.now) }
         ensures err { OnErr result (self.new ≡ self.old) }
     {
-        let most_bytes = self.filter.estimated_size();
-        let part = BloomFilter::deserialize_with_limit(self.alloc, image, most_bytes)?;
+        let max_bytes = self.filter.estimated_size();
+        let part = BloomFilter::deserialize_with_limit(self.alloc, image, max_bytes)?;
         self.filter.union(&part)
     }
 
-    /// The prefilter of all parts: the union of the filters of their images.
+    /// Creates the prefilter of all parts: the union of the filters of their images.
     ///
     /// # Errors
     ///
-    /// Those of `new`, and those of `unite` at the first image that it refuses.
+    /// Returns the errors of `new`, and the error of `unite` for the first image that it rejects.
     pub fn of_images(
         alloc: Global,
         builder: BloomFilterBuilder,
@@ -104,7 +105,7 @@ impl JoinPrefilter {
         ensures accepted { IsOk result → request_fault builder ≡ None }
         ensures refused { IfErr result (λ e. IsPrefilterRefusal builder (map (λ image. image.items) images.now) e) }
     {
-        laws::what_images_say();
+        laws::image_laws();
         let mut prefilter = JoinPrefilter::new(alloc, builder)?;
         for image in images {
             prefilter.unite(image)?;
@@ -112,14 +113,14 @@ impl JoinPrefilter {
         Ok(prefilter)
     }
 
-    /// Whether a row of this key may join. It takes no memory.
+    /// Returns whether a row of this key may join. Does not allocate.
     pub fn may_join<K: Hash>(&self, key: &K) -> bool
         ensures { result ≡ contains_item self.now (fed_bytes K.hash_input key.now) }
     {
         self.filter.contains(key)
     }
 
-    /// Leaves out the rows whose key does not pass, of rows that are a key and what belongs to it. It takes no memory.
+    /// Removes the rows whose key does not pass. A row is a key and its value. Does not allocate.
     pub fn prune<K: Hash + Drop, V: Drop>(&self, rows: &mut Vec<(K, V)>)
         ensures kept { rows.new.items
             ≡ filter (λ row. contains_item self.now (fed_bytes K.hash_input row.0)) rows.old.items }
@@ -131,12 +132,12 @@ impl JoinPrefilter {
     }
 }
 
-/// Leaves out rows that no part has a key for, as the images of the parts' filters say: no row that joins, and each of
-/// the others that a prefilter can tell.
+/// Removes the rows whose key does not pass the prefilter of all parts, given the images of the parts' filters. Removes
+/// no row that joins.
 ///
 /// # Errors
 ///
-/// Those of [`of_images`](JoinPrefilter::of_images). The rows are then as they were.
+/// Returns the errors of [`of_images`](JoinPrefilter::of_images). The rows are then unchanged.
 pub fn prune_by_images<K: Hash + Drop, V: Drop>(
     alloc: Global,
     builder: BloomFilterBuilder,

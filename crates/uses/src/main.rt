@@ -1,5 +1,5 @@
-//! What the sketches are good for: four small callers, each with a promise of its own that is proved from the public
-//! contracts of the sketches alone. The program does each as a job over lines ([`jobs`]).
+//! Four small callers of the sketches, each with its own contract. The contracts are proved from the public contracts
+//! of the sketches alone. The program runs each caller as a job over lines ([`jobs`]).
 #![tactic(auto)]
 
 mod admission;

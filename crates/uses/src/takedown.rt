@@ -1,8 +1,8 @@
-//! A list of what is refused, from which batches can be taken back.
+//! A list of blocked items, from which batches can be removed.
 //!
-//! A service refuses what stands on its list: domains that send spam, files under a claim. A claim is withdrawn, and its
-//! items are taken back in one batch, by the difference with a filter of them. What shares no position with the batch is
-//! refused as before.
+//! A service blocks the items on its list, such as domains that send spam or files under a claim. If a claim is
+//! withdrawn, its items are removed in one batch, by the difference with a filter of them. An item that shares no
+//! position with the batch is blocked as before.
 ghost use Rattle.std.specs.Prelude.{◌≡◌, ℕ, None, List, [], ◌∷◌, ◌++◌, map, true, false, IfOk, IfErr, IsOk, OnOk, OnErr};
 ghost use Rattle.std.specs.List.{list_any};
 ghost use Rattle.std.specs.Str.{bytes_eq};
@@ -20,7 +20,7 @@ use std::alloc::Global;
 use std::hash::Hash;
 use std::marker::Model;
 
-/// What is refused, as a filter.
+/// The blocked items, as a Bloom filter.
 #[derive(Drop)]
 pub struct TakedownList {
     refused: BloomFilter,
@@ -37,11 +37,11 @@ impl Model for TakedownList {
 }
 
 impl TakedownList {
-    /// A list with no entries: nothing is refused.
+    /// Creates a list with no entries, which blocks nothing.
     ///
     /// # Errors
     ///
-    /// Those of [`build`](BloomFilterBuilder::build).
+    /// Returns the errors of [`build`](BloomFilterBuilder::build).
     pub fn new(alloc: Global, builder: BloomFilterBuilder) -> Result<Self, Error>
         ensures ok { IfOk result (λ list. list ≡ empty_of builder) }
         ensures follows { IfOk result (λ list. Follows list []) }
@@ -52,7 +52,7 @@ impl TakedownList {
         Ok(TakedownList { refused })
     }
 
-    /// Refuses an item from now on. It takes no memory.
+    /// Blocks an item from now on. Does not allocate.
     pub fn refuse<T: Hash + Drop>(&mut self, item: T)
         ensures insertion { self.new ≡ inserted self.old (fed_bytes T.hash_input item) }
         ensures follows { (entries : List Entry) → Follows self.old entries
@@ -61,12 +61,13 @@ impl TakedownList {
         self.refused.insert(item);
     }
 
-    /// Takes a batch of items back: none of them is refused any more. An item that is not in the batch is refused as
-    /// before where it shares no position with one that is, and no item is refused that was not.
+    /// Removes a batch of items, none of which is blocked any more. An item outside the batch is blocked as before if
+    /// it shares no position with an item of the batch. No item becomes blocked.
     ///
     /// # Errors
     ///
-    /// `NoMemory` where there is no memory for a filter of the batch, as large as the list. The list is then as it was.
+    /// Returns `NoMemory` if a filter of the batch, as large as the list, cannot be allocated. The list is then
+    /// unchanged.
     pub fn take_back<T: Hash>(&mut self, items: &[T]) -> Result<(), Error>
         ensures ok { OnOk result (self.new ≡ without self.old (map (fed_bytes T.hash_input) items.now)) }
         ensures follows { OnOk result ((entries : List Entry) → Follows self.old entries
@@ -79,7 +80,7 @@ impl TakedownList {
         ensures err { OnErr result (self.new ≡ self.old) }
         ensures memory { IfErr result (λ e. e ≡ no_memory) }
     {
-        laws::what_is_contained();
+        laws::membership();
         laws::difference_takes_and_leaves();
         let mut batch = self.refused.try_clone()?;
         batch.reset();
@@ -87,7 +88,7 @@ impl TakedownList {
         self.refused.difference(&batch)
     }
 
-    /// Whether an item is refused. It takes no memory.
+    /// Returns whether an item is blocked. Does not allocate.
     pub fn is_refused<T: Hash>(&self, item: &T) -> bool
         ensures answer { result ≡ contains_item self.now (fed_bytes T.hash_input item.now) }
         ensures denoted { SaysWhatFollows self.now (fed_bytes T.hash_input item.now) result }

@@ -1,5 +1,5 @@
-//! Words to changes of sketches.
-ghost use Rattle.std.specs.Prelude.{IfOk, codes};
+//! Parses changes of sketches.
+ghost use Rattle.std.specs.Prelude.{◌≢◌, IfOk, codes};
 ghost use Rattle.datasketches_cli.specs.Parsing.{IsChangeOf, texts_of};
 
 use super::number::{number_of, signed_number, two_numbers};
@@ -7,22 +7,23 @@ use super::words::copied;
 use datasketches::Change;
 use std::alloc::{AllocError, Global};
 
-/// The change that some words make, if they make one.
+/// A parsed change, or `None` if the words are not one.
 type ParsedChange = Result<Option<Change<String>>, AllocError>;
 
-/// The change that a verb and the words behind the name make. The item takes recycled memory, if there is some.
+/// Parses the change of a verb other than `add` and `insert` from the words after the name. The item takes recycled memory, if
+/// any. `AllocError` if it cannot be copied.
 pub fn change_of(
     alloc: Global,
     verb: &str,
     words: &[&str],
     recycled: &mut Option<String>,
 ) -> ParsedChange
+    requires not_add { verb.now ≢ codes "add" }
+    requires not_insert { verb.now ≢ codes "insert" }
     ensures { IfOk result (IsChangeOf verb.now (texts_of words.now)) }
 {
     match verb {
-        "add" => add(alloc, words, recycled),
         "adds" => adds(alloc, words, recycled),
-        "insert" => insert(alloc, words, recycled),
         "reset" => Ok(words.is_empty().then_some(Change::Reset)),
         "halve" => Ok(words.is_empty().then_some(Change::Halve)),
         "decay" => Ok(decay(words)),
@@ -30,7 +31,7 @@ pub fn change_of(
     }
 }
 
-/// The same of `add`.
+/// Parses the change of `add`.
 #[inline(always)]
 pub fn add(alloc: Global, words: &[&str], recycled: &mut Option<String>) -> ParsedChange
     ensures { IfOk result (IsChangeOf (codes "add") (texts_of words.now)) }
@@ -58,7 +59,7 @@ fn adds(alloc: Global, words: &[&str], recycled: &mut Option<String>) -> ParsedC
     Ok(Some(Change::AddSigned { item, weight }))
 }
 
-/// The same of `insert`.
+/// Parses the change of `insert`.
 #[inline(always)]
 pub fn insert(alloc: Global, words: &[&str], recycled: &mut Option<String>) -> ParsedChange
     ensures { IfOk result (IsChangeOf (codes "insert") (texts_of words.now)) }

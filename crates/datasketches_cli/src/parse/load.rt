@@ -1,4 +1,4 @@
-//! Words to loads of images.
+//! Parses loads of images.
 ghost use Rattle.std.specs.Prelude.{◌≡◌, [], ◌∷◌, IfOk, OnErr, IsSome, codes, option_map};
 ghost use Rattle.std.specs.Char.{is_ascii_hexdigit};
 ghost use Rattle.std.specs.List.{list_all};
@@ -11,11 +11,11 @@ use datasketches::{Action, ImageKind};
 use hex::FromHexError;
 use std::alloc::{AllocError, Global};
 
-/// What the words behind a name say of an image that is to be loaded.
+/// The arguments of `load` after the name.
 #[derive(Drop)]
 pub struct Loading<'a> {
     kind: ImageKind,
-    most_bytes: usize,
+    max_bytes: usize,
     digits: &'a str,
 }
 
@@ -23,7 +23,7 @@ pub struct Loading<'a> {
 ///
 /// # Errors
 ///
-/// `AllocError` if there is no memory for the name or the image. Words that make no action are never an error.
+/// `AllocError` if the name or the image cannot be allocated. Words that make no action are never an error.
 pub fn load(alloc: Global, name: &str, words: &[&str]) -> ParsedAction
     ensures made { IfOk result (IsActionOf (codes "load" ∷ name.now ∷ texts_of words.now)) }
     ensures memory { OnErr result (AskForBytes (texts_of words.now)) }
@@ -39,24 +39,24 @@ pub fn load(alloc: Global, name: &str, words: &[&str]) -> ParsedAction
         name,
         kind: loading.kind,
         image,
-        most_bytes: loading.most_bytes,
+        max_bytes: loading.max_bytes,
     }))
 }
 
-/// What the words say, if they say it.
+/// Parses the words after the name, by the kind of image.
 fn loading_of<'a>(words: &[&'a str]) -> Option<Loading<'a>>
     ensures { IsLoadingOf (texts_of words.now) result }
 {
     match words {
-        [kind, most_bytes, digits] => unseeded(kind, most_bytes, digits),
-        [kind, most_bytes, seed, digits] => seeded(kind, most_bytes, seed, digits),
+        [kind, max_bytes, digits] => unseeded(kind, max_bytes, digits),
+        [kind, max_bytes, seed, digits] => seeded(kind, max_bytes, seed, digits),
         _ => None,
     }
 }
 
-/// The same of a kind whose images are read without a seed.
-fn unseeded<'a>(kind: &str, most_bytes: &str, digits: &'a str) -> Option<Loading<'a>>
-    ensures { IsLoadingOf (kind.now ∷ most_bytes.now ∷ digits.now ∷ []) result }
+/// Parses the words of a kind whose images are read without a seed.
+fn unseeded<'a>(kind: &str, max_bytes: &str, digits: &'a str) -> Option<Loading<'a>>
+    ensures { IsLoadingOf (kind.now ∷ max_bytes.now ∷ digits.now ∷ []) result }
 {
     let kind = match kind {
         "frequent" => ImageKind::Frequent,
@@ -65,14 +65,14 @@ fn unseeded<'a>(kind: &str, most_bytes: &str, digits: &'a str) -> Option<Loading
     };
     Some(Loading {
         kind,
-        most_bytes: number_of(most_bytes)? as usize,
+        max_bytes: number_of(max_bytes)? as usize,
         digits,
     })
 }
 
-/// The same of a kind whose images are read under a seed.
-fn seeded<'a>(kind: &str, most_bytes: &str, seed: &str, digits: &'a str) -> Option<Loading<'a>>
-    ensures { IsLoadingOf (kind.now ∷ most_bytes.now ∷ seed.now ∷ digits.now ∷ []) result }
+/// Parses the words of a kind whose images are read under a seed.
+fn seeded<'a>(kind: &str, max_bytes: &str, seed: &str, digits: &'a str) -> Option<Loading<'a>>
+    ensures { IsLoadingOf (kind.now ∷ max_bytes.now ∷ seed.now ∷ digits.now ∷ []) result }
 {
     let seed = number_of(seed)?;
     let kind = match kind {
@@ -82,16 +82,16 @@ fn seeded<'a>(kind: &str, most_bytes: &str, seed: &str, digits: &'a str) -> Opti
     };
     Some(Loading {
         kind,
-        most_bytes: number_of(most_bytes)? as usize,
+        max_bytes: number_of(max_bytes)? as usize,
         digits,
     })
 }
 
-/// Returns the bytes that the digits of a word make, or `None` if they make none.
+/// Returns the bytes of a word's hexadecimal digits, or `None` if it is not such digits.
 ///
 /// # Errors
 ///
-/// `AllocError` if there is no memory for the bytes. Bad digits are never an error.
+/// `AllocError` if the bytes cannot be allocated. Bad digits are never an error.
 fn bytes_of(alloc: Global, digits: &str) -> Result<Option<Vec<u8>>, AllocError>
     ensures made { IfOk result (λ found. option_map (λ bytes. bytes.items) found ≡ bytes_of_digits digits.now) }
     ensures memory { OnErr result (IsSome (bytes_of_digits digits.now)) }

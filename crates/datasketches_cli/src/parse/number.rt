@@ -1,9 +1,9 @@
-//! Words to numbers.
+//! Parses numbers.
 ghost use Rattle.std.specs.Prelude.{◌≡◌, ◌^◌, [], ◌∷◌};
 ghost use Rattle.datasketches_cli.specs.Grammar.{number_below, signed_number};
 ghost use Rattle.datasketches_cli.specs.Parsing.{AreTwoNumbers, AreThreeNumbers, texts_of};
 
-/// The number that the digits of a word make, where it is one of 64 bits.
+/// Parses a word of decimal digits as a number of 64 bits.
 pub fn number_of(word: &str) -> Option<u64>
     ensures { result ≡ number_below (2 ^ 64) word.now }
 {
@@ -11,14 +11,14 @@ pub fn number_of(word: &str) -> Option<u64>
     if let [byte] = word.as_bytes() {
         return digit_of(*byte);
     }
-    // std's `parse` takes a sign in front of the digits
+    // std's `parse` accepts a sign before the digits
     if word.as_bytes().first() == Some(&b'+') {
         return None;
     }
     word.parse::<u64>().ok()
 }
 
-/// The number that a digit is.
+/// Returns the value of a decimal digit.
 fn digit_of(byte: u8) -> Option<u64>
     ensures { result ≡ number_below (2 ^ 64) (byte ∷ []) }
 {
@@ -29,7 +29,7 @@ fn digit_of(byte: u8) -> Option<u64>
     }
 }
 
-/// The numbers that two words make.
+/// Parses exactly two words as numbers.
 pub fn two_numbers(words: &[&str]) -> Option<(u64, u64)>
     ensures { AreTwoNumbers (texts_of words.now) result }
 {
@@ -42,7 +42,7 @@ pub fn two_numbers(words: &[&str]) -> Option<(u64, u64)>
     Some((first, second))
 }
 
-/// The numbers that three words make.
+/// Parses exactly three words as numbers.
 pub fn three_numbers(words: &[&str]) -> Option<(u64, u64, u64)>
     ensures { AreThreeNumbers (texts_of words.now) result }
 {
@@ -59,7 +59,7 @@ pub fn three_numbers(words: &[&str]) -> Option<(u64, u64, u64)>
     Some((first, second, third))
 }
 
-/// The number of 64 bits that the digits of a word make, after a minus sign or none.
+/// Parses a word of decimal digits, after a minus sign if any, as a signed number of 64 bits.
 pub fn signed_number(word: &str) -> Option<i64>
     ensures { result ≡ signed_number word.now }
 {

@@ -1,11 +1,11 @@
-//! Words to shapes of sketches.
+//! Parses shapes of new sketches.
 ghost use Rattle.std.specs.Prelude.{codes};
 ghost use Rattle.datasketches_cli.specs.Parsing.{IsShapeOf, count_verb, texts_of};
 
 use super::number::{number_of, three_numbers, two_numbers};
 use datasketches::Shape;
 
-/// The shape that a verb and the words behind the name make.
+/// Parses the shape of a verb that creates a sketch from the words after the name.
 pub fn shape_of(verb: &str, words: &[&str]) -> Option<Shape>
     ensures { IsShapeOf verb.now (texts_of words.now) result }
 {
@@ -40,7 +40,7 @@ fn sampled(words: &[&str]) -> Option<Shape>
     })
 }
 
-/// The shape of a Count-Min sketch of signed counts or of unsigned ones.
+/// Parses the shape of a Count-Min sketch of signed or unsigned counts.
 fn counts(signed: bool, words: &[&str]) -> Option<Shape>
     ensures { IsShapeOf (count_verb signed) (texts_of words.now) result }
 {

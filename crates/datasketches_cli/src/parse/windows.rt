@@ -1,4 +1,4 @@
-//! Words to requests on windows.
+//! Parses requests on windows.
 ghost use Rattle.std.specs.Prelude.{◌∷◌, IfOk, codes};
 ghost use Rattle.datasketches_cli.specs.Parsing.{IsWindowsRequestOf, texts_of};
 
@@ -7,10 +7,10 @@ use super::words::report_of;
 use crate::request::Request;
 use std::alloc::{AllocError, Global};
 
-/// The request that some words make, if they make one.
+/// A parsed request, or `None` if the words are not one.
 type ParsedRequest = Result<Option<Request>, AllocError>;
 
-/// The request on windows that the words make.
+/// Parses a request on windows. `AllocError` if its item cannot be copied.
 pub fn windows_request_of(alloc: Global, words: &[&str]) -> ParsedRequest
     ensures { IfOk result (IsWindowsRequestOf (texts_of words.now)) }
 {
@@ -26,7 +26,7 @@ pub fn windows_request_of(alloc: Global, words: &[&str]) -> ParsedRequest
     }
 }
 
-/// The request that the words after `windows` make.
+/// Parses the words after `windows`.
 fn windows(words: &[&str]) -> Option<Request>
     ensures { IsWindowsRequestOf (codes "windows" ∷ texts_of words.now) result }
 {
@@ -37,7 +37,7 @@ fn windows(words: &[&str]) -> Option<Request>
     })
 }
 
-/// The same of `hadd`.
+/// Parses the words after `hadd`.
 fn hadd(alloc: Global, words: &[&str]) -> ParsedRequest
     ensures { IfOk result (IsWindowsRequestOf (codes "hadd" ∷ texts_of words.now)) }
 {
@@ -55,7 +55,7 @@ fn hadd(alloc: Global, words: &[&str]) -> ParsedRequest
     }))
 }
 
-/// The same of `hturn`.
+/// Parses the words after `hturn`.
 fn hturn(words: &[&str]) -> Option<Request>
     ensures { IsWindowsRequestOf (codes "hturn" ∷ texts_of words.now) result }
 {
@@ -67,7 +67,7 @@ fn hturn(words: &[&str]) -> Option<Request>
     })
 }
 
-/// The same of `hreport`.
+/// Parses the words after `hreport`.
 fn hreport(words: &[&str]) -> Option<Request>
     ensures { IsWindowsRequestOf (codes "hreport" ∷ texts_of words.now) result }
 {

@@ -1,24 +1,24 @@
-//! A line to words, and what a word is.
+//! Splits a line into words, and parses words that are no numbers.
 ghost use Rattle.std.specs.Prelude.{◌≡◌, ◌≤◌, IfOk, length, string_bytes, take};
-ghost use Rattle.datasketches_cli.specs.Grammar.{words_of};
+ghost use Rattle.datasketches_cli.specs.Grammar.{split_words};
 ghost use Rattle.datasketches_cli.specs.Parsing.{IsReportOf, IsThresholdOf, texts_of, with_word};
 
 use super::number::number_of;
-use crate::search::first_place;
+use crate::search::find_byte;
 use datasketches::frequencies::ErrorType;
 use std::alloc::{AllocError, Global};
 
-/// How many words of a line are looked at: one more than the longest command has.
-pub const MOST_WORDS: usize = 7;
+/// The number of words of a line that are split off: one more than the longest command has.
+pub const MAX_WORDS: usize = 7;
 
-/// Puts the first words of a text, which stand between spaces, into an array. Answers how many there are.
-pub fn first_words<'a>(text: &'a str, words: &mut [&'a str; MOST_WORDS]) -> usize
+/// Writes the first words of a line, separated by spaces, to an array. Returns their number.
+pub fn first_words<'a>(text: &'a str, words: &mut [&'a str; MAX_WORDS]) -> usize
     ensures few { result ≤ length words.new }
-    ensures words { texts_of (take result words.new) ≡ take MOST_WORDS (words_of text.now) }
+    ensures words { texts_of (take result words.new) ≡ take MAX_WORDS (split_words text.now) }
 {
     let mut count = 0;
     let mut rest = text;
-    while count < MOST_WORDS {
+    while count < MAX_WORDS {
         let (word, after) = next_word(rest);
         if word.is_empty() {
             return count;
@@ -30,9 +30,9 @@ pub fn first_words<'a>(text: &'a str, words: &mut [&'a str; MOST_WORDS]) -> usiz
     count
 }
 
-/// The first word of a text, which is empty where there is none, and the text after it.
+/// Splits off the first word of a string, which is empty if there is none. Returns it and the rest.
 fn next_word(text: &str) -> (&str, &str)
-    ensures { words_of text.now ≡ with_word result.0.now (words_of result.1.now) }
+    ensures { split_words text.now ≡ with_word result.0.now (split_words result.1.now) }
 {
     let bytes = text.as_bytes();
     let mut start = 0;
@@ -40,10 +40,10 @@ fn next_word(text: &str) -> (&str, &str)
         start += 1;
     }
     let (_, text) = text.split_at(start);
-    text.split_at(first_place(b' ', text.as_bytes()))
+    text.split_at(find_byte(b' ', text.as_bytes()))
 }
 
-/// A copy of a text, in recycled memory, if there is some.
+/// Copies a string into recycled memory, if any. `AllocError` if it cannot be allocated.
 #[inline(always)]
 pub fn copied(
     alloc: Global,
@@ -58,7 +58,7 @@ pub fn copied(
     Ok(copy)
 }
 
-/// The kind of report that a word names.
+/// Parses the kind of a report.
 fn error_type_of(word: &str) -> Option<ErrorType>
     ensures { IsReportOf word.now result }
 {
@@ -69,7 +69,7 @@ fn error_type_of(word: &str) -> Option<ErrorType>
     }
 }
 
-/// The kind of report that a word names, and the threshold that another one makes.
+/// Parses the kind of a report and its threshold.
 pub fn report_of(report: &str, threshold: &str) -> Option<(ErrorType, u64)>
     ensures { IsThresholdOf report.now threshold.now result }
 {

@@ -100,27 +100,27 @@ impl<T: CountMinValue> CountMinSketch<T> {
         Self::deserialize_with_seed_and_limit(alloc, image, seed, usize::MAX)
     }
 
-    /// Reads a sketch with the default seed 9001 from an image if it takes at most `most_bytes` bytes, as
+    /// Reads a sketch with the default seed 9001 from an image if it takes at most `max_bytes` bytes, as
     /// [`deserialize_with_seed_and_limit`](Self::deserialize_with_seed_and_limit) does.
     pub fn deserialize_with_limit(
         alloc: Global,
         image: &[u8],
-        most_bytes: usize,
+        max_bytes: usize,
     ) -> Result<Self, Error>
         ensures image { IfOk result (λ sketch. IsImage T.least T.greatest DEFAULT_UPDATE_SEED image.now sketch) }
         ensures state { IfOk result (λ sketch. IsCountState T.greatest sketch) }
         ensures stands { IfOk result (λ sketch. Restores T.least T.greatest DEFAULT_UPDATE_SEED image.now sketch) }
         ensures within { IfOk result
-            (λ sketch. sketch.hashes * sketch.buckets * T.SIZE + 8 * sketch.hashes ≤ most_bytes) }
+            (λ sketch. sketch.hashes * sketch.buckets * T.SIZE + 8 * sketch.hashes ≤ max_bytes) }
         ensures err { IfErr result
-            (IsImageRefusal (early_fault_within T.SIZE most_bytes DEFAULT_UPDATE_SEED image.now)
-            (first_fault_within T.least T.greatest T.SIZE most_bytes DEFAULT_UPDATE_SEED image.now)) }
+            (IsImageRefusal (early_fault_within T.SIZE max_bytes DEFAULT_UPDATE_SEED image.now)
+            (first_fault_within T.least T.greatest T.SIZE max_bytes DEFAULT_UPDATE_SEED image.now)) }
     {
-        Self::deserialize_with_seed_and_limit(alloc, image, DEFAULT_UPDATE_SEED, most_bytes)
+        Self::deserialize_with_seed_and_limit(alloc, image, DEFAULT_UPDATE_SEED, max_bytes)
     }
 
     /// Reads a sketch with this seed from an image if its [`estimated_size`](Self::estimated_size) is at most
-    /// `most_bytes`.
+    /// `max_bytes`.
     ///
     /// It does the same as [`deserialize_with_seed`](Self::deserialize_with_seed) otherwise.
     ///
@@ -148,21 +148,21 @@ impl<T: CountMinValue> CountMinSketch<T> {
         alloc: Global,
         image: &[u8],
         seed: u64,
-        most_bytes: usize,
+        max_bytes: usize,
     ) -> Result<Self, Error>
         ensures image { IfOk result (λ sketch. IsImage T.least T.greatest seed image.now sketch) }
         ensures state { IfOk result (λ sketch. IsCountState T.greatest sketch) }
         ensures stands { IfOk result (λ sketch. Restores T.least T.greatest seed image.now sketch) }
         ensures within { IfOk result
-            (λ sketch. sketch.hashes * sketch.buckets * T.SIZE + 8 * sketch.hashes ≤ most_bytes) }
+            (λ sketch. sketch.hashes * sketch.buckets * T.SIZE + 8 * sketch.hashes ≤ max_bytes) }
         ensures err { IfErr result
-            (IsImageRefusal (early_fault_within T.SIZE most_bytes seed image.now)
-            (first_fault_within T.least T.greatest T.SIZE most_bytes seed image.now)) }
+            (IsImageRefusal (early_fault_within T.SIZE max_bytes seed image.now)
+            (first_fault_within T.least T.greatest T.SIZE max_bytes seed image.now)) }
     {
         let preamble = read_preamble(image, seed)?;
         let num_hashes = preamble.num_hashes as usize;
         let num_cells = num_hashes * preamble.num_buckets as usize;
-        if num_cells * T::SIZE + 8 * num_hashes > most_bytes {
+        if num_cells * T::SIZE + 8 * num_hashes > max_bytes {
             return Err(Error::invalid_data(Fault::TableTooLarge));
         }
         if preamble.is_empty {

@@ -4,14 +4,14 @@
 ghost use Rattle.std.specs.Prelude.{◌<◌};
 
 use sketch_base::{
-    Divisor, Error, MurmurHash3X64128, SeedlessItem, SketchBytes, SketchSlice, XxHash64,
+    Divisor, Error, MurmurHash3X64128, RehashableItem, SketchBytes, SketchSlice, XxHash64,
     murmur3_of, murmur3_of_u64, xxh64_of,
 };
 use std::alloc::{AllocError, Global};
 use std::hash::Hasher;
 use std::test::Fail;
 
-/// Feeds a text in two pieces, or byte by byte where it is shorter than the first.
+/// Feeds bytes in two pieces, or byte by byte if they are shorter than the first piece.
 fn feed<H: Hasher>(hasher: &mut H, text: &[u8], at: usize) {
     if at <= text.len() {
         hasher.write(&text[..at]);
@@ -52,7 +52,7 @@ const MURMUR3_VECTORS: [(&[u8], (u64, u64)); 2] = [
     ),
 ];
 
-// Fed whole, cut at every place, and byte by byte.
+// The bytes are fed as a whole, cut at every index, and byte by byte.
 #[test]
 fn gives_the_published_xxh64(rt: HostRuntime) {
     for (text, wanted) in XXH64_VECTORS {
@@ -71,7 +71,7 @@ fn gives_the_published_murmur3(rt: HostRuntime) {
     }
 }
 
-/// The hashes of a text, of a negative number and of one that is known to be of 64 bits.
+/// Returns the hashes of a string and of a negative number, and of a number by the call for `u64`.
 fn hashes_of_items(text: &String) -> [u64; 6] {
     let (text_low, text_high) = murmur3_of(text, 9001);
     let (low, high) = murmur3_of_u64(7, 9001);
@@ -85,14 +85,14 @@ fn hashes_of_items(text: &String) -> [u64; 6] {
     ]
 }
 
-/// The hashes of a number and of a long text, whose bytes are fed again for each seed.
+/// Returns the hashes of a number and of a long string, whose bytes are fed again for each seed.
 fn hashes_under_seeds(text: &String) -> [(u64, u64); 3] {
-    let number = SeedlessItem::new(&7u64);
-    let long = SeedlessItem::new(text);
+    let number = RehashableItem::new(&7u64);
+    let long = RehashableItem::new(text);
     [number.murmur3(9001), long.murmur3(3), long.murmur3(9001)]
 }
 
-/// The hash of a text by a clone of the hasher that was fed it.
+/// Returns the hash of bytes by a clone of the hasher that was fed them.
 fn hash_of_clone(text: &[u8]) -> Result<u64, AllocError> {
     let mut hasher = MurmurHash3X64128::default();
     hasher.write(text);
@@ -122,7 +122,7 @@ fn hashes_items(rt: HostRuntime) -> Result<(), Fail> {
     Ok(())
 }
 
-/// The first multiples of an odd number, eight bytes each.
+/// Returns the first multiples of an odd number, eight bytes each.
 fn multiples(alloc: Global, count: usize) -> Result<Vec<u8>, Error> {
     let mut out = SketchBytes::with_capacity(alloc, 0)?;
     out.reserve(8)?;
@@ -134,7 +134,7 @@ fn multiples(alloc: Global, count: usize) -> Result<Vec<u8>, Error> {
     Ok(out.into_bytes())
 }
 
-/// All numbers of eight bytes, each added to 31 times what was there.
+/// Reads all numbers of eight bytes. Adds each to 31 times the sum so far, and returns the last sum.
 fn sum_of(bytes: &[u8]) -> Result<u64, Error> {
     let mut slice = SketchSlice::new(bytes);
     let mut sum = 0u64;
@@ -155,7 +155,7 @@ fn takes_a_hundred_kilobytes(rt: HostRuntime) -> Result<(), Fail> {
     Ok(())
 }
 
-/// Numbers of which the first is 0, and the last 2^32.
+/// Numbers, of which the first is 0, and the last is 2^32.
 const NUMBERS: [u64; 7] = [
     0,
     1,
@@ -166,7 +166,7 @@ const NUMBERS: [u64; 7] = [
     4294967296,
 ];
 
-/// Their remainders by each divisor.
+/// Divisors, and the remainders of the numbers by each of them.
 const REMAINDERS: [(u64, [u64; 7]); 8] = [
     (3, [0, 1, 0, 2, 2, 0, 1]),
     (5, [0, 1, 0, 4, 3, 0, 1]),

@@ -1,10 +1,10 @@
-//! Worked rows, vectors from outside, printed texts, and that each call succeeds.
+//! Worked examples, test vectors from outside, printed strings, and that each call succeeds.
 use super::text_of;
 use sketch_bloom::{BloomFilter, BloomFilterBuilder, Error, laws};
 use std::alloc::Global;
 use std::test::Fail;
 
-/// A filter with the numbers from one up to another, but for that one, in it.
+/// Creates a filter of the numbers from `from` up to `to`, without `to`.
 fn filled(
     alloc: Global,
     num_bits: u64,
@@ -19,7 +19,7 @@ fn filled(
     Ok(filter)
 }
 
-/// Which numbers of a range a filter contains: how many, and their sum.
+/// Returns how many numbers of a range a filter contains, and their sum.
 fn contained(filter: &BloomFilter, from: u32, to: u32) -> (u64, u64) {
     let mut count = 0u64;
     let mut sum = 0u64;
@@ -31,7 +31,7 @@ fn contained(filter: &BloomFilter, from: u32, to: u32) -> (u64, u64) {
     (count, sum)
 }
 
-/// How many positions a filter of 959 bits has of the numbers below 100, inserted at once.
+/// Returns the number of positions of a filter of 959 bits, after one insertion of all numbers below 100.
 fn inserted_at_once(alloc: Global) -> Result<u64, Error> {
     let mut items = Vec::new(alloc);
     for item in 0..100u64 {
@@ -53,7 +53,8 @@ fn takes_many_items_at_once(rt: HostRuntime) -> Result<(), Fail> {
     Ok(())
 }
 
-/// How many positions a filter has of the numbers from 0 up to one, and which numbers behind those it contains.
+/// Inserts the numbers below `count`. Returns the number of positions, how many numbers from `count` up to `to` are
+/// contained, and their sum.
 fn positions(
     alloc: Global,
     num_bits: u64,
@@ -66,15 +67,15 @@ fn positions(
     Ok((filter.bits_used(), found, sum))
 }
 
-// The numbers are those of a program in another language, written from the public description of XXH64. They are 4, 11,
-// 35, 40, 41 and 42, and 123, 141, 152, 180, 199, 210, 264, 271, 364, 387 and 388.
+// The expected numbers are those of a program in another language, written from the public description of XXH64. The
+// contained numbers are 4, 11, 35, 40, 41 and 42, and then 123, 141, 152, 180, 199, 210, 264, 271, 364, 387 and 388.
 #[test]
 fn has_the_known_positions(rt: HostRuntime) {
     assert!(rt; positions(rt.alloc(), 64, 1, 4, 64) == Ok((4, 6, 173)));
     assert!(rt; positions(rt.alloc(), 959, 7, 100, 400) == Ok((499, 11, 2679)));
 }
 
-/// How many positions two filters have, and then their union, their intersection and their difference.
+/// Returns the numbers of positions of two filters, and then of their union, intersection and difference.
 fn sizes(left: &BloomFilter, right: &BloomFilter) -> Result<[u64; 5], Error> {
     let mut united = left.try_clone()?;
     united.union(right)?;
@@ -91,14 +92,14 @@ fn sizes(left: &BloomFilter, right: &BloomFilter) -> Result<[u64; 5], Error> {
     ])
 }
 
-/// The sizes of filters of so many words and three hashes.
+/// Returns the sizes of two filters of `num_words` words and three hashes.
 fn sizes_of_words(alloc: Global, num_words: u8) -> Result<[u64; 5], Error> {
     let words = num_words as u64;
     let left = filled(alloc, 64 * words, 3, 0, 6 * words)?;
     sizes(&left, &filled(alloc, 64 * words, 3, 4 * words, 10 * words)?)
 }
 
-/// The sizes of filters of so many words: those of the same program.
+/// Numbers of words, and the sizes of filters of this number. The sizes are those of the same program.
 const SIZES: [(u8, [u64; 5]); 9] = [
     (1, [17, 16, 26, 7, 10]),
     (3, [48, 46, 70, 24, 24]),
@@ -121,7 +122,7 @@ fn combines_sets(rt: HostRuntime) {
     }
 }
 
-// And so are those of two filters of 2^20 bits with 30000 items each.
+// Two filters of 2^20 bits with 30000 items each. The sizes are those of the same program.
 #[test]
 fn combines_large_sets(rt: HostRuntime) -> Result<(), Fail> {
     let left = filled(rt.alloc(), 1_048_576, 7, 0, 30_000)?;
@@ -131,7 +132,7 @@ fn combines_large_sets(rt: HostRuntime) -> Result<(), Fail> {
     Ok(())
 }
 
-/// What is printed of a builder's clone.
+/// Returns the debug output of a builder's clone.
 fn text_of_builder(alloc: Global) -> Result<String, Fail> {
     text_of(
         alloc,
@@ -139,7 +140,7 @@ fn text_of_builder(alloc: Global) -> Result<String, Fail> {
     )
 }
 
-/// What is printed of the filter of an image.
+/// Returns the debug output of the filter of an image.
 fn text_of_image(alloc: Global, image: &[u8]) -> Result<String, Fail> {
     text_of(alloc, &BloomFilter::deserialize(alloc, image)?)
 }
@@ -156,10 +157,10 @@ fn prints_its_fields(rt: HostRuntime) -> Result<(), Fail> {
 #[test]
 fn calls_its_laws(_rt: HostRuntime) {
     laws::union_is_set_union();
-    laws::what_is_contained();
+    laws::membership();
     laws::difference_takes_and_leaves();
     laws::equality_is_an_equivalence();
-    laws::what_images_say();
+    laws::image_laws();
 }
 
 #[test]
@@ -169,7 +170,7 @@ fn comes_back_from_its_image(rt: HostRuntime) -> Result<(), Fail> {
     Ok(())
 }
 
-/// The image of a filter of one word with two bits set: one hash, the seed 9001, the count 2 and the word 3.
+/// The image of a filter of one word with two set bits: one hash, the seed 9001, the count 2 and the word 3.
 const TWO_BITS: [u8; 40] = [
     4, 1, 21, 0, 1, 0, 0, 0, 0x29, 0x23, 0, 0, 0, 0, 0, 0, 1, 0, 0, 0, 0, 0, 0, 0, 2, 0, 0, 0, 0,
     0, 0, 0, 3, 0, 0, 0, 0, 0, 0, 0,

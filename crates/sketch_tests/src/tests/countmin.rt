@@ -1,16 +1,17 @@
-//! Worked rows, vectors from outside, printed texts, and that each call succeeds.
+//! Worked examples, test vectors from outside, printed strings, and that each call succeeds.
 use super::text_of;
-use sketch_countmin::laws::{merge_as_one_stream, restored, what_images_say};
+use sketch_countmin::laws::{image_laws, merge_as_one_stream, restored};
 use sketch_countmin::{CountMinSketch, CountMinValue, Error, Fault};
 use std::alloc::Global;
 use std::test::Fail;
 
-/// Whether a weight of one item is refused since the total would overflow.
+/// Returns whether a weight of one item is rejected, since the total would overflow.
 fn overflows<T: CountMinValue>(sketch: &mut CountMinSketch<T>, weight: T) -> bool {
     sketch.update_with_weight("x", weight).is_err()
 }
 
-/// Three weights of one item in turn: whether each is refused, and then its estimate, the total and its upper bound.
+/// Adds three weights of one item in turn. Returns whether each is rejected, and then its estimate, the total and its
+/// upper bound.
 fn counted<T: CountMinValue>(
     alloc: Global,
     shape: (u8, u32),
@@ -35,7 +36,7 @@ fn refuses_weights_that_overflow(rt: HostRuntime) {
     assert!(rt; found == Ok((true, false, true, -127, 127, -125)));
 }
 
-/// A sketch of so many buckets with these items.
+/// Creates a sketch of `num_buckets` buckets with these items.
 fn of_items(
     alloc: Global,
     num_buckets: u32,
@@ -48,7 +49,7 @@ fn of_items(
     Ok(sketch)
 }
 
-/// Whether a sketch is that of one stream once another was merged into it.
+/// Merges another sketch, and returns whether the result is the sketch of one stream.
 fn merges_as_one_stream(
     alloc: Global,
     left: &mut CountMinSketch<i64>,
@@ -58,7 +59,8 @@ fn merges_as_one_stream(
     merge_as_one_stream(left, &right, stream)
 }
 
-/// Whether a sketch of one item is that of two, and whether it is after a merge, and its total and an estimate then.
+/// Returns whether a sketch of one item equals that of two, before and after a merge. Returns also its total and an
+/// estimate after the merge.
 fn merged(alloc: Global) -> Result<(bool, bool, i64, i64), Error> {
     let mut left = of_items(alloc, 128, &[("apple", 1)])?;
     let stream = of_items(alloc, 128, &[("apple", 1), ("banana", 2)])?;
@@ -72,7 +74,7 @@ fn merges_as_one_stream_would(rt: HostRuntime) {
     assert!(rt; merged(rt.alloc()) == Ok((false, true, 3, 2)));
 }
 
-/// The estimates of ten items in a crowded sketch, and the upper bound of the first.
+/// Returns the estimates of ten items in a crowded sketch, and the upper bound of the first.
 fn crowded(alloc: Global) -> Result<([i32; 10], i32), Error> {
     let mut sketch = CountMinSketch::with_seed(alloc, 2, 3, 9001)?;
     for item in 0..10u64 {
@@ -86,7 +88,7 @@ fn crowded(alloc: Global) -> Result<([i32; 10], i32), Error> {
     Ok((estimates, sketch.upper_bound(0u64)))
 }
 
-/// 20000 items in a sketch of 4 x 4096 cells.
+/// Creates a sketch of 4 x 4096 cells with 20000 items.
 fn of_many(alloc: Global) -> Result<CountMinSketch<u64>, Error> {
     let mut sketch = CountMinSketch::new(alloc, 4, 4096)?;
     for item in 0..20_000u64 {
@@ -95,7 +97,7 @@ fn of_many(alloc: Global) -> Result<CountMinSketch<u64>, Error> {
     Ok(sketch)
 }
 
-/// A sketch's total, and the sum of the estimates of 1000 items.
+/// Returns a sketch's total, and the sum of the estimates of 1000 items.
 fn sums(sketch: &CountMinSketch<u64>) -> (u64, u64) {
     let mut sum: u64 = 0;
     for item in 0..1000u64 {
@@ -104,7 +106,7 @@ fn sums(sketch: &CountMinSketch<u64>) -> (u64, u64) {
     (sketch.total_weight(), sum)
 }
 
-/// The same of the clone of a sketch of many items.
+/// Returns the same of the clone of a sketch of many items.
 fn many(alloc: Global) -> Result<(u64, u64), Error> {
     let clone = of_many(alloc)?.try_clone()?;
     Ok(sums(&clone))
@@ -117,17 +119,17 @@ fn gives_the_least_of_crowded_cells(rt: HostRuntime) {
     assert!(rt; many(rt.alloc()) == Ok((79_997, 14_304)));
 }
 
-/// A sketch of two items and seven buckets.
+/// Creates a sketch of two items and seven buckets.
 fn of_two(alloc: Global) -> Result<CountMinSketch<i64>, Error> {
     of_items(alloc, 7, &[("apple", 5), ("banana", -3)])
 }
 
-/// What is printed of it.
+/// Returns its debug output.
 fn text_of_two(alloc: Global) -> Result<String, Fail> {
     text_of(alloc, &of_two(alloc)?)
 }
 
-/// Its hashes, buckets, seed and bytes.
+/// Returns its numbers of hashes and buckets, its seed, and its number of bytes.
 fn shape_of_two(alloc: Global) -> Result<(u8, u32, u64, usize), Error> {
     let sketch = of_two(alloc)?;
     Ok((
@@ -138,7 +140,7 @@ fn shape_of_two(alloc: Global) -> Result<(u8, u32, u64, usize), Error> {
     ))
 }
 
-// The text is the one that a derived `Debug` has of these fields, of which no two say the same.
+// The string is the output of a derived `Debug` for these fields, whose values all differ.
 #[test]
 fn shows_its_cells(rt: HostRuntime) -> Result<(), Fail> {
     let wanted =
@@ -162,7 +164,7 @@ const THREE_CELLS: [u8; 48] = [
     0, 0, 0, 0, 0, 0, 0, 0, 0, 0, 0, 251, 255, 255, 255, 255, 255, 255, 255,
 ];
 
-/// The total of an image's sketch.
+/// Returns the total of an image's sketch.
 fn total_of<T: CountMinValue>(alloc: Global, image: &[u8]) -> Result<T, Fault> {
     match CountMinSketch::<T>::deserialize(alloc, image) {
         Ok(sketch) => Ok(sketch.total_weight()),
@@ -170,7 +172,7 @@ fn total_of<T: CountMinValue>(alloc: Global, image: &[u8]) -> Result<T, Fault> {
     }
 }
 
-/// The image of three cells with these bytes from a place on, as far as there are any.
+/// Returns the image of three cells with these bytes from index `place` on. Bytes after its end are left out.
 fn altered(place: u8, bytes: &[u8]) -> [u8; 48] {
     let mut image = THREE_CELLS;
     for (i, byte) in bytes.iter().enumerate() {
@@ -181,12 +183,13 @@ fn altered(place: u8, bytes: &[u8]) -> [u8; 48] {
     image
 }
 
-/// The total of the altered image.
+/// Returns the total of the altered image.
 fn total_of_altered(alloc: Global, place: u8, bytes: &[u8]) -> Result<i8, Fault> {
     total_of(alloc, &altered(place, bytes))
 }
 
-/// Eight bytes of the image of three cells, and the total that it then has. Images of wider numbers are lines of the program.
+/// An index and eight bytes that are written there into the image of three cells, and the total or error that the image
+/// then has. Lines of the program test images of wider numbers.
 const ALTERED: [(u8, [u8; 8], Result<i8, Fault>); 6] = [
     (0, [2, 1, 18, 0, 7, 7, 7, 7], Ok(5)),
     (16, [128, 0, 0, 0, 0, 0, 0, 0], Err(Fault::ValueOutOfRange)),
@@ -218,6 +221,6 @@ fn reads_altered_images(rt: HostRuntime) {
 fn comes_back_from_its_image(rt: HostRuntime) -> Result<(), Fail> {
     let sketch = of_two(rt.alloc())?;
     assert!(rt; restored(rt.alloc(), &sketch)? == sketch);
-    what_images_say::<i64>();
+    image_laws::<i64>();
     Ok(())
 }

@@ -1,5 +1,5 @@
-//! Worked examples. What sketches say of themselves and of items, refusals, purges and merges are lines of the program, in
-//! `tests/sessions.py`.
+//! Worked examples. `tests/program/sessions.py` tests the numbers of sketches, bounds of items, errors, purges and
+//! merges, as lines of the program.
 mod batches;
 mod images;
 mod reports;
@@ -9,7 +9,7 @@ use sketch_base::Error;
 use sketch_frequencies::FrequentItemsSketch;
 use std::alloc::Global;
 
-/// A sketch of the items 1 to `last`, once each.
+/// Creates a sketch of the items 1 to `last`, once each.
 pub fn once_each(
     alloc: Global,
     max_map_size: usize,
@@ -22,7 +22,7 @@ pub fn once_each(
     Ok(sketch)
 }
 
-/// How many items are tracked, the error and the total.
+/// Returns the number of tracked items, the error and the total.
 pub fn numbers(sketch: &FrequentItemsSketch<i64>) -> (usize, u64, u64) {
     (
         sketch.num_active_items(),

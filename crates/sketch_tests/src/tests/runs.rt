@@ -1,16 +1,16 @@
-//! A run of some thousand commands of one session, where there is memory.
+//! A run of some thousand commands of one session, while there is memory.
 use datasketches::{Command, Reply, Session};
 use sketch_base::Error;
 use std::alloc::Global;
 use std::test::Fail;
 
-/// A name.
+/// Returns a name.
 fn visits(alloc: Global) -> Result<String, Error> {
     Ok(String::from_str(alloc, "visits")?)
 }
 
-/// Commands that make a sketch with room for 1536 counters, add each of 1000 items twice with a weight of 3, and ask for
-/// these and 100 others.
+/// Returns commands that create a sketch with room for 1536 counters and add each of 1000 items twice with a weight of
+/// 3. Then they look up these items and 100 others.
 fn commands(alloc: Global) -> Result<Vec<Command<u64>>, Error> {
     let mut commands = Vec::new(alloc);
     commands.push(Command::CreateFrequent {
@@ -33,7 +33,7 @@ fn commands(alloc: Global) -> Result<Vec<Command<u64>>, Error> {
     Ok(commands)
 }
 
-/// The exact answer for an item of this weight.
+/// Returns the exact reply for an item of this weight.
 fn exactly(weight: i128) -> Reply<u64> {
     Reply::Bounds {
         estimate: weight,
@@ -42,13 +42,13 @@ fn exactly(weight: i128) -> Reply<u64> {
     }
 }
 
-/// How many replies are this one.
+/// Returns the number of replies that equal `wanted`.
 fn count(replies: &[Reply<u64>], wanted: &Reply<u64>) -> usize {
     replies.iter().filter(|reply| *reply == wanted).count()
 }
 
-/// How many replies a run gives, how many of them say that the command was done, and how many give an item of the
-/// sketch its weight, and another one none.
+/// Returns the number of replies of a run, and how many are `Done`. Returns also how many have the exact weight of an
+/// item of the sketch, and how many have none for another item.
 fn replies_of_a_run(alloc: Global) -> Result<(usize, usize, usize, usize), Error> {
     let mut session = Session::new(alloc);
     let replies = session.run(commands(alloc)?)?;

@@ -1,16 +1,16 @@
-//! What is printed. Rows of commands of each kind are lines of the program, in `tests/sessions.py`.
+//! Printed strings. `tests/program/sessions.py` tests commands of each kind, as lines of the program.
 use super::text_of;
 use datasketches::{Command, Refusal, Session};
 use sketch_base::{Error, Fault};
 use std::alloc::Global;
 use std::test::Fail;
 
-/// A name.
+/// Returns a name.
 fn visits(alloc: Global) -> Result<String, Error> {
     Ok(String::from_str(alloc, "visits")?)
 }
 
-/// A session of one empty sketch.
+/// Creates a session of one empty sketch.
 fn of_visits(alloc: Global) -> Result<Session<i64>, Error> {
     let name = visits(alloc)?;
     let mut session = Session::new(alloc);
@@ -21,12 +21,12 @@ fn of_visits(alloc: Global) -> Result<Session<i64>, Error> {
     Ok(session)
 }
 
-/// What is printed of a session.
+/// Returns the debug output of a session.
 fn text_of_session(alloc: Global) -> Result<String, Fail> {
     text_of(alloc, &of_visits(alloc)?)
 }
 
-/// What is printed of a command.
+/// Returns the debug output of a command.
 fn text_of_command(alloc: Global) -> Result<String, Fail> {
     let name = visits(alloc)?;
     text_of(alloc, &Command::Insert { name, item: 7i64 })

@@ -1,8 +1,8 @@
-//! Sizes by the published formulas, worked out apart with eighty decimal places.
+//! Sizes by the published formulas. The expected sizes were computed separately with eighty decimal places.
 use sketch_bloom::{suggest_num_bits, suggest_num_hashes as hashes_for_bits};
-use sketch_countmin::laws::what_enough_buckets_say;
+use sketch_countmin::laws::margin_bound;
 use sketch_countmin::{suggest_num_buckets, suggest_num_hashes};
-use sketch_frequencies::laws::what_a_greatest_size_buys;
+use sketch_frequencies::laws::map_size_bounds;
 use sketch_frequencies::suggest_max_map_size;
 
 /// Numbers, and e times each, rounded up.
@@ -24,7 +24,7 @@ const HASHES: [(u64, u8); 6] = [
     (u64::MAX, 45),
 ];
 
-/// Items and questions, and bits and hashes for them.
+/// Numbers of items and questions, and the numbers of bits and hashes for them.
 const FILTERS: [(u64, u64, u64, u16); 6] = [
     (1, 2, 2, 2),
     (1000, 10, 4802, 4),
@@ -34,7 +34,7 @@ const FILTERS: [(u64, u64, u64, u16); 6] = [
     (1, u64::MAX, 93, 65),
 ];
 
-/// Parts, and the least power of two from 8 of which three quarters, at most 1024, are at least twice the parts.
+/// Parts, and the smallest power of two from 8 of which three quarters, at most 1024, are at least twice the parts.
 const MAP_SIZES: [(usize, usize); 6] = [(0, 8), (3, 8), (4, 16), (96, 256), (97, 512), (385, 2048)];
 
 #[test]
@@ -52,6 +52,6 @@ fn answers_by_the_formulas(rt: HostRuntime) {
     for (parts, size) in MAP_SIZES {
         assert!(rt; suggest_max_map_size(parts) == Ok(size));
     }
-    what_enough_buckets_say();
-    what_a_greatest_size_buys::<u64>();
+    margin_bound();
+    map_size_bounds::<u64>();
 }

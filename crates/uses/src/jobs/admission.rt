@@ -1,4 +1,4 @@
-//! How often what is used is in a cache, with admission and without.
+//! Compares the hit rates of a cache with admission and without.
 ghost use Rattle.std.specs.Prelude.{◌<◌, IfOk};
 
 use crate::admission::Admission;
@@ -8,8 +8,8 @@ use std::alloc::{AllocError, Global};
 use std::fmt::Write;
 use std::num::NonZeroUsize;
 
-/// Two caches of one size, in each of which the item that was used longest ago goes first: one takes each item that is
-/// used, the other only those that are admitted.
+/// Two caches of one size that drop the least recently used item first. One takes each used item, the other only admitted
+/// ones.
 #[derive(Drop)]
 struct Trial {
     admission: Admission,
@@ -20,13 +20,13 @@ struct Trial {
     plain_hits: u64,
 }
 
-/// Uses the items of the lines, and reports how often each cache had them.
+/// Uses the items of the lines, and prints the hit rate of each cache.
 pub fn run(alloc: Global, numbers: &[u64], text: &str, report: &mut String) -> Result<()> {
     let mut trial = trial_of(alloc, numbers)?;
     trial.touch_each(text, report)
 }
 
-/// A trial with these numbers of hashes and buckets, this window and caches of this size.
+/// Parses hashes, buckets, window and cache size, and creates the caches.
 fn trial_of(alloc: Global, numbers: &[u64]) -> Result<Trial> {
     let [hashes, buckets, window, capacity] = numbers else {
         bail!("admission HASHES BUCKETS WINDOW CAPACITY");
@@ -41,7 +41,7 @@ fn trial_of(alloc: Global, numbers: &[u64]) -> Result<Trial> {
     Trial::new(alloc, admission, capacity)
 }
 
-/// A window of so many uses.
+/// Returns the length of a window, a number of uses.
 fn window_of(uses: u64) -> Result<u32>
     ensures { IfOk result (λ window. 0 < window) }
 {
@@ -51,7 +51,7 @@ fn window_of(uses: u64) -> Result<u32>
 }
 
 impl Trial {
-    /// Empty caches of this size.
+    /// Creates empty caches of this size.
     fn new(alloc: Global, admission: Admission, capacity: NonZeroUsize) -> Result<Self> {
         let choosy = LruCache::sparse(alloc, capacity)?;
         let plain = LruCache::sparse(alloc, capacity)?;
@@ -65,7 +65,7 @@ impl Trial {
         })
     }
 
-    /// Uses the item of each line, and reports how often each cache had it.
+    /// Uses the item of each line, and prints the hit rates.
     fn touch_each(&mut self, text: &str, report: &mut String) -> Result<()> {
         for line in text.lines() {
             self.touch(line.trim().parse::<u64>()?)?;
@@ -77,7 +77,7 @@ impl Trial {
         Ok(())
     }
 
-    /// Uses an item.
+    /// Uses an item in both caches.
     fn touch(&mut self, item: u64) -> Result<(), AllocError> {
         self.uses = self.uses.saturating_add(1);
         self.admission.touch(item);
@@ -94,7 +94,7 @@ impl Trial {
         Ok(())
     }
 
-    /// Whether an item that is not in the choosy cache goes in.
+    /// Returns whether an item that is not in the cache with admission enters it.
     fn may_enter(&self, item: u64) -> bool {
         if self.choosy.len() < self.choosy.cap().get() {
             return true;

@@ -1,22 +1,22 @@
-//! The heavy groups of many shards.
+//! Prints the heavy groups of many shards.
 use crate::group_by::GroupSums;
-use crate::jobs::words::{next_number, next_place};
+use crate::jobs::words::{next_index, next_number};
 use anyhow::{Context, Result, bail};
 use sketch_base::Error;
 use sketch_frequencies::Row;
 use std::alloc::{AllocError, Global};
 use std::fmt::Write;
 
-/// The most shards that lines may name.
-const MOST_SHARDS: usize = 1024;
+/// The maximum number of shards.
+const MAX_SHARDS: usize = 1024;
 
-/// The most memory that the table of an image may take.
-const MOST_BYTES: usize = 1 << 30;
+/// The limit of bytes of an image's sketch.
+const MAX_BYTES: usize = 1 << 30;
 
-/// How long the bar of the heaviest group may be.
+/// The length of the heaviest group's bar.
 const LONGEST_BAR: u64 = 40;
 
-/// The sums of the shards that lines name, each of so many slots.
+/// The sums of the shards, each in a sketch of one size.
 #[derive(Drop)]
 struct Shards {
     alloc: Global,
@@ -24,7 +24,7 @@ struct Shards {
     sums: Vec<GroupSums<String>>,
 }
 
-/// Sums the rows of each shard up, merges the sums, and reports the heavy groups.
+/// Sums the rows of each shard, merges the sums, and prints the heavy groups.
 pub fn run(alloc: Global, numbers: &[u64], text: &str, report: &mut String) -> Result<()> {
     let [size, threshold] = numbers else {
         bail!("group-by SIZE THRESHOLD");
@@ -50,7 +50,7 @@ impl Shards {
 
     fn add_row(&mut self, line: &str) -> Result<()> {
         let mut words = line.split_whitespace();
-        let shard = next_place(&mut words, MOST_SHARDS)?;
+        let shard = next_index(&mut words, MAX_SHARDS)?;
         let weight = next_number(&mut words)?;
         let group = words.next().context("a short line")?;
         self.make_up_to(shard)?;
@@ -60,7 +60,7 @@ impl Shards {
         Ok(())
     }
 
-    /// Makes shards up to one.
+    /// Creates all shards up to this index.
     fn make_up_to(&mut self, last: usize) -> Result<(), Error> {
         for _ in self.sums.len()..=last {
             self.sums.push(GroupSums::new(self.alloc, self.size)?)?;
@@ -68,7 +68,7 @@ impl Shards {
         Ok(())
     }
 
-    /// The sums of all shards, each of which comes as an image.
+    /// Returns the merged sums of all shards, by their images.
     fn merged(&self) -> Result<GroupSums<String>, Error> {
         let mut all = GroupSums::new(self.alloc, self.size)?;
         for sums in &self.sums {
@@ -78,18 +78,18 @@ impl Shards {
     }
 }
 
-/// Merges the sums of a shard, from its image.
+/// Merges the sums of a shard by their image.
 fn merge_image_of(
     alloc: Global,
     all: &mut GroupSums<String>,
     shard: &GroupSums<String>,
 ) -> Result<(), Error> {
     let image = shard.image()?;
-    let shard = GroupSums::from_image(alloc, &image, MOST_BYTES)?;
+    let shard = GroupSums::from_image(alloc, &image, MAX_BYTES)?;
     all.merge(&shard)
 }
 
-/// Reports the heavy groups, the heaviest first.
+/// Prints the heavy groups, heaviest first.
 fn write_report(all: &GroupSums<String>, threshold: u64, report: &mut String) -> Result<()> {
     let rows = all.heavy_groups(threshold)?;
     write_rows(&rows, report)?;
@@ -108,7 +108,7 @@ fn write_rows(rows: &[Row<String>], report: &mut String) -> Result<(), AllocErro
     Ok(())
 }
 
-/// Writes a group, its bounds and its bar, which is the longer the more it surely weighs of the most that one may weigh.
+/// Prints a group with its bounds and a bar as long as its lower bound is a share of the largest upper bound.
 fn write_row(row: &Row<String>, most: u64, report: &mut String) -> Result<(), AllocError> {
     let lower_bound = row.lower_bound();
     let upper_bound = row.upper_bound();

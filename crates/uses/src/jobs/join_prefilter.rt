@@ -1,5 +1,5 @@
-//! The rows of one side of a join that may have a row on the other.
-use crate::jobs::words::{next_number, next_place};
+//! Prunes the rows of one side of a join that have no match on the other.
+use crate::jobs::words::{next_index, next_number};
 use crate::join_prefilter::{image_of_keys, prune_by_images};
 use anyhow::{Result, bail};
 use sketch_base::Error;
@@ -7,17 +7,17 @@ use sketch_bloom::BloomFilterBuilder;
 use std::alloc::{AllocError, Global};
 use std::fmt::Write;
 
-/// The most parts that lines may name.
-const MOST_PARTS: usize = 1024;
+/// The maximum number of parts.
+const MAX_PARTS: usize = 1024;
 
-/// Both sides of a join: the keys of each part of one, and the rows of the other.
+/// The two sides of a join: the keys of each part of one, and the rows of the other.
 #[derive(Drop)]
 struct Sides {
     parts: Vec<Vec<u64>>,
     rows: Vec<(u64, u64)>,
 }
 
-/// Makes an image of the keys of each part, leaves out the rows that these say cannot join, and reports the others.
+/// Writes an image of each part's keys, prunes the rows that cannot join, and prints the others.
 pub fn run(alloc: Global, numbers: &[u64], text: &str, report: &mut String) -> Result<()> {
     let [bits, hashes] = numbers else {
         bail!("join-prefilter BITS HASHES");
@@ -37,12 +37,12 @@ pub fn run(alloc: Global, numbers: &[u64], text: &str, report: &mut String) -> R
 }
 
 impl Sides {
-    /// Adds a line `key PART KEY` or `row KEY VALUE`.
+    /// Adds the key or row of a line `key PART KEY` or `row KEY VALUE`.
     fn add_line(&mut self, alloc: Global, line: &str) -> Result<()> {
         let mut words = line.split_whitespace();
         match words.next() {
             Some("key") => {
-                let part = next_place(&mut words, MOST_PARTS)?;
+                let part = next_index(&mut words, MAX_PARTS)?;
                 self.add_key(alloc, part, next_number(&mut words)?)?;
             }
             Some("row") => {
@@ -65,7 +65,7 @@ impl Sides {
         Ok(())
     }
 
-    /// Leaves out rows that cannot join.
+    /// Prunes the rows that cannot join.
     fn prune(&mut self, alloc: Global, bits: u64, hashes: u16) -> Result<(), Error> {
         let images = images_of(alloc, bits, hashes, &self.parts)?;
         let builder = BloomFilterBuilder::with_size(bits, hashes);
@@ -73,7 +73,7 @@ impl Sides {
     }
 }
 
-/// The image of each part's keys.
+/// Returns an image of each part's keys.
 fn images_of(
     alloc: Global,
     bits: u64,
@@ -88,7 +88,7 @@ fn images_of(
     Ok(images)
 }
 
-/// Reports the rows that are left of so many.
+/// Prints the remaining rows, and their number of all rows.
 fn write_rows(rows: &[(u64, u64)], before: usize, report: &mut String) -> Result<(), AllocError> {
     for (key, value) in rows {
         writeln!(report, "{key} {value}")?;

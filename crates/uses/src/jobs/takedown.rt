@@ -1,10 +1,10 @@
-//! A list of what is refused.
+//! Keeps a takedown list by lines.
 use crate::takedown::TakedownList;
 use anyhow::{Result, bail};
 use sketch_bloom::BloomFilterBuilder;
 use std::alloc::{AllocError, Global};
 
-/// Keeps a list by lines, and answers the questions among them.
+/// Runs the lines of a list, and prints the results of its questions.
 pub fn run(alloc: Global, numbers: &[u64], text: &str, report: &mut String) -> Result<()> {
     let [bits, hashes] = numbers else {
         bail!("takedown BITS HASHES");
@@ -21,7 +21,7 @@ fn do_lines(alloc: Global, list: &mut TakedownList, text: &str, report: &mut Str
     Ok(())
 }
 
-/// Does a line `refuse ITEM ..`, `back ITEM ..` or `ask ITEM ..`.
+/// Runs a line `refuse ITEM ..`, `back ITEM ..` or `ask ITEM ..`.
 fn do_line(alloc: Global, list: &mut TakedownList, line: &str, report: &mut String) -> Result<()> {
     let mut words = line.split_whitespace();
     let kind = words.next();
@@ -29,7 +29,7 @@ fn do_line(alloc: Global, list: &mut TakedownList, line: &str, report: &mut Stri
     do_to_items(list, kind, &items, report)
 }
 
-/// Does to the items what the word in front of them says.
+/// Applies the verb to the items after it.
 fn do_to_items(
     list: &mut TakedownList,
     kind: Option<&str>,
@@ -45,14 +45,14 @@ fn do_to_items(
     Ok(())
 }
 
-/// Refuses each item.
+/// Adds each item to the list.
 fn refuse(list: &mut TakedownList, items: &[&str]) {
     for item in items {
         list.refuse(*item);
     }
 }
 
-/// Reports of each item whether it is refused.
+/// Prints for each item whether it is rejected.
 fn answer(list: &TakedownList, items: &[&str], report: &mut String) -> Result<(), AllocError> {
     for item in items {
         let answer = if list.is_refused(item) {

@@ -7,7 +7,7 @@ pub returns-clause-each : goal.returns-clause-each
 returns-clause-each g c =
     let s = c.args.sketch.now in
     let some : 0 < s.buckets = omega (arith, c.num_hashes.ensures.state.some_buckets) in
-    let law = c.what_the_least_cell_says.ensures in
+    let law = c.min_cell_bounds.ensures in
     record {
       each = λ i there.
           let bytes = get_or (map (fed_bytes g.I.Hash.hash_input) c.args.items.now) i [] in

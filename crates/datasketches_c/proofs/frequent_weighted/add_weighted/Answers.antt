@@ -3,7 +3,7 @@ use Rattle.std.specs.Prelude.{sum}
 use Rattle.std.proofs.lemmas.Bool.{false≢true}
 use Rattle.sketch_frequencies.specs.State.{FrequentState, TotalHasRoom}
 use Rattle.datasketches_c.specs.FrequentCalls.{Updates}
-use Rattle.datasketches_c.specs.Numbers.{ok, greatest_u64}
+use Rattle.datasketches_c.specs.Numbers.{ok, max_u64}
 use Rattle.datasketches_c.proofs.FrequentLemmas.{total_of_update, on_done_first, adds_refused, adds_done, adds_none}
 use Rattle.datasketches_c.proofs.InTurnLemmas.{is_done}
 use Rattle.datasketches_c.proofs.WeightLemmas.{one_fits, one_more, pair_more}
@@ -20,8 +20,8 @@ returns-then-answer-ne-OK g c =
     let answer = c.add-answer.result in
     let other : i < length weights = omega arith in
     let total : c.total_weight.result ≡ c.args.sketch.now.total = c.total_weight.ensures in
-    let fits : c.args.sketch.now.total + sum weights ≤ greatest_u64 = subst (λ (n : ℕ). n + sum weights ≤ greatest_u64) total (c.if-not-weights_fit.ensures.0 refl) in
-    let one_has : c.each.sketch.total + w ≤ greatest_u64 = one_fits (λ (n : ℕ). n) weights i 0 w c.args.sketch.now.total c.each.sketch.total greatest_u64 other refl fits c.each.invariant.total in
+    let fits : c.args.sketch.now.total + sum weights ≤ max_u64 = subst (λ (n : ℕ). n + sum weights ≤ max_u64) total (c.if-not-weights_fit.ensures.0 refl) in
+    let one_has : c.each.sketch.total + w ≤ max_u64 = one_fits (λ (n : ℕ). n) weights i 0 w c.args.sketch.now.total c.each.sketch.total max_u64 other refl fits c.each.invariant.total in
     let room : TotalHasRoom c.each.sketch w = omega arith in
     adds_refused (Updates eq) c.args.sketch.now items weights i x x c.each.sketch c.add-answer.new.sketch answer c.requires c.each-test.true c.index-items-i.is fits
     c.each.invariant.added c.add-answer.type_inv (on_done_first answer _ _ c.add-answer.ensures.updates.done) c.add-answer.ensures.refused (c.add-answer.ensures.updates.memory room)
@@ -46,7 +46,7 @@ pub returns : goal.returns
 returns g c =
     let weights = c.args.weights.now in
     let total : c.total_weight.result ≡ c.args.sketch.now.total = c.total_weight.ensures in
-    let fits : c.args.sketch.now.total + sum weights ≤ greatest_u64 = subst (λ (n : ℕ). n + sum weights ≤ greatest_u64) total (c.if-not-weights_fit.ensures.0 refl) in
+    let fits : c.args.sketch.now.total + sum weights ≤ max_u64 = subst (λ (n : ℕ). n + sum weights ≤ max_u64) total (c.if-not-weights_fit.ensures.0 refl) in
     let here : length c.args.items.now ≤ c.each.i = c.each-test.false in
     adds_done (Updates g.T.PartialEq.eq) c.args.sketch.now c.args.items.now weights c.each.i c.each.sketch c.requires here fits c.each.invariant.added
 
@@ -62,4 +62,4 @@ pub returns-then-not-weights_fit : goal.returns-then-not-weights_fit
 returns-then-not-weights_fit g c =
     let total : c.total_weight.result ≡ c.args.sketch.now.total = c.total_weight.ensures in
     adds_none (Updates g.T.PartialEq.eq) c.args.sketch.now c.args.items.now c.args.weights.now c.refusal_number.result c.refusal_number.type_inv c.refusal_number.ensures
-    (λ fits. false≢true (c.if-not-weights_fit.ensures.1 (subst (λ (n : ℕ). n + sum c.args.weights.now ≤ greatest_u64) (sym total) fits)))
+    (λ fits. false≢true (c.if-not-weights_fit.ensures.1 (subst (λ (n : ℕ). n + sum c.args.weights.now ≤ max_u64) (sym total) fits)))

@@ -5,7 +5,7 @@ use Rattle.std.specs.declared.string.String.{String}
 use Rattle.std.proofs.lemmas.Bool.{false≢true}
 use Rattle.sketch_frequencies.specs.State.{FrequentState, TotalHasRoom}
 use Rattle.datasketches_c.specs.FrequentTexts.{UpdatesText}
-use Rattle.datasketches_c.specs.Numbers.{ok, greatest_u64}
+use Rattle.datasketches_c.specs.Numbers.{ok, max_u64}
 use Rattle.datasketches_c.specs.Texts.{texts_of}
 use Rattle.datasketches_c.proofs.FrequentLemmas.{total_of_text, memory_of_text, adds_refused, adds_done, adds_none}
 use Rattle.datasketches_c.proofs.InTurnLemmas.{is_done}
@@ -24,8 +24,8 @@ returns-then-answer-ne-OK c =
     let other : i < length weights = omega arith in
     let same : length weights ≡ length texts = omega arith in
     let total : c.total_weight.result ≡ c.args.sketch.now.total = c.total_weight.ensures in
-    let fits : c.args.sketch.now.total + sum weights ≤ greatest_u64 = subst (λ (n : ℕ). n + sum weights ≤ greatest_u64) total (c.if-not-weights_fit.ensures.0 refl) in
-    let one_has : c.each.sketch.total + w ≤ greatest_u64 = one_fits (λ (n : ℕ). n) weights i 0 w c.args.sketch.now.total c.each.sketch.total greatest_u64 other refl fits c.each.invariant.total in
+    let fits : c.args.sketch.now.total + sum weights ≤ max_u64 = subst (λ (n : ℕ). n + sum weights ≤ max_u64) total (c.if-not-weights_fit.ensures.0 refl) in
+    let one_has : c.each.sketch.total + w ≤ max_u64 = one_fits (λ (n : ℕ). n) weights i 0 w c.args.sketch.now.total c.each.sketch.total max_u64 other refl fits c.each.invariant.total in
     let room : TotalHasRoom c.each.sketch w = omega arith in
     let said = c.update_text-answer.ensures in
     adds_refused UpdatesText c.args.sketch.now texts weights i x [] c.each.sketch c.update_text-answer.new.sketch answer same there c.text_at.ensures fits
@@ -55,7 +55,7 @@ returns c =
     let weights = c.args.weights.now in
     let same : length weights ≡ length texts = omega arith in
     let total : c.total_weight.result ≡ c.args.sketch.now.total = c.total_weight.ensures in
-    let fits : c.args.sketch.now.total + sum weights ≤ greatest_u64 = subst (λ (n : ℕ). n + sum weights ≤ greatest_u64) total (c.if-not-weights_fit.ensures.0 refl) in
+    let fits : c.args.sketch.now.total + sum weights ≤ max_u64 = subst (λ (n : ℕ). n + sum weights ≤ max_u64) total (c.if-not-weights_fit.ensures.0 refl) in
     let here : length texts ≤ c.each.i = omega arith in
     adds_done UpdatesText c.args.sketch.now texts weights c.each.i c.each.sketch same here fits c.each.invariant.added
 
@@ -67,4 +67,4 @@ pub returns-then-not-weights_fit : goal.returns-then-not-weights_fit
 returns-then-not-weights_fit c =
     let total : c.total_weight.result ≡ c.args.sketch.now.total = c.total_weight.ensures in
     adds_none UpdatesText c.args.sketch.now (texts_of c.args.bytes.now c.args.offsets.now) c.args.weights.now c.refusal_number.result c.refusal_number.type_inv c.refusal_number.ensures
-    (λ fits. false≢true (c.if-not-weights_fit.ensures.1 (subst (λ (n : ℕ). n + sum c.args.weights.now ≤ greatest_u64) (sym total) fits)))
+    (λ fits. false≢true (c.if-not-weights_fit.ensures.1 (subst (λ (n : ℕ). n + sum c.args.weights.now ≤ max_u64) (sym total) fits)))

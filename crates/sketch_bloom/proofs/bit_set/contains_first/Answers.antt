@@ -10,5 +10,5 @@ pub returns : goal.returns
 returns c =
     let none : c.args.h0 + 0 * c.args.h1 ≡ c.args.h0 = omega arith in
     let start : c.args.h0 ≡ (c.args.h0 + 0 * c.args.h1) % 2 ^ 64 = sym (ap (λ n. n % 2 ^ 64) none ∙ mod-eq_of_lt c.ranges.h0.fits) in
-    let place : c.place_of-place.result ≡ position c.args.capacity c.args.h0 c.args.h1 1 = place_is c.args.capacity c.args.h0 c.args.h1 0 c.args.h0 c.place_of-place.result start c.place_of-place.ensures.value in
-    reads_test c.args.words.now c.place_of-place.result ∙ ap (set.contains (set_of c.args.words.now)) place
+    let index : c.index_of-index.result ≡ position c.args.capacity c.args.h0 c.args.h1 1 = place_is c.args.capacity c.args.h0 c.args.h1 0 c.args.h0 c.index_of-index.result start c.index_of-index.ensures.value in
+    reads_test c.args.words.now c.index_of-index.result ∙ ap (set.contains (set_of c.args.words.now)) index

@@ -7,20 +7,20 @@ use Rattle.sketch_bloom.proofs.Sets.{is_subset-insert}
 use Rattle.sketch_bloom.proofs.Placing.{positions-suc, missing_position, running_sum, reads_set, reads_unset, place_is, sum_from}
 use Rattle.sketch_bloom.proofs.bit_set.contains_others.Goals as goal
 
-pub looks-init : goal.looks-init
-looks-init c = (sum_from c.args.h0 c.args.h1 c.args.looked, c.requires.found)
+pub probes-init : goal.probes-init
+probes-init c = (sum_from c.args.h0 c.args.h1 c.args.probed, c.requires.found)
 
-pub returns-then-word-place-eq0 : goal.returns-then-word-place-eq0
-returns-then-word-place-eq0 c =
-    let place : c.place_of-place.result ≡ position c.args.capacity c.args.h0 c.args.h1 (c.looks._i + 1) = place_is c.args.capacity c.args.h0 c.args.h1 c.looks._i c.looks.hash c.place_of-place.result c.looks.invariant.0 c.place_of-place.ensures.value in
-    sym (missing_position c.args.capacity c.args.num_hashes c.args.h0 c.args.h1 c.looks._i (set_of c.args.words.now) c.looks-test.true
-    (ap (set.contains (set_of c.args.words.now)) (sym place) ∙ reads_unset c.args.words.now c.place_of-place.result c.if-word-place-eq0.true))
+pub returns-then-word-index-eq0 : goal.returns-then-word-index-eq0
+returns-then-word-index-eq0 c =
+    let index : c.index_of-index.result ≡ position c.args.capacity c.args.h0 c.args.h1 (c.probes._i + 1) = place_is c.args.capacity c.args.h0 c.args.h1 c.probes._i c.probes.hash c.index_of-index.result c.probes.invariant.0 c.index_of-index.ensures.value in
+    sym (missing_position c.args.capacity c.args.num_hashes c.args.h0 c.args.h1 c.probes._i (set_of c.args.words.now) c.probes-test.true
+    (ap (set.contains (set_of c.args.words.now)) (sym index) ∙ reads_unset c.args.words.now c.index_of-index.result c.if-word-index-eq0.true))
 
-pub looks-preserved : goal.looks-preserved
-looks-preserved c =
-    let place : c.place_of-place.result ≡ position c.args.capacity c.args.h0 c.args.h1 (c.looks._i + 1) = place_is c.args.capacity c.args.h0 c.args.h1 c.looks._i c.looks.hash c.place_of-place.result c.looks.invariant.0 c.place_of-place.ensures.value in (
-      running_sum c.args.h0 c.args.h1 c.looks._i c.looks.hash c.looks.invariant.0,
-      ap (λ s. set.is_subset s (set_of c.args.words.now)) (positions-suc c.args.capacity c.looks._i c.args.h0 c.args.h1)
-          ∙ (is_subset-insert (positions c.args.capacity c.looks._i c.args.h0 c.args.h1) (set_of c.args.words.now) (position c.args.capacity c.args.h0 c.args.h1 (c.looks._i + 1))
-          ∙ and_from _ _ c.looks.invariant.1 (ap (set.contains (set_of c.args.words.now)) (sym place) ∙ reads_set c.args.words.now c.place_of-place.result c.if-word-place-eq0.false)),
+pub probes-preserved : goal.probes-preserved
+probes-preserved c =
+    let index : c.index_of-index.result ≡ position c.args.capacity c.args.h0 c.args.h1 (c.probes._i + 1) = place_is c.args.capacity c.args.h0 c.args.h1 c.probes._i c.probes.hash c.index_of-index.result c.probes.invariant.0 c.index_of-index.ensures.value in (
+      running_sum c.args.h0 c.args.h1 c.probes._i c.probes.hash c.probes.invariant.0,
+      ap (λ s. set.is_subset s (set_of c.args.words.now)) (positions-suc c.args.capacity c.probes._i c.args.h0 c.args.h1)
+          ∙ (is_subset-insert (positions c.args.capacity c.probes._i c.args.h0 c.args.h1) (set_of c.args.words.now) (position c.args.capacity c.args.h0 c.args.h1 (c.probes._i + 1))
+          ∙ and_from _ _ c.probes.invariant.1 (ap (set.contains (set_of c.args.words.now)) (sym index) ∙ reads_set c.args.words.now c.index_of-index.result c.if-word-index-eq0.false)),
     )

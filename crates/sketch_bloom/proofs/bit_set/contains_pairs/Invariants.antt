@@ -4,7 +4,7 @@ use Rattle.sketch_bloom.specs.Pairs.{contains_pair}
 use Rattle.sketch_bloom.proofs.Pairs.{contains_first_of}
 use Rattle.sketch_bloom.proofs.bit_set.contains_pairs.Given as goal
 
--- the first positions so far were looked for
+-- the first positions so far were found in the set
 abbrev pub invariant-firsts : goal.invariant-firsts
 invariant-firsts l = take l.i l.answers ≡ map (contains_first_of l.capacity (set_of l.words)) (take l.i l.pairs)
 

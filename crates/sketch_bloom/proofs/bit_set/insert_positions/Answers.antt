@@ -19,11 +19,11 @@ pub inserts-preserved : goal.inserts-preserved
 inserts-preserved c =
     let old : List ℕ = c.args.words.now in
     let words : List ℕ = c.inserts.words in
-    let p : ℕ = c.place_of-place.result in
+    let p : ℕ = c.index_of-index.result in
     let placed : Numbers = positions c.args.capacity c.inserts._i c.args.h0 c.args.h1 in
-    let place : c.place_of-place.result ≡ position c.args.capacity c.args.h0 c.args.h1 (c.inserts._i + 1) = place_is c.args.capacity c.args.h0 c.args.h1 c.inserts._i c.inserts.hash c.place_of-place.result c.inserts.invariant.0 c.place_of-place.ensures.value in
-    let below : c.place_of-place.result < 64 * length c.inserts.words = omega arith in
-    let next : numbers.insert placed p ≡ positions c.args.capacity (c.inserts._i + 1) c.args.h0 c.args.h1 = ap (numbers.insert placed) place ∙ sym (positions-suc c.args.capacity c.inserts._i c.args.h0 c.args.h1) in (
+    let index : c.index_of-index.result ≡ position c.args.capacity c.args.h0 c.args.h1 (c.inserts._i + 1) = place_is c.args.capacity c.args.h0 c.args.h1 c.inserts._i c.inserts.hash c.index_of-index.result c.inserts.invariant.0 c.index_of-index.ensures.value in
+    let below : c.index_of-index.result < 64 * length c.inserts.words = omega arith in
+    let next : numbers.insert placed p ≡ positions c.args.capacity (c.inserts._i + 1) c.args.h0 c.args.h1 = ap (numbers.insert placed) index ∙ sym (positions-suc c.args.capacity c.inserts._i c.args.h0 c.args.h1) in (
       running_sum c.args.h0 c.args.h1 c.inserts._i c.inserts.hash c.inserts.invariant.0,
       omega (arith, counted_test (bit_and (get_or words (p / 64) 0 / 2 ^ (p % 64)) 1 == 0)),
       subst (λ (s : Numbers). Inserts old s (set words (p / 64) (bit_or (get_or words (p / 64) 0) (1 * 2 ^ (p % 64) % 2 ^ 64))) (c.inserts.added + bool_byte (bit_and (get_or words (p / 64) 0 / 2 ^ (p % 64)) 1 == 0))) next

@@ -20,8 +20,8 @@ at g c =
     (read_item (fed_bytes g.I.Hash.hash_input) c.args.items.now c.loop-item.item-index c.item-item.result c.loop-item-test.true c.item-item.is)
 
 -- where it lies
-place : (g : given.Over) (c : After-ONE g) → c.args.row * c.divisor.result + c.rem.result ≡ c.args.row * c.args.buckets + bucket_by c.args.buckets c.args.seed (get_or (fed g c) c.loop-item.item-index [])
-place g c = omega (arith, at g c, ap (λ (k : ℕ). c.args.row * k) c.divisor.ensures.value)
+index : (g : given.Over) (c : After-ONE g) → c.args.row * c.divisor.result + c.rem.result ≡ c.args.row * c.args.buckets + bucket_by c.args.buckets c.args.seed (get_or (fed g c) c.loop-item.item-index [])
+index g c = omega (arith, at g c, ap (λ (k : ℕ). c.args.row * k) c.divisor.ensures.value)
 
 in_row : (g : given.Over) (c : After-ONE g) → bucket_by c.args.buckets c.args.seed (get_or (fed g c) c.loop-item.item-index []) < c.args.buckets
 in_row g c = omega (arith, at g c, c.rem.ensures.below)
@@ -35,7 +35,7 @@ loop-item-init g c = record { counted = row_start _ _ _ _; start = ap (λ (k : �
 pub add_at-requires-clause-room : goal.add_at-requires-clause-room
 add_at-requires-clause-room g c =
     let one : g.T.CountMinValue.number c.ONE.result ≡ pos 1 = ap g.T.CountMinValue.number c.ONE.ensures ∙ g.met.T.CountMinValue.one_is in
-    rw one (room_in_row _ _ g.T.CountMinValue.greatest _ (fed g c) c.loop-item.item-index _ (map g.T.CountMinValue.number c.loop-item.counts) _ _ c.loop-item.invariant.counted (more g c) (in_row g c) (place g c)
+    rw one (room_in_row _ _ g.T.CountMinValue.greatest _ (fed g c) c.loop-item.item-index _ (map g.T.CountMinValue.number c.loop-item.counts) _ _ c.loop-item.invariant.counted (more g c) (in_row g c) (index g c)
     (omega (arith, length-map c.args.items.now (fed_bytes g.I.Hash.hash_input), c.requires.room _ (in_row g c))))
 
 pub loop-item-preserved : goal.loop-item-preserved
@@ -46,8 +46,8 @@ loop-item-preserved g c =
     let k : ℕ = c.args.row * c.divisor.result + c.rem.result in
     let mid : List ℤ = map number c.loop-item.counts in
     record {
-      counted = row_counted _ _ _ (fed g now) c.loop-item.item-index _ mid _ c.loop-item.invariant.counted (more g now) k (in_row g now) (place g now)
-          (omega (arith, place g now, in_row g now, length-map c.loop-item.counts number, c.loop-item.auto.counts, c.requires.shape))
+      counted = row_counted _ _ _ (fed g now) c.loop-item.item-index _ mid _ c.loop-item.invariant.counted (more g now) k (in_row g now) (index g now)
+          (omega (arith, index g now, in_row g now, length-map c.loop-item.counts number, c.loop-item.auto.counts, c.requires.shape))
           (c.add_at.ensures ∙ ap (λ (z : ℤ). set mid k (get_or mid k (pos 0) +ℤ z)) one);
       start = c.loop-item.invariant.start;
     }
@@ -57,8 +57,8 @@ overflow_mul-start g c =
     let start : c.args.row * c.divisor.result ≡ c.args.row * c.args.buckets = ap (λ (k : ℕ). c.args.row * k) c.divisor.ensures.value in
     omega (arith, start, c.requires.shape)
 
-pub overflow_add-place : goal.overflow_add-place
-overflow_add-place g c = omega (arith, c.loop-item.invariant.start, c.rem.ensures.below, c.requires.shape)
+pub overflow_add-index : goal.overflow_add-index
+overflow_add-index g c = omega (arith, c.loop-item.invariant.start, c.rem.ensures.below, c.requires.shape)
 
 pub add_at-requires-clause-bounds : goal.add_at-requires-clause-bounds
 add_at-requires-clause-bounds g c = omega (arith, c.loop-item.invariant.start, c.rem.ensures.below, c.requires.shape, c.loop-item.auto.counts)

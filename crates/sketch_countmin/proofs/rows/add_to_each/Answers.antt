@@ -9,16 +9,16 @@ pub loop-row-init : goal.loop-row-init
 loop-row-init g c = rows_none _ _ _ _
 
 pub add_at-requires-clause-bounds : goal.add_at-requires-clause-bounds
-add_at-requires-clause-bounds g c = within _ _ _ c.place_in-place.ensures.inside (c.loop-row.auto.counts ∙ c.requires.shape)
+add_at-requires-clause-bounds g c = within _ _ _ c.index_in-index.ensures.inside (c.loop-row.auto.counts ∙ c.requires.shape)
 
 pub add_at-requires-clause-room : goal.add_at-requires-clause-room
 add_at-requires-clause-room g c =
-    room_behind _ _ _ (buckets_by c.args.buckets c.args.row_seeds.now c.args.bytes.now) c.loop-row.row c.place_in-place.result _ _ c.loop-row.invariant c.place_in-place.ensures.place c.requires.room
+    room_behind _ _ _ (buckets_by c.args.buckets c.args.row_seeds.now c.args.bytes.now) c.loop-row.row c.index_in-index.result _ _ c.loop-row.invariant c.index_in-index.ensures.index c.requires.room
 
 pub loop-row-preserved : goal.loop-row-preserved
 loop-row-preserved g c =
     row_added g.T.CountMinValue.number _ _ (buckets_by c.args.buckets c.args.row_seeds.now c.args.bytes.now) c.loop-row.row (c.loop-row.row + 1) _ _ _ c.loop-row.counts c.add_at.new.counts c.loop-row.invariant refl
-    c.place_in-place.ensures.bucket c.place_in-place.ensures.place c.place_in-place.ensures.inside (c.loop-row.auto.counts ∙ c.requires.shape) c.add_at.ensures
+    c.index_in-index.ensures.bucket c.index_in-index.ensures.index c.index_in-index.ensures.inside (c.loop-row.auto.counts ∙ c.requires.shape) c.add_at.ensures
 
 pub returns : goal.returns
 returns g c =

@@ -6,38 +6,38 @@ use Rattle.sketch_countmin.proofs.RowSteps.{rows_none}
 use Rattle.sketch_countmin.proofs.rows.add_to_four.Goals as goal
 
 pub add_at-requires-clause-bounds : goal.add_at-requires-clause-bounds
-add_at-requires-clause-bounds g c = within _ _ _ c.place_in-first.ensures.inside c.requires.shape
+add_at-requires-clause-bounds g c = within _ _ _ c.index_in-first.ensures.inside c.requires.shape
 
 pub add_at-requires-clause-room : goal.add_at-requires-clause-room
 add_at-requires-clause-room g c =
-    c.requires.room c.place_in-first.result
+    c.requires.room c.index_in-first.result
 
 pub add_at-requires-2-clause-bounds : goal.add_at-requires-2-clause-bounds
-add_at-requires-2-clause-bounds g c = within _ _ _ c.place_in-second.ensures.inside (c.add_at.auto.counts ∙ c.requires.shape)
+add_at-requires-2-clause-bounds g c = within _ _ _ c.index_in-second.ensures.inside (c.add_at.auto.counts ∙ c.requires.shape)
 
 pub add_at-requires-2-clause-room : goal.add_at-requires-2-clause-room
 add_at-requires-2-clause-room g c =
-    room_stays _ _ _ _ (buckets_by c.args.buckets c.args.row_seeds.now c.args.bytes.now) 0 1 c.place_in-first.result c.place_in-second.result _ _ (omega arith) c.place_in-first.ensures.bucket c.place_in-first.ensures.place c.place_in-second.ensures.place c.add_at.ensures
-    (c.requires.room c.place_in-second.result)
+    room_stays _ _ _ _ (buckets_by c.args.buckets c.args.row_seeds.now c.args.bytes.now) 0 1 c.index_in-first.result c.index_in-second.result _ _ (omega arith) c.index_in-first.ensures.bucket c.index_in-first.ensures.index c.index_in-second.ensures.index c.add_at.ensures
+    (c.requires.room c.index_in-second.result)
 
 pub add_at-requires-3-clause-bounds : goal.add_at-requires-3-clause-bounds
-add_at-requires-3-clause-bounds g c = within _ _ _ c.place_in-third.ensures.inside (c.add_at-2.auto.counts ∙ (c.add_at.auto.counts ∙ c.requires.shape))
+add_at-requires-3-clause-bounds g c = within _ _ _ c.index_in-third.ensures.inside (c.add_at-2.auto.counts ∙ (c.add_at.auto.counts ∙ c.requires.shape))
 
 pub add_at-requires-3-clause-room : goal.add_at-requires-3-clause-room
 add_at-requires-3-clause-room g c =
-    room_stays _ _ _ _ (buckets_by c.args.buckets c.args.row_seeds.now c.args.bytes.now) 1 2 c.place_in-second.result c.place_in-third.result _ _ (omega arith) c.place_in-second.ensures.bucket c.place_in-second.ensures.place c.place_in-third.ensures.place c.add_at-2.ensures
-    (room_stays _ _ _ _ (buckets_by c.args.buckets c.args.row_seeds.now c.args.bytes.now) 0 2 c.place_in-first.result c.place_in-third.result _ _ (omega arith) c.place_in-first.ensures.bucket c.place_in-first.ensures.place c.place_in-third.ensures.place c.add_at.ensures
-    (c.requires.room c.place_in-third.result))
+    room_stays _ _ _ _ (buckets_by c.args.buckets c.args.row_seeds.now c.args.bytes.now) 1 2 c.index_in-second.result c.index_in-third.result _ _ (omega arith) c.index_in-second.ensures.bucket c.index_in-second.ensures.index c.index_in-third.ensures.index c.add_at-2.ensures
+    (room_stays _ _ _ _ (buckets_by c.args.buckets c.args.row_seeds.now c.args.bytes.now) 0 2 c.index_in-first.result c.index_in-third.result _ _ (omega arith) c.index_in-first.ensures.bucket c.index_in-first.ensures.index c.index_in-third.ensures.index c.add_at.ensures
+    (c.requires.room c.index_in-third.result))
 
 pub add_at-requires-4-clause-bounds : goal.add_at-requires-4-clause-bounds
-add_at-requires-4-clause-bounds g c = within _ _ _ c.place_in-fourth.ensures.inside (c.add_at-3.auto.counts ∙ (c.add_at-2.auto.counts ∙ (c.add_at.auto.counts ∙ c.requires.shape)))
+add_at-requires-4-clause-bounds g c = within _ _ _ c.index_in-fourth.ensures.inside (c.add_at-3.auto.counts ∙ (c.add_at-2.auto.counts ∙ (c.add_at.auto.counts ∙ c.requires.shape)))
 
 pub add_at-requires-4-clause-room : goal.add_at-requires-4-clause-room
 add_at-requires-4-clause-room g c =
-    room_stays _ _ _ _ (buckets_by c.args.buckets c.args.row_seeds.now c.args.bytes.now) 2 3 c.place_in-third.result c.place_in-fourth.result _ _ (omega arith) c.place_in-third.ensures.bucket c.place_in-third.ensures.place c.place_in-fourth.ensures.place c.add_at-3.ensures
-    (room_stays _ _ _ _ (buckets_by c.args.buckets c.args.row_seeds.now c.args.bytes.now) 1 3 c.place_in-second.result c.place_in-fourth.result _ _ (omega arith) c.place_in-second.ensures.bucket c.place_in-second.ensures.place c.place_in-fourth.ensures.place c.add_at-2.ensures
-    (room_stays _ _ _ _ (buckets_by c.args.buckets c.args.row_seeds.now c.args.bytes.now) 0 3 c.place_in-first.result c.place_in-fourth.result _ _ (omega arith) c.place_in-first.ensures.bucket c.place_in-first.ensures.place c.place_in-fourth.ensures.place c.add_at.ensures
-    (c.requires.room c.place_in-fourth.result)))
+    room_stays _ _ _ _ (buckets_by c.args.buckets c.args.row_seeds.now c.args.bytes.now) 2 3 c.index_in-third.result c.index_in-fourth.result _ _ (omega arith) c.index_in-third.ensures.bucket c.index_in-third.ensures.index c.index_in-fourth.ensures.index c.add_at-3.ensures
+    (room_stays _ _ _ _ (buckets_by c.args.buckets c.args.row_seeds.now c.args.bytes.now) 1 3 c.index_in-second.result c.index_in-fourth.result _ _ (omega arith) c.index_in-second.ensures.bucket c.index_in-second.ensures.index c.index_in-fourth.ensures.index c.add_at-2.ensures
+    (room_stays _ _ _ _ (buckets_by c.args.buckets c.args.row_seeds.now c.args.bytes.now) 0 3 c.index_in-first.result c.index_in-fourth.result _ _ (omega arith) c.index_in-first.ensures.bucket c.index_in-first.ensures.index c.index_in-fourth.ensures.index c.add_at.ensures
+    (c.requires.room c.index_in-fourth.result)))
 
 pub returns : goal.returns
 returns g c =
@@ -50,8 +50,8 @@ returns g c =
     let long : length c.add_at.new.counts ≡ size = c.add_at.auto.counts ∙ c.requires.shape in
     let long-2 : length c.add_at-2.new.counts ≡ size = c.add_at-2.auto.counts ∙ long in
     let long-3 : length c.add_at-3.new.counts ≡ size = c.add_at-3.auto.counts ∙ long-2 in
-    let one : RowsAdded d w bucket 1 old (map num c.add_at.new.counts) = row_added num d w bucket 0 1 c.place_in-first.result size old c.args.counts.now c.add_at.new.counts (rows_none d w bucket old) (omega arith) c.place_in-first.ensures.bucket c.place_in-first.ensures.place c.place_in-first.ensures.inside c.requires.shape c.add_at.ensures in
-    let two : RowsAdded d w bucket 2 old (map num c.add_at-2.new.counts) = row_added num d w bucket 1 2 c.place_in-second.result size old c.add_at.new.counts c.add_at-2.new.counts one (omega arith) c.place_in-second.ensures.bucket c.place_in-second.ensures.place c.place_in-second.ensures.inside long c.add_at-2.ensures in
-    let three : RowsAdded d w bucket 3 old (map num c.add_at-3.new.counts) = row_added num d w bucket 2 3 c.place_in-third.result size old c.add_at-2.new.counts c.add_at-3.new.counts two (omega arith) c.place_in-third.ensures.bucket c.place_in-third.ensures.place c.place_in-third.ensures.inside long-2 c.add_at-3.ensures in
-    let four : RowsAdded d w bucket 4 old (map num c.add_at-4.new.counts) = row_added num d w bucket 3 4 c.place_in-fourth.result size old c.add_at-3.new.counts c.add_at-4.new.counts three (omega arith) c.place_in-fourth.ensures.bucket c.place_in-fourth.ensures.place c.place_in-fourth.ensures.inside long-3 c.add_at-4.ensures in
+    let one : RowsAdded d w bucket 1 old (map num c.add_at.new.counts) = row_added num d w bucket 0 1 c.index_in-first.result size old c.args.counts.now c.add_at.new.counts (rows_none d w bucket old) (omega arith) c.index_in-first.ensures.bucket c.index_in-first.ensures.index c.index_in-first.ensures.inside c.requires.shape c.add_at.ensures in
+    let two : RowsAdded d w bucket 2 old (map num c.add_at-2.new.counts) = row_added num d w bucket 1 2 c.index_in-second.result size old c.add_at.new.counts c.add_at-2.new.counts one (omega arith) c.index_in-second.ensures.bucket c.index_in-second.ensures.index c.index_in-second.ensures.inside long c.add_at-2.ensures in
+    let three : RowsAdded d w bucket 3 old (map num c.add_at-3.new.counts) = row_added num d w bucket 2 3 c.index_in-third.result size old c.add_at-2.new.counts c.add_at-3.new.counts two (omega arith) c.index_in-third.ensures.bucket c.index_in-third.ensures.index c.index_in-third.ensures.inside long-2 c.add_at-3.ensures in
+    let four : RowsAdded d w bucket 4 old (map num c.add_at-4.new.counts) = row_added num d w bucket 3 4 c.index_in-fourth.result size old c.add_at-3.new.counts c.add_at-4.new.counts three (omega arith) c.index_in-fourth.ensures.bucket c.index_in-fourth.ensures.index c.index_in-fourth.ensures.inside long-3 c.add_at-4.ensures in
     subst (λ (n : ℕ). RowsAdded d w bucket n old (map num c.add_at-4.new.counts)) (sym c.requires.four) four

@@ -2,7 +2,7 @@
 use super::once_each;
 use std::test::Fail;
 
-/// Items of which all but the last but one stand in a sketch of thousands: more than are hashed at once.
+/// Items, more than are hashed at once. A sketch of thousands of items has all of them except 5000.
 const ASKED: [i64; 18] = [
     1, 2, 3, 4, 5, 6, 7, 8, 9, 10, 11, 12, 13, 14, 15, 16, 5000, 3072,
 ];

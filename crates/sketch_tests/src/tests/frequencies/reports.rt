@@ -1,10 +1,10 @@
-//! Rows of reports. Which items a report has is lines of the program, in `tests/sessions.py`.
+//! Rows of reports. `tests/program/sessions.py` tests which items a report has, as lines of the program.
 use sketch_base::Error;
 use sketch_frequencies::{ErrorType, FrequentItemsSketch, Row};
 use std::alloc::Global;
 use std::test::Fail;
 
-/// The rows of a sketch of the text "ab" with a weight of 3.
+/// Returns the rows of a sketch of the string "ab" with a weight of 3.
 fn rows_of_text(alloc: Global) -> Result<Vec<Row<String>>, Error> {
     let text = String::from_str(alloc, "ab")?;
     let mut sketch = FrequentItemsSketch::new(alloc, 8)?;
@@ -13,7 +13,8 @@ fn rows_of_text(alloc: Global) -> Result<Vec<Row<String>>, Error> {
     sketch.frequent_items(ErrorType::NoFalsePositives)
 }
 
-/// Whether a row's clone is equal to it, its lower bound, and whether it has the item "ab" and is printed with its bounds.
+/// Clones a row. Returns whether the clone equals it, the clone's lower bound, whether its item is "ab", and whether it
+/// is printed with its bounds.
 fn cloned(alloc: Global, row: &Row<String>) -> Result<(bool, u64, bool, bool), Fail> {
     let clone = row.try_clone()?;
     let text = format!(in alloc; "{clone}")?;

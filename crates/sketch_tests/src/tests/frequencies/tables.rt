@@ -1,4 +1,4 @@
-//! The table under a sketch, with items of one home.
+//! The table of a sketch, with items of one home.
 use sketch_base::{Error, murmur3_of};
 use sketch_frequencies::ReversePurgeItemHashMap;
 use std::alloc::Global;
@@ -10,7 +10,7 @@ use test_items::{FEEDS_NOTHING, Item};
 /// A table of items that feed a hasher nothing, so that all have one home.
 type Table = ReversePurgeItemHashMap<Item<FEEDS_NOTHING>>;
 
-/// An empty table of so many slots.
+/// Creates an empty table of `size` slots.
 fn table<T: Eq + Hash + Drop>(
     rt: &impl Abort,
     alloc: Global,
@@ -20,7 +20,7 @@ fn table<T: Eq + Hash + Drop>(
     ReversePurgeItemHashMap::new(alloc, size)
 }
 
-/// Adds the amount in the table, where there is room for it.
+/// Adds the amount to the item's count, if there is room for it.
 fn add<T: Eq + Hash + Drop>(
     rt: &impl Abort,
     map: &mut ReversePurgeItemHashMap<T>,
@@ -33,7 +33,7 @@ fn add<T: Eq + Hash + Drop>(
     map.adjust_or_put_value(item, amount as u64);
 }
 
-/// The middle count that a purge of so large a sample takes.
+/// Purges with this sample size, and returns the middle count that was subtracted.
 fn purge<T: Eq + Hash + Drop>(
     rt: &impl Abort,
     map: &mut ReversePurgeItemHashMap<T>,
@@ -43,7 +43,7 @@ fn purge<T: Eq + Hash + Drop>(
     map.purge(sample_size as usize)
 }
 
-/// The same table in so many slots.
+/// Moves the table to `size` slots.
 fn resize(
     rt: &impl Abort,
     map: &mut ReversePurgeItemHashMap<i64>,
@@ -70,7 +70,7 @@ fn seven_items_that_feed_nothing(rt: HostRuntime) -> Result<(), Fail> {
     Ok(())
 }
 
-/// A table of eight slots with these items and counts.
+/// Creates a table of eight slots with these items and counts.
 fn with_counts(
     rt: &impl Abort,
     alloc: Global,
@@ -91,15 +91,15 @@ fn items_of_one_home(rt: HostRuntime) {
     }
 }
 
-/// The counts of the six items.
+/// Returns the counts of the six items.
 fn counts_of_six(map: &ReversePurgeItemHashMap<i64>) -> [u64; 6] {
     let mut counts = [0; 6];
     map.get_all(&ITEMS_OF_THE_LAST_SLOT, &mut counts);
     counts
 }
 
-// The counts are 0, 3, 0, 5 and 1, and the middle one is 1. A sixth item with their home then has to pass the two that
-// are left, whatever stood there before.
+// The counts are 0, 3, 0, 5 and 1, and the middle one is 1. So two items are left after the purge. A look-up of a sixth
+// item with their home then probes both and a free slot, whatever was in the slots before.
 #[test]
 fn a_cluster_round_the_end(rt: HostRuntime) -> Result<(), Fail> {
     let mut map = with_counts(&rt, rt.alloc(), &ITEMS_OF_THE_LAST_SLOT, [0, 3, 0, 5, 1])?;

@@ -7,4 +7,4 @@ returns-in-None g c = value_missing _ _ _ c.args.name.now c.self.invariant c.sel
 
 pub returns-in-Some : goal.returns-in-Some
 returns-in-Some g c =
-    value_found _ _ _ c.args.name.now c.in-Some.place c.index.result.now c.self.invariant c.self.view_is c.in-Some.ensures ∙ ap Some (sym c.index.ensures)
+    value_found _ _ _ c.args.name.now c.in-Some.index c.index.result.now c.self.invariant c.self.view_is c.in-Some.ensures ∙ ap Some (sym c.index.ensures)

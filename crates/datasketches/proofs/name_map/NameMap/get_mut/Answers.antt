@@ -8,7 +8,7 @@ returns-in-None g c =
 
 pub returns-in-Some : goal.returns-in-Some
 returns-in-Some g c =
-    let found = value_found _ _ _ c.args.name.now c.in-Some.place c.index_mut.result.now c.self.invariant c.self.view_is c.in-Some.ensures in (
-      (refl, λ w. written _ _ _ c.args.name.now c.in-Some.place w c.self.invariant c.self.view_is c.in-Some.ensures, refl),
+    let found = value_found _ _ _ c.args.name.now c.in-Some.index c.index_mut.result.now c.self.invariant c.self.view_is c.in-Some.ensures in (
+      (refl, λ w. written _ _ _ c.args.name.now c.in-Some.index w c.self.invariant c.self.view_is c.in-Some.ensures, refl),
       sym (found ∙ ap Some (sym c.index_mut.ensures.value)),
     )

@@ -12,7 +12,7 @@ loop-start-preserved c =
     skips c.args.text.now c.loop-start.start c.utf8.text c.loop-start.invariant (rw c.as_bytes-bytes.ensures.value at c.loop-start-test.true) (rw c.as_bytes-bytes.ensures.value at c.if-bytes-start-eq32.true)
 
 pub split_at-requires-2 : goal.split_at-requires-2
-split_at-requires-2 c = first_boundary c.split_at.result.1.now c.first_place.result (rw c.as_bytes.ensures.value at c.first_place.ensures.value) (rw c.as_bytes.ensures.value at c.first_place.ensures.bound)
+split_at-requires-2 c = first_boundary c.split_at.result.1.now c.find_byte.result (rw c.as_bytes.ensures.value at c.find_byte.ensures.value) (rw c.as_bytes.ensures.value at c.find_byte.ensures.bound)
 
 pub returns : goal.returns
 returns c =
@@ -23,5 +23,5 @@ returns c =
     ] in
     let text = c.split_at.ensures.back in
     sym c.loop-start.invariant.2
-    ∙ first_word (drop c.loop-start.start c.args.text.now) c.split_at-2.result.0.now c.split_at-2.result.1.now c.first_place.result (plain_after c.args.text.now c.loop-start.start plain)
-    (rw (c.as_bytes.ensures.value, text) at c.first_place.ensures.value) (rw (c.as_bytes.ensures.value, text) at c.first_place.ensures.bound) (rw text at c.split_at-2.ensures.front) (rw text at c.split_at-2.ensures.back)
+    ∙ first_word (drop c.loop-start.start c.args.text.now) c.split_at-2.result.0.now c.split_at-2.result.1.now c.find_byte.result (plain_after c.args.text.now c.loop-start.start plain)
+    (rw (c.as_bytes.ensures.value, text) at c.find_byte.ensures.value) (rw (c.as_bytes.ensures.value, text) at c.find_byte.ensures.bound) (rw text at c.split_at-2.ensures.front) (rw text at c.split_at-2.ensures.back)

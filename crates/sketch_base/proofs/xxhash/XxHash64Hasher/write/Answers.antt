@@ -6,4 +6,4 @@ use Rattle.sketch_base.proofs.xxhash.XxHash64Hasher.write.Goals as goal
 
 pub returns-clause-fed : goal.returns-clause-fed
 returns-clause-fed c = λ seed before h.
-    record { state_is = c.take_in.ensures ∙ fed_more write write_more (initial seed) c.args.self.now before c.args.bytes.now h.state_is }
+    record { state_is = c.absorb.ensures ∙ fed_more write write_more (initial seed) c.args.self.now before c.args.bytes.now h.state_is }

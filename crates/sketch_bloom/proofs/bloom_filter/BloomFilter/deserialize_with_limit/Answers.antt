@@ -36,7 +36,7 @@ returns-clause-stands c = restores c.args.image.now _ (returns-clause-image c)
 pub returns-clause-within : goal.returns-clause-within
 returns-clause-within c =
     let count = ap length c.in_ok-words.ensures.words ∙ length-words_in c.in_ok-preamble.preamble.num_words (drop 32 c.args.image.now) in
-    omega (arith, count, c.if-preamble-most_bytes.false)
+    omega (arith, count, c.if-preamble-max_bytes.false)
 
 pub returns-in_err-preamble-clause-image : goal.returns-in_err-preamble-clause-image
 returns-in_err-preamble-clause-image c = IfOk-from_err c.from_residual.result _ c.from_residual.ensures.0

@@ -20,22 +20,22 @@ overflow_add-num_cells g c =
 pub returns-in_err-preamble-clause-err : goal.returns-in_err-preamble-clause-err
 returns-in_err-preamble-clause-err g c =
     let p = err_from_is_err_and c.from_residual.result c.from_residual.ensures.1 in
-    rw (p.1, p.2) (inr (c.in_err-preamble.ensures.err.0, early_first g.T.CountMinValue.least g.T.CountMinValue.greatest g.T.CountMinValue.SIZE c.args.most_bytes c.args.seed c.args.image.now _ c.in_err-preamble.ensures.err.1))
+    rw (p.1, p.2) (inr (c.in_err-preamble.ensures.err.0, early_first g.T.CountMinValue.least g.T.CountMinValue.greatest g.T.CountMinValue.SIZE c.args.max_bytes c.args.seed c.args.image.now _ c.in_err-preamble.ensures.err.1))
 
 pub returns-then-num_cells-SIZE-clause-err : goal.returns-then-num_cells-SIZE-clause-err
-returns-then-num_cells-SIZE-clause-err g c = rw c.invalid_data.ensures (inr (refl, limit_first g.T.CountMinValue.least g.T.CountMinValue.greatest g.T.CountMinValue.SIZE c.args.most_bytes c.args.seed c.args.image.now c.in_ok-preamble.preamble c.in_ok-preamble.ensures.fields c.in_ok-preamble.ensures.checks (rw c.SIZE.ensures at c.if-num_cells-SIZE.true)))
+returns-then-num_cells-SIZE-clause-err g c = rw c.invalid_data.ensures (inr (refl, limit_first g.T.CountMinValue.least g.T.CountMinValue.greatest g.T.CountMinValue.SIZE c.args.max_bytes c.args.seed c.args.image.now c.in_ok-preamble.preamble c.in_ok-preamble.ensures.fields c.in_ok-preamble.ensures.checks (rw c.SIZE.ensures at c.if-num_cells-SIZE.true)))
 
 pub returns-then-preamble-clause-image : goal.returns-then-preamble-clause-image
 returns-then-preamble-clause-image g c = IfOk-weaker c.empty.result _ _ (empty_image g.T.CountMinValue.least g.T.CountMinValue.greatest c.args.seed c.args.image.now c.in_ok-preamble.preamble c.in_ok-preamble.ensures.fields c.if-preamble.true c.in_ok-preamble.ensures.checks) c.empty.ensures.ok
 
 pub returns-then-preamble-clause-err : goal.returns-then-preamble-clause-err
-returns-then-preamble-clause-err g c = IfErr-weaker c.empty.result _ _ (memory_refusal g.T.CountMinValue.least g.T.CountMinValue.greatest g.T.CountMinValue.SIZE c.args.most_bytes c.args.seed c.args.image.now c.in_ok-preamble.preamble c.in_ok-preamble.ensures.fields c.in_ok-preamble.ensures.checks (rw c.SIZE.ensures at c.if-num_cells-SIZE.false)) c.empty.ensures.err
+returns-then-preamble-clause-err g c = IfErr-weaker c.empty.result _ _ (memory_refusal g.T.CountMinValue.least g.T.CountMinValue.greatest g.T.CountMinValue.SIZE c.args.max_bytes c.args.seed c.args.image.now c.in_ok-preamble.preamble c.in_ok-preamble.ensures.fields c.in_ok-preamble.ensures.checks (rw c.SIZE.ensures at c.if-num_cells-SIZE.false)) c.empty.ensures.err
 
 pub returns-else-preamble-clause-image : goal.returns-else-preamble-clause-image
 returns-else-preamble-clause-image g c = image_read g.T.CountMinValue.least g.T.CountMinValue.greatest c.args.seed c.args.image.now c.with_cells_of.result c.in_ok-preamble.ensures.checks c.with_cells_of.ensures.checks c.with_cells_of.ensures.value
 
 pub returns-else-preamble-clause-err : goal.returns-else-preamble-clause-err
-returns-else-preamble-clause-err g c = IfErr-weaker c.with_cells_of.result _ _ (late_refusal g.T.CountMinValue.least g.T.CountMinValue.greatest g.T.CountMinValue.SIZE c.args.most_bytes c.args.seed c.args.image.now c.in_ok-preamble.preamble c.in_ok-preamble.ensures.fields c.in_ok-preamble.ensures.checks (rw c.SIZE.ensures at c.if-num_cells-SIZE.false)) c.with_cells_of.ensures.err
+returns-else-preamble-clause-err g c = IfErr-weaker c.with_cells_of.result _ _ (late_refusal g.T.CountMinValue.least g.T.CountMinValue.greatest g.T.CountMinValue.SIZE c.args.max_bytes c.args.seed c.args.image.now c.in_ok-preamble.preamble c.in_ok-preamble.ensures.fields c.in_ok-preamble.ensures.checks (rw c.SIZE.ensures at c.if-num_cells-SIZE.false)) c.with_cells_of.ensures.err
 
 pub returns-in_err-preamble-clause-image : goal.returns-in_err-preamble-clause-image
 returns-in_err-preamble-clause-image g c = IfOk-from_err c.from_residual.result _ c.from_residual.ensures.0
@@ -56,10 +56,10 @@ pub returns-else-preamble-clause-state : goal.returns-else-preamble-clause-state
 returns-else-preamble-clause-state g c = c.with_cells_of.ensures.state
 
 pub returns-then-preamble-clause-within : goal.returns-then-preamble-clause-within
-returns-then-preamble-clause-within g c = IfOk-weaker c.empty.result _ _ (λ s s_is. subst (λ (s : CountState). s.hashes * s.buckets * g.T.CountMinValue.SIZE + 8 * s.hashes ≤ c.args.most_bytes) (sym s_is) (rw c.SIZE.ensures at c.if-num_cells-SIZE.false)) c.empty.ensures.ok
+returns-then-preamble-clause-within g c = IfOk-weaker c.empty.result _ _ (λ s s_is. subst (λ (s : CountState). s.hashes * s.buckets * g.T.CountMinValue.SIZE + 8 * s.hashes ≤ c.args.max_bytes) (sym s_is) (rw c.SIZE.ensures at c.if-num_cells-SIZE.false)) c.empty.ensures.ok
 
 pub returns-else-preamble-clause-within : goal.returns-else-preamble-clause-within
-returns-else-preamble-clause-within g c = IfOk-weaker c.with_cells_of.result _ _ (value_within g.T.CountMinValue.least g.T.CountMinValue.greatest g.T.CountMinValue.SIZE c.args.most_bytes c.args.seed c.args.image.now c.in_ok-preamble.preamble c.in_ok-preamble.ensures.fields c.in_ok-preamble.ensures.checks (rw c.SIZE.ensures at c.if-num_cells-SIZE.false)) c.with_cells_of.ensures.value
+returns-else-preamble-clause-within g c = IfOk-weaker c.with_cells_of.result _ _ (value_within g.T.CountMinValue.least g.T.CountMinValue.greatest g.T.CountMinValue.SIZE c.args.max_bytes c.args.seed c.args.image.now c.in_ok-preamble.preamble c.in_ok-preamble.ensures.fields c.in_ok-preamble.ensures.checks (rw c.SIZE.ensures at c.if-num_cells-SIZE.false)) c.with_cells_of.ensures.value
 
 pub returns-then-preamble-clause-stands : goal.returns-then-preamble-clause-stands
 returns-then-preamble-clause-stands g c = IfOk-weaker c.empty.result _ _ (restores g.T.CountMinValue.least g.T.CountMinValue.greatest c.args.seed c.args.image.now) (returns-then-preamble-clause-image g c)

@@ -5,7 +5,7 @@ use Rattle.std.proofs.Math.Nat.{div-le_self}
 use Rattle.std.proofs.lemmas.Int.{ints}
 use Rattle.sketch_base.specs.Hashes.{fed_bytes}
 use Rattle.sketch_countmin.specs.Values.{InRange}
-use Rattle.sketch_countmin.specs.State.{IsLeastCell, margin}
+use Rattle.sketch_countmin.specs.State.{IsMinCell, margin}
 use Rattle.sketch_countmin.proofs.Estimates.{least_unique, min_below, min_above}
 use Rattle.sketch_countmin.proofs.Numbers.{whole_is, gain_fits}
 use Rattle.sketch_countmin.proofs.count_min_sketch.CountMinSketch.upper_bound.Given as given
@@ -24,12 +24,12 @@ sum_is x y t d total small narrow =
     ap (λ (n : ℕ). to_z w128 (of_z w128 (to_z w128 (of_z w128 y) +ℤ to_z w128 (n * 2718281828459045235 / d)))) whole ∙ plain
 
 -- the least cell is the one that the code found
-found : (g : given.Over) (c : After-from_number g) (estimate : ℤ) → IsLeastCell c.args.self.now (fed_bytes g.I.Hash.hash_input c.args.item) estimate → c.to_number-2.result ≡ estimate
+found : (g : given.Over) (c : After-from_number g) (estimate : ℤ) → IsMinCell c.args.self.now (fed_bytes g.I.Hash.hash_input c.args.item) estimate → c.to_number-2.result ≡ estimate
 found g c estimate least =
     c.to_number-2.ensures.value ∙ least_unique c.args.self.now (fed_bytes g.I.Hash.hash_input c.args.item) (g.T.CountMinValue.number c.estimate.result) estimate c.estimate.ensures.least least
 
 -- and the sum is that of the estimate and the margin
-sum : (g : given.Over) (c : After-from_number g) (estimate : ℤ) → IsLeastCell c.args.self.now (fed_bytes g.I.Hash.hash_input c.args.item) estimate
+sum : (g : given.Over) (c : After-from_number g) (estimate : ℤ) → IsMinCell c.args.self.now (fed_bytes g.I.Hash.hash_input c.args.item) estimate
     → to_z w128 (of_z w128 (to_z w128 (of_z w128 c.to_number-2.result) +ℤ to_z w128 (unsigned_abs (to_z w128 (of_z w128 c.to_number.result)) * 2718281828459045235 / (1000000000000000000 * c.divisor.result)))) ≡ estimate +ℤ pos (margin c.args.self.now)
 sum g c estimate least =
     let total : ℕ = unsigned_abs (g.T.CountMinValue.number c.self.inside.total) in

@@ -24,4 +24,4 @@ returns-in_err-unite-clause-refused c =
 pub returns-clause-passes : goal.returns-clause-passes
 returns-clause-passes c =
     let all : UnitesAll c.in_ok-prefilter.prefilter (map (λ image. image.items) c.args.images.now) c.loop-image.prefilter = grind (arith, common_steps) in
-    passes_all c.what_images_say.ensures.spelled c.in_ok-prefilter.prefilter c.loop-image.prefilter (map (λ image. image.items) c.args.images.now) all
+    passes_all c.image_laws.ensures.spelled c.in_ok-prefilter.prefilter c.loop-image.prefilter (map (λ image. image.items) c.args.images.now) all

@@ -15,7 +15,7 @@ returns-clause-gone g c =
     let items = map (fed_bytes g.T.Hash.hash_input) c.args.items.now in
     let batch : c.insert_all.new.self ≡ all_inserted (cleared c.self.inside.refused) items =
     c.insert_all.ensures.insertions ∙ ap (λ (s : FilterState). all_inserted s items) (c.reset.ensures.cleared ∙ ap cleared c.in_ok-batch.ensures.ok) in
-    gone_either c.what_is_contained.ensures.inserted c.difference_takes_and_leaves.ensures.takes_away c.self.inside.refused c.insert_all.new.self c.difference.new.self items c.difference.result
+    gone_either c.membership.ensures.inserted c.difference_takes_and_leaves.ensures.takes_away c.self.inside.refused c.insert_all.new.self c.difference.new.self items c.difference.result
     batch c.insert_all.ensures.state c.difference.ensures.ok
 
 pub returns-clause-no_more : goal.returns-clause-no_more

@@ -1,0 +1,795 @@
+/* datasketches.h: Bloom filters, Count-Min sketches and frequent items, proved to meet their contracts.
+ *
+ * A handle is a `ds_sketch`: one word that C keeps and the library fills. Each call but `ds_free` returns a number: 0 or more
+ * if it was done, and an error below 0 otherwise. A call that returns an error leaves sketches, buffers and results as they were,
+ * unless its comment says otherwise. `ds_result_name` and `ds_result_message` return the number's name and message.
+ *
+ * A number is hashed as 8 bytes, lowest first. So a number from 0 to 2^63 - 1 is the same item as `uint64_t` and as `int64_t`.
+ * A string is bytes and their number, without an end mark. It must be valid UTF-8.
+ *
+ * Many strings are one buffer of bytes with offsets, as in Arrow's `large_utf8`. String i is the bytes from offset i up to
+ * offset i + 1, so n strings have n + 1 offsets. The first offset may be above 0. Widen offsets of 32 bits first, and pass
+ * offsets in `int64_t` by a cast of the pointer. The library keeps neither bytes nor offsets.
+ *
+ * A call returns the first error in this order:
+ *
+ *  1. DS_BAD_ARGUMENT, by the checks of this header (see below).
+ *  2. Errors of arguments: DS_BAD_OFFSETS, DS_NO_ROOM if items and their weights or results differ in number,
+ *     DS_INVALID_UTF8, DS_BAD_FRACTION.
+ *  3. Errors of handles: DS_NO_SKETCH if the handle has no sketch, DS_WRONG_KIND if its sketch is of a kind without this call;
+ *     of two handles, the first one's before the other one's. All calls return these but `ds_free`, those whose names end in
+ *     `_new` or `_deserialize`, and the calls for sizes at the end. `ds_clone` and `ds_memory_bytes` take any kind.
+ *  4. The errors in the call's comment, in their order there. DS_NO_MEMORY comes when an allocation fails, which may be earlier.
+ *     DS_NO_ROOM of `serialize` and `rows` comes last.
+ *
+ * The library's proofs assume that C keeps these rules:
+ *
+ *  1. A handle is created as `DS_NONE`, is changed by these calls alone, and is not copied. What it holds belongs to the
+ *     library: `ds_free` frees it, and so does a call that puts another sketch into the handle.
+ *  2. Pointers are not null, are aligned for their type, and point to as many values as their count says. A caller may read
+ *     these values, and write them where there is no `const`. No two arguments of a call overlap.
+ *  3. One call at a time uses a handle. Another thread may use it later if a lock, a thread's start or a join lies between.
+ *     Two threads may use two handles at once.
+ *  4. No call is made from a signal handler, or by the child of a `fork` that was made while a call ran.
+ *  5. The program has one `malloc`, `realloc` and `free`, which the library calls.
+ *  6. A `bool` that the library reads is 0 or 1.
+ *
+ * This header checks two parts of rule 2, at next to no cost. The same handle twice, or a null pointer with a count above 0,
+ * returns DS_BAD_ARGUMENT. A null pointer with the count 0 means no values. These checks are macros of the calls' names:
+ * `(ds_bloom_union)(a, b)`, in brackets, is the call without them.
+ */
+#ifndef DATASKETCHES_H
+#define DATASKETCHES_H
+
+#include <stdbool.h>
+#include <stddef.h>
+#include <stdint.h>
+
+#ifdef __cplusplus
+extern "C" {
+#endif
+
+/* A sketch of some kind, or none if `sketch` is null. Never read or write the pointer. */
+typedef struct ds_sketch {
+    void *sketch;
+} ds_sketch;
+
+/* The handle of no sketch: `ds_sketch filter = DS_NONE;` */
+#define DS_NONE {0}
+
+/* The results of calls, beside the errors of sketches. */
+enum {
+    DS_OK = 0,             /* the call was done */
+    DS_NO = 0,             /* no, as the result of a test */
+    DS_YES = 1,            /* yes */
+    DS_NO_SKETCH = -1,     /* the handle has no sketch */
+    DS_WRONG_KIND = -2,    /* the sketch is of a kind without this call */
+    DS_NO_ROOM = -3,       /* a buffer of the caller has not the length that the call needs */
+    DS_BAD_FRACTION = -4,  /* a fraction is not above 0 and at most 1 */
+    DS_BAD_ARGUMENT = -5,  /* from this header alone: the same handle twice, or null with a count above 0 */
+    DS_BAD_OFFSETS = -6    /* there is no offset, one is below the one before it, or one passes the end of the bytes */
+};
+
+/* The errors of sketches: number, constant, name and message of each. */
+#define DS_SKETCH_ERRORS(X) \
+    X(-11, DS_BAD_NUM_BITS, "BadNumBits", "num_bits out of range") \
+    X(-12, DS_BAD_NUM_HASHES, "BadNumHashes", "num_hashes out of range") \
+    X(-13, DS_BAD_NUM_BUCKETS, "BadNumBuckets", "num_buckets below 3") \
+    X(-14, DS_TABLE_TOO_LARGE, "TableTooLarge", "table too large") \
+    X(-15, DS_ZERO_SEED_HASH, "ZeroSeedHash", "seed hash is zero") \
+    X(-16, DS_MISMATCH, "Mismatch", "shapes or seeds differ") \
+    X(-17, DS_WEIGHT_OVERFLOW, "WeightOverflow", "total weight overflow") \
+    X(-18, DS_MAP_SIZE_NOT_POWER_OF_TWO, "MapSizeNotPowerOfTwo", "map size is not a power of two") \
+    X(-19, DS_MAP_SIZE_TOO_SMALL, "MapSizeTooSmall", "map size below 8") \
+    X(-20, DS_MAP_SIZE_TOO_LARGE, "MapSizeTooLarge", "map size above 2^30") \
+    X(-21, DS_ITEM_TOO_LONG, "ItemTooLong", "item too long") \
+    X(-22, DS_INSUFFICIENT_DATA, "InsufficientData", "insufficient data") \
+    X(-23, DS_BAD_FAMILY, "BadFamily", "wrong family") \
+    X(-24, DS_BAD_VERSION, "BadVersion", "wrong serial version") \
+    X(-25, DS_BAD_PREAMBLE, "BadPreamble", "wrong preamble longs") \
+    X(-26, DS_BAD_NUM_WORDS, "BadNumWords", "number of words below 1") \
+    X(-27, DS_BAD_BIT_COUNT, "BadBitCount", "wrong number of set bits") \
+    X(-28, DS_SEED_HASH_MISMATCH, "SeedHashMismatch", "seed hashes differ") \
+    X(-29, DS_VALUE_OUT_OF_RANGE, "ValueOutOfRange", "value out of range") \
+    X(-30, DS_NEGATIVE_TOTAL, "NegativeTotal", "total weight is negative") \
+    X(-31, DS_CELL_ABOVE_TOTAL, "CellAboveTotal", "counter exceeds total weight") \
+    X(-32, DS_LG_CUR_TOO_SMALL, "LgCurTooSmall", "current map size below 8") \
+    X(-33, DS_LG_MAX_TOO_LARGE, "LgMaxTooLarge", "greatest map size above 2^30") \
+    X(-34, DS_LG_CUR_ABOVE_MAX, "LgCurAboveMax", "current map size above greatest") \
+    X(-35, DS_EMPTY_FLAG_MISMATCH, "EmptyFlagMismatch", "empty flag does not match preamble") \
+    X(-36, DS_TOO_MANY_ACTIVE, "TooManyActive", "too many active items") \
+    X(-37, DS_ZERO_TOTAL, "ZeroTotal", "total weight is zero") \
+    X(-38, DS_WEIGHTS_EXCEED_TOTAL, "WeightsExceedTotal", "weights exceed total weight") \
+    X(-39, DS_ERROR_EXCEEDS_TOTAL, "ErrorExceedsTotal", "weights and error exceed total weight") \
+    X(-40, DS_INVALID_UTF8, "InvalidUtf8", "invalid UTF-8") \
+    X(-41, DS_BAD_ITEM, "BadItem", "bad item") \
+    X(-42, DS_NO_MEMORY, "NoMemory", "out of memory") \
+    X(-43, DS_BAD_SAMPLE_SIZE, "BadSampleSize", "sample size out of range") \
+    X(-44, DS_BAD_WINDOWS, "BadWindows", "windows out of range")
+
+#define DS_AS_CONSTANT(number, constant, name, message) constant = number,
+enum { DS_SKETCH_ERRORS(DS_AS_CONSTANT) DS_MIN_RESULT = -44 };
+#undef DS_AS_CONSTANT
+
+/* Returns the name of a result, as "Mismatch". Never null. */
+static inline const char *ds_result_name(int32_t result)
+{
+#define DS_AS_NAME(number, constant, name, message) case number: return name;
+    switch (result) {
+    case DS_NO_SKETCH: return "NoSketch";
+    case DS_WRONG_KIND: return "WrongKind";
+    case DS_NO_ROOM: return "NoRoom";
+    case DS_BAD_FRACTION: return "BadFraction";
+    case DS_BAD_ARGUMENT: return "BadArgument";
+    case DS_BAD_OFFSETS: return "BadOffsets";
+    DS_SKETCH_ERRORS(DS_AS_NAME)
+    default: return result < 0 ? "Unknown" : "Ok";
+    }
+#undef DS_AS_NAME
+}
+
+/* Returns the message of a result, as "shapes or seeds differ". Never null. */
+static inline const char *ds_result_message(int32_t result)
+{
+#define DS_AS_MESSAGE(number, constant, name, message) case number: return message;
+    switch (result) {
+    case DS_NO_SKETCH: return "the handle has no sketch";
+    case DS_WRONG_KIND: return "the sketch is of another kind";
+    case DS_NO_ROOM: return "the buffer has not the length that is needed";
+    case DS_BAD_FRACTION: return "the fraction is not above 0 and at most 1";
+    case DS_BAD_ARGUMENT: return "the same handle twice, or null with a count above 0";
+    case DS_BAD_OFFSETS: return "offsets are none, or descend, or pass the end of the bytes";
+    DS_SKETCH_ERRORS(DS_AS_MESSAGE)
+    default: return result < 0 ? "unknown" : "ok";
+    }
+#undef DS_AS_MESSAGE
+}
+
+/* Frees the handle's sketch, of any kind, if any. The handle is then DS_NONE, and may be freed again. */
+void ds_free(ds_sketch *handle);
+
+/* Puts a copy of the other handle's sketch, of any kind, into this handle. The other handle keeps its own. Returns DS_NO_SKETCH
+ * if the other handle has none, and DS_NO_MEMORY if memory runs out. */
+int32_t ds_clone(ds_sketch *handle, ds_sketch *other);
+
+/* Writes how many bytes the handle's sketch takes, of any kind, by a formula. A filter takes 8 for each 64 bits. A Count-Min
+ * sketch takes 8 for each cell and each row. A frequent-items sketch takes 28 for each slot of a table of numbers, or 44 for
+ * each slot of a table of strings and the bytes of the strings. Returns DS_NO_SKETCH if the handle has none. */
+int32_t ds_memory_bytes(ds_sketch *handle, size_t *bytes);
+
+/* --- Bloom filters: sets of items. An item that was inserted is contained, unless a later intersection, difference or reset
+ * removed some of its positions. An item that was not inserted may be contained too: a false positive. --- */
+
+/* A filter's numbers. */
+typedef struct ds_bloom_status {
+    uint64_t bits_used;  /* set bits */
+    uint64_t capacity;   /* all bits */
+    uint64_t seed;
+    uint16_t num_hashes; /* positions of an item */
+} ds_bloom_status;
+
+/* Puts an empty filter into the handle, with at least `num_bits` bits, from 1 to 137438953152, rounded up to words of 64, and
+ * with 1 to 32767 hashes. The library's default seed is 9001. Returns DS_BAD_NUM_BITS, DS_BAD_NUM_HASHES, or DS_NO_MEMORY. */
+int32_t ds_bloom_new(ds_sketch *handle, uint64_t num_bits, uint16_t num_hashes, uint64_t seed);
+
+/* Inserts an item. */
+int32_t ds_bloom_insert_u64(ds_sketch *handle, uint64_t item);
+int32_t ds_bloom_insert_i64(ds_sketch *handle, int64_t item);
+int32_t ds_bloom_insert_string(ds_sketch *handle, const uint8_t *item, size_t length);
+
+/* Inserts many numbers, as one after another, and faster. */
+int32_t ds_bloom_insert_all_u64(ds_sketch *handle, const uint64_t *items, size_t count);
+int32_t ds_bloom_insert_all_i64(ds_sketch *handle, const int64_t *items, size_t count);
+
+/* Inserts many strings, as one after another. */
+int32_t ds_bloom_insert_all_string(ds_sketch *handle, const uint8_t *bytes, size_t num_bytes, const uint64_t *offsets,
+                                   size_t num_offsets);
+
+/* Returns DS_YES if the filter contains the item, and DS_NO otherwise. */
+int32_t ds_bloom_contains_u64(ds_sketch *handle, uint64_t item);
+int32_t ds_bloom_contains_i64(ds_sketch *handle, int64_t item);
+int32_t ds_bloom_contains_string(ds_sketch *handle, const uint8_t *item, size_t length);
+
+/* Writes for each item whether the filter contains it. Returns DS_NO_ROOM unless `num_results` is the number of items. */
+int32_t ds_bloom_contains_all_u64(ds_sketch *handle, const uint64_t *items, size_t count, bool *results, size_t num_results);
+int32_t ds_bloom_contains_all_i64(ds_sketch *handle, const int64_t *items, size_t count, bool *results, size_t num_results);
+int32_t ds_bloom_contains_all_string(ds_sketch *handle, const uint8_t *bytes, size_t num_bytes, const uint64_t *offsets,
+                                     size_t num_offsets, bool *results, size_t num_results);
+
+/* Adds the other filter's positions, keeps those that both have, or removes the other's. The other filter stays as it was.
+ * Returns DS_MISMATCH if bits, hashes or seeds differ. */
+int32_t ds_bloom_union(ds_sketch *handle, ds_sketch *other);
+int32_t ds_bloom_intersect(ds_sketch *handle, ds_sketch *other);
+int32_t ds_bloom_difference(ds_sketch *handle, ds_sketch *other);
+
+/* Returns DS_YES if both filters have the same bits, hashes, seed and positions, and DS_NO otherwise. Both stay as they were. */
+int32_t ds_bloom_equal(ds_sketch *handle, ds_sketch *other);
+
+/* Removes all positions. */
+int32_t ds_bloom_reset(ds_sketch *handle);
+
+/* Writes the filter's numbers. */
+int32_t ds_bloom_get_status(ds_sketch *handle, ds_bloom_status *status);
+
+/* Writes the filter's image to the front of `out`, and the image's length in bytes to `written`. The rest of `out` stays as it
+ * was. Returns DS_NO_MEMORY, or DS_NO_ROOM if the image is longer than `capacity`: then `written` is its length. */
+int32_t ds_bloom_serialize(ds_sketch *handle, uint8_t *out, size_t capacity, size_t *written);
+
+/* Reads a filter from its image and puts it into the handle. Returns the error of the image's first failed check. Returns
+ * DS_TABLE_TOO_LARGE if the words, of 8 bytes each, take more than `max_bytes`, and DS_NO_MEMORY. Before both come the checks of
+ * the image's length and fields. DS_BAD_BIT_COUNT comes after them. */
+int32_t ds_bloom_deserialize(ds_sketch *handle, const uint8_t *image, size_t length, size_t max_bytes);
+
+/* --- Count-Min sketches with weights in uint64_t. An estimate is at most the total, and at least the item's own weight: what
+ * was added for the item, halved and decayed as often as the sketch, and rounded down each time. --- */
+
+/* Puts an empty sketch into the handle, with 1 to 255 hashes, a row each, and 3 or more buckets in a row, fewer than 2^30
+ * cells in all. The library's default seed is 9001. Returns DS_BAD_NUM_HASHES, DS_BAD_NUM_BUCKETS, DS_TABLE_TOO_LARGE,
+ * DS_ZERO_SEED_HASH, or DS_NO_MEMORY. */
+int32_t ds_count_min_u64_new(ds_sketch *handle, uint8_t num_hashes, uint32_t num_buckets, uint64_t seed);
+
+/* Adds a weight to the item's. Returns DS_WEIGHT_OVERFLOW if the total would exceed 2^64 - 1. */
+int32_t ds_count_min_u64_update_u64(ds_sketch *handle, uint64_t item, uint64_t weight);
+int32_t ds_count_min_u64_update_i64(ds_sketch *handle, int64_t item, uint64_t weight);
+int32_t ds_count_min_u64_update_string(ds_sketch *handle, const uint8_t *item, size_t length, uint64_t weight);
+
+/* Adds 1 to the weight of each item, in order. Returns DS_WEIGHT_OVERFLOW if the total would exceed 2^64 - 1: then the items
+ * before the first that does not fit are counted. */
+int32_t ds_count_min_u64_update_all_u64(ds_sketch *handle, const uint64_t *items, size_t count);
+int32_t ds_count_min_u64_update_all_i64(ds_sketch *handle, const int64_t *items, size_t count);
+int32_t ds_count_min_u64_update_all_string(ds_sketch *handle, const uint8_t *bytes, size_t num_bytes, const uint64_t *offsets,
+                                           size_t num_offsets);
+
+/* Adds a weight to each item's, in order. Returns DS_NO_ROOM unless there are as many weights as items. Returns
+ * DS_WEIGHT_OVERFLOW if the total would exceed 2^64 - 1 with all weights: then none is added. */
+int32_t ds_count_min_u64_update_all_weighted_u64(ds_sketch *handle, const uint64_t *items, size_t count, const uint64_t *weights,
+                                                 size_t num_weights);
+int32_t ds_count_min_u64_update_all_weighted_i64(ds_sketch *handle, const int64_t *items, size_t count, const uint64_t *weights,
+                                                 size_t num_weights);
+int32_t ds_count_min_u64_update_all_weighted_string(ds_sketch *handle, const uint8_t *bytes, size_t num_bytes,
+                                                    const uint64_t *offsets, size_t num_offsets, const uint64_t *weights,
+                                                    size_t num_weights);
+
+/* Writes the estimate of the item's weight: the minimum of its cells. */
+int32_t ds_count_min_u64_estimate_u64(ds_sketch *handle, uint64_t item, uint64_t *estimate);
+int32_t ds_count_min_u64_estimate_i64(ds_sketch *handle, int64_t item, uint64_t *estimate);
+int32_t ds_count_min_u64_estimate_string(ds_sketch *handle, const uint8_t *item, size_t length, uint64_t *estimate);
+
+/* Writes the estimate of each item's weight. Returns DS_NO_ROOM unless `num_estimates` is the number of items. */
+int32_t ds_count_min_u64_estimate_all_u64(ds_sketch *handle, const uint64_t *items, size_t count, uint64_t *estimates,
+                                          size_t num_estimates);
+int32_t ds_count_min_u64_estimate_all_i64(ds_sketch *handle, const int64_t *items, size_t count, uint64_t *estimates,
+                                          size_t num_estimates);
+int32_t ds_count_min_u64_estimate_all_string(ds_sketch *handle, const uint8_t *bytes, size_t num_bytes, const uint64_t *offsets,
+                                             size_t num_offsets, uint64_t *estimates, size_t num_estimates);
+
+/* Writes the estimate plus a margin: e times the total over the buckets, rounded down. The sum stops at 2^64 - 1. */
+int32_t ds_count_min_u64_upper_bound_u64(ds_sketch *handle, uint64_t item, uint64_t *bound);
+int32_t ds_count_min_u64_upper_bound_i64(ds_sketch *handle, int64_t item, uint64_t *bound);
+int32_t ds_count_min_u64_upper_bound_string(ds_sketch *handle, const uint8_t *item, size_t length, uint64_t *bound);
+
+/* Adds the other sketch's cells and total. The other sketch stays as it was. Returns DS_MISMATCH if hashes, buckets or seeds
+ * differ, and DS_WEIGHT_OVERFLOW if the totals together exceed 2^64 - 1. */
+int32_t ds_count_min_u64_merge(ds_sketch *handle, ds_sketch *other);
+
+/* Returns DS_YES if both sketches have the same hashes, buckets, seed, total and cells, and DS_NO otherwise. Both stay as they
+ * were. */
+int32_t ds_count_min_u64_equal(ds_sketch *handle, ds_sketch *other);
+
+/* Halves each cell and the total, rounded down. */
+int32_t ds_count_min_u64_halve(ds_sketch *handle);
+
+/* Multiplies each cell and the total by a fraction, rounded down. Returns DS_BAD_FRACTION unless the fraction is above 0 and at
+ * most 1. */
+int32_t ds_count_min_u64_decay(ds_sketch *handle, uint64_t numerator, uint64_t denominator);
+
+/* A Count-Min sketch's numbers: the total weight, the seed, buckets, which are the cells of a row, and hashes, which are rows. */
+typedef struct ds_count_min_status {
+    uint64_t total_weight;
+    uint64_t seed;
+    uint32_t num_buckets;
+    uint8_t num_hashes;
+} ds_count_min_status;
+
+/* Writes the sketch's numbers. */
+int32_t ds_count_min_u64_get_status(ds_sketch *handle, ds_count_min_status *status);
+
+/* Writes the sketch's image to the front of `out`, and the image's length in bytes to `written`. The rest of `out` stays as it
+ * was. Returns DS_NO_MEMORY, or DS_NO_ROOM if the image is longer than `capacity`: then `written` is its length. */
+int32_t ds_count_min_u64_serialize(ds_sketch *handle, uint8_t *out, size_t capacity, size_t *written);
+
+/* Reads a sketch from its image, which was written under this seed, and puts it into the handle. Returns the error of the
+ * image's first failed check. Returns DS_TABLE_TOO_LARGE if the cells and the rows' seeds, of 8 bytes each, take more than
+ * `max_bytes`, and DS_NO_MEMORY. Before both come the checks of the image's length and fields. The checks of the total and the
+ * cells come after them. */
+int32_t ds_count_min_u64_deserialize(ds_sketch *handle, const uint8_t *image, size_t length, uint64_t seed, size_t max_bytes);
+
+/* --- Count-Min sketches with weights in int64_t, which may be below 0. --- */
+
+/* As the calls in uint64_t, with weights, estimates and bounds in int64_t. The total counts each weight without its sign, and
+ * DS_WEIGHT_OVERFLOW is returned if it would exceed 2^63 - 1. An estimate is at least the item's own weight if no weight is
+ * below 0. If some weight is below 0, it may be less. There is no halving and no decay. */
+int32_t ds_count_min_i64_new(ds_sketch *handle, uint8_t num_hashes, uint32_t num_buckets, uint64_t seed);
+int32_t ds_count_min_i64_update_u64(ds_sketch *handle, uint64_t item, int64_t weight);
+int32_t ds_count_min_i64_update_i64(ds_sketch *handle, int64_t item, int64_t weight);
+int32_t ds_count_min_i64_update_string(ds_sketch *handle, const uint8_t *item, size_t length, int64_t weight);
+int32_t ds_count_min_i64_update_all_u64(ds_sketch *handle, const uint64_t *items, size_t count);
+int32_t ds_count_min_i64_update_all_i64(ds_sketch *handle, const int64_t *items, size_t count);
+int32_t ds_count_min_i64_update_all_string(ds_sketch *handle, const uint8_t *bytes, size_t num_bytes, const uint64_t *offsets,
+                                           size_t num_offsets);
+int32_t ds_count_min_i64_update_all_weighted_u64(ds_sketch *handle, const uint64_t *items, size_t count, const int64_t *weights,
+                                                 size_t num_weights);
+int32_t ds_count_min_i64_update_all_weighted_i64(ds_sketch *handle, const int64_t *items, size_t count, const int64_t *weights,
+                                                 size_t num_weights);
+int32_t ds_count_min_i64_update_all_weighted_string(ds_sketch *handle, const uint8_t *bytes, size_t num_bytes,
+                                                    const uint64_t *offsets, size_t num_offsets, const int64_t *weights,
+                                                    size_t num_weights);
+int32_t ds_count_min_i64_estimate_u64(ds_sketch *handle, uint64_t item, int64_t *estimate);
+int32_t ds_count_min_i64_estimate_i64(ds_sketch *handle, int64_t item, int64_t *estimate);
+int32_t ds_count_min_i64_estimate_string(ds_sketch *handle, const uint8_t *item, size_t length, int64_t *estimate);
+int32_t ds_count_min_i64_estimate_all_u64(ds_sketch *handle, const uint64_t *items, size_t count, int64_t *estimates,
+                                          size_t num_estimates);
+int32_t ds_count_min_i64_estimate_all_i64(ds_sketch *handle, const int64_t *items, size_t count, int64_t *estimates,
+                                          size_t num_estimates);
+int32_t ds_count_min_i64_estimate_all_string(ds_sketch *handle, const uint8_t *bytes, size_t num_bytes, const uint64_t *offsets,
+                                             size_t num_offsets, int64_t *estimates, size_t num_estimates);
+int32_t ds_count_min_i64_upper_bound_u64(ds_sketch *handle, uint64_t item, int64_t *bound);
+int32_t ds_count_min_i64_upper_bound_i64(ds_sketch *handle, int64_t item, int64_t *bound);
+int32_t ds_count_min_i64_upper_bound_string(ds_sketch *handle, const uint8_t *item, size_t length, int64_t *bound);
+int32_t ds_count_min_i64_merge(ds_sketch *handle, ds_sketch *other);
+int32_t ds_count_min_i64_equal(ds_sketch *handle, ds_sketch *other);
+int32_t ds_count_min_i64_get_status(ds_sketch *handle, ds_count_min_status *status);
+int32_t ds_count_min_i64_serialize(ds_sketch *handle, uint8_t *out, size_t capacity, size_t *written);
+int32_t ds_count_min_i64_deserialize(ds_sketch *handle, const uint8_t *image, size_t length, uint64_t seed, size_t max_bytes);
+
+/* --- Frequent items: the items of the largest weights, in at most three quarters of `max_map_size` counters. --- */
+
+/* An item's bounds. Its true weight lies between the lower and the upper one, which differ by the sketch's error. */
+typedef struct ds_frequent_items_bounds {
+    uint64_t lower_bound;
+    uint64_t estimate;
+    uint64_t upper_bound;
+} ds_frequent_items_bounds;
+
+/* Puts an empty sketch into the handle. Its table may grow to `max_map_size` slots, a power of two from 8 to 2^30. Its purges
+ * sample `sample_size` counters, an even number from 2 to three quarters of `max_map_size`, at most 1024. The largest sample
+ * has the strongest guarantee: see `ds_frequent_items_max_sample_size`. Returns DS_MAP_SIZE_NOT_POWER_OF_TWO,
+ * DS_MAP_SIZE_TOO_SMALL, DS_MAP_SIZE_TOO_LARGE, DS_BAD_SAMPLE_SIZE, or DS_NO_MEMORY. */
+int32_t ds_frequent_items_u64_new(ds_sketch *handle, size_t max_map_size, size_t sample_size);
+int32_t ds_frequent_items_i64_new(ds_sketch *handle, size_t max_map_size, size_t sample_size);
+int32_t ds_frequent_items_string_new(ds_sketch *handle, size_t max_map_size, size_t sample_size);
+
+/* Returns the largest sample size for a `max_map_size`. */
+static inline size_t ds_frequent_items_max_sample_size(size_t max_map_size)
+{
+    return max_map_size / 4 * 3 < 1024 ? max_map_size / 4 * 3 : 1024;
+}
+
+/* Adds a weight to the item's. A weight of 0 changes nothing. Returns DS_WEIGHT_OVERFLOW if the total would exceed 2^64 - 1, and
+ * DS_NO_MEMORY: of a number if the table cannot grow, and of a string also, before DS_WEIGHT_OVERFLOW, if it cannot be copied. */
+int32_t ds_frequent_items_u64_update(ds_sketch *handle, uint64_t item, uint64_t weight);
+int32_t ds_frequent_items_i64_update(ds_sketch *handle, int64_t item, uint64_t weight);
+int32_t ds_frequent_items_string_update(ds_sketch *handle, const uint8_t *item, size_t length, uint64_t weight);
+
+/* Writes the item's bounds. Returns DS_NO_MEMORY if a string cannot be copied. */
+int32_t ds_frequent_items_u64_bounds(ds_sketch *handle, uint64_t item, ds_frequent_items_bounds *bounds);
+int32_t ds_frequent_items_i64_bounds(ds_sketch *handle, int64_t item, ds_frequent_items_bounds *bounds);
+int32_t ds_frequent_items_string_bounds(ds_sketch *handle, const uint8_t *item, size_t length, ds_frequent_items_bounds *bounds);
+
+/* Writes the bounds of each item. Returns DS_NO_ROOM unless `num_bounds` is the number of items, and DS_NO_MEMORY if a string
+ * cannot be copied: then the bounds of the strings before it are written, and the others stay as they were. */
+int32_t ds_frequent_items_u64_bounds_all(ds_sketch *handle, const uint64_t *items, size_t count, ds_frequent_items_bounds *bounds,
+                                         size_t num_bounds);
+int32_t ds_frequent_items_i64_bounds_all(ds_sketch *handle, const int64_t *items, size_t count, ds_frequent_items_bounds *bounds,
+                                         size_t num_bounds);
+int32_t ds_frequent_items_string_bounds_all(ds_sketch *handle, const uint8_t *bytes, size_t num_bytes, const uint64_t *offsets,
+                                            size_t num_offsets, ds_frequent_items_bounds *bounds, size_t num_bounds);
+
+/* Merges the other sketch into this one, which then stands for both streams. The other sketch stays as it was. Returns
+ * DS_WEIGHT_OVERFLOW if the totals together exceed 2^64 - 1, and DS_NO_MEMORY. */
+int32_t ds_frequent_items_u64_merge(ds_sketch *handle, ds_sketch *other);
+int32_t ds_frequent_items_i64_merge(ds_sketch *handle, ds_sketch *other);
+int32_t ds_frequent_items_string_merge(ds_sketch *handle, ds_sketch *other);
+
+/* Adds 1 to the weight of each item, in order. Returns the error of the first item whose own update returns one: then the items
+ * before it are added, and no others. */
+int32_t ds_frequent_items_u64_update_all(ds_sketch *handle, const uint64_t *items, size_t count);
+int32_t ds_frequent_items_i64_update_all(ds_sketch *handle, const int64_t *items, size_t count);
+int32_t ds_frequent_items_string_update_all(ds_sketch *handle, const uint8_t *bytes, size_t num_bytes, const uint64_t *offsets,
+                                            size_t num_offsets);
+
+/* Adds a weight to each item's, in order. Returns DS_NO_ROOM unless there are as many weights as items. Returns
+ * DS_WEIGHT_OVERFLOW if the total would exceed 2^64 - 1 with all weights: then none is added. Returns DS_NO_MEMORY for the
+ * first item without memory: then the items before it are added, and no others. */
+int32_t ds_frequent_items_u64_update_all_weighted(ds_sketch *handle, const uint64_t *items, size_t count, const uint64_t *weights,
+                                                  size_t num_weights);
+int32_t ds_frequent_items_i64_update_all_weighted(ds_sketch *handle, const int64_t *items, size_t count, const uint64_t *weights,
+                                                  size_t num_weights);
+int32_t ds_frequent_items_string_update_all_weighted(ds_sketch *handle, const uint8_t *bytes, size_t num_bytes,
+                                                     const uint64_t *offsets, size_t num_offsets, const uint64_t *weights,
+                                                     size_t num_weights);
+
+/* Removes all items and weights. `max_map_size` and `sample_size` stay as they were. */
+int32_t ds_frequent_items_u64_reset(ds_sketch *handle);
+int32_t ds_frequent_items_i64_reset(ds_sketch *handle);
+int32_t ds_frequent_items_string_reset(ds_sketch *handle);
+
+/* Sets how many counters later purges sample: an even number from 2 to three quarters of `max_map_size`, at most 1024. So a
+ * sketch that was read from an image, which has no sample size, gets back the one that it had. Nothing else changes. Returns
+ * DS_BAD_SAMPLE_SIZE for another number. */
+int32_t ds_frequent_items_u64_set_sample_size(ds_sketch *handle, size_t sample_size);
+int32_t ds_frequent_items_i64_set_sample_size(ds_sketch *handle, size_t sample_size);
+int32_t ds_frequent_items_string_set_sample_size(ds_sketch *handle, size_t sample_size);
+
+/* A sketch's numbers. */
+typedef struct ds_frequent_items_status {
+    uint64_t total_weight;
+    uint64_t maximum_error;        /* the upper bound less the lower bound, of each item */
+    uint64_t num_active_items;     /* tracked items, each with a counter */
+    uint64_t maximum_map_capacity; /* the most counters, at `max_map_size` */
+    uint64_t current_map_capacity; /* the most counters before the table grows */
+    uint64_t max_map_size;         /* the most slots of the table */
+    uint64_t sample_size;          /* how many counters a purge samples */
+} ds_frequent_items_status;
+
+/* Writes the sketch's numbers. */
+int32_t ds_frequent_items_u64_get_status(ds_sketch *handle, ds_frequent_items_status *status);
+int32_t ds_frequent_items_i64_get_status(ds_sketch *handle, ds_frequent_items_status *status);
+int32_t ds_frequent_items_string_get_status(ds_sketch *handle, ds_frequent_items_status *status);
+
+/* Writes the sketch's image, without its sample size, to the front of `out`, and the image's length in bytes to `written`. The
+ * rest of `out` stays as it was. Returns DS_NO_MEMORY, DS_ITEM_TOO_LONG if a string has 2^32 bytes or more, or DS_NO_ROOM if the
+ * image is longer than `capacity`: then `written` is its length. */
+int32_t ds_frequent_items_u64_serialize(ds_sketch *handle, uint8_t *out, size_t capacity, size_t *written);
+int32_t ds_frequent_items_i64_serialize(ds_sketch *handle, uint8_t *out, size_t capacity, size_t *written);
+int32_t ds_frequent_items_string_serialize(ds_sketch *handle, uint8_t *out, size_t capacity, size_t *written);
+
+/* Reads a sketch from its image and puts it into the handle. It takes the largest sample size, since an image has none.
+ * Returns the error of the image's first failed check. Returns DS_TABLE_TOO_LARGE if the table takes more than `max_bytes` by
+ * the formula of `ds_memory_bytes`. With strings, all bytes of `image` after the weights are added to the table's. Returns
+ * DS_NO_MEMORY. Before both come the checks of the image's length and fields. The checks of the weights and the items come
+ * after them. */
+int32_t ds_frequent_items_u64_deserialize(ds_sketch *handle, const uint8_t *image, size_t length, size_t max_bytes);
+int32_t ds_frequent_items_i64_deserialize(ds_sketch *handle, const uint8_t *image, size_t length, size_t max_bytes);
+int32_t ds_frequent_items_string_deserialize(ds_sketch *handle, const uint8_t *image, size_t length, size_t max_bytes);
+
+/* Writes the items whose bound exceeds both the threshold and the sketch's error, in rows of descending estimates: an item and
+ * its bounds each, at the front of both buffers, and the number of rows to `count`. The rest of the buffers stays as it was.
+ * With `no_false_negatives` the upper bound is compared: each item is there whose true weight exceeds both. Otherwise the
+ * lower bound is compared: no other item is there. Returns DS_NO_MEMORY, or DS_NO_ROOM if a buffer is too short: then `count`
+ * is the number of rows. */
+int32_t ds_frequent_items_u64_rows(ds_sketch *handle, bool no_false_negatives, uint64_t threshold, uint64_t *items,
+                                   size_t num_items, ds_frequent_items_bounds *bounds, size_t num_bounds, size_t *count);
+int32_t ds_frequent_items_i64_rows(ds_sketch *handle, bool no_false_negatives, uint64_t threshold, int64_t *items,
+                                   size_t num_items, ds_frequent_items_bounds *bounds, size_t num_bounds, size_t *count);
+
+/* The same for strings. They stand one after another at the front of `bytes`: string i from offset i up to offset i + 1, the
+ * first offset is 0, and there is one more offset than rows. `num_bytes` is the number of bytes of all strings. It is written
+ * with `count`. */
+int32_t ds_frequent_items_string_rows(ds_sketch *handle, bool no_false_negatives, uint64_t threshold, uint8_t *bytes,
+                                      size_t room_for_bytes, uint64_t *offsets, size_t num_offsets,
+                                      ds_frequent_items_bounds *bounds, size_t num_bounds, size_t *count, size_t *num_bytes);
+
+/* --- The checks of arguments. --- */
+
+/* Returns the pointer that is passed in place of null if the count is 0. */
+static inline void *ds_no_values(void)
+{
+    static uint64_t none;
+    return &none;
+}
+
+#define DS_CHECK_HANDLES(call) \
+    static inline int32_t call##_checked(ds_sketch *handle, ds_sketch *other) \
+    { \
+        return handle == other ? DS_BAD_ARGUMENT : call(handle, other); \
+    }
+#define DS_CHECK_ITEMS(call, type) \
+    static inline int32_t call##_checked(ds_sketch *handle, const type *items, size_t count) \
+    { \
+        if (!items && count) return DS_BAD_ARGUMENT; \
+        return call(handle, items ? items : (const type *)ds_no_values(), count); \
+    }
+#define DS_CHECK_ITEMS_AND(call, type, other) \
+    static inline int32_t call##_checked(ds_sketch *handle, const type *items, size_t count, other last) \
+    { \
+        if (!items && count) return DS_BAD_ARGUMENT; \
+        return call(handle, items ? items : (const type *)ds_no_values(), count, last); \
+    }
+#define DS_CHECK_IMAGE_AND_SEED(call) \
+    static inline int32_t call##_checked(ds_sketch *handle, const uint8_t *image, size_t length, uint64_t seed, \
+                                         size_t max_bytes) \
+    { \
+        if (!image && length) return DS_BAD_ARGUMENT; \
+        return call(handle, image ? image : (const uint8_t *)ds_no_values(), length, seed, max_bytes); \
+    }
+#define DS_CHECK_ITEMS_AND_RESULTS(call, type, result) \
+    static inline int32_t call##_checked(ds_sketch *handle, const type *items, size_t count, result *results, \
+                                         size_t num_results) \
+    { \
+        if ((!items && count) || (!results && num_results)) return DS_BAD_ARGUMENT; \
+        return call(handle, items ? items : (const type *)ds_no_values(), count, \
+                    results ? results : (result *)ds_no_values(), num_results); \
+    }
+#define DS_CHECK_STRINGS(call) \
+    static inline int32_t call##_checked(ds_sketch *handle, const uint8_t *bytes, size_t num_bytes, \
+                                         const uint64_t *offsets, size_t num_offsets) \
+    { \
+        if ((!bytes && num_bytes) || (!offsets && num_offsets)) return DS_BAD_ARGUMENT; \
+        return call(handle, bytes ? bytes : (const uint8_t *)ds_no_values(), num_bytes, \
+                    offsets ? offsets : (const uint64_t *)ds_no_values(), num_offsets); \
+    }
+#define DS_CHECK_STRINGS_AND_RESULTS(call, result) \
+    static inline int32_t call##_checked(ds_sketch *handle, const uint8_t *bytes, size_t num_bytes, \
+                                         const uint64_t *offsets, size_t num_offsets, result *results, size_t num_results) \
+    { \
+        if ((!bytes && num_bytes) || (!offsets && num_offsets) || (!results && num_results)) return DS_BAD_ARGUMENT; \
+        return call(handle, bytes ? bytes : (const uint8_t *)ds_no_values(), num_bytes, \
+                    offsets ? offsets : (const uint64_t *)ds_no_values(), num_offsets, \
+                    results ? results : (result *)ds_no_values(), num_results); \
+    }
+#define DS_CHECK_BUFFER(call) \
+    static inline int32_t call##_checked(ds_sketch *handle, uint8_t *out, size_t capacity, size_t *written) \
+    { \
+        if (!out && capacity) return DS_BAD_ARGUMENT; \
+        return call(handle, out ? out : (uint8_t *)ds_no_values(), capacity, written); \
+    }
+#define DS_CHECK_STRING_ROWS(call) \
+    static inline int32_t call##_checked(ds_sketch *handle, bool no_false_negatives, uint64_t threshold, uint8_t *bytes, \
+                                         size_t room_for_bytes, uint64_t *offsets, size_t num_offsets, \
+                                         ds_frequent_items_bounds *bounds, size_t num_bounds, size_t *count, size_t *num_bytes) \
+    { \
+        uint64_t *no_offsets = (uint64_t *)ds_no_values(); \
+        ds_frequent_items_bounds *no_bounds = (ds_frequent_items_bounds *)ds_no_values(); \
+        if ((!bytes && room_for_bytes) || (!offsets && num_offsets) || (!bounds && num_bounds)) return DS_BAD_ARGUMENT; \
+        return call(handle, no_false_negatives, threshold, bytes ? bytes : (uint8_t *)ds_no_values(), room_for_bytes, \
+                    offsets ? offsets : no_offsets, num_offsets, bounds ? bounds : no_bounds, num_bounds, count, num_bytes); \
+    }
+#define DS_CHECK_ROWS(call, type) \
+    static inline int32_t call##_checked(ds_sketch *handle, bool no_false_negatives, uint64_t threshold, type *items, \
+                                         size_t num_items, ds_frequent_items_bounds *bounds, size_t num_bounds, size_t *count) \
+    { \
+        if ((!items && num_items) || (!bounds && num_bounds)) return DS_BAD_ARGUMENT; \
+        return call(handle, no_false_negatives, threshold, items ? items : (type *)ds_no_values(), num_items, \
+                    bounds ? bounds : (ds_frequent_items_bounds *)ds_no_values(), num_bounds, count); \
+    }
+
+DS_CHECK_HANDLES(ds_clone)
+DS_CHECK_ITEMS(ds_bloom_insert_string, uint8_t)
+DS_CHECK_ITEMS(ds_bloom_insert_all_u64, uint64_t)
+DS_CHECK_ITEMS(ds_bloom_insert_all_i64, int64_t)
+DS_CHECK_STRINGS(ds_bloom_insert_all_string)
+DS_CHECK_ITEMS(ds_bloom_contains_string, uint8_t)
+DS_CHECK_ITEMS_AND_RESULTS(ds_bloom_contains_all_u64, uint64_t, bool)
+DS_CHECK_ITEMS_AND_RESULTS(ds_bloom_contains_all_i64, int64_t, bool)
+DS_CHECK_STRINGS_AND_RESULTS(ds_bloom_contains_all_string, bool)
+DS_CHECK_HANDLES(ds_bloom_union)
+DS_CHECK_HANDLES(ds_bloom_intersect)
+DS_CHECK_HANDLES(ds_bloom_difference)
+DS_CHECK_HANDLES(ds_bloom_equal)
+DS_CHECK_BUFFER(ds_bloom_serialize)
+DS_CHECK_ITEMS_AND(ds_bloom_deserialize, uint8_t, size_t)
+DS_CHECK_ITEMS_AND(ds_count_min_u64_update_string, uint8_t, uint64_t)
+DS_CHECK_ITEMS(ds_count_min_u64_update_all_u64, uint64_t)
+DS_CHECK_ITEMS(ds_count_min_u64_update_all_i64, int64_t)
+DS_CHECK_STRINGS(ds_count_min_u64_update_all_string)
+DS_CHECK_ITEMS_AND_RESULTS(ds_count_min_u64_update_all_weighted_u64, uint64_t, const uint64_t)
+DS_CHECK_ITEMS_AND_RESULTS(ds_count_min_u64_update_all_weighted_i64, int64_t, const uint64_t)
+DS_CHECK_STRINGS_AND_RESULTS(ds_count_min_u64_update_all_weighted_string, const uint64_t)
+DS_CHECK_ITEMS_AND(ds_count_min_u64_estimate_string, uint8_t, uint64_t *)
+DS_CHECK_ITEMS_AND_RESULTS(ds_count_min_u64_estimate_all_u64, uint64_t, uint64_t)
+DS_CHECK_ITEMS_AND_RESULTS(ds_count_min_u64_estimate_all_i64, int64_t, uint64_t)
+DS_CHECK_STRINGS_AND_RESULTS(ds_count_min_u64_estimate_all_string, uint64_t)
+DS_CHECK_ITEMS_AND(ds_count_min_u64_upper_bound_string, uint8_t, uint64_t *)
+DS_CHECK_HANDLES(ds_count_min_u64_merge)
+DS_CHECK_HANDLES(ds_count_min_u64_equal)
+DS_CHECK_BUFFER(ds_count_min_u64_serialize)
+DS_CHECK_IMAGE_AND_SEED(ds_count_min_u64_deserialize)
+DS_CHECK_ITEMS_AND(ds_count_min_i64_update_string, uint8_t, int64_t)
+DS_CHECK_ITEMS(ds_count_min_i64_update_all_u64, uint64_t)
+DS_CHECK_ITEMS(ds_count_min_i64_update_all_i64, int64_t)
+DS_CHECK_STRINGS(ds_count_min_i64_update_all_string)
+DS_CHECK_ITEMS_AND_RESULTS(ds_count_min_i64_update_all_weighted_u64, uint64_t, const int64_t)
+DS_CHECK_ITEMS_AND_RESULTS(ds_count_min_i64_update_all_weighted_i64, int64_t, const int64_t)
+DS_CHECK_STRINGS_AND_RESULTS(ds_count_min_i64_update_all_weighted_string, const int64_t)
+DS_CHECK_ITEMS_AND(ds_count_min_i64_estimate_string, uint8_t, int64_t *)
+DS_CHECK_ITEMS_AND_RESULTS(ds_count_min_i64_estimate_all_u64, uint64_t, int64_t)
+DS_CHECK_ITEMS_AND_RESULTS(ds_count_min_i64_estimate_all_i64, int64_t, int64_t)
+DS_CHECK_STRINGS_AND_RESULTS(ds_count_min_i64_estimate_all_string, int64_t)
+DS_CHECK_ITEMS_AND(ds_count_min_i64_upper_bound_string, uint8_t, int64_t *)
+DS_CHECK_HANDLES(ds_count_min_i64_merge)
+DS_CHECK_HANDLES(ds_count_min_i64_equal)
+DS_CHECK_BUFFER(ds_count_min_i64_serialize)
+DS_CHECK_IMAGE_AND_SEED(ds_count_min_i64_deserialize)
+DS_CHECK_ITEMS_AND(ds_frequent_items_string_update, uint8_t, uint64_t)
+DS_CHECK_ITEMS_AND(ds_frequent_items_string_bounds, uint8_t, ds_frequent_items_bounds *)
+DS_CHECK_ITEMS_AND_RESULTS(ds_frequent_items_u64_bounds_all, uint64_t, ds_frequent_items_bounds)
+DS_CHECK_ITEMS_AND_RESULTS(ds_frequent_items_i64_bounds_all, int64_t, ds_frequent_items_bounds)
+DS_CHECK_STRINGS_AND_RESULTS(ds_frequent_items_string_bounds_all, ds_frequent_items_bounds)
+DS_CHECK_HANDLES(ds_frequent_items_u64_merge)
+DS_CHECK_HANDLES(ds_frequent_items_i64_merge)
+DS_CHECK_HANDLES(ds_frequent_items_string_merge)
+DS_CHECK_ITEMS(ds_frequent_items_u64_update_all, uint64_t)
+DS_CHECK_ITEMS(ds_frequent_items_i64_update_all, int64_t)
+DS_CHECK_STRINGS(ds_frequent_items_string_update_all)
+DS_CHECK_ITEMS_AND_RESULTS(ds_frequent_items_u64_update_all_weighted, uint64_t, const uint64_t)
+DS_CHECK_ITEMS_AND_RESULTS(ds_frequent_items_i64_update_all_weighted, int64_t, const uint64_t)
+DS_CHECK_STRINGS_AND_RESULTS(ds_frequent_items_string_update_all_weighted, const uint64_t)
+DS_CHECK_BUFFER(ds_frequent_items_u64_serialize)
+DS_CHECK_BUFFER(ds_frequent_items_i64_serialize)
+DS_CHECK_BUFFER(ds_frequent_items_string_serialize)
+DS_CHECK_ITEMS_AND(ds_frequent_items_u64_deserialize, uint8_t, size_t)
+DS_CHECK_ITEMS_AND(ds_frequent_items_i64_deserialize, uint8_t, size_t)
+DS_CHECK_ITEMS_AND(ds_frequent_items_string_deserialize, uint8_t, size_t)
+DS_CHECK_ROWS(ds_frequent_items_u64_rows, uint64_t)
+DS_CHECK_ROWS(ds_frequent_items_i64_rows, int64_t)
+DS_CHECK_STRING_ROWS(ds_frequent_items_string_rows)
+
+#define ds_clone(handle, other) ds_clone_checked(handle, other)
+#define ds_bloom_insert_string(handle, item, length) ds_bloom_insert_string_checked(handle, item, length)
+#define ds_bloom_insert_all_u64(handle, items, count) ds_bloom_insert_all_u64_checked(handle, items, count)
+#define ds_bloom_insert_all_i64(handle, items, count) ds_bloom_insert_all_i64_checked(handle, items, count)
+#define ds_bloom_insert_all_string(handle, bytes, num_bytes, offsets, num_offsets) \
+    ds_bloom_insert_all_string_checked(handle, bytes, num_bytes, offsets, num_offsets)
+#define ds_bloom_contains_string(handle, item, length) ds_bloom_contains_string_checked(handle, item, length)
+#define ds_bloom_contains_all_u64(handle, items, count, results, num_results) \
+    ds_bloom_contains_all_u64_checked(handle, items, count, results, num_results)
+#define ds_bloom_contains_all_i64(handle, items, count, results, num_results) \
+    ds_bloom_contains_all_i64_checked(handle, items, count, results, num_results)
+#define ds_bloom_contains_all_string(handle, bytes, num_bytes, offsets, num_offsets, results, num_results) \
+    ds_bloom_contains_all_string_checked(handle, bytes, num_bytes, offsets, num_offsets, results, num_results)
+#define ds_bloom_union(handle, other) ds_bloom_union_checked(handle, other)
+#define ds_bloom_intersect(handle, other) ds_bloom_intersect_checked(handle, other)
+#define ds_bloom_difference(handle, other) ds_bloom_difference_checked(handle, other)
+#define ds_bloom_equal(handle, other) ds_bloom_equal_checked(handle, other)
+#define ds_bloom_serialize(handle, out, capacity, written) ds_bloom_serialize_checked(handle, out, capacity, written)
+#define ds_bloom_deserialize(handle, image, length, max_bytes) \
+    ds_bloom_deserialize_checked(handle, image, length, max_bytes)
+#define ds_count_min_u64_update_string(handle, item, length, weight) \
+    ds_count_min_u64_update_string_checked(handle, item, length, weight)
+#define ds_count_min_u64_update_all_u64(handle, items, count) \
+    ds_count_min_u64_update_all_u64_checked(handle, items, count)
+#define ds_count_min_u64_update_all_i64(handle, items, count) \
+    ds_count_min_u64_update_all_i64_checked(handle, items, count)
+#define ds_count_min_u64_update_all_string(handle, bytes, num_bytes, offsets, num_offsets) \
+    ds_count_min_u64_update_all_string_checked(handle, bytes, num_bytes, offsets, num_offsets)
+#define ds_count_min_u64_update_all_weighted_u64(handle, items, count, weights, num_weights) \
+    ds_count_min_u64_update_all_weighted_u64_checked(handle, items, count, weights, num_weights)
+#define ds_count_min_u64_update_all_weighted_i64(handle, items, count, weights, num_weights) \
+    ds_count_min_u64_update_all_weighted_i64_checked(handle, items, count, weights, num_weights)
+#define ds_count_min_u64_update_all_weighted_string(handle, bytes, num_bytes, offsets, num_offsets, weights, num_weights) \
+    ds_count_min_u64_update_all_weighted_string_checked(handle, bytes, num_bytes, offsets, num_offsets, weights, num_weights)
+#define ds_count_min_u64_estimate_string(handle, item, length, estimate) \
+    ds_count_min_u64_estimate_string_checked(handle, item, length, estimate)
+#define ds_count_min_u64_estimate_all_u64(handle, items, count, estimates, num_estimates) \
+    ds_count_min_u64_estimate_all_u64_checked(handle, items, count, estimates, num_estimates)
+#define ds_count_min_u64_estimate_all_i64(handle, items, count, estimates, num_estimates) \
+    ds_count_min_u64_estimate_all_i64_checked(handle, items, count, estimates, num_estimates)
+#define ds_count_min_u64_estimate_all_string(handle, bytes, num_bytes, offsets, num_offsets, estimates, num_estimates) \
+    ds_count_min_u64_estimate_all_string_checked(handle, bytes, num_bytes, offsets, num_offsets, estimates, num_estimates)
+#define ds_count_min_u64_upper_bound_string(handle, item, length, bound) \
+    ds_count_min_u64_upper_bound_string_checked(handle, item, length, bound)
+#define ds_count_min_u64_merge(handle, other) ds_count_min_u64_merge_checked(handle, other)
+#define ds_count_min_u64_equal(handle, other) ds_count_min_u64_equal_checked(handle, other)
+#define ds_count_min_u64_serialize(handle, out, capacity, written) \
+    ds_count_min_u64_serialize_checked(handle, out, capacity, written)
+#define ds_count_min_u64_deserialize(handle, image, length, seed, max_bytes) \
+    ds_count_min_u64_deserialize_checked(handle, image, length, seed, max_bytes)
+#define ds_count_min_i64_update_string(handle, item, length, weight) \
+    ds_count_min_i64_update_string_checked(handle, item, length, weight)
+#define ds_count_min_i64_update_all_u64(handle, items, count) \
+    ds_count_min_i64_update_all_u64_checked(handle, items, count)
+#define ds_count_min_i64_update_all_i64(handle, items, count) \
+    ds_count_min_i64_update_all_i64_checked(handle, items, count)
+#define ds_count_min_i64_update_all_string(handle, bytes, num_bytes, offsets, num_offsets) \
+    ds_count_min_i64_update_all_string_checked(handle, bytes, num_bytes, offsets, num_offsets)
+#define ds_count_min_i64_update_all_weighted_u64(handle, items, count, weights, num_weights) \
+    ds_count_min_i64_update_all_weighted_u64_checked(handle, items, count, weights, num_weights)
+#define ds_count_min_i64_update_all_weighted_i64(handle, items, count, weights, num_weights) \
+    ds_count_min_i64_update_all_weighted_i64_checked(handle, items, count, weights, num_weights)
+#define ds_count_min_i64_update_all_weighted_string(handle, bytes, num_bytes, offsets, num_offsets, weights, num_weights) \
+    ds_count_min_i64_update_all_weighted_string_checked(handle, bytes, num_bytes, offsets, num_offsets, weights, num_weights)
+#define ds_count_min_i64_estimate_string(handle, item, length, estimate) \
+    ds_count_min_i64_estimate_string_checked(handle, item, length, estimate)
+#define ds_count_min_i64_estimate_all_u64(handle, items, count, estimates, num_estimates) \
+    ds_count_min_i64_estimate_all_u64_checked(handle, items, count, estimates, num_estimates)
+#define ds_count_min_i64_estimate_all_i64(handle, items, count, estimates, num_estimates) \
+    ds_count_min_i64_estimate_all_i64_checked(handle, items, count, estimates, num_estimates)
+#define ds_count_min_i64_estimate_all_string(handle, bytes, num_bytes, offsets, num_offsets, estimates, num_estimates) \
+    ds_count_min_i64_estimate_all_string_checked(handle, bytes, num_bytes, offsets, num_offsets, estimates, num_estimates)
+#define ds_count_min_i64_upper_bound_string(handle, item, length, bound) \
+    ds_count_min_i64_upper_bound_string_checked(handle, item, length, bound)
+#define ds_count_min_i64_merge(handle, other) ds_count_min_i64_merge_checked(handle, other)
+#define ds_count_min_i64_equal(handle, other) ds_count_min_i64_equal_checked(handle, other)
+#define ds_count_min_i64_serialize(handle, out, capacity, written) \
+    ds_count_min_i64_serialize_checked(handle, out, capacity, written)
+#define ds_count_min_i64_deserialize(handle, image, length, seed, max_bytes) \
+    ds_count_min_i64_deserialize_checked(handle, image, length, seed, max_bytes)
+#define ds_frequent_items_string_update(handle, item, length, weight) \
+    ds_frequent_items_string_update_checked(handle, item, length, weight)
+#define ds_frequent_items_string_bounds(handle, item, length, bounds) \
+    ds_frequent_items_string_bounds_checked(handle, item, length, bounds)
+#define ds_frequent_items_u64_bounds_all(handle, items, count, bounds, num_bounds) \
+    ds_frequent_items_u64_bounds_all_checked(handle, items, count, bounds, num_bounds)
+#define ds_frequent_items_i64_bounds_all(handle, items, count, bounds, num_bounds) \
+    ds_frequent_items_i64_bounds_all_checked(handle, items, count, bounds, num_bounds)
+#define ds_frequent_items_string_bounds_all(handle, bytes, num_bytes, offsets, num_offsets, bounds, num_bounds) \
+    ds_frequent_items_string_bounds_all_checked(handle, bytes, num_bytes, offsets, num_offsets, bounds, num_bounds)
+#define ds_frequent_items_u64_merge(handle, other) ds_frequent_items_u64_merge_checked(handle, other)
+#define ds_frequent_items_i64_merge(handle, other) ds_frequent_items_i64_merge_checked(handle, other)
+#define ds_frequent_items_string_merge(handle, other) ds_frequent_items_string_merge_checked(handle, other)
+#define ds_frequent_items_u64_update_all(handle, items, count) \
+    ds_frequent_items_u64_update_all_checked(handle, items, count)
+#define ds_frequent_items_i64_update_all(handle, items, count) \
+    ds_frequent_items_i64_update_all_checked(handle, items, count)
+#define ds_frequent_items_string_update_all(handle, bytes, num_bytes, offsets, num_offsets) \
+    ds_frequent_items_string_update_all_checked(handle, bytes, num_bytes, offsets, num_offsets)
+#define ds_frequent_items_u64_update_all_weighted(handle, items, count, weights, num_weights) \
+    ds_frequent_items_u64_update_all_weighted_checked(handle, items, count, weights, num_weights)
+#define ds_frequent_items_i64_update_all_weighted(handle, items, count, weights, num_weights) \
+    ds_frequent_items_i64_update_all_weighted_checked(handle, items, count, weights, num_weights)
+#define ds_frequent_items_string_update_all_weighted(handle, bytes, num_bytes, offsets, num_offsets, weights, num_weights) \
+    ds_frequent_items_string_update_all_weighted_checked(handle, bytes, num_bytes, offsets, num_offsets, weights, num_weights)
+#define ds_frequent_items_u64_serialize(handle, out, capacity, written) \
+    ds_frequent_items_u64_serialize_checked(handle, out, capacity, written)
+#define ds_frequent_items_i64_serialize(handle, out, capacity, written) \
+    ds_frequent_items_i64_serialize_checked(handle, out, capacity, written)
+#define ds_frequent_items_string_serialize(handle, out, capacity, written) \
+    ds_frequent_items_string_serialize_checked(handle, out, capacity, written)
+#define ds_frequent_items_u64_deserialize(handle, image, length, max_bytes) \
+    ds_frequent_items_u64_deserialize_checked(handle, image, length, max_bytes)
+#define ds_frequent_items_i64_deserialize(handle, image, length, max_bytes) \
+    ds_frequent_items_i64_deserialize_checked(handle, image, length, max_bytes)
+#define ds_frequent_items_string_deserialize(handle, image, length, max_bytes) \
+    ds_frequent_items_string_deserialize_checked(handle, image, length, max_bytes)
+#define ds_frequent_items_u64_rows(handle, no_false_negatives, threshold, items, num_items, bounds, num_bounds, count) \
+    ds_frequent_items_u64_rows_checked(handle, no_false_negatives, threshold, items, num_items, bounds, num_bounds, count)
+#define ds_frequent_items_i64_rows(handle, no_false_negatives, threshold, items, num_items, bounds, num_bounds, count) \
+    ds_frequent_items_i64_rows_checked(handle, no_false_negatives, threshold, items, num_items, bounds, num_bounds, count)
+#define ds_frequent_items_string_rows(handle, no_false_negatives, threshold, bytes, room_for_bytes, offsets, num_offsets, \
+                                      bounds, num_bounds, count, num_bytes) \
+    ds_frequent_items_string_rows_checked(handle, no_false_negatives, threshold, bytes, room_for_bytes, offsets, num_offsets, \
+                                          bounds, num_bounds, count, num_bytes)
+
+#undef DS_CHECK_HANDLES
+#undef DS_CHECK_ITEMS
+#undef DS_CHECK_ITEMS_AND
+#undef DS_CHECK_IMAGE_AND_SEED
+#undef DS_CHECK_STRINGS
+#undef DS_CHECK_ITEMS_AND_RESULTS
+#undef DS_CHECK_STRINGS_AND_RESULTS
+#undef DS_CHECK_BUFFER
+#undef DS_CHECK_STRING_ROWS
+#undef DS_CHECK_ROWS
+
+/* --- Sizes from error targets. Each call writes a size if it returns DS_OK, and leaves it as it was otherwise. --- */
+
+/* Writes the smallest `max_map_size` whose guarantee is an error of at most the total over `parts`, for every stream, at the
+ * largest sample size. Returns DS_MAP_SIZE_TOO_LARGE above 512 parts. */
+int32_t ds_frequent_items_suggest_max_map_size(size_t parts, size_t *max_map_size);
+
+/* Writes the buckets of Count-Min by the published formula: e times `parts`, rounded up. With the hashes of the next call, an
+ * estimate exceeds the item's own weight by more than the total over `parts` with probability at most 1 / `questions`. This
+ * needs ideal hashes and no weight below 0. Returns DS_BAD_NUM_BUCKETS for 0, and DS_TABLE_TOO_LARGE for 2^30 buckets and
+ * more. */
+int32_t ds_count_min_suggest_num_buckets(uint64_t parts, uint32_t *num_buckets);
+
+/* Writes the hashes of Count-Min by the published formula: the natural logarithm of `questions`, rounded up. Returns
+ * DS_BAD_NUM_HASHES for 0 and 1. */
+int32_t ds_count_min_suggest_num_hashes(uint64_t questions, uint8_t *num_hashes);
+
+/* Writes the bits of a filter by the published formula: items times ln `questions` over the square of ln 2. The binary
+ * logarithm of `questions` is rounded up to 64ths, so there are never fewer bits than the formula asks for. Under ideal hashes
+ * the false-positive rate is about 1 in `questions`. Returns DS_BAD_NUM_BITS for 0 items, for 0 and 1 question, and above
+ * 137438953152 bits. */
+int32_t ds_bloom_suggest_num_bits(uint64_t num_items, uint64_t questions, uint64_t *num_bits);
+
+/* Writes the hashes of a filter by the published formula: bits over items times ln 2, rounded up. Returns DS_BAD_NUM_BITS unless
+ * there are 1 to 137438953152 bits, and DS_BAD_NUM_HASHES for 0 items and above 32767 hashes. */
+int32_t ds_bloom_suggest_num_hashes(uint64_t num_bits, uint64_t num_items, uint16_t *num_hashes);
+
+#ifdef __cplusplus
+}
+#endif
+
+#endif

@@ -1,0 +1,167 @@
+/* A list of calls of the C library, some of which allocate. This program itself allocates nothing. If an allocation of a call
+ * fails, the sketch is unchanged, and the call succeeds when it is made again. Otherwise the program exits with 1. */
+#include <datasketches.h>
+#include <stdlib.h>
+#include <string.h>
+
+static uint8_t before[1 << 12], after[1 << 12];
+
+/* Returns the total weight of a sketch of frequent items, and 0 for any other handle. */
+static uint64_t weight_of(ds_sketch *handle)
+{
+    ds_frequent_items_status numbers;
+    if (ds_frequent_items_u64_get_status(handle, &numbers) == DS_OK) return numbers.total_weight;
+    if (ds_frequent_items_string_get_status(handle, &numbers) == DS_OK) return numbers.total_weight;
+    return ds_frequent_items_i64_get_status(handle, &numbers) == DS_OK ? numbers.total_weight : 0;
+}
+
+/* Returns whether a result is as expected: success, or DS_NO_MEMORY with an unchanged sketch. */
+static int is_due(int32_t answer, ds_sketch *handle, uint64_t weight)
+{
+    size_t length;
+    if (answer >= 0) return 1;
+    if (answer != DS_NO_MEMORY || weight_of(handle) != weight) return 0;
+    answer = ds_bloom_serialize(handle, after, sizeof after, &length);
+    return answer == DS_OK ? memcmp(before, after, length) == 0 : answer == DS_NO_SKETCH || answer == DS_WRONG_KIND;
+}
+
+/* Stores the filter's image for later comparisons. */
+static void keep(ds_sketch *filter)
+{
+    size_t length;
+    int32_t answer = ds_bloom_serialize(filter, before, sizeof before, &length);
+    if (answer == DS_NO_MEMORY) answer = ds_bloom_serialize(filter, before, sizeof before, &length);
+    if (answer != DS_OK) exit(1);
+}
+
+/* Makes a call, and makes it again if an allocation failed. */
+#define DONE(handle, call) \
+    do { \
+        uint64_t weight = weight_of(handle); \
+        int32_t answer = call; \
+        if (!is_due(answer, handle, weight)) return 1; \
+        if (answer < 0 && (call) < 0) return 1; \
+    } while (0)
+
+/* 64 strings of two letters each, one after the other. */
+static uint8_t letters[128];
+static uint64_t ends[65];
+
+/* Room for a report of them. */
+static uint8_t shown[128];
+static uint64_t starts[65];
+static ds_frequent_items_bounds bounds[64];
+
+static void write_texts(void)
+{
+    for (size_t i = 0; i < 64; i++) {
+        letters[2 * i] = (uint8_t)('a' + i / 8);
+        letters[2 * i + 1] = (uint8_t)('a' + i % 8);
+        ends[i + 1] = 2 * i + 2;
+    }
+}
+
+/* Adds the strings from index `from` on, each with the weight 1 or with its weight of `weights`. */
+static int32_t add_texts(ds_sketch *handle, size_t from, const uint64_t *weights)
+{
+    size_t count = 64 - from;
+    if (!weights) return ds_frequent_items_string_update_all(handle, letters, sizeof letters, ends + from, count + 1);
+    return ds_frequent_items_string_update_all_weighted(handle, letters, sizeof letters, ends + from, count + 1, weights + from,
+                                                        count);
+}
+
+/* Adds all strings, and returns whether all were added. If an allocation fails for a string, those before it must have been
+ * added, and a second call adds the rest. */
+static int adds_texts(ds_sketch *handle, const uint64_t *weights)
+{
+    uint64_t start = weight_of(handle), whole = weights ? 128 : 64;
+    int32_t answer = add_texts(handle, 0, weights);
+    if (answer == DS_NO_MEMORY) {
+        uint64_t added = weight_of(handle) - start;
+        if (added >= whole || added % (whole / 64)) return 0;
+        answer = add_texts(handle, (size_t)(added / (whole / 64)), weights);
+    }
+    return answer == DS_OK && weight_of(handle) == start + whole;
+}
+
+/* Reads the bounds of all strings, and returns whether all enclose the weight 4. If an allocation fails for a string, only those
+ * before it must have been written. A second call writes all. */
+static int tells_of_texts(ds_sketch *handle)
+{
+    const ds_frequent_items_bounds untold = {0, 1, 0};
+    for (size_t i = 0; i < 64; i++) bounds[i] = untold;
+    int32_t answer = ds_frequent_items_string_bounds_all(handle, letters, sizeof letters, ends, 65, bounds, 64);
+    if (answer == DS_NO_MEMORY) {
+        size_t told = 0;
+        while (told < 64 && memcmp(&bounds[told], &untold, sizeof untold) != 0) told++;
+        for (size_t i = told; i < 64; i++)
+            if (memcmp(&bounds[i], &untold, sizeof untold) != 0) return 0;
+        answer = ds_frequent_items_string_bounds_all(handle, letters, sizeof letters, ends, 65, bounds, 64);
+    }
+    for (size_t i = 0; i < 64; i++)
+        if (bounds[i].upper_bound < 4 || bounds[i].lower_bound > 4) return 0;
+    return answer == DS_OK;
+}
+
+int main(void)
+{
+    ds_sketch filter = DS_NONE, other = DS_NONE, count = DS_NONE, second = DS_NONE;
+    ds_sketch frequent = DS_NONE, many = DS_NONE, copy = DS_NONE;
+    ds_frequent_items_status numbers;
+    uint8_t image[1 << 12];
+    size_t length = 0;
+    uint64_t items[64], estimate = 0;
+    for (uint64_t i = 0; i < 64; i++) items[i] = i;
+
+    DONE(&filter, ds_bloom_new(&filter, 959, 7, 9001));
+    DONE(&other, ds_bloom_new(&other, 959, 7, 9001));
+    DONE(&filter, ds_bloom_insert_all_u64(&filter, items, 64));
+    DONE(&other, ds_bloom_insert_string(&other, (const uint8_t *)"apple", 5));
+    DONE(&filter, ds_bloom_union(&filter, &other));
+    keep(&filter);
+    DONE(&filter, ds_bloom_serialize(&filter, image, sizeof image, &length));
+    DONE(&filter, ds_bloom_deserialize(&filter, image, length, 1 << 12));
+    if (ds_bloom_contains_u64(&filter, 63) != DS_YES) return 1;
+    keep(&filter);
+    DONE(&copy, ds_clone(&copy, &filter));
+    if (ds_bloom_contains_u64(&copy, 63) != DS_YES) return 1;
+    DONE(&filter, ds_bloom_new(&filter, 64, 1, 9001));
+    DONE(&count, ds_count_min_u64_new(&count, 4, 128, 9001));
+    DONE(&second, ds_count_min_u64_new(&second, 4, 128, 9001));
+    DONE(&count, ds_count_min_u64_update_all_u64(&count, items, 64));
+    DONE(&second, ds_count_min_u64_merge(&second, &count));
+    if (ds_count_min_u64_estimate_u64(&second, 5, &estimate) != DS_OK || !estimate) return 1;
+    DONE(&copy, ds_clone(&copy, &second));
+    if (ds_count_min_u64_estimate_u64(&copy, 5, &estimate) != DS_OK || !estimate) return 1;
+    DONE(&frequent, ds_frequent_items_u64_new(&frequent, 64, 48));
+    DONE(&many, ds_frequent_items_i64_new(&many, 8, 6));
+    /* the table doubles three times; if that fails for lack of memory, the items before are added */
+    for (uint64_t i = 0; i < 64; i++) DONE(&frequent, ds_frequent_items_u64_update(&frequent, i, i + 1));
+    for (int64_t i = 0; i < 64; i++) DONE(&many, ds_frequent_items_i64_update(&many, i, 1));
+    DONE(&frequent, ds_frequent_items_u64_serialize(&frequent, image, sizeof image, &length));
+    DONE(&copy, ds_clone(&copy, &frequent));
+    DONE(&frequent, ds_frequent_items_u64_merge(&frequent, &copy));
+    DONE(&copy, ds_frequent_items_u64_deserialize(&copy, image, length, 1 << 14));
+    if (ds_frequent_items_u64_get_status(&frequent, &numbers) != DS_OK || numbers.total_weight != 2 * 2080) return 1;
+    if (ds_frequent_items_u64_get_status(&copy, &numbers) != DS_OK || numbers.total_weight != 2080) return 1;
+    write_texts();
+    DONE(&frequent, ds_frequent_items_string_new(&frequent, 64, 48));
+    if (!adds_texts(&frequent, NULL) || !adds_texts(&frequent, NULL)) return 1;
+    for (uint64_t i = 0; i < 64; i++) items[i] = 2;
+    if (!adds_texts(&frequent, items)) return 1;
+    if (!tells_of_texts(&frequent)) return 1;
+    size_t rows = 0, num_bytes = 0;
+    DONE(&frequent,
+         ds_frequent_items_string_rows(&frequent, true, 0, shown, sizeof shown, starts, 65, bounds, 64, &rows, &num_bytes));
+    if (num_bytes != 2 * rows || starts[rows] != num_bytes) return 1;
+    DONE(&filter, ds_bloom_insert_all_string(&filter, letters, sizeof letters, ends, 65));
+    DONE(&count, ds_count_min_u64_update_all_string(&count, letters, sizeof letters, ends, 65));
+    ds_free(&frequent);
+    ds_free(&many);
+    ds_free(&copy);
+    ds_free(&filter);
+    ds_free(&other);
+    ds_free(&count);
+    ds_free(&second);
+    return 0;
+}

@@ -1,0 +1,221 @@
+/* Performs the program's lines on filters, `countu` sketches and frequent items with calls of the C library, and prints the
+ * program's replies. */
+#include <datasketches.h>
+#include <inttypes.h>
+#include <stdio.h>
+#include <stdlib.h>
+#include <string.h>
+
+enum { NAMES = 512, WORDS = 8 };
+
+struct named {
+    char name[32];
+    ds_sketch handle;
+    uint8_t *image;
+    size_t length;
+};
+
+static struct named sketches[NAMES], images[NAMES];
+
+static struct named *look_up(struct named *table, const char *name)
+{
+    for (int i = 0; i < NAMES; i++)
+        if (strcmp(table[i].name, name) == 0) return &table[i];
+    return NULL;
+}
+
+/* Stores a name in a free place, and returns the place. */
+static struct named *place(struct named *table, const char *name)
+{
+    struct named *it = look_up(table, "");
+    if (!it || strlen(name) >= sizeof it->name) abort();
+    strcpy(it->name, name);
+    return it;
+}
+
+static void reply(int32_t answer)
+{
+    if (answer < 0) printf("refused %s\n", ds_result_name(answer));
+    else puts("ok");
+}
+
+/* Replies to a call that created a sketch under a name. After an error the name is free again. */
+static void made(struct named *it, int32_t answer)
+{
+    if (answer < 0) it->name[0] = 0;
+    reply(answer);
+}
+
+static uint8_t *bytes_of(const char *hex, size_t *length)
+{
+    *length = strcmp(hex, "-") ? strlen(hex) / 2 : 0;
+    uint8_t *bytes = malloc(*length + 1);
+    for (size_t i = 0; i < *length; i++) {
+        unsigned byte;
+        sscanf(hex + 2 * i, "%2x", &byte);
+        bytes[i] = (uint8_t)byte;
+    }
+    return bytes;
+}
+
+/* Writes the image of a sketch of any of the three kinds, or queries its length. */
+static int32_t write_image(ds_sketch *handle, uint8_t *out, size_t capacity, size_t *written)
+{
+    int32_t answer = ds_bloom_serialize(handle, out, capacity, written);
+    if (answer == DS_WRONG_KIND) answer = ds_count_min_u64_serialize(handle, out, capacity, written);
+    if (answer == DS_WRONG_KIND) answer = ds_frequent_items_string_serialize(handle, out, capacity, written);
+    return answer;
+}
+
+/* Adds a weight to a string's in a sketch of either kind that has weights. */
+static int32_t add(ds_sketch *handle, const char *text, uint64_t weight)
+{
+    const uint8_t *bytes = (const uint8_t *)text;
+    int32_t answer = ds_count_min_u64_update_string(handle, bytes, strlen(text), weight);
+    return answer == DS_WRONG_KIND ? ds_frequent_items_string_update(handle, bytes, strlen(text), weight) : answer;
+}
+
+/* Merges two sketches of one kind. */
+static int32_t merge(ds_sketch *into, ds_sketch *from)
+{
+    int32_t answer = ds_count_min_u64_merge(into, from);
+    return answer == DS_WRONG_KIND ? ds_frequent_items_string_merge(into, from) : answer;
+}
+
+static void save(struct named *sketch, struct named *image)
+{
+    size_t length, written;
+    int32_t answer = write_image(&sketch->handle, NULL, 0, &length);
+    if (answer != DS_NO_ROOM) abort();
+    image->image = malloc(length);
+    image->length = length;
+    answer = write_image(&sketch->handle, image->image, length, &written);
+    if (answer < 0 || written != length) abort();
+    reply(answer);
+}
+
+static int32_t join(const char *verb, ds_sketch *into, ds_sketch *from)
+{
+    if (strcmp(verb, "union") == 0) return ds_bloom_union(into, from);
+    if (strcmp(verb, "intersect") == 0) return ds_bloom_intersect(into, from);
+    if (strcmp(verb, "merge") == 0) return merge(into, from);
+    return ds_bloom_difference(into, from);
+}
+
+static void create(char **words)
+{
+    if (look_up(sketches, words[1])) { puts("refused NameTaken"); return; }
+    struct named *it = place(sketches, words[1]);
+    if (strcmp(words[0], "frequent") == 0) {
+        size_t greatest = strtoull(words[2], 0, 10);
+        made(it, ds_frequent_items_string_new(&it->handle, greatest, ds_frequent_items_max_sample_size(greatest)));
+        return;
+    }
+    uint64_t seed = strtoull(words[4], 0, 10), size = strtoull(words[3], 0, 10);
+    if (strcmp(words[0], "bloom") == 0)
+        made(it, ds_bloom_new(&it->handle, strtoull(words[2], 0, 10), (uint16_t)size, seed));
+    else made(it, ds_count_min_u64_new(&it->handle, (uint8_t)atoi(words[2]), (uint32_t)size, seed));
+}
+
+static void load(char **words)
+{
+    if (look_up(sketches, words[1])) { puts("refused NameTaken"); return; }
+    struct named *it = place(sketches, words[1]);
+    int filter = strcmp(words[2], "bloom") == 0, frequent = strcmp(words[2], "frequent") == 0;
+    size_t length, most = strtoull(words[3], 0, 10);
+    uint8_t *bytes = bytes_of(words[filter || frequent ? 4 : 5], &length);
+    if (filter) made(it, ds_bloom_deserialize(&it->handle, bytes, length, most));
+    else if (frequent) made(it, ds_frequent_items_string_deserialize(&it->handle, bytes, length, most));
+    else made(it, ds_count_min_u64_deserialize(&it->handle, bytes, length, strtoull(words[4], 0, 10), most));
+    free(bytes);
+}
+
+static void ask(ds_sketch *handle, const uint8_t *text, size_t length)
+{
+    ds_frequent_items_bounds bounds;
+    int32_t answer = ds_bloom_contains_string(handle, text, length);
+    if (answer != DS_WRONG_KIND) {
+        puts(answer == DS_YES ? "yes" : "no");
+        return;
+    }
+    if (ds_count_min_u64_estimate_string(handle, text, length, &bounds.estimate) == DS_OK) {
+        bounds.lower_bound = bounds.estimate;
+        if (ds_count_min_u64_upper_bound_string(handle, text, length, &bounds.upper_bound) != DS_OK) abort();
+    } else if (ds_frequent_items_string_bounds(handle, text, length, &bounds) != DS_OK) abort();
+    printf("estimate %" PRIu64 " lower %" PRIu64 " upper %" PRIu64 "\n", bounds.estimate, bounds.lower_bound, bounds.upper_bound);
+}
+
+static void status(ds_sketch *handle)
+{
+    ds_bloom_status filter;
+    ds_count_min_status count;
+    if (ds_bloom_get_status(handle, &filter) == DS_OK)
+        printf("bloom bits %" PRIu64 " capacity %" PRIu64 " hashes %u seed %" PRIu64 "\n", filter.bits_used, filter.capacity,
+               (unsigned)filter.num_hashes, filter.seed);
+    else if (ds_count_min_u64_get_status(handle, &count) == DS_OK)
+        printf("countu total %" PRIu64 " hashes %u buckets %u seed %" PRIu64 "\n", count.total_weight,
+               (unsigned)count.num_hashes, (unsigned)count.num_buckets, count.seed);
+    else abort();
+}
+
+static void show(char **words)
+{
+    struct named *it = look_up(images, words[1]);
+    if (!it) { puts("refused NoSuchName"); return; }
+    printf("image ");
+    for (size_t i = 0; i < it->length; i++) printf("%02x", it->image[i]);
+    puts("");
+}
+
+/* Performs a command that merges or combines another sketch into the first one. */
+static void joined(char **words, struct named *it)
+{
+    struct named *other = look_up(sketches, words[2]);
+    if (!other) puts("refused NoSuchName");
+    else if (it == other) {
+        if (join(words[0], &it->handle, &other->handle) != DS_BAD_ARGUMENT) abort();
+        puts("refused SameName");
+    } else reply(join(words[0], &it->handle, &other->handle));
+}
+
+static void of_sketch(char **words)
+{
+    struct named *it = look_up(sketches, words[1]);
+    if (!it) { puts("refused NoSuchName"); return; }
+    ds_sketch *handle = &it->handle;
+    const uint8_t *text = (const uint8_t *)words[2];
+    size_t length = words[2] ? strlen(words[2]) : 0;
+    if (strcmp(words[0], "insert") == 0) reply(ds_bloom_insert_string(handle, text, length));
+    else if (strcmp(words[0], "add") == 0)
+        reply(add(handle, words[3], strtoull(words[2], 0, 10)));
+    else if (strcmp(words[0], "ask") == 0) ask(handle, text, length);
+    else if (strcmp(words[0], "reset") == 0) reply(ds_bloom_reset(handle));
+    else if (strcmp(words[0], "halve") == 0) reply(ds_count_min_u64_halve(handle));
+    else if (strcmp(words[0], "decay") == 0)
+        reply(ds_count_min_u64_decay(handle, strtoull(words[2], 0, 10), strtoull(words[3], 0, 10)));
+    else if (strcmp(words[0], "status") == 0) status(handle);
+    else if (strcmp(words[0], "save") == 0) {
+        if (look_up(images, words[2])) puts("refused NameTaken");
+        else save(it, place(images, words[2]));
+    } else joined(words, it);
+}
+
+int main(void)
+{
+    static char line[1 << 20];
+    while (fgets(line, sizeof line, stdin)) {
+        char *words[WORDS] = {0};
+        int count = 0;
+        for (char *word = strtok(line, " \n"); word && count < WORDS; word = strtok(NULL, " \n")) words[count++] = word;
+        if (!count) continue;
+        if (strcmp(words[0], "bloom") == 0 || strcmp(words[0], "countu") == 0 || strcmp(words[0], "frequent") == 0) create(words);
+        else if (strcmp(words[0], "load") == 0) load(words);
+        else if (strcmp(words[0], "image") == 0) show(words);
+        else of_sketch(words);
+    }
+    for (int i = 0; i < NAMES; i++) {
+        ds_free(&sketches[i].handle);
+        free(images[i].image);
+    }
+    return 0;
+}

@@ -1,0 +1,356 @@
+/* Counts the allocations of calls and the blocks that they free. A row has both expected numbers, the expected result and the
+ * call. The numbers were derived by hand from the header. Prints the rows that differ, and exits with 1 if there is any.
+ *
+ * It is linked with `--wrap` for malloc, calloc, realloc and free. */
+#include <datasketches.h>
+#include <stdio.h>
+#include <stdlib.h>
+
+static int rows, failures, is_counting;
+static long asked, given_back;
+
+void *__real_malloc(size_t size);
+void *__real_calloc(size_t count, size_t size);
+void *__real_realloc(void *block, size_t size);
+void __real_free(void *block);
+void *__wrap_malloc(size_t size);
+void *__wrap_calloc(size_t count, size_t size);
+void *__wrap_realloc(void *block, size_t size);
+void __wrap_free(void *block);
+
+void *__wrap_malloc(size_t size)
+{
+    asked += is_counting;
+    return __real_malloc(size);
+}
+
+void *__wrap_calloc(size_t count, size_t size)
+{
+    asked += is_counting;
+    return __real_calloc(count, size);
+}
+
+void *__wrap_realloc(void *block, size_t size)
+{
+    asked += is_counting;
+    return __real_realloc(block, size);
+}
+
+void __wrap_free(void *block)
+{
+    given_back += is_counting && block;
+    __real_free(block);
+}
+
+/* A call with its expected numbers of allocations and freed blocks, and its expected result. */
+#define ROW(asks, gives_back, wanted, call) \
+    do { \
+        int32_t answer; \
+        asked = given_back = 0; \
+        is_counting = 1; \
+        answer = (call); \
+        is_counting = 0; \
+        rows++; \
+        if (answer != (wanted) || asked != (asks) || given_back != (gives_back)) { \
+            failures++; \
+            printf("%s:%d: %s: answer %d, asked %ld, gave back %ld\n", __FILE__, __LINE__, #call, (int)answer, asked, \
+                   given_back); \
+        } \
+    } while (0)
+
+/* A call that allocates nothing. */
+#define FREE(wanted, call) ROW(0, 0, wanted, call)
+
+/* A call that is not counted. */
+#define DO(call) \
+    do { \
+        if ((call) < 0) exit(2); \
+    } while (0)
+
+static const uint64_t ITEMS[3] = {3, 5, 1};
+static const int64_t SIGNED[3] = {3, 5, 1};
+static const uint64_t WEIGHTS[3] = {1, 2, 3};
+static const int64_t DIFFERENCES[3] = {1, -2, 3};
+
+/* Two strings, `ab` and `cde`. */
+static const uint8_t TEXTS[5] = "abcde";
+static const uint64_t OFFSETS[3] = {0, 2, 5};
+
+/* The image of an empty filter of four words and three hashes. */
+static const uint8_t FILTER[24] = {3, 1, 21, 4, 3, 0, 0, 0, 0x29, 0x23, 0, 0, 0, 0, 0, 0, 4, 0, 0, 0, 0, 0, 0, 0};
+
+/* The image of an empty Count-Min sketch of three hashes and 64 buckets under the seed 9001. */
+static const uint8_t COUNTS[16] = {2, 1, 18, 1, 0, 0, 0, 0, 64, 0, 0, 0, 3, 0xcc, 0x93, 0};
+
+/* The image of an empty sketch of frequent items with a maximum of 64 slots. */
+static const uint8_t FREQUENT[8] = {1, 1, 10, 6, 3, 5, 0, 0};
+
+/* The image of one string whose stated length is 4 GiB - 1, with no byte after the length. */
+static const uint8_t HOSTILE[44] = {4, 1, 10, 3, 3, 0, 0, 0, 1, 0, 0, 0, 0, 0, 0, 0, 1, 0, 0, 0, 0, 0,
+                                    0, 0, 0, 0, 0, 0, 0, 0, 0, 0, 1, 0, 0, 0, 0, 0, 0, 0, 0xff, 0xff, 0xff, 0xff};
+
+static void filters(void)
+{
+    ds_sketch filter = DS_NONE, same = DS_NONE, unlike = DS_NONE, none = DS_NONE, count = DS_NONE;
+    ds_bloom_status numbers;
+    bool answers[3];
+    uint8_t image[64];
+    size_t written;
+    DO(ds_bloom_new(&filter, 256, 3, 9001));
+    DO(ds_bloom_new(&same, 256, 3, 9001));
+    DO(ds_bloom_new(&unlike, 256, 3, 7));
+    DO(ds_count_min_u64_new(&count, 3, 64, 9001));
+    FREE(DS_OK, ds_bloom_insert_u64(&filter, 3));
+    FREE(DS_OK, ds_bloom_insert_i64(&filter, -1));
+    FREE(DS_OK, ds_bloom_insert_string(&filter, TEXTS, 5));
+    FREE(DS_OK, ds_bloom_insert_all_u64(&filter, ITEMS, 3));
+    FREE(DS_OK, ds_bloom_insert_all_i64(&filter, SIGNED, 3));
+    FREE(DS_OK, ds_bloom_insert_all_string(&filter, TEXTS, 5, OFFSETS, 3));
+    FREE(DS_YES, ds_bloom_contains_u64(&filter, 5));
+    FREE(DS_YES, ds_bloom_contains_i64(&filter, -1));
+    FREE(DS_YES, ds_bloom_contains_string(&filter, TEXTS, 2));
+    FREE(DS_OK, ds_bloom_contains_all_u64(&filter, ITEMS, 3, answers, 3));
+    FREE(DS_OK, ds_bloom_contains_all_i64(&filter, SIGNED, 3, answers, 3));
+    FREE(DS_OK, ds_bloom_contains_all_string(&filter, TEXTS, 5, OFFSETS, 3, answers, 2));
+    FREE(DS_NO_ROOM, ds_bloom_contains_all_u64(&filter, ITEMS, 3, answers, 2));
+    FREE(DS_OK, ds_bloom_union(&same, &filter));
+    FREE(DS_OK, ds_bloom_intersect(&same, &filter));
+    FREE(DS_OK, ds_bloom_difference(&same, &filter));
+    FREE(DS_MISMATCH, ds_bloom_union(&filter, &unlike));
+    FREE(DS_MISMATCH, ds_bloom_intersect(&filter, &unlike));
+    FREE(DS_MISMATCH, ds_bloom_difference(&filter, &unlike));
+    FREE(DS_NO, ds_bloom_equal(&filter, &same));
+    FREE(DS_OK, ds_memory_bytes(&filter, &written));
+    FREE(DS_OK, ds_bloom_get_status(&filter, &numbers));
+    ROW(1, 1, DS_OK, ds_bloom_serialize(&same, image, sizeof image, &written));
+    FREE(DS_OK, ds_bloom_reset(&filter));
+    FREE(DS_YES, ds_bloom_equal(&filter, &same));
+    FREE(DS_NO, ds_bloom_contains_u64(&filter, 5));
+    FREE(DS_TABLE_TOO_LARGE, ds_bloom_deserialize(&filter, FILTER, sizeof FILTER, 31));
+    FREE(DS_BAD_FAMILY, ds_bloom_deserialize(&filter, COUNTS, sizeof COUNTS, 1 << 20));
+    FREE(DS_INSUFFICIENT_DATA, ds_bloom_deserialize(&filter, FILTER, 0, 1 << 20));
+    FREE(DS_NO_SKETCH, ds_bloom_insert_u64(&none, 3));
+    FREE(DS_NO_SKETCH, ds_bloom_union(&filter, &none));
+    FREE(DS_NO_SKETCH, ds_bloom_serialize(&none, image, sizeof image, &written));
+    FREE(DS_WRONG_KIND, ds_bloom_serialize(&count, image, sizeof image, &written));
+    FREE(DS_WRONG_KIND, ds_bloom_insert_u64(&count, 3));
+    FREE(DS_WRONG_KIND, ds_bloom_union(&filter, &count));
+    ds_free(&filter);
+    ds_free(&same);
+    ds_free(&unlike);
+    ds_free(&count);
+}
+
+static void counts(void)
+{
+    ds_sketch count = DS_NONE, same = DS_NONE, unlike = DS_NONE, none = DS_NONE, filter = DS_NONE;
+    ds_count_min_status numbers;
+    uint64_t estimates[3], estimate;
+    uint8_t image[2048];
+    size_t written;
+    DO(ds_count_min_u64_new(&count, 3, 64, 9001));
+    DO(ds_count_min_u64_new(&same, 3, 64, 9001));
+    DO(ds_count_min_u64_new(&unlike, 3, 65, 9001));
+    DO(ds_bloom_new(&filter, 256, 3, 9001));
+    FREE(DS_OK, ds_count_min_u64_update_u64(&count, 3, 250));
+    FREE(DS_OK, ds_count_min_u64_update_i64(&count, -1, 7));
+    FREE(DS_OK, ds_count_min_u64_update_string(&count, TEXTS, 5, 9));
+    FREE(DS_OK, ds_count_min_u64_update_all_u64(&count, ITEMS, 3));
+    FREE(DS_OK, ds_count_min_u64_update_all_i64(&count, SIGNED, 3));
+    FREE(DS_OK, ds_count_min_u64_update_all_string(&count, TEXTS, 5, OFFSETS, 3));
+    FREE(DS_OK, ds_count_min_u64_update_all_weighted_u64(&count, ITEMS, 3, WEIGHTS, 3));
+    FREE(DS_OK, ds_count_min_u64_update_all_weighted_i64(&count, SIGNED, 3, WEIGHTS, 3));
+    FREE(DS_OK, ds_count_min_u64_update_all_weighted_string(&count, TEXTS, 5, OFFSETS, 3, WEIGHTS, 2));
+    FREE(DS_OK, ds_count_min_u64_estimate_u64(&count, 5, &estimate));
+    FREE(DS_OK, ds_count_min_u64_estimate_i64(&count, -1, &estimate));
+    FREE(DS_OK, ds_count_min_u64_estimate_string(&count, TEXTS, 2, &estimate));
+    FREE(DS_OK, ds_count_min_u64_estimate_all_u64(&count, ITEMS, 3, estimates, 3));
+    FREE(DS_OK, ds_count_min_u64_estimate_all_i64(&count, SIGNED, 3, estimates, 3));
+    FREE(DS_OK, ds_count_min_u64_estimate_all_string(&count, TEXTS, 5, OFFSETS, 3, estimates, 2));
+    FREE(DS_NO_ROOM, ds_count_min_u64_estimate_all_u64(&count, ITEMS, 3, estimates, 2));
+    FREE(DS_OK, ds_count_min_u64_upper_bound_u64(&count, 5, &estimate));
+    FREE(DS_OK, ds_count_min_u64_upper_bound_i64(&count, -1, &estimate));
+    FREE(DS_OK, ds_count_min_u64_upper_bound_string(&count, TEXTS, 2, &estimate));
+    FREE(DS_OK, ds_count_min_u64_merge(&same, &count));
+    FREE(DS_YES, ds_count_min_u64_equal(&same, &count));
+    FREE(DS_NO, ds_count_min_u64_equal(&count, &unlike));
+    FREE(DS_MISMATCH, ds_count_min_u64_merge(&count, &unlike));
+    FREE(DS_OK, ds_count_min_u64_halve(&same));
+    FREE(DS_OK, ds_count_min_u64_decay(&same, 9, 10));
+    FREE(DS_BAD_FRACTION, ds_count_min_u64_decay(&same, 3, 2));
+    FREE(DS_OK, ds_count_min_u64_get_status(&count, &numbers));
+    ROW(1, 1, DS_OK, ds_count_min_u64_serialize(&count, image, sizeof image, &written));
+    FREE(DS_WEIGHT_OVERFLOW, ds_count_min_u64_update_u64(&count, 3, UINT64_MAX));
+    FREE(DS_OK, ds_count_min_u64_update_u64(&unlike, 3, UINT64_MAX));
+    FREE(DS_WEIGHT_OVERFLOW, ds_count_min_u64_update_all_u64(&unlike, ITEMS, 3));
+    FREE(DS_WEIGHT_OVERFLOW, ds_count_min_u64_update_all_weighted_u64(&unlike, ITEMS, 3, WEIGHTS, 3));
+    FREE(DS_TABLE_TOO_LARGE, ds_count_min_u64_deserialize(&count, COUNTS, sizeof COUNTS, 9001, 1559));
+    FREE(DS_SEED_HASH_MISMATCH, ds_count_min_u64_deserialize(&count, COUNTS, sizeof COUNTS, 9002, 1 << 20));
+    FREE(DS_INSUFFICIENT_DATA, ds_count_min_u64_deserialize(&count, COUNTS, 0, 9001, 1 << 20));
+    FREE(DS_NO_SKETCH, ds_count_min_u64_update_u64(&none, 3, 1));
+    FREE(DS_NO_SKETCH, ds_count_min_u64_merge(&count, &none));
+    FREE(DS_WRONG_KIND, ds_count_min_u64_update_u64(&filter, 3, 1));
+    FREE(DS_WRONG_KIND, ds_count_min_u64_merge(&count, &filter));
+    ds_free(&count);
+    ds_free(&same);
+    ds_free(&unlike);
+    ds_free(&filter);
+}
+
+static void signed_counts(void)
+{
+    ds_sketch count = DS_NONE, same = DS_NONE, unlike = DS_NONE, heavy = DS_NONE;
+    ds_count_min_status numbers;
+    int64_t estimates[3], estimate;
+    uint8_t image[2048];
+    size_t written;
+    DO(ds_count_min_i64_new(&count, 3, 64, 9001));
+    DO(ds_count_min_i64_new(&same, 3, 64, 9001));
+    DO(ds_count_min_i64_new(&heavy, 3, 64, 9001));
+    DO(ds_count_min_i64_new(&unlike, 3, 65, 9001));
+    FREE(DS_OK, ds_count_min_i64_update_u64(&count, 3, 250));
+    FREE(DS_OK, ds_count_min_i64_update_i64(&count, -1, -7));
+    FREE(DS_OK, ds_count_min_i64_update_string(&count, TEXTS, 5, 9));
+    FREE(DS_OK, ds_count_min_i64_update_all_u64(&count, ITEMS, 3));
+    FREE(DS_OK, ds_count_min_i64_update_all_i64(&count, SIGNED, 3));
+    FREE(DS_OK, ds_count_min_i64_update_all_string(&count, TEXTS, 5, OFFSETS, 3));
+    FREE(DS_OK, ds_count_min_i64_update_all_weighted_u64(&count, ITEMS, 3, DIFFERENCES, 3));
+    FREE(DS_OK, ds_count_min_i64_update_all_weighted_i64(&count, SIGNED, 3, DIFFERENCES, 3));
+    FREE(DS_OK, ds_count_min_i64_update_all_weighted_string(&count, TEXTS, 5, OFFSETS, 3, DIFFERENCES, 2));
+    FREE(DS_OK, ds_count_min_i64_estimate_u64(&count, 5, &estimate));
+    FREE(DS_OK, ds_count_min_i64_estimate_i64(&count, -1, &estimate));
+    FREE(DS_OK, ds_count_min_i64_estimate_string(&count, TEXTS, 2, &estimate));
+    FREE(DS_OK, ds_count_min_i64_estimate_all_u64(&count, ITEMS, 3, estimates, 3));
+    FREE(DS_OK, ds_count_min_i64_estimate_all_i64(&count, SIGNED, 3, estimates, 3));
+    FREE(DS_OK, ds_count_min_i64_estimate_all_string(&count, TEXTS, 5, OFFSETS, 3, estimates, 2));
+    FREE(DS_OK, ds_count_min_i64_upper_bound_u64(&count, 5, &estimate));
+    FREE(DS_OK, ds_count_min_i64_upper_bound_i64(&count, -1, &estimate));
+    FREE(DS_OK, ds_count_min_i64_upper_bound_string(&count, TEXTS, 2, &estimate));
+    FREE(DS_OK, ds_count_min_i64_merge(&same, &count));
+    FREE(DS_MISMATCH, ds_count_min_i64_merge(&count, &unlike));
+    FREE(DS_OK, ds_count_min_i64_get_status(&count, &numbers));
+    ROW(1, 1, DS_OK, ds_count_min_i64_serialize(&count, image, sizeof image, &written));
+    FREE(DS_OK, ds_count_min_i64_update_u64(&heavy, 3, INT64_MAX));
+    FREE(DS_WEIGHT_OVERFLOW, ds_count_min_i64_update_u64(&count, 3, INT64_MIN));
+    FREE(DS_WEIGHT_OVERFLOW, ds_count_min_i64_update_all_u64(&heavy, ITEMS, 3));
+    FREE(DS_WEIGHT_OVERFLOW, ds_count_min_i64_merge(&heavy, &count));
+    FREE(DS_TABLE_TOO_LARGE, ds_count_min_i64_deserialize(&count, COUNTS, sizeof COUNTS, 9001, 1559));
+    FREE(DS_SEED_HASH_MISMATCH, ds_count_min_i64_deserialize(&count, COUNTS, sizeof COUNTS, 9002, 1 << 20));
+    FREE(DS_INSUFFICIENT_DATA, ds_count_min_i64_deserialize(&count, COUNTS, 0, 9001, 1 << 20));
+    ds_free(&count);
+    ds_free(&same);
+    ds_free(&heavy);
+    ds_free(&unlike);
+}
+
+/* A sketch of six numbers: its table of 8 slots has no room for a seventh. */
+static void frequent_numbers(void)
+{
+    ds_sketch six = DS_NONE, empty = DS_NONE, heavy = DS_NONE, none = DS_NONE;
+    ds_frequent_items_status numbers;
+    ds_frequent_items_bounds bounds[3];
+    uint8_t image[256];
+    size_t written;
+    DO(ds_frequent_items_u64_new(&six, 64, 48));
+    DO(ds_frequent_items_u64_new(&empty, 64, 48));
+    DO(ds_frequent_items_u64_new(&heavy, 8, 6));
+    for (uint64_t i = 0; i < 6; i++) FREE(DS_OK, ds_frequent_items_u64_update(&six, i, 1));
+    FREE(DS_OK, ds_frequent_items_u64_update(&six, 5, 2));
+    FREE(DS_OK, ds_frequent_items_u64_update(&six, 7, 0));
+    FREE(DS_OK, ds_frequent_items_u64_update_all(&six, ITEMS, 3));
+    FREE(DS_OK, ds_frequent_items_u64_update_all_weighted(&six, ITEMS, 3, WEIGHTS, 3));
+    FREE(DS_OK, ds_frequent_items_u64_bounds(&six, 5, bounds));
+    FREE(DS_OK, ds_frequent_items_u64_bounds(&six, 7, bounds));
+    FREE(DS_OK, ds_frequent_items_u64_bounds_all(&six, ITEMS, 3, bounds, 3));
+    FREE(DS_NO_ROOM, ds_frequent_items_u64_bounds_all(&six, ITEMS, 3, bounds, 2));
+    FREE(DS_OK, ds_frequent_items_u64_merge(&six, &empty));
+    FREE(DS_OK, ds_frequent_items_u64_get_status(&six, &numbers));
+    ROW(1, 1, DS_OK, ds_frequent_items_u64_serialize(&six, image, sizeof image, &written));
+    FREE(DS_OK, ds_frequent_items_u64_update(&heavy, 3, UINT64_MAX));
+    FREE(DS_WEIGHT_OVERFLOW, ds_frequent_items_u64_update(&six, 3, UINT64_MAX));
+    FREE(DS_WEIGHT_OVERFLOW, ds_frequent_items_u64_update(&heavy, 5, 1));
+    FREE(DS_WEIGHT_OVERFLOW, ds_frequent_items_u64_update_all(&heavy, ITEMS, 3));
+    FREE(DS_WEIGHT_OVERFLOW, ds_frequent_items_u64_update_all_weighted(&heavy, ITEMS, 3, WEIGHTS, 3));
+    FREE(DS_WEIGHT_OVERFLOW, ds_frequent_items_u64_merge(&heavy, &six));
+    FREE(DS_TABLE_TOO_LARGE, ds_frequent_items_u64_deserialize(&six, FREQUENT, sizeof FREQUENT, 223));
+    FREE(DS_BAD_FAMILY, ds_frequent_items_u64_deserialize(&six, FILTER, sizeof FILTER, 1 << 20));
+    FREE(DS_INSUFFICIENT_DATA, ds_frequent_items_u64_deserialize(&six, FREQUENT, 0, 1 << 20));
+    /* slots and fingerprints of a table of 16 replace those of 8 */
+    ROW(2, 2, DS_OK, ds_frequent_items_u64_update(&six, 7, 1));
+    FREE(DS_OK, ds_frequent_items_u64_reset(&six));
+    FREE(DS_NO_SKETCH, ds_frequent_items_u64_update(&none, 3, 1));
+    FREE(DS_WRONG_KIND, ds_frequent_items_i64_update(&six, 3, 1));
+    ds_free(&six);
+    ds_free(&empty);
+    ds_free(&heavy);
+}
+
+/* Adds the maximum number of items of a sketch of 2048 slots, once each. */
+static int32_t fill(ds_sketch *handle)
+{
+    int32_t answer = DS_OK;
+    for (int64_t i = 0; i < 1536 && answer == DS_OK; i++) answer = ds_frequent_items_i64_update(handle, i, 1);
+    return answer;
+}
+
+/* A full sketch, one counter more than it holds, and the same after a reset. From 8 to 2048 slots a table doubles eight times. */
+static void full(void)
+{
+    ds_sketch sketch = DS_NONE, other = DS_NONE;
+    ds_frequent_items_status numbers;
+    ds_frequent_items_bounds bounds[3];
+    DO(ds_frequent_items_i64_new(&sketch, 2048, 1024));
+    DO(ds_frequent_items_i64_new(&other, 8, 6));
+    ROW(16, 16, DS_OK, fill(&sketch));
+    FREE(DS_OK, ds_frequent_items_i64_update(&sketch, 5, 1));
+    FREE(DS_OK, ds_frequent_items_i64_update_all(&sketch, SIGNED, 3));
+    FREE(DS_OK, ds_frequent_items_i64_update_all_weighted(&sketch, SIGNED, 3, WEIGHTS, 3));
+    FREE(DS_OK, ds_frequent_items_i64_bounds(&sketch, 5, bounds));
+    FREE(DS_OK, ds_frequent_items_i64_bounds(&sketch, -1, bounds));
+    FREE(DS_OK, ds_frequent_items_i64_bounds_all(&sketch, SIGNED, 3, bounds, 3));
+    FREE(DS_OK, ds_frequent_items_i64_merge(&sketch, &other));
+    FREE(DS_OK, ds_frequent_items_i64_get_status(&sketch, &numbers));
+    FREE(DS_OK, ds_frequent_items_i64_update(&sketch, 1536, 1));
+    if (ds_frequent_items_i64_get_status(&sketch, &numbers) != DS_OK || numbers.maximum_error == 0) failures++;
+    FREE(DS_OK, ds_frequent_items_i64_reset(&sketch));
+    ROW(16, 16, DS_OK, fill(&sketch));
+    FREE(DS_OK, ds_frequent_items_i64_reset(&sketch));
+    FREE(DS_TABLE_TOO_LARGE, ds_frequent_items_i64_deserialize(&sketch, FREQUENT, sizeof FREQUENT, 223));
+    FREE(DS_INSUFFICIENT_DATA, ds_frequent_items_i64_deserialize(&sketch, FREQUENT, 0, 1 << 20));
+    ds_free(&sketch);
+    ds_free(&other);
+}
+
+static void frequent_texts(void)
+{
+    ds_sketch sketch = DS_NONE, empty = DS_NONE;
+    ds_frequent_items_status numbers;
+    uint8_t image[256];
+    size_t written;
+    DO(ds_frequent_items_string_new(&sketch, 64, 48));
+    DO(ds_frequent_items_string_new(&empty, 64, 48));
+    DO(ds_frequent_items_string_update(&sketch, TEXTS, 5, 1));
+    FREE(DS_OK, ds_frequent_items_string_get_status(&sketch, &numbers));
+    FREE(DS_OK, ds_memory_bytes(&sketch, &written));
+    FREE(DS_OK, ds_frequent_items_string_merge(&sketch, &empty));
+    ROW(1, 1, DS_OK, ds_frequent_items_string_serialize(&sketch, image, sizeof image, &written));
+    FREE(DS_TABLE_TOO_LARGE, ds_frequent_items_string_deserialize(&sketch, FREQUENT, sizeof FREQUENT, 223));
+    FREE(DS_INSUFFICIENT_DATA, ds_frequent_items_string_deserialize(&sketch, FREQUENT, 0, 1 << 20));
+    /* only the table is allocated, and nothing for the string */
+    ROW(2, 2, DS_INSUFFICIENT_DATA, ds_frequent_items_string_deserialize(&sketch, HOSTILE, sizeof HOSTILE, 1 << 20));
+    FREE(DS_OK, ds_frequent_items_string_reset(&empty));
+    ds_free(&sketch);
+    ds_free(&empty);
+}
+
+int main(void)
+{
+    filters();
+    counts();
+    signed_counts();
+    frequent_numbers();
+    full();
+    frequent_texts();
+    printf("%d of %d rows hold\n", rows - failures, rows);
+    return failures != 0;
+}

@@ -1,0 +1,301 @@
+"""Tests the C library. The header is compared with the sources and the built archive. The calls are made from C: plainly, with
+the address sanitizer, under valgrind, with allocations that fail or are counted, and compared with the program line by line.
+
+    python3 bindings/c/tests/run.py crates/datasketches_cli/out/datasketches_cli [ARCHIVE]
+
+prints a line for each test that failed and then 'N passed, M failed', and counts on from `--after 'N passed, M failed'`.
+"""
+import glob
+import os
+import random
+import re
+import shutil
+import subprocess
+import sys
+import tempfile
+
+HERE = os.path.dirname(os.path.abspath(__file__))
+C = os.path.dirname(HERE)
+TOP = os.path.dirname(os.path.dirname(C))
+sys.path.insert(0, f"{TOP}/tests/program")
+
+import loads  # noqa: E402
+
+CRATE = f"{TOP}/crates/datasketches_c"
+COMPILER = next(name for name in [os.environ.get("CC", "cc"), "gcc", "clang"] if shutil.which(name))
+STRICT = ["-std=c11", "-Wall", "-Wextra", "-Wpedantic", "-Werror"]
+
+# The C type of each Rust type of an export. A slice is a pointer and a length, and an allocator is not passed.
+CROSSES = {"u8": "uint8_t", "u16": "uint16_t", "u32": "uint32_t", "u64": "uint64_t", "i32": "int32_t", "i64": "int64_t"}
+CROSSES |= {"usize": "size_t", "bool": "bool", "SketchHandle": "ds_sketch", "FilterStatus": "ds_bloom_status"}
+CROSSES |= {"CountStatus": "ds_count_min_status", "FrequentBounds": "ds_frequent_items_bounds"}
+CROSSES |= {"FrequentStatus": "ds_frequent_items_status"}
+
+
+def read(path):
+    with open(path, encoding="utf-8") as it:
+        return it.read()
+
+
+def in_c(kind):
+    """Returns the C types of a parameter."""
+    if kind == "Global":
+        return []
+    found = re.fullmatch(r"(&(?:mut )?)?\[?(\w+)\]?", kind)
+    borrowed, name = found.groups()
+    if not borrowed:
+        return [CROSSES[name]]
+    pointer = ("" if "mut" in borrowed else "const ") + CROSSES[name] + " *"
+    return [pointer, "size_t"] if "[" in kind else [pointer]
+
+
+def exported():
+    """Returns the exports of the sources: name, C type of the result, C types of the parameters."""
+    found = {}
+    for path in glob.glob(f"{CRATE}/src/*.rt"):
+        for name, inside, result in re.findall(r'pub extern "C" fn (\w+)\(([^)]*)\)(?: -> (\w+))?', read(path)):
+            kinds = [it.split(":")[1].strip() for it in inside.split(",") if it.strip()]
+            found[name] = (CROSSES[result] if result else "void", [it for kind in kinds for it in in_c(kind)])
+    return found
+
+
+def declared():
+    """Returns the prototypes of the header, as `exported` does."""
+    text = re.sub(r"/\*.*?\*/", "", read(f"{C}/include/datasketches.h"), flags=re.DOTALL)
+    found = {}
+    for result, name, inside in re.findall(r"^(void|\w+_t) (ds_\w+)\(([^)]*)\);", text, re.MULTILINE):
+        kinds = [re.fullmatch(r"\s*(.*?)\w+", it).group(1).strip() for it in inside.split(",")]
+        found[name] = (result, kinds)
+    return found
+
+
+class Tests:
+    def __init__(self, program, archive, work):
+        self.program = program
+        self.work = work
+        self.passed = 0
+        self.failed = 0
+        self.built = os.path.join(work, "built")
+        self.archive = archive[0] if archive else f"{CRATE}/out/libdatasketches_c.a"
+        subprocess.run(["bash", f"{C}/build.sh", self.built, *archive], check=True)
+
+    def check(self, name, holds, said=""):
+        if holds:
+            self.passed += 1
+        else:
+            self.failed += 1
+            print(f"failed: {name} {said}")
+
+    def compile(self, source, *flags, static=True):
+        """Compiles a source with the static library or the shared object. Returns the program's path."""
+        out = os.path.join(self.work, f"{os.path.basename(source)[:-2]}{len(os.listdir(self.work))}")
+        libraries = [f"{self.built}/libdatasketches.a"] if static else ["-L", self.built, "-ldatasketches"]
+        command = [COMPILER, *STRICT, *flags, "-I", f"{C}/include", source, "-o", out, *libraries, "-lpthread"]
+        subprocess.run(command, check=True)
+        return out
+
+    def run(self, command, lines=b"", **settings):
+        env = {"PATH": "/usr/bin:/bin", "LD_LIBRARY_PATH": self.built, **settings}
+        return subprocess.run(command, input=lines, capture_output=True, env=env, timeout=300)
+
+    def header(self):
+        """Compares prototypes with exports, and the header's error numbers, names and strings with the sources."""
+        sources, header = exported(), declared()
+        self.check("there are exports", len(sources) > 30)
+        for name in sorted(sources | header):
+            self.check(f"the prototype of {name}", sources.get(name) == header.get(name), (sources.get(name), header.get(name)))
+        for path, flags in [(self.archive, []), (f"{self.built}/libdatasketches.so", ["-D"])]:
+            listed = subprocess.run(["nm", "--defined-only", "-g", *flags, path], capture_output=True, check=True, text=True)
+            names = {row.split()[2].split("@")[0] for row in listed.stdout.splitlines() if len(row.split()) == 3}
+            self.check(f"what {os.path.basename(path)} exports", names - {"DATASKETCHES_0"} == set(sources), names ^ set(sources))
+        numbers = re.findall(r"Fault::(\w+) => (-\d+)", read(f"{CRATE}/src/status_code.rt"))
+        texts = dict(re.findall(r'fault\.\w+ = \(codes "(\w+)", codes "(.*)"\)',
+                                read(f"{TOP}/crates/sketch_base/specs/Faults.antt")))
+        rows = re.findall(r'X\((-\d+), DS_(\w+), "(\w+)", "(.*)"\)', read(f"{C}/include/datasketches.h"))
+        self.check("the numbers of errors", [(name, number) for number, _, name, _ in rows] == numbers, rows)
+        self.check("the messages of errors", {name: text for _, _, name, text in rows} == texts, rows)
+        for _, constant, name, _ in rows:
+            self.check(f"the constant of {name}", constant.replace("_", "") == name.upper())
+        others = re.findall(r"pub const (\w+): i32 = (-?\d+);", read(f"{CRATE}/src/status_code.rt"))
+        constants = re.findall(r"DS_(\w+) = (-?\d+)", read(f"{C}/include/datasketches.h"))
+        self.check("the other results", set(others) == set(constants) - {("BAD_ARGUMENT", "-5"), ("MIN_RESULT", "-44")})
+
+    def calls(self):
+        source = f"{HERE}/calls.c"
+        plain = self.compile(source, "-O2", static=False)
+        checked = self.compile(source, "-g", "-O1", "-fsanitize=address,undefined", "-fno-sanitize-recover=all")
+        valgrind = ["valgrind", "-q", "--leak-check=full", "--show-leak-kinds=all", "--error-exitcode=9"]
+        for name, command in [("plainly", [plain]), ("with addresses checked", [checked]), ("under valgrind", [*valgrind, plain])]:
+            ran = self.run(command)
+            self.check(f"calls, {name}", ran.returncode == 0 and b"checks hold" in ran.stdout, ran)
+
+    def sizes(self):
+        checked = self.compile(f"{HERE}/sizes.c", "-g", "-O1", "-fsanitize=address,undefined", "-fno-sanitize-recover=all")
+        ran = self.run([checked])
+        self.check("sizes", ran.returncode == 0 and b"checks hold" in ran.stdout, ran)
+
+    def requests_counted(self):
+        """Checks the numbers of allocations and of freed blocks, call by call."""
+        counts = ["-O2", *[f"-Wl,--wrap={name}" for name in ["malloc", "calloc", "realloc", "free"]]]
+        ran = self.run([self.compile(f"{HERE}/requests.c", *counts)])
+        self.check("requests counted", ran.returncode == 0 and b"rows hold" in ran.stdout, ran)
+
+    def refused_in_turn(self):
+        """Fails the n-th allocation in the n-th run, until no allocation fails in a run. Returns the number of allocations."""
+        library = os.path.join(self.work, "alloc_failures.so")
+        subprocess.run([COMPILER, "-shared", "-fPIC", "-O1", "-o", library, f"{TOP}/tests/memory/alloc_failures.c", "-ldl"],
+                       check=True)
+        program, report = self.compile(f"{HERE}/memory.c", "-O2"), os.path.join(self.work, "report")
+        at, refused = 0, 1
+        while refused or at == 1:
+            ran = self.run([program], LD_PRELOAD=library, REFUSED_REPORT=report, REFUSED_AT=str(at))
+            requests, refused, kept, *_ = [int(word) for word in read(report).split()]
+            self.check(f"request {at} is refused", ran.returncode == 0 and kept == 0, (ran, kept))
+            at, refused = at + 1, refused or at == 0
+        self.check("requests were refused", requests > 8 and at > requests, (requests, at))
+        return at - 2
+
+    def beside_the_program(self):
+        """Compares the replies to known test cases and to ten thousand random lines with the program's replies."""
+        replay = self.compile(f"{HERE}/replay.c", "-g", "-O1", "-fsanitize=address,undefined", "-fno-sanitize-recover=all")
+        shown = self.run([self.program], "".join(f"{line}\n" for line in loads.SHOWN).encode()).stdout.decode().split()[-1]
+        rows = [(line, reply) for line, reply in loads.worked(shown) if is_played(line, reply)]
+        lines = "".join(f"{line}\n" for line in loads.SHOWN + [line for line, _ in rows]).encode()
+        replies = self.run([replay], lines).stdout.decode().splitlines()[len(loads.SHOWN):]
+        self.check("there are known rows", len(rows) > 12)
+        for (line, wanted), reply in zip(rows, replies, strict=True):
+            self.check(f"known row {line}", reply == wanted, reply)
+        lines = "".join(f"{line}\n" for line in by_chance(10_000, shown)).encode()
+        wanted, got = (self.run([it], lines).stdout.splitlines() for it in [self.program, replay])
+        unlike = next((it for it in zip(wanted, got) if it[0] != it[1]), "")
+        self.check("ten thousand lines", len(wanted) == 10_000 and wanted == got, (len(wanted), len(got), unlike))
+        for name in ["Mismatch", "SameName", "WrongKind", "WeightOverflow", "BadFamily", "BadBitCount", "CellAboveTotal",
+                     "TooManyActive"]:
+            self.check(f"some line is refused for {name}", f"refused {name}".encode() in wanted)
+        for word in [b"yes", b"no", b"estimate", b"countu", b"bloom", b"image"]:
+            self.check(f"some line gets {word.decode()}", any(reply.startswith(word) for reply in wanted))
+
+    def many_at_once(self):
+        """Compares runs of lines on one sketch, whose strings are passed in one call, with the program's replies to each line."""
+        batches = self.compile(f"{HERE}/batches.c", "-g", "-O1", "-fsanitize=address,undefined", "-fno-sanitize-recover=all")
+        lines = "".join(f"{line}\n" for line in runs_by_chance(6_000)).encode()
+        wanted, got = (self.run([it], lines).stdout.splitlines() for it in [self.program, batches])
+        unlike = next((it for it in zip(wanted, got) if it[0] != it[1]), "")
+        self.check("six thousand lines in runs", len(wanted) >= 6_000 and wanted == got, (len(wanted), len(got), unlike))
+        for word in [b"yes", b"no", b"estimate"]:
+            self.check(f"some line in a run gets {word.decode()}", any(reply.startswith(word) for reply in wanted))
+
+    def installed(self):
+        """Builds and runs the page's example with the files that `install.sh` installed and the flags of the pkg-config file."""
+        prefix = os.path.join(self.work, "prefix")
+        subprocess.run(["bash", f"{C}/install.sh", self.built, prefix], check=True)
+        package = read(f"{prefix}/lib/pkgconfig/datasketches.pc")
+        flags = re.findall(r"^(?:Cflags|Libs): (.*)$", package, re.MULTILINE)
+        flags = " ".join(flags).replace("${includedir}", f"{prefix}/include").replace("${libdir}", f"{prefix}/lib").split()
+        self.check("the file for pkg-config", f"prefix={prefix}\n" in package and len(flags) == 3, package)
+        example = os.path.join(self.work, "example_installed")
+        subprocess.run([COMPILER, *STRICT, f"{C}/example.c", "-o", example, *flags], check=True)
+        ran = self.run([example], b"to be or not to be", LD_LIBRARY_PATH=f"{prefix}/lib")
+        shown = re.findall(r"^ \*     (?!\$)(.*)$", read(f"{C}/example.c"), re.MULTILINE)
+        self.check("the example", ran.stdout.decode().splitlines() == shown, ran)
+        needed = subprocess.run(["readelf", "-d", example], capture_output=True, text=True, check=True).stdout
+        self.check("the name of the shared object", "libdatasketches.so.0" in needed)
+        if shutil.which("g++"):
+            whole = ["g++", "-x", "c++", "-Wall", "-Wextra", "-Werror", "-fsyntax-only", f"{prefix}/include/datasketches.h"]
+            self.check("the header in C++", subprocess.run(whole).returncode == 0)
+
+
+def is_played(line, reply):
+    """Returns whether `replay.c` supports a test case: one of three kinds, on names that such test cases create."""
+    words = line.split()
+    if reply.startswith("bad"):
+        return False
+    if words[0] == "load":
+        return words[2] != "counti"
+    return words[0] in ("ask", "union", "merge") or words[0] == "status" and words[1] in ("f", "g", "upper", "k")
+
+
+def by_chance(count, shown):
+    """Returns random lines on filters, counts and frequent items, with rejected ones and altered images."""
+    chance = random.Random(27)
+    filters, counts, frequent = [[f"{kind}{number}" for number in range(9)] for kind in "fcs"]
+    lines, images = [], 0
+    for name in filters[:8]:
+        lines.append(f"bloom {name} {chance.choice([64, 640, 640, 640])} {chance.choice([3, 3, 3, 5])} 9001")
+    for name in counts[:5]:
+        lines.append(f"countu {name} {chance.choice([3, 3, 4])} 64 9001")
+    for name in frequent[:6]:
+        lines.append(f"frequent {name} {chance.choice([8, 64, 64])}")
+    while len(lines) < count:
+        name, other = [chance.choice(filters + counts + frequent) for _ in range(2)]
+        item, of_filter = f"item{chance.randrange(300)}", name in filters
+        kind = chance.random()
+        if kind < 0.3:
+            weight = chance.choice([0, 1, 7, 1 << 40, 1 << 63])
+            lines.append(f"add {name} {weight} {item}" if of_filter == (kind < 0.01) else f"insert {name} {item}")
+        elif kind < 0.6:
+            lines.append(f"ask {name} {item}")
+        elif kind < 0.75:
+            same = next(names for names in [filters, counts, frequent] if name in names)
+            other = chance.choice(same) if chance.random() < 0.7 else other
+            lines.append(f"{chance.choice(['union', 'intersect', 'difference', 'merge'])} {name} {other}")
+        elif kind < 0.8:
+            verbs = [f"halve {name}", f"decay {name} {chance.randrange(1, 9)} 9"]
+            lines.append(chance.choice(verbs if name in frequent else [*verbs, f"reset {name}"]))
+        elif kind < 0.93 or images >= 300:
+            lines.append(f"status {chance.choice(filters + counts)}")
+        elif kind < 0.97:
+            lines += [f"save {name} p{images}", f"image p{images}"]
+            images += 1
+        else:
+            name = f"{name}_{len(lines)}" if len(lines) < 4000 else name
+            byte = f"{chance.randrange(256):02x}"
+            if name in frequent or name[0] == "s":
+                image = loads.altered(loads.AB, chance.choice([0, 1, 2, 3, 4, 5, 8, 16, 24, 32, 40, 44]), byte)
+                lines.append(f"load {name} frequent {chance.choice([351, 352, 100000])} {image}")
+            elif not of_filter:
+                image = loads.altered(loads.UNSIGNED, chance.choice([0, 1, 2, 3, 8, 12, 13, 16, 24, 40]), byte)
+                lines.append(f"load {name} countu {chance.choice([31, 32, 100])} 9001 {image}")
+            else:
+                image = loads.altered(shown, chance.choice([0, 1, 2, 3, 4, 16, 24, 32]), byte)
+                lines.append(f"load {name} bloom {chance.choice([7, 8, 100])} {image}")
+    return lines[:count]
+
+
+def runs_by_chance(count):
+    """Returns runs of random lines with the same first words, with strings of one to four bytes a character."""
+    chance = random.Random(28)
+    lines = ["bloom f 6400 5 9001", "bloom g 640 3 1", "countu c 4 64 9001", "countu d 3 16 7", "frequent s 64", "frequent t 8"]
+    texts = [chance.choice("aéα€😀") * chance.randrange(1, 4) + str(number) for number in range(200)]
+    while len(lines) < count:
+        name = chance.choice("fgcdst")
+        verb = "ask" if chance.random() < 0.4 else "insert" if name in "fg" else "add"
+        weights = [1] if chance.random() < 0.5 else [0, 1, 7, 1 << 40]
+        for _ in range(chance.choice([1, 2, 17, 200])):
+            text = chance.choice(texts)
+            lines.append(f"add {name} {chance.choice(weights)} {text}" if verb == "add" else f"{verb} {name} {text}")
+    return lines
+
+
+def main():
+    words = sys.argv[1:]
+    before = (0, 0)
+    if words[0] == "--after":
+        before = [int(number) for number in re.fullmatch(r"(\d+) passed, (\d+) failed", words[1]).groups()]
+        words = words[2:]
+    with tempfile.TemporaryDirectory() as work:
+        tests = Tests(os.path.abspath(words[0]), words[1:], work)
+        tests.header()
+        tests.calls()
+        tests.sizes()
+        tests.requests_counted()
+        requests = tests.refused_in_turn()
+        tests.beside_the_program()
+        tests.many_at_once()
+        tests.installed()
+        print(f"the library for C: {requests} requests for memory refused in turn")
+        print(f"{before[0] + tests.passed} passed, {before[1] + tests.failed} failed")
+    sys.exit(1 if before[1] + tests.failed else 0)
+
+
+main()

@@ -1,0 +1,71 @@
+/* Calls each function that returns a size, and compares the results with values that were computed separately. Prints those that
+ * differ, and exits with 1 if there is any. */
+#include <datasketches.h>
+#include <stdio.h>
+
+static int checks, failures;
+
+#define CHECK(holds) \
+    do { \
+        checks++; \
+        if (!(holds)) { \
+            failures++; \
+            printf("%s:%d: %s\n", __FILE__, __LINE__, #holds); \
+        } \
+    } while (0)
+
+static void frequent(void)
+{
+    size_t size = 7;
+    CHECK(ds_frequent_items_suggest_max_map_size(0, &size) == DS_OK && size == 8);
+    CHECK(ds_frequent_items_suggest_max_map_size(3, &size) == DS_OK && size == 8);
+    CHECK(ds_frequent_items_suggest_max_map_size(100, &size) == DS_OK && size == 512);
+    CHECK(ds_frequent_items_suggest_max_map_size(384, &size) == DS_OK && size == 1024);
+    CHECK(ds_frequent_items_suggest_max_map_size(512, &size) == DS_OK && size == 2048);
+    CHECK(ds_frequent_items_suggest_max_map_size(513, &size) == DS_MAP_SIZE_TOO_LARGE && size == 2048);
+    CHECK(ds_frequent_items_suggest_max_map_size(SIZE_MAX, &size) == DS_MAP_SIZE_TOO_LARGE && size == 2048);
+}
+
+static void count(void)
+{
+    uint32_t buckets = 7;
+    uint8_t hashes = 7;
+    CHECK(ds_count_min_suggest_num_buckets(0, &buckets) == DS_BAD_NUM_BUCKETS && buckets == 7);
+    CHECK(ds_count_min_suggest_num_buckets(1, &buckets) == DS_OK && buckets == 3);
+    CHECK(ds_count_min_suggest_num_buckets(1000, &buckets) == DS_OK && buckets == 2719);
+    CHECK(ds_count_min_suggest_num_buckets(395007541, &buckets) == DS_OK && buckets == 1073741821);
+    CHECK(ds_count_min_suggest_num_buckets(395007542, &buckets) == DS_TABLE_TOO_LARGE && buckets == 1073741821);
+    CHECK(ds_count_min_suggest_num_buckets(UINT64_MAX, &buckets) == DS_TABLE_TOO_LARGE && buckets == 1073741821);
+    CHECK(ds_count_min_suggest_num_hashes(1, &hashes) == DS_BAD_NUM_HASHES && hashes == 7);
+    CHECK(ds_count_min_suggest_num_hashes(20, &hashes) == DS_OK && hashes == 3);
+    CHECK(ds_count_min_suggest_num_hashes(21, &hashes) == DS_OK && hashes == 4);
+    CHECK(ds_count_min_suggest_num_hashes(UINT64_MAX, &hashes) == DS_OK && hashes == 45);
+}
+
+static void filter(void)
+{
+    uint64_t bits = 7;
+    uint16_t hashes = 7;
+    CHECK(ds_bloom_suggest_num_bits(0, 100, &bits) == DS_BAD_NUM_BITS && bits == 7);
+    CHECK(ds_bloom_suggest_num_bits(100, 1, &bits) == DS_BAD_NUM_BITS && bits == 7);
+    CHECK(ds_bloom_suggest_num_bits(1, 2, &bits) == DS_OK && bits == 2);
+    CHECK(ds_bloom_suggest_num_bits(1000, 1024, &bits) == DS_OK && bits == 14427);
+    CHECK(ds_bloom_suggest_num_bits(1000, 100, &bits) == DS_OK && bits == 9603);
+    CHECK(ds_bloom_suggest_num_bits(95265423098, 2, &bits) == DS_BAD_NUM_BITS && bits == 9603);
+    CHECK(ds_bloom_suggest_num_bits(UINT64_MAX, UINT64_MAX, &bits) == DS_BAD_NUM_BITS && bits == 9603);
+    CHECK(ds_bloom_suggest_num_hashes(0, 1, &hashes) == DS_BAD_NUM_BITS && hashes == 7);
+    CHECK(ds_bloom_suggest_num_hashes(137438953153, 1, &hashes) == DS_BAD_NUM_BITS && hashes == 7);
+    CHECK(ds_bloom_suggest_num_hashes(9603, 0, &hashes) == DS_BAD_NUM_HASHES && hashes == 7);
+    CHECK(ds_bloom_suggest_num_hashes(137438953152, 1, &hashes) == DS_BAD_NUM_HASHES && hashes == 7);
+    CHECK(ds_bloom_suggest_num_hashes(9603, 1000, &hashes) == DS_OK && hashes == 7);
+    CHECK(ds_bloom_suggest_num_hashes(1, UINT64_MAX, &hashes) == DS_OK && hashes == 1);
+}
+
+int main(void)
+{
+    frequent();
+    count();
+    filter();
+    printf("%d of %d checks hold\n", checks - failures, checks);
+    return failures != 0;
+}

@@ -1,0 +1,75 @@
+#!/usr/bin/env python3
+"""Finds the heaviest items of files, with bounds of their weights, on many workers.
+
+    heavy.py --words book.txt letters/*.txt
+    heavy.py --column page --weight bytes access.csv
+"""
+from __future__ import annotations
+
+import argparse
+import sys
+from typing import Any, Sequence
+
+import sketch_engine as engine
+from sketch_parts import Heavy
+from sketch_report import Row, bars, number, plural
+
+
+def words_of(arguments: Sequence[str] | None) -> argparse.Namespace:
+    """Reads the command line."""
+    parser = argparse.ArgumentParser(prog="heavy.py", description=__doc__,
+                                     formatter_class=argparse.RawDescriptionHelpFormatter)
+    parser.add_argument("files", nargs="+", metavar="FILE", help=engine.FILE_HELP)
+    engine.add_item_words(parser)
+    parser.add_argument("--size", type=engine.positive, default=4096, metavar="N",
+                        help="the slots of a sketch, a power of two: more make the bounds closer (%(default)s)")
+    parser.add_argument("--top", type=engine.positive, default=20, metavar="N", help="print at most N items (%(default)s)")
+    parser.add_argument("--threshold", type=engine.whole_number(0, 2**64 - 1), default=0, metavar="WEIGHT",
+                        help="print items whose upper bound is above WEIGHT, not those where it is equal (%(default)s)")
+    engine.add_engine_words(parser)
+    return parser.parse_args(arguments)
+
+
+def heaviest(words: argparse.Namespace) -> dict[str, Any]:
+    """Counts, and returns the heaviest items and the smallest known weight above which no item is missing."""
+    shape = Heavy(words.size)
+    shape.empty()
+    parts = engine.cut_files(words.files, words.parts, words=words.words, **engine.items_of(words))
+    with engine.connect(words.workers, words.scheduler) as client:
+        image = engine.answer(client, engine.merged(shape, engine.sketches(shape, parts), words.fan_in))
+    sketch = shape.read(image)
+    rows = sketch.rows(threshold=words.threshold)
+    shown, hidden = rows[: words.top], rows[words.top :]
+    complete = max([words.threshold, sketch.maximum_error] + [high for _, _, _, high in hidden])
+    return {
+        "total": sketch.total_weight,
+        "error": sketch.maximum_error,
+        "complete_above": complete,
+        "budget": sketch.sample_size // 2,
+        "more": len(hidden),
+        "parts": len(parts),
+        "items": [{"item": item, "lower": low, "estimate": estimate, "upper": high} for item, low, estimate, high in shown],
+    }
+
+
+def show(found: dict[str, Any]) -> None:
+    """Prints a bar for each item, and the guarantee."""
+    rows = [Row(each["item"], each["lower"], each["upper"],
+                number(each["lower"]) + ("" if each["lower"] == each["upper"] else f" to {number(each['upper'])}"))
+            for each in found["items"]]
+    print(f"a weight of {number(found['total'])} in {plural(found['parts'], 'part')}")
+    print("\n".join(bars(rows)) if rows else "no item has an upper bound above the threshold and the error")
+    if found["more"]:
+        print(f"and {plural(found['more'], 'lighter item')}")
+    print(f"Each weight lies between its bounds, {number(found['error'])} apart, and no item above "
+          f"{number(found['complete_above'])} is missing.")
+
+
+def main(arguments: Sequence[str] | None = None) -> int:
+    """Runs the command, and returns the exit status."""
+    words = words_of(arguments)
+    return engine.run("heavy.py", lambda: heaviest(words), show, words.json)
+
+
+if __name__ == "__main__":
+    sys.exit(main())

@@ -1,0 +1,216 @@
+"""Starts workers, cuts files into parts for them, and merges their sketches in a tree."""
+from __future__ import annotations
+
+import argparse
+import asyncio
+import concurrent.futures
+import contextlib
+import csv
+import dataclasses
+import json
+import logging
+import os
+import re
+import sys
+import tempfile
+from typing import Any, Callable, Iterator, Sequence
+
+import dask
+import datasketches_rattle as ds
+import distributed
+from dask.delayed import Delayed, delayed
+
+import sketch_parts
+from sketch_parts import BadInput, Columns, Part, Shape, merge_images, sketch_part
+
+PART_BYTES = 1 << 24
+PATIENCE = 60
+FILE_HELP = "a UTF-8 text file that all workers can read; one that ends in .gz, .bz2, .xz or .zst is unpacked"
+
+
+# --- Options that the commands share ---
+
+
+def add_engine_words(parser: argparse.ArgumentParser) -> None:
+    """Adds the options for workers and for the output."""
+    group = parser.add_argument_group("workers")
+    group.add_argument("--workers", type=positive, default=min(4, os.cpu_count() or 1), metavar="N",
+                       help="start N workers on this machine, which take nothing but this command's tasks (%(default)s)")
+    group.add_argument("--scheduler", metavar="ADDRESS", help="use the workers of this Dask scheduler, as tcp://HOST:8786")
+    group.add_argument("--parts", type=positive, metavar="N",
+                       help="cut the files into about N parts, at least one a file (one for each 16 MiB); a compressed file is one")
+    group.add_argument("--fan-in", type=whole_number(2), default=4, metavar="N", help="merge N sketches at a time (%(default)s)")
+    shown = parser.add_argument_group("output")
+    shown.add_argument("--json", action="store_true", help="print the result as JSON")
+
+
+def add_item_words(parser: argparse.ArgumentParser, words: bool = True, weights: bool = True) -> None:
+    """Adds the options for the items of a file. Without them items are lines."""
+    group = parser.add_argument_group("items")
+    if words:
+        group.add_argument("--words", action="store_true", help="items are the words of the lines, not the lines")
+    group.add_argument("--column", metavar="NAME",
+                       help="items are the strings of a column of comma-separated values; a number from 1 with --no-header")
+    if weights:
+        group.add_argument("--weight", metavar="NAME", help="the column with the items' weights (each weighs 1)")
+    group.add_argument("--no-header", action="store_true", help="the first line names no columns")
+    group.add_argument("--delimiter", type=delimiter_of, default=",", metavar="C",
+                       help=r"the character between columns (%(default)s); \t is a tab")
+
+
+def items_of(words: argparse.Namespace) -> dict[str, Any]:
+    """Returns the command line's options for columns, as arguments of `cut_files`."""
+    return {name: getattr(words, name) for name in ("column", "weight", "no_header", "delimiter")}
+
+
+def whole_number(least: int, most: int = 2**63 - 1) -> Callable[[str], int]:
+    """Returns a function that reads a whole number in a range, for argparse."""
+
+    def read(text: str) -> int:
+        if not re.fullmatch("[0-9]{1,20}", text) or not least <= int(text) <= most:
+            raise argparse.ArgumentTypeError(f"{text!r} is no whole number from {least} to {most}")
+        return int(text)
+
+    return read
+
+
+positive = whole_number(1)
+
+
+def delimiter_of(text: str) -> str:
+    """Reads the character between columns."""
+    return "\t" if text == r"\t" else text
+
+
+# --- Parts of files ---
+
+
+def cut_files(paths: Sequence[str], parts: int | None, *, words: bool = False, column: str | None = None,
+              weight: str | None = None, no_header: bool = False, delimiter: str = ",") -> list[Part]:
+    """Cuts files into parts, at least one a file. Raises `OSError` or `BadInput` if a file cannot be read or cut."""
+    if column is None and (weight is not None or no_header):
+        raise ValueError("a weight, or no header, needs a column")
+    if column is not None and words:
+        raise ValueError("items are words or a column's strings, not both")
+    if len(delimiter) != 1 or delimiter in "\"\r\n":
+        raise ValueError(f"a delimiter is one character, and no quote or line end, not {delimiter!r}")
+    files = [sketch_parts.whole(os.path.abspath(path), words=words) for path in paths]
+    max_bytes = PART_BYTES if parts is None else max(1, -(-sum(file.end for file in files) // parts))
+    if column is not None:
+        files = [with_columns(file, column, weight, no_header, delimiter) for file in files]
+    return [part for file in files for part in sketch_parts.cut(file, max_bytes)]
+
+
+def with_columns(file: Part, column: str, weight: str | None, no_header: bool, delimiter: str) -> Part:
+    """Returns the rows of a file, with the columns of these names. An empty file has no rows, and needs no names."""
+    if no_header:
+        for name in (column, weight):
+            if name is not None and not (name.isdecimal() and int(name) > 0):
+                raise ValueError(f"with no header a column is a number from 1, not {name!r}")
+        places = [int(name) - 1 for name in (column, weight) if name is not None]
+        return dataclasses.replace(file, columns=Columns(places[0], places[1] if weight is not None else None, delimiter))
+    with contextlib.closing(sketch_parts.blocks(file)) as blocks:
+        at, data = next(blocks, (0, b""))
+    if not data:
+        return dataclasses.replace(file, columns=Columns(0, None, delimiter))
+    head = data[: data.find(b"\n") + 1] or data
+    try:
+        names = next(sketch_parts.rows_of(sketch_parts.lines_of(file.path, at, head), delimiter), [])
+    except csv.Error as error:
+        raise BadInput(file.path, f"the header cannot be read: {error}", at) from None
+    for name in (column, weight):
+        if name is not None and names.count(name) != 1:
+            there = ", ".join(names) if names else "none"
+            raise BadInput(file.path, f"{names.count(name) or 'no'} columns have the name {name!r}; there are: {there}", at)
+    columns = Columns(names.index(column), names.index(weight) if weight is not None else None, delimiter)
+    return dataclasses.replace(file, begin=at + len(head), columns=columns)
+
+
+# --- Workers ---
+
+
+@contextlib.contextmanager
+def connect(workers: int, scheduler: str | None) -> Iterator[distributed.Client]:
+    """Starts workers on this machine, or connects to those of a scheduler and sends them the file that they need.
+
+    Workers that are started listen on the loopback address. They accept only TLS connections with a certificate of this run, and
+    serve no pages.
+    """
+    logging.getLogger("asyncio").setLevel(logging.CRITICAL)  # no messages on tasks that run when a client ends
+    if scheduler is not None:
+        try:
+            client = distributed.Client(scheduler, timeout=PATIENCE)
+        except (TypeError, RuntimeError) as error:  # tls:// without a certificate, or a certificate that is not accepted
+            raise ConnectionError(f"{scheduler}: {error}") from None
+        with client:
+            client.wait_for_workers(1, timeout=PATIENCE)
+            client.upload_file(sketch_parts.__file__)
+            yield client
+        return
+    with contextlib.ExitStack() as stack:
+        folder = stack.enter_context(tempfile.TemporaryDirectory())
+        stack.enter_context(dask.config.set({"distributed.comm.timeouts.connect": PATIENCE,
+                                             "distributed.scheduler.http.routes": [], "distributed.worker.http.routes": []}))
+        cluster = stack.enter_context(distributed.LocalCluster(
+            n_workers=workers, threads_per_worker=1, processes=True, host="127.0.0.1", scheduler_port=0,
+            security=distributed.Security.temporary(), dashboard_address="127.0.0.1:0", worker_dashboard_address="127.0.0.1:0",
+            scheduler_kwargs={"dashboard": False}, local_directory=folder, silence_logs=logging.CRITICAL))
+        yield stack.enter_context(distributed.Client(cluster, timeout=PATIENCE))
+
+
+def sketches(shape: Shape, parts: Sequence[Part]) -> list[Delayed]:
+    """Returns the images of the parts' sketches, as tasks for workers."""
+    make = delayed(sketch_part, pure=False)
+    return [make(shape, part) for part in parts]
+
+
+def merged(shape: Shape, images: Sequence[Delayed], fan_in: int) -> Delayed:
+    """Returns the image of all sketches merged in a tree, as tasks for workers. Each image is in one merge."""
+    merge = delayed(merge_images, pure=False)
+    images = list(images)
+    while len(images) > 1:
+        images = [merge(shape, images[at : at + fan_in]) for at in range(0, len(images), fan_in)]
+    return images[0]
+
+
+def answer(client: distributed.Client, wanted: Any) -> Any:
+    """Returns the workers' result. On a terminal it shows Dask's progress bar."""
+    future = client.compute(wanted)
+    if sys.stderr.isatty():
+        with contextlib.redirect_stdout(sys.stderr):
+            distributed.progress(future, notebook=False)
+    return future.result()
+
+
+def run(name: str, job: Callable[[], dict[str, Any]], show: Callable[[dict[str, Any]], None], as_json: bool) -> int:
+    """Runs a job and prints its result, or an error. Returns the exit status."""
+    try:
+        found = job()
+        try:
+            if as_json:
+                print(json.dumps(found, ensure_ascii=False))
+            else:
+                show(found)
+            sys.stdout.flush()
+        except OSError as error:
+            os.dup2(os.open(os.devnull, os.O_WRONLY), sys.stdout.fileno())  # Python writes the rest of its buffer at exit
+            if isinstance(error, BrokenPipeError):  # as with `| head`
+                return 1
+            raise
+        return 0
+    except ds.SketchError as error:
+        reason = f"{error.fault}: {error}"
+    except (asyncio.TimeoutError, concurrent.futures.TimeoutError) as error:  # not an OSError before Python 3.11
+        reason = f"the scheduler or its workers did not answer in time: {error}"
+    except OSError as error:
+        reason = str(error) if error.filename is None else f"{error.filename}: {error.strerror}"
+    except (BadInput, ValueError, OverflowError) as error:
+        reason = str(error)
+    except distributed.KilledWorker as error:
+        reason = f"workers died one after another: {error}"
+    except MemoryError:
+        reason = "out of memory: a sketch of this size, or what a worker holds beside it, is too large"
+    except ImportError as error:
+        reason = f"not installed here or on a worker: {error}"
+    print(f"{name}: {reason}", file=sys.stderr)
+    return 1

@@ -1,0 +1,27 @@
+#!/usr/bin/env bash
+# Builds the package into a folder: build.sh OUT [ARCHIVE]. PYTHONPATH=OUT then finds `datasketches_rattle`.
+# ARCHIVE is the library for C, else that of `crates/datasketches_c`, which is proved and built where it has changed.
+# `CC` names the compiler, `PYTHON` the interpreter, and `CFLAGS` more flags.
+set -euo pipefail
+here="$(cd "$(dirname "$0")" && pwd)"
+out="${1:?the folder to build into}"
+crate="$here/../../crates/datasketches_c"
+archive="${2:-$crate/out/libdatasketches_c.a}"
+python="${PYTHON:-/usr/bin/python3}"
+mkdir -p "$out/datasketches_rattle"
+if [ $# -lt 2 ]; then
+    log="$(cd "$out" && pwd)/build.log"
+    echo "proving and building crates/datasketches_c: about 12 minutes on four cores if nothing is built yet (all output: $log)"
+    (cd "$crate" && rt lib 2>&1) | tee "$log" | awk '/^(so far|crate )/ { print "  " $0; fflush() }' || {
+        tail -n 20 "$log" >&2
+        exit 1
+    }
+fi
+cp "$here"/datasketches_rattle/{__init__.py,__init__.pyi,py.typed} "$out/datasketches_rattle/"
+suffix="$("$python" -c 'import sysconfig; print(sysconfig.get_config_var("EXT_SUFFIX"))')"
+include="$("$python" -c 'import sysconfig; print(sysconfig.get_path("include"))')"
+# shellcheck disable=SC2086
+"${CC:-cc}" -std=c11 -O2 -Wall -Wextra -Werror -fPIC -fvisibility=hidden -shared \
+    -I"$here/../c/include" -isystem "$include" ${CFLAGS:-} "$here"/src/*.c "$archive" \
+    -Wl,--version-script="$here/sketches.map" -Wl,-z,relro,-z,now -o "$out/datasketches_rattle/_sketches$suffix"
+echo "built $out/datasketches_rattle: PYTHONPATH=$out finds it"

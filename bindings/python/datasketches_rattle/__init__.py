@@ -1,0 +1,11 @@
+"""Sketches of long streams: filters, counts and frequent items, over a proved library.
+
+>>> import datasketches_rattle as ds
+>>> seen = ds.BloomFilter(num_bits=1 << 20, num_hashes=7)
+>>> seen.insert(["apple", "pear"])
+>>> "apple" in seen, "plum" in seen
+(True, False)
+"""
+from ._sketches import BloomFilter, CountMinSketch, FrequentItemsSketch, SketchError
+
+__all__ = ["BloomFilter", "CountMinSketch", "FrequentItemsSketch", "SketchError"]

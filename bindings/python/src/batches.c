@@ -1,0 +1,268 @@
+/* Calls for many items: their locks, Ctrl-C, and their errors. */
+#include "sketches.h"
+
+#include <signal.h>
+#include <time.h>
+
+/* In nanoseconds. LISTENS is the time between two checks for Ctrl-C. If a chunk of an iterator takes less than QUICK, the next
+ * chunk keeps the interpreter's lock, since a thread that releases it waits for its turn. */
+#define LISTENS 100000000
+#define QUICK 1000000
+
+static uint64_t now(void)
+{
+    struct timespec time;
+    clock_gettime(CLOCK_MONOTONIC, &time);
+    return (uint64_t)time.tv_sec * 1000000000 + (uint64_t)time.tv_nsec;
+}
+
+static bool batch_lock(Batch *batch)
+{
+    batch->locked = sketch_lock(batch->self);
+    if (batch->locked)
+        batch->self->busy = true;
+    return batch->locked;
+}
+
+static void batch_unlock(Batch *batch)
+{
+    if (!batch->locked)
+        return;
+    batch->locked = false;
+    batch->self->busy = false;
+    sketch_unlock(batch->self);
+}
+
+/* Begins work on all items, or on the next chunk of an iterator. */
+static bool batch_begin(Batch *batch, const Items *items)
+{
+    bool keeps_lock = items->held != NULL && batch->took < QUICK;
+    if (keeps_lock ? !sketch_ready(batch->self) : !batch_lock(batch))
+        return false;
+    batch->began = items->held != NULL ? now() : 0;
+    batch->due = 0;
+    batch->thread = keeps_lock ? NULL : PyEval_SaveThread();
+    return true;
+}
+
+static void batch_end(Batch *batch)
+{
+    if (batch->began > 0)
+        batch->took = now() - batch->began;
+    if (batch->thread != NULL)
+        PyEval_RestoreThread(batch->thread);
+    batch->thread = NULL;
+    batch_unlock(batch);
+}
+
+/* Calls the handler of Ctrl-C. Returns false if it raises. */
+static bool handle_interrupt(void)
+{
+    PyObject *module = PyImport_ImportModule("signal");
+    PyObject *function = module != NULL ? attribute(module, "getsignal") : NULL;
+    PyObject *handler = function != NULL ? PyObject_CallFunction(function, "i", SIGINT) : NULL;
+    PyObject *frame = (PyObject *)PyEval_GetFrame();
+    if (handler != NULL && PyCallable_Check(handler))
+        Py_XDECREF(PyObject_CallFunction(handler, "iO", SIGINT, frame != NULL ? frame : Py_None));
+    Py_XDECREF(module);
+    Py_XDECREF(function);
+    Py_XDECREF(handler);
+    return !PyErr_Occurred();
+}
+
+/* Releases the sketch's lock for the handler, which may use the sketch. Handlers of other signals run after the batch. */
+bool batch_goes_on(Batch *batch)
+{
+    bool goes_on = true;
+    if (batch->thread == NULL)
+        return true;
+    uint64_t time = now();
+    if (batch->due == 0)
+        batch->due = time + LISTENS;
+    if (time < batch->due)
+        return true;
+    PyEval_RestoreThread(batch->thread);
+    if (PyOS_InterruptOccurred()) {
+        batch_unlock(batch);
+        goes_on = handle_interrupt() && batch_lock(batch);
+    }
+    batch->due = 0;
+    batch->thread = PyEval_SaveThread();
+    return goes_on;
+}
+
+/* Adds a note to the error that is set: the number of items that the call has counted or inserted. */
+static void note(size_t done)
+{
+    PyObject *type, *error, *trace;
+    PyErr_Fetch(&type, &error, &trace);
+    PyErr_NormalizeException(&type, &error, &trace);
+    PyObject *text = PyUnicode_FromFormat("items taken before this error: %zu", done);
+    PyObject *notes = attribute(error, "__notes__");
+    if (notes == NULL) {
+        PyErr_Clear();
+        notes = PyList_New(0);
+    }
+    if (text == NULL || notes == NULL || !PyList_Check(notes) || PyList_Append(notes, text) < 0 ||
+        PyObject_SetAttrString(error, "__notes__", notes) < 0)
+        PyErr_Clear();
+    Py_XDECREF(text);
+    Py_XDECREF(notes);
+    PyErr_Restore(type, error, trace);
+}
+
+static void set_error(int32_t answer, const Batch *batch, const Items *items)
+{
+    if (answer == DS_NO_MEMORY && items->held == NULL)
+        PyErr_Format(PyExc_MemoryError, "memory ended when %zu of %zu items were counted", batch->done, items->count);
+    else if (answer == DS_NO_MEMORY)
+        PyErr_Format(PyExc_MemoryError, "memory ended when %zu items were counted", batch->done);
+    else if (answer == CHANGED)
+        PyErr_SetString(PyExc_RuntimeError, "another thread changed a buffer during the call");
+    else if (answer != STOPPED)
+        refuse(answer);
+    if (batch->done > 0 && answer != DS_NO_MEMORY)
+        note(batch->done);
+}
+
+PyObject *update_all(Sketch *self, Items *items, Weights *weights, items_check check, update_work work)
+{
+    Batch batch = {.self = self, .took = QUICK};
+    int32_t answer;
+    do {
+        answer = STOPPED;
+        if (!update_next(items, weights) || (check != NULL && !check(self, items)) || !batch_begin(&batch, items))
+            break;
+        answer = work(&batch, items, weights);
+        batch_end(&batch);
+    } while (answer >= 0 && items->iterator != NULL);
+    if (answer < 0)
+        set_error(answer, &batch, items);
+    items_release(&weights->items);
+    items_release(items);
+    if (answer < 0)
+        return NULL;
+    Py_RETURN_NONE;
+}
+
+/* Room for the results of many items. */
+typedef struct {
+    void *values;
+    PyObject *array;
+    Py_buffer view;
+} Room;
+
+static bool room_in_array(const Question *question, size_t count, Room *room)
+{
+    PyObject *numpy = PyImport_ImportModule("numpy");
+    PyObject *empty = numpy != NULL ? attribute(numpy, "empty") : NULL;
+    room->array = empty != NULL ? PyObject_CallFunction(empty, "ns", (Py_ssize_t)count, question->kind) : NULL;
+    Py_XDECREF(empty);
+    Py_XDECREF(numpy);
+    if (room->array == NULL || PyObject_GetBuffer(room->array, &room->view, PyBUF_CONTIG) < 0)
+        return false;
+    room->values = room->view.buf;
+    if (room->view.len == (Py_ssize_t)(count * question->size))
+        return true;
+    PyErr_Format(PyExc_ValueError, "numpy.empty returned an array of %zd bytes for %zu answers", room->view.len, count);
+    return false;
+}
+
+/* Allocates room for `count` results: a numpy array if `in_array`. Returns false, with an error set, if that fails. */
+static bool room_for(const Question *question, bool in_array, size_t count, Room *room)
+{
+    if (in_array)
+        return room_in_array(question, count, room);
+    room->values = count <= PY_SSIZE_T_MAX / question->size ? PyMem_Malloc(count * question->size) : NULL;
+    if (room->values == NULL)
+        PyErr_NoMemory();
+    return room->values != NULL;
+}
+
+static void room_release(Room *room)
+{
+    if (room->view.obj != NULL)
+        PyBuffer_Release(&room->view);
+    else if (room->array == NULL)
+        PyMem_Free(room->values);
+    Py_CLEAR(room->array);
+}
+
+static bool ask(Batch *batch, const Question *question, const Items *items, void *answers)
+{
+    if (!batch_begin(batch, items))
+        return false;
+    int32_t answer = question->work(batch, items, answers);
+    batch_end(batch);
+    if (answer < 0 && answer != STOPPED)
+        refuse(answer);
+    return answer >= 0;
+}
+
+static PyObject *list_of(const Sketch *self, const Question *question, const void *answers, size_t count)
+{
+    PyObject *list = PyList_New((Py_ssize_t)count);
+    for (size_t i = 0; list != NULL && i < count; i++) {
+        PyObject *answer = question->object(self, answers, i);
+        if (answer == NULL)
+            Py_CLEAR(list);
+        else
+            PyList_SET_ITEM(list, (Py_ssize_t)i, answer);
+    }
+    return list;
+}
+
+/* Adds results to a list, which is NULL at first. Takes the reference to `more`. */
+static bool add_to(PyObject **list, PyObject *more)
+{
+    if (*list == NULL)
+        *list = more;
+    else if (more != NULL) {
+        Py_ssize_t length = PyList_GET_SIZE(*list);
+        bool added = PyList_SetSlice(*list, length, length, more) == 0;
+        Py_DECREF(more);
+        return added;
+    }
+    return more != NULL;
+}
+
+/* Returns the results of the items of an iterator, which it reads in chunks. */
+static PyObject *ask_stream(Batch *batch, const Question *question, Items *items)
+{
+    PyObject *list = NULL;
+    bool asked;
+    void *answers = PyMem_Malloc(STREAM_CHUNK * question->size);
+    if (answers == NULL)
+        return PyErr_NoMemory();
+    do {
+        asked = items_next(items, STREAM_CHUNK) && ask(batch, question, items, answers) &&
+                add_to(&list, list_of(batch->self, question, answers, items->count));
+    } while (asked && items->iterator != NULL);
+    PyMem_Free(answers);
+    if (!asked)
+        Py_CLEAR(list);
+    return list;
+}
+
+PyObject *ask_all(Sketch *self, PyObject *given, const Question *question)
+{
+    Batch batch = {.self = self, .took = QUICK};
+    Items items = {0};
+    Room room = {0};
+    PyObject *result = NULL;
+    PyObject *source = source_of(given, question->call);
+    if (source == NULL)
+        return NULL;
+    if (is_masked(source))
+        PyErr_Format(PyExc_TypeError, "%s takes no masked array: write %s(array.compressed())", question->call, question->call);
+    else if (items_open(source, &items)) {
+        if (items.iterator != NULL)
+            result = ask_stream(&batch, question, &items);
+        else if (room_for(question, is_numpy_array(source), items.count, &room) && ask(&batch, question, &items, room.values))
+            result = room.array != NULL ? Py_NewRef(room.array) : list_of(self, question, room.values, items.count);
+    }
+    room_release(&room);
+    items_release(&items);
+    Py_DECREF(source);
+    return result;
+}

@@ -1,0 +1,168 @@
+/* Copies by `copy` and `pickle`, with the attributes that an object of a subclass has besides its sketch. */
+#include "sketches.h"
+
+PyObject *sketch_like(const Sketch *self, ds_sketch *made)
+{
+    Sketch *like = sketch_of(Py_TYPE(self), made);
+    if (like == NULL)
+        return NULL;
+    like->seed = self->seed;
+    like->buckets = self->buckets;
+    like->hashes = self->hashes;
+    like->with_sign = self->with_sign;
+    like->with_texts = self->with_texts;
+    return (PyObject *)like;
+}
+
+static PyObject *copy_of(Sketch *self)
+{
+    ds_sketch made = DS_NONE;
+    int32_t answer;
+    if (!sketch_lock(self))
+        return NULL;
+    BATCH_BEGIN(self)
+    answer = ds_clone(&made, &self->handle);
+    BATCH_END(self)
+    sketch_unlock(self);
+    return answer < 0 ? refuse(answer) : sketch_like(self, &made);
+}
+
+/* Returns an attribute, or NULL. No error is set if there is no attribute of this name. */
+static PyObject *attribute_if_any(PyObject *object, const char *name)
+{
+    PyObject *value = PyObject_GetAttrString(object, name);
+    if (value == NULL && PyErr_ExceptionMatches(PyExc_AttributeError))
+        PyErr_Clear();
+    return value;
+}
+
+/* Returns the state of an object of a subclass as pickle stores it, or None. Before Python 3.11 only some objects have
+ * `__getstate__`. */
+static PyObject *state_of(PyObject *self)
+{
+    if (!PyType_HasFeature(Py_TYPE(self), Py_TPFLAGS_HEAPTYPE))
+        return Py_NewRef(Py_None);
+    PyObject *get = attribute_if_any(self, "__getstate__");
+    PyObject *state = NULL;
+    if (get != NULL)
+        state = PyObject_CallNoArgs(get);
+    else if (!PyErr_Occurred())
+        state = attribute_if_any(self, "__dict__");
+    Py_XDECREF(get);
+    return state != NULL || PyErr_Occurred() ? state : Py_NewRef(Py_None);
+}
+
+static bool set_attributes(PyObject *object, PyObject *values)
+{
+    PyObject *pairs = PyMapping_Items(values);
+    bool done = pairs != NULL;
+    for (Py_ssize_t i = 0; done && i < PyList_GET_SIZE(pairs); i++) {
+        PyObject *pair = PyList_GET_ITEM(pairs, i);
+        done = PyObject_SetAttr(object, PyTuple_GET_ITEM(pair, 0), PyTuple_GET_ITEM(pair, 1)) == 0;
+    }
+    Py_XDECREF(pairs);
+    return done;
+}
+
+/* Puts a state into an object as `copy` and `pickle` do: by `__setstate__`, or into `__dict__` and then into slots. */
+static bool put_state(PyObject *object, PyObject *state)
+{
+    PyObject *set = attribute_if_any(object, "__setstate__");
+    if (set != NULL || PyErr_Occurred()) {
+        PyObject *result = set != NULL ? PyObject_CallOneArg(set, state) : NULL;
+        Py_XDECREF(set);
+        Py_XDECREF(result);
+        return result != NULL;
+    }
+    PyObject *slots = Py_None;
+    if (PyTuple_Check(state) && PyTuple_GET_SIZE(state) == 2) {
+        slots = PyTuple_GET_ITEM(state, 1);
+        state = PyTuple_GET_ITEM(state, 0);
+    }
+    if (state != Py_None) {
+        PyObject *values = PyObject_GetAttrString(object, "__dict__");
+        PyObject *result = values != NULL ? PyObject_CallMethod(values, "update", "(O)", state) : NULL;
+        Py_XDECREF(values);
+        Py_XDECREF(result);
+        if (result == NULL)
+            return false;
+    }
+    return slots == Py_None || set_attributes(object, slots);
+}
+
+/* Takes a copy and its state, which may be NULL. Returns the copy with the state, or NULL. */
+static PyObject *with_state(PyObject *copy, PyObject *state)
+{
+    bool done = copy != NULL && state != NULL && (state == Py_None || put_state(copy, state));
+    Py_XDECREF(state);
+    if (!done)
+        Py_CLEAR(copy);
+    return copy;
+}
+
+PyObject *sketch_copy(PyObject *self, PyObject *Py_UNUSED(unused))
+{
+    PyObject *copy = copy_of((Sketch *)self);
+    return copy != NULL ? with_state(copy, state_of(self)) : NULL;
+}
+
+/* Stores the copy in the memo. This precedes the copy of the state, which may refer to the sketch. */
+static bool remember(PyObject *memo, PyObject *self, PyObject *copy)
+{
+    if (!PyDict_Check(memo))
+        return true;
+    PyObject *key = PyLong_FromVoidPtr(self);
+    bool done = key != NULL && PyDict_SetItem(memo, key, copy) == 0;
+    Py_XDECREF(key);
+    return done;
+}
+
+PyObject *sketch_deepcopy(PyObject *self, PyObject *memo)
+{
+    PyObject *copy = copy_of((Sketch *)self);
+    PyObject *state = copy != NULL ? state_of(self) : NULL;
+    if (state == NULL || state == Py_None)
+        return with_state(copy, state);
+    PyObject *module = remember(memo, self, copy) ? PyImport_ImportModule("copy") : NULL;
+    PyObject *deep = module != NULL ? PyObject_CallMethod(module, "deepcopy", "OO", state, memo) : NULL;
+    Py_XDECREF(module);
+    Py_DECREF(state);
+    return with_state(copy, deep);
+}
+
+PyObject *sketch_reduce(PyObject *self, PyObject *arguments)
+{
+    if (arguments == NULL)
+        return NULL;
+    PyObject *reader = PyObject_GetAttrString((PyObject *)Py_TYPE(self), "_unpickle");
+    PyObject *state = reader != NULL ? state_of(self) : NULL;
+    PyObject *result = NULL;
+    if (state != NULL)
+        result = state == Py_None ? PyTuple_Pack(2, reader, arguments) : PyTuple_Pack(3, reader, arguments, state);
+    Py_XDECREF(state);
+    Py_XDECREF(reader);
+    Py_DECREF(arguments);
+    return result;
+}
+
+PyObject *sketch_unpickle(PyObject *type, PyObject *args, const char *const *names, image_reader read)
+{
+    PyObject *limit = PyObject_GetAttrString(type, "unpickle_max_bytes");
+    PyObject *keywords = limit != NULL ? Py_BuildValue("{sO}", "max_bytes", limit) : NULL;
+    PyObject *none = keywords != NULL ? PyTuple_New(0) : NULL;
+    PyObject *result = NULL;
+    bool named = none != NULL;
+    for (Py_ssize_t i = 0; named && i < PyTuple_GET_SIZE(args); i++) {
+        named = names[i] != NULL && PyDict_SetItemString(keywords, names[i], PyTuple_GET_ITEM(args, i)) == 0;
+        if (names[i] == NULL) {
+            PyErr_SetString(PyExc_TypeError, "too many arguments");
+            break;
+        }
+    }
+    if (named)
+        result = read(type, none, keywords);
+    Py_XDECREF(none);
+    Py_XDECREF(keywords);
+    Py_XDECREF(limit);
+    return result;
+}

@@ -1,0 +1,284 @@
+/* Updates and queries of a CountMinSketch. */
+#include "sketches.h"
+
+/* A call for many numbers works row by row, so that a row stays in a near cache. It gets many more than CHUNK numbers if there is
+ * memory for a copy of them. With more than 16 rows it gets fewer, since a batch checks for Ctrl-C only between calls. */
+#define LONG_CHUNK ((size_t)1 << 19)
+#define LONG_WORK ((size_t)1 << 23)
+
+/* Returns room for the numbers of one call, of `count` in all: `few`, or memory that `chunk_release` frees. Sets `most` to the
+ * maximum number that a call gets. */
+static uint64_t *chunk_for(const Sketch *self, size_t count, uint64_t *few, size_t *most)
+{
+    uint64_t *many = NULL;
+    size_t longest = self->hashes > 16 ? LONG_WORK / self->hashes : LONG_CHUNK;
+    *most = count < longest ? count : longest;
+    if (*most > CHUNK)
+        many = PyMem_RawMalloc(*most * sizeof *many);
+    if (many != NULL)
+        return many;
+    *most = CHUNK;
+    return few;
+}
+
+static void chunk_release(uint64_t *chunk, const uint64_t *few)
+{
+    if (chunk != few)
+        PyMem_RawFree(chunk);
+}
+
+static int32_t update_one(Sketch *self, const Item *item, uint64_t weight)
+{
+    const uint8_t *text = (const uint8_t *)item->text;
+    ds_sketch *handle = &self->handle;
+    if (self->with_sign)
+        return text != NULL     ? ds_count_min_i64_update_string(handle, text, item->value, (int64_t)weight)
+               : item->negative ? ds_count_min_i64_update_i64(handle, (int64_t)item->value, (int64_t)weight)
+                                : ds_count_min_i64_update_u64(handle, item->value, (int64_t)weight);
+    return text != NULL     ? ds_count_min_u64_update_string(handle, text, item->value, weight)
+           : item->negative ? ds_count_min_u64_update_i64(handle, (int64_t)item->value, weight)
+                            : ds_count_min_u64_update_u64(handle, item->value, weight);
+}
+
+static int32_t estimate_one(Sketch *self, const Item *item, uint64_t *number)
+{
+    const uint8_t *text = (const uint8_t *)item->text;
+    ds_sketch *handle = &self->handle;
+    if (self->with_sign)
+        return text != NULL     ? ds_count_min_i64_estimate_string(handle, text, item->value, (int64_t *)number)
+               : item->negative ? ds_count_min_i64_estimate_i64(handle, (int64_t)item->value, (int64_t *)number)
+                                : ds_count_min_i64_estimate_u64(handle, item->value, (int64_t *)number);
+    return text != NULL     ? ds_count_min_u64_estimate_string(handle, text, item->value, number)
+           : item->negative ? ds_count_min_u64_estimate_i64(handle, (int64_t)item->value, number)
+                            : ds_count_min_u64_estimate_u64(handle, item->value, number);
+}
+
+static int32_t upper_bound_one(Sketch *self, const Item *item, uint64_t *number)
+{
+    const uint8_t *text = (const uint8_t *)item->text;
+    ds_sketch *handle = &self->handle;
+    if (self->with_sign)
+        return text != NULL     ? ds_count_min_i64_upper_bound_string(handle, text, item->value, (int64_t *)number)
+               : item->negative ? ds_count_min_i64_upper_bound_i64(handle, (int64_t)item->value, (int64_t *)number)
+                                : ds_count_min_i64_upper_bound_u64(handle, item->value, (int64_t *)number);
+    return text != NULL     ? ds_count_min_u64_upper_bound_string(handle, text, item->value, number)
+           : item->negative ? ds_count_min_u64_upper_bound_i64(handle, (int64_t)item->value, number)
+                            : ds_count_min_u64_upper_bound_u64(handle, item->value, number);
+}
+
+static int32_t update_numbers(Sketch *self, bool with_sign, const uint64_t *numbers, size_t count)
+{
+    if (self->with_sign)
+        return with_sign ? ds_count_min_i64_update_all_i64(&self->handle, (const int64_t *)numbers, count)
+                         : ds_count_min_i64_update_all_u64(&self->handle, numbers, count);
+    return with_sign ? ds_count_min_u64_update_all_i64(&self->handle, (const int64_t *)numbers, count)
+                     : ds_count_min_u64_update_all_u64(&self->handle, numbers, count);
+}
+
+static int32_t update_numbers_by(Sketch *self, bool with_sign, const uint64_t *numbers, const uint64_t *weights, size_t count)
+{
+    ds_sketch *handle = &self->handle;
+    const int64_t *with = (const int64_t *)numbers;
+    if (self->with_sign)
+        return with_sign ? ds_count_min_i64_update_all_weighted_i64(handle, with, count, (const int64_t *)weights, count)
+                         : ds_count_min_i64_update_all_weighted_u64(handle, numbers, count, (const int64_t *)weights, count);
+    return with_sign ? ds_count_min_u64_update_all_weighted_i64(handle, with, count, weights, count)
+                     : ds_count_min_u64_update_all_weighted_u64(handle, numbers, count, weights, count);
+}
+
+/* Adds 1 to each number's weight. */
+static int32_t update_by_one(Batch *batch, const Items *items)
+{
+    uint64_t few[CHUNK];
+    size_t most;
+    uint64_t *chunk = chunk_for(batch->self, items->count, few, &most);
+    int32_t answer = DS_OK;
+    for (size_t i = 0, count; i < items->count && answer >= 0; i += count) {
+        count = items_chunk(items, i, most, chunk);
+        answer = i > 0 && !batch_goes_on(batch) ? STOPPED : update_numbers(batch->self, items->with_sign, chunk, count);
+        batch->done += answer >= 0 ? count : 0;
+    }
+    chunk_release(chunk, few);
+    return answer;
+}
+
+static int32_t update_each(Batch *batch, const Item *items, const uint64_t *weights, size_t count)
+{
+    int32_t answer = DS_OK;
+    for (size_t i = 0; i < count && answer >= 0; i++) {
+        answer = update_one(batch->self, &items[i], weights[i]);
+        batch->done += answer >= 0;
+    }
+    return answer;
+}
+
+static int32_t update_many(Batch *batch, const Items *items, const Weights *weights)
+{
+    uint64_t numbers[CHUNK], chunk[CHUNK];
+    Sketch *self = batch->self;
+    ds_count_min_status was;
+    int32_t answer = self->with_sign ? ds_count_min_i64_get_status(&self->handle, &was)
+                                     : ds_count_min_u64_get_status(&self->handle, &was);
+    if (answer >= 0)
+        answer = weights_fit(weights, items->count, (self->with_sign ? INT64_MAX : UINT64_MAX) - was.total_weight);
+    if (answer < 0)
+        return answer;
+    if (!items->with_texts && !weights->each && weights->same == 1)
+        return update_by_one(batch, items);
+    for (size_t i = 0, count; i < items->count && answer >= 0; i += count) {
+        if (i > 0 && !batch_goes_on(batch))
+            return STOPPED;
+        count = items_chunk(items, i, CHUNK, numbers);
+        if (!weights_chunk(weights, i, count, chunk))
+            return CHANGED;
+        if (items->with_texts)
+            answer = update_each(batch, &items->items[i], chunk, count);
+        else
+            answer = update_numbers_by(self, items->with_sign, numbers, chunk, count);
+        if (answer >= 0 && !items->with_texts)
+            batch->done += count;
+    }
+    return answer;
+}
+
+const char count_update_doc[] = PyDoc_STR(
+"update($self, items, weight=1, /)\n--\n\n"
+"Add a weight to an item's, or to those of many: an iterable, a buffer of integers, or an array of strings.\n\n"
+"The weight is from 0 to 2**64 - 1, in a signed sketch from -2**63 to 2**63 - 1. Many items have one weight each, or a\n"
+"weight for each item in an iterable or a buffer. A mapping adds its values to the weights of its keys. Raise\n"
+"'WeightOverflow' if the total weight would exceed the maximum. Then nothing is counted.\n\n"
+"All items of a list, an array or a mapping are checked before the first is counted. Any other iterable is checked and\n"
+"counted 4,096 items at a time. A later error has a note with the number of counted items.\n\n"
+">>> import datasketches_rattle as ds\n"
+">>> load = ds.CountMinSketch(num_hashes=4, num_buckets=1 << 10)\n"
+">>> load.update(7, 30)\n"
+">>> load.update([7, 8, -9, 'nine'])\n"
+">>> load.update([7, 'nine'], [100, 200])\n"
+">>> load[7], load[8], load[-9], load['nine'], load[10]\n"
+"(131, 1, 1, 201, 0)\n"
+">>> load.update({'apple': 5, 'pear': 2})\n"
+">>> load['apple'], load['pear']\n"
+"(5, 2)\n");
+
+PyObject *count_update(PyObject *object, PyObject *const *args, Py_ssize_t count)
+{
+    Sketch *self = (Sketch *)object;
+    PyObject *given = count == 2 ? args[1] : NULL;
+    Item item;
+    Items items;
+    Weights weights;
+    uint64_t weight = 1;
+    if (count < 1 || count > 2)
+        return PyErr_Format(PyExc_TypeError, "update takes items and a weight, not %zd arguments", count);
+    if (!is_single(args[0])) {
+        bool opened = update_open(args[0], given, self->with_sign, &items, &weights);
+        return opened ? update_all(self, &items, &weights, NULL, update_many) : NULL;
+    }
+    if ((given != NULL && !number_of_kind(given, "weight", self->with_sign, &weight)) || !item_of(args[0], &item) ||
+        !sketch_ready(self))
+        return NULL;
+    int32_t answer = update_one(self, &item, weight);
+    if (answer < 0)
+        return refuse(answer);
+    Py_RETURN_NONE;
+}
+
+static PyObject *number_for(const Sketch *self, uint64_t number)
+{
+    return self->with_sign ? PyLong_FromLongLong((int64_t)number) : PyLong_FromUnsignedLongLong(number);
+}
+
+typedef int32_t (*question)(Sketch *, const Item *, uint64_t *);
+
+static PyObject *asked(PyObject *object, PyObject *given, question ask)
+{
+    Sketch *self = (Sketch *)object;
+    Item item;
+    uint64_t number = 0;
+    if (!item_of(given, &item) || !sketch_ready(self))
+        return NULL;
+    int32_t answer = ask(self, &item, &number);
+    return answer < 0 ? refuse(answer) : number_for(self, number);
+}
+
+/* Returns the estimate of one item. */
+PyObject *count_at(PyObject *object, PyObject *item)
+{
+    return asked(object, item, estimate_one);
+}
+
+static int32_t estimate_numbers(Sketch *self, bool with_sign, const uint64_t *items, size_t count, uint64_t *numbers)
+{
+    if (self->with_sign)
+        return with_sign ? ds_count_min_i64_estimate_all_i64(&self->handle, (const int64_t *)items, count, (int64_t *)numbers,
+                                                             count)
+                         : ds_count_min_i64_estimate_all_u64(&self->handle, items, count, (int64_t *)numbers, count);
+    return with_sign ? ds_count_min_u64_estimate_all_i64(&self->handle, (const int64_t *)items, count, numbers, count)
+                     : ds_count_min_u64_estimate_all_u64(&self->handle, items, count, numbers, count);
+}
+
+static int32_t estimate_texts(Batch *batch, const Items *items, uint64_t *numbers)
+{
+    int32_t answer = DS_OK;
+    for (size_t i = 0; i < items->count && answer >= 0; i++) {
+        bool goes_on = i % CHUNK != CHUNK - 1 || batch_goes_on(batch);
+        answer = goes_on ? estimate_one(batch->self, &items->items[i], &numbers[i]) : STOPPED;
+    }
+    return answer;
+}
+
+static int32_t estimate_many(Batch *batch, const Items *items, void *room)
+{
+    uint64_t few[CHUNK], *numbers = room;
+    size_t most;
+    int32_t answer = DS_OK;
+    if (items->with_texts)
+        return estimate_texts(batch, items, numbers);
+    uint64_t *chunk = chunk_for(batch->self, items->count, few, &most);
+    for (size_t i = 0, count; i < items->count && answer >= 0; i += count) {
+        count = items_chunk(items, i, most, chunk);
+        answer = i > 0 && !batch_goes_on(batch)
+                     ? STOPPED
+                     : estimate_numbers(batch->self, items->with_sign, chunk, count, numbers + i);
+    }
+    chunk_release(chunk, few);
+    return answer;
+}
+
+const char count_estimate_doc[] = PyDoc_STR(
+"estimate($self, items, /)\n--\n\n"
+"Return the estimate of an item's weight, as `load[item]` does. It is never below what was added since the last halving\n"
+"or decay, if no weight is below 0.\n\n"
+"Return a list of estimates for many items, and an array for a numpy array.\n\n"
+">>> import datasketches_rattle as ds\n"
+">>> load = ds.CountMinSketch(num_hashes=4, num_buckets=1 << 10)\n"
+">>> load.update(7, 30)\n"
+">>> load.estimate(7), load.estimate([7, 'seven'])\n"
+"(30, [30, 0])\n");
+
+static PyObject *number_at(const Sketch *self, const void *answers, size_t index)
+{
+    return number_for(self, ((const uint64_t *)answers)[index]);
+}
+
+PyObject *count_estimate(PyObject *object, PyObject *given)
+{
+    static const Question natural = {"estimate", sizeof(uint64_t), "u8", number_at, estimate_many};
+    static const Question with_sign = {"estimate", sizeof(int64_t), "i8", number_at, estimate_many};
+    Sketch *self = (Sketch *)object;
+    return is_single(given) ? count_at(object, given) : ask_all(self, given, self->with_sign ? &with_sign : &natural);
+}
+
+const char count_upper_bound_doc[] = PyDoc_STR(
+"upper_bound($self, item, /)\n--\n\n"
+"Return the estimate plus a margin: e times the total weight over the number of buckets.\n\n"
+">>> import datasketches_rattle as ds\n"
+">>> load = ds.CountMinSketch(num_hashes=4, num_buckets=128)\n"
+">>> load.update(7, 99)\n"
+">>> load[7], load.upper_bound(7)\n"
+"(99, 101)\n");
+
+PyObject *count_upper_bound(PyObject *object, PyObject *item)
+{
+    return asked(object, item, upper_bound_one);
+}

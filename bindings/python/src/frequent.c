@@ -1,0 +1,408 @@
+/* FrequentItemsSketch: heavy hitters. Items are signed or unsigned 64-bit int, or str. */
+#include "sketches.h"
+
+#include <string.h>
+
+/* The library's calls for one type of items. */
+typedef struct {
+    const char *name;
+    bool with_sign;
+    bool with_texts;
+    int32_t (*make)(ds_sketch *, size_t, size_t);
+    of_two merge;
+    int32_t (*reset)(ds_sketch *);
+    int32_t (*set_sample_size)(ds_sketch *, size_t);
+    int32_t (*status)(ds_sketch *, ds_frequent_items_status *);
+    image_writer serialize;
+    int32_t (*deserialize)(ds_sketch *, const uint8_t *, size_t, size_t);
+} Kind;
+
+#define KIND(name, with_sign, with_texts, call) \
+    {name, with_sign, with_texts, ds_frequent_items_##call##_new, ds_frequent_items_##call##_merge, \
+     ds_frequent_items_##call##_reset, ds_frequent_items_##call##_set_sample_size, ds_frequent_items_##call##_get_status, \
+     ds_frequent_items_##call##_serialize, ds_frequent_items_##call##_deserialize}
+
+static const Kind numbers_with_sign = KIND("i64", true, false, i64);
+static const Kind numbers_without_sign = KIND("u64", false, false, u64);
+static const Kind texts = KIND("str", false, true, string);
+
+static const Kind *kind_of(const Sketch *self)
+{
+    return self->with_texts ? &texts : self->with_sign ? &numbers_with_sign : &numbers_without_sign;
+}
+
+/* Returns the kind that `item` names: int or 'i64' for signed numbers, 'u64' for unsigned numbers, and str for strings. Returns
+ * NULL, with an error set, if it is none of these. */
+static const Kind *kind_named(PyObject *item)
+{
+    if (item == (PyObject *)&PyUnicode_Type)
+        return &texts;
+    if (item == NULL || item == (PyObject *)&PyLong_Type)
+        return &numbers_with_sign;
+    if (PyUnicode_Check(item) && PyUnicode_CompareWithASCIIString(item, "i64") == 0)
+        return &numbers_with_sign;
+    if (PyUnicode_Check(item) && PyUnicode_CompareWithASCIIString(item, "u64") == 0)
+        return &numbers_without_sign;
+    PyErr_SetString(PyExc_ValueError, "item is int, 'i64', 'u64' or str");
+    return NULL;
+}
+
+/* Returns a new object that owns the handle's sketch, or NULL. */
+static PyObject *frequent_of(PyTypeObject *type, ds_sketch *made, const Kind *kind)
+{
+    Sketch *self = sketch_of(type, made);
+    if (self == NULL)
+        return NULL;
+    self->with_sign = kind->with_sign;
+    self->with_texts = kind->with_texts;
+    return (PyObject *)self;
+}
+
+static PyObject *frequent_new(PyTypeObject *type, PyObject *args, PyObject *keywords)
+{
+    static char *names[] = {"max_map_size", "item", "sample_size", NULL};
+    PyObject *size_object, *item = NULL, *sample_object = Py_None;
+    uint64_t size, sample;
+    if (!PyArg_ParseTupleAndKeywords(args, keywords, "O|OO:FrequentItemsSketch", names, &size_object, &item, &sample_object))
+        return NULL;
+    const Kind *kind = natural_of(size_object, "max_map_size", &size) ? kind_named(item) : NULL;
+    if (kind == NULL)
+        return NULL;
+    if (sample_object == Py_None)
+        sample = ds_frequent_items_max_sample_size(size);
+    else if (!natural_of(sample_object, "sample_size", &sample))
+        return NULL;
+    ds_sketch made = DS_NONE;
+    int32_t answer = kind->make(&made, size, sample);
+    return answer < 0 ? refuse(answer) : frequent_of(type, &made, kind);
+}
+
+static bool are_frequent(PyObject *first, PyObject *second)
+{
+    return PyObject_TypeCheck(first, &frequent_type) && PyObject_TypeCheck(second, &frequent_type);
+}
+
+/* Returns the library's merge for two sketches. Returns NULL, with an error set, if there is none. */
+static of_two merge_of(PyObject *first, PyObject *second)
+{
+    if (!sketch_ready((Sketch *)first) || !sketch_ready((Sketch *)second))
+        return NULL;
+    if (kind_of((Sketch *)first) == kind_of((Sketch *)second))
+        return kind_of((Sketch *)first)->merge;
+    PyErr_SetString(PyExc_ValueError, "the sketches count items of different types");
+    return NULL;
+}
+
+static PyObject *frequent_add_into(PyObject *first, PyObject *second)
+{
+    if (!are_frequent(first, second))
+        Py_RETURN_NOTIMPLEMENTED;
+    of_two merge = merge_of(first, second);
+    return merge != NULL ? sketch_join((Sketch *)first, (Sketch *)second, merge) : NULL;
+}
+
+static PyObject *frequent_add(PyObject *first, PyObject *second)
+{
+    if (!are_frequent(first, second))
+        Py_RETURN_NOTIMPLEMENTED;
+    of_two merge = merge_of(first, second);
+    return merge != NULL ? sketch_joined((Sketch *)first, (Sketch *)second, merge) : NULL;
+}
+
+/* Compares two sketches. A sketch is equal only to itself: the order of its items is open, and no call compares two. */
+static PyObject *frequent_compare(PyObject *first, PyObject *second, int operation)
+{
+    if ((operation != Py_EQ && operation != Py_NE) || !PyObject_TypeCheck(second, &frequent_type))
+        Py_RETURN_NOTIMPLEMENTED;
+    if (!sketch_ready((Sketch *)first) || !sketch_ready((Sketch *)second))
+        return NULL;
+    return PyBool_FromLong((first == second) == (operation == Py_EQ));
+}
+
+static Py_hash_t frequent_hash(PyObject *object)
+{
+    return PyBaseObject_Type.tp_hash(object);
+}
+
+static bool numbers_of(PyObject *object, ds_frequent_items_status *numbers)
+{
+    Sketch *self = (Sketch *)object;
+    if (!sketch_lock(self))
+        return false;
+    int32_t answer = kind_of(self)->status(&self->handle, numbers);
+    sketch_unlock(self);
+    return answer >= 0 || refuse(answer) != NULL;
+}
+
+PyDoc_STRVAR(reset_doc,
+"reset($self, /)\n--\n\n"
+"Remove all items. `max_map_size` and `sample_size` stay as they were.\n\n"
+">>> import datasketches_rattle as ds\n"
+">>> heavy = ds.FrequentItemsSketch(8)\n"
+">>> heavy.update(7, 30)\n"
+">>> heavy.reset()\n"
+">>> heavy[7], heavy.total_weight\n"
+"(0, 0)\n");
+
+static PyObject *frequent_reset(PyObject *object, PyObject *Py_UNUSED(unused))
+{
+    return sketch_change((Sketch *)object, kind_of((Sketch *)object)->reset);
+}
+
+PyDoc_STRVAR(serialize_doc,
+"serialize($self, /)\n--\n\n"
+"Return the sketch's image, as `bytes(heavy)` does. It has neither the type of the items nor the sample size.\n\n"
+">>> import datasketches_rattle as ds\n"
+">>> len(ds.FrequentItemsSketch(64).serialize())\n"
+"8\n");
+
+static PyObject *frequent_serialize(PyObject *object, PyObject *Py_UNUSED(unused))
+{
+    Sketch *self = (Sketch *)object;
+    ds_frequent_items_status numbers;
+    if (self->with_texts)
+        return sketch_image(self, texts.serialize, TEXTS_GUESS);
+    if (!numbers_of(object, &numbers))
+        return NULL;
+    size_t guess = numbers.total_weight == 0 ? 8 : 32 + 16 * (size_t)numbers.num_active_items;
+    return sketch_image(self, kind_of(self)->serialize, guess);
+}
+
+PyDoc_STRVAR(deserialize_doc,
+"deserialize($type, image, item=int, max_bytes=1073741824, sample_size=None)\n--\n\n"
+"Return the sketch of an image, which may be untrusted, with items of this type. An image has no sample size: without\n"
+"`sample_size` it is the largest.\n\n"
+"Raise 'TableTooLarge' if the table, with the bytes of all strings, would take more than `max_bytes`; None is no limit.\n"
+"Bytes are read in place, and any other buffer is copied first, up to the limit.\n\n"
+">>> import datasketches_rattle as ds\n"
+">>> heavy = ds.FrequentItemsSketch(64)\n"
+">>> heavy.update(7, 30)\n"
+">>> ds.FrequentItemsSketch.deserialize(bytes(heavy))[7]\n"
+"30\n");
+
+static PyObject *frequent_deserialize(PyObject *type, PyObject *args, PyObject *keywords)
+{
+    static char *names[] = {"image", "item", "max_bytes", "sample_size", NULL};
+    Image image = {0};
+    PyObject *item = NULL, *limit_object = NULL, *sample_object = Py_None;
+    size_t limit = DEFAULT_LIMIT;
+    uint64_t sample = 0;
+    if (!PyArg_ParseTupleAndKeywords(args, keywords, "y*|OOO:deserialize", names, &image.view, &item, &limit_object,
+                                     &sample_object))
+        return NULL;
+    const Kind *kind = kind_named(item);
+    bool ready = kind != NULL && limit_of(limit_object, &limit) &&
+                 (sample_object == Py_None || natural_of(sample_object, "sample_size", &sample)) && image_take(&image, limit);
+    ds_sketch made = DS_NONE;
+    int32_t answer = DS_OK, sampled = DS_OK;
+    if (ready) {
+        Py_BEGIN_ALLOW_THREADS
+        answer = kind->deserialize(&made, image.bytes, image.length, limit);
+        if (answer >= 0 && sample_object != Py_None)
+            sampled = kind->set_sample_size(&made, sample);
+        if (sampled < 0)
+            ds_free(&made);
+        Py_END_ALLOW_THREADS
+        answer = image_answer(&image, answer);
+    }
+    image_release(&image);
+    if (answer < 0)
+        return refuse_image(answer);
+    if (sampled < 0)
+        return refuse(sampled);
+    return ready ? frequent_of((PyTypeObject *)type, &made, kind) : NULL;
+}
+
+static PyObject *frequent_reduce(PyObject *object, PyObject *Py_UNUSED(unused))
+{
+    Sketch *self = (Sketch *)object;
+    ds_frequent_items_status numbers;
+    PyObject *image = numbers_of(object, &numbers) ? frequent_serialize(object, NULL) : NULL;
+    if (image == NULL)
+        return NULL;
+    unsigned long long sample = numbers.sample_size;
+    if (self->with_texts)
+        return sketch_reduce(object, Py_BuildValue("(NOK)", image, (PyObject *)&PyUnicode_Type, sample));
+    return sketch_reduce(object, Py_BuildValue("(NsK)", image, kind_of(self)->name, sample));
+}
+
+static PyObject *frequent_unpickle(PyObject *type, PyObject *args)
+{
+    static const char *const names[] = {"image", "item", "sample_size", NULL};
+    return sketch_unpickle(type, args, names, frequent_deserialize);
+}
+
+/* Room for rows: their items and their bounds. */
+typedef struct {
+    uint64_t *items;
+    ds_frequent_items_bounds *bounds;
+} Rows;
+
+static int32_t rows_of(Sketch *self, bool no_false_negatives, uint64_t threshold, Rows *rows, size_t room, size_t *count)
+{
+    return self->with_sign ? ds_frequent_items_i64_rows(&self->handle, no_false_negatives, threshold, (int64_t *)rows->items, room,
+                                                  rows->bounds, room, count)
+                           : ds_frequent_items_u64_rows(&self->handle, no_false_negatives, threshold, rows->items, room,
+                                                  rows->bounds, room, count);
+}
+
+static PyObject *row(const Sketch *self, uint64_t item, const ds_frequent_items_bounds *bounds)
+{
+    PyObject *number = self->with_sign ? PyLong_FromLongLong((int64_t)item) : PyLong_FromUnsignedLongLong(item);
+    return Py_BuildValue("NKKK", number, (unsigned long long)bounds->lower_bound, (unsigned long long)bounds->estimate,
+                         (unsigned long long)bounds->upper_bound);
+}
+
+PyDoc_STRVAR(rows_doc,
+"rows($self, /, threshold=0, no_false='negatives')\n--\n\n"
+"Return the heavy hitters, heaviest first: a list of (item, lower bound, estimate, upper bound).\n\n"
+"No item is missing that weighs more than `threshold` and more than `maximum_error`. With `no_false='positives'` each\n"
+"returned item weighs more than both, and some of these items may be missing.\n\n"
+">>> import datasketches_rattle as ds\n"
+">>> heavy = ds.FrequentItemsSketch(64)\n"
+">>> heavy.update([7, 7, 7, 8, 8, -9])\n"
+">>> heavy.rows(threshold=1)\n"
+"[(7, 3, 3, 3), (8, 2, 2, 2)]\n");
+
+static PyObject *list_of(const Sketch *self, const Rows *rows, size_t count)
+{
+    PyObject *list = PyList_New(0);
+    for (size_t i = 0; list != NULL && i < count; i++)
+        if (!append_row(list, row(self, rows->items[i], &rows->bounds[i])))
+            Py_CLEAR(list);
+    return list;
+}
+
+static PyObject *frequent_rows(PyObject *object, PyObject *args, PyObject *keywords)
+{
+    static char *names[] = {"threshold", "no_false", NULL};
+    Sketch *self = (Sketch *)object;
+    ds_frequent_items_status numbers;
+    PyObject *threshold_object = NULL;
+    const char *no_false = "negatives";
+    uint64_t threshold = 0;
+    if (!PyArg_ParseTupleAndKeywords(args, keywords, "|Os:rows", names, &threshold_object, &no_false) ||
+        (threshold_object != NULL && !natural_of(threshold_object, "threshold", &threshold)))
+        return NULL;
+    bool all = strcmp(no_false, "negatives") == 0;
+    if (!all && strcmp(no_false, "positives") != 0) {
+        PyErr_SetString(PyExc_ValueError, "no_false is 'negatives' or 'positives'");
+        return NULL;
+    }
+    if (self->with_texts)
+        return texts_rows(self, all, threshold);
+    if (!numbers_of(object, &numbers))
+        return NULL;
+    Rows rows = {NULL, NULL};
+    size_t room = (size_t)numbers.num_active_items, count = 0;
+    int32_t answer;
+    do {
+        PyMem_Free(rows.items);
+        PyMem_Free(rows.bounds);
+        rows.items = PyMem_New(uint64_t, room);
+        rows.bounds = PyMem_New(ds_frequent_items_bounds, room);
+        if (rows.items == NULL || rows.bounds == NULL) {
+            answer = DS_NO_MEMORY;
+        } else if (sketch_lock(self)) {
+            BATCH_BEGIN(self)
+            answer = rows_of(self, all, threshold, &rows, room, &count);
+            BATCH_END(self)
+            sketch_unlock(self);
+            room = answer == DS_NO_ROOM ? count : room;
+        } else {
+            answer = DS_NO_SKETCH;
+        }
+    } while (answer == DS_NO_ROOM);
+    PyObject *list = answer >= 0 ? list_of(self, &rows, count) : NULL;
+    PyMem_Free(rows.items);
+    PyMem_Free(rows.bounds);
+    return answer < 0 && answer != DS_NO_SKETCH ? refuse(answer) : list;
+}
+
+static PyObject *frequent_repr(PyObject *object)
+{
+    ds_frequent_items_status numbers;
+    if (!numbers_of(object, &numbers)) {
+        PyErr_Clear();
+        return PyUnicode_FromString("<FrequentItemsSketch, closed>");
+    }
+    return PyUnicode_FromFormat("<FrequentItemsSketch max_map_size=%llu item=%s total_weight=%llu>",
+                                (unsigned long long)numbers.max_map_size,
+                                kind_of((Sketch *)object)->name, (unsigned long long)numbers.total_weight);
+}
+
+static PyObject *frequent_number(PyObject *object, void *which)
+{
+    ds_frequent_items_status numbers;
+    if (!numbers_of(object, &numbers))
+        return NULL;
+    uint64_t fields[] = {numbers.total_weight, numbers.maximum_error, numbers.num_active_items, numbers.max_map_size,
+                         numbers.sample_size};
+    return PyLong_FromUnsignedLongLong(fields[(uintptr_t)which]);
+}
+
+static PyGetSetDef frequent_fields[] = {
+    {"total_weight", frequent_number, NULL, "The total weight of all items.", (void *)0},
+    {"maximum_error", frequent_number, NULL, "The difference of an upper bound and its lower bound.", (void *)1},
+    {"num_active_items", frequent_number, NULL, "The number of items that have a counter.", (void *)2},
+    {"max_map_size", frequent_number, NULL, "The maximum size of the table, in slots.", (void *)3},
+    {"sample_size", frequent_number, NULL, "The number of counters that a purge samples.", (void *)4},
+    {NULL, NULL, NULL, NULL, NULL},
+};
+
+static PyMethodDef frequent_methods[] = {
+    {"update", (PyCFunction)(void (*)(void))frequent_update, METH_FASTCALL, frequent_update_doc},
+    {"bounds", frequent_bounds, METH_O, frequent_bounds_doc},
+    {"estimate", frequent_estimate, METH_O, frequent_estimate_doc},
+    {"rows", (PyCFunction)(void (*)(void))frequent_rows, METH_VARARGS | METH_KEYWORDS, rows_doc},
+    {"reset", frequent_reset, METH_NOARGS, reset_doc},
+    {"serialize", frequent_serialize, METH_NOARGS, serialize_doc},
+    {"deserialize", (PyCFunction)(void (*)(void))frequent_deserialize, METH_CLASS | METH_VARARGS | METH_KEYWORDS,
+     deserialize_doc},
+    {"__bytes__", frequent_serialize, METH_NOARGS, NULL},
+    {"__reduce__", frequent_reduce, METH_NOARGS, NULL},
+    {"_unpickle", frequent_unpickle, METH_CLASS | METH_VARARGS, NULL},
+    {"__sizeof__", sketch_sizeof, METH_NOARGS, sketch_sizeof_doc},
+    SUGGESTS("suggest_max_map_size", frequent_suggest_max_map_size),
+    {"close", sketch_close, METH_NOARGS, sketch_close_doc},
+    {"__copy__", sketch_copy, METH_NOARGS, NULL},
+    {"__deepcopy__", sketch_deepcopy, METH_O, NULL},
+    {"__enter__", sketch_enter, METH_NOARGS, NULL},
+    {"__exit__", sketch_exit, METH_VARARGS, NULL},
+    {NULL, NULL, 0, NULL},
+};
+
+static PyNumberMethods frequent_as_number = {.nb_add = frequent_add, .nb_inplace_add = frequent_add_into};
+static PyMappingMethods frequent_as_mapping = {.mp_subscript = frequent_estimate};
+
+PyDoc_STRVAR(frequent_doc,
+"FrequentItemsSketch(max_map_size, item=int, sample_size=None)\n--\n\n"
+"The most frequent items, in at most three quarters of `max_map_size` counters. `max_map_size` is a power of two from 8\n"
+"to 2**30.\n\n"
+"`item` is int or 'i64' for numbers from -2**63 to 2**63 - 1, 'u64' for those from 0 to 2**64 - 1, and str for\n"
+"strings. `sample_size` is the number of counters that a purge samples: an even number, by default the largest. `+` merges\n"
+"two sketches, and `+=` merges another one into this. `heavy += heavy` doubles all weights.\n\n"
+">>> import datasketches_rattle as ds\n"
+">>> heavy = ds.FrequentItemsSketch(1024, item=int)\n"
+">>> heavy.update(-7, 30)\n"
+">>> more = ds.FrequentItemsSketch(1024)\n"
+">>> more.update([-7, 8])\n"
+">>> heavy += more\n"
+">>> heavy[-7], heavy.bounds(8)\n"
+"(31, (1, 1, 1))\n"
+">>> heavy\n"
+"<FrequentItemsSketch max_map_size=1024 item=i64 total_weight=32>\n"
+">>> words = ds.FrequentItemsSketch(1024, item=str)\n"
+">>> words.update(['apple', 'pear', 'apple'])\n"
+">>> words.rows()\n"
+"[('apple', 2, 2, 2), ('pear', 1, 1, 1)]\n");
+
+PyTypeObject frequent_type = {
+    PyVarObject_HEAD_INIT(NULL, 0)
+    .tp_name = "datasketches_rattle.FrequentItemsSketch", .tp_basicsize = sizeof(Sketch), .tp_doc = frequent_doc,
+    .tp_flags = Py_TPFLAGS_DEFAULT | Py_TPFLAGS_BASETYPE, .tp_new = frequent_new, .tp_dealloc = sketch_dealloc,
+    .tp_repr = frequent_repr, .tp_methods = frequent_methods, .tp_getset = frequent_fields,
+    .tp_as_number = &frequent_as_number,
+    .tp_as_mapping = &frequent_as_mapping,
+    .tp_richcompare = frequent_compare, .tp_hash = frequent_hash,
+};

@@ -1,0 +1,132 @@
+"""The package's names, types and docs, and its behaviour with little memory."""
+import ast
+import os
+import subprocess
+import sys
+import unittest
+
+import datasketches_rattle as ds
+
+FOLDER = os.path.dirname(ds.__file__)
+
+SHORT_OF_MEMORY = """
+import copy, resource
+import datasketches_rattle as ds
+kept = ds.BloomFilter(1 << 28, 3)
+kept.insert("a")
+resource.setrlimit(resource.RLIMIT_AS, (1 << 28, 1 << 28))
+calls = [lambda: ds.BloomFilter(1 << 33, 3), lambda: ds.CountMinSketch(4, 1 << 27), lambda: ds.CountMinSketch(4, 1 << 25)]
+image = bytearray(bytes(ds.BloomFilter(64, 3)))
+image[16:20] = (1 << 27).to_bytes(4, "little")
+calls.append(lambda: ds.BloomFilter.deserialize(image, max_bytes=None))
+twins = []
+calls.append(lambda: [twins.append(copy.copy(kept)) for _ in range(100)])
+for call in calls:
+    try:
+        call()
+    except MemoryError:
+        print("MemoryError")
+twins.clear()
+print("a" in kept, "b" in kept)
+"""
+
+COUNTED_SO_FAR = """
+import array, resource
+import datasketches_rattle as ds
+items = array.array("q", range(4000000))
+heavy = ds.FrequentItemsSketch(1 << 26)
+resource.setrlimit(resource.RLIMIT_AS, (1 << 28, 1 << 28))
+try:
+    heavy.update(items)
+except MemoryError as error:
+    print(str(error) == f"memory ended when {heavy.total_weight} of 4000000 items were counted", 0 < heavy.total_weight < 4000000)
+"""
+
+GIVEN_BACK = """
+import array, copy, pickle, resource
+import datasketches_rattle as ds
+many, few = array.array("q", bytes(1 << 21)), array.array("q", bytes(80))
+minus = array.array("q", bytes((1 << 21) - 8) + b"\\xff" * 8)
+listed = list(minus)
+resource.setrlimit(resource.RLIMIT_AS, (1 << 28, 1 << 28))
+for round in range(60):
+    seen = ds.BloomFilter(1 << 26, 3)
+    seen.insert(["a", 1])
+    seen |= copy.copy(seen)
+    load = ds.CountMinSketch(4, 1 << 18)
+    load.update(range(10))
+    load = ds.CountMinSketch.deserialize(bytes(load + load))
+    load.update(many, many)
+    load.estimate(many)
+    for weights in (few, minus, listed, array.array("d", bytes(1 << 21))):
+        try:
+            load.update(many, weights)
+        except (TypeError, ValueError):
+            pass
+    heavy = ds.FrequentItemsSketch(1 << 16)
+    heavy.update(range(100))
+    heavy = pickle.loads(pickle.dumps(heavy))
+    words = ds.FrequentItemsSketch(1 << 10, item=str)
+    words.update(str(number) + "x" * 10000 for number in range(500))
+    words = pickle.loads(pickle.dumps(copy.copy(words) + words))
+    words.rows(), words.total_weight
+    words.reset()
+    for wrong in ([1, 2.0], ["a", None], 1.5):
+        try:
+            seen.insert(wrong)
+        except TypeError:
+            pass
+    try:
+        seen |= ds.BloomFilter(64, 1)
+    except ds.SketchError:
+        pass
+print("all given back")
+"""
+
+
+def run(script):
+    """Runs a script. Returns its exit status, the lines that it prints, and its error output."""
+    done = subprocess.run([sys.executable, "-c", script], capture_output=True, text=True, timeout=120, check=False,
+                          cwd=os.path.dirname(FOLDER))
+    return done.returncode, done.stdout.split("\n")[:-1], done.stderr
+
+
+class Package(unittest.TestCase):
+    def test_types_are_those_of_the_classes(self):
+        with open(os.path.join(FOLDER, "__init__.pyi"), encoding="utf-8") as file:
+            stub = ast.parse(file.read())
+        classes = {each.name: each for each in stub.body if isinstance(each, ast.ClassDef)}
+        self.assertEqual(sorted(classes), sorted(ds.__all__))
+        for name, tree in classes.items():
+            told = {each.name for each in tree.body if isinstance(each, ast.FunctionDef)}
+            told |= {each.target.id for each in tree.body if isinstance(each, ast.AnnAssign)}
+            there = {each for each in vars(getattr(ds, name)) if not each.startswith("_")}
+            self.assertEqual({each for each in told if not each.startswith("_")}, there)
+            for each in told:
+                self.assertTrue(hasattr(getattr(ds, name), each), f"{name}.{each}")
+        self.assertTrue(os.path.exists(os.path.join(FOLDER, "py.typed")))
+
+    def test_each_call_has_an_example(self):
+        for name in ds.__all__:
+            each = getattr(ds, name)
+            self.assertIn(">>>", each.__doc__)
+            self.assertEqual(each.__module__, "datasketches_rattle")
+            for call, value in vars(each).items():
+                if not call.startswith("_") and callable(value) and call != "close":
+                    self.assertIn(">>>", value.__doc__, f"{name}.{call}")
+
+    @unittest.skipIf("asan" in os.environ.get("LD_PRELOAD", ""), "the limit on memory is too low for this run")
+    def test_memory_refused(self):
+        self.assertEqual(run(SHORT_OF_MEMORY), (0, ["MemoryError"] * 5 + ["True False"], ""))
+
+    @unittest.skipIf("asan" in os.environ.get("LD_PRELOAD", ""), "the limit on memory is too low for this run")
+    def test_memory_that_ends_in_a_batch(self):
+        self.assertEqual(run(COUNTED_SO_FAR), (0, ["True True"], ""))
+
+    @unittest.skipIf("asan" in os.environ.get("LD_PRELOAD", ""), "the limit on memory is too low for this run")
+    def test_memory_given_back(self):
+        self.assertEqual(run(GIVEN_BACK), (0, ["all given back"], ""))
+
+
+if __name__ == "__main__":
+    unittest.main()

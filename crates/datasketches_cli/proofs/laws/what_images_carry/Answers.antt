@@ -1,8 +1,0 @@
-use Rattle.datasketches_cli.proofs.Digits.{loads_what_was_shown, digits_make_what_was_shown}
-use Rattle.datasketches_cli.proofs.laws.what_images_carry.Goals as goal
-
-pub returns-clause-loads : goal.returns-clause-loads
-returns-clause-loads c = loads_what_was_shown
-
-pub returns-clause-digits : goal.returns-clause-digits
-returns-clause-digits c = digits_make_what_was_shown

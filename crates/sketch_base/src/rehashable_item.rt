@@ -1,0 +1,80 @@
+//! An item that is hashed under several seeds.
+ghost use Rattle.std.specs.Prelude.{◌≡◌, ◌<◌, ◌≤◌, IfSome, IfNone, length};
+ghost use Rattle.sketch_base.specs.Hashes.{fed_bytes};
+ghost use Rattle.sketch_base.specs.Murmur3.{murmur3_x64_128};
+
+use crate::item_hash::murmur3_of;
+use crate::short_bytes::ShortBytes;
+use std::hash::Hash;
+use std::marker::Model;
+
+/// An item that is hashed under several seeds, and fed only once if it has few bytes.
+///
+/// Contracts see it as the bytes that the item's `Hash` feeds. If they are fewer than 16, as for numbers, they are fed
+/// once, and each hash is only the finalization. Otherwise each hash feeds them again. It does not allocate.
+///
+/// # Examples
+///
+/// ```
+/// use sketch_base::RehashableItem;
+///
+/// fn hashes_of_both_rows(user: u64, seeds: (u64, u64)) -> (u64, u64) {
+///     let item = RehashableItem::new(&user);
+///     (item.murmur3(seeds.0).0, item.murmur3(seeds.1).0)
+/// }
+/// ```
+#[derive(Drop)]
+pub struct RehashableItem<'a, T: Hash> {
+    item: &'a T,
+    short: ShortBytes,
+}
+
+impl<'a, T: Hash> Model for RehashableItem<'a, T> {
+    ghost use Rattle.std.specs.Prelude.{ℕ, List};
+    ghost use Rattle.sketch_base.specs.Hashes.{fed_bytes};
+    ghost use Rattle.sketch_base.specs.ShortBytes.{Keeps};
+
+    ghost Value = { List ℕ };
+
+    ghost view = { λ s. fed_bytes T.hash_input s.item.now };
+
+    ghost invariant = { λ s. Keeps (fed_bytes T.hash_input s.item.now) s.short };
+}
+
+impl<'a, T: Hash> RehashableItem<'a, T> {
+    /// Creates it from an item. This feeds the item's bytes once, and keeps them if they are fewer than 16.
+    #[inline(always)]
+    pub fn new(item: &'a T) -> Self
+        ensures { result ≡ fed_bytes T.hash_input item.now }
+    {
+        let mut short = ShortBytes::new();
+        item.hash(&mut short);
+        RehashableItem { item, short }
+    }
+
+    /// Returns the item's bytes if they are fewer than 16. Each hash of them is only the finalization.
+    #[inline(always)]
+    pub fn short(&self) -> Option<&ShortBytes>
+        ensures bytes { IfSome result (λ bytes. bytes.now ≡ self.now) }
+        ensures few { IfSome result (λ bytes. length bytes.now < 16) }
+        ensures many { IfNone result (16 ≤ length self.now) }
+    {
+        if self.short.len() < 16 {
+            Some(&self.short)
+        } else {
+            None
+        }
+    }
+
+    /// Returns both halves of MurmurHash3 x64 128 of all bytes that the item's `Hash` feeds, under a seed.
+    #[inline(always)]
+    pub fn murmur3(&self, seed: u64) -> (u64, u64)
+        ensures { result ≡ murmur3_x64_128 self.now seed }
+    {
+        if self.short.len() < 16 {
+            self.short.murmur3(seed)
+        } else {
+            murmur3_of(self.item, seed)
+        }
+    }
+}

@@ -1,5 +1,0 @@
-use Rattle.sketch_countmin.proofs.SuggestedBuckets.{margin_within}
-use Rattle.sketch_countmin.proofs.laws.what_enough_buckets_say.Goals as goal
-
-pub returns : goal.returns
-returns c s n = margin_within s.total s.buckets n
