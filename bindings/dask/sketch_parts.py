@@ -200,10 +200,11 @@ def batches(part: Part, least: int = 0, most: int = 2**64 - 1) -> Iterator[Batch
     Raises `BadInput` if the file is not the one that was cut, before the first batch and after the last one.
     """
     for at, data in blocks(part):
-        lines = lines_of(part.path, at, data)
         if part.words:
-            yield Batch([word for line in lines for word in line.split()], None, [])
-        elif part.columns is None:
+            yield Batch(words_of(text_of(part.path, at, data)), None, [])
+            continue
+        lines = lines_of(part.path, at, data)
+        if part.columns is None:
             yield Batch(lines, None, lines)
         else:
             yield columns_of(part, part.columns, at, data, lines, least, most)
@@ -257,14 +258,25 @@ def whole_lines(path: str, at: int, pieces: Iterable[bytes]) -> Iterator[tuple[i
         yield at, rest
 
 
-def lines_of(path: str, at: int, data: bytes) -> list[str]:
-    """Returns the lines of a block that are not blank."""
+def text_of(path: str, at: int, data: bytes) -> str:
+    """Returns the string of a block."""
     try:
-        text = data.decode("utf-8")
+        return data.decode("utf-8")
     except UnicodeDecodeError as error:
         raise BadInput(path, "not UTF-8", at + data.rfind(b"\n", 0, error.start) + 1) from None
-    text = text.replace("\r\n", "\n").removesuffix("\r")
+
+
+def lines_of(path: str, at: int, data: bytes) -> list[str]:
+    """Returns the lines of a block that are not blank."""
+    text = text_of(path, at, data).replace("\r\n", "\n").removesuffix("\r")
     return [line for line in text.split("\n") if line]
+
+
+def words_of(text: str) -> list[str]:
+    """Returns the words of a string: its longest runs without space, tab, LF, FF and CR, as `update_words` takes them."""
+    for space in "\t\n\f\r":
+        text = text.replace(space, " ")
+    return [word for word in text.split(" ") if word]
 
 
 def line_at(data: bytes, index: int) -> int:
@@ -347,6 +359,15 @@ class Heavy:
     def add(self, sketch: ds.FrequentItemsSketch, batch: Batch) -> None:
         sketch.update(batch.items, 1 if batch.weights is None else batch.weights)
 
+    def add_words(self, sketch: ds.FrequentItemsSketch, path: str, at: int, data: bytes) -> None:
+        """Adds the words of a block that begins at byte `at` of a file."""
+        try:
+            sketch.update_words(data)
+        except ds.SketchError as error:
+            if error.fault == "InvalidUtf8":
+                text_of(path, at, data)
+            raise
+
     def join(self, sketch: ds.FrequentItemsSketch, other: ds.FrequentItemsSketch) -> None:
         sketch += other
 
@@ -407,6 +428,10 @@ Shape = Heavy | Traffic | Seen
 def sketch_part(shape: Shape, part: Part) -> bytes:
     """Returns the image of a sketch of a part's items."""
     sketch = shape.empty()
+    if part.words and isinstance(shape, Heavy):
+        for at, data in blocks(part):
+            shape.add_words(sketch, part.path, at, data)
+        return bytes(sketch)
     for batch in batches(part, shape.least, shape.most):
         shape.add(sketch, batch)
     return bytes(sketch)

@@ -23,7 +23,7 @@ LEFT = {"bytes 12 16": "bytes 4 7", "bytes 10 603": "bytes 0 0"}
 
 
 QUESTIONS = ["numbers 3 8 3 6 224", "counts 3 0 5 0 3 0"]
-WALK = ["walk 3 0 10 0 0", "looked true"]
+WALK = ["walk 3 0 10 0 0", "probed true"]
 
 # Calls that allocate nothing, and that neither the program nor the C library makes.
 ALLOCATION_FREE = {
@@ -56,7 +56,7 @@ ALLOCATION_FREE = {
     # 8 slots of 28 bytes
     "allocation-free_table_questions": QUESTIONS,
     # the three entries have the same home slot, so a look-up of an absent key ends at the fourth slot
-    "allocation-free_table_looks": ["0 looked 4"],
+    "allocation-free_table_looks": ["0 probed 4"],
     "allocation-free_table_walk": WALK,
     "allocation-free_session": ["refused NoSuchName"],
 }

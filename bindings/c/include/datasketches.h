@@ -366,18 +366,22 @@ static inline size_t ds_frequent_items_max_sample_size(size_t max_map_size)
 }
 
 /* Adds a weight to the item's. A weight of 0 changes nothing. Returns DS_WEIGHT_OVERFLOW if the total would exceed 2^64 - 1, and
- * DS_NO_MEMORY: of a number if the table cannot grow, and of a string also, before DS_WEIGHT_OVERFLOW, if it cannot be copied. */
+ * DS_NO_MEMORY if the table cannot grow, or a string that is not tracked cannot be copied. */
 int32_t ds_frequent_items_u64_update(ds_sketch *handle, uint64_t item, uint64_t weight);
 int32_t ds_frequent_items_i64_update(ds_sketch *handle, int64_t item, uint64_t weight);
 int32_t ds_frequent_items_string_update(ds_sketch *handle, const uint8_t *item, size_t length, uint64_t weight);
 
-/* Writes the item's bounds. Returns DS_NO_MEMORY if a string cannot be copied. */
+/* Adds 1 to the weight of each word of a string, in order. A word is a longest run of bytes that are not ASCII white space
+ * (space, tab, LF, FF or CR). Returns DS_INVALID_UTF8 if the bytes are not UTF-8: then none is added. Returns the error of the
+ * first word whose own update returns one: then the words before it are added, and no others. */
+int32_t ds_frequent_items_string_update_words(ds_sketch *handle, const uint8_t *text, size_t length);
+
+/* Writes the item's bounds. Does not allocate. */
 int32_t ds_frequent_items_u64_bounds(ds_sketch *handle, uint64_t item, ds_frequent_items_bounds *bounds);
 int32_t ds_frequent_items_i64_bounds(ds_sketch *handle, int64_t item, ds_frequent_items_bounds *bounds);
 int32_t ds_frequent_items_string_bounds(ds_sketch *handle, const uint8_t *item, size_t length, ds_frequent_items_bounds *bounds);
 
-/* Writes the bounds of each item. Returns DS_NO_ROOM unless `num_bounds` is the number of items, and DS_NO_MEMORY if a string
- * cannot be copied: then the bounds of the strings before it are written, and the others stay as they were. */
+/* Writes the bounds of each item. Returns DS_NO_ROOM unless `num_bounds` is the number of items. Does not allocate. */
 int32_t ds_frequent_items_u64_bounds_all(ds_sketch *handle, const uint64_t *items, size_t count, ds_frequent_items_bounds *bounds,
                                          size_t num_bounds);
 int32_t ds_frequent_items_i64_bounds_all(ds_sketch *handle, const int64_t *items, size_t count, ds_frequent_items_bounds *bounds,
@@ -602,6 +606,7 @@ DS_CHECK_HANDLES(ds_count_min_i64_equal)
 DS_CHECK_BUFFER(ds_count_min_i64_serialize)
 DS_CHECK_IMAGE_AND_SEED(ds_count_min_i64_deserialize)
 DS_CHECK_ITEMS_AND(ds_frequent_items_string_update, uint8_t, uint64_t)
+DS_CHECK_ITEMS(ds_frequent_items_string_update_words, uint8_t)
 DS_CHECK_ITEMS_AND(ds_frequent_items_string_bounds, uint8_t, ds_frequent_items_bounds *)
 DS_CHECK_ITEMS_AND_RESULTS(ds_frequent_items_u64_bounds_all, uint64_t, ds_frequent_items_bounds)
 DS_CHECK_ITEMS_AND_RESULTS(ds_frequent_items_i64_bounds_all, int64_t, ds_frequent_items_bounds)
@@ -707,6 +712,8 @@ DS_CHECK_STRING_ROWS(ds_frequent_items_string_rows)
     ds_count_min_i64_deserialize_checked(handle, image, length, seed, max_bytes)
 #define ds_frequent_items_string_update(handle, item, length, weight) \
     ds_frequent_items_string_update_checked(handle, item, length, weight)
+#define ds_frequent_items_string_update_words(handle, text, length) \
+    ds_frequent_items_string_update_words_checked(handle, text, length)
 #define ds_frequent_items_string_bounds(handle, item, length, bounds) \
     ds_frequent_items_string_bounds_checked(handle, item, length, bounds)
 #define ds_frequent_items_u64_bounds_all(handle, items, count, bounds, num_bounds) \

@@ -373,6 +373,48 @@ static void frequent_texts(void)
     ds_free(&copy);
 }
 
+/* Adds the words of a string. */
+static int32_t add_words(ds_sketch *handle, const char *text)
+{
+    return ds_frequent_items_string_update_words(handle, (const uint8_t *)text, strlen(text));
+}
+
+/* Returns whether a word is estimated so. */
+static bool is_estimate(ds_sketch *handle, const char *word, uint64_t estimate)
+{
+    ds_frequent_items_bounds bounds;
+    return ds_frequent_items_string_bounds(handle, (const uint8_t *)word, strlen(word), &bounds) == DS_OK &&
+           bounds.estimate == estimate;
+}
+
+/* Words of strings: white space, strings without words, and the first error. */
+static void words_of_strings(void)
+{
+    ds_sketch sketch = DS_NONE;
+    ds_frequent_items_status numbers;
+    CHECK(add_words(&sketch, "a") == DS_NO_SKETCH);
+    CHECK(ds_frequent_items_u64_new(&sketch, 64, 48) == DS_OK && add_words(&sketch, "a") == DS_WRONG_KIND);
+    CHECK(ds_frequent_items_string_new(&sketch, 64, 48) == DS_OK);
+    CHECK(add_words(&sketch, " to be\tor\nnot\r\n\fto  be") == DS_OK);
+    CHECK(is_estimate(&sketch, "to", 2) && is_estimate(&sketch, "be", 2) && is_estimate(&sketch, "or", 1));
+    CHECK(is_estimate(&sketch, "not", 1) && is_estimate(&sketch, "", 0));
+    /* neither a vertical tab nor white space outside of ASCII ends a word */
+    CHECK(add_words(&sketch, "a\vb caf\xc3\xa9\xc2\xa0x") == DS_OK);
+    CHECK(is_estimate(&sketch, "a\vb", 1) && is_estimate(&sketch, "caf\xc3\xa9\xc2\xa0x", 1));
+    CHECK(add_words(&sketch, "") == DS_OK && add_words(&sketch, " \t\n\f\r") == DS_OK);
+    CHECK(ds_frequent_items_string_update_words(&sketch, NULL, 0) == DS_OK);
+    CHECK(ds_frequent_items_string_update_words(&sketch, NULL, 1) == DS_BAD_ARGUMENT);
+    CHECK(add_words(&sketch, "to be \xff") == DS_INVALID_UTF8);
+    CHECK(ds_frequent_items_string_get_status(&sketch, &numbers) == DS_OK && numbers.total_weight == 8);
+    CHECK(numbers.num_active_items == 6 && is_estimate(&sketch, "to", 2));
+    /* the total has room for two words more */
+    CHECK(ds_frequent_items_string_update(&sketch, (const uint8_t *)"be", 2, UINT64_MAX - 10) == DS_OK);
+    CHECK(add_words(&sketch, "to new last to") == DS_WEIGHT_OVERFLOW);
+    CHECK(is_estimate(&sketch, "to", 3) && is_estimate(&sketch, "new", 1) && is_estimate(&sketch, "last", 0));
+    CHECK(ds_frequent_items_string_get_status(&sketch, &numbers) == DS_OK && numbers.total_weight == UINT64_MAX);
+    ds_free(&sketch);
+}
+
 /* Four strings in one buffer after a byte that is in none: a word, a letter with a mark, the empty string, and two symbols. */
 static const uint8_t MANY[] = "-applea\xcc\x88\xe2\x82\xac!";
 static const uint64_t ENDS[5] = {1, 6, 9, 9, 13};
@@ -731,6 +773,7 @@ int main(void)
     frequent_numbers();
     frequent_signed_numbers();
     frequent_texts();
+    words_of_strings();
     many_texts();
     weights();
     rows_of_texts();

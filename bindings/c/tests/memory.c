@@ -84,23 +84,13 @@ static int adds_texts(ds_sketch *handle, const uint64_t *weights)
     return answer == DS_OK && weight_of(handle) == start + whole;
 }
 
-/* Reads the bounds of all strings, and returns whether all enclose the weight 4. If an allocation fails for a string, only those
- * before it must have been written. A second call writes all. */
+/* Returns whether all strings get their bounds. The call does not allocate, so it succeeds whichever allocation fails. */
 static int tells_of_texts(ds_sketch *handle)
 {
-    const ds_frequent_items_bounds untold = {0, 1, 0};
-    for (size_t i = 0; i < 64; i++) bounds[i] = untold;
-    int32_t answer = ds_frequent_items_string_bounds_all(handle, letters, sizeof letters, ends, 65, bounds, 64);
-    if (answer == DS_NO_MEMORY) {
-        size_t told = 0;
-        while (told < 64 && memcmp(&bounds[told], &untold, sizeof untold) != 0) told++;
-        for (size_t i = told; i < 64; i++)
-            if (memcmp(&bounds[i], &untold, sizeof untold) != 0) return 0;
-        answer = ds_frequent_items_string_bounds_all(handle, letters, sizeof letters, ends, 65, bounds, 64);
-    }
+    if (ds_frequent_items_string_bounds_all(handle, letters, sizeof letters, ends, 65, bounds, 64) != DS_OK) return 0;
     for (size_t i = 0; i < 64; i++)
         if (bounds[i].upper_bound < 4 || bounds[i].lower_bound > 4) return 0;
-    return answer == DS_OK;
+    return 1;
 }
 
 int main(void)

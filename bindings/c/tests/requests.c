@@ -325,11 +325,19 @@ static void frequent_texts(void)
 {
     ds_sketch sketch = DS_NONE, empty = DS_NONE;
     ds_frequent_items_status numbers;
+    ds_frequent_items_bounds bounds[2];
     uint8_t image[256];
     size_t written;
     DO(ds_frequent_items_string_new(&sketch, 64, 48));
     DO(ds_frequent_items_string_new(&empty, 64, 48));
-    DO(ds_frequent_items_string_update(&sketch, TEXTS, 5, 1));
+    /* a string is copied only if it is not tracked */
+    FREE(DS_OK, ds_frequent_items_string_update(&sketch, TEXTS, 5, 0));
+    ROW(1, 0, DS_OK, ds_frequent_items_string_update(&sketch, TEXTS, 5, 1));
+    FREE(DS_OK, ds_frequent_items_string_update(&sketch, TEXTS, 5, 1));
+    FREE(DS_WEIGHT_OVERFLOW, ds_frequent_items_string_update(&sketch, TEXTS, 2, UINT64_MAX));
+    FREE(DS_OK, ds_frequent_items_string_bounds(&sketch, TEXTS, 5, bounds));
+    FREE(DS_OK, ds_frequent_items_string_bounds(&sketch, TEXTS, 2, bounds));
+    FREE(DS_OK, ds_frequent_items_string_bounds_all(&sketch, TEXTS, 5, OFFSETS, 3, bounds, 2));
     FREE(DS_OK, ds_frequent_items_string_get_status(&sketch, &numbers));
     FREE(DS_OK, ds_memory_bytes(&sketch, &written));
     FREE(DS_OK, ds_frequent_items_string_merge(&sketch, &empty));

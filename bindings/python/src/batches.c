@@ -9,6 +9,9 @@
 #define LISTENS 100000000
 #define QUICK 1000000
 
+/* The longest time for which the chunks of an iterator keep the interpreter's lock: Python's own switch interval. */
+#define TURN 5000000
+
 static uint64_t now(void)
 {
     struct timespec time;
@@ -36,7 +39,10 @@ static void batch_unlock(Batch *batch)
 /* Begins work on all items, or on the next chunk of an iterator. */
 static bool batch_begin(Batch *batch, const Items *items)
 {
-    bool keeps_lock = items->held != NULL && batch->took < QUICK;
+    uint64_t time = items->held != NULL ? now() : 0;
+    if (batch->turn == 0)
+        batch->turn = time;
+    bool keeps_lock = items->held != NULL && batch->took < QUICK && time - batch->turn < TURN;
     if (keeps_lock ? !sketch_ready(batch->self) : !batch_lock(batch))
         return false;
     batch->began = items->held != NULL ? now() : 0;
@@ -49,8 +55,10 @@ static void batch_end(Batch *batch)
 {
     if (batch->began > 0)
         batch->took = now() - batch->began;
-    if (batch->thread != NULL)
+    if (batch->thread != NULL) {
         PyEval_RestoreThread(batch->thread);
+        batch->turn = 0;
+    }
     batch->thread = NULL;
     batch_unlock(batch);
 }
@@ -91,8 +99,7 @@ bool batch_goes_on(Batch *batch)
     return goes_on;
 }
 
-/* Adds a note to the error that is set: the number of items that the call has counted or inserted. */
-static void note(size_t done)
+void note_taken(size_t done)
 {
     PyObject *type, *error, *trace;
     PyErr_Fetch(&type, &error, &trace);
@@ -122,7 +129,7 @@ static void set_error(int32_t answer, const Batch *batch, const Items *items)
     else if (answer != STOPPED)
         refuse(answer);
     if (batch->done > 0 && answer != DS_NO_MEMORY)
-        note(batch->done);
+        note_taken(batch->done);
 }
 
 PyObject *update_all(Sketch *self, Items *items, Weights *weights, items_check check, update_work work)

@@ -352,6 +352,7 @@ static PyGetSetDef frequent_fields[] = {
 
 static PyMethodDef frequent_methods[] = {
     {"update", (PyCFunction)(void (*)(void))frequent_update, METH_FASTCALL, frequent_update_doc},
+    {"update_words", frequent_update_words, METH_O, frequent_update_words_doc},
     {"bounds", frequent_bounds, METH_O, frequent_bounds_doc},
     {"estimate", frequent_estimate, METH_O, frequent_estimate_doc},
     {"rows", (PyCFunction)(void (*)(void))frequent_rows, METH_VARARGS | METH_KEYWORDS, rows_doc},

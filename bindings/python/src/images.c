@@ -7,8 +7,7 @@
  * does not count. */
 #define LONGEST_PREAMBLE 32
 
-/* Returns whether the bytes cannot change: those of a `bytes` object, or of a memoryview of one. */
-static bool is_constant(const Py_buffer *view)
+bool is_constant(const Py_buffer *view)
 {
     PyObject *owner = view->obj;
     if (owner != NULL && PyMemoryView_Check(owner))

@@ -93,6 +93,9 @@ PyObject *sketch_exit(PyObject *self, PyObject *unused);
 
 /* --- images.c --- */
 
+/* Returns whether the bytes cannot change: those of a `bytes` object, or of a memoryview of one. */
+bool is_constant(const Py_buffer *view);
+
 /* An image that a call reads: the bytes of an object, or a copy of them if another thread may change them. */
 typedef struct {
     const uint8_t *bytes;
@@ -255,6 +258,7 @@ typedef struct {
     bool locked; /* whether it has the sketch's lock */
     uint64_t due; /* the time of the next check for Ctrl-C, in nanoseconds, or 0 */
     uint64_t began, took; /* start and duration of an iterator's chunk, in nanoseconds */
+    uint64_t turn; /* the time from which its chunks keep the interpreter's lock, or 0 */
     size_t done; /* the number of items that were counted or inserted */
 } Batch;
 
@@ -264,6 +268,9 @@ typedef struct {
 
 /* Checks for Ctrl-C between two chunks, from time to time. Returns false, with an error set, if the batch ends. */
 bool batch_goes_on(Batch *batch);
+
+/* Adds a note to the error that is set: the number of items that the call has counted or inserted. */
+void note_taken(size_t done);
 
 typedef bool (*items_check)(const Sketch *self, const Items *items);
 typedef int32_t (*update_work)(Batch *batch, const Items *items, const Weights *weights);
@@ -310,6 +317,11 @@ extern const char frequent_estimate_doc[];
 PyObject *frequent_update(PyObject *object, PyObject *const *args, Py_ssize_t count);
 PyObject *frequent_bounds(PyObject *object, PyObject *item);
 PyObject *frequent_estimate(PyObject *object, PyObject *item);
+
+/* --- words.c --- */
+
+extern const char frequent_update_words_doc[];
+PyObject *frequent_update_words(PyObject *object, PyObject *given);
 
 /* --- frequent_texts.c --- */
 

@@ -154,7 +154,7 @@ class OthersRun(unittest.TestCase):
     def test_lists_of_rows(self):
         """A query of another thread waits while the library uses the sketch. It runs while the list of rows is created."""
         for heavy, item in ((frequent(), 7), (frequent(WORDS, item=str), "word 7")):
-            self.assertTrue(any(answers_within(heavy, item, 0.001) > 1 for _ in range(TRIES)))
+            self.assertTrue(any(answers_within(heavy, item, 0.001) > 1 for _ in range(20 * TRIES)))
 
     def test_rows_of_strings_are_sorted(self):
         """Strings with long common prefixes are sorted slowly, and meanwhile many queries run."""
@@ -523,7 +523,7 @@ class Closed(unittest.TestCase):
             kind = type(whole)
             calls = {name: (lambda whole=whole, name=name: getattr(whole, name)) for name in FIELDS[kind]}
             takes = {"decay": [1, 2]}
-            takes |= dict.fromkeys(("insert", "contains", "update", "estimate", "upper_bound", "bounds"), [item])
+            takes |= dict.fromkeys(("insert", "contains", "update", "estimate", "upper_bound", "bounds", "update_words"), [item])
             names = {name for name in vars(kind) if not name.startswith("_")} - OF_A_CLASS
             self.assertLessEqual(set(FIELDS[kind]), names)
             for name in names - set(FIELDS[kind]):

@@ -1,4 +1,4 @@
--- Places counted round the end.
+-- Indices counted round the end.
 use Rattle.std.proofs.Common.{◌≡◌, ℕ, ◌+◌, ◌-◌, ◌%◌, ◌<◌, ◌≤◌, ◌⊎◌, inl, inr, ◌∙◌, arith}
 use Rattle.std.proofs.Math.Nat.{mod-eq_of_lt, mod-eq-sub-mod}
 use Rattle.std.proofs.lemmas.Bool.{cases_lt}
@@ -9,7 +9,7 @@ pub record Apart (n h p d : ℕ) : Type 0 where
   pub below : d < n
   pub sum : (h + d ≡ p) ⊎ (h + d ≡ p + n)
 
--- a is the place j places on from p
+-- a is the index j indices on from p
 pub record Ahead (n p j a : ℕ) : Type 0 where
   pub below : a < n
   pub sum : (a ≡ p + j) ⊎ (a + n ≡ p + j)
@@ -45,7 +45,7 @@ back-distance n p k l m = let d = distance_is n k p m l in let a = ahead_is n p 
 pub distance-between : (n h k p : ℕ) → h < n → k < n → p < n → distance n h k < distance n h p → distance n k p ≤ distance n h p
 distance-between n h k p a b c l = let d = distance_is n h k a b in let e = distance_is n h p a c in let f = distance_is n k p b c in omega arith
 
--- a place f that is m back from p, where h is as far back or further, and k is nearer
+-- a index f that is m back from p, where h is as far back or further, and k is nearer
 pub passes : (n h k p m : ℕ) → h < n → k < n → p < n → distance n k p < m → m ≤ distance n h p → (distance n h p - m ≤ distance n h k) × (ahead n h (distance n h p - m) ≡ ahead n p (n - m))
 passes n h k p m a b c l g =
     let d = distance_is n h k a b in let e = distance_is n h p a c in let f = distance_is n k p b c in
@@ -54,7 +54,7 @@ passes n h k p m a b c l g =
 pub distance-same : (n p : ℕ) → p < n → distance n p p ≡ 0
 distance-same n p l = let d = distance_is n p p l l in omega arith
 
--- a place k that is no more than j back from the place j places on from h
+-- a index k that is no more than j back from the index j indices on from h
 pub ahead-back : (n h k j : ℕ) → h < n → k < n → j < n → distance n k (ahead n h j) ≤ j → ahead n h (j - distance n k (ahead n h j)) ≡ k
 ahead-back n h k j l m b near =
     let a = ahead_is n h j l (omega arith) in

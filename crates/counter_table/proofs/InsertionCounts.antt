@@ -9,8 +9,9 @@ use Rattle.std.proofs.lemmas.List.{take-append-le, take_all}
 use Rattle.std.proofs.lemmas.List.Sorted.{length_permutation}
 use Rattle.counter_table.specs.declared.slot.Slot.{Slot}
 use Rattle.counter_table.specs.Fingerprints.{AreFingerprints}
+use Rattle.counter_table.specs.Keys.{item_by_key, tracked_by_key}
 use Rattle.counter_table.specs.Slots.{entries_of, table_of, IsCounted, IsSlots, IsTableSize}
-use Rattle.counter_table.specs.Tables.{is_tracked, put, Table}
+use Rattle.counter_table.specs.Tables.{is_tracked_by_key, is_tracked, put, Table}
 use Rattle.counter_table.proofs.InsertionPuts.{length_tracked, length_new}
 
 module _ {T : Type 0} (eq : T → T → Bool) (input : T → List (List ℕ)) (old lent new : List (Slot T)) (fingerprints bytes : List ℕ) (active : ℕ) (x : T) (w : ℕ) (was : IsCounted eq input old fingerprints active) (same : lent ≡ old) (ok : IsSlots eq input new) (are : AreFingerprints input new bytes) where
@@ -30,12 +31,15 @@ module _ {T : Type 0} (eq : T → T → Bool) (input : T → List (List ℕ)) (o
       let long = ap (λ l. length (entries_of l)) same in
       record { slots_ok = ok; fingerprints_ok = are; active_is = omega (arith, was.active_is, long, more, length_permutation _ _ perm) }
 
-  -- got more where it was there
-  pub counted_adjusted : (b : Bool) → b ≡ is_tracked eq (entries_of lent) x → (b ≡ true → IsPermutation (put eq (entries_of lent) x w) (entries_of new)) → (b ≡ false → new ≡ lent) → IsCounted eq input new bytes active
-  counted_adjusted b tracked present absent = elim (cases_Bool b) [
-    | inl t ↦ counted_kept (sym tracked ∙ t) (present t)
-    | inr f ↦ record { slots_ok = ok; fingerprints_ok = are; active_is = was.active_is ∙ ap (λ l. length (entries_of l)) (sym (absent f ∙ same)) }
-  ]
+-- one that is named got more where it was there
+pub counted_adjusted : {T : Type 0} {eq : T → T → Bool} {input : T → List (List ℕ)} {names : T → Bool} → ((x y : T) → IsTrue (names x) → names y ≡ eq x y) → (old lent new : List (Slot T)) (marks bytes : List ℕ) (active w : ℕ) → IsCounted eq input old marks active → lent ≡ old → IsSlots eq input new → AreFingerprints input new bytes
+    → (b : Bool) → b ≡ is_tracked_by_key names (entries_of lent) → (b ≡ true → (x : T) → IsTrue (names x) → IsPermutation (put eq (entries_of lent) x w) (entries_of new)) → (b ≡ false → new ≡ lent) → IsCounted eq input new bytes active
+counted_adjusted {eq = eq} {input} {names} alike old lent new marks bytes active w was same ok are b tracked present absent = elim (cases_Bool b) [
+  | inl t ↦
+      let x = item_by_key names (entries_of lent) (sym tracked ∙ t) in
+      counted_kept eq input old lent new marks bytes active x.0 w was same ok are (tracked_by_key names alike (entries_of lent) x.0 x.1 ∙ (sym tracked ∙ t)) (present t x.0 x.1)
+  | inr f ↦ record { slots_ok = ok; fingerprints_ok = are; active_is = was.active_is ∙ ap (λ l. length (entries_of l)) (sym (absent f ∙ same)) }
+]
 
 pub table_size_of : (n m : ℕ) → n ≡ m → IsTrue (is_power_of_two m) → m ≤ 2 ^ 30 → IsTableSize n
 table_size_of n m e power limit = let P : ℕ → Type 0 = λ k. IsTableSize k in subst P (sym e) (record { power = power; limit = limit })

@@ -15,11 +15,11 @@ use Rattle.counter_table.specs.declared.slot.Slot.{Slot}
 use Rattle.counter_table.specs.declared.slot.Slot.TheVariants.{Free, Taken}
 use Rattle.counter_table.specs.Homes.{home_in, home_of, ahead, distance}
 use Rattle.counter_table.specs.Slots.{Held, taken, entries_of, slot_at, is_taken, AddsAt, IsPlaced, IsSlots}
-use Rattle.counter_table.specs.Probes.{IsGap, IsProbe}
+use Rattle.counter_table.specs.Probes.{IsFreeSlot, IsProbe}
 use Rattle.counter_table.proofs.ArithmeticRing.{ahead-distance, distance-ahead}
 use Rattle.counter_table.proofs.LookupHomes.{some_size, home_of-below}
 use Rattle.counter_table.proofs.LookupReach.{is_taken-below, slot_at-set_same, slot_at-set_other}
-use Rattle.counter_table.proofs.LookupProbes.{differs, gap_below, lookup_slot}
+use Rattle.counter_table.proofs.LookupProbes.{differs, free_slot_below, lookup_slot}
 
 -- ---- the entries
 put_hit : {T : Type 0} {eq : T → T → Bool} → IsEquivalence eq → (slots : List (Slot T)) (x : T) (w k : ℕ) (s : Held T) → IsDistinct eq (keys_of (entries_of slots)) → slot_at slots k ≡ Some s → eq x s.item ≡ true →
@@ -45,7 +45,7 @@ put_miss (Free ∷ os) (suc k) s l f = put_miss os k s (omega arith) f
 put_miss (Taken d n y ∷ os) zero s l f = absurd (false≢true (sym f))
 put_miss (Taken d n y ∷ os) (suc k) s l f = IsPermutation-cons (y, n) _ _ (put_miss os k s (omega arith) f)
 
--- ---- the places
+-- ---- the indices
 -- what is taken stays so
 taken_still : {T : Type 0} (slots : List (Slot T)) (k j : ℕ) (s : Held T) → is_taken slots j ≡ true → is_taken (set slots k (taken s)) j ≡ true
 taken_still slots k j s t = elim (cases_eq j k) [
@@ -100,7 +100,7 @@ wrote_hit {T} {eq} laws input slots ok x w k s e t new is =
     let long = length-set slots k (taken v) in
     let home : T → ℕ = home_in input n in
     let put_is = put_hit laws slots x w k s ok.distinct e t in
-    let there : is_tracked eq (entries_of slots) x ≡ true = ap is_some (lookup_slot laws slots x k s ok.distinct e t) in
+    let there : is_tracked eq (entries_of slots) x ≡ true = ap is_some (lookup_slot (eq x) (laws.congr x) slots k s ok.distinct e t) in
     let P : ℕ → Type 0 = λ m. IsPlaced (home_in input m) (set slots k (taken v)) in
     let at : Stands home slots k v = record {
       below = is_taken-below slots k (ap is_some e);
@@ -118,27 +118,32 @@ wrote_hit {T} {eq} laws input slots ok x w k s e t new is =
       entries = rw put_is (IsPermutation-refl _);
     })
 
--- and so by an amount that is added where a look-up found the item
-pub wrote_found : {T : Type 0} {eq : T → T → Bool} → IsEquivalence eq → {input : T → List (List ℕ)} {slots : List (Slot T)} → IsSlots eq input slots → {x : T} {h place c looked : ℕ} {found : Option ℕ}
-    → IsProbe eq h slots x place found looked → found ≡ Some c → (w : ℕ) {new : List (Slot T)} → AddsAt slots place w new → Wrote eq input slots x w new
-wrote_found laws {input} {slots} ok {x} {place = place} p hit w {new} adds =
+-- and so by an amount that is added where a look-up found it, whichever item is named
+pub wrote_by_key : {T : Type 0} {eq : T → T → Bool} → IsEquivalence eq → {input : T → List (List ℕ)} {slots : List (Slot T)} → IsSlots eq input slots → {names : T → Bool} → ((x y : T) → IsTrue (names x) → names y ≡ eq x y) → {h index c probed : ℕ} {found : Option ℕ}
+    → IsProbe names h slots index found probed → found ≡ Some c → (w : ℕ) {new : List (Slot T)} → AddsAt slots index w new → (x : T) → IsTrue (names x) → Wrote eq input slots x w new
+wrote_by_key laws {input} {slots} ok alike {index = index} p hit w {new} adds x is =
     let here = p.here _ hit in
-    wrote_hit laws input slots ok x w place here.0 here.1 here.3 new (adds here.0 here.1)
+    wrote_hit laws input slots ok x w index here.0 here.1 (sym (alike x here.0.item is) ∙ here.3) new (adds here.0 here.1)
+
+-- and so where it found the item
+pub wrote_found : {T : Type 0} {eq : T → T → Bool} → IsEquivalence eq → {input : T → List (List ℕ)} {slots : List (Slot T)} → IsSlots eq input slots → {x : T} {h index c probed : ℕ} {found : Option ℕ}
+    → IsProbe (eq x) h slots index found probed → found ≡ Some c → (w : ℕ) {new : List (Slot T)} → AddsAt slots index w new → Wrote eq input slots x w new
+wrote_found {eq = eq} laws ok {x} p hit w adds = wrote_by_key laws ok (laws.congr x) p hit w adds x (laws.refl x)
 
 -- to the first free slot
-pub wrote_gap : {T : Type 0} {eq : T → T → Bool} → IsEquivalence eq → (input : T → List (List ℕ)) (slots : List (Slot T)) → IsSlots eq input slots →
-    (x : T) (w k looked : ℕ) → is_tracked eq (entries_of slots) x ≡ false → length (entries_of slots) + 1 < length slots → IsGap (home_in input (length slots) x) slots k looked → (new : List (Slot T)) → new ≡ set slots k (Taken looked w x) → Wrote eq input slots x w new
-wrote_gap {T} {eq} laws input slots ok x w k looked absent room p new is =
+pub wrote_free_slot : {T : Type 0} {eq : T → T → Bool} → IsEquivalence eq → (input : T → List (List ℕ)) (slots : List (Slot T)) → IsSlots eq input slots →
+    (x : T) (w k probed : ℕ) → is_tracked eq (entries_of slots) x ≡ false → length (entries_of slots) + 1 < length slots → IsFreeSlot (home_in input (length slots) x) slots k probed → (new : List (Slot T)) → new ≡ set slots k (Taken probed w x) → Wrote eq input slots x w new
+wrote_free_slot {T} {eq} laws input slots ok x w k probed absent room p new is =
     let n = length slots in
-    let v : Held T = record { item = x; count = w; drift = looked } in
+    let v : Held T = record { item = x; count = w; drift = probed } in
     let long = length-set slots k (taken v) in
     let home : T → ℕ = home_in input n in
     let h = home x in
     let home_below : h < n = home_of-below _ n (some_size n ok.size) in
-    let below = gap_below home_below p in
+    let below = free_slot_below home_below p in
     let put_is = put_new eq (entries_of slots) x w absent in
     let moved : IsPermutation (put eq (entries_of slots) x w) (entries_of (set slots k (taken v))) = rw put_is (put_miss slots k v below p.free) in
-    let far : distance n h k ≡ looked - 1 = ap (distance n h) p.place_is ∙ distance-ahead n h (looked - 1) home_below (omega (arith, p.short, p.some)) in
+    let far : distance n h k ≡ probed - 1 = ap (distance n h) p.index_is ∙ distance-ahead n h (probed - 1) home_below (omega (arith, p.short, p.some)) in
     let P : ℕ → Type 0 = λ m. IsPlaced (home_in input m) (set slots k (taken v)) in
     let at : Stands home slots k v = record {
       below = below;

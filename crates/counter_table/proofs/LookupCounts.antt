@@ -10,5 +10,5 @@ use Rattle.counter_table.proofs.LookupProbes.{answers}
 
 -- the count that a look-up found
 pub count_found : {T : Type 0} {eq : T → T → Bool} → IsEquivalence eq → {input : T → List (List ℕ)} → ((x y : T) → IsTrue (eq x y) → input x ≡ input y) → (slots : List (Slot T)) → IsSlots eq input slots →
-    (x : T) (place looked : ℕ) (found : Option ℕ) → IsProbe eq (home_in input (length slots) x) slots x place found looked → unwrap_or found 0 ≡ count_of eq (entries_of slots) x
-count_found laws respects slots ok x place looked found p = ap (λ o. unwrap_or o 0) (sym (answers laws respects slots ok x place found looked p).looked_up)
+    (x : T) (index probed : ℕ) (found : Option ℕ) → IsProbe (eq x) (home_in input (length slots) x) slots index found probed → unwrap_or found 0 ≡ count_of eq (entries_of slots) x
+count_found laws respects slots ok x index probed found p = ap (λ o. unwrap_or o 0) (sym (answers laws respects slots ok x index found probed p).looked_up)

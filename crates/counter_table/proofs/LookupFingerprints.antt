@@ -23,8 +23,8 @@ unfolding hash_of home_of
 home_remainder bytes n = refl
 
 -- the home is the hash modulo the size
-pub home_is : {T : Type 0} (input : T → List (List ℕ)) (x : T) (n hash place : ℕ) → hash ≡ hash_in input x → place ≡ hash % n → place ≡ home_in input n x
-home_is input x n hash place h e = e ∙ (ap (λ z. z % n) h ∙ home_remainder (fed_bytes input x) n)
+pub home_is : {T : Type 0} (input : T → List (List ℕ)) (x : T) (n hash index : ℕ) → hash ≡ hash_in input x → index ≡ hash % n → index ≡ home_in input n x
+home_is input x n hash index h e = e ∙ (ap (λ z. z % n) h ∙ home_remainder (fed_bytes input x) n)
 
 some_fingerprint : (hash : ℕ) → 0 < fingerprint_of hash
 unfolding fingerprint_of
@@ -35,9 +35,9 @@ pub hash_alike : {T : Type 0} {eq : T → T → Bool} (input : T → List (List 
 hash_alike input respects x y t = ap (λ f. hash_of (concat f)) (respects x y t)
 
 -- ---- a slot
-free_slot : {T : Type 0} (input : T → List (List ℕ)) (o : Slot T) → slot_fingerprint input o ≡ 0 → is_some (held o) ≡ false
-free_slot input Free e = refl
-free_slot input (Taken d c x) e = absurd (omega (arith, e, some_fingerprint (hash_in input x)))
+is_free_slot : {T : Type 0} (input : T → List (List ℕ)) (o : Slot T) → slot_fingerprint input o ≡ 0 → is_some (held o) ≡ false
+is_free_slot input Free e = refl
+is_free_slot input (Taken d c x) e = absurd (omega (arith, e, some_fingerprint (hash_in input x)))
 
 taken_is : {T : Type 0} (input : T → List (List ℕ)) (o : Slot T) → (slot_fingerprint input o ≡ 0 → ⊥) → is_some (held o) ≡ true
 taken_is input Free n = absurd (n refl)
@@ -45,61 +45,61 @@ taken_is input (Taken d c x) n = refl
 
 module _ {T : Type 0} {input : T → List (List ℕ)} {slots : List (Slot T)} {bytes : List ℕ} (are : AreFingerprints input slots bytes) where
   -- 0 stands at the free slots alone
-  pub seen_free : (place seen : ℕ) → seen ≡ get_or bytes place 0 → seen ≡ 0 → is_taken slots place ≡ false
-  seen_free place seen is none = free_slot input (get_or slots place Free) (sym (are.each place) ∙ (sym is ∙ none))
+  pub seen_free : (index seen : ℕ) → seen ≡ get_or bytes index 0 → seen ≡ 0 → is_taken slots index ≡ false
+  seen_free index seen is none = is_free_slot input (get_or slots index Free) (sym (are.each index) ∙ (sym is ∙ none))
 
-  pub seen_taken : (place seen : ℕ) → seen ≡ get_or bytes place 0 → (seen ≡ 0 → ⊥) → is_taken slots place ≡ true
-  seen_taken place seen is some = taken_is input (get_or slots place Free) (λ e. some (is ∙ (are.each place ∙ e)))
+  pub seen_taken : (index seen : ℕ) → seen ≡ get_or bytes index 0 → (seen ≡ 0 → ⊥) → is_taken slots index ≡ true
+  seen_taken index seen is some = taken_is input (get_or slots index Free) (λ e. some (is ∙ (are.each index ∙ e)))
 
-  fingerprint_at : (place : ℕ) (s : Held T) → slot_at slots place ≡ Some s → get_or bytes place 0 ≡ fingerprint_of (hash_in input s.item)
-  fingerprint_at place s e = are.each place ∙ ap (slot_fingerprint input) (slot_from_held (get_or slots place Free) s e)
+  fingerprint_at : (index : ℕ) (s : Held T) → slot_at slots index ≡ Some s → get_or bytes index 0 ≡ fingerprint_of (hash_in input s.item)
+  fingerprint_at index s e = are.each index ∙ ap (slot_fingerprint input) (slot_from_held (get_or slots index Free) s e)
 
-  -- an item with another fingerprint is another
-  pub seen_other : {eq : T → T → Bool} → ((x y : T) → IsTrue (eq x y) → input x ≡ input y) → (x : T) (hash place seen mark : ℕ) → hash ≡ hash_in input x → mark ≡ fingerprint_of hash → seen ≡ get_or bytes place 0 → (seen ≡ mark → ⊥) → (s : Held T) → slot_at slots place ≡ Some s → eq x s.item ≡ false
-  seen_other {eq} respects x hash place seen mark h m is other s e = elim (cases_Bool (eq x s.item)) [
+  -- a key with another fingerprint names another
+  pub seen_other : {names : T → Bool} {fed : List (List ℕ)} → ((x : T) → IsTrue (names x) → fed ≡ input x) → (hash index seen mark : ℕ) → hash ≡ hash_of (concat fed) → mark ≡ fingerprint_of hash → seen ≡ get_or bytes index 0 → (seen ≡ mark → ⊥) → (s : Held T) → slot_at slots index ≡ Some s → names s.item ≡ false
+  seen_other {names} {fed} respects hash index seen mark h m is other s e = elim (cases_Bool (names s.item)) [
     | inl same ↦
-        let alike : hash_in input x ≡ hash_in input s.item = hash_alike input respects x s.item same in
-        absurd (other (is ∙ (fingerprint_at place s e ∙ (ap fingerprint_of (sym alike) ∙ (ap fingerprint_of (sym h) ∙ sym m)))))
+        let alike : hash_of (concat fed) ≡ hash_in input s.item = ap (λ f. hash_of (concat f)) (respects s.item same) in
+        absurd (other (is ∙ (fingerprint_at index s e ∙ (ap fingerprint_of (sym alike) ∙ (ap fingerprint_of (sym h) ∙ sym m)))))
     | inr f ↦ f
   ]
 
   -- ---- a write of a slot and of its fingerprint
-  pub fingerprints_set : (place : ℕ) (o : Slot T) (b : ℕ) (new : List (Slot T)) (news : List ℕ) → place < length slots → b ≡ slot_fingerprint input o → new ≡ set slots place o → news ≡ set bytes place b → AreFingerprints input new news
-  fingerprints_set place o b new news below mark made marked = rw (made, marked) (record {
-    long = length-set bytes place b ∙ (are.long ∙ sym (length-set slots place o));
-    each = λ k. elim (cases_eq k place) [
+  pub fingerprints_set : (index : ℕ) (o : Slot T) (b : ℕ) (new : List (Slot T)) (news : List ℕ) → index < length slots → b ≡ slot_fingerprint input o → new ≡ set slots index o → news ≡ set bytes index b → AreFingerprints input new news
+  fingerprints_set index o b new news below mark made marked = rw (made, marked) (record {
+    long = length-set bytes index b ∙ (are.long ∙ sym (length-set slots index o));
+    each = λ k. elim (cases_eq k index) [
       | inl same ↦
-          let left : get_or (set bytes place b) place 0 ≡ b = get_or-set_same bytes place b 0 (omega (arith, are.long, below)) in
-          let right : get_or (set slots place o) place Free ≡ o = get_or-set_same slots place o Free below in
-          ap (λ j. get_or (set bytes place b) j 0) same ∙ (left ∙ (mark ∙ (ap (slot_fingerprint input) (sym right) ∙ ap (λ j. slot_fingerprint input (get_or (set slots place o) j Free)) (sym same))))
-      | inr other ↦ get_or-set_other bytes place k b 0 other ∙ (are.each k ∙ ap (slot_fingerprint input) (sym (get_or-set_other slots place k o Free other)))
+          let left : get_or (set bytes index b) index 0 ≡ b = get_or-set_same bytes index b 0 (omega (arith, are.long, below)) in
+          let right : get_or (set slots index o) index Free ≡ o = get_or-set_same slots index o Free below in
+          ap (λ j. get_or (set bytes index b) j 0) same ∙ (left ∙ (mark ∙ (ap (slot_fingerprint input) (sym right) ∙ ap (λ j. slot_fingerprint input (get_or (set slots index o) j Free)) (sym same))))
+      | inr other ↦ get_or-set_other bytes index k b 0 other ∙ (are.each k ∙ ap (slot_fingerprint input) (sym (get_or-set_other slots index k o Free other)))
     ];
   })
 
   -- an item's count alone
-  fingerprints_counted : (place count : ℕ) (s : Held T) (new : List (Slot T)) → slot_at slots place ≡ Some s → new ≡ set slots place (Taken s.drift count s.item) → AreFingerprints input new bytes
-  fingerprints_counted place count s new e made = rw made (record {
-    long = are.long ∙ sym (length-set slots place (Taken s.drift count s.item));
-    each = λ k. elim (cases_eq k place) [
+  fingerprints_counted : (index count : ℕ) (s : Held T) (new : List (Slot T)) → slot_at slots index ≡ Some s → new ≡ set slots index (Taken s.drift count s.item) → AreFingerprints input new bytes
+  fingerprints_counted index count s new e made = rw made (record {
+    long = are.long ∙ sym (length-set slots index (Taken s.drift count s.item));
+    each = λ k. elim (cases_eq k index) [
       | inl same ↦
           let o : Slot T = Taken s.drift count s.item in
-          let right : get_or (set slots place o) place Free ≡ o = get_or-set_same slots place o Free (is_taken-below slots place (ap is_some e)) in
-          ap (λ j. get_or bytes j 0) same ∙ (fingerprint_at place s e ∙ (ap (slot_fingerprint input) (sym right) ∙ ap (λ j. slot_fingerprint input (get_or (set slots place o) j Free)) (sym same)))
-      | inr other ↦ are.each k ∙ ap (slot_fingerprint input) (sym (get_or-set_other slots place k (Taken s.drift count s.item) Free other))
+          let right : get_or (set slots index o) index Free ≡ o = get_or-set_same slots index o Free (is_taken-below slots index (ap is_some e)) in
+          ap (λ j. get_or bytes j 0) same ∙ (fingerprint_at index s e ∙ (ap (slot_fingerprint input) (sym right) ∙ ap (λ j. slot_fingerprint input (get_or (set slots index o) j Free)) (sym same)))
+      | inr other ↦ are.each k ∙ ap (slot_fingerprint input) (sym (get_or-set_other slots index k (Taken s.drift count s.item) Free other))
     ];
   })
 
   -- which is added where a look-up found the item
-  pub fingerprints_found : {eq : T → T → Bool} {x : T} {h place c looked : ℕ} {found : Option ℕ} → IsProbe eq h slots x place found looked → found ≡ Some c → (w : ℕ) {new : List (Slot T)} → AddsAt slots place w new → AreFingerprints input new bytes
-  fingerprints_found {place = place} p hit w {new} adds = let here = p.here _ hit in fingerprints_counted place (here.0.count + w) here.0 new here.1 (adds here.0 here.1)
+  pub fingerprints_found : {names : T → Bool} {h index c probed : ℕ} {found : Option ℕ} → IsProbe names h slots index found probed → found ≡ Some c → (w : ℕ) {new : List (Slot T)} → AddsAt slots index w new → AreFingerprints input new bytes
+  fingerprints_found {index = index} p hit w {new} adds = let here = p.here _ hit in fingerprints_counted index (here.0.count + w) here.0 new here.1 (adds here.0 here.1)
 
   -- a slot is freed
-  pub fingerprints_freed : (place : ℕ) → place < length slots → AreFingerprints input (set slots place Free) (set bytes place 0)
-  fingerprints_freed place below = fingerprints_set place Free 0 (set slots place Free) (set bytes place 0) below refl refl refl
+  pub fingerprints_freed : (index : ℕ) → index < length slots → AreFingerprints input (set slots index Free) (set bytes index 0)
+  fingerprints_freed index below = fingerprints_set index Free 0 (set slots index Free) (set bytes index 0) below refl refl refl
 
   -- the byte that goes with an item
-  pub fingerprint_moves : (place : ℕ) (s : Held T) (moving looked count : ℕ) → slot_at slots place ≡ Some s → moving ≡ get_or bytes place 0 → moving ≡ slot_fingerprint input (Taken looked count s.item)
-  fingerprint_moves place s moving looked count e is = is ∙ fingerprint_at place s e
+  pub fingerprint_moves : (index : ℕ) (s : Held T) (moving probed count : ℕ) → slot_at slots index ≡ Some s → moving ≡ get_or bytes index 0 → moving ≡ slot_fingerprint input (Taken probed count s.item)
+  fingerprint_moves index s moving probed count e is = is ∙ fingerprint_at index s e
 
 -- ---- all slots
 none_held : {T : Type 0} (slots : List (Slot T)) (k : ℕ) → entries_of slots ≡ [] → get_or slots k Free ≡ Free

@@ -1,4 +1,4 @@
--- The home of an item, the place after a place, and where a look-up stands.
+-- The home of an item, the index after a index, and where a look-up stands.
 use Rattle.std.proofs.Common.{◌≡◌, ℕ, ◌+◌, ◌-◌, ◌%◌, ◌<◌, ap, sym, ◌∙◌, arith, List, bit_and}
 use Rattle.std.proofs.Math.Nat.{mod-lt}
 use Rattle.sketch_base.specs.Hashes.{fed_bytes}
@@ -45,23 +45,23 @@ ahead-next n h j l m =
 pub ahead-zero : (n h : ℕ) → h < n → ahead n h 0 ≡ h
 ahead-zero n h l = let a = ahead_is n h 0 l (omega arith) in omega arith
 
--- ---- a look-up that has looked at so many places from the home of x on
-pub record Stands {T : Type 0} (input : T → List (List ℕ)) (x : T) (n place looked : ℕ) : Type 0 where
-  pub at_place : place ≡ ahead n (home_in input n x) looked
-  pub below : looked < n
+-- ---- a look-up that has looked at so many indices from the home of x on
+pub record Stands {T : Type 0} (input : T → List (List ℕ)) (x : T) (n index probed : ℕ) : Type 0 where
+  pub at_index : index ≡ ahead n (home_in input n x) probed
+  pub below : probed < n
 
 module _ {T : Type 0} (input : T → List (List ℕ)) (x : T) (n : ℕ) (size : IsTableSize n) where
   home_below : home_in input n x < n
   home_below = home_of-below (fed_bytes input x) n (some_size n size)
 
   -- it starts at the home
-  pub stands_first : (place : ℕ) → place ≡ home_in input n x → Stands input x n place 0
-  stands_first place is = record { at_place = is ∙ sym (ahead-zero n (home_in input n x) home_below); below = some_size n size }
+  pub stands_first : (index : ℕ) → index ≡ home_in input n x → Stands input x n index 0
+  stands_first index is = record { at_index = is ∙ sym (ahead-zero n (home_in input n x) home_below); below = some_size n size }
 
-  -- its place is one of the table's
-  pub stands_within : (place looked : ℕ) → Stands input x n place looked → place < n
-  stands_within place looked s = let a = ahead_is n (home_in input n x) looked home_below (omega (arith, s.below)) in omega (arith, s.at_place, a.below)
+  -- its index is one of the table's
+  pub stands_within : (index probed : ℕ) → Stands input x n index probed → index < n
+  stands_within index probed s = let a = ahead_is n (home_in input n x) probed home_below (omega (arith, s.below)) in omega (arith, s.at_index, a.below)
 
   -- and goes on to the next
-  pub stands_next : (place next looked : ℕ) → Stands input x n place looked → next ≡ ahead n place 1 → looked + 1 < n → Stands input x n next (looked + 1)
-  stands_next place next looked s step below = record { at_place = step ∙ ap (λ p. ahead n p 1) s.at_place ∙ ahead-next n (home_in input n x) looked home_below below; below = below }
+  pub stands_next : (index next probed : ℕ) → Stands input x n index probed → next ≡ ahead n index 1 → probed + 1 < n → Stands input x n next (probed + 1)
+  stands_next index next probed s step below = record { at_index = step ∙ ap (λ p. ahead n p 1) s.at_index ∙ ahead-next n (home_in input n x) probed home_below below; below = below }

@@ -1,4 +1,4 @@
--- What a look-up's places say of the map.
+-- What a look-up's indices say of the map.
 use Rattle.std.proofs.Common.{◌≡◌, ℕ, zero, suc, ◌+◌, ◌-◌, ◌<◌, ◌≤◌, Bool, true, false, inl, inr, refl, ap, sym, ◌∙◌, subst, arith, List, [], ◌∷◌, length, Option, Some, None, is_some, unwrap_or, ◌^◌}
 use Rattle.std.specs.Cmp.{IsEquivalence}
 use Rattle.std.specs.List.{IsDistinct, AllByRecursion}
@@ -10,21 +10,22 @@ use Rattle.counter_table.specs.declared.slot.Slot.TheVariants.{Free, Taken}
 use Rattle.counter_table.specs.Homes.{home_in, ahead, distance, IsReach, IsShortOfReach}
 use Rattle.std.specs.Prelude.{IsTrue}
 use Rattle.sketch_base.specs.Hashes.{fed_bytes}
-use Rattle.counter_table.specs.Tables.{Table, count_of, is_tracked}
+use Rattle.counter_table.specs.Tables.{Table, is_tracked}
 use Rattle.std.specs.List.{concat}
 use Rattle.counter_table.specs.Homes.{home_of}
 use Rattle.counter_table.proofs.LookupHomes.{some_size, home_of-below}
+use Rattle.counter_table.specs.Keys.{IsKey}
 use Rattle.counter_table.specs.Slots.{Held, entries_of, table_of, slot_at, is_taken, CountHasRoom, IsPlaced, IsSlots}
-use Rattle.counter_table.specs.Probes.{IsPassed, IsProbe, IsGap, IsCountAt}
+use Rattle.counter_table.specs.Probes.{IsPassed, IsProbe, IsFreeSlot, IsCountAt}
 use Rattle.counter_table.proofs.ArithmeticRing.{ahead_is, ahead-distance}
 use Rattle.counter_table.proofs.LookupReach.{HasFree, free_from_few, is_taken-below, taken_slot, taken_few, taken_within, IsReach-from_free, reach_above}
 
 -- ---- a look-up goes on
-pub IsPassed-none : {T : Type 0} (eq : T → T → Bool) (h : ℕ) (slots : List (Slot T)) (x : T) → IsPassed eq h slots x 0
-IsPassed-none eq h slots x = record { taken = λ j l. absurd (omega arith); apart = λ j s l. absurd (omega arith) }
+pub IsPassed-none : {T : Type 0} (names : T → Bool) (h : ℕ) (slots : List (Slot T)) → IsPassed names h slots 0
+IsPassed-none names h slots = record { taken = λ j l. absurd (omega arith); apart = λ j s l. absurd (omega arith) }
 
-pub IsPassed-more : {T : Type 0} {eq : T → T → Bool} {h : ℕ} {slots : List (Slot T)} {x : T} {n : ℕ} → IsPassed eq h slots x n → (s : Held T) → slot_at slots (ahead (length slots) h n) ≡ Some s → eq x s.item ≡ false → IsPassed eq h slots x (n + 1)
-IsPassed-more {T} {eq} {h} {slots} {x} {n} p s e f = record {
+pub IsPassed-more : {T : Type 0} {names : T → Bool} {h : ℕ} {slots : List (Slot T)} {n : ℕ} → IsPassed names h slots n → (s : Held T) → slot_at slots (ahead (length slots) h n) ≡ Some s → names s.item ≡ false → IsPassed names h slots (n + 1)
+IsPassed-more {T} {names} {h} {slots} {n} p s e f = record {
   taken = λ j l. elim (cases_eq j n) [
     | inl same ↦ ap (λ i. is_taken slots (ahead (length slots) h i)) same ∙ ap is_some e
     | inr other ↦ p.taken j (omega arith)
@@ -33,58 +34,58 @@ IsPassed-more {T} {eq} {h} {slots} {x} {n} p s e f = record {
     | inl same ↦
         let both : Some t ≡ Some s = sym at ∙ ap (λ i. slot_at slots (ahead (length slots) h i)) same ∙ e in
         let one : t ≡ s = cc in
-        ap (λ r. eq x r.item) one ∙ f
+        ap (λ r. names r.item) one ∙ f
     | inr other ↦ p.apart j t (omega arith) at
   ];
 }
 
-pub IsPassed-below : {T : Type 0} {eq : T → T → Bool} {h : ℕ} {slots : List (Slot T)} {x : T} {n : ℕ} → h < length slots → HasFree slots → IsPassed eq h slots x n → n < length slots
-IsPassed-below {T} {eq} {h} {slots} {x} {n} l gap p = taken_few slots h n l gap p.taken
+pub IsPassed-below : {T : Type 0} {names : T → Bool} {h : ℕ} {slots : List (Slot T)} {n : ℕ} → h < length slots → HasFree slots → IsPassed names h slots n → n < length slots
+IsPassed-below {T} {names} {h} {slots} {n} l free_slot p = taken_few slots h n l free_slot p.taken
 
 not_some : (o : Option ℕ) → is_some o ≡ false → o ≡ None
 not_some None h = refl
 not_some (Some v) h = absurd (false≢true (sym h))
 
--- a look-up goes on, where a taken slot does not hold x
-pub IsPassed-on : {T : Type 0} {eq : T → T → Bool} {h : ℕ} {slots : List (Slot T)} {x : T} {n : ℕ} → IsPassed eq h slots x n → (place : ℕ) (found : Option ℕ) → place ≡ ahead (length slots) h n → is_taken slots place ≡ true → IsCountAt eq slots x place found → is_some found ≡ false → IsPassed eq h slots x (n + 1)
-IsPassed-on {T} {eq} {h} {slots} {x} {n} p place found at some count none =
-    let s = taken_slot (slot_at slots place) some in
+-- a look-up goes on, where a taken slot does not hold a named item
+pub IsPassed-on : {T : Type 0} {names : T → Bool} {h : ℕ} {slots : List (Slot T)} {n : ℕ} → IsPassed names h slots n → (index : ℕ) (found : Option ℕ) → index ≡ ahead (length slots) h n → is_taken slots index ≡ true → IsCountAt names slots index found → is_some found ≡ false → IsPassed names h slots (n + 1)
+IsPassed-on {T} {names} {h} {slots} {n} p index found at some count none =
+    let s = taken_slot (slot_at slots index) some in
     IsPassed-more p s.0 (ap (slot_at slots) (sym at) ∙ s.1) (count.other (not_some found none) s.0 s.1)
 
--- a look-up ends at x's slot, or at a free one
-pub IsProbe-ends : {T : Type 0} {eq : T → T → Bool} {h : ℕ} {slots : List (Slot T)} {x : T} {n : ℕ} → IsPassed eq h slots x n → n < length slots → (place looked : ℕ) (found : Option ℕ) → place ≡ ahead (length slots) h n → looked ≡ n + 1 →
-    ((c : ℕ) → found ≡ Some c → (s : Held T) × (slot_at slots place ≡ Some s) × (s.count ≡ c) × (eq x s.item ≡ true)) → (found ≡ None → is_taken slots place ≡ false) → IsProbe eq h slots x place found looked
-IsProbe-ends {T} {eq} {h} {slots} {x} {n} p l place looked found at count here free =
-    let same : n ≡ looked - 1 = omega (arith, count) in
+-- a look-up ends at a slot of a named item, or at a free one
+pub IsProbe-ends : {T : Type 0} {names : T → Bool} {h : ℕ} {slots : List (Slot T)} {n : ℕ} → IsPassed names h slots n → n < length slots → (index probed : ℕ) (found : Option ℕ) → index ≡ ahead (length slots) h n → probed ≡ n + 1 →
+    ((c : ℕ) → found ≡ Some c → (s : Held T) × (slot_at slots index ≡ Some s) × (s.count ≡ c) × (names s.item ≡ true)) → (found ≡ None → is_taken slots index ≡ false) → IsProbe names h slots index found probed
+IsProbe-ends {T} {names} {h} {slots} {n} p l index probed found at count here free =
+    let same : n ≡ probed - 1 = omega (arith, count) in
     record {
       some = omega (arith, count);
       short = omega (arith, count);
-      place_is = at ∙ ap (ahead (length slots) h) same;
+      index_is = at ∙ ap (ahead (length slots) h) same;
       passed = rw (← same) p;
       here = here;
       free = free;
     }
 
--- at one that holds x
-pub IsProbe-found : {T : Type 0} {eq : T → T → Bool} {h : ℕ} {slots : List (Slot T)} {x : T} {n : ℕ} → IsPassed eq h slots x n → n < length slots → (place looked : ℕ) (found : Option ℕ) → place ≡ ahead (length slots) h n → looked ≡ n + 1 → IsCountAt eq slots x place found → is_some found ≡ true → IsProbe eq h slots x place found looked
-IsProbe-found p l place looked found at count is there = IsProbe-ends p l place looked found at count is.here (λ none. absurd (false≢true (sym (ap is_some none) ∙ there)))
+-- at one that holds a named item
+pub IsProbe-found : {T : Type 0} {names : T → Bool} {h : ℕ} {slots : List (Slot T)} {n : ℕ} → IsPassed names h slots n → n < length slots → (index probed : ℕ) (found : Option ℕ) → index ≡ ahead (length slots) h n → probed ≡ n + 1 → IsCountAt names slots index found → is_some found ≡ true → IsProbe names h slots index found probed
+IsProbe-found p l index probed found at count is there = IsProbe-ends p l index probed found at count is.here (λ none. absurd (false≢true (sym (ap is_some none) ∙ there)))
 
 -- at a free one
-pub IsProbe-free : {T : Type 0} {eq : T → T → Bool} {h : ℕ} {slots : List (Slot T)} {x : T} {n : ℕ} → IsPassed eq h slots x n → n < length slots → (place looked : ℕ) → place ≡ ahead (length slots) h n → looked ≡ n + 1 → is_taken slots place ≡ false → IsProbe eq h slots x place None looked
-IsProbe-free p l place looked at count free = IsProbe-ends p l place looked None at count (λ c e. cc) (λ _. free)
+pub IsProbe-free : {T : Type 0} {names : T → Bool} {h : ℕ} {slots : List (Slot T)} {n : ℕ} → IsPassed names h slots n → n < length slots → (index probed : ℕ) → index ≡ ahead (length slots) h n → probed ≡ n + 1 → is_taken slots index ≡ false → IsProbe names h slots index None probed
+IsProbe-free p l index probed at count free = IsProbe-ends p l index probed None at count (λ c e. cc) (λ _. free)
 
 -- ---- the count in a slot
-pub IsCountAt-found : {T : Type 0} (eq : T → T → Bool) (slots : List (Slot T)) (x : T) (place : ℕ) (s : Held T) → slot_at slots place ≡ Some s → eq x s.item ≡ true → IsCountAt eq slots x place (Some s.count)
-IsCountAt-found eq slots x place s e t = record { here = λ c f. (s, e, cc, t); other = λ f. cc }
+pub IsCountAt-found : {T : Type 0} (names : T → Bool) (slots : List (Slot T)) (index : ℕ) (s : Held T) → slot_at slots index ≡ Some s → names s.item ≡ true → IsCountAt names slots index (Some s.count)
+IsCountAt-found names slots index s e t = record { here = λ c f. (s, e, cc, t); other = λ f. cc }
 
-pub IsCountAt-other : {T : Type 0} (eq : T → T → Bool) (slots : List (Slot T)) (x : T) (place : ℕ) → ((s : Held T) → slot_at slots place ≡ Some s → eq x s.item ≡ false) → IsCountAt eq slots x place None
-IsCountAt-other eq slots x place f = record { here = λ c e. cc; other = λ _. f }
+pub IsCountAt-other : {T : Type 0} (names : T → Bool) (slots : List (Slot T)) (index : ℕ) → ((s : Held T) → slot_at slots index ≡ Some s → names s.item ≡ false) → IsCountAt names slots index None
+IsCountAt-other names slots index f = record { here = λ c e. cc; other = λ _. f }
 
 -- ---- the entries, by the slots
-lookup_absent : {T : Type 0} (eq : T → T → Bool) (slots : List (Slot T)) (x : T) → ((k : ℕ) (s : Held T) → slot_at slots k ≡ Some s → eq x s.item ≡ false) → lookup (eq x) (entries_of slots) ≡ None
-lookup_absent eq [] x h = refl
-lookup_absent eq (Free ∷ os) x h = lookup_absent eq os x (λ k s e. h (suc k) s e)
-lookup_absent eq (Taken d n y ∷ os) x h = rw (h 0 (record { item = y; count = n; drift = d }) refl) (lookup_absent eq os x (λ k s e. h (suc k) s e))
+lookup_absent : {T : Type 0} (names : T → Bool) (slots : List (Slot T)) → ((k : ℕ) (s : Held T) → slot_at slots k ≡ Some s → names s.item ≡ false) → lookup names (entries_of slots) ≡ None
+lookup_absent names [] h = refl
+lookup_absent names (Free ∷ os) h = lookup_absent names os (λ k s e. h (suc k) s e)
+lookup_absent names (Taken d n y ∷ os) h = rw (h 0 (record { item = y; count = n; drift = d }) refl) (lookup_absent names os (λ k s e. h (suc k) s e))
 
 -- a key that differs from all keys differs from the one in a slot
 pub differs : {T : Type 0} (eq : T → T → Bool) (slots : List (Slot T)) (x : T) (k : ℕ) (s : Held T) → AllByRecursion (λ y. eq x y ≡ false) (keys_of (entries_of slots)) → slot_at slots k ≡ Some s → eq x s.item ≡ false
@@ -98,125 +99,140 @@ differs {T} eq (Taken d n y ∷ os) x zero s h e =
     ap (λ (r : Held T). eq x r.item) (sym same) ∙ h.0
 differs eq (Taken d n y ∷ os) x (suc k) s h e = differs eq os x k s h.1 e
 
-pub lookup_slot : {T : Type 0} {eq : T → T → Bool} → IsEquivalence eq → (slots : List (Slot T)) (x : T) (k : ℕ) (s : Held T) → IsDistinct eq (keys_of (entries_of slots)) → slot_at slots k ≡ Some s → eq x s.item ≡ true → lookup (eq x) (entries_of slots) ≡ Some s.count
-lookup_slot {eq = eq} laws [] x k s d e t = cc
-lookup_slot {eq = eq} laws (Free ∷ os) x zero s d e t = cc
-lookup_slot {eq = eq} laws (Free ∷ os) x (suc k) s d e t = lookup_slot laws os x k s d e t
-lookup_slot {T} {eq} laws (Taken f n y ∷ os) x zero s d e t =
+pub lookup_slot : {T : Type 0} {eq : T → T → Bool} (names : T → Bool) → ((x y : T) → IsTrue (names x) → names y ≡ eq x y) → (slots : List (Slot T)) (k : ℕ) (s : Held T) → IsDistinct eq (keys_of (entries_of slots)) → slot_at slots k ≡ Some s → names s.item ≡ true → lookup names (entries_of slots) ≡ Some s.count
+lookup_slot names alike [] k s d e t = cc
+lookup_slot names alike (Free ∷ os) zero s d e t = cc
+lookup_slot names alike (Free ∷ os) (suc k) s d e t = lookup_slot names alike os k s d e t
+lookup_slot {T} {eq} names alike (Taken f n y ∷ os) zero s d e t =
     let r : Held T = record { item = y; count = n; drift = f } in
     let both : Some r ≡ Some s = e in
     let same : r ≡ s = cc in
-    let hit : eq x y ≡ true = ap (λ (q : Held T). eq x q.item) same ∙ t in
+    let hit : names y ≡ true = ap (λ (q : Held T). names q.item) same ∙ t in
     rw hit (ap (λ (q : Held T). Some q.count) same)
-lookup_slot {eq = eq} laws (Taken f n y ∷ os) x (suc k) s d e t =
+lookup_slot {eq = eq} names alike (Taken f n y ∷ os) (suc k) s d e t =
     let apart : eq y s.item ≡ false = differs eq os y k s (IsDistinct-head eq y (keys_of (entries_of os)) d) e in
-    let miss : eq x y ≡ false = false_from_ne_true _ (λ h. both_ways _ apart (sym (laws.congr x y s.item h) ∙ t)) in
-    rw miss (lookup_slot laws os x k s (IsDistinct-tail eq y (keys_of (entries_of os)) d) e t)
+    let miss : names y ≡ false = false_from_ne_true _ (λ h. both_ways _ apart (sym (alike y s.item h) ∙ t)) in
+    rw miss (lookup_slot names alike os k s (IsDistinct-tail eq y (keys_of (entries_of os)) d) e t)
 
 -- ---- the answer of a look-up
-nowhere : {T : Type 0} (eq : T → T → Bool) (home : T → ℕ) (slots : List (Slot T)) → ((x : T) → home x < length slots) → IsPlaced home slots → (x : T) (place looked : ℕ) → ((y : T) → eq x y ≡ true → home x ≡ home y) → IsProbe eq (home x) slots x place None looked → (k : ℕ) (s : Held T) → slot_at slots k ≡ Some s → eq x s.item ≡ false
-nowhere eq home slots below placed x place looked respects p k s e =
+nowhere : {T : Type 0} (names : T → Bool) (home : T → ℕ) (h : ℕ) (slots : List (Slot T)) → h < length slots → IsPlaced home slots → (index probed : ℕ) → ((y : T) → names y ≡ true → h ≡ home y) → IsProbe names h slots index None probed → (k : ℕ) (s : Held T) → slot_at slots k ≡ Some s → names s.item ≡ false
+nowhere names home h slots below placed index probed respects p k s e =
     let n = length slots in
     false_from_ne_true _ (λ t.
     let same = respects s.item t in
     let l : k < n = is_taken-below slots k (ap is_some e) in
-    elim (cases_lt (distance n (home x) k) (looked - 1)) [
-      | inl a ↦ both_ways _ (p.passed.apart (distance n (home x) k) s a (ap (slot_at slots) (ahead-distance n (home x) k (below x) l) ∙ e)) t
+    elim (cases_lt (distance n h k) (probed - 1)) [
+      | inl a ↦ both_ways _ (p.passed.apart (distance n h k) s a (ap (slot_at slots) (ahead-distance n h k below l) ∙ e)) t
       | inr b ↦
-          let at : is_taken slots (ahead n (home s.item) (looked - 1)) ≡ true = placed.run k s e (looked - 1) (rw same at b) in
-          both_ways _ (ap (is_taken slots) (sym p.place_is) ∙ p.free refl) (ap (λ h. is_taken slots (ahead n h (looked - 1))) same ∙ at)
+          let at : is_taken slots (ahead n (home s.item) (probed - 1)) ≡ true = placed.run k s e (probed - 1) (rw same at b) in
+          both_ways _ (ap (is_taken slots) (sym p.index_is) ∙ p.free refl) (ap (λ q. is_taken slots (ahead n q (probed - 1))) same ∙ at)
     ])
 
-pub lookup_found : {T : Type 0} {eq : T → T → Bool} → IsEquivalence eq → (home : T → ℕ) (slots : List (Slot T)) → ((x : T) → home x < length slots) → IsPlaced home slots → IsDistinct eq (keys_of (entries_of slots)) → (x : T) (place looked : ℕ) (found : Option ℕ) → ((y : T) → eq x y ≡ true → home x ≡ home y) → IsProbe eq (home x) slots x place found looked → lookup (eq x) (entries_of slots) ≡ found
-lookup_found {eq = eq} laws home slots below placed d x place looked None respects p = lookup_absent eq slots x (nowhere eq home slots below placed x place looked respects p)
-lookup_found {eq = eq} laws home slots below placed d x place looked (Some c) respects p =
+lookup_found : {T : Type 0} {eq : T → T → Bool} (names : T → Bool) → ((x y : T) → IsTrue (names x) → names y ≡ eq x y) → (home : T → ℕ) (h : ℕ) (slots : List (Slot T)) → h < length slots → IsPlaced home slots → IsDistinct eq (keys_of (entries_of slots)) → (index probed : ℕ) (found : Option ℕ) → ((y : T) → names y ≡ true → h ≡ home y) → IsProbe names h slots index found probed → lookup names (entries_of slots) ≡ found
+lookup_found names alike home h slots below placed d index probed None respects p = lookup_absent names slots (nowhere names home h slots below placed index probed respects p)
+lookup_found names alike home h slots below placed d index probed (Some c) respects p =
     let w = p.here c refl in
-    lookup_slot laws slots x place w.0 d w.1 w.3 ∙ ap Some w.2
+    lookup_slot names alike slots index w.0 d w.1 w.3 ∙ ap Some w.2
 
 -- where x is absent, all of its reach was looked at
-pub reach_absent : {T : Type 0} (eq : T → T → Bool) (home : T → ℕ) (slots : List (Slot T)) → ((x : T) → home x < length slots) → IsPlaced home slots → HasFree slots → (x : T) (place looked : ℕ) → IsProbe eq (home x) slots x place None looked → IsReach home (table_of slots) x looked
-reach_absent eq home slots below placed gap x place looked p =
-    IsReach-from_free home slots below placed gap x looked p.some p.short (λ j l. p.passed.taken j (omega arith)) (ap (is_taken slots) (sym p.place_is) ∙ p.free refl)
+pub reach_absent : {T : Type 0} (names : T → Bool) (home : T → ℕ) (slots : List (Slot T)) → ((x : T) → home x < length slots) → IsPlaced home slots → HasFree slots → (x : T) (index probed : ℕ) → IsProbe names (home x) slots index None probed → IsReach home (table_of slots) x probed
+reach_absent names home slots below placed free_slot x index probed p =
+    IsReach-from_free home slots below placed free_slot x probed p.some p.short (λ j l. p.passed.taken j (omega arith)) (ap (is_taken slots) (sym p.index_is) ∙ p.free refl)
 
 -- where x is present, less
-pub reach_present : {T : Type 0} (eq : T → T → Bool) (home : T → ℕ) (slots : List (Slot T)) → ((x : T) → home x < length slots) → IsPlaced home slots → HasFree slots → (x : T) (place looked c : ℕ) → IsProbe eq (home x) slots x place (Some c) looked → IsShortOfReach home (table_of slots) x looked
-reach_present eq home slots below placed gap x place looked c p =
+pub reach_present : {T : Type 0} (names : T → Bool) (home : T → ℕ) (slots : List (Slot T)) → ((x : T) → home x < length slots) → IsPlaced home slots → HasFree slots → (x : T) (index probed c : ℕ) → IsProbe names (home x) slots index (Some c) probed → IsShortOfReach home (table_of slots) x probed
+reach_present names home slots below placed free_slot x index probed c p =
     let w = p.here c refl in
-    let taken : (j : ℕ) → j < looked → is_taken slots (ahead (length slots) (home x) j) ≡ true = λ j l. elim (cases_eq j (looked - 1)) [
-      | inl same ↦ ap (λ i. is_taken slots (ahead (length slots) (home x) i)) same ∙ ap (is_taken slots) (sym p.place_is) ∙ ap is_some w.1
+    let taken : (j : ℕ) → j < probed → is_taken slots (ahead (length slots) (home x) j) ≡ true = λ j l. elim (cases_eq j (probed - 1)) [
+      | inl same ↦ ap (λ i. is_taken slots (ahead (length slots) (home x) i)) same ∙ ap (is_taken slots) (sym p.index_is) ∙ ap is_some w.1
       | inr other ↦ p.passed.taken j (omega (arith, p.some))
     ] in
-    let r = reach_above home slots below placed gap x looked taken in
+    let r = reach_above home slots below placed free_slot x probed taken in
     record { some = p.some; reach = r.0; is_reach = r.1; less = r.2 }
 
-reach_if_absent : {T : Type 0} (eq : T → T → Bool) (home : T → ℕ) (slots : List (Slot T)) → ((x : T) → home x < length slots) → IsPlaced home slots → HasFree slots → (x : T) (place looked : ℕ) (found : Option ℕ) → is_some found ≡ false → IsProbe eq (home x) slots x place found looked → IsReach home (table_of slots) x looked
-reach_if_absent eq home slots below placed gap x place looked None f p = reach_absent eq home slots below placed gap x place looked p
-reach_if_absent eq home slots below placed gap x place looked (Some c) f p = absurd (false≢true (sym f))
+reach_if_absent : {T : Type 0} (names : T → Bool) (home : T → ℕ) (slots : List (Slot T)) → ((x : T) → home x < length slots) → IsPlaced home slots → HasFree slots → (x : T) (index probed : ℕ) (found : Option ℕ) → is_some found ≡ false → IsProbe names (home x) slots index found probed → IsReach home (table_of slots) x probed
+reach_if_absent names home slots below placed free_slot x index probed None f p = reach_absent names home slots below placed free_slot x index probed p
+reach_if_absent names home slots below placed free_slot x index probed (Some c) f p = absurd (false≢true (sym f))
 
-reach_if_present : {T : Type 0} (eq : T → T → Bool) (home : T → ℕ) (slots : List (Slot T)) → ((x : T) → home x < length slots) → IsPlaced home slots → HasFree slots → (x : T) (place looked : ℕ) (found : Option ℕ) → is_some found ≡ true → IsProbe eq (home x) slots x place found looked → IsShortOfReach home (table_of slots) x looked
-reach_if_present eq home slots below placed gap x place looked None t p = absurd (false≢true t)
-reach_if_present eq home slots below placed gap x place looked (Some c) t p = reach_present eq home slots below placed gap x place looked c p
+reach_if_present : {T : Type 0} (names : T → Bool) (home : T → ℕ) (slots : List (Slot T)) → ((x : T) → home x < length slots) → IsPlaced home slots → HasFree slots → (x : T) (index probed : ℕ) (found : Option ℕ) → is_some found ≡ true → IsProbe names (home x) slots index found probed → IsShortOfReach home (table_of slots) x probed
+reach_if_present names home slots below placed free_slot x index probed None t p = absurd (false≢true t)
+reach_if_present names home slots below placed free_slot x index probed (Some c) t p = reach_present names home slots below placed free_slot x index probed c p
 
 -- each slot that was looked at but the last holds an entry
-few_looked : {T : Type 0} {eq : T → T → Bool} {h : ℕ} {slots : List (Slot T)} {x : T} {place : ℕ} {found : Option ℕ} {looked : ℕ} → h < length slots → IsProbe eq h slots x place found looked → looked ≤ length (entries_of slots) + 1
-few_looked {T} {eq} {h} {slots} {x} {place} {found} {looked} l p = omega (arith, p.some, taken_within slots h (looked - 1) l (omega (arith, p.some, p.short)) p.passed.taken)
+few_probed : {T : Type 0} {names : T → Bool} {h : ℕ} {slots : List (Slot T)} {index : ℕ} {found : Option ℕ} {probed : ℕ} → h < length slots → IsProbe names h slots index found probed → probed ≤ length (entries_of slots) + 1
+few_probed {T} {names} {h} {slots} {index} {found} {probed} l p = omega (arith, p.some, taken_within slots h (probed - 1) l (omega (arith, p.some, p.short)) p.passed.taken)
 
 -- ---- a look-up in the slots of a table
-pub record Answers {T : Type 0} (eq : T → T → Bool) (input : T → List (List ℕ)) (table : Table T) (x : T) (found : Option ℕ) (looked : ℕ) : Type 0 where
+pub record Answers {T : Type 0} (eq : T → T → Bool) (input : T → List (List ℕ)) (table : Table T) (x : T) (found : Option ℕ) (probed : ℕ) : Type 0 where
   pub looked_up : lookup (eq x) table.entries ≡ found
-  pub absent : is_tracked eq table.entries x ≡ false → IsReach (home_in input table.size) table x looked
-  pub present : is_tracked eq table.entries x ≡ true → IsShortOfReach (home_in input table.size) table x looked
-  pub few : looked ≤ length table.entries + 1
-  pub within : looked ≤ table.size
+  pub absent : is_tracked eq table.entries x ≡ false → IsReach (home_in input table.size) table x probed
+  pub present : is_tracked eq table.entries x ≡ true → IsShortOfReach (home_in input table.size) table x probed
+  pub few : probed ≤ length table.entries + 1
+  pub within : probed ≤ table.size
 
 pub answers : {T : Type 0} {eq : T → T → Bool} → IsEquivalence eq → {input : T → List (List ℕ)} → ((x y : T) → IsTrue (eq x y) → input x ≡ input y) → (slots : List (Slot T)) → IsSlots eq input slots →
-    (x : T) (place : ℕ) (found : Option ℕ) (looked : ℕ) → IsProbe eq (home_in input (length slots) x) slots x place found looked → Answers eq input (table_of slots) x found looked
-answers {T} {eq} laws {input} respects slots s x place found looked p =
+    (x : T) (index : ℕ) (found : Option ℕ) (probed : ℕ) → IsProbe (eq x) (home_in input (length slots) x) slots index found probed → Answers eq input (table_of slots) x found probed
+answers {T} {eq} laws {input} respects slots s x index found probed p =
     let n = length slots in
     let home : T → ℕ = home_in input n in
     let below : (y : T) → home y < n = λ y. home_of-below (fed_bytes input y) n (some_size n s.size) in
-    let gap = free_from_few slots s.room in
-    let up = lookup_found laws home slots below s.placed s.distinct x place looked found (λ y t. ap (λ f. home_of (concat f) n) (respects x y t)) p in
+    let free_slot = free_from_few slots s.room in
+    let up = lookup_found (eq x) (laws.congr x) home (home x) slots (below x) s.placed s.distinct index probed found (λ y t. ap (λ f. home_of (concat f) n) (respects x y t)) p in
     let tracked = ap is_some up in
     record {
       looked_up = up;
-      absent = λ f. reach_if_absent eq home slots below s.placed gap x place looked found (sym tracked ∙ f) p;
-      present = λ t. reach_if_present eq home slots below s.placed gap x place looked found (sym tracked ∙ t) p;
-      few = few_looked (below x) p;
+      absent = λ f. reach_if_absent (eq x) home slots below s.placed free_slot x index probed found (sym tracked ∙ f) p;
+      present = λ t. reach_if_present (eq x) home slots below s.placed free_slot x index probed found (sym tracked ∙ t) p;
+      few = few_probed (below x) p;
       within = p.short;
     }
 
 -- where the slots were lent
 pub answers_lent : {T : Type 0} {eq : T → T → Bool} → IsEquivalence eq → {input : T → List (List ℕ)} → ((x y : T) → IsTrue (eq x y) → input x ≡ input y) → (slots lent : List (Slot T)) → IsSlots eq input slots → (table : Table T) → table_of slots ≡ table → lent ≡ slots →
-    (x : T) (place : ℕ) (found : Option ℕ) (looked : ℕ) → IsProbe eq (home_in input (length lent) x) lent x place found looked → Answers eq input table x found looked
-answers_lent {T} {eq} laws {input} respects slots lent s table view same x place found looked p =
-    let P : Table T → Type 0 = λ t. Answers eq input t x found looked in
-    let Q : List (Slot T) → Type 0 = λ l. IsProbe eq (home_in input (length l) x) l x place found looked in
-    subst P view (answers laws respects slots s x place found looked (subst Q same p))
+    (x : T) (index : ℕ) (found : Option ℕ) (probed : ℕ) → IsProbe (eq x) (home_in input (length lent) x) lent index found probed → Answers eq input table x found probed
+answers_lent {T} {eq} laws {input} respects slots lent s table view same x index found probed p =
+    let P : Table T → Type 0 = λ t. Answers eq input t x found probed in
+    let Q : List (Slot T) → Type 0 = λ l. IsProbe (eq x) (home_in input (length l) x) l index found probed in
+    subst P view (answers laws respects slots s x index found probed (subst Q same p))
+
+-- ---- a look-up by a key
+pub key_found : {T : Type 0} {eq : T → T → Bool} {input : T → List (List ℕ)} {names : T → Bool} {fed : List (List ℕ)} → IsKey eq input names fed → (slots : List (Slot T)) → IsSlots eq input slots →
+    (index : ℕ) (found : Option ℕ) (probed : ℕ) → IsProbe names (home_of (concat fed) (length slots)) slots index found probed → lookup names (entries_of slots) ≡ found
+key_found {T} {eq} {input} {names} {fed} key slots s index found probed p =
+    let n = length slots in
+    let home : T → ℕ = home_in input n in
+    lookup_found names key.alike home (home_of (concat fed) n) slots (home_of-below (concat fed) n (some_size n s.size)) s.placed s.distinct index probed found (λ y t. ap (λ f. home_of (concat f) n) (key.hash y t)) p
+
+-- where the slots were lent
+pub key_found_lent : {T : Type 0} {eq : T → T → Bool} {input : T → List (List ℕ)} {names : T → Bool} {fed : List (List ℕ)} → IsKey eq input names fed → (slots lent : List (Slot T)) → IsSlots eq input slots → (table : Table T) → table_of slots ≡ table → lent ≡ slots →
+    (index : ℕ) (found : Option ℕ) (probed : ℕ) → IsProbe names (home_of (concat fed) (length lent)) lent index found probed → lookup names table.entries ≡ found
+key_found_lent {T} {names = names} {fed = fed} key slots lent s table view same index found probed p =
+    let Q : List (Slot T) → Type 0 = λ l. IsProbe names (home_of (concat fed) (length l)) l index found probed in
+    ap (λ t. lookup names t.entries) (sym view) ∙ key_found key slots s index found probed (subst Q same p)
 
 -- ---- where it ended
-pub probe_below : {T : Type 0} {eq : T → T → Bool} {h : ℕ} {slots : List (Slot T)} {x : T} {place : ℕ} {found : Option ℕ} {looked : ℕ} → h < length slots → IsProbe eq h slots x place found looked → place < length slots
-probe_below {T} {eq} {h} {slots} {x} {place} {found} {looked} l p = let a = ahead_is (length slots) h (looked - 1) l (omega (arith, p.short)) in omega (arith, p.place_is, a.below)
+pub probe_below : {T : Type 0} {names : T → Bool} {h : ℕ} {slots : List (Slot T)} {index : ℕ} {found : Option ℕ} {probed : ℕ} → h < length slots → IsProbe names h slots index found probed → index < length slots
+probe_below {T} {names} {h} {slots} {index} {found} {probed} l p = let a = ahead_is (length slots) h (probed - 1) l (omega (arith, p.short)) in omega (arith, p.index_is, a.below)
 
-pub gap_below : {T : Type 0} {h : ℕ} {slots : List (Slot T)} {place looked : ℕ} → h < length slots → IsGap h slots place looked → place < length slots
-gap_below {T} {h} {slots} {place} {looked} l p = let a = ahead_is (length slots) h (looked - 1) l (omega (arith, p.short)) in omega (arith, p.place_is, a.below)
+pub free_slot_below : {T : Type 0} {h : ℕ} {slots : List (Slot T)} {index probed : ℕ} → h < length slots → IsFreeSlot h slots index probed → index < length slots
+free_slot_below {T} {h} {slots} {index} {probed} l p = let a = ahead_is (length slots) h (probed - 1) l (omega (arith, p.short)) in omega (arith, p.index_is, a.below)
 
 -- where the item is absent, at the first free slot
-pub gap_from_probe : {T : Type 0} {eq : T → T → Bool} {h : ℕ} {slots : List (Slot T)} {x : T} {place : ℕ} {found : Option ℕ} {looked : ℕ} → found ≡ None → IsProbe eq h slots x place found looked → IsGap h slots place looked
-gap_from_probe none p = record {
+pub free_slot_from_probe : {T : Type 0} {names : T → Bool} {h : ℕ} {slots : List (Slot T)} {index : ℕ} {found : Option ℕ} {probed : ℕ} → found ≡ None → IsProbe names h slots index found probed → IsFreeSlot h slots index probed
+free_slot_from_probe none p = record {
   some = p.some;
   short = p.short;
-  place_is = p.place_is;
+  index_is = p.index_is;
   taken = λ j l. p.passed.taken j (omega (arith, p.some));
   free = p.free none;
 }
 
 -- where it is present, its slot has its count
-pub fits_from_probe : {T : Type 0} {eq : T → T → Bool} {h : ℕ} {slots : List (Slot T)} {x : T} {place c : ℕ} {found : Option ℕ} {looked : ℕ} → IsProbe eq h slots x place found looked → found ≡ Some c → lookup (eq x) (entries_of slots) ≡ found → (w : ℕ) → (is_tracked eq (entries_of slots) x ≡ true → count_of eq (entries_of slots) x + w < 2 ^ 64) → CountHasRoom slots place w
-fits_from_probe {T} {eq} {h} {slots} {x} {place} {c} {found} {looked} p hit up w fits s at =
+pub fits_from_probe : {T : Type 0} {names : T → Bool} {h : ℕ} {slots : List (Slot T)} {index c : ℕ} {found : Option ℕ} {probed : ℕ} → IsProbe names h slots index found probed → found ≡ Some c → lookup names (entries_of slots) ≡ found → (w : ℕ) → (is_some (lookup names (entries_of slots)) ≡ true → unwrap_or (lookup names (entries_of slots)) 0 + w < 2 ^ 64) → CountHasRoom slots index w
+fits_from_probe {T} {names} {h} {slots} {index} {c} {found} {probed} p hit up w fits s at =
     let here = p.here c hit in
     let both : Some s ≡ Some here.0 = sym at ∙ here.1 in
     let one : s ≡ here.0 = cc in
     let count : s.count ≡ c = ap (λ (q : Held T). q.count) one ∙ here.2 in
-    let known : count_of eq (entries_of slots) x ≡ c = ap (λ o. unwrap_or o 0) (up ∙ hit) in
+    let known : unwrap_or (lookup names (entries_of slots)) 0 ≡ c = ap (λ o. unwrap_or o 0) (up ∙ hit) in
     omega (arith, count, known, fits (ap is_some (up ∙ hit)))

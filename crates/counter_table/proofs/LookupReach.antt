@@ -1,4 +1,4 @@
--- A place is full, by the homes of the entries, exactly where its slot is taken.
+-- A index is full, by the homes of the entries, exactly where its slot is taken.
 use Rattle.std.proofs.Common.{◌≡◌, ℕ, zero, suc, ◌+◌, ◌-◌, ◌<◌, ◌≤◌, Bool, true, false, cond, leb, inl, inr, refl, ap, sym, ◌∙◌, arith, List, [], ◌∷◌, length, Option, Some, None, is_some, count_by}
 use Rattle.std.proofs.Math.ListN.{set}
 use Rattle.std.proofs.lemmas.List.{get_or-set_same, get_or-set_other}
@@ -6,7 +6,7 @@ use Rattle.std.proofs.lemmas.Bool.{cases_lt, cases_Bool, cases_eq, le-leb, leb-t
 use Rattle.std.proofs.lemmas.List.Sums.{sum_by-cons, count_by-le-length}
 use Rattle.counter_table.specs.declared.slot.Slot.{Slot}
 use Rattle.counter_table.specs.declared.slot.Slot.TheVariants.{Free, Taken}
-use Rattle.counter_table.specs.Homes.{ahead, distance, IsFullPlace, IsReach}
+use Rattle.counter_table.specs.Homes.{ahead, distance, IsFullIndex, IsReach}
 use Rattle.counter_table.specs.Slots.{Held, held, entries_of, table_of, slot_at, is_taken, IsPlaced}
 use Rattle.counter_table.proofs.ArithmeticRing.{ahead_is, distance_is, ahead-back, ahead-distance, back-distance, distance-between, passes}
 use Rattle.counter_table.proofs.LookupTallies.{tally, tally_front, tally_le, tally_lt, window}
@@ -50,14 +50,14 @@ count_entries {T} q (Taken d n x ∷ os) =
 
 -- ---- fewer entries than slots leave a slot free
 pub record HasFree {T : Type 0} (slots : List (Slot T)) : Type 0 where
-  pub place : ℕ
-  pub below : place < length slots
-  pub free : is_taken slots place ≡ false
+  pub index : ℕ
+  pub below : index < length slots
+  pub free : is_taken slots index ≡ false
 
 pub free_from_few : {T : Type 0} (slots : List (Slot T)) → length (entries_of slots) < length slots → HasFree slots
 free_from_few [] h = absurd (omega arith)
-free_from_few (Free ∷ os) h = record { place = 0; below = omega arith; free = refl }
-free_from_few (Taken d n x ∷ os) h = let f = free_from_few os (omega arith) in record { place = suc f.place; below = omega (arith, f.below); free = f.free }
+free_from_few (Free ∷ os) h = record { index = 0; below = omega arith; free = refl }
+free_from_few (Taken d n x ∷ os) h = let f = free_from_few os (omega arith) in record { index = suc f.index; below = omega (arith, f.below); free = f.free }
 
 -- ---- the first number that fails
 pub record First (P : ℕ → Bool) (m : ℕ) : Type 0 where
@@ -89,7 +89,7 @@ nearer home slots below placed p k s l m e f =
       | inr g ↦ absurd (both_ways _ f (ap (λ j. is_taken slots j) (sym (ahead-distance n h p (below s.item) l)) ∙ placed.run k s e (distance n h p) g))
     ]
 
--- where the place m back from p is free and k is nearer, its home is nearer too
+-- where the index m back from p is free and k is nearer, its home is nearer too
 near_home : {T : Type 0} (home : T → ℕ) (slots : List (Slot T)) → ((x : T) → home x < length slots) → IsPlaced home slots → (p k m : ℕ) (s : Held T) → p < length slots → k < length slots → slot_at slots k ≡ Some s → is_taken slots (ahead (length slots) p (length slots - m)) ≡ false →
     distance (length slots) k p < m → distance (length slots) (home s.item) p < m
 near_home home slots below placed p k m s l b e f a =
@@ -103,7 +103,7 @@ near_home home slots below placed p k m s l b e f a =
     ]
 
 -- ---- full is taken
-pub taken_if_full : {T : Type 0} (home : T → ℕ) (slots : List (Slot T)) → ((x : T) → home x < length slots) → IsPlaced home slots → (p : ℕ) → p < length slots → IsFullPlace home (table_of slots) p → is_taken slots p ≡ true
+pub taken_if_full : {T : Type 0} (home : T → ℕ) (slots : List (Slot T)) → ((x : T) → home x < length slots) → IsPlaced home slots → (p : ℕ) → p < length slots → IsFullIndex home (table_of slots) p → is_taken slots p ≡ true
 taken_if_full {T} home slots below placed p l full =
     let n = length slots in
     let q : T × ℕ → Bool = λ e. leb (distance n (home e.0) p) full.back in
@@ -116,15 +116,15 @@ taken_if_full {T} home slots below placed p l full =
           absurd (omega (arith, full.many, count_entries q slots, fewer, window n p full.back l full.within))
     ]
 
-pub full_if_taken : {T : Type 0} (home : T → ℕ) (slots : List (Slot T)) → ((x : T) → home x < length slots) → IsPlaced home slots → HasFree slots → (p : ℕ) → is_taken slots p ≡ true → IsFullPlace home (table_of slots) p
-full_if_taken {T} home slots below placed gap p t =
+pub full_if_taken : {T : Type 0} (home : T → ℕ) (slots : List (Slot T)) → ((x : T) → home x < length slots) → IsPlaced home slots → HasFree slots → (p : ℕ) → is_taken slots p ≡ true → IsFullIndex home (table_of slots) p
+full_if_taken {T} home slots below placed free_slot p t =
     let n = length slots in
     let l : p < n = is_taken-below slots p t in
-    let f = gap.place in
-    let d = distance_is n f p gap.below l in
+    let f = free_slot.index in
+    let d = distance_is n f p free_slot.below l in
     let z = distance_is n p p l l in
     let here : ahead n p (n - 0) ≡ p = ap (λ j. ahead n p (n - j)) (let e : 0 ≡ distance n p p = omega arith in e) ∙ back-distance n p p l l in
-    let r = first_of_failing (λ j. is_taken slots (ahead n p (n - j))) (distance n f p) (ap (λ j. is_taken slots j) (back-distance n p f l gap.below) ∙ gap.free) in
+    let r = first_of_failing (λ j. is_taken slots (ahead n p (n - j))) (distance n f p) (ap (λ j. is_taken slots j) (back-distance n p f l free_slot.below) ∙ free_slot.free) in
     let some : 1 ≤ r.at = elim (cases_eq r.at 0) [ inl e ↦ absurd (both_ways _ r.fails (ap (λ j. is_taken slots (ahead n p (n - j))) e ∙ ap (λ j. is_taken slots j) here ∙ t)) | inr e ↦ omega arith ] in
     let b = r.at - 1 in
     let q : T × ℕ → Bool = λ e. leb (distance n (home e.0) p) b in
@@ -135,18 +135,18 @@ full_if_taken {T} home slots below placed gap p t =
     record { back = b; within = omega (arith, d, r.within); many = omega (arith, count_entries q slots, many, window n p b l (omega (arith, d, r.within))) }
 
 -- ---- the reach, by what a look-up saw
--- n places from home(x) on, all taken but the last
+-- n indices from home(x) on, all taken but the last
 pub IsReach-from_free : {T : Type 0} (home : T → ℕ) (slots : List (Slot T)) → ((x : T) → home x < length slots) → IsPlaced home slots → HasFree slots → (x : T) (n : ℕ) → 1 ≤ n → n ≤ length slots →
     ((j : ℕ) → j + 1 < n → is_taken slots (ahead (length slots) (home x) j) ≡ true) → is_taken slots (ahead (length slots) (home x) (n - 1)) ≡ false → IsReach home (table_of slots) x n
-IsReach-from_free home slots below placed gap x n some short taken free =
+IsReach-from_free home slots below placed free_slot x n some short taken free =
     let a = ahead_is (length slots) (home x) (n - 1) (below x) (omega arith) in
     record {
       some = some;
-      full = λ j l. full_if_taken home slots below placed gap _ (taken j l);
+      full = λ j l. full_if_taken home slots below placed free_slot _ (taken j l);
       last = λ f. both_ways _ free (taken_if_full home slots below placed _ a.below f);
     }
 
--- from home(x) on, some place is free
+-- from home(x) on, some index is free
 pub record Stop {T : Type 0} (slots : List (Slot T)) (h : ℕ) : Type 0 where
   pub at : ℕ
   pub below : at < length slots
@@ -154,16 +154,16 @@ pub record Stop {T : Type 0} (slots : List (Slot T)) (h : ℕ) : Type 0 where
   pub before : (j : ℕ) → j < at → is_taken slots (ahead (length slots) h j) ≡ true
 
 pub stop_of : {T : Type 0} (slots : List (Slot T)) (h : ℕ) → h < length slots → HasFree slots → Stop slots h
-stop_of slots h l gap =
+stop_of slots h l free_slot =
     let n = length slots in
-    let d = distance_is n h gap.place l gap.below in
-    let r = first_of_failing (λ j. is_taken slots (ahead n h j)) (distance n h gap.place) (ap (λ j. is_taken slots j) (ahead-distance n h gap.place l gap.below) ∙ gap.free) in
+    let d = distance_is n h free_slot.index l free_slot.below in
+    let r = first_of_failing (λ j. is_taken slots (ahead n h j)) (distance n h free_slot.index) (ap (λ j. is_taken slots j) (ahead-distance n h free_slot.index l free_slot.below) ∙ free_slot.free) in
     record { at = r.at; below = omega (arith, d, r.within); free = r.fails; before = r.before }
 
--- so not all places are
+-- so not all indices are
 pub taken_few : {T : Type 0} (slots : List (Slot T)) (h n : ℕ) → h < length slots → HasFree slots → ((j : ℕ) → j < n → is_taken slots (ahead (length slots) h j) ≡ true) → n < length slots
-taken_few slots h n l gap taken =
-    let r = stop_of slots h l gap in
+taken_few slots h n l free_slot taken =
+    let r = stop_of slots h l free_slot in
     elim (cases_lt n (length slots)) [
       | inl a ↦ a
       | inr b ↦ absurd (both_ways _ r.free (taken r.at (omega (arith, r.below))))
@@ -183,11 +183,11 @@ taken_within {T} slots h (suc b) l m taken =
     ap (λ o. fits every o) s.1) in
     omega (arith, many, count_entries every slots, window n p b a.below (omega arith), count_by-le-length every (entries_of slots))
 
--- n places from home(x) on, all taken
+-- n indices from home(x) on, all taken
 pub reach_above : {T : Type 0} (home : T → ℕ) (slots : List (Slot T)) → ((x : T) → home x < length slots) → IsPlaced home slots → HasFree slots → (x : T) (n : ℕ) →
     ((j : ℕ) → j < n → is_taken slots (ahead (length slots) (home x) j) ≡ true) → (r : ℕ) × IsReach home (table_of slots) x r × (n < r)
-reach_above home slots below placed gap x n taken =
-    let r = stop_of slots (home x) (below x) gap in
+reach_above home slots below placed free_slot x n taken =
+    let r = stop_of slots (home x) (below x) free_slot in
     let over : n ≤ r.at = elim (cases_lt r.at n) [ inl a ↦ absurd (both_ways _ r.free (taken r.at a)) | inr b ↦ b ] in
     let same : r.at + 1 - 1 ≡ r.at = omega arith in
-    (r.at + 1, IsReach-from_free home slots below placed gap x (r.at + 1) (omega arith) (omega (arith, r.below)) (λ j l. r.before j (omega arith)) (ap (λ j. is_taken slots (ahead (length slots) (home x) j)) same ∙ r.free), omega arith)
+    (r.at + 1, IsReach-from_free home slots below placed free_slot x (r.at + 1) (omega arith) (omega (arith, r.below)) (λ j l. r.before j (omega arith)) (ap (λ j. is_taken slots (ahead (length slots) (home x) j)) same ∙ r.free), omega arith)

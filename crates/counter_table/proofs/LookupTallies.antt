@@ -29,7 +29,7 @@ tally_lt f g (suc n) p l a b h = elim (cases_eq p n) [
   | inr e ↦ omega (arith, tally_lt f g n p (omega arith) a b (λ k l. h k (omega arith)), one (f n) (g n) (h n (omega arith)))
 ]
 
--- how many of the places below m are at most b back from p
+-- how many of the indices below m are at most b back from p
 part : (n p b : ℕ) → p < n → b < n → (m : ℕ) → m ≤ n → tally (λ k. leb (distance n k p) b) m ≡ (min m (p + 1) - (p - b)) + (m - max (p + 1) (p + n - b))
 part n p b l h zero w = omega arith
 part n p b l h (suc m) w =

@@ -1,4 +1,4 @@
--- A purge goes once over the slots, from a free place on. Behind the places that are settled, all count as free.
+-- A purge goes once over the slots, from a free index on. Behind the indices that are settled, all count as free.
 use Rattle.std.proofs.Common.{◌≡◌, ℕ, zero, suc, ◌+◌, ◌-◌, ◌<◌, ◌≤◌, Bool, true, false, cond, ltb, inl, inr, refl, ap, sym, ◌∙◌, subst, arith, List, [], ◌∷◌, ◌++◌, length, get_or, map, filter, Some, is_some, IsPermutation, length-append}
 use Rattle.std.specs.Cmp.{IsEquivalence}
 use Rattle.std.specs.List.{IsDistinct, AllByRecursion, list_any}
@@ -12,7 +12,7 @@ use Rattle.std.proofs.lemmas.Map.Keys.{IsDistinct-IsPermutation}
 use Rattle.sketch_base.specs.Hashes.{fed_bytes}
 use Rattle.counter_table.specs.Filters.{filter-permutation}
 use Rattle.counter_table.specs.Homes.{ahead, distance, home_in}
-use Rattle.counter_table.specs.Probes.{IsGap}
+use Rattle.counter_table.specs.Probes.{IsFreeSlot}
 use Rattle.counter_table.specs.Settled.{HasDrift, Moves, Settles}
 use Rattle.counter_table.specs.Slots.{Held, held, taken, entries_of, slot_at, is_taken, IsSlots}
 use Rattle.counter_table.specs.Tables.{is_tracked, put, purged}
@@ -21,12 +21,12 @@ use Rattle.counter_table.specs.declared.slot.Slot.TheVariants.{Free, Taken}
 use Rattle.counter_table.proofs.ArithmeticRing.{ahead_is, distance_is, ahead-distance, distance-ahead, distance-same}
 use Rattle.counter_table.proofs.GrowthMoves.{IsSlots-free, last_apart}
 use Rattle.counter_table.proofs.InsertionPuts.{put_new, is_tracked-keys, is_tracked-permutation}
-use Rattle.counter_table.proofs.InsertionWrites.{put_miss, wrote_gap}
+use Rattle.counter_table.proofs.InsertionWrites.{put_miss, wrote_free_slot}
 use Rattle.counter_table.proofs.LookupHomes.{some_size, home_of-below}
 use Rattle.counter_table.proofs.LookupReach.{slot_at-set_same, slot_at-set_other, taken_slot}
 use Rattle.counter_table.proofs.PurgeTurns.{slot_from_held, slot_from_none, set_free}
 
--- ---- the slots at some places, the others free
+-- ---- the slots at some indices, the others free
 abbrev pub keep : {T : Type 0} → (ℕ → Bool) → List (Slot T) → List (Slot T)
 keep q [] = []
 keep q (o ∷ os) = cond (q 0) o Free ∷ keep (λ k. q (suc k)) os
@@ -84,21 +84,21 @@ distinct_keep eq q (Taken d n x ∷ os) h =
       | inr f ↦ rw f rest
     ]
 
--- ---- the places that are settled: those less than a places on from f
+-- ---- the indices that are settled: those less than a indices on from f
 abbrev pub done : ℕ → ℕ → ℕ → ℕ → Bool
 done n f a k = ltb (distance n f k) a
 
 abbrev pub part : {T : Type 0} → ℕ → ℕ → ℕ → List (Slot T) → List (Slot T)
 part n f a slots = keep (done n f a) slots
 
-same_place : (n f k p : ℕ) → f < n → k < n → p < n → distance n f k ≡ distance n f p → k ≡ p
-same_place n f k p l kb pb e = sym (ahead-distance n f k l kb) ∙ ap (ahead n f) e ∙ ahead-distance n f p l pb
+same_index : (n f k p : ℕ) → f < n → k < n → p < n → distance n f k ≡ distance n f p → k ≡ p
+same_index n f k p l kb pb e = sym (ahead-distance n f k l kb) ∙ ap (ahead n f) e ∙ ahead-distance n f p l pb
 
 done_more : (n f a p k : ℕ) → f < n → p < n → k < n → distance n f p ≡ a → (k ≡ p → ⊥) → done n f (a + 1) k ≡ done n f a k
 done_more n f a p k l pb kb far other = elim (cases_lt (distance n f k) a) [
   | inl near ↦ lt-ltb _ _ (omega arith) ∙ sym (lt-ltb _ _ near)
   | inr u ↦ elim (cases_eq (distance n f k) a) [
-    | inl e ↦ absurd (other (same_place n f k p l kb pb (e ∙ sym far)))
+    | inl e ↦ absurd (other (same_index n f k p l kb pb (e ∙ sym far)))
     | inr off ↦ le-ltb _ _ (omega (arith, off)) ∙ sym (le-ltb _ _ u)
   ]
 ]
@@ -109,11 +109,11 @@ part_yes n f a slots k l = at_keep (done n f a) slots k ∙ ap (λ b. cond b (ge
 part_no : {T : Type 0} (n f a : ℕ) (slots : List (Slot T)) (k : ℕ) → a ≤ distance n f k → get_or (part n f a slots) k Free ≡ Free
 part_no n f a slots k l = at_keep (done n f a) slots k ∙ ap (λ b. cond b (get_or slots k Free) Free) (le-ltb (distance n f k) a l)
 
--- a place whose slot is free, settled or not
+-- a index whose slot is free, settled or not
 part_free : {T : Type 0} (n f a : ℕ) (slots : List (Slot T)) (k : ℕ) → get_or slots k Free ≡ Free → get_or (part n f a slots) k Free ≡ Free
 part_free n f a slots k e = at_keep (done n f a) slots k ∙ ap (λ o. cond (done n f a k) o Free) e ∙ kept_no (done n f a k) Free
 
--- the turn of the place p, which is a places on from f
+-- the turn of the index p, which is a indices on from f
 module _ (n f a p : ℕ) (fb : f < n) (pb : p < n) (far : distance n f p ≡ a) where
   other_part : {T : Type 0} (slots : List (Slot T)) (k : ℕ) → k < n → (k ≡ p → ⊥) → get_or (part n f (a + 1) slots) k Free ≡ get_or (part n f a slots) k Free
   other_part slots k kb other = at_keep (done n f (a + 1)) slots k ∙ ap (λ b. cond b (get_or slots k Free) Free) (done_more n f a p k fb pb kb far other) ∙ sym (at_keep (done n f a) slots k)
@@ -196,7 +196,7 @@ purged_absent {T} eq m (e ∷ es) x h = elim (cases_Bool (eq x e.0)) [
       ]
 ]
 
--- ---- a sweep that has settled the places less than a places on from f, which was free
+-- ---- a sweep that has settled the indices less than a indices on from f, which was free
 pub record Sweep {T : Type 0} (eq : T → T → Bool) (input : T → List (List ℕ)) (m : ℕ) (old slots : List (Slot T)) (f a removed : ℕ) : Type 0 where
   pub below : f < length old
   pub free : is_taken old f ≡ false
@@ -212,7 +212,7 @@ sweep_starts {T} eq input m old f ok l free =
     let size : length (part n f 1 old) ≡ n = length_keep (done n f 1) old in
     let none : entries_of (part n f 1 old) ≡ [] = no_entries (part n f 1 old) (λ k kb. elim (cases_lt (distance n f k) 1) [
       | inl near ↦
-          let at : k ≡ f = same_place n f k f l (omega (arith, kb, size)) l (omega (arith, near, distance-same n f l)) in
+          let at : k ≡ f = same_index n f k f l (omega (arith, kb, size)) l (omega (arith, near, distance-same n f l)) in
           part_free n f 1 old k (ap (λ q. get_or old q Free) at ∙ slot_from_none (get_or old f Free) free)
       | inr far ↦ part_no n f 1 old k far
     ]) in
@@ -226,13 +226,13 @@ sweep_starts {T} eq input m old f ok l free =
       count = rw none refl;
     }
 
--- ---- a turn at the place p
-pub turn_place : (n f a p : ℕ) → f < n → a < n → p ≡ ahead n f a → (p < n) × (distance n f p ≡ a)
-turn_place n f a p l b is =
+-- ---- a turn at the index p
+pub turn_index : (n f a p : ℕ) → f < n → a < n → p ≡ ahead n f a → (p < n) × (distance n f p ≡ a)
+turn_index n f a p l b is =
     let at = ahead_is n f a l (omega arith) in
     (omega (arith, is, at.below), ap (distance n f) is ∙ distance-ahead n f a l b)
 
--- places between a home and the place p, with f behind p
+-- indices between a home and the index p, with f behind p
 along : (n h p f j : ℕ) → h < n → p < n → f < n → distance n h p < distance n h f → j ≤ distance n h p → distance n f (ahead n h j) + (distance n h p - j) ≡ distance n f p
 along n h p f j hb pb fb less le =
     let hp = distance_is n h p hb pb in
@@ -242,7 +242,7 @@ along n h p f j hb pb fb less le =
     let fa = distance_is n f (ahead n h j) fb at.below in
     omega (arith, hp, hf, fp, at, fa)
 
--- the entries of the settled places and of p
+-- the entries of the settled indices and of p
 record More {T : Type 0} (old : List (Slot T)) (f a : ℕ) (s : Held T) : Type 0 where
   pub entries : IsPermutation (entries_of (part (length old) f a old) ++ (s.item, s.count) ∷ []) (entries_of (part (length old) f (a + 1) old))
   pub size : length (entries_of (part (length old) f (a + 1) old)) ≡ length (entries_of (part (length old) f a old)) + 1
@@ -320,31 +320,31 @@ module _ {T : Type 0} {eq : T → T → Bool} (laws : IsEquivalence eq) (input :
       let mid = set slots p Free in
       let now = part n f a slots in
       let before = part n f a old in
-      let q = moves.place in
-      let v : Slot T = Taken moves.looked (s.count - m) s.item in
+      let q = moves.index in
+      let v : Slot T = Taken moves.probed (s.count - m) s.item in
       let one = more s at in
       let long_mid : length mid ≡ n = length-set slots p Free ∙ w.long in
       let long_now : length now ≡ n = length_keep (done n f a) slots ∙ w.long in
-      let G : ℕ → Type 0 = λ z. IsGap (home_in input z s.item) mid q moves.looked in
-      let gap : IsGap h mid q moves.looked = subst G w.long moves.gap in
-      let taken_mid : (j : ℕ) → j + 1 < moves.looked → is_taken mid (ahead n h j) ≡ true = λ j l. ap (λ z. is_taken mid (ahead z h j)) (sym long_mid) ∙ gap.taken j l in
-      let q_is : q ≡ ahead n h (moves.looked - 1) = gap.place_is ∙ ap (λ z. ahead z h (moves.looked - 1)) long_mid in
+      let G : ℕ → Type 0 = λ z. IsFreeSlot (home_in input z s.item) mid q moves.probed in
+      let free_slot : IsFreeSlot h mid q moves.probed = subst G w.long moves.free_slot in
+      let taken_mid : (j : ℕ) → j + 1 < moves.probed → is_taken mid (ahead n h j) ≡ true = λ j l. ap (λ z. is_taken mid (ahead z h j)) (sym long_mid) ∙ free_slot.taken j l in
+      let q_is : q ≡ ahead n h (moves.probed - 1) = free_slot.index_is ∙ ap (λ z. ahead z h (moves.probed - 1)) long_mid in
       let at_old : slot_at old p ≡ Some s = ap held (sym here) ∙ at in
       let behind : distance n h p < distance n h f = elim (cases_lt (distance n h p) (distance n h f)) [
         | inl l ↦ l
         | inr g ↦ absurd (both_ways _ w.free (ap (is_taken old) (sym (ahead-distance n h f hb w.below)) ∙ ok.placed.run p s at_old (distance n h f) g))
       ] in
       let gone : is_taken mid p ≡ false = ap is_some (slot_at-set_same slots p Free (omega (arith, w.long, pb))) in
-      let few : moves.looked ≤ distance n h p + 1 = elim (cases_lt (distance n h p + 1) moves.looked) [
+      let few : moves.probed ≤ distance n h p + 1 = elim (cases_lt (distance n h p + 1) moves.probed) [
         | inl l ↦ absurd (both_ways _ gone (ap (is_taken mid) (sym (ahead-distance n h p hb pb)) ∙ taken_mid (distance n h p) l))
         | inr g ↦ g
       ] in
-      let q_near : distance n f q ≤ a = omega (arith, gap.some, few, far, ap (distance n f) q_is, along n h p f (moves.looked - 1) hb pb w.below behind (omega (arith, gap.some, few))) in
-      let qb : q < n = let z = ahead_is n h (moves.looked - 1) hb (omega (arith, gap.short, long_mid)) in omega (arith, q_is, z.below) in
-      let gap_now : IsGap h now q moves.looked = record {
-        some = gap.some;
-        short = omega (arith, gap.short, long_mid, long_now);
-        place_is = q_is ∙ ap (λ z. ahead z h (moves.looked - 1)) (sym long_now);
+      let q_near : distance n f q ≤ a = omega (arith, free_slot.some, few, far, ap (distance n f) q_is, along n h p f (moves.probed - 1) hb pb w.below behind (omega (arith, free_slot.some, few))) in
+      let qb : q < n = let z = ahead_is n h (moves.probed - 1) hb (omega (arith, free_slot.short, long_mid)) in omega (arith, q_is, z.below) in
+      let free_slot_now : IsFreeSlot h now q moves.probed = record {
+        some = free_slot.some;
+        short = omega (arith, free_slot.short, long_mid, long_now);
+        index_is = q_is ∙ ap (λ z. ahead z h (moves.probed - 1)) (sym long_now);
         taken = λ j l.
             let k = ahead n h j in
             let near : distance n f k < a = omega (arith, l, few, far, along n h p f j hb pb w.below behind (omega (arith, l, few))) in
@@ -352,14 +352,14 @@ module _ {T : Type 0} {eq : T → T → Bool} (laws : IsEquivalence eq) (input :
             ap (λ z. is_taken now (ahead z h j)) long_now ∙ ap (λ o. is_some (held o)) (part_yes n f a slots k near) ∙ sym (ap is_some (slot_at-set_other slots p k Free other)) ∙ taken_mid j l;
         free = elim (cases_eq q p) [
           | inl same ↦ ap (is_taken now) same ∙ empty_there slots
-          | inr other ↦ ap (λ o. is_some (held o)) (part_free n f a slots q (slot_from_none (get_or slots q Free) (sym (ap is_some (slot_at-set_other slots p q Free other)) ∙ gap.free)))
+          | inr other ↦ ap (λ o. is_some (held o)) (part_free n f a slots q (slot_from_none (get_or slots q Free) (sym (ap is_some (slot_at-set_other slots p q Free other)) ∙ free_slot.free)))
         ];
       } in
-      let N : ℕ → Type 0 = λ z. IsGap (home_in input z s.item) now q moves.looked in
+      let N : ℕ → Type 0 = λ z. IsFreeSlot (home_in input z s.item) now q moves.probed in
       let new_part : part n f (a + 1) (set mid q v) ≡ set now q v = moved_part n f a p w.below pb far slots w.long q v qb q_near in
       let gone_before = absent s at in
       let room : length (entries_of now) + 1 < length now = omega (arith, w.count, one.size, few_keep (done n f (a + 1)) old, ok.room, long_now) in
-      let wrote = wrote_gap laws input now w.ok s.item (s.count - m) q moves.looked gone_before room (subst N (sym long_now) gap_now) (part n f (a + 1) (set mid q v)) new_part in
+      let wrote = wrote_free_slot laws input now w.ok s.item (s.count - m) q moves.probed gone_before room (subst N (sym long_now) free_slot_now) (part n f (a + 1) (set mid q v)) new_part in
       let rest_of : List (T × ℕ) = (s.item, s.count - m) ∷ [] in
       let step : IsPermutation (purged m (entries_of (part n f (a + 1) old))) (purged m (entries_of before) ++ rest_of) = rw (purged_more m (entries_of before) s.item s.count high) at (purged-permutation m _ _ (IsPermutation-sym _ _ one.entries)) in
       let pushed : put eq (entries_of now) s.item (s.count - m) ≡ entries_of now ++ rest_of = put_new eq (entries_of now) s.item (s.count - m) gone_before in

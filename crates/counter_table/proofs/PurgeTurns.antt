@@ -7,7 +7,7 @@ use Rattle.std.proofs.lemmas.Bool.{both_ways}
 use Rattle.counter_table.specs.declared.slot.Slot.{Slot}
 use Rattle.counter_table.specs.declared.slot.Slot.TheVariants.{Free, Taken}
 use Rattle.counter_table.specs.Homes.{ahead, distance}
-use Rattle.counter_table.specs.Probes.{IsGap}
+use Rattle.counter_table.specs.Probes.{IsFreeSlot}
 use Rattle.counter_table.specs.Settled.{Moves, Settles}
 use Rattle.counter_table.proofs.ArithmeticRing.{back-distance}
 use Rattle.counter_table.specs.Slots.{Held, held, taken, entries_of, slot_at, is_taken}
@@ -26,7 +26,7 @@ pub slot_from_none : {T : Type 0} (o : Slot T) → is_some (held o) ≡ false �
 slot_from_none Free e = refl
 slot_from_none (Taken d n x) e = cc
 
--- a place outside holds nothing
+-- a index outside holds nothing
 pub set_free : {T : Type 0} (slots : List (Slot T)) (k : ℕ) → is_taken slots k ≡ false → set slots k Free ≡ slots
 set_free slots k f = ap (set slots k) (sym (slot_from_none (get_or slots k Free) f)) ∙ set-get_or slots k Free
 
@@ -50,14 +50,14 @@ room_without {T} slots k s e =
     omega (arith, length_permutation _ _ (taken_out slots k s e), length-append (entries_of (set slots k Free)) last, entries_few slots, length-set slots k Free)
 
 -- ---- the turn of an entry that stays
-pub settled : {T : Type 0} (home : T → ℕ) (old : List (Slot T)) (p m : ℕ) (s : Held T) → slot_at old p ≡ Some s → m < s.count → (place looked : ℕ) (new : List (Slot T)) → IsGap (home s.item) (set old p Free) place looked → new ≡ set (set old p Free) place (Taken looked (s.count - m) s.item) → Settles home old p m false new
-settled {T} home old p m s at more place looked new gap made =
+pub settled : {T : Type 0} (home : T → ℕ) (old : List (Slot T)) (p m : ℕ) (s : Held T) → slot_at old p ≡ Some s → m < s.count → (index probed : ℕ) (new : List (Slot T)) → IsFreeSlot (home s.item) (set old p Free) index probed → new ≡ set (set old p Free) index (Taken probed (s.count - m) s.item) → Settles home old p m false new
+settled {T} home old p m s at more index probed new free_slot made =
     let same : (t : Held T) → slot_at old p ≡ Some t → t ≡ s = λ t e. let both : Some t ≡ Some s = sym e ∙ at in cc in
     let Q : Held T → Type 0 = λ t. Moves home old p m t new in
     record {
       free = λ f. absurd (both_ways _ f (ap is_some at));
       spent = λ t e l. absurd (omega (arith, more, l, ap (λ (q : Held T). q.count) (same t e)));
-      left = λ t e l. (refl, subst Q (sym (same t e)) (record { place = place; looked = looked; gap = gap; made = made }));
+      left = λ t e l. (refl, subst Q (sym (same t e)) (record { index = index; probed = probed; free_slot = free_slot; made = made }));
     }
 
 -- ---- the turn of an entry that is freed
@@ -80,7 +80,7 @@ stayed home old p m none new made =
     }
 
 -- where its home is
-pub home_back : (n h p d place : ℕ) → h < n → p < n → d ≡ distance n h p + 1 → place ≡ ahead n p (n - (d - 1)) → place ≡ h
-home_back n h p d place l k far is =
+pub home_back : (n h p d index : ℕ) → h < n → p < n → d ≡ distance n h p + 1 → index ≡ ahead n p (n - (d - 1)) → index ≡ h
+home_back n h p d index l k far is =
     let same : d - 1 ≡ distance n h p = omega (arith, far) in
     is ∙ ap (λ q. ahead n p (n - q)) same ∙ back-distance n p h k l

@@ -1,4 +1,4 @@
--- What a walk gives, whatever the table keeps at its places.
+-- What a walk gives, whatever the table keeps at its indices.
 use Rattle.std.proofs.Common.{◌≡◌, ℕ, ◌+◌, ◌-◌, ◌*◌, ◌/◌, ◌%◌, ◌^◌, ◌<◌, ◌≤◌, zero, suc, List, [], ◌∷◌, ◌++◌, length, get_or, drop, refl, ap, sym, ◌∙◌, subst, arith, inl, inr}
 use Rattle.std.specs.Prelude.{IsPermutation, Option, Some, None, option_to_list, bit_and, bit_or, ⊤}
 use Rattle.std.specs.Iterator.{MakesProgress, item_count}
@@ -12,7 +12,7 @@ use Rattle.std.proofs.Math.Nat.{mod-add-mod, zero-mod}
 use Rattle.sketch_base.specs.PowersOfTwo.{power_of}
 use Rattle.counter_table.specs.Slots.{IsTableSize}
 use Rattle.counter_table.proofs.LookupHomes.{stride_masked}
-use Rattle.counter_table.specs.Places.{place_at, places, found_in, given_before, rest_from, IsCursor}
+use Rattle.counter_table.specs.Indices.{index_at, indices, found_in, given_before, rest_from, IsCursor}
 use Rattle.counter_table.proofs.WalkStride.{strided}
 
 cons_as : {Y : Type 0} (o : Option Y) (ys : List Y) → cons_option o ys ≡ option_to_list o ++ ys
@@ -38,23 +38,23 @@ length_kept h (x ∷ xs) =
     let m = one_more (h x) (filter_map h xs) in
     omega arith
 
--- a list by its places
-pub by_place : {X Y : Type 0} (h : X → Option Y) (xs : List X) (d : X) (n i : ℕ) → i + n ≡ length xs → filter_map h (drop i xs) ≡ filter_map (λ p. h (get_or xs p d)) (range_with_len i n)
-by_place h xs d zero i e = rw (drop_all i xs (omega arith))
-by_place {X} {Y} h xs d (suc n) i e = ap (filter_map h) (drop_more xs i d (omega arith)) ∙ ap (cons_option (h (get_or xs i d))) (by_place h xs d n (i + 1) (omega arith))
+-- a list by its indices
+pub by_index : {X Y : Type 0} (h : X → Option Y) (xs : List X) (d : X) (n i : ℕ) → i + n ≡ length xs → filter_map h (drop i xs) ≡ filter_map (λ p. h (get_or xs p d)) (range_with_len i n)
+by_index h xs d zero i e = rw (drop_all i xs (omega arith))
+by_index {X} {Y} h xs d (suc n) i e = ap (filter_map h) (drop_more xs i d (omega arith)) ∙ ap (cons_option (h (get_or xs i d))) (by_index h xs d n (i + 1) (omega arith))
 
 module _ {E : Type 0} (at : ℕ → Option E) where
-  rest_more : (n s i : ℕ) → i < n → rest_from at n s i ≡ cons_option (at (place_at n s i)) (rest_from at n s (i + 1))
+  rest_more : (n s i : ℕ) → i < n → rest_from at n s i ≡ cons_option (at (index_at n s i)) (rest_from at n s (i + 1))
   rest_more n s i lt =
       let e : n - i ≡ suc (n - (i + 1)) = omega arith in
       ap (found_in at n s i) e
 
-  given_more : (n s i : ℕ) → given_before at n s (i + 1) ≡ given_before at n s i ++ option_to_list (at (place_at n s i))
+  given_more : (n s i : ℕ) → given_before at n s (i + 1) ≡ given_before at n s i ++ option_to_list (at (index_at n s i))
   given_more n s i =
-      let one : filter_map at (place_at n s i ∷ []) ≡ option_to_list (at (place_at n s i)) = one_kept (at (place_at n s i)) in
-      ap (filter_map at) (map-range_with_len_more (place_at n s) 0 i i (omega arith)) ∙ filter_map-append at (places n s 0 i) (place_at n s i ∷ []) ∙ ap (λ (l : List E). given_before at n s i ++ l) one
+      let one : filter_map at (index_at n s i ∷ []) ≡ option_to_list (at (index_at n s i)) = one_kept (at (index_at n s i)) in
+      ap (filter_map at) (map-range_with_len_more (index_at n s) 0 i i (omega arith)) ∙ filter_map-append at (indices n s 0 i) (index_at n s i ∷ []) ∙ ap (λ (l : List E). given_before at n s i ++ l) one
 
-  -- where some are still to come, so are places
+  -- where some are still to come, so are indices
   pub rest_some : (n s i : ℕ) → 0 < length (rest_from at n s i) → i < n
   rest_some n s i some = elim (cases_lt i n) [
     | inl l ↦ l
@@ -67,22 +67,22 @@ module _ {E : Type 0} (at : ℕ → Option E) where
   -- no more is given than was looked at
   pub given_few : (n s i : ℕ) → length (given_before at n s i) ≤ i
   given_few n s i =
-      let l = length_kept at (places n s 0 i) in
-      omega (arith, length-map-range_with_len (place_at n s) 0 i)
+      let l = length_kept at (indices n s 0 i) in
+      omega (arith, length-map-range_with_len (index_at n s) 0 i)
 
-  -- a whole walk gives what stands at all places, in another order
+  -- a whole walk gives what stands at all indices, in another order
   pub walk_gives_all : (n s : ℕ) → IsTableSize n → s % 2 ≡ 1 → IsPermutation (filter_map at (range_with_len 0 n)) (rest_from at n s 0)
   walk_gives_all n s size odd =
       let g = λ (p : ℕ). option_to_list (at p) in
       let whole : n - 0 ≡ n = omega arith in
-      let rest : rest_from at n s 0 ≡ flat_map g (places n s 0 n) = ap (found_in at n s 0) whole ∙ filter_map_as at (places n s 0 n) in
+      let rest : rest_from at n s 0 ≡ flat_map g (indices n s 0 n) = ap (found_in at n s 0) whole ∙ filter_map_as at (indices n s 0 n) in
       let k = power_of n size.power in
-      let same = subst (λ (m : ℕ). IsPermutation (flat_map g (range_with_len 0 m)) (flat_map g (places m s 0 m))) (sym k.1) (strided g k.0 s odd) in
+      let same = subst (λ (m : ℕ). IsPermutation (flat_map g (range_with_len 0 m)) (flat_map g (indices m s 0 m))) (sym k.1) (strided g k.0 s odd) in
       subst (λ (l : List E). IsPermutation l (rest_from at n s 0)) (sym (filter_map_as at (range_with_len 0 n))) (subst (λ (l : List E). IsPermutation (flat_map g (range_with_len 0 n)) l) (sym rest) same)
 
--- the next place
-next_place : (n s i p : ℕ) → p ≡ place_at n s i → (p + s) % n ≡ place_at n s (i + 1)
-next_place n s i p e =
+-- the next index
+next_index : (n s i p : ℕ) → p ≡ index_at n s i → (p + s) % n ≡ index_at n s (i + 1)
+next_index n s i p e =
     let more : i * s + s ≡ (i + 1) * s = omega arith in
     ap (λ (x : ℕ). (x + s) % n) e ∙ mod-add-mod (i * s) n s ∙ ap (λ (x : ℕ). x % n) more
 
@@ -111,22 +111,22 @@ IsCursor-start n size =
       stride_small = golden_small (n * 618 / 1000) (few n size.limit);
     }
 
-pub place_within : (n s i p : ℕ) → IsCursor n s i p → i < n → p < n
-place_within n s i p cursor more = subst (λ (q : ℕ). q < n) (sym cursor.at) (mod_below (i * s) n (omega arith))
+pub index_within : (n s i p : ℕ) → IsCursor n s i p → i < n → p < n
+index_within n s i p cursor more = subst (λ (q : ℕ). q < n) (sym cursor.at) (mod_below (i * s) n (omega arith))
 
 -- what one step does, where it finds o
-pub record Stepped {E : Type 0} (at : ℕ → Option E) (n stride looked place : ℕ) (o : Option E) : Type 0 where
-  pub cursor : IsCursor n stride (looked + 1) (bit_and (place + stride) (n - 1))
-  pub rest : rest_from at n stride looked ≡ cons_option o (rest_from at n stride (looked + 1))
-  pub given : given_before at n stride (looked + 1) ≡ given_before at n stride looked ++ option_to_list o
+pub record Stepped {E : Type 0} (at : ℕ → Option E) (n stride probed index : ℕ) (o : Option E) : Type 0 where
+  pub cursor : IsCursor n stride (probed + 1) (bit_and (index + stride) (n - 1))
+  pub rest : rest_from at n stride probed ≡ cons_option o (rest_from at n stride (probed + 1))
+  pub given : given_before at n stride (probed + 1) ≡ given_before at n stride probed ++ option_to_list o
 
-pub stepped : {E : Type 0} (at : ℕ → Option E) (n stride looked place : ℕ) (o : Option E) → IsCursor n stride looked place → looked < n → at place ≡ o → Stepped at n stride looked place o
-stepped {E} at n stride looked place o cursor more read =
-    let found : at (place_at n stride looked) ≡ o = ap at (sym cursor.at) ∙ read in
+pub stepped : {E : Type 0} (at : ℕ → Option E) (n stride probed index : ℕ) (o : Option E) → IsCursor n stride probed index → probed < n → at index ≡ o → Stepped at n stride probed index o
+stepped {E} at n stride probed index o cursor more read =
+    let found : at (index_at n stride probed) ≡ o = ap at (sym cursor.at) ∙ read in
     record {
-      cursor = record { within = omega arith; at = stride_masked place stride n cursor.size_ok ∙ next_place n stride looked place cursor.at; size_ok = cursor.size_ok; stride_small = cursor.stride_small };
-      rest = rest_more at n stride looked more ∙ ap (λ (e : Option E). cons_option e (rest_from at n stride (looked + 1))) found;
-      given = given_more at n stride looked ∙ ap (λ (e : Option E). given_before at n stride looked ++ option_to_list e) found;
+      cursor = record { within = omega arith; at = stride_masked index stride n cursor.size_ok ∙ next_index n stride probed index cursor.at; size_ok = cursor.size_ok; stride_small = cursor.stride_small };
+      rest = rest_more at n stride probed more ∙ ap (λ (e : Option E). cons_option e (rest_from at n stride (probed + 1))) found;
+      given = given_more at n stride probed ∙ ap (λ (e : Option E). given_before at n stride probed ++ option_to_list e) found;
     }
 
 -- an iterator that gave the first of what was left is nearer its end

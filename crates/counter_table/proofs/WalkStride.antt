@@ -1,4 +1,4 @@
--- A stride that is odd leads through every place of a table whose size is a power of two, before it comes to one again.
+-- A stride that is odd leads through every index of a table whose size is a power of two, before it comes to one again.
 use Rattle.std.proofs.Common.{◌≡◌, ◌≢◌, ℕ, ◌+◌, ◌-◌, ◌*◌, ◌/◌, ◌%◌, ◌^◌, ◌<◌, ◌≤◌, zero, suc, List, [], ◌∷◌, ◌++◌, length, get_or, refl, ap, sym, ◌∙◌, subst, arith, ⊎_elim}
 use Rattle.std.specs.List.{range_with_len, flat_map}
 use Rattle.std.specs.Prelude.{IsPermutation, Contains, remove}
@@ -10,7 +10,7 @@ use Rattle.std.proofs.lemmas.List.FromFn.{length-range_with_len, get_or-range_wi
 use Rattle.std.proofs.lemmas.List.{append_assoc, nil_from_length, get_or_default}
 use Rattle.std.proofs.lemmas.List.Edits.{length-remove}
 use Rattle.std.proofs.lemmas.Grind.{in_remove}
-use Rattle.counter_table.specs.Places.{place_at, places}
+use Rattle.counter_table.specs.Indices.{index_at, indices}
 
 halves : (h b t q p : ℕ) → b < 2 → (2 * h + b) * (2 * t + 1) ≡ q * (2 * p) → (b ≡ 0) × (h * (2 * t + 1) ≡ q * p)
 halves h zero t q p l e = (refl, omega arith)
@@ -46,8 +46,8 @@ no_multiple : (n d r : ℕ) → 0 < d → d < n → d ≢ r * n
 no_multiple n d zero pos below e = omega arith
 no_multiple n d (suc r) pos below e = omega arith
 
--- places that are apart by fewer steps than the size are two places
-pub apart : (k s i j : ℕ) → s % 2 ≡ 1 → i < j → j < 2 ^ k → place_at (2 ^ k) s i ≢ place_at (2 ^ k) s j
+-- indices that are apart by fewer steps than the size are two indices
+pub apart : (k s i j : ℕ) → s % 2 ≡ 1 → i < j → j < 2 ^ k → index_at (2 ^ k) s i ≢ index_at (2 ^ k) s j
 apart k s i j odd lt below e =
     let n = 2 ^ k in
     let d = j - i in
@@ -91,15 +91,15 @@ module _ {A : Type 0} (f : ℕ → List A) where
       (subst (λ (n : ℕ). IsPermutation (flat_map f ys) (f n ++ flat_map f (remove ys i))) at (at_removed ys i lt))
       (IsPermutation-append_right (f x) (flat_map f (remove ys i)) (flat_map f xs) (rearranged xs (remove ys i) (omega arith) kept (λ i j l m. differ (suc i) (suc j) (omega arith) (omega arith))))
 
-  -- the walk's places are all places, in another order
-  pub strided : (k s : ℕ) → s % 2 ≡ 1 → IsPermutation (flat_map f (range_with_len 0 (2 ^ k))) (flat_map f (places (2 ^ k) s 0 (2 ^ k)))
+  -- the walk's indices are all indices, in another order
+  pub strided : (k s : ℕ) → s % 2 ≡ 1 → IsPermutation (flat_map f (range_with_len 0 (2 ^ k))) (flat_map f (indices (2 ^ k) s 0 (2 ^ k)))
   strided k s odd =
       let n = 2 ^ k in
-      let long : length (places n s 0 n) ≡ n = length-map-range_with_len (place_at n s) 0 n in
-      let at = λ (i : ℕ) (h : i < n). get_or-map-range_with_len (place_at n s) 0 n i i 0 h (omega arith) in
-      rearranged (places n s 0 n) (range_with_len 0 n) (long ∙ sym (length-range_with_len 0 n))
+      let long : length (indices n s 0 n) ≡ n = length-map-range_with_len (index_at n s) 0 n in
+      let at = λ (i : ℕ) (h : i < n). get_or-map-range_with_len (index_at n s) 0 n i i 0 h (omega arith) in
+      rearranged (indices n s 0 n) (range_with_len 0 n) (long ∙ sym (length-range_with_len 0 n))
       (λ i h.
-      let p = place_at n s i in
+      let p = index_at n s i in
       let low : p < n = mod_below (i * s) n (pow_pos k) in
       let none : 0 + p ≡ p = omega arith in
       let within : p < length (range_with_len 0 n) = omega (arith, length-range_with_len 0 n) in

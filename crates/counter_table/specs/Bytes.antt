@@ -9,7 +9,7 @@ use denote.RattleType.{RattleType}
 abbrev pub option_bytes : RattleType → ℕ
 option_bytes item = capped (type_size (option.the_row item))
 
--- for each slot those of an `Option` of its item and 12 more, or the greatest `usize` where that passes it
+-- for each slot, the bytes of an `Option` of its item and 12 more, or `usize::MAX` if the sum exceeds it
 abbrev pub slots_bytes : (option size : ℕ) → ℕ
 slots_bytes option size = min (size * min (option + 12) (2 ^ 64 - 1)) (2 ^ 64 - 1)
 

@@ -1,5 +1,5 @@
--- A filter of a permutation is a permutation of the filter. No clause cites this module: it is a lemma for the proofs here and in
--- the crate above.
+-- A filter of a permutation is a permutation of the filter. No clause cites this module. It is a lemma for the proofs here and
+-- in the crate above.
 use Rattle.std.proofs.Common.{ℕ, ◌<◌, zero, suc, Bool, true, false, cond, List, [], ◌∷◌, length, get_or, arith, IsPermutation}
 use Rattle.std.proofs.Math.ListN.{set}
 use Rattle.std.specs.List.{filter, swap}
@@ -10,7 +10,7 @@ by_test : (b : Bool) (P : Bool → Type 0) → P true → P false → P b
 by_test true P t f = t
 by_test false P t f = f
 
--- the first two change places
+-- the first two are swapped
 two : {X : Type 0} (a b : X) (xs : List X) → IsPermutation (a ∷ b ∷ xs) (b ∷ a ∷ xs)
 two a b xs = IsPermutation-append_left xs (a ∷ b ∷ []) (b ∷ a ∷ []) (IsPermutation-append_comm (a ∷ []) (b ∷ []))
 
@@ -26,7 +26,7 @@ module _ {X : Type 0} (p : X → Bool) where
       (by_test (p b) (λ v. IsPermutation (a ∷ cond v (b ∷ fs) fs) (cond v (b ∷ a ∷ fs) (a ∷ fs))) (two a b fs) (IsPermutation-refl (a ∷ fs)))
       (by_test (p b) (λ v. IsPermutation (cond v (b ∷ fs) fs) (cond v (b ∷ fs) fs)) (IsPermutation-refl (b ∷ fs)) (IsPermutation-refl fs))
 
-  -- z in front and the one at j change places
+  -- z in front and the item at j are swapped
   front : (z d : X) (xs : List X) (j : ℕ) → j < length xs → IsPermutation (filter p (z ∷ xs)) (filter p (get_or xs j d ∷ set xs j z))
   front z d [] j h = absurd (omega arith)
   front z d (a ∷ xs) zero h = two_kept z a xs

@@ -2,7 +2,8 @@ pub mod Bytes
 pub mod Filters
 pub mod Fingerprints
 pub mod Homes
-pub mod Places
+pub mod Keys
+pub mod Indices
 pub mod Probes
 pub mod Settled
 pub mod Slots

@@ -1,23 +1,23 @@
--- What a turn of a purge makes of a slot. No public clause cites this module.
+-- What a purge does to one slot in its turn. No public clause cites this module.
 use Rattle.std.specs.Prelude.{◌≡◌, ℕ, ◌+◌, ◌-◌, ◌<◌, ◌≤◌, Bool, true, false, List, length, Some, slice_set}
 use Rattle.counter_table.specs.Homes.{distance}
-use Rattle.counter_table.specs.Probes.{IsGap}
+use Rattle.counter_table.specs.Probes.{IsFreeSlot}
 use Rattle.counter_table.specs.Slots.{Held, slot_at, is_taken}
 use Rattle.counter_table.specs.declared.slot.Slot.{Slot}
 use Rattle.counter_table.specs.declared.slot.Slot.TheVariants.{Free, Taken}
 
--- what stands at p is as far from its home as its drift says, less 1
+-- the drift of an entry at p is its distance from its home plus 1
 abbrev pub HasDrift : {T : Type 0} → (T → ℕ) → List (Slot T) → ℕ → Type 0
 HasDrift {T} home slots p =
     (s : Held T) → slot_at slots p ≡ Some s → s.drift ≡ distance (length slots) (home s.item) p + 1
 
--- s left p with a count less by m, for the first free place from its home on
+-- s left p for the first free index from its home on, with its count less by m
 pub record Moves {T : Type 0} (home : T → ℕ) (old : List (Slot T)) (p m : ℕ) (s : Held T) (new : List (Slot T))
     : Type 0 where
-  pub place : ℕ
-  pub looked : ℕ
-  pub gap : IsGap (home s.item) (slice_set old p Free) place looked
-  pub made : new ≡ slice_set (slice_set old p Free) place (Taken looked (s.count - m) s.item)
+  pub index : ℕ
+  pub probed : ℕ
+  pub free_slot : IsFreeSlot (home s.item) (slice_set old p Free) index probed
+  pub made : new ≡ slice_set (slice_set old p Free) index (Taken probed (s.count - m) s.item)
 
 -- a free slot at p stays, one with a count of at most m is freed, and any other moves
 pub record Settles {T : Type 0} (home : T → ℕ) (old : List (Slot T)) (p m : ℕ) (dropped : Bool) (new : List (Slot T))

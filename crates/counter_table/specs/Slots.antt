@@ -27,7 +27,7 @@ held (Taken drift count item) = Some (record { item = item; count = count; drift
 abbrev pub taken : {T : Type 0} → Held T → Slot T
 taken s = Taken s.drift s.count s.item
 
--- what stands in the slot at a place, if it is taken
+-- the content of the slot at an index, if it is taken
 abbrev pub slot_at : {T : Type 0} → List (Slot T) → ℕ → Option (Held T)
 slot_at slots k = held (slice_index_or slots k Free)
 
@@ -46,28 +46,28 @@ entries_of slots = filter_map slot_entry slots
 abbrev pub table_of : {T : Type 0} → List (Slot T) → Table T
 table_of slots = record { entries = entries_of slots; size = length slots }
 
--- each entry is as far from its home as its drift says, less 1, and every place from its home on is taken
+-- each drift is the distance from the item's home plus 1, and every index from the home to the entry is taken
 pub record IsPlaced {T : Type 0} (home : T → ℕ) (slots : List (Slot T)) : Type 0 where
   pub drift : (k : ℕ) (s : Held T) → slot_at slots k ≡ Some s → s.drift ≡ distance (length slots) (home s.item) k + 1
   pub run :
       (k : ℕ) (s : Held T) → slot_at slots k ≡ Some s → (j : ℕ) → j ≤ distance (length slots) (home s.item) k →
       is_taken slots (ahead (length slots) (home s.item) j) ≡ true
 
--- what holds of the slots of every table
+-- the invariant of the slots of every table
 pub record IsSlots {T : Type 0} (eq : T → T → Bool) (input : T → List (List ℕ)) (slots : List (Slot T)) : Type 0 where
   pub distinct : IsDistinct eq (keys_of (entries_of slots))
   pub placed : IsPlaced (home_in input (length slots)) slots
   pub room : length (entries_of slots) < length slots
   pub size : IsTableSize (length slots)
 
--- and of the fingerprints and the number of entries that are kept beside them
+-- the invariant of the slots with their fingerprints and the number of entries
 pub record IsCounted {T : Type 0} (eq : T → T → Bool) (input : T → List (List ℕ)) (slots : List (Slot T))
     (fingerprints : List ℕ) (active : ℕ) : Type 0 where
   pub slots_ok : IsSlots eq input slots
   pub fingerprints_ok : AreFingerprints input slots fingerprints
   pub active_is : active ≡ length (entries_of slots)
 
--- w fits onto the count in the slot at k
+-- adding w to the count in the slot at k does not overflow
 abbrev pub CountHasRoom : {T : Type 0} → List (Slot T) → ℕ → ℕ → Type 0
 CountHasRoom {T} slots k w = (s : Held T) → slot_at slots k ≡ Some s → s.count + w < 2 ^ 64
 

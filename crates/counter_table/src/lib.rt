@@ -1,17 +1,18 @@
 //! A table of counters: a finite map from items to counts, whose light entries a purge drops.
 //!
-//! [`ReversePurgeItemHashMap`] keeps its entries in one array of slots, with linear probing, and beside it a byte a slot, its
-//! fingerprint, by which a look-up sees whether to look into the slot. A purge takes a
-//! middle count of a sample from every count, and drops what is left without one: what a summary of Misra and Gries does
-//! where it has no counter left. It deletes by backward shift, Knuth's algorithm R, all that goes in one sweep: a slot that was
-//! freed is filled by a later entry of its cluster, so that no slot is ever marked and what a look-up costs is a function of
-//! the entries alone.
+//! [`ReversePurgeItemHashMap`] keeps its entries in one array of slots, with linear probing. A second array has a byte for each
+//! slot, its fingerprint, which shows whether a look-up has to read the slot. A purge subtracts a middle count of a sample from
+//! every count, and drops the entries at or below it. A summary of Misra & Gries 1982 does so if it has no counter left.
 //!
-//! Contracts see a map as the list of its entries in an order that they leave open, and its size. Its slots show
-//! themselves to a caller that writes all entries out, by [`ReversePurgeItemHashMap::slots`].
+//! A purge deletes by backward shift (Knuth vol. 3, 6.4, algorithm R), all entries in one sweep. A later entry of its cluster
+//! fills a freed slot, so no slot is ever marked as deleted. The cost of a look-up is a function of the entries alone.
+//!
+//! Contracts describe a map by the list of its entries in an unspecified order, and by its size.
+//! [`ReversePurgeItemHashMap::slots`] returns the slots, for a caller that writes all entries.
 #![tactic(auto)]
 
 mod fingerprints;
+mod item_key;
 mod look_ups;
 mod reverse_purge_item_hash_map;
 mod reverse_purge_item_iter;
@@ -19,6 +20,7 @@ mod sizes;
 mod slot;
 mod slots;
 
+pub use item_key::{ItemKey, OwnedKey};
 pub use reverse_purge_item_hash_map::ReversePurgeItemHashMap;
 pub use reverse_purge_item_iter::ReversePurgeItemIter;
 pub use sizes::{MAX_SAMPLE_SIZE, bytes_of_table, capacity_of, lg_of};

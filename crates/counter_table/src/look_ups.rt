@@ -8,7 +8,7 @@ use crate::slot::Slot;
 use crate::slots::find;
 use std::hash::Hash;
 
-/// The count of an item.
+/// Returns the count of an item, 0 if it is absent.
 #[inline(always)]
 fn count_in<T: Eq + Hash>(slots: &[Slot<T>], fingerprints: &[u8], item: &T) -> u64
     requires slots { IsSlots T.eq T.hash_input slots.now }
@@ -18,7 +18,7 @@ fn count_in<T: Eq + Hash>(slots: &[Slot<T>], fingerprints: &[u8], item: &T) -> u
     find(slots, fingerprints, item).found.unwrap_or(0)
 }
 
-/// Writes down the count of each item.
+/// Writes the count of each item to `counts`, 0 if it is absent.
 ///
 /// It is not inlined, so that its loops have the processor's registers to themselves.
 #[inline(never)]
@@ -33,7 +33,7 @@ pub(crate) fn counts_of<T: Eq + Hash>(
     requires same { length counts.old ≡ length items.now }
     ensures { counts.new ≡ map (count_of T.eq (entries_of slots.now)) items.now }
 {
-    // The label is there for the prover alone.
+    // The label names the loop for its proof.
     'each: for i in 0..items.len() {
         counts[i] = count_in(slots, fingerprints, &items[i]);
     }

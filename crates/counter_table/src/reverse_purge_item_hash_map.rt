@@ -7,10 +7,11 @@ ghost use Rattle.sketch_base.specs.Errors.{no_memory};
 ghost use Rattle.counter_table.specs.Bytes.{table_bytes};
 ghost use Rattle.counter_table.specs.Homes.{home_in, IsReach, IsShortOfReach};
 ghost use Rattle.counter_table.specs.Slots.{entries_of};
-ghost use Rattle.counter_table.specs.Tables.{count_of, is_tracked, put, purged, IsSampleMiddle, IsSameMap, PutsEqual};
+ghost use Rattle.counter_table.specs.Tables.{count_by_key, count_of, is_tracked_by_key, is_tracked, put, purged, IsSampleMiddle, IsSameMap, PutsEqual, PutsByKey};
 ghost use Rattle.counter_table.specs.Walk.{entry_of};
 
 use crate::fingerprints::{FREE, free_fingerprints};
+use crate::item_key::{ItemKey, OwnedKey};
 use crate::reverse_purge_item_iter::ReversePurgeItemIter;
 use crate::sizes::{MAX_SAMPLE_SIZE, bytes_of_table, capacity_of, lg_of};
 use crate::slot::Slot;
@@ -23,12 +24,12 @@ use std::mem;
 
 /// A finite map from items to counts of zero or more, in a table of slots that is never full.
 ///
-/// Items are told apart by `==` alone. A purge takes a middle count of a sample from every count at once and drops
-/// what is left without one.
+/// Items are compared by `==` alone. A purge subtracts a middle count of a sample from every count, and drops the entries at
+/// or below it.
 ///
-/// A look-up starts at the slot that the item's hash picks, its home, and goes on slot by slot, round the end. What it
-/// costs is a function of the map alone: no history of purges slows it down. The hash is fixed, so whoever picks the
-/// items can make them cluster; a look-up then looks at one slot an entry and one more, and never at more.
+/// A look-up starts at the item's home, the slot that its hash selects. It probes slot by slot and wraps around at the end. Its
+/// cost is a function of the map alone: earlier purges do not slow it down. The hash is fixed, so chosen items can form a
+/// cluster. Even then a look-up probes at most one slot for each entry and one more.
 ///
 /// # Examples
 ///
@@ -64,9 +65,9 @@ impl<T: Eq + Hash + Drop> Model for ReversePurgeItemHashMap<T> {
 }
 
 impl<T: Eq + Hash + Drop> ReversePurgeItemHashMap<T> {
-    /// An empty map in a table of `map_size` slots, a power of two of at most 2^30.
+    /// Creates an empty map in a table of `map_size` slots, a power of two of at most 2^30.
     ///
-    /// Answers `NoMemory` where there is no memory for the table.
+    /// Allocates the table. Returns `NoMemory` if that fails.
     pub fn new(alloc: Global, map_size: usize) -> Result<Self, Error>
         requires power { IsTrue (is_power_of_two map_size) }
         requires limit { map_size ≤ 2 ^ 30 }
@@ -82,7 +83,7 @@ impl<T: Eq + Hash + Drop> ReversePurgeItemHashMap<T> {
         })
     }
 
-    /// Returns the count of the item, 0 if it is absent. [`get_counted`](Self::get_counted) says how many slots it probes.
+    /// Returns the count of the item, 0 if it is absent. [`get_counted`](Self::get_counted) also returns the number of probes.
     pub fn get(&self, item: &T) -> u64
         ensures { result ≡ count_of T.eq self.now.entries item.now }
     {
@@ -91,25 +92,27 @@ impl<T: Eq + Hash + Drop> ReversePurgeItemHashMap<T> {
 
     /// Returns the count of the item, 0 if it is absent, and the number of slots that were probed for it.
     ///
-    /// A place is full if, for some k, at least k + 1 entries have their home among the k + 1 places that end at it,
-    /// counted round the end. An item's reach is the number of places from its home on up to the first that is not
-    /// full, that one included. The number of probes is the reach if the item is absent, and from 1 to the reach less 1 if
-    /// it is present, whatever was purged before. It is at most the number of entries and 1, and at most the number of slots.
+    /// An index is full if, for some k, at least k + 1 entries have their home among the k + 1 indices that end at it, wrapping
+    /// around. An item's reach is the number of indices from its home to the first that is not full, both included.
+    ///
+    /// If the item is absent, the number of probes is the reach. If it is present, it is from 1 to the reach less 1. Earlier
+    /// purges have no influence. It is at most the number of entries plus 1, and at most the number of slots.
     pub fn get_counted(&self, item: &T) -> (u64, usize)
         ensures count { result.0 ≡ count_of T.eq self.now.entries item.now }
         ensures absent { is_tracked T.eq self.now.entries item.now ≡ false
             → IsReach (home_in T.hash_input self.now.size) self.now item.now result.1 }
         ensures present { is_tracked T.eq self.now.entries item.now ≡ true
             → IsShortOfReach (home_in T.hash_input self.now.size) self.now item.now result.1 }
-        ensures looked { result.1 ≤ length self.now.entries + 1 }
+        ensures probed { result.1 ≤ length self.now.entries + 1 }
         ensures within { result.1 ≤ self.now.size }
     {
         let probe = slots::find(&self.slots, &self.fingerprints, item);
-        (probe.found.unwrap_or(0), probe.looked)
+        (probe.found.unwrap_or(0), probe.probed)
     }
 
-    /// Writes down the count of each item, 0 where it is absent, as [`get`](Self::get) answers. It takes no memory, and
-    /// there are as many counts as items.
+    /// Writes the count of each item to `counts`, 0 if it is absent, as [`get`](Self::get) returns it.
+    ///
+    /// Both slices have the same length. It does not allocate.
     ///
     /// # Examples
     ///
@@ -129,9 +132,10 @@ impl<T: Eq + Hash + Drop> ReversePurgeItemHashMap<T> {
         look_ups::counts_of(&self.slots, &self.fingerprints, items, counts);
     }
 
-    /// Adds the amount to the item's count, or inserts the item with it where it is absent, also an amount of 0.
+    /// Adds the amount to the item's count, or inserts the item with the amount as its count.
     ///
-    /// Where the item is absent a slot has to stay free behind it, and where it is present the sum has to fit.
+    /// An amount of 0 is inserted too. An insertion requires that a slot stays free after it, and an addition requires that the
+    /// sum fits.
     pub fn adjust_or_put_value(&mut self, item: T, adjust_amount: u64)
         requires room { is_tracked T.eq self.old.entries item ≡ false → length self.old.entries + 1 < self.old.size }
         requires fits { is_tracked T.eq self.old.entries item ≡ true
@@ -145,12 +149,14 @@ impl<T: Eq + Hash + Drop> ReversePurgeItemHashMap<T> {
         }
     }
 
-    /// Adds the amount to the item's count, or inserts a clone of the item with it where it is absent, also an amount
-    /// of 0. Only then is it cloned.
+    /// Adds the amount to the item's count, or inserts a clone of the item with the amount as its count.
     ///
-    /// Where the item is absent a slot has to stay free behind it, and where it is present the sum has to fit. Clones
-    /// have to equal their originals. Answers `NoMemory` where there is no memory for the clone, and then nothing has
-    /// changed.
+    /// Clones the item only if it has no entry. Clones have to equal their originals. An amount of 0 is inserted too. An
+    /// insertion requires that a slot stays free after it, and an addition requires that the sum fits.
+    ///
+    /// # Errors
+    ///
+    /// Returns `NoMemory` if the clone cannot be allocated. The map is then unchanged.
     pub fn adjust_or_put_value_ref(&mut self, item: &T, adjust_amount: u64) -> Result<(), Error>
     where
         T: Clone,
@@ -172,10 +178,47 @@ impl<T: Eq + Hash + Drop> ReversePurgeItemHashMap<T> {
         Ok(())
     }
 
-    /// Takes a middle count m of a sample from every count, drops the entries at or below m, and answers m.
+    /// Adds the amount to the count of the item that the key names, or inserts the item with the amount as its count.
     ///
-    /// The sample has `min(sample_size, active, 1024)` entries, and m is the count at half its length in ascending
-    /// order. Which entries are sampled is left open. There has to be an entry, and a `sample_size` above 0.
+    /// Creates and allocates the item only if it has no entry. An amount of 0 is inserted too. An insertion requires
+    /// that a slot stays free after it, and an addition requires that the sum fits.
+    ///
+    /// # Errors
+    ///
+    /// Returns `NoMemory` if the item cannot be allocated. The table is then unchanged.
+    pub fn adjust_or_put_by_key<K: OwnedKey<T>>(
+        &mut self,
+        key: K,
+        adjust_amount: u64,
+    ) -> Result<(), Error>
+        requires room { is_tracked_by_key (K.names key) self.old.entries ≡ false
+            → length self.old.entries + 1 < self.old.size }
+        requires fits { is_tracked_by_key (K.names key) self.old.entries ≡ true
+            → count_by_key (K.names key) self.old.entries + adjust_amount < 2 ^ 64 }
+        ensures entries { OnOk result (PutsByKey T.eq (K.names key) self.old.entries adjust_amount self.new.entries) }
+        ensures size { self.new.size ≡ self.old.size }
+        ensures distinct { IsDistinct T.eq (keys_of self.new.entries) }
+        ensures err { OnErr result (self.new ≡ self.old) }
+        ensures memory { IfErr result (λ e. e ≡ no_memory) }
+        ensures succeeds { is_tracked_by_key (K.names key) self.old.entries ≡ true → IsOk result }
+    {
+        if slots::put_by_key_in(
+            self.allocator(),
+            &mut self.slots,
+            &mut self.fingerprints,
+            key,
+            adjust_amount,
+        )? {
+            self.active += 1;
+        }
+        Ok(())
+    }
+
+    /// Subtracts a middle count m of a sample from every count, drops the entries at or below m, and returns m.
+    ///
+    /// The sample has `min(sample_size, active, 1024)` entries, and m is the count at half its length in ascending order. Which
+    /// entries are sampled is unspecified. Drops at least half of the sample and one entry more. Requires an entry, and a
+    /// `sample_size` above 0. It does not allocate.
     pub fn purge(&mut self, sample_size: usize) -> u64
         requires active { 0 < length self.old.entries }
         requires sample { 0 < sample_size }
@@ -193,9 +236,9 @@ impl<T: Eq + Hash + Drop> ReversePurgeItemHashMap<T> {
         middle
     }
 
-    /// The same map in a table of `new_size` slots, a power of two of at most 2^30 above the number of entries.
+    /// Moves the entries to a table of `new_size` slots, a power of two of at most 2^30 above the number of entries.
     ///
-    /// Answers `NoMemory` where there is no memory for the table, and then nothing has changed.
+    /// Allocates the new table and frees the old one. Returns `NoMemory` if the allocation fails. The map is then unchanged.
     pub fn resize(&mut self, new_size: usize) -> Result<(), Error>
         requires power { IsTrue (is_power_of_two new_size) }
         requires limit { new_size ≤ 2 ^ 30 }
@@ -214,7 +257,7 @@ impl<T: Eq + Hash + Drop> ReversePurgeItemHashMap<T> {
         Ok(())
     }
 
-    /// The number of slots, at most 2^30.
+    /// Returns the number of slots, at most 2^30.
     pub fn len(&self) -> usize
         ensures size { result ≡ self.now.size }
         ensures limit { result ≤ 2 ^ 30 }
@@ -222,21 +265,21 @@ impl<T: Eq + Hash + Drop> ReversePurgeItemHashMap<T> {
         self.slots.len()
     }
 
-    /// The number of slots as a power of two.
+    /// Returns the base-2 logarithm of the number of slots.
     pub fn lg_length(&self) -> u8
         ensures { 2 ^ result ≡ self.now.size }
     {
         lg_of(self.slots.len())
     }
 
-    /// Three quarters of the slots: how many entries a sketch keeps in a table of this size.
+    /// Returns the number of entries that a sketch keeps in a table of this size: three quarters of the slots.
     pub fn capacity(&self) -> usize
         ensures { result ≡ self.now.size * 3 / 4 }
     {
         capacity_of(self.slots.len())
     }
 
-    /// The number of entries.
+    /// Returns the number of entries.
     pub fn num_active(&self) -> usize
         ensures active { result ≡ length self.now.entries }
         ensures room { result < self.now.size }
@@ -244,20 +287,20 @@ impl<T: Eq + Hash + Drop> ReversePurgeItemHashMap<T> {
         self.active
     }
 
-    /// A walk that gives every entry once, in an order that is left open.
+    /// Returns a walk that yields every entry once, in an unspecified order.
     pub fn iter(&self) -> ReversePurgeItemIter<'_, T>
         ensures entries { IsPermutation self.now.entries result.rest }
         ensures distinct { IsDistinct T.eq (keys_of result.rest) }
         ensures given { result.given ≡ [] }
-        ensures looked { result.looked ≡ 0 }
+        ensures probed { result.probed ≡ 0 }
         ensures size { result.size ≡ self.now.size }
     {
         ReversePurgeItemIter::new(self.slots.as_slice(), self.active)
     }
 
-    /// Every entry once, in an order that is left open.
+    /// Returns every entry once, in an unspecified order.
     ///
-    /// Answers `NoMemory` where there is no memory for the list.
+    /// Allocates the list. Returns `NoMemory` if that fails.
     pub fn active_entries(&self) -> Result<Vec<(&T, u64)>, Error>
         ensures ok { IfOk result (λ found. IsPermutation self.now.entries (map entry_of found.items)) }
         ensures err { IfErr result (λ e. e ≡ no_memory) }
@@ -266,17 +309,17 @@ impl<T: Eq + Hash + Drop> ReversePurgeItemHashMap<T> {
         Ok(found)
     }
 
-    /// How many bytes the table takes, an estimate by a fixed formula: for each slot those of an `Option<T>` and 12
-    /// more, or the greatest `usize` where that passes it.
+    /// Returns an estimate of the table's bytes by a fixed formula: for each slot, the bytes of an `Option<T>` and 12 more.
+    /// Returns `usize::MAX` if that would exceed it.
     pub fn estimated_size(&self) -> usize
         ensures { result ≡ table_bytes T.row self.now.size }
     {
         bytes_of_table::<T>(self.slots.len())
     }
 
-    /// The same map with clones of the items, in a table of the same size. Clones have to equal their originals.
+    /// Returns the same map with clones of the items, in a table of the same size. Clones have to equal their originals.
     ///
-    /// Answers `NoMemory` where there is no memory for the table or for a clone.
+    /// Allocates the table and the clones. Returns `NoMemory` if an allocation fails.
     pub fn try_clone(&self) -> Result<Self, Error>
     where
         T: Clone,
@@ -295,14 +338,23 @@ impl<T: Eq + Hash + Drop> ReversePurgeItemHashMap<T> {
         })
     }
 
-    /// The count of the item, if it has an entry.
+    /// Returns the count of the item, if it has an entry. It does not allocate.
     pub fn look_up(&self, item: &T) -> Option<u64>
         ensures { result ≡ lookup (T.eq item.now) self.now.entries }
     {
         slots::find(&self.slots, &self.fingerprints, item).found
     }
 
-    /// Adds to the item's count where it has an entry, and answers whether it has. The sum has to fit.
+    /// Returns the count of the item that the key names, if it has an entry. It does not allocate.
+    pub fn look_up_by_key<K: ItemKey<T>>(&self, key: K) -> Option<u64>
+        ensures { result ≡ lookup (K.names key) self.now.entries }
+    {
+        slots::find(&self.slots, &self.fingerprints, key).found
+    }
+
+    /// Adds to the item's count if it has an entry, and returns whether it has one.
+    ///
+    /// Requires that the sum fits. It does not allocate.
     pub fn adjust(&mut self, item: &T, adjust_amount: u64) -> bool
         requires { is_tracked T.eq self.old.entries item.now ≡ true
             → count_of T.eq self.old.entries item.now + adjust_amount < 2 ^ 64 }
@@ -313,10 +365,26 @@ impl<T: Eq + Hash + Drop> ReversePurgeItemHashMap<T> {
         ensures size { self.new.size ≡ self.old.size }
         ensures distinct { IsDistinct T.eq (keys_of self.new.entries) }
     {
-        slots::adjust_in(&mut self.slots, &self.fingerprints, item, adjust_amount)
+        self.adjust_by_key(item, adjust_amount)
     }
 
-    /// Inserts an item that is absent. A slot has to stay free behind it.
+    /// Adds to the count of the item that the key names if it has an entry, and returns whether it has one.
+    ///
+    /// Requires that the sum fits. It does not allocate.
+    pub fn adjust_by_key<K: ItemKey<T>>(&mut self, key: K, adjust_amount: u64) -> bool
+        requires { is_tracked_by_key (K.names key) self.old.entries ≡ true
+            → count_by_key (K.names key) self.old.entries + adjust_amount < 2 ^ 64 }
+        ensures tracked { result ≡ is_tracked_by_key (K.names key) self.old.entries }
+        ensures present { result ≡ true → (x : T) → IsTrue (K.names key x)
+            → IsPermutation (put T.eq self.old.entries x adjust_amount) self.new.entries }
+        ensures absent { result ≡ false → self.new ≡ self.old }
+        ensures size { self.new.size ≡ self.old.size }
+        ensures distinct { IsDistinct T.eq (keys_of self.new.entries) }
+    {
+        slots::adjust_in(&mut self.slots, &self.fingerprints, key, adjust_amount)
+    }
+
+    /// Inserts an item that is absent. Requires that a slot stays free after the insertion. It does not allocate.
     pub fn insert(&mut self, item: T, amount: u64)
         requires absent { is_tracked T.eq self.old.entries item ≡ false }
         requires room { length self.old.entries + 1 < self.old.size }
@@ -328,8 +396,9 @@ impl<T: Eq + Hash + Drop> ReversePurgeItemHashMap<T> {
         self.active += 1;
     }
 
-    /// Drops every entry, and takes the size for that of the table, whose memory is kept: a power of two of at most the
-    /// size that it had.
+    /// Drops every entry, and sets the number of slots to `size`: a power of two, at most the current number of slots.
+    ///
+    /// Keeps the memory of the table. It does not allocate.
     pub fn clear(&mut self, size: usize)
         requires power { IsTrue (is_power_of_two size) }
         requires within { size ≤ self.old.size }
@@ -342,14 +411,14 @@ impl<T: Eq + Hash + Drop> ReversePurgeItemHashMap<T> {
         self.active = 0;
     }
 
-    /// The slots of the table, for a caller that writes all entries out and keeps none of them.
+    /// Returns the slots of the table, for a caller that writes all entries and keeps none of them.
     pub fn slots(&self) -> &[Slot<T>]
         ensures { entries_of result.now ≡ self.now.entries }
     {
         &self.slots
     }
 
-    /// The allocator of the table.
+    /// Returns the allocator of the table.
     pub fn allocator(&self) -> Global {
         *self.slots.allocator()
     }
@@ -364,7 +433,7 @@ impl<'a, T: Eq + Hash + Drop> IntoIterator for &'a ReversePurgeItemHashMap<T> {
 
     ghost into_iter_gives = { λ map walk. StartsWalk T.eq map.now walk };
 
-    /// A walk that gives every entry once, as `iter` does.
+    /// Returns a walk that yields every entry once, as `iter` does.
     fn into_iter(self) -> ReversePurgeItemIter<'a, T> {
         self.iter()
     }

@@ -1,4 +1,4 @@
-//! A walk over the table of counters.
+//! Walks over the table of counters.
 ghost use Rattle.std.specs.Prelude.{◌≡◌, ◌≤◌, [], length, IfSome, IsPermutation};
 ghost use Rattle.std.specs.Iterator.{at_most, item_count, UpTo};
 ghost use Rattle.std.specs.Iterator.SizeHint.{IsWithinCount};
@@ -9,7 +9,7 @@ use crate::slots;
 use std::iter::FusedIterator;
 use std::marker::Model;
 
-/// An iterator over the entries of a table: each once, in an order that is left open, and then `None` for good.
+/// An iterator over the entries of a table: each once, in an unspecified order, and then `None` every time.
 ///
 /// # Examples
 ///
@@ -31,11 +31,11 @@ use std::marker::Model;
 #[derive(Debug, Drop)]
 pub struct ReversePurgeItemIter<'a, T> {
     slots: &'a [Slot<T>],
-    // the place that the next step looks at, and how far on the one after it is
-    place: usize,
+    // the index of the next step, and the distance to the index of the step after it
+    index: usize,
     stride: usize,
-    looked: usize,
-    // how many entries are still to come
+    probed: usize,
+    // the number of remaining entries
     left: usize,
 }
 
@@ -52,35 +52,37 @@ impl<'a, T> Model for ReversePurgeItemIter<'a, T> {
 }
 
 impl<'a, T> ReversePurgeItemIter<'a, T> {
-    /// A walk over the entries in these slots, of which there are so many.
+    /// Starts a walk over the `active` entries in these slots.
     ///
-    /// Its stride is odd, so that it comes to every place before it comes to one again, and about 0.618 of the size, so
-    /// that it leaves clusters behind.
+    /// Its stride is odd, so that it visits every index before it visits one again. The stride is about 0.618 of the size, so
+    /// that the walk leaves a cluster at once.
     pub(crate) fn new(slots: &'a [Slot<T>], active: usize) -> Self
         requires size { IsTableSize (length slots.now) }
         requires active { active ≡ length (entries_of slots.now) }
         ensures rest { IsPermutation (entries_of slots.now) result.rest }
         ensures given { result.given ≡ [] }
-        ensures looked { result.looked ≡ 0 }
+        ensures probed { result.probed ≡ 0 }
         ensures size { result.size ≡ length slots.now }
     {
         ReversePurgeItemIter {
             slots,
-            place: 0,
+            index: 0,
             stride: (slots.len() * 618 / 1000) | 1,
-            looked: 0,
+            probed: 0,
             left: active,
         }
     }
 
-    /// How many slots the walk has looked at so far: at least as many as the entries that it gave, and at most as
-    /// many as the table has. Each entry that it gives makes the number greater, and a `None` leaves it as it was.
-    pub fn looked_at(&self) -> usize
-        ensures looked { result ≡ self.now.looked }
+    /// Returns the number of slots that the walk has probed so far.
+    ///
+    /// It is at least the number of entries that the walk has returned, and at most the number of slots. Each returned entry
+    /// makes the number greater, and a `None` leaves it unchanged.
+    pub fn slots_read(&self) -> usize
+        ensures probed { result ≡ self.now.probed }
         ensures at_least { length self.now.given ≤ result }
         ensures at_most { result ≤ self.now.size }
     {
-        self.looked
+        self.probed
     }
 }
 
@@ -99,18 +101,22 @@ impl<'a, T> Iterator for ReversePurgeItemIter<'a, T> {
             return None;
         }
         let slots = self.slots;
-        // the label names the loop for its proof
+        // The label names the loop for its proof.
         'walk: loop {
-            let place = self.place;
-            self.place = (place + self.stride) & (slots.len() - 1);
-            if let Slot::Taken { count, item, .. } = slots::look(slots, place, &mut self.looked) {
+            let index = self.index;
+            self.index = (index + self.stride) & (slots.len() - 1);
+            if let Slot::Taken { count, item, .. } = slots::read_slot(
+                slots,
+                index,
+                &mut self.probed,
+            ) {
                 self.left -= 1;
                 return Some((item, *count));
             }
         }
     }
 
-    /// How many entries are still to come, for both bounds.
+    /// Returns the number of remaining entries as both bounds.
     fn size_hint(&self) -> (usize, Option<usize>)
         ensures lower { IsWithinCount result.0 (at_most (length self.now.rest)) }
         ensures upper { IfSome result.1 (UpTo (at_most (length self.now.rest))) }

@@ -1,14 +1,14 @@
-//! The sizes of a table: how many entries are kept in it, how many bytes it takes, and which power of two it is.
+//! The sizes of a table: its capacity in entries, its size in bytes, and its base-2 logarithm.
 ghost use Rattle.std.specs.Prelude.{◌≡◌, ◌*◌, ◌/◌, ◌≤◌, ◌^◌, IsTrue};
 ghost use Rattle.std.specs.Int.{is_power_of_two};
 ghost use Rattle.counter_table.specs.Bytes.{table_bytes};
 
 use std::mem::size_of_val;
 
-/// The most counts that a purge samples.
+/// The maximum number of counts that a purge samples.
 pub const MAX_SAMPLE_SIZE: usize = 1024;
 
-/// How many entries a sketch keeps in a table of this size: three quarters of the slots.
+/// Returns the number of entries that a sketch keeps in a table of this size: three quarters of the slots.
 #[inline]
 pub fn capacity_of(size: usize) -> usize
     requires { size ≤ 2 ^ 30 }
@@ -17,8 +17,8 @@ pub fn capacity_of(size: usize) -> usize
     size * 3 / 4
 }
 
-/// How many bytes a table of so many slots takes, by a fixed formula: for each slot those of an `Option<T>` and 12
-/// more, or the greatest `usize` where that passes it.
+/// Returns the bytes of a table of `size` slots, by a fixed formula: for each slot, the bytes of an `Option<T>` and 12 more.
+/// Returns `usize::MAX` if that would exceed it.
 #[inline]
 #[tactic(auto, unfolding(crate::specs::Bytes::table_bytes))]
 pub fn bytes_of_table<T: Drop>(size: usize) -> usize
@@ -29,7 +29,7 @@ pub fn bytes_of_table<T: Drop>(size: usize) -> usize
     size.saturating_mul(slot)
 }
 
-/// The size of a table as a power of two.
+/// Returns the base-2 logarithm of a table size.
 #[inline]
 pub fn lg_of(size: usize) -> u8
     requires { IsTrue (is_power_of_two size) }

@@ -2,8 +2,8 @@
 
 /// A slot that is free, or holds an item, its count and its drift.
 ///
-/// The drift is the distance from the item's home and 1: how many slots a look-up of the item looks at. It stands in
-/// front, so that a slot of an item of 8 bytes takes 24.
+/// The drift is the distance from the item's home plus 1: the number of slots that a look-up of the item probes. It is the
+/// first field, so that a slot of an item of 8 bytes takes 24 bytes.
 ///
 /// # Examples
 ///

@@ -1,20 +1,21 @@
-//! Work on the slots of a table: linear probing from an item's home on, round the end.
+//! Work on the slots of a table: linear probing from an item's home on, wrapping around at the end.
 //!
-//! Every place from an entry's home on to its slot is taken, so a look-up may end at the first free one. A purge
-//! keeps it so by one sweep that shifts each entry that stays back to the first free place from its home on: where deletions
-//! by backward shift would bring it, one by one and from above.
+//! Every index from an entry's home to its slot is taken, so a look-up may end at the first free slot. A purge preserves this
+//! in one sweep: it shifts each entry that stays back to the first free slot from its home on. Deletions by backward shift, one
+//! by one from the highest index down, would move it to the same slot.
 ghost use Rattle.std.specs.Prelude.{◌≡◌, ℕ, ◌+◌, ◌-◌, ◌<◌, ◌≤◌, ◌^◌, [], None, Some, true, false, not, length, map, take, filter, replicate, nat_lt, slice_index_or, slice_set, IfOk, IfErr, OnOk, OnErr, IsOk, IsTrue, IsPermutation};
 ghost use Rattle.std.specs.List.{IsDistinct, AllZip};
 ghost use Rattle.std.specs.Map.{keys_of};
 ghost use Rattle.sketch_base.specs.Errors.{no_memory};
 ghost use Rattle.counter_table.specs.Fingerprints.{hash_in, fingerprint_of, AreFingerprints};
 ghost use Rattle.counter_table.specs.Homes.{home_in, ahead};
-ghost use Rattle.counter_table.specs.Probes.{IsProbe, IsGap};
+ghost use Rattle.counter_table.specs.Probes.{IsProbe, IsFreeSlot};
 ghost use Rattle.counter_table.specs.Settled.{HasDrift, Settles};
 ghost use Rattle.counter_table.specs.Slots.{IsTableSize, IsPlaced, IsSlots, IsSameSlot, CountHasRoom, AddsAt, entries_of, is_taken};
-ghost use Rattle.counter_table.specs.Tables.{count_of, is_tracked, put, purged, IsSampleMiddle, PutsEqual};
+ghost use Rattle.counter_table.specs.Tables.{count_by_key, count_of, is_tracked_by_key, is_tracked, put, purged, IsSampleMiddle, PutsEqual, PutsByKey};
 
-use crate::fingerprints::{FREE, count_at, fingerprint, hash_of, home, look_at};
+use crate::fingerprints::{FREE, count_at, fingerprint, hash_of, home, probe_at};
+use crate::item_key::{ItemKey, OwnedKey};
 use crate::sizes::MAX_SAMPLE_SIZE;
 use crate::slot::Slot;
 use sketch_base::Error;
@@ -22,213 +23,231 @@ use std::alloc::Global;
 use std::hash::Hash;
 use std::mem;
 
-/// The most counts of a small sample.
+/// The maximum number of counts of a small sample.
 const SMALL_SAMPLE_SIZE: usize = 64;
 
-/// Where a look-up ended: at the item's slot, with its count, or at the free one where the item goes.
+/// The end of a look-up: the item's slot, with its count, or the free slot where the item goes.
 #[derive(Drop)]
 pub(crate) struct Probe {
-    pub(crate) place: usize,
+    pub(crate) index: usize,
     pub(crate) found: Option<u64>,
-    pub(crate) looked: usize,
+    pub(crate) probed: usize,
 }
 
-/// Where the first free slot is from an item's home on, and how many slots were looked at to find it.
+/// The first free slot from an item's home on, and the number of slots that were probed to find it.
 #[derive(Drop)]
-pub(crate) struct Gap {
-    place: usize,
-    looked: usize,
+pub(crate) struct FreeSlot {
+    index: usize,
+    probed: usize,
 }
 
-/// The place after this one.
+/// Returns the index after this one.
 #[inline(always)]
-fn next(place: usize, size: usize) -> usize
+fn next(index: usize, size: usize) -> usize
     requires size { IsTableSize size }
-    requires place { place < size }
-    ensures { result ≡ ahead size place 1 }
+    requires index { index < size }
+    ensures { result ≡ ahead size index 1 }
 {
-    (place + 1) & (size - 1)
+    (index + 1) & (size - 1)
 }
 
-/// The place so many places after this one.
+/// Returns the index that is `on` indices after this one.
 #[inline(always)]
-fn after(place: usize, on: usize, size: usize) -> usize
+fn after(index: usize, on: usize, size: usize) -> usize
     requires size { IsTableSize size }
-    requires place { place < size }
+    requires index { index < size }
     requires on { on ≤ size }
-    ensures { result ≡ ahead size place on }
+    ensures { result ≡ ahead size index on }
 {
-    (place + on) & (size - 1)
+    (index + on) & (size - 1)
 }
 
-/// The place so many places before this one.
+/// Returns the index that is `back` indices before this one.
 #[inline(always)]
-fn before(place: usize, back: usize, size: usize) -> usize
+fn before(index: usize, back: usize, size: usize) -> usize
     requires size { IsTableSize size }
-    requires place { place < size }
+    requires index { index < size }
     requires back { back ≤ size }
-    ensures { result ≡ ahead size place (size - back) }
+    ensures { result ≡ ahead size index (size - back) }
 {
-    (place + (size - back)) & (size - 1)
+    (index + (size - back)) & (size - 1)
 }
 
-/// Looks at a slot, and counts it. Walks read slots by this call alone.
+/// Returns a slot, and counts the probe. Walks read slots by this call alone.
 #[inline(always)]
-pub(crate) fn look<'a, T>(slots: &'a [Slot<T>], place: usize, looked: &mut usize) -> &'a Slot<T>
-    requires place { place < length slots.now }
-    requires looked { looked.old < 2 ^ 30 }
-    ensures value { result.now ≡ slice_index_or slots.now place Slot.Free }
-    ensures counted { looked.new ≡ looked.old + 1 }
+pub(crate) fn read_slot<'a, T>(
+    slots: &'a [Slot<T>],
+    index: usize,
+    probed: &mut usize,
+) -> &'a Slot<T>
+    requires index { index < length slots.now }
+    requires probed { probed.old < 2 ^ 30 }
+    ensures value { result.now ≡ slice_index_or slots.now index Slot.Free }
+    ensures counted { probed.new ≡ probed.old + 1 }
 {
-    *looked += 1;
-    &slots[place]
+    *probed += 1;
+    &slots[index]
 }
 
-/// Looks the item up from its home on.
+/// Looks up the item that the key names, from its home slot on.
 #[inline(always)]
-pub(crate) fn find<T: Eq + Hash>(slots: &[Slot<T>], fingerprints: &[u8], item: &T) -> Probe
+pub(crate) fn find<T: Eq + Hash, K: ItemKey<T>>(
+    slots: &[Slot<T>],
+    fingerprints: &[u8],
+    key: K,
+) -> Probe
     requires size { IsTableSize (length slots.now) }
     requires room { length (entries_of slots.now) < length slots.now }
     requires placed { IsPlaced (home_in T.hash_input (length slots.now)) slots.now }
     requires fingerprints { AreFingerprints T.hash_input slots.now fingerprints.now }
-    ensures { IsProbe T.eq (home_in T.hash_input (length slots.now) item.now) slots.now item.now
-        result.place result.found result.looked }
+    ensures { IsProbe (K.names key) (home_in K.hash_input (length slots.now) key) slots.now
+        result.index result.found result.probed }
 {
-    find_from(slots, fingerprints, item, hash_of(item))
+    find_from(slots, fingerprints, key, hash_of(&key))
 }
 
-/// Looks the item up, whose hash is known.
+/// Looks up the item that the key names, from its home slot on, with the key's hash.
 #[inline(always)]
-pub(crate) fn find_from<T: Eq + Hash>(
+pub(crate) fn find_from<T: Eq + Hash, K: ItemKey<T>>(
     slots: &[Slot<T>],
     fingerprints: &[u8],
-    item: &T,
+    key: K,
     hash: u64,
 ) -> Probe
     requires size { IsTableSize (length slots.now) }
     requires room { length (entries_of slots.now) < length slots.now }
     requires placed { IsPlaced (home_in T.hash_input (length slots.now)) slots.now }
     requires fingerprints { AreFingerprints T.hash_input slots.now fingerprints.now }
-    requires hash { hash ≡ hash_in T.hash_input item.now }
-    ensures { IsProbe T.eq (home_in T.hash_input (length slots.now) item.now) slots.now item.now
-        result.place result.found result.looked }
+    requires hash { hash ≡ hash_in K.hash_input key }
+    ensures { IsProbe (K.names key) (home_in K.hash_input (length slots.now) key) slots.now
+        result.index result.found result.probed }
 {
     let size = slots.len();
-    let mut place = home(hash, size);
-    let mut looked = 0;
+    let mut index = home(hash, size);
+    let mut probed = 0;
     'probe: loop {
-        let seen = look_at(fingerprints, place, &mut looked);
+        let seen = probe_at(fingerprints, index, &mut probed);
         if seen == FREE {
             return Probe {
-                place,
+                index,
                 found: None,
-                looked,
+                probed,
             };
         }
-        let found = count_at(slots, fingerprints, item, hash, place, seen);
+        let found = count_at(slots, fingerprints, key, hash, index, seen);
         if found.is_some() {
             return Probe {
-                place,
+                index,
                 found,
-                looked,
+                probed,
             };
         }
-        place = next(place, size);
+        index = next(index, size);
     }
 }
 
-/// Looks for the first free slot from the home of an item with this hash on.
+/// Finds the first free slot from the home of an item with this hash on.
 #[inline(always)]
-pub(crate) fn find_free<T: Hash>(slots: &[Slot<T>], fingerprints: &[u8], item: &T, hash: u64) -> Gap
+pub(crate) fn find_free<T: Hash>(
+    slots: &[Slot<T>],
+    fingerprints: &[u8],
+    item: &T,
+    hash: u64,
+) -> FreeSlot
     requires size { IsTableSize (length slots.now) }
     requires room { length (entries_of slots.now) < length slots.now }
     requires fingerprints { AreFingerprints T.hash_input slots.now fingerprints.now }
     requires hash { hash ≡ hash_in T.hash_input item.now }
-    ensures { IsGap (home_in T.hash_input (length slots.now) item.now) slots.now result.place result.looked }
+    ensures { IsFreeSlot (home_in T.hash_input (length slots.now) item.now) slots.now result.index result.probed }
 {
     find_free_from(slots, fingerprints, item, home(hash, slots.len()))
 }
 
-/// The same for an item whose home is known.
+/// Finds the first free slot from the home of an item on.
 #[inline(always)]
-fn find_free_from<T: Hash>(slots: &[Slot<T>], fingerprints: &[u8], _item: &T, home: usize) -> Gap
+fn find_free_from<T: Hash>(
+    slots: &[Slot<T>],
+    fingerprints: &[u8],
+    _item: &T,
+    home: usize,
+) -> FreeSlot
     requires size { IsTableSize (length slots.now) }
     requires room { length (entries_of slots.now) < length slots.now }
     requires fingerprints { AreFingerprints T.hash_input slots.now fingerprints.now }
     requires home { home ≡ home_in T.hash_input (length slots.now) _item.now }
-    ensures { IsGap (home_in T.hash_input (length slots.now) _item.now) slots.now result.place result.looked }
+    ensures { IsFreeSlot (home_in T.hash_input (length slots.now) _item.now) slots.now result.index result.probed }
 {
     let size = slots.len();
-    let mut place = home;
-    let mut looked = 0;
+    let mut index = home;
+    let mut probed = 0;
     'probe: loop {
-        if look_at(fingerprints, place, &mut looked) == FREE {
-            return Gap { place, looked };
+        if probe_at(fingerprints, index, &mut probed) == FREE {
+            return FreeSlot { index, probed };
         }
-        place = next(place, size);
+        index = next(index, size);
     }
 }
 
 /// Adds to the count in a slot.
 #[inline(always)]
-pub(crate) fn add_at<T>(slots: &mut [Slot<T>], place: usize, amount: u64)
-    requires place { place < length slots.old }
-    requires fits { CountHasRoom slots.old place amount }
-    ensures { AddsAt slots.old place amount slots.new }
+pub(crate) fn add_at<T>(slots: &mut [Slot<T>], index: usize, amount: u64)
+    requires index { index < length slots.old }
+    requires fits { CountHasRoom slots.old index amount }
+    ensures { AddsAt slots.old index amount slots.new }
 {
-    if let Slot::Taken { count, .. } = &mut slots[place] {
+    if let Slot::Taken { count, .. } = &mut slots[index] {
         *count += amount;
     }
 }
 
-/// Fills a slot, and writes its fingerprint down.
+/// Fills a slot, and writes its fingerprint.
 #[inline(always)]
 fn fill<T: Drop>(
     slots: &mut [Slot<T>],
     fingerprints: &mut [u8],
-    place: usize,
+    index: usize,
     slot: Slot<T>,
     fingerprint: u8,
 )
-    requires place { place < length slots.old }
+    requires index { index < length slots.old }
     requires same { length fingerprints.old ≡ length slots.old }
-    ensures slots { slots.new ≡ slice_set slots.old place slot }
-    ensures fingerprints { fingerprints.new ≡ slice_set fingerprints.old place fingerprint }
+    ensures slots { slots.new ≡ slice_set slots.old index slot }
+    ensures fingerprints { fingerprints.new ≡ slice_set fingerprints.old index fingerprint }
 {
-    slots[place] = slot;
-    fingerprints[place] = fingerprint;
+    slots[index] = slot;
+    fingerprints[index] = fingerprint;
 }
 
-/// Adds to the item's count, and answers whether it has one.
+/// Adds to the count of the item that the key names if it has one, and returns whether it has.
 #[inline(always)]
-pub(crate) fn adjust_in<T: Eq + Hash>(
+pub(crate) fn adjust_in<T: Eq + Hash, K: ItemKey<T>>(
     slots: &mut [Slot<T>],
     fingerprints: &[u8],
-    item: &T,
+    key: K,
     amount: u64,
 ) -> bool
     requires slots { IsSlots T.eq T.hash_input slots.old }
     requires fingerprints { AreFingerprints T.hash_input slots.old fingerprints.now }
-    requires fits { is_tracked T.eq (entries_of slots.old) item.now ≡ true
-        → count_of T.eq (entries_of slots.old) item.now + amount < 2 ^ 64 }
-    ensures tracked { result ≡ is_tracked T.eq (entries_of slots.old) item.now }
+    requires fits { is_tracked_by_key (K.names key) (entries_of slots.old) ≡ true
+        → count_by_key (K.names key) (entries_of slots.old) + amount < 2 ^ 64 }
+    ensures tracked { result ≡ is_tracked_by_key (K.names key) (entries_of slots.old) }
     ensures slots { IsSlots T.eq T.hash_input slots.new }
-    ensures present { result ≡ true
-        → IsPermutation (put T.eq (entries_of slots.old) item.now amount) (entries_of slots.new) }
+    ensures present { result ≡ true → (x : T) → IsTrue (K.names key x)
+        → IsPermutation (put T.eq (entries_of slots.old) x amount) (entries_of slots.new) }
     ensures absent { result ≡ false → slots.new ≡ slots.old }
     ensures fingerprints { AreFingerprints T.hash_input slots.new fingerprints.now }
 {
-    let probe = find(slots, fingerprints, item);
+    let probe = find(slots, fingerprints, key);
     match probe.found {
         Some(_) => {
-            add_at(slots, probe.place, amount);
+            add_at(slots, probe.index, amount);
             true
         }
         None => false,
     }
 }
 
-/// Puts an item that is absent into the first free slot from its home on.
+/// Inserts an item that is absent into the first free slot from its home on.
 #[inline(always)]
 pub(crate) fn insert_in<T: Eq + Hash + Drop>(
     slots: &mut [Slot<T>],
@@ -245,16 +264,22 @@ pub(crate) fn insert_in<T: Eq + Hash + Drop>(
     ensures fingerprints { AreFingerprints T.hash_input slots.new fingerprints.new }
 {
     let hash = hash_of(&item);
-    let gap = find_free(slots, fingerprints, &item, hash);
+    let free_slot = find_free(slots, fingerprints, &item, hash);
     let slot = Slot::Taken {
-        drift: gap.looked as u32,
+        drift: free_slot.probed as u32,
         count: amount,
         item,
     };
-    fill(slots, fingerprints, gap.place, slot, fingerprint(hash));
+    fill(
+        slots,
+        fingerprints,
+        free_slot.index,
+        slot,
+        fingerprint(hash),
+    );
 }
 
-/// Adds to the item's count, or puts the item where its look-up ended, and answers whether it was put there.
+/// Adds to the item's count, or puts the item into the free slot where its look-up ended. Returns whether it was put.
 #[inline(always)]
 pub(crate) fn put_in<T: Eq + Hash + Drop>(
     slots: &mut [Slot<T>],
@@ -277,23 +302,25 @@ pub(crate) fn put_in<T: Eq + Hash + Drop>(
     let probe = find_from(slots, fingerprints, &item, hash);
     match probe.found {
         Some(_) => {
-            add_at(slots, probe.place, amount);
+            add_at(slots, probe.index, amount);
             false
         }
         None => {
             let slot = Slot::Taken {
-                drift: probe.looked as u32,
+                drift: probe.probed as u32,
                 count: amount,
                 item,
             };
-            fill(slots, fingerprints, probe.place, slot, fingerprint(hash));
+            fill(slots, fingerprints, probe.index, slot, fingerprint(hash));
             true
         }
     }
 }
 
-/// Adds to the item's count, or puts a clone of the item where its look-up ended, and answers whether it was put there.
-/// Only then is it cloned. Clones have to equal their originals.
+/// Adds to the item's count, or puts a clone of the item into the free slot where its look-up ended.
+///
+/// Returns whether the clone was put. Clones the item only then. Clones have to equal their originals. Returns `NoMemory` if
+/// the clone cannot be allocated. The slots and the fingerprints are then unchanged.
 #[inline(always)]
 pub(crate) fn put_clone_in<T: Eq + Hash + Clone + Drop>(
     slots: &mut [Slot<T>],
@@ -321,76 +348,126 @@ pub(crate) fn put_clone_in<T: Eq + Hash + Clone + Drop>(
     let probe = find_from(slots, fingerprints, item, hash);
     match probe.found {
         Some(_) => {
-            add_at(slots, probe.place, amount);
+            add_at(slots, probe.index, amount);
             Ok(false)
         }
         None => {
             let clone = item.clone()?;
             let slot = Slot::Taken {
-                drift: probe.looked as u32,
+                drift: probe.probed as u32,
                 count: amount,
                 item: clone,
             };
-            fill(slots, fingerprints, probe.place, slot, fingerprint(hash));
+            fill(slots, fingerprints, probe.index, slot, fingerprint(hash));
             Ok(true)
         }
     }
 }
 
-/// Whether a slot is free.
+/// Adds to the count of the item that the key names, or puts the item into the free slot where its look-up ended.
+///
+/// Returns whether the item was put. Creates and allocates it only then.
+///
+/// # Errors
+///
+/// Returns `NoMemory` if the item cannot be allocated. The slots and the fingerprints are then unchanged.
 #[inline(always)]
-pub(crate) fn is_free<T>(slots: &[Slot<T>], place: usize) -> bool
-    requires { place < length slots.now }
-    ensures { result ≡ not (is_taken slots.now place) }
+pub(crate) fn put_by_key_in<T: Eq + Hash + Drop, K: OwnedKey<T>>(
+    alloc: Global,
+    slots: &mut [Slot<T>],
+    fingerprints: &mut [u8],
+    key: K,
+    amount: u64,
+) -> Result<bool, Error>
+    requires slots { IsSlots T.eq T.hash_input slots.old }
+    requires fingerprints { AreFingerprints T.hash_input slots.old fingerprints.old }
+    requires room { is_tracked_by_key (K.names key) (entries_of slots.old) ≡ false
+        → length (entries_of slots.old) + 1 < length slots.old }
+    requires fits { is_tracked_by_key (K.names key) (entries_of slots.old) ≡ true
+        → count_by_key (K.names key) (entries_of slots.old) + amount < 2 ^ 64 }
+    ensures tracked { IfOk result (λ put. is_tracked_by_key (K.names key) (entries_of slots.old) ≡ not put) }
+    ensures slots { IsSlots T.eq T.hash_input slots.new }
+    ensures entries { OnOk result (PutsByKey T.eq (K.names key) (entries_of slots.old) amount (entries_of slots.new)) }
+    ensures err { OnErr result (slots.new ≡ slots.old) }
+    ensures memory { IfErr result (λ e. e ≡ no_memory) }
+    ensures succeeds { is_tracked_by_key (K.names key) (entries_of slots.old) ≡ true → IsOk result }
+    ensures fingerprints { AreFingerprints T.hash_input slots.new fingerprints.new }
+    ensures kept { OnErr result (fingerprints.new ≡ fingerprints.old) }
 {
-    match &slots[place] {
+    let hash = hash_of(&key);
+    let probe = find_from(slots, fingerprints, key, hash);
+    match probe.found {
+        Some(_) => {
+            add_at(slots, probe.index, amount);
+            Ok(false)
+        }
+        None => {
+            let item = key.to_item(alloc)?;
+            let slot = Slot::Taken {
+                drift: probe.probed as u32,
+                count: amount,
+                item,
+            };
+            fill(slots, fingerprints, probe.index, slot, fingerprint(hash));
+            Ok(true)
+        }
+    }
+}
+
+/// Returns whether a slot is free.
+#[inline(always)]
+pub(crate) fn is_free<T>(slots: &[Slot<T>], index: usize) -> bool
+    requires { index < length slots.now }
+    ensures { result ≡ not (is_taken slots.now index) }
+{
+    match &slots[index] {
         Slot::Taken { .. } => false,
         Slot::Free => true,
     }
 }
 
-/// The highest free slot.
+/// Returns the index of the last free slot.
 fn last_free<T>(slots: &[Slot<T>]) -> usize
     requires { length (entries_of slots.now) < length slots.now }
     ensures below { result < length slots.now }
     ensures free { is_taken slots.now result ≡ false }
 {
-    let mut place = slots.len() - 1;
-    while !is_free(slots, place) {
-        place -= 1;
+    let mut index = slots.len() - 1;
+    while !is_free(slots, index) {
+        index -= 1;
     }
-    place
+    index
 }
 
-/// Takes `amount` from the count in a slot, if it is greater, and moves the entry to the first free slot from its home
-/// on: at the latest that where it stood. Else frees the slot. Answers whether an entry was dropped.
+/// Subtracts `amount` from the count in a slot, if the count is greater, and moves the entry to the first free slot from its
+/// home on. Its own slot is the last possible one. Otherwise frees the slot. Returns whether an entry was dropped.
 #[inline(always)]
 fn settle<T: Hash + Drop>(
     slots: &mut [Slot<T>],
     fingerprints: &mut [u8],
-    place: usize,
+    index: usize,
     amount: u64,
 ) -> bool
     requires size { IsTableSize (length slots.old) }
     requires fingerprints { AreFingerprints T.hash_input slots.old fingerprints.old }
-    requires place { place < length slots.old }
-    requires drift { HasDrift (home_in T.hash_input (length slots.old)) slots.old place }
-    ensures slots { Settles (home_in T.hash_input (length slots.old)) slots.old place amount result slots.new }
+    requires index { index < length slots.old }
+    requires drift { HasDrift (home_in T.hash_input (length slots.old)) slots.old index }
+    ensures slots { Settles (home_in T.hash_input (length slots.old)) slots.old index amount result slots.new }
     ensures fingerprints { AreFingerprints T.hash_input slots.new fingerprints.new }
 {
     let size = slots.len();
-    let moving = fingerprints[place];
-    fingerprints[place] = FREE;
-    match mem::replace(&mut slots[place], Slot::Free) {
+    let moving = fingerprints[index];
+    fingerprints[index] = FREE;
+    match mem::replace(&mut slots[index], Slot::Free) {
         Slot::Free => false,
         Slot::Taken { drift, count, item } => {
             if count <= amount {
                 return true;
             }
-            let home = before(place, drift as usize - 1, size);
-            let Gap { place: to, looked } = find_free_from(slots, fingerprints, &item, home);
+            let home = before(index, drift as usize - 1, size);
+            let FreeSlot { index: to, probed } = find_free_from(slots, fingerprints, &item, home);
             let slot = Slot::Taken {
-                drift: looked as u32,
+                drift: probed as u32,
                 count: count - amount,
                 item,
             };
@@ -400,11 +477,11 @@ fn settle<T: Hash + Drop>(
     }
 }
 
-/// Takes `amount` from each count, removes the entries at or below it, and answers how many there were.
+/// Subtracts `amount` from each count, removes the entries at or below it, and returns the number of removed entries.
 ///
-/// One sweep goes up from behind a free slot, round the end. What stands behind that slot has its home behind it too, so
-/// all places from an entry's home on to its slot have been settled when its turn comes: the entries that stay come to
-/// stand as if they alone were put into an empty table, in this order.
+/// One sweep goes up from the index after a free slot, and wraps around. An entry after that slot also has its home after it.
+/// So all indices from an entry's home to its slot are settled before the entry is. The entries that stay get the slots that
+/// they would get if they were inserted into an empty table in this order.
 pub(crate) fn lower<T: Eq + Hash + Drop>(
     slots: &mut [Slot<T>],
     fingerprints: &mut [u8],
@@ -421,17 +498,18 @@ pub(crate) fn lower<T: Eq + Hash + Drop>(
     let free = last_free(slots);
     let mut removed = 0;
     for on in 1..size {
-        let place = after(free, on, size);
-        if settle(slots, fingerprints, place, amount) {
+        let index = after(free, on, size);
+        if settle(slots, fingerprints, index, amount) {
             removed += 1;
         }
     }
     removed
 }
 
-/// A middle count of the first `size` entries.
+/// Returns a middle count of the first `size` entries.
 ///
-/// A sample's room is cleared before it is filled, and a small sketch is purged often: so a small sample has less of it.
+/// The buffer of a sample is cleared before it is filled, and a small sketch is purged often. So a small sample has a smaller
+/// buffer.
 pub(crate) fn middle_of<T>(slots: &[Slot<T>], size: usize) -> u64
     requires some { 0 < size }
     requires few { size ≤ 1024 }
@@ -445,7 +523,7 @@ pub(crate) fn middle_of<T>(slots: &[Slot<T>], size: usize) -> u64
     }
 }
 
-/// The same, with room for `N` counts.
+/// Returns a middle count of the first `size` entries, with a buffer of `N` counts.
 fn middle_in<T, const N: usize>(slots: &[Slot<T>], size: usize) -> u64
     requires some { 0 < size }
     requires few { size ≤ N }
@@ -460,10 +538,10 @@ fn middle_in<T, const N: usize>(slots: &[Slot<T>], size: usize) -> u64
     *middle
 }
 
-/// Writes down the counts of the first entries, as many as there is room for.
+/// Copies the counts of the first entries to `counts`, until it is full.
 ///
-/// A free slot puts `none`, over which the next count comes, so that no branch depends on the slot. `none` is a
-/// reference, and the function is not inlined: with a number of its own the compiler might make a branch again.
+/// A free slot writes `none`, which the next count overwrites, so that no branch depends on the slot. The compiler might add a
+/// branch if `none` were a number of its own. So it is a reference, and the function is not inlined.
 #[inline(never)]
 fn gather_counts<T>(slots: &[Slot<T>], none: &u64, counts: &mut [u64])
     requires { length counts.old ≤ length (entries_of slots.now) }
@@ -483,7 +561,7 @@ fn gather_counts<T>(slots: &[Slot<T>], none: &u64, counts: &mut [u64])
     }
 }
 
-/// So many free slots. They ask for memory once.
+/// Returns `size` free slots. Allocates once.
 pub(crate) fn free_slots<T: Drop>(alloc: Global, size: usize) -> Result<Vec<Slot<T>>, Error>
     ensures ok { IfOk result (λ slots. slots.items ≡ replicate size Slot.Free) }
     ensures err { IfErr result (λ e. e ≡ no_memory) }
@@ -504,7 +582,7 @@ pub(crate) fn free_all<T: Drop>(slots: &mut [Slot<T>])
     }
 }
 
-/// Moves all entries of `old` into slots that are free.
+/// Moves all entries of `old` into free slots.
 pub(crate) fn move_all<T: Eq + Hash + Drop>(
     old: Vec<Slot<T>>,
     slots: &mut [Slot<T>],
@@ -526,7 +604,7 @@ pub(crate) fn move_all<T: Eq + Hash + Drop>(
     }
 }
 
-/// The same slots with clones of the items. Clones have to equal their originals.
+/// Returns the same slots with clones of the items. Clones have to equal their originals.
 pub(crate) fn clone_slots<T: Eq + Clone + Drop>(
     alloc: Global,
     slots: &[Slot<T>],

@@ -15,9 +15,9 @@ use Rattle.sketch_countmin.specs.History.{CountHistory, value_over}
 use Rattle.counter_table.specs.Tables.{sum_outside}
 use Rattle.sketch_bloom.specs.State.{FilterState, IsCompatible, item_positions, contains_item}
 use Rattle.sketch_frequencies.specs.Stands.{KeepsTailBudget}
-use Rattle.sketch_frequencies.specs.State.{FrequentState, greatest_sample_size}
+use Rattle.sketch_frequencies.specs.State.{FrequentState, max_sample_size}
 use Rattle.sketch_frequencies.specs.History as frequent
-use Rattle.sketch_frequencies.specs.History.{FrequentHistory, true_weight, weight_outside, own_size, own_sample, least_sample}
+use Rattle.sketch_frequencies.specs.History.{FrequentHistory, true_weight, weight_outside, own_size, own_sample, min_sample}
 use Rattle.std.proofs.lemmas.List.Elements.{Contains-append_cases, Contains-append_left, Contains-append_right, Contains-push, Contains-push_cases}
 use Rattle.std.proofs.lemmas.List.Sums.{sum_by-append, sum_by-cons}
 use Rattle.std.specs.List.{Contains, list_any}
@@ -97,26 +97,26 @@ module _ {T : Type 0} where
   own_sample-own (frequent.Update h x w) = own_sample-own h
   own_sample-own (frequent.Merge g h) = own_sample-own g
   own_sample-own (frequent.Reset h) = own_sample-own h
-  own_sample-own (frequent.Restored h) = ap greatest_sample_size (own_size-own h)
+  own_sample-own (frequent.Restored h) = ap max_sample_size (own_size-own h)
 
   -- what an own stream and all others sample at least, they do where the own one was changed and samples as before
-  sampled_before_case : (n : ℕ) (old new : FrequentHistory T) (others : List (FrequentHistory T)) (k : FrequentHistory T) → least_sample new ≡ least_sample old → ((g : FrequentHistory T) → Contains (new ∷ others) g → n ≤ least_sample g) → (old ≡ k) ⊎ Contains others k → n ≤ least_sample k
-  sampled_before_case n old new others k e all (inl same) = subst (λ (g : FrequentHistory T). n ≤ least_sample g) same (subst (λ (m : ℕ). n ≤ m) e (all new (first_of new others)))
+  sampled_before_case : (n : ℕ) (old new : FrequentHistory T) (others : List (FrequentHistory T)) (k : FrequentHistory T) → min_sample new ≡ min_sample old → ((g : FrequentHistory T) → Contains (new ∷ others) g → n ≤ min_sample g) → (old ≡ k) ⊎ Contains others k → n ≤ min_sample k
+  sampled_before_case n old new others k e all (inl same) = subst (λ (g : FrequentHistory T). n ≤ min_sample g) same (subst (λ (m : ℕ). n ≤ m) e (all new (first_of new others)))
   sampled_before_case n old new others k e all (inr later) = all k (later_of new others k later)
 
-  sampled_before : (n : ℕ) (old new : FrequentHistory T) (others : List (FrequentHistory T)) → least_sample new ≡ least_sample old → ((g : FrequentHistory T) → Contains (new ∷ others) g → n ≤ least_sample g) → (g : FrequentHistory T) → Contains (old ∷ others) g → n ≤ least_sample g
+  sampled_before : (n : ℕ) (old new : FrequentHistory T) (others : List (FrequentHistory T)) → min_sample new ≡ min_sample old → ((g : FrequentHistory T) → Contains (new ∷ others) g → n ≤ min_sample g) → (g : FrequentHistory T) → Contains (old ∷ others) g → n ≤ min_sample g
   sampled_before n old new others e all k is = sampled_before_case n old new others k e all (first_or_later old others k is)
 
   -- what all streams sample at least, the least sample is at least
-  pub least_sample-streams : (n : ℕ) (h : FrequentHistory T) → ((g : FrequentHistory T) → Contains (frequent_streams h) g → n ≤ least_sample g) → n ≤ least_sample h
-  least_sample-streams n (frequent.Merge g h) all =
-      let first = least_sample-streams n g (λ k is. all k (Contains-append_left (frequent_streams g) (frequent_streams h) k is)) in
-      let second = least_sample-streams n h (λ k is. all k (Contains-append_right (frequent_streams g) (frequent_streams h) k is)) in
+  pub min_sample-streams : (n : ℕ) (h : FrequentHistory T) → ((g : FrequentHistory T) → Contains (frequent_streams h) g → n ≤ min_sample g) → n ≤ min_sample h
+  min_sample-streams n (frequent.Merge g h) all =
+      let first = min_sample-streams n g (λ k is. all k (Contains-append_left (frequent_streams g) (frequent_streams h) k is)) in
+      let second = min_sample-streams n h (λ k is. all k (Contains-append_right (frequent_streams g) (frequent_streams h) k is)) in
       omega (arith, first, second)
-  least_sample-streams n (frequent.Restored h) all = least_sample-streams n h (sampled_before n (frequent_own h) (frequent.Restored (frequent_own h)) (frequent_others h) refl all)
-  least_sample-streams n (frequent.Update h y w) all = least_sample-streams n h (sampled_before n (frequent_own h) (frequent.Update (frequent_own h) y w) (frequent_others h) refl all)
-  least_sample-streams n (frequent.New m k) all = all (frequent.New m k) (first_of (frequent.New m k) [])
-  least_sample-streams n (frequent.Reset h) all =
+  min_sample-streams n (frequent.Restored h) all = min_sample-streams n h (sampled_before n (frequent_own h) (frequent.Restored (frequent_own h)) (frequent_others h) refl all)
+  min_sample-streams n (frequent.Update h y w) all = min_sample-streams n h (sampled_before n (frequent_own h) (frequent.Update (frequent_own h) y w) (frequent_others h) refl all)
+  min_sample-streams n (frequent.New m k) all = all (frequent.New m k) (first_of (frequent.New m k) [])
+  min_sample-streams n (frequent.Reset h) all =
       let own = all (frequent.Reset (frequent_own h)) (first_of (frequent.Reset (frequent_own h)) []) in
       subst (λ (m : ℕ). n ≤ m) (own_sample-own h) own
 
@@ -131,13 +131,13 @@ fewer outside a b k e weight h within =
 
 module _ {T : Type 0} (eq : T → T → Bool) where
   -- the tail budget of all streams, by what each of them samples at least
-  pub budget-streams : (s : FrequentState T) (h : FrequentHistory T) → KeepsTailBudget eq s h → (sampled : ℕ) → ((g : FrequentHistory T) → Contains (frequent_streams h) g → sampled ≤ least_sample g) → (set : List T) → length set ≤ sampled / 2 →
+  pub budget-streams : (s : FrequentState T) (h : FrequentHistory T) → KeepsTailBudget eq s h → (sampled : ℕ) → ((g : FrequentHistory T) → Contains (frequent_streams h) g → sampled ≤ min_sample g) → (set : List T) → length set ≤ sampled / 2 →
       sum_outside eq set s.counters + (sampled / 2 - length set) * s.error ≤ sum_by (weight_outside eq set) (frequent_streams h)
   budget-streams s h keeps sampled all set few =
-      let less : sampled / 2 ≤ least_sample h / 2 = halves sampled (least_sample h) (least_sample-streams sampled h all) in
+      let less : sampled / 2 ≤ min_sample h / 2 = halves sampled (min_sample h) (min_sample-streams sampled h all) in
       let whole = keeps set (omega (arith, few, less)) in
-      fewer (sum_outside eq set s.counters) (sampled / 2) (least_sample h / 2) (length set) s.error _ less
-      (subst (λ (n : ℕ). sum_outside eq set s.counters + (least_sample h / 2 - length set) * s.error ≤ n) (weight_outside-streams eq set h) whole)
+      fewer (sum_outside eq set s.counters) (sampled / 2) (min_sample h / 2) (length set) s.error _ less
+      (subst (λ (n : ℕ). sum_outside eq set s.counters + (min_sample h / 2 - length set) * s.error ≤ n) (weight_outside-streams eq set h) whole)
 
 -- ---- cells
 

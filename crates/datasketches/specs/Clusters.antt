@@ -13,7 +13,7 @@ use Rattle.sketch_countmin.specs.History.{CountHistory, cell_share}
 use Rattle.sketch_countmin.specs.Rows.{cell_at}
 use Rattle.sketch_countmin.specs.State.{CountState}
 use Rattle.sketch_frequencies.specs.History as frequent
-use Rattle.sketch_frequencies.specs.History.{FrequentHistory, true_weight, weight_outside, least_sample}
+use Rattle.sketch_frequencies.specs.History.{FrequentHistory, true_weight, weight_outside, min_sample}
 use Rattle.sketch_frequencies.specs.Items.{Codec}
 use Rattle.sketch_frequencies.specs.State.{FrequentState}
 use Rattle.datasketches.specs.Histories.{History, Assignment, nothing_named, after_action, after_action_told}
@@ -188,7 +188,7 @@ module _ {T C : Type 0} (eq : T → T → Bool) (codec : Codec C) (content : T �
   abbrev pub KeepsBudgetOfAllStreams : Type 0
   KeepsBudgetOfAllStreams = (s : FrequentState T) (h : FrequentHistory T)
       → IsNamed eq codec content (Frequent s) (OfFrequent h)
-      → (sampled : ℕ) → ((g : FrequentHistory T) → Contains (frequent_streams h) g → sampled ≤ least_sample g)
+      → (sampled : ℕ) → ((g : FrequentHistory T) → Contains (frequent_streams h) g → sampled ≤ min_sample g)
       → (set : List T) → length set ≤ sampled / 2
       → sum_outside eq set s.counters + (sampled / 2 - length set) * s.error ≤ sum_by (weight_outside eq set) (frequent_streams h)
 

@@ -9,7 +9,7 @@ use Rattle.sketch_countmin.specs.History as count
 use Rattle.sketch_countmin.specs.History.{CountHistory}
 use Rattle.sketch_frequencies.specs.History as frequent
 use Rattle.sketch_frequencies.specs.History.{FrequentHistory}
-use Rattle.sketch_frequencies.specs.State.{greatest_sample_size}
+use Rattle.sketch_frequencies.specs.State.{max_sample_size}
 use Rattle.datasketches.specs.Actions.{action_of}
 use Rattle.datasketches.specs.Names.{Name}
 use Rattle.datasketches.specs.Replies.{is_refused}
@@ -54,7 +54,7 @@ module _ {T : Type 0} where
 
   -- the history of a new sketch of the shape
   abbrev pub begun : Shape → History T
-  begun (shape.Frequent max_map_size) = OfFrequent (frequent.New max_map_size (greatest_sample_size max_map_size))
+  begun (shape.Frequent max_map_size) = OfFrequent (frequent.New max_map_size (max_sample_size max_map_size))
   begun (shape.FrequentSampled max_map_size sample_size) = OfFrequent (frequent.New max_map_size sample_size)
   begun (shape.CountI64 hashes buckets seed) = OfCountI64 (count.New hashes buckets seed)
   begun (shape.CountU64 hashes buckets seed) = OfCountU64 (count.New hashes buckets seed)

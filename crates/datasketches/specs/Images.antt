@@ -21,7 +21,7 @@ use Rattle.sketch_frequencies.specs.Image as frequent
 use Rattle.sketch_frequencies.specs.Items.{Codec, max_owned}
 use Rattle.sketch_frequencies.specs.Memory.{memory_bytes, owned_by}
 use Rattle.sketch_frequencies.specs.Stands as frequent_stands
-use Rattle.sketch_frequencies.specs.State.{FrequentState, greatest_sample_size}
+use Rattle.sketch_frequencies.specs.State.{FrequentState, max_sample_size}
 use Rattle.datasketches.specs.Histories.{History, restored}
 use Rattle.datasketches.specs.Histories.History.{OfFrequent, OfCountI64, OfCountU64, OfBloom, OfStranger}
 use Rattle.datasketches.specs.Replies.{min_signed, max_signed, min_unsigned, max_unsigned}
@@ -69,7 +69,7 @@ module _ {T C : Type 0} (codec : Codec C) (content : T → C) where
   -- the bytes are an image of the sketch. A frequent items sketch gets the sample size of a new one
   abbrev pub IsReadFrom : Image → Sketch T → Type 0
   IsReadFrom (image.Frequent bytes) (Frequent s) =
-      frequent.IsImageOf codec content bytes.items s × (s.sample_size ≡ greatest_sample_size s.max_size)
+      frequent.IsImageOf codec content bytes.items s × (s.sample_size ≡ max_sample_size s.max_size)
   IsReadFrom (image.CountI64 seed bytes) (CountI64 s) =
       count.IsImage min_signed max_signed seed bytes.items s
   IsReadFrom (image.CountU64 seed bytes) (CountU64 s) =

@@ -6,7 +6,7 @@ use Rattle.sketch_bloom.specs.State.{FilterState, IsFilterState, item_positions,
 use Rattle.sketch_countmin.specs.History.{CountHistory, IsExact, IsNonnegative, absolute_weight, cell_share, own_value, others_share}
 use Rattle.sketch_countmin.specs.Rows.{cell_at}
 use Rattle.sketch_countmin.specs.State.{CountState, IsCountState, IsMin, IsMinCell}
-use Rattle.sketch_frequencies.specs.History.{FrequentHistory, true_weight, total_weight, own_size, least_size, own_sample, least_sample, HasUsualSamples}
+use Rattle.sketch_frequencies.specs.History.{FrequentHistory, true_weight, total_weight, own_size, min_size, own_sample, min_sample, HasUsualSamples}
 use Rattle.sketch_frequencies.specs.Items.{Codec}
 use Rattle.sketch_frequencies.specs.Stands.{HasFewItems, KeepsTailBudget}
 use Rattle.sketch_frequencies.specs.State.{FrequentState, IsState, capacity}
@@ -72,17 +72,17 @@ module _ {T C : Type 0} (eq : T → T → Bool) (codec : Codec C) (content : T �
   -- the minimum sample size times the error is at most twice the total weight
   abbrev pub SampleBoundsError : Type 0
   SampleBoundsError = (s : FrequentState T) (h : FrequentHistory T) → IsNamed (Frequent s) (OfFrequent h)
-      → least_sample h * s.error ≤ 2 * total_weight h
+      → min_sample h * s.error ≤ 2 * total_weight h
 
   -- if no sample size was chosen and the minimum size is at most 1024, 3/8 of it times the error is at most the total weight
   abbrev pub SmallSketchErrsLittle : Type 0
   SmallSketchErrsLittle = (s : FrequentState T) (h : FrequentHistory T) → IsNamed (Frequent s) (OfFrequent h)
-      → HasUsualSamples h → least_size h ≤ 1024 → 3 * least_size h * s.error ≤ 8 * total_weight h
+      → HasUsualSamples h → min_size h ≤ 1024 → 3 * min_size h * s.error ≤ 8 * total_weight h
 
   -- if no sample size was chosen and the minimum size is above 1024, 512 times the error is at most the total weight
   abbrev pub LargeSketchErrsLittle : Type 0
   LargeSketchErrsLittle = (s : FrequentState T) (h : FrequentHistory T) → IsNamed (Frequent s) (OfFrequent h)
-      → HasUsualSamples h → 1024 < least_size h → 512 * s.error ≤ total_weight h
+      → HasUsualSamples h → 1024 < min_size h → 512 * s.error ≤ total_weight h
 
   -- a filter is valid
   abbrev pub FilterIsState : Type 0

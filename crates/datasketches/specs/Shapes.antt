@@ -23,7 +23,7 @@ fault_of (shape.Bloom bits hashes seed) = request_fault (record { num_bits = bit
 -- the empty sketch of a shape
 abbrev pub empty_sketch : {T : Type 0} → Shape → Sketch T
 empty_sketch (shape.Frequent max_map_size) =
-    Frequent (frequent.empty_state max_map_size (frequent.greatest_sample_size max_map_size))
+    Frequent (frequent.empty_state max_map_size (frequent.max_sample_size max_map_size))
 empty_sketch (shape.FrequentSampled max_map_size sample_size) = Frequent (frequent.empty_state max_map_size sample_size)
 empty_sketch (shape.CountI64 hashes buckets seed) = CountI64 (count.empty_state hashes buckets seed)
 empty_sketch (shape.CountU64 hashes buckets seed) = CountU64 (count.empty_state hashes buckets seed)

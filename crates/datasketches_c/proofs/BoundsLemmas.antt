@@ -1,15 +1,8 @@
--- What is said of items one after another.
-use Rattle.std.proofs.Common.{◌≡◌, ◌≢◌, ℕ, ℤ, inl, inr, suc, ◌+◌, ◌<◌, List, [], ◌∷◌, ◌++◌, length, get_or, set, take, drop, ◌≤◌, sym, subst, arith, ◌∙◌}
+-- Bounds of items, written one after another.
+use Rattle.std.proofs.Common.{◌≡◌, ℕ, suc, ◌+◌, ◌<◌, List, [], ◌∷◌, ◌++◌, length, get_or, set, take, ◌≤◌, sym, subst, arith}
 use Rattle.std.specs.List.{AllZip}
-use Rattle.std.specs.Global.{Global}
-use Rattle.std.specs.declared.string.String.{String}
-use Rattle.std.proofs.lemmas.List.{take_all, drop-set-lt}
+use Rattle.std.proofs.lemmas.List.{take_all}
 use Rattle.std.proofs.Math.Seq.{take-suc, take-suc-set}
-use Rattle.sketch_base.specs.declared.fault.Fault.TheVariants.{NoMemory}
-use Rattle.sketch_frequencies.specs.State.{FrequentState}
-use Rattle.datasketches_c.specs.FrequentBatches.{TellsOfTexts}
-use Rattle.datasketches_c.specs.Numbers.{ok, refusal_number}
-use Rattle.datasketches_c.specs.declared.frequent.FrequentBounds.{FrequentBounds}
 
 -- what holds place by place of two lists holds with one more place
 zip_push : {A B : Type 0} (R : A → B → Type 0) (xs : List A) (ys : List B) (x : A) (y : B) → AllZip R xs ys → R x y
@@ -29,21 +22,9 @@ zip_more R items written i d x y there room is all one =
     (subst (λ zs. AllZip R zs (take i written ++ y ∷ [])) (sym (take-suc items i d there))
     (zip_push R (take i items) (take i written) (get_or items i d) y all (subst (λ z. R z y) is one))))
 
--- and what lies behind it is as it was
-pub rest_more : {B : Type 0} (old written : List B) (i : ℕ) (y : B) → ((k : ℕ) → i ≤ k → drop k written ≡ drop k old)
-    → (k : ℕ) → i + 1 ≤ k → drop k (set written i y) ≡ drop k old
-rest_more old written i y rest k later = drop-set-lt k written i y (omega arith) ∙ rest k (omega arith)
-
 -- all places are written
 pub zip_whole : {A B : Type 0} (R : A → B → Type 0) (items : List A) (written : List B) (i : ℕ) → length items ≤ i → length written ≤ i
     → AllZip R (take i items) (take i written) → AllZip R items written
 zip_whole R items written i all_items all_written all =
     subst (λ zs. AllZip R zs written) (take_all i items all_items)
     (subst (λ zs. AllZip R (take i items) zs) (take_all i written all_written) all)
-
--- a call for many texts that is refused, but not for memory, leaves the bounds
-pub left_untouched : (s : FrequentState (String Global)) (texts : List (List ℕ)) (old new : List FrequentBounds) (answer : ℤ) → TellsOfTexts s texts old new answer
-    → answer ≢ ok → answer ≢ refusal_number NoMemory → new ≡ old
-unfolding TellsOfTexts
-left_untouched s texts old new answer (inl said) not other = absurd (not said.0)
-left_untouched s texts old new answer (inr said) not other = absurd (other said.0)

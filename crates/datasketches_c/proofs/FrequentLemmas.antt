@@ -27,7 +27,7 @@ pub total_of_text : (old : FrequentState (String Global)) (text : List ℕ) (wei
     → UpdatesText old text weight new ok → new.total ≡ old.total + weight
 unfolding UpdatesText
 total_of_text old text weight new (inl said) = total_of_update text_eq old said.0 weight new said.2
-total_of_text old text weight new (inr said) = cc
+total_of_text old text weight new (inr said) = let number : ok ≡ refusal_number NoMemory = said.number in cc
 
 -- a number, said of a refusal
 on_refused : (answer z : ℤ) → answer ≡ z → OnRefused answer (answer ≡ z)
@@ -39,7 +39,7 @@ pub memory_of_text : (old : FrequentState (String Global)) (text : List ℕ) (we
     → UpdatesText old text weight new answer → OnRefused answer (answer ≡ refusal_number NoMemory)
 unfolding UpdatesText
 memory_of_text old text weight new answer room (inl said) = said.2.memory room
-memory_of_text old text weight new answer room (inr said) = on_refused answer (refusal_number NoMemory) said.0
+memory_of_text old text weight new answer room (inr said) = on_refused answer (refusal_number NoMemory) said.number
 
 -- a part of what is said of an answer
 pub on_done_first : (answer : ℤ) (A B : Type 0) → OnDone answer (A × B) → OnDone answer A

@@ -6,6 +6,7 @@ pub mod CountLemmas
 pub mod EqualityLemmas
 pub mod FilterLemmas
 pub mod FrequentLemmas
+pub mod GhostTexts
 pub mod Handles
 pub mod InTurnLemmas
 pub mod KindLemmas

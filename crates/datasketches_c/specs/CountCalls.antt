@@ -1,6 +1,6 @@
 -- Results and effects of calls on Count-Min sketches of any weight type. `part` returns the sketch of that type that a handle
 -- holds, if any. `greatest` is the maximum of the type.
-use Rattle.std.specs.Prelude.{◌≡◌, ℕ, ℤ, ◌+◌, ◌-◌, ◌*◌, ◌<◌, ◌≤◌, List, Option, length, map, take, unsigned_abs}
+use Rattle.std.specs.Prelude.{◌≡◌, ℕ, ℤ, ◌+◌, ◌-◌, ◌<◌, ◌≤◌, List, Option, length, map, take, unsigned_abs}
 use Rattle.sketch_base.specs.declared.fault.Fault.TheVariants.{Mismatch, WeightOverflow}
 use Rattle.sketch_countmin.specs.State.{CountState, IsMinCell, SameShape, upper_bound_of}
 use Rattle.datasketches_c.specs.CountSteps.{Weighs, WeighsAll, WeighsEach, Merges}

@@ -6,7 +6,7 @@ use Rattle.counter_table.specs.Bytes.{table_bytes}
 use Rattle.sketch_frequencies.specs.Image.{IsImageOf, IsSpelledFor, Restores, RestoresBudget, limit_fault}
 use Rattle.sketch_frequencies.specs.Items.{Codec}
 use Rattle.sketch_frequencies.specs.Memory.{memory_bytes, owned_by}
-use Rattle.sketch_frequencies.specs.State.{FrequentState, greatest_sample_size}
+use Rattle.sketch_frequencies.specs.State.{FrequentState, max_sample_size}
 use Rattle.datasketches_c.specs.Images.{WritesImage}
 
 -- the memory layouts of `u64` and `i64` items
@@ -28,7 +28,7 @@ pub record IsRestored
     (s : FrequentState T)
     : Type 0 where
   pub of_image : IsImageOf codec content image s
-  pub sample : s.sample_size ≡ greatest_sample_size s.max_size
+  pub sample : s.sample_size ≡ max_sample_size s.max_size
   pub stands : Restores codec content eq image s
   pub budget : RestoresBudget codec content eq image s
   pub within : memory_bytes (table_bytes item s.size) (owned_by codec content s.counters) ≤ max_bytes

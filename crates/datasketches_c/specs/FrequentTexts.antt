@@ -1,26 +1,44 @@
--- Calls on frequent items sketches of strings. Each call first allocates an item for the string, which may fail.
-use Rattle.std.specs.Prelude.{◌≡◌, ◌⊎◌, ℕ, ℤ, Bool, List}
+-- Updates of frequent items sketches of strings. An update allocates only for a string that is not tracked.
+use Rattle.std.specs.Prelude.{◌≡◌, ◌⊎◌, ℕ, ℤ, Bool, false, List}
 use Rattle.std.specs.Global.{Global}
+use Rattle.std.specs.Str.{bytes_eq}
 use Rattle.std.specs.String.{string_bytes, string_eq}
 use Rattle.std.specs.declared.string.String.{String}
+use Rattle.sketch_base.specs.Errors.{ErrorValue}
 use Rattle.sketch_base.specs.declared.fault.Fault.TheVariants.{NoMemory}
-use Rattle.sketch_frequencies.specs.State.{FrequentState}
-use Rattle.datasketches_c.specs.FrequentCalls.{Updates, AreBounds}
-use Rattle.datasketches_c.specs.Numbers.{ok, refusal_number}
-use Rattle.datasketches_c.specs.declared.frequent.FrequentBounds.{FrequentBounds}
+use Rattle.counter_table.specs.Tables.{is_tracked_by_key}
+use Rattle.sketch_frequencies.specs.State.{FrequentState, TotalHasRoom}
+use Rattle.sketch_frequencies.specs.Words.{StopsAtString, UpdatesStrings, words_of}
+use Rattle.datasketches_c.specs.FrequentCalls.{Updates}
+use Rattle.datasketches_c.specs.Numbers.{OnDone, OnRefused, ok, refusal_number}
 
 -- strings are compared by their bytes
 abbrev pub text_eq : String Global → String Global → Bool
 text_eq = string_eq
 
--- the update was done for an item of these bytes, or the result is `NoMemory` and the sketch is unchanged
+-- the result is `NoMemory`, and the sketch is unchanged. The string is not tracked, and the total has room for the weight
+pub record RunsOutOfMemory (old : FrequentState (String Global)) (text : List ℕ) (weight : ℕ) (new : FrequentState (String Global))
+    (result : ℤ) : Type 0 where
+  pub number : result ≡ refusal_number NoMemory
+  pub unchanged : new ≡ old
+  pub untracked : is_tracked_by_key (λ item. bytes_eq text (string_bytes item)) old.counters ≡ false
+  pub room : TotalHasRoom old weight
+
+-- the update was done for an item of these bytes, or an allocation failed
 unfoldable pub UpdatesText : (old : FrequentState (String Global)) → List ℕ → ℕ → (new : FrequentState (String Global)) → ℤ → Type 0
 UpdatesText old text weight new result =
     ((item : String Global) × (string_bytes item ≡ text) × Updates text_eq old item weight new result)
-    ⊎ ((result ≡ refusal_number NoMemory) × (new ≡ old))
+    ⊎ RunsOutOfMemory old text weight new result
 
--- the call wrote the sketch's numbers for an item of these bytes, or the result is `NoMemory`
-unfoldable pub TellsOfText : FrequentState (String Global) → List ℕ → FrequentBounds → ℤ → Type 0
-TellsOfText s text bounds result =
-    ((result ≡ ok) × ((item : String Global) × (string_bytes item ≡ text) × AreBounds text_eq s item bounds))
-    ⊎ (result ≡ refusal_number NoMemory)
+-- the words before one were added, and that one was rejected with this error, as an update of its own would reject it
+pub record StopsAtWord (old : FrequentState (String Global)) (text : List ℕ) (new : FrequentState (String Global)) (result : ℤ)
+    : Type 0 where
+  pub error : ErrorValue
+  pub number : result ≡ refusal_number error.fault
+  pub stops : StopsAtString old (words_of text) error new
+
+-- the result and effect of adding 1 for each word of a string, in order
+pub record UpdatesWords (old : FrequentState (String Global)) (text : List ℕ) (new : FrequentState (String Global)) (result : ℤ)
+    : Type 0 where
+  pub done : OnDone result ((result ≡ ok) × UpdatesStrings old (words_of text) new)
+  pub stopped : OnRefused result (StopsAtWord old text new result)

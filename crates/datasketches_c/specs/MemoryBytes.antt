@@ -1,5 +1,5 @@
 -- The number of bytes that a sketch takes, by fixed formulas.
-use Rattle.std.specs.Prelude.{◌≡◌, ◌+◌, ◌*◌, ℕ, ℤ, Option, Some, None}
+use Rattle.std.specs.Prelude.{◌≡◌, ◌*◌, ℕ, ℤ, Option, Some, None}
 use Rattle.std.specs.String.{string_bytes}
 use Rattle.counter_table.specs.Bytes.{table_bytes}
 use Rattle.sketch_countmin.specs.Shapes.{grid_bytes}

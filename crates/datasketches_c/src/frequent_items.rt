@@ -2,18 +2,18 @@
 ghost use Rattle.std.specs.Ordering.{int_eq};
 ghost use Rattle.std.specs.Prelude.{All, length, nat_eq, ◌+◌, ◌≡◌, ◌≢◌};
 ghost use Rattle.std.specs.Str.{IsUtf8};
-ghost use Rattle.datasketches_c.specs.FrequentBatches.{AreBoundsOfAll};
+ghost use Rattle.datasketches_c.specs.FrequentBatches.{AreBoundsOfAll, AreBoundsOfText};
 ghost use Rattle.datasketches_c.specs.FrequentCalls.{AreBounds, Updates, UpdatesMany};
 ghost use Rattle.datasketches_c.specs.FrequentRows.{WritesRows, error_type};
 ghost use Rattle.datasketches_c.specs.FrequentTextRows.{WritesTextRows};
-ghost use Rattle.datasketches_c.specs.FrequentTexts.{TellsOfText, UpdatesText};
+ghost use Rattle.datasketches_c.specs.FrequentTexts.{UpdatesText, UpdatesWords};
 ghost use Rattle.datasketches_c.specs.Kinds.{HoldsFrequentI64, HoldsFrequentTexts, HoldsFrequentU64, OnFrequentI64, OnFrequentTexts, OnFrequentU64};
 ghost use Rattle.datasketches_c.specs.Numbers.{OnRefused, bad_offsets, no_room, ok, refusal_number};
 ghost use Rattle.datasketches_c.specs.Texts.{AreOffsets, AreTexts, texts_of};
 ghost use Rattle.datasketches_c.specs.Weights.{AddsWeights};
 
 use crate::frequent::{self, FrequentBounds};
-use crate::frequent_text::{bounds_of_text, update_text, write_rows};
+use crate::frequent_text::{bounds_of_text, update_text, update_words, write_rows};
 use crate::frequent_weighted::add_weighted_texts;
 use crate::handle::SketchHandle;
 use crate::kind::on_kind;
@@ -28,9 +28,8 @@ use std::alloc::Global;
 ///
 /// - `InvalidUtf8` if the bytes are not UTF-8.
 /// - `NO_SKETCH` if the handle has no sketch, and `WRONG_KIND` if its sketch is of another kind.
-/// - `NoMemory` if the string cannot be copied.
 /// - `WeightOverflow` if the total would exceed 2^64 - 1.
-/// - `NoMemory` if the table cannot grow.
+/// - `NoMemory` if the string is not tracked and cannot be copied, or the table cannot grow for it.
 #[unsafe(no_mangle)]
 pub extern "C" fn ds_frequent_items_string_update(
     alloc: Global,
@@ -128,6 +127,32 @@ pub extern "C" fn ds_frequent_items_i64_update_all(
     frequent::update_all(alloc, handle, items)
 }
 
+/// Adds 1 to the weight of each word of a string, in order. A word is a longest run of bytes that are not ASCII white
+/// space: space, tab, line feed, form feed or carriage return.
+///
+/// Returns the first of these errors, and then changes nothing:
+///
+/// - `InvalidUtf8` if the bytes are not UTF-8.
+/// - `NO_SKETCH` if the handle has no sketch, and `WRONG_KIND` if its sketch is of another kind.
+///
+/// Returns the error of the first word for which `ds_frequent_items_string_update` returns one. Then the words before
+/// it are added, and no others.
+#[unsafe(no_mangle)]
+pub extern "C" fn ds_frequent_items_string_update_words(
+    alloc: Global,
+    handle: &mut SketchHandle,
+    text: &[u8],
+) -> i32
+    ensures text { IsUtf8 text.now → OnFrequentTexts handle.old.value handle.new.value result (λ s.
+        HoldsFrequentTexts handle.new.value (λ t. UpdatesWords s text.now t result)) }
+    ensures no_text { ¬ (IsUtf8 text.now)
+        → (result ≡ refusal_number Fault.InvalidUtf8) × (handle.new.value ≡ handle.old.value) }
+{
+    on_text!(text => {
+        on_kind!(alloc, handle, FrequentItemsSketch<String>, sketch => update_words(sketch, text))
+    })
+}
+
 /// Adds a weight to each string's, in order. A weight of 0 changes nothing. The strings are the bytes between each
 /// offset and the next, so n strings have n + 1 offsets.
 ///
@@ -219,13 +244,12 @@ pub extern "C" fn ds_frequent_items_i64_update_all_weighted(
     frequent::update_all_weighted(alloc, handle, items, weights)
 }
 
-/// Writes the bounds and the estimate of a string's weight.
+/// Writes the bounds and the estimate of a string's weight. Does not allocate.
 ///
 /// Returns the first of these errors, and then changes nothing:
 ///
 /// - `InvalidUtf8` if the bytes are not UTF-8.
 /// - `NO_SKETCH` if the handle has no sketch, and `WRONG_KIND` if its sketch is of another kind.
-/// - `NoMemory` if the string cannot be copied.
 #[unsafe(no_mangle)]
 pub extern "C" fn ds_frequent_items_string_bounds(
     alloc: Global,
@@ -235,7 +259,7 @@ pub extern "C" fn ds_frequent_items_string_bounds(
 ) -> i32
     ensures kept { handle.new.value ≡ handle.old.value }
     ensures text { IsUtf8 item.now → OnFrequentTexts handle.old.value handle.new.value result (λ s.
-        TellsOfText s item.now bounds.new result) }
+        (result ≡ ok) × AreBoundsOfText s item.now bounds.new) }
     ensures no_text { ¬ (IsUtf8 item.now) → result ≡ refusal_number Fault.InvalidUtf8 }
     ensures untouched { OnRefused result (bounds.new ≡ bounds.old) }
 {

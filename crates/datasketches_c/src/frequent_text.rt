@@ -1,15 +1,15 @@
 //! Sketches of frequent strings: updates and bounds of one string or many, and reports.
 ghost use Rattle.std.specs.List.{concat};
 ghost use Rattle.std.specs.Prelude.{◌≡◌, ◌+◌, length, ◌≤◌, ◌^◌, MatchOption};
-ghost use Rattle.datasketches_c.specs.FrequentBatches.{TellsOfTexts};
+ghost use Rattle.datasketches_c.specs.FrequentBatches.{AreBoundsOfText, AreBoundsOfTexts};
 ghost use Rattle.datasketches_c.specs.FrequentRows.{error_type};
 ghost use Rattle.datasketches_c.specs.FrequentTextRows.{LeavesTextRows, ReportsTexts, WritesTextRows, row_texts};
-ghost use Rattle.datasketches_c.specs.FrequentTexts.{UpdatesText, TellsOfText};
+ghost use Rattle.datasketches_c.specs.FrequentTexts.{UpdatesText, UpdatesWords};
 ghost use Rattle.datasketches_c.specs.InTurn.{CallsInTurn};
 ghost use Rattle.datasketches_c.specs.Numbers.{OnDone, OnRefused, ok, no_room, refusal_number};
 ghost use Rattle.datasketches_c.specs.Texts.{AreTexts, AreTextsIn, texts_of, offsets_from};
 
-use crate::frequent::{FrequentBounds, add, bounds_of};
+use crate::frequent::FrequentBounds;
 use crate::frequent_rows::{copy_bounds, error_type_of};
 use crate::status_code::{NO_ROOM, OK, refusal_number};
 use crate::texts::{num_texts, text_at};
@@ -17,7 +17,7 @@ use sketch_base::Fault;
 use sketch_frequencies::{FrequentItemsSketch, Row};
 use std::alloc::Global;
 
-/// Adds a weight to a string's. Returns the result's number.
+/// Adds a weight to a string's. Returns the result's number. Allocates only if the string is not tracked.
 pub(crate) fn update_text(
     alloc: Global,
     sketch: &mut FrequentItemsSketch<String>,
@@ -28,29 +28,45 @@ pub(crate) fn update_text(
     ensures done { OnDone result (result ≡ ok) }
     ensures refused { OnRefused result (sketch.new ≡ sketch.old) }
 {
-    match String::from_str(alloc, item) {
-        Ok(item) => add(sketch, item, weight),
-        Err(_) => refusal_number(Fault::NoMemory),
+    match sketch.update_with_count_by_key(item, weight) {
+        Ok(()) => OK,
+        Err(error) => refusal_number(error.fault()),
     }
 }
 
-/// Writes the bounds and the estimate of a string's weight. Returns `NoMemory` if the string cannot be copied.
+/// Adds 1 to the weight of each word of a string, in order. Returns the result's number.
+pub(crate) fn update_words(sketch: &mut FrequentItemsSketch<String>, text: &str) -> i32
+    ensures { UpdatesWords sketch.old text.now sketch.new result }
+{
+    match sketch.update_words(text) {
+        Ok(()) => OK,
+        Err(error) => refusal_number(error.fault()),
+    }
+}
+
+/// Returns the bounds of a string's weight, with one look-up. It does not allocate: the allocator is for its proof alone.
+fn bounds_by_key(_alloc: Global, sketch: &FrequentItemsSketch<String>, text: &str) -> FrequentBounds
+    ensures { AreBoundsOfText sketch.now text.now result }
+{
+    let bounds = sketch.bounds_by_key(text);
+    FrequentBounds {
+        lower_bound: bounds.lower_bound,
+        estimate: bounds.estimate,
+        upper_bound: bounds.upper_bound,
+    }
+}
+
+/// Writes the bounds and the estimate of a string's weight. Does not allocate.
 pub(crate) fn bounds_of_text(
     alloc: Global,
     sketch: &FrequentItemsSketch<String>,
     item: &str,
     bounds: &mut FrequentBounds,
 ) -> i32
-    ensures bounds { TellsOfText sketch.now item.now bounds.new result }
-    ensures untouched { OnRefused result (bounds.new ≡ bounds.old) }
+    ensures { (result ≡ ok) × AreBoundsOfText sketch.now item.now bounds.new }
 {
-    match String::from_str(alloc, item) {
-        Ok(item) => {
-            *bounds = bounds_of(sketch, &item);
-            OK
-        }
-        Err(_) => refusal_number(Fault::NoMemory),
-    }
+    *bounds = bounds_by_key(alloc, sketch, item);
+    OK
 }
 
 /// Adds 1 to the weight of each string of a buffer, in order. Returns the first error. Then the strings before it are
@@ -74,9 +90,7 @@ pub(crate) fn update_texts(
     OK
 }
 
-/// Writes the bounds and the estimate of each string's weight, for the strings of a buffer. Returns `NoMemory` for the
-/// first string that cannot be copied. Then the bounds of the strings before it are written, and the others stay as
-/// they were.
+/// Writes the bounds and the estimate of each string's weight, for the strings of a buffer. Does not allocate.
 pub(crate) fn bounds_of_texts(
     alloc: Global,
     sketch: &FrequentItemsSketch<String>,
@@ -85,14 +99,11 @@ pub(crate) fn bounds_of_texts(
     bounds: &mut [FrequentBounds],
 ) -> i32
     requires { AreTextsIn (length bounds.old) bytes.now offsets.now }
-    ensures { TellsOfTexts sketch.now (texts_of bytes.now offsets.now) bounds.old bounds.new result }
+    ensures { (result ≡ ok) × AreBoundsOfTexts sketch.now (texts_of bytes.now offsets.now) bounds.new }
 {
     let count = num_texts(bytes, offsets);
     'each: for i in 0..count {
-        let Ok(item) = String::from_str(alloc, text_at(bytes, offsets, i)) else {
-            return refusal_number(Fault::NoMemory);
-        };
-        bounds[i] = bounds_of(sketch, &item);
+        bounds[i] = bounds_by_key(alloc, sketch, text_at(bytes, offsets, i));
     }
     OK
 }

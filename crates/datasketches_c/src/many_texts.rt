@@ -8,7 +8,7 @@ ghost use Rattle.sketch_bloom.specs.History.{all_inserted_after};
 ghost use Rattle.sketch_bloom.specs.Stands.{Extends};
 ghost use Rattle.sketch_bloom.specs.State.{all_inserted, contains_item};
 ghost use Rattle.datasketches_c.specs.CountCalls.{AddsEach, EstimatesAll};
-ghost use Rattle.datasketches_c.specs.FrequentBatches.{TellsOfTexts};
+ghost use Rattle.datasketches_c.specs.FrequentBatches.{AreBoundsOfTexts};
 ghost use Rattle.datasketches_c.specs.FrequentTexts.{UpdatesText};
 ghost use Rattle.datasketches_c.specs.InTurn.{CallsInTurn};
 ghost use Rattle.datasketches_c.specs.Kinds.{HoldsFrequentTexts, OnFilter, OnFrequentTexts, count_i64_of, count_u64_of};
@@ -265,8 +265,7 @@ pub extern "C" fn ds_count_min_i64_estimate_all_string(
 /// - `InvalidUtf8` if a string is not UTF-8.
 /// - `NO_SKETCH` if the handle has no sketch, and `WRONG_KIND` if its sketch is of another kind.
 ///
-/// Returns `NoMemory` for the first string that cannot be copied. Then the bounds of the strings before it are written,
-/// and the others stay as they were.
+/// Does not allocate.
 #[unsafe(no_mangle)]
 pub extern "C" fn ds_frequent_items_string_bounds_all(
     alloc: Global,
@@ -284,8 +283,8 @@ pub extern "C" fn ds_frequent_items_string_bounds_all(
         → (result ≡ refusal_number Fault.InvalidUtf8) × (bounds.new ≡ bounds.old) }
     ensures bounds { AreTexts bytes.now offsets.now → length bounds.old + 1 ≡ length offsets.now
         → OnFrequentTexts handle.old.value handle.new.value result (λ s.
-        TellsOfTexts s (texts_of bytes.now offsets.now) bounds.old bounds.new result) }
-    ensures untouched { result ≢ ok → result ≢ refusal_number Fault.NoMemory → bounds.new ≡ bounds.old }
+        (result ≡ ok) × AreBoundsOfTexts s (texts_of bytes.now offsets.now) bounds.new) }
+    ensures untouched { result ≢ ok → bounds.new ≡ bounds.old }
 {
     if let Some(refusal) = refusal_of_texts_in(bounds.len(), bytes, offsets) {
         return refusal;

@@ -38,6 +38,25 @@ pub fn weights_of_four(visits: &FrequentItemsSketch<u64>, pages: &[u64; 4]) -> [
     weights
 }
 
+/// Creates a sketch of the words of a line.
+pub fn words_of_line(alloc: Global, line: &str) -> Result<FrequentItemsSketch<String>, Error> {
+    let mut sketch = FrequentItemsSketch::new(alloc, 1024)?;
+    sketch.update_words(line)?;
+    Ok(sketch)
+}
+
+/// Adds a word, and allocates only if it is not tracked.
+pub fn add_word(words: &mut FrequentItemsSketch<String>, word: &str) -> Result<(), Error> {
+    words.update_with_count_by_key(word, 1)
+}
+
+/// Returns the upper bound of the number of times that a line has the word 'the'.
+pub fn largest_weight_of_the(alloc: Global, line: &str) -> Result<u64, Error> {
+    let mut words: FrequentItemsSketch<String> = FrequentItemsSketch::new(alloc, 1024)?;
+    words.update_words(line)?;
+    Ok(words.upper_bound_by_key("the"))
+}
+
 /// Creates a sketch of `apples` apples.
 fn shop(alloc: Global, apples: u64) -> Result<FrequentItemsSketch<&'static str>, Error> {
     let mut shop = FrequentItemsSketch::with_sample_size(alloc, 1024, 100)?;

@@ -13,9 +13,10 @@ use crate::filters::{
     still_refused,
 };
 use crate::frequent_items::{
-    apples_of_both_shops, bytes_of, counts_visit, heavier_pages, heaviest, kind_of_report,
-    longest_look_up, most_visited, sent_pages, sketch_of_visitors, surely_weighs_more,
-    takes_too_much, visits_of_four, visits_within_a_percent, weights_of_four,
+    add_word, apples_of_both_shops, bytes_of, counts_visit, heavier_pages, heaviest,
+    kind_of_report, largest_weight_of_the, longest_look_up, most_visited, sent_pages,
+    sketch_of_visitors, surely_weighs_more, takes_too_much, visits_of_four,
+    visits_within_a_percent, weights_of_four, words_of_line,
 };
 use crate::images::sent;
 use crate::session::{
@@ -137,6 +138,13 @@ fn sizes_are_as_the_docs_say(rt: HostRuntime) {
     assert!(rt; chosen_slots(rt.alloc()) == Ok(512));
 }
 
+/// Returns the number of words of a line and one more word, and how many of them are distinct.
+fn num_words(alloc: Global, line: &str, word: &str) -> Result<(u64, usize), Error> {
+    let mut words = words_of_line(alloc, line)?;
+    add_word(&mut words, word)?;
+    Ok((words.total_weight(), words.num_active_items()))
+}
+
 /// Creates a sketch of two pages.
 fn of_two_pages(alloc: Global) -> Result<FrequentItemsSketch<u64>, Error> {
     let mut pages = FrequentItemsSketch::new(alloc, 8)?;
@@ -201,6 +209,8 @@ fn frequent_items_and_tables_are_as_the_docs_say(rt: HostRuntime) {
 #[test]
 fn calls_answer_as_the_readme_of_each_crate_says(rt: HostRuntime) {
     assert!(rt; apples_of_both_shops(rt.alloc()) == Ok((42, 42)));
+    assert!(rt; num_words(rt.alloc(), "to be\tor not  to be\n", "be") == Ok((7, 4)));
+    assert!(rt; largest_weight_of_the(rt.alloc(), "the cat and the dog") == Ok(2));
     assert!(rt; still_refused(rt.alloc()) == Ok((true, false)));
     assert!(rt; apples_in_store(rt.alloc()) == Ok(70));
     assert!(rt; weight_of_the_first(rt.alloc()) == Ok(5));

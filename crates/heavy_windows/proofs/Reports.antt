@@ -2,12 +2,12 @@
 use Rattle.std.proofs.Common.{◌≡◌, ℕ, ◌+◌, ◌-◌, ◌*◌, ◌/◌, ◌≤◌, Bool, List, All, [], ◌∷◌, length, Result, Ok, Err, IfOk, refl, ap, sym, ◌∙◌, subst, arith}
 use Rattle.std.proofs.lemmas.List.Elements.{All-weaker}
 use Rattle.std.specs.List.{fold}
-use Rattle.sketch_frequencies.specs.History.{FrequentHistory, true_weight, least_sample, budget_size, weight_outside}
+use Rattle.sketch_frequencies.specs.History.{FrequentHistory, true_weight, min_sample, budget_size, weight_outside}
 use Rattle.sketch_frequencies.specs.History.FrequentHistory.{Merge}
 use Rattle.sketch_frequencies.specs.RowValue.{RowValue}
 use Rattle.sketch_frequencies.specs.Rows.{Shows, ShowsExactly}
 use Rattle.sketch_frequencies.specs.Stands.{StandsFor, KeepsTailBudget}
-use Rattle.sketch_frequencies.specs.State.{FrequentState, IsState, greatest_sample_size}
+use Rattle.sketch_frequencies.specs.State.{FrequentState, IsState, max_sample_size}
 use Rattle.counter_table.specs.Tables.{sum_outside}
 use Rattle.sketch_frequencies.specs.declared.error_type.ErrorType.{ErrorType}
 use Rattle.heavy_windows.specs.Fresh.{fresh_state, fresh_history, window_budget}
@@ -27,8 +27,8 @@ module _ {T : Type 0} (eq : T → T → Bool) where
   none_merged max_map_size (Err x) e state stands budget = tt
 
   least_merged : (max_map_size : ℕ) (windows : List (FrequentState T)) (hs : List (FrequentHistory T)) (h : FrequentHistory T)
-      → WindowsStandFor eq max_map_size windows hs → least_sample h ≡ greatest_sample_size max_map_size
-      → least_sample (fold Merge h hs) ≡ greatest_sample_size max_map_size
+      → WindowsStandFor eq max_map_size windows hs → min_sample h ≡ max_sample_size max_map_size
+      → min_sample (fold Merge h hs) ≡ max_sample_size max_map_size
   least_merged max_map_size [] [] h z e = e
   least_merged max_map_size [] (g ∷ hs) h z e = absurd z
   least_merged max_map_size (w ∷ ws) [] h z e = absurd z

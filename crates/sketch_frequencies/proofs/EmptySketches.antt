@@ -5,10 +5,10 @@ use Rattle.std.specs.Prelude.{IsTrue}
 use Rattle.std.specs.Int.{is_power_of_two}
 use Rattle.std.specs.List.{IsDistinct}
 use Rattle.std.proofs.lemmas.List.Elements.{All-nil}
-use Rattle.sketch_frequencies.specs.History.{FrequentHistory, own_size, own_sample, least_size, least_sample, total_weight, true_weight}
+use Rattle.sketch_frequencies.specs.History.{FrequentHistory, own_size, own_sample, min_size, min_sample, total_weight, true_weight}
 use Rattle.sketch_frequencies.specs.History.FrequentHistory.{New, Reset}
 use Rattle.sketch_frequencies.specs.Stands.{Encloses, StandsFor, KeepsTailBudget}
-use Rattle.sketch_frequencies.specs.State.{IsState, IsSampleSize, empty_state, greatest_sample_size}
+use Rattle.sketch_frequencies.specs.State.{IsState, IsSampleSize, empty_state, max_sample_size}
 use Rattle.sketch_frequencies.proofs.Powers.{eight_is_power}
 use Rattle.sketch_frequencies.proofs.SampleSizes.{usual_sample}
 
@@ -30,14 +30,14 @@ fresh_state eq m n least most power sample = record {
 }
 
 -- so it is as it is read from an image, with the sample size that `new` gives
-pub restored_empty : {T : Type 0} (eq : T → T → Bool) (lg m n : ℕ) → 3 ≤ lg → m ≡ 2 ^ lg → m ≤ 2 ^ 30 → IsTrue (is_power_of_two m) → n ≡ greatest_sample_size m → IsState eq (empty_state m n)
+pub restored_empty : {T : Type 0} (eq : T → T → Bool) (lg m n : ℕ) → 3 ≤ lg → m ≡ 2 ^ lg → m ≤ 2 ^ 30 → IsTrue (is_power_of_two m) → n ≡ max_sample_size m → IsState eq (empty_state m n)
 restored_empty eq lg m n low value most power usual =
     let least : 2 ^ 3 ≤ 2 ^ lg = pow_mono low in
     let large : 8 ≤ m = omega (arith, least, value) in
     fresh_state eq m n large most power (subst (λ (k : ℕ). IsSampleSize m k) (sym usual) (usual_sample m large power))
 
 -- it is one of a history in which nothing weighs anything
-nothing_weighs : {T : Type 0} (eq : T → T → Bool) (m n : ℕ) (h : FrequentHistory T) → m ≡ own_size h → total_weight h ≡ 0 → ((x : T) → true_weight eq h x ≡ 0) → 8 ≤ least_size h → IsTrue (is_power_of_two (least_size h)) → IsSampleSize (least_size h) (least_sample h) → Encloses eq (empty_state m n) h
+nothing_weighs : {T : Type 0} (eq : T → T → Bool) (m n : ℕ) (h : FrequentHistory T) → m ≡ own_size h → total_weight h ≡ 0 → ((x : T) → true_weight eq h x ≡ 0) → 8 ≤ min_size h → IsTrue (is_power_of_two (min_size h)) → IsSampleSize (min_size h) (min_sample h) → Encloses eq (empty_state m n) h
 nothing_weighs eq m n h own none none_of least power sample = record {
   max_size = own;
   total = sym none;

@@ -6,9 +6,9 @@ use Rattle.std.specs.Map.{keys_of}
 use Rattle.std.proofs.lemmas.Map.Made.{length-le_from_is_member}
 use Rattle.std.proofs.lemmas.Map.Entries.{length-keys_of}
 use Rattle.counter_table.specs.Tables.{count_of, put, purged}
-use Rattle.sketch_frequencies.specs.History.{FrequentHistory, own_size, least_size, own_sample, least_sample}
+use Rattle.sketch_frequencies.specs.History.{FrequentHistory, own_size, min_size, own_sample, min_sample}
 use Rattle.sketch_frequencies.specs.History.FrequentHistory.{New, Update, Merge, Reset, Restored}
-use Rattle.sketch_frequencies.specs.State.{FrequentState, IsState, capacity, greatest_sample_size}
+use Rattle.sketch_frequencies.specs.State.{FrequentState, IsState, capacity, max_sample_size}
 use Rattle.sketch_frequencies.specs.Stands.{Encloses, StandsFor, HasFewItems}
 use Rattle.sketch_frequencies.specs.Steps.{Steps}
 use Rattle.sketch_frequencies.proofs.Cases.{by_cases}
@@ -36,15 +36,15 @@ counted {eq = eq} laws old new x w ok step =
     (λ room. let d = step.kept room in record { low = λ y. grind (arith, moved d.counters y, added y); high = λ y. grind (arith, moved d.counters y, added y, d.error) })
 
 -- no size that took part is greater than the sketch's own
-pub least_le_own : {T : Type 0} (h : FrequentHistory T) → least_size h ≤ own_size h
-least_le_own (New m n) = omega arith
-least_le_own (Update h x w) = least_le_own h
-least_le_own (Merge h g) = omega (arith, least_le_own h)
-least_le_own (Reset h) = omega arith
-least_le_own (Restored h) = least_le_own h
+pub min_le_own : {T : Type 0} (h : FrequentHistory T) → min_size h ≤ own_size h
+min_le_own (New m n) = omega arith
+min_le_own (Update h x w) = min_le_own h
+min_le_own (Merge h g) = omega (arith, min_le_own h)
+min_le_own (Reset h) = omega arith
+min_le_own (Restored h) = min_le_own h
 
 -- nor is any sample greater than the sketch's own, where it is one that the sketch may have
-pub sample_le_own : {T : Type 0} (h : FrequentHistory T) (n : ℕ) → n ≤ least_sample h → n ≤ greatest_sample_size (own_size h) → n ≤ own_sample h
+pub sample_le_own : {T : Type 0} (h : FrequentHistory T) (n : ℕ) → n ≤ min_sample h → n ≤ max_sample_size (own_size h) → n ≤ own_sample h
 sample_le_own (New m k) n a b = a
 sample_le_own (Update h x w) n a b = sample_le_own h n a b
 sample_le_own (Merge h g) n a b = sample_le_own h n (omega (arith, a)) b
@@ -52,8 +52,8 @@ sample_le_own (Reset h) n a b = a
 sample_le_own (Restored h) n a b = b
 
 -- so a purge samples no fewer counters than the tail budget needs
-pub sample_enough : {T : Type 0} {eq : T → T → Bool} (s : FrequentState T) (h : FrequentHistory T) → StandsFor eq s h → least_sample h ≤ s.sample_size
-sample_enough s h stands = omega (arith, sample_le_own h (least_sample h) (omega arith) (omega (arith, stands.encloses.sample.greatest, least_le_own h)), stands.sample_size)
+pub sample_enough : {T : Type 0} {eq : T → T → Bool} (s : FrequentState T) (h : FrequentHistory T) → StandsFor eq s h → min_sample h ≤ s.sample_size
+sample_enough s h stands = omega (arith, sample_le_own h (min_sample h) (omega arith) (omega (arith, stands.encloses.sample.greatest, min_le_own h)), stands.sample_size)
 
 -- few items after an update are few before it
 few_before : {T : Type 0} {eq : T → T → Bool} (h : FrequentHistory T) (x : T) (w : ℕ) → HasFewItems eq (Update h x w) → HasFewItems eq h
@@ -71,7 +71,7 @@ exact_after {eq = eq} laws old new x w pos ok step h s few =
     by_cases (cases_lt (capacity old.size) (length c1))
     (λ over. by_cases (cases_lt old.size old.max_size)
     (λ below. omega (arith, (step.doubled over below).error, none))
-    (λ at. absurd (omega (arith, over, at, fits, few.fit, s.max_size, ok.within, least_le_own h, length-keys_of c1))))
+    (λ at. absurd (omega (arith, over, at, fits, few.fit, s.max_size, ok.within, min_le_own h, length-keys_of c1))))
     (λ room. omega (arith, (step.kept room).error, none))
 
 encloses_after : {T : Type 0} {eq : T → T → Bool} → IsEquivalence eq → (old new : FrequentState T) (x : T) (w : ℕ) → 0 < w → IsState eq old → Steps eq old x w new → (h : FrequentHistory T) → Encloses eq old h → Encloses eq new (Update h x w)

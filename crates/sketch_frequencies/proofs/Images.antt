@@ -12,7 +12,7 @@ use Rattle.sketch_base.specs.Checks.{first_failing}
 use Rattle.sketch_frequencies.specs.Image.{IsImage, IsImageOf, Restores, RestoresBudget, contents_of, state_of_contents, says_empty, header_checks, count_checks, weight_checks, max_size_at, size_at, total_at, error_at, weights_at}
 use Rattle.sketch_frequencies.specs.Items.{Codec}
 use Rattle.sketch_frequencies.specs.Reading.{AreCounters}
-use Rattle.sketch_frequencies.specs.State.{FrequentState, IsState, IsSampleSize, capacity, greatest_sample_size, empty_state}
+use Rattle.sketch_frequencies.specs.State.{FrequentState, IsState, IsSampleSize, capacity, max_sample_size, empty_state}
 use Rattle.sketch_frequencies.specs.Steps.{HoldsSame}
 use Rattle.counter_table.specs.Tables.{count_of, sum_of}
 use Rattle.sketch_frequencies.proofs.SameStates.{encloses_alike, budget_alike}
@@ -97,7 +97,7 @@ module _ {T C : Type 0} (codec : Codec C) (content : T → C) (eq : T → T → 
       }
 
   -- what comes back with the sample size of a new sketch stands for the restored history, and keeps its tail budget
-  pub restores : IsEquivalence eq → (image : List ℕ) (new : FrequentState T) → IsImageOf codec content image new → new.sample_size ≡ greatest_sample_size new.max_size → Restores codec content eq image new
+  pub restores : IsEquivalence eq → (image : List ℕ) (new : FrequentState T) → IsImageOf codec content image new → new.sample_size ≡ max_sample_size new.max_size → Restores codec content eq image new
   restores laws image new is usual old was h stands =
       let s = encloses_alike laws old new (state_from_contents old was.state) (one_sketch laws image old new was is) h stands in
       record {
@@ -111,7 +111,7 @@ module _ {T C : Type 0} (codec : Codec C) (content : T → C) (eq : T → T → 
           power = s.power;
           sample = s.sample;
         };
-        sample_size = usual ∙ ap (λ (n : ℕ). greatest_sample_size n) s.max_size;
+        sample_size = usual ∙ ap (λ (n : ℕ). max_sample_size n) s.max_size;
       }
 
   pub restores_budget : IsEquivalence eq → (image : List ℕ) (new : FrequentState T) → IsImageOf codec content image new → RestoresBudget codec content eq image new

@@ -12,14 +12,14 @@ use Rattle.std.proofs.lemmas.List.Folds.{list_any-append}
 use Rattle.std.proofs.lemmas.Map.Entries.{length-keys_of}
 use Rattle.std.proofs.lemmas.Map.Made.{length-le_from_is_member}
 use Rattle.counter_table.specs.Tables.{Table, count_of, is_tracked, put, sum_of, sum_outside}
-use Rattle.sketch_frequencies.specs.History.{FrequentHistory, true_weight, total_weight, weight_outside, least_size, least_sample, budget_size}
+use Rattle.sketch_frequencies.specs.History.{FrequentHistory, true_weight, total_weight, weight_outside, min_size, min_sample, budget_size}
 use Rattle.sketch_frequencies.specs.History.FrequentHistory.{New, Update, Merge, Reset, Restored}
 use Rattle.sketch_frequencies.specs.State.{FrequentState, IsState, IsSampleSize, capacity}
 use Rattle.sketch_frequencies.specs.Stands.{Encloses, StandsFor, KeepsTailBudget, HasFewItems}
 use Rattle.sketch_frequencies.specs.Steps.{Steps, StepsAlong, AddsAll, Joins}
 use Rattle.sketch_frequencies.specs.Growth.{Adds}
 use Rattle.sketch_frequencies.proofs.Cases.{by_test, by_cases}
-use Rattle.sketch_frequencies.proofs.Enclosure.{counted, least_le_own, sample_enough}
+use Rattle.sketch_frequencies.proofs.Enclosure.{counted, min_le_own, sample_enough}
 use Rattle.sketch_frequencies.proofs.Permutations.{share, share_is, count_is_sum, count_of-permutation}
 use Rattle.sketch_frequencies.proofs.Powers.{doubled_fits, lesser_power}
 use Rattle.sketch_frequencies.proofs.Reports.{or_true, or_false}
@@ -189,7 +189,7 @@ module _ {T : Type 0} {eq : T → T → Bool} (laws : IsEquivalence eq) (old oth
   among_other few = All-weaker (λ (p : T × ℕ). list_any (eq p.0) (keys_of other.counters) ≡ true) (λ p. list_any (eq p.0) few.items ≡ true) (λ p there. few.cover p.0 (omega (arith, positive_from_tracked eq other.counters p.0 other_ok.positive there, t.encloses.at_least p.0))) other.counters (keys_found laws other.counters)
 
   -- the least sample of both is one that a sketch of the least size may have
-  sample_joined : IsSampleSize (least_size (Merge h g)) (least_sample (Merge h g))
+  sample_joined : IsSampleSize (min_size (Merge h g)) (min_sample (Merge h g))
   sample_joined =
       let a = s.encloses.sample in
       let b = t.encloses.sample in
@@ -216,10 +216,10 @@ module _ {T : Type 0} {eq : T → T → Bool} (laws : IsEquivalence eq) (old oth
             let none = a.exact (few_in_own h g few) in
             let none' = b.exact (few_in_other h g few) in
             let here = All-permutation (λ p. list_any (eq p.0) few.items ≡ true) other.counters j.order j.whole (among_other (few_in_other h g few)) in
-            let last = exact_run laws old j.last j.order ok (positive_in_order j) j.steps none few.items (omega (arith, few.fit, least_le_own h, a.max_size)) (among_old (few_in_own h g few)) here in
+            let last = exact_run laws old j.last j.order ok (positive_in_order j) j.steps none few.items (omega (arith, few.fit, min_le_own h, a.max_size)) (among_old (few_in_own h g few)) here in
             omega (arith, j.left.error, last, none');
         least = omega (arith, a.least, b.least);
-        power = lesser_power (least_size h) (least_size g) a.power b.power;
+        power = lesser_power (min_size h) (min_size g) a.power b.power;
         sample = sample_joined;
       }
 
@@ -235,7 +235,7 @@ module _ {T : Type 0} {eq : T → T → Bool} (laws : IsEquivalence eq) (old oth
         at_most = λ y. omega (arith, a.at_most y, true_le_total eq g y, b.total, none);
         exact = λ few. a.exact (few_in_own h g few);
         least = omega (arith, a.least, b.least);
-        power = lesser_power (least_size h) (least_size g) a.power b.power;
+        power = lesser_power (min_size h) (min_size g) a.power b.power;
         sample = sample_joined;
       }
 

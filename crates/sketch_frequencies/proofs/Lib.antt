@@ -30,8 +30,11 @@ pub mod SameStates
 pub mod SampleSizes
 pub mod SlotEntries
 pub mod Spellings
+pub mod StepsByKey
 pub mod SuggestedSizes
 pub mod Tail
+pub mod TextUpdates
+pub mod TextWords
 pub mod Texts
 pub mod UpdateParts
 pub mod UpdateStates

@@ -8,7 +8,7 @@ use Rattle.std.specs.Map.{lookup, keys_of}
 use Rattle.std.proofs.lemmas.Map.Keys.{IsDistinct-push}
 use Rattle.std.proofs.lemmas.List.Sums.{sum_by-cons}
 use Rattle.std.proofs.lemmas.List.Elements.{All-cons, All-nil, All-head, All-tail}
-use Rattle.counter_table.specs.Tables.{count_of, is_tracked, put, sum_of, sum_outside}
+use Rattle.counter_table.specs.Tables.{count_by_key, count_of, is_tracked, put, sum_of, sum_outside}
 use Rattle.sketch_frequencies.proofs.Cases.{by_test}
 
 -- a push of an item that is not there
@@ -48,9 +48,12 @@ pub same_set_test : {T : Type 0} {eq : T → T → Bool} → IsEquivalence eq �
 same_set_test laws [] x y h = refl
 same_set_test laws (z ∷ set) x y h = rw (laws.congr x y z h, same_set_test laws set x y h) refl
 
+pub count_by_key_le_sum : {T : Type 0} (names : T → Bool) (es : List (T × ℕ)) → count_by_key names es ≤ sum_of es
+count_by_key_le_sum names [] = omega arith
+count_by_key_le_sum names (e ∷ es) = grind (arith, count_by_key_le_sum names es, sum_by-cons (λ (e : _ × ℕ). e.1) e es)
+
 pub count_le_sum : {T : Type 0} (eq : T → T → Bool) (es : List (T × ℕ)) (x : T) → count_of eq es x ≤ sum_of es
-count_le_sum eq [] x = omega arith
-count_le_sum eq (e ∷ es) x = grind (arith, count_le_sum eq es x, sum_by-cons (λ (e : _ × ℕ). e.1) e es)
+count_le_sum eq es x = count_by_key_le_sum (eq x) es
 
 pub sum_of-put : {T : Type 0} (eq : T → T → Bool) (es : List (T × ℕ)) (x : T) (w : ℕ) → sum_of (put eq es x w) ≡ sum_of es + w
 sum_of-put eq [] x w = refl

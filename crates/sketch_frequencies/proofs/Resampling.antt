@@ -2,7 +2,7 @@
 use Rattle.std.proofs.Common.{ℕ, ◌-◌, ◌≤◌, Bool, length, refl, arith}
 use Rattle.std.specs.Prelude.{IsTrue}
 use Rattle.std.specs.Int.{is_power_of_two}
-use Rattle.sketch_frequencies.specs.History.{FrequentHistory, least_size, budget_size}
+use Rattle.sketch_frequencies.specs.History.{FrequentHistory, min_size, budget_size}
 use Rattle.sketch_frequencies.specs.History.FrequentHistory.{New, Merge}
 use Rattle.sketch_frequencies.specs.Stands.{StandsFor, KeepsTailBudget}
 use Rattle.sketch_frequencies.specs.State.{FrequentState, IsSampleSize}
@@ -27,7 +27,7 @@ module _ {T : Type 0} (eq : T → T → Bool) (s : FrequentState T) (n : ℕ) (h
           at_most = λ y. omega (arith, a.at_most y);
           exact = λ few. a.exact (few_in_other (New s.max_size n) h few);
           least = omega (arith, a.least, large);
-          power = lesser_power s.max_size (least_size h) power a.power;
+          power = lesser_power s.max_size (min_size h) power a.power;
           sample = record {
             least = omega (arith, sample.least, a.sample.least);
             even = omega (arith, sample.even, a.sample.even);

@@ -26,8 +26,8 @@ no_right true b h = h
 no_right false b h = refl
 
 -- nor at its greatest size
-pub no_growth_at_greatest : {T : Type 0} (s : FrequentState T) → s.size ≡ s.max_size → must_grow s ≡ false
-no_growth_at_greatest s at = no_right _ _ (le-ltb s.size s.max_size (omega (arith, at)))
+pub no_growth_at_max : {T : Type 0} (s : FrequentState T) → s.size ≡ s.max_size → must_grow s ≡ false
+no_growth_at_max s at = no_right _ _ (le-ltb s.size s.max_size (omega (arith, at)))
 
 -- for a new item the table must double exactly where it must grow
 pub growth_of_new : {T : Type 0} (eq : T → T → Bool) (s : FrequentState T) (x : T) → is_tracked eq s.counters x ≡ false → must_double eq s x ≡ must_grow s
@@ -101,7 +101,7 @@ module _ {T : Type 0} {eq : T → T → Bool} (laws : IsEquivalence eq) (old mid
       by_cases (cases_lt (capacity old.size) (length (put eq old.counters x w)))
       (λ over. by_cases (cases_lt old.size old.max_size)
       (λ below. absurd (omega (arith, grows over below, h, put_made_length, one_more, ok.few, ok.least)))
-      (λ at. let same : old.size ≡ old.max_size = omega (arith, ok.within) in made.stays (no_growth_at_greatest old same) ∙ (same ∙ sym made.max_size)))
+      (λ at. let same : old.size ≡ old.max_size = omega (arith, ok.within) in made.stays (no_growth_at_max old same) ∙ (same ∙ sym made.max_size)))
       (λ room. absurd (omega (arith, stays room, h, put_made_length)))
 
   pub step_from : (new : FrequentState T) → Adds eq mid x w new → Steps eq old x w new
@@ -118,7 +118,7 @@ module _ {T : Type 0} {eq : T → T → Bool} (laws : IsEquivalence eq) (old mid
         let k = adds.kept (omega (arith, put_made_length, one_more, ok.few, ok.least, twice)) in
         record { counters = IsPermutation-trans _ _ _ put_made k.counters; error = k.error ∙ made.error; size = k.size ∙ twice };
     purge = λ h at.
-        let same = made.stays (no_growth_at_greatest old at) in
+        let same = made.stays (no_growth_at_max old at) in
         let k = adds.purge (omega (arith, put_made_length, h, same)) in
         record {
           m = k.m;

@@ -4,7 +4,7 @@ use Rattle.counter_table.specs.Tables.{put, IsSameMap}
 use Rattle.sketch_frequencies.specs.State.{FrequentState, capacity, must_grow}
 use Rattle.sketch_frequencies.specs.Steps.{Becomes, Purges, StepsAlong}
 
--- new is old, in a table of twice the size where it must grow for one more counter
+-- new is old, in a table of twice the size if it must grow for one more counter
 pub record MakesRoom {T : Type 0} (old new : FrequentState T) : Type 0 where
   pub counters : IsPermutation old.counters new.counters
   pub error : new.error ≡ old.error
@@ -15,7 +15,7 @@ pub record MakesRoom {T : Type 0} (old new : FrequentState T) : Type 0 where
   pub stays : must_grow old ≡ false → new.size ≡ old.size
 
 module _ {T : Type 0} (eq : T → T → Bool) where
-  -- new is old after w was added at x, purged where that was one counter too many
+  -- new is old after w was added at x, purged if there was then one counter too many
   pub record Adds (old : FrequentState T) (x : T) (w : ℕ) (new : FrequentState T) : Type 0 where
     pub total : new.total ≡ old.total + w
     pub max_size : new.max_size ≡ old.max_size
@@ -27,7 +27,7 @@ module _ {T : Type 0} (eq : T → T → Bool) where
         capacity old.size < length (put eq old.counters x w) →
         Purges old (put eq old.counters x w) new
 
-  -- the counters were added, one after another, with items equal to theirs
+  -- the counters, with items equal to theirs, were added in some order
   pub record AddsCounters (old : FrequentState T) (counters : List (T × ℕ)) (new : FrequentState T) : Type 0 where
     pub order : List (T × ℕ)
     pub same : IsSameMap eq counters order

@@ -1,10 +1,10 @@
--- What was fed into a frequent-items sketch.
+-- The history of a frequent-items sketch: the calls that produced it.
 use Rattle.std.specs.Prelude.{◌≡◌, ℕ, ◌+◌, ◌/◌, min, Bool, cond, List}
 use Rattle.std.specs.List.{list_any}
-use Rattle.sketch_frequencies.specs.State.{greatest_sample_size}
+use Rattle.sketch_frequencies.specs.State.{max_sample_size}
 
--- a new sketch of this greatest size whose purges sample so many counters, a weight above 0 added at an item, another
--- sketch merged in, all cleared, or the sketch as its image gave it back
+-- A history is a new sketch of a maximum size and a sample size, or a history and a step. A step adds a weight above 0 at an
+-- item, merges another sketch in, resets the sketch, or restores it from its image.
 pub data FrequentHistory (T : Type 0) : Type 0 where
   New : ℕ → ℕ → FrequentHistory T
   Update : FrequentHistory T → T → ℕ → FrequentHistory T
@@ -13,7 +13,7 @@ pub data FrequentHistory (T : Type 0) : Type 0 where
   Restored : FrequentHistory T → FrequentHistory T
 
 module _ {T : Type 0} (eq : T → T → Bool) where
-  -- the true weight of an item: what was added at items equal to it
+  -- the true weight of an item: the weights added at items equal to it
   abbrev pub true_weight : FrequentHistory T → T → ℕ
   true_weight (New m n) y = 0
   true_weight (Update h x w) y = true_weight h y + cond (eq x y) w 0
@@ -30,7 +30,7 @@ module _ {T : Type 0} (eq : T → T → Bool) where
   weight_outside set (Restored h) = weight_outside set h
 
 module _ {T : Type 0} where
-  -- the weight of all items
+  -- the total weight of all items
   abbrev pub total_weight : FrequentHistory T → ℕ
   total_weight (New m n) = 0
   total_weight (Update h x w) = total_weight h + w
@@ -38,7 +38,7 @@ module _ {T : Type 0} where
   total_weight (Reset h) = 0
   total_weight (Restored h) = total_weight h
 
-  -- the sketch's own greatest table size
+  -- the sketch's own maximum table size
   abbrev pub own_size : FrequentHistory T → ℕ
   own_size (New m n) = m
   own_size (Update h x w) = own_size h
@@ -46,38 +46,38 @@ module _ {T : Type 0} where
   own_size (Reset h) = own_size h
   own_size (Restored h) = own_size h
 
-  -- the least greatest table size that took part since the last reset
-  abbrev pub least_size : FrequentHistory T → ℕ
-  least_size (New m n) = m
-  least_size (Update h x w) = least_size h
-  least_size (Merge h g) = min (least_size h) (least_size g)
-  least_size (Reset h) = own_size h
-  least_size (Restored h) = least_size h
+  -- the smallest maximum table size of the sketches that took part since the last reset
+  abbrev pub min_size : FrequentHistory T → ℕ
+  min_size (New m n) = m
+  min_size (Update h x w) = min_size h
+  min_size (Merge h g) = min (min_size h) (min_size g)
+  min_size (Reset h) = own_size h
+  min_size (Restored h) = min_size h
 
-  -- how many counters the sketch's own purges sample; an image does not say it, so that a restored sketch has what `new`
-  -- gives for its size
+  -- the sketch's own sample size; an image does not contain it, so a restored sketch has the one that `new` chooses for its
+  -- maximum size
   abbrev pub own_sample : FrequentHistory T → ℕ
   own_sample (New m n) = n
   own_sample (Update h x w) = own_sample h
   own_sample (Merge h g) = own_sample h
   own_sample (Reset h) = own_sample h
-  own_sample (Restored h) = greatest_sample_size (own_size h)
+  own_sample (Restored h) = max_sample_size (own_size h)
 
-  -- the least that the purges sampled of the sketches that took part since the last reset
-  abbrev pub least_sample : FrequentHistory T → ℕ
-  least_sample (New m n) = n
-  least_sample (Update h x w) = least_sample h
-  least_sample (Merge h g) = min (least_sample h) (least_sample g)
-  least_sample (Reset h) = own_sample h
-  least_sample (Restored h) = least_sample h
+  -- the smallest sample size of the sketches that took part since the last reset
+  abbrev pub min_sample : FrequentHistory T → ℕ
+  min_sample (New m n) = n
+  min_sample (Update h x w) = min_sample h
+  min_sample (Merge h g) = min (min_sample h) (min_sample g)
+  min_sample (Reset h) = own_sample h
+  min_sample (Restored h) = min_sample h
 
-  -- how many items may be set aside in the tail budget: half of the least sample
+  -- how many items the tail budget may set aside: half of the smallest sample size
   abbrev pub budget_size : FrequentHistory T → ℕ
-  budget_size h = least_sample h / 2
+  budget_size h = min_sample h / 2
 
-  -- each new sketch had the sample size that `new` gives
+  -- each new sketch had the sample size that `new` chooses
   abbrev pub HasUsualSamples : FrequentHistory T → Type 0
-  HasUsualSamples (New m n) = n ≡ greatest_sample_size m
+  HasUsualSamples (New m n) = n ≡ max_sample_size m
   HasUsualSamples (Update h x w) = HasUsualSamples h
   HasUsualSamples (Merge h g) = HasUsualSamples h × HasUsualSamples g
   HasUsualSamples (Reset h) = HasUsualSamples h

@@ -1,5 +1,5 @@
--- The image of a frequent-items sketch: its fields by their places, its checks in their order, what it says, and how it
--- is spelled.
+-- The image of a frequent-items sketch: its fields by their offsets, its checks in their order, the sketch that it states,
+-- and how it is written.
 use Rattle.std.specs.Prelude.{◌≡◌, ◌⊎◌, ℕ, zero, suc, ◌+◌, ◌-◌, ◌*◌, ◌%◌, ◌<◌, ◌^◌, nat_le, nat_lt, ◌==◌, Bool, not, ◌||◌, List, [], ◌∷◌, ◌++◌, length, drop, map, sum, sum_by, Any, IsPermutation, Option, Some, None, Result, Ok, Err, bit_and, if◌then◌else◌}
 use Rattle.std.specs.Int.{w32, w64, to_le_bytes}
 use Rattle.std.specs.List.{zip, flat_map}
@@ -24,7 +24,7 @@ use Rattle.counter_table.specs.Tables.{count_of}
 abbrev pub preamble_longs_at : List ℕ → ℕ
 preamble_longs_at image = byte_at image 0 % 64
 
--- one long says that nothing was fed into the sketch: the image ends behind it
+-- a preamble of one word: the sketch is empty, and the image ends after the preamble
 abbrev pub says_empty : List ℕ → Bool
 says_empty image = preamble_longs_at image == 1
 
@@ -55,7 +55,7 @@ abbrev pub ◌>>=◌ : {A B : Type 0} → Result A Fault → (A → Result B Fau
 (Ok x) >>= f = f x
 (Err e) >>= f = Err e
 
--- so many items, one after another, or what is wrong with the first that does not read
+-- the first n items, or the fault of the first that cannot be read
 unfoldable pub items_in : {C : Type 0} → Codec C → ℕ → List ℕ → Result (List C) Fault
 items_in codec zero bytes = Ok []
 items_in codec (suc n) bytes = do
@@ -63,19 +63,19 @@ items_in codec (suc n) bytes = do
   others ← items_in codec n (drop first.1 bytes)
   Ok (first.0 ∷ others)
 
--- they stand behind the weights
+-- the items of an image, which come after the weights
 abbrev pub items_at : {C : Type 0} → Codec C → List ℕ → Result (List C) Fault
 items_at codec image = items_in codec (active_at image) (drop (32 + 8 * active_at image) image)
 
--- the number of bytes after the weights, those after the items included
+-- the number of bytes after the weights, including those after the items
 abbrev pub bytes_for_items : List ℕ → ℕ
 bytes_for_items image = if says_empty image then 0 else length image - (32 + 8 * active_at image)
 
--- the size of the table that the sketch has when it is read: an empty one has the least
+-- the size of the table that the sketch has when it is read: an empty sketch has the minimum
 abbrev pub restored_size : List ℕ → ℕ
 restored_size image = if says_empty image then 8 else size_at image
 
--- ---- the checks: what has to hold, and the fault where it does not
+-- ---- the checks: what has to hold, and the fault if it does not
 
 abbrev pub header_checks : List ℕ → List (Bool × Fault)
 header_checks image =
@@ -89,7 +89,7 @@ header_checks image =
     ∷ (if says_empty image then has_empty_flag image else not (has_empty_flag image), EmptyFlagMismatch)
     ∷ []
 
--- the other checks are those of an image that does not say 'empty'
+-- the other checks apply only if the image does not state an empty sketch
 abbrev pub count_checks : List ℕ → List (Bool × Fault)
 count_checks image =
     (nat_le 12 (length image), InsufficientData)
@@ -110,46 +110,46 @@ abbrev pub fault_in : {A : Type 0} → Result A Fault → Option Fault
 fault_in (Ok x) = None
 fault_in (Err fault) = Some fault
 
--- the fault of the first check that fails, of those that come before any memory is asked for
+-- the fault of the first failing check, of those that come before any allocation
 abbrev pub early_fault : List ℕ → Option Fault
 early_fault image =
     or_else (first_failing (header_checks image))
     (if says_empty image then None else first_failing (count_checks image))
 
--- of those that come behind them: the items are read last
+-- the fault of the first failing check of the later ones, with the reading of the items as the last
 abbrev pub late_fault : {C : Type 0} → Codec C → List ℕ → Option Fault
 late_fault codec image =
     if says_empty image then None else or_else (first_failing (weight_checks image)) (fault_in (items_at codec image))
 
--- the fault of the first check that fails
+-- the fault of the first failing check
 abbrev pub first_fault : {C : Type 0} → Codec C → List ℕ → Option Fault
 first_fault codec image = or_else (early_fault image) (late_fault codec image)
 
--- a reader's own limit comes behind the early checks: the most bytes of the table and of what its items can own
+-- a reader's own limit, checked after the early checks: the maximum bytes of the table and of what its items can own
 abbrev pub limit_fault : {C : Type 0} → RattleType → ℕ → Codec C → List ℕ → Option Fault
-limit_fault item most_bytes codec image =
+limit_fault item max_bytes codec image =
     let bytes = memory_bytes (table_bytes item (restored_size image)) (max_owned codec (bytes_for_items image)) in
-    if nat_lt most_bytes bytes then Some TableTooLarge else None
+    if nat_lt max_bytes bytes then Some TableTooLarge else None
 
 abbrev pub early_fault_within : {C : Type 0} → RattleType → ℕ → Codec C → List ℕ → Option Fault
-early_fault_within item most_bytes codec image =
-    or_else (early_fault image) (limit_fault item most_bytes codec image)
+early_fault_within item max_bytes codec image =
+    or_else (early_fault image) (limit_fault item max_bytes codec image)
 
 abbrev pub first_fault_within : {C : Type 0} → RattleType → ℕ → Codec C → List ℕ → Option Fault
-first_fault_within item most_bytes codec image =
-    or_else (early_fault_within item most_bytes codec image) (late_fault codec image)
+first_fault_within item max_bytes codec image =
+    or_else (early_fault_within item max_bytes codec image) (late_fault codec image)
 
--- ---- what an image says
+-- ---- the sketch that an image states
 
--- the number, where the image does not say 'empty'
+-- the number, or 0 if the image states an empty sketch
 abbrev pub unless_empty : List ℕ → ℕ → ℕ
 unless_empty image n = if says_empty image then 0 else n
 
--- the weights at the places of the items that equal x, added up
+-- the sum of the weights of the items that equal x
 abbrev pub weight_of : {C : Type 0} → (C → C → Bool) → C → List C → List ℕ → ℕ
 weight_of same x items weights = sum_by (λ p. if same x p.0 then p.1 else 0) (zip items weights)
 
--- no items where one does not read
+-- the items, or none if one cannot be read
 abbrev pub items_or_none : {C : Type 0} → Result (List C) Fault → List C
 items_or_none (Ok items) = items
 items_or_none (Err fault) = []
@@ -159,8 +159,8 @@ abbrev pub weight_at : {C : Type 0} → Codec C → List ℕ → C → ℕ
 weight_at codec image x =
     unless_empty image (weight_of codec.same x (items_or_none (items_at codec image)) (weights_at image))
 
--- the bytes are an image of a sketch of contents: the counts are the weights of equal items added up, with no counter
--- where that is 0; what the bytes do not name here is free, and they say nothing of how many counters a purge samples
+-- The bytes are an image of a sketch of contents. A count is the sum of the weights of equal items, with no counter if that
+-- is 0. Bytes that are not named here are arbitrary. The sample size is not in the image.
 pub record IsImage {C : Type 0} (codec : Codec C) (image : List ℕ) (s : FrequentState C) : Type 0 where
   pub no_fault : first_fault codec image ≡ None
   pub state : IsState codec.same s
@@ -170,7 +170,7 @@ pub record IsImage {C : Type 0} (codec : Codec C) (image : List ℕ) (s : Freque
   pub error : s.error ≡ unless_empty image (error_at image)
   pub counters : (x : C) → count_of codec.same s.counters x ≡ weight_at codec image x
 
--- ---- how an image is spelled
+-- ---- how an image is written
 
 -- the bytes of the items, one after another
 abbrev pub AreEncoded : {C : Type 0} → Codec C → List (C × ℕ) → List ℕ → Type 0
@@ -181,23 +181,23 @@ AreEncoded codec (e ∷ es) bytes =
 abbrev pub encoded_weights : {C : Type 0} → List (C × ℕ) → List ℕ
 encoded_weights es = flat_map (λ e. to_le_bytes w64 e.1) es
 
--- the longs of the preamble, the version, the family, both sizes and the flags
+-- the number of words in the preamble, the version, the family, both sizes and the flags
 abbrev pub header : (longs lg_max lg_cur flags : ℕ) → List ℕ
 header longs lg_max lg_cur flags = longs ∷ 1 ∷ 10 ∷ lg_max ∷ lg_cur ∷ flags ∷ 0 ∷ 0 ∷ []
 
--- and the number of counters, the total and the error
+-- the header, the number of counters, the total and the error
 abbrev pub preamble : (lg_max lg_cur active total error : ℕ) → List ℕ
 preamble lg_max lg_cur active total error =
     header 4 lg_max lg_cur 0 ++ to_le_bytes w32 active ++ to_le_bytes w32 0 ++ to_le_bytes w64 total
     ++ to_le_bytes w64 error
 
--- the bytes of a sketch into which nothing was fed
+-- the bytes of an empty sketch
 pub record IsWrittenEmpty {C : Type 0} (image : List ℕ) (s : FrequentState C) : Type 0 where
   pub lg_max : ℕ
   pub max_size : s.max_size ≡ 2 ^ lg_max
   pub bytes : image ≡ header 1 lg_max 3 5
 
--- the bytes of any other sketch: each counter stands once, in some order
+-- the bytes of any other sketch: each counter once, in some order
 pub record IsWritten {C : Type 0} (codec : Codec C) (image : List ℕ) (s : FrequentState C) : Type 0 where
   pub order : List (C × ℕ)
   pub whole : IsPermutation s.counters order
@@ -209,20 +209,20 @@ pub record IsWritten {C : Type 0} (codec : Codec C) (image : List ℕ) (s : Freq
   pub encoded : AreEncoded codec order items
   pub bytes : image ≡ preamble lg_max lg_cur (length order) s.total s.error ++ encoded_weights order ++ items
 
--- the bytes are the image of a sketch of contents as it is written
+-- the bytes are those that a writer writes for a sketch of contents
 pub record IsSpelled {C : Type 0} (codec : Codec C) (image : List ℕ) (s : FrequentState C) : Type 0 where
   pub state : IsState codec.same s
   pub total : s.total < 2 ^ 64
   pub empty : s.total ≡ 0 → IsWrittenEmpty image s
   pub full : 0 < s.total → IsWritten codec image s
 
--- ---- what a writer and a reader promise of a sketch
+-- ---- what writers and readers guarantee
 
--- the counters, with what their items say in place of the items
+-- the counters, with the contents of their items in place of the items
 abbrev pub contents_of : {T C : Type 0} → (T → C) → List (T × ℕ) → List (C × ℕ)
 contents_of content counters = map (λ e. (content e.0, e.1)) counters
 
--- the sketch of contents
+-- the sketch, with the contents of its items in place of the items
 abbrev pub state_of_contents : {T C : Type 0} → (T → C) → FrequentState T → FrequentState C
 state_of_contents content s = record {
   counters = contents_of content s.counters;
@@ -238,23 +238,23 @@ module _ {T C : Type 0} (codec : Codec C) (content : T → C) where
   abbrev pub IsImageOf : List ℕ → FrequentState T → Type 0
   IsImageOf image s = IsImage codec image (state_of_contents content s)
 
-  -- the bytes are the image of the sketch as it is written
+  -- the bytes are those that a writer writes for the sketch
   abbrev pub IsSpelledFor : List ℕ → FrequentState T → Type 0
   IsSpelledFor image s = IsSpelled codec image (state_of_contents content s)
 
-  -- memory was refused, or an item of these counters has no bytes for this fault
+  -- an allocation failed, or an item of these counters cannot be written for this fault
   abbrev pub IsImageWritingRefusal : List (T × ℕ) → ErrorValue → Type 0
   IsImageWritingRefusal counters e =
       (e ≡ no_memory)
       ⊎ ((e ≡ invalid_argument e.fault) × Any (λ counter. codec.encoding (content counter.0) ≡ Err e.fault) counters)
 
-  -- what enclosed a history, and had this image, comes back as what stands for the restored history
+  -- if a sketch encloses a history and has this image, the sketch that was read represents the restored history
   abbrev pub Restores : (T → T → Bool) → List ℕ → FrequentState T → Type 0
   Restores eq image new =
       (old : FrequentState T) → IsImageOf image old →
       (h : FrequentHistory T) → Encloses eq old h → StandsFor eq new (Restored h)
 
-  -- and where it kept the tail budget, so does what comes back
+  -- if it keeps the tail budget, so does the sketch that was read
   abbrev pub RestoresBudget : (T → T → Bool) → List ℕ → FrequentState T → Type 0
   RestoresBudget eq image new =
       (old : FrequentState T) → IsImageOf image old →

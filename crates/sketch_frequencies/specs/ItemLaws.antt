@@ -1,4 +1,4 @@
--- The encodings of numbers and texts are lawful.
+-- The encodings of numbers and strings are lawful.
 use Rattle.std.proofs.Common.{◌≡◌, ℕ, ◌+◌, ◌<◌, ◌≤◌, ◌^◌, Bool, true, false, cond, List, ◌++◌, length, take, drop, Result, Ok, Err, refl, sym, ap, subst, ◌∙◌, arith, ltb, length-append, length-take}
 use Rattle.std.specs.Prelude.{ℤ, pos, negsuc}
 use Rattle.std.specs.Cmp.{nat_eq_equiv, int_eq_equiv}
@@ -15,7 +15,7 @@ use Rattle.sketch_base.specs.declared.fault.Fault.TheVariants.{BadItem, Insuffic
 use Rattle.sketch_base.specs.Fields.{le_at, signed_le_at}
 use Rattle.sketch_frequencies.specs.Items.{IsLawful, u64_encoding, u64_reading, u64_codec, fits_i64, i64_encoding, i64_reading, i64_codec, text_encoding, text_taken, with_length, text_reading, text_codec}
 
--- what passed a test
+-- a result that passed a test
 guarded : {A : Type 0} (b : Bool) (d : Fault) (r : Result A Fault) (y : A)
     → cond b r (Err d) ≡ Ok y → (b ≡ true) × (r ≡ Ok y)
 guarded true d r y e = (refl, e)
@@ -32,7 +32,7 @@ done x = Ok x
 ok_is : {A : Type 0} (x y : A) → done x ≡ done y → x ≡ y
 ok_is x y e = cc
 
--- eight bytes are read again
+-- eight bytes that were written are read again
 bytes_back : (n : ℕ) (rest : List ℕ) → n < 2 ^ 64
     → (ltb (length (to_le_bytes w64 n ++ rest)) 8 ≡ false) × (le_at w64 (to_le_bytes w64 n ++ rest) 0 ≡ n)
 unfolding le_at
@@ -110,14 +110,14 @@ text_back text bytes rest e =
     subst (λ b. text_reading (b ++ rest) ≡ Ok (text, length b)) (ok_is _ _ h.1)
     (again ∙ ap (λ n. done (text, n)) size)
 
--- a text of the first n bytes has at most so many
+-- a string from the first n bytes has at most n bytes
 taken_short : (n : ℕ) (bytes text : List ℕ) → text_taken n bytes ≡ Ok text → length text ≤ n
 taken_short n bytes text e =
     let g = guarded_not (ltb (length bytes) n) InsufficientData _ text e in
     let h = guarded (is_utf8 (take n bytes)) InvalidUtf8 (Ok (take n bytes)) text g.1 in
     subst (λ (t : List ℕ). length t ≤ n) (ok_is _ _ h.1) (omega (arith, length-take n bytes))
 
--- what was read with its length is what was read, and takes so many bytes
+-- the result with its length was the result, and takes n bytes
 without_length : (n : ℕ) (r : Result (List ℕ) Fault) (text : List ℕ) (used : ℕ)
     → with_length n r ≡ Ok (text, used) → (r ≡ Ok text) × (used ≡ n)
 without_length n (Ok t) text used e =

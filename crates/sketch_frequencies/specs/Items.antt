@@ -1,4 +1,4 @@
--- How items are told apart, written and read, and the encodings of numbers and texts.
+-- How items are compared, written and read, and the encodings of numbers and strings.
 use Rattle.std.specs.Prelude.{◌≡◌, ◌⊎◌, ℕ, ℤ, pos, negsuc, ◌+◌, ◌^◌, ◌≤◌, nat_lt, nat_eq, Bool, true, false, List, ◌++◌, length, take, drop, Result, Ok, Err, IsOk, if◌then◌else◌}
 use Rattle.std.specs.Cmp.{IsEquivalence}
 use Rattle.std.specs.Int.{w32, w64, to_le_bytes, cast_unsigned}
@@ -10,26 +10,25 @@ use Rattle.sketch_base.specs.Fields.{le_at, signed_le_at}
 use Rattle.sketch_base.specs.declared.fault.Fault.{Fault}
 use Rattle.sketch_base.specs.declared.fault.Fault.TheVariants.{InsufficientData, ItemTooLong, InvalidUtf8, BadItem}
 
--- how items are told apart, written and read by what they say, which is their content: where they lie in memory is none
--- of it
+-- how items are compared, written and read by their contents, which are independent of where the items lie in memory
 pub record Codec (C : Type 0) : Type 0 where
   -- whether two contents are those of equal items
   pub same : C → C → Bool
-  -- the bytes of a content, or why it has none
+  -- the bytes of a content, or the fault for which it has none
   pub encoding : C → Result (List ℕ) Fault
-  -- the content at the front of the bytes and how many of them it takes, or what is wrong with them
+  -- the content at the front of the bytes and how many of them it takes, or the fault for which there is none
   pub reading : List ℕ → Result (C × ℕ) Fault
   -- whether items may own memory outside of themselves
   pub owns : Bool
   -- how many bytes of memory an item of this content owns
   pub owned : C → ℕ
 
--- the most bytes of memory that items own if they take n bytes in an image: n, or none if items own no memory
+-- the maximum bytes of memory that items own if they take n bytes in an image: n, or none if items own no memory
 abbrev pub max_owned : {C : Type 0} → Codec C → ℕ → ℕ
 max_owned codec n = if codec.owns then n else 0
 
--- equality is an equivalence; what was written is read again as an equal item, whatever follows it; an item that is read
--- owns no more bytes than it takes
+-- Equality is an equivalence. What was written is read as an equal item, whatever follows it. An item that was read owns at
+-- most the number of bytes that it takes.
 pub record IsLawful {C : Type 0} (codec : Codec C) : Type 0 where
   pub equivalence : IsEquivalence codec.same
   pub read_back :
@@ -39,23 +38,23 @@ pub record IsLawful {C : Type 0} (codec : Codec C) : Type 0 where
       (v : C) (used : ℕ) (bytes : List ℕ) → codec.reading bytes ≡ Ok (v, used) → codec.owned v ≤ max_owned codec used
 
 module _ {C : Type 0} (codec : Codec C) where
-  -- the item was written behind the old bytes
+  -- the item was written after the old bytes
   abbrev pub Writes : List ℕ → C → List ℕ → Type 0
   Writes old v new = IsOkAnd (codec.encoding v) (λ bytes. new ≡ old ++ bytes)
 
-  -- the item was read at the front of the old bytes, and the new ones are left
+  -- the item was read at the front of the old bytes, and the new ones remain
   pub record Reads (old : List ℕ) (v : C) (new : List ℕ) : Type 0 where
     pub used : ℕ
     pub within : used ≤ length old
     pub read : codec.reading old ≡ Ok (v, used)
     pub left : new ≡ drop used old
 
-  -- memory was refused, or the item has no bytes for this fault
+  -- an allocation failed, or the item cannot be written for this fault
   abbrev pub IsWritingRefusal : C → ErrorValue → Type 0
   IsWritingRefusal v e =
       (e ≡ no_memory) ⊎ ((e ≡ invalid_argument e.fault) × (codec.encoding v ≡ Err e.fault))
 
-  -- memory was refused, or no item stands at the front of the bytes for this fault
+  -- an allocation failed, or there is no item at the front of the bytes for this fault
   abbrev pub IsReadingRefusal : List ℕ → ErrorValue → Type 0
   IsReadingRefusal bytes e =
       (e ≡ no_memory) ⊎ ((e ≡ invalid_data e.fault) × (codec.reading bytes ≡ Err e.fault))
@@ -97,7 +96,7 @@ abbrev pub i64_codec : Codec ℤ
 i64_codec =
     record { same = int_eq; encoding = i64_encoding; reading = i64_reading; owns = false; owned = λ n. 0 }
 
--- ---- texts: four bytes of length, and then so many bytes of UTF-8
+-- ---- strings: four bytes of length, and then that many bytes of UTF-8
 
 abbrev pub text_encoding : List ℕ → Result (List ℕ) Fault
 text_encoding text =
@@ -105,13 +104,13 @@ text_encoding text =
     then (if nat_lt (length text) (2 ^ 32) then Ok (to_le_bytes w32 (length text) ++ text) else Err ItemTooLong)
     else Err BadItem
 
--- the text of the first so many bytes
+-- the string of the first n bytes
 abbrev pub text_taken : ℕ → List ℕ → Result (List ℕ) Fault
 text_taken n bytes =
     if nat_lt (length bytes) n then Err InsufficientData
     else (if is_utf8 (take n bytes) then Ok (take n bytes) else Err InvalidUtf8)
 
--- and how many bytes it takes with its length
+-- the string, and how many bytes it takes with its length
 abbrev pub with_length : ℕ → Result (List ℕ) Fault → Result (List ℕ × ℕ) Fault
 with_length used (Ok text) = Ok (text, used)
 with_length used (Err fault) = Err fault
@@ -121,12 +120,12 @@ text_reading bytes =
     if nat_lt (length bytes) 4 then Err InsufficientData
     else with_length (4 + le_at w32 bytes 0) (text_taken (le_at w32 bytes 0) (drop 4 bytes))
 
--- memory was refused for a text that is there, or the first so many bytes are no text for this fault
+-- the allocation of a complete string failed, or the first n bytes are no string for this fault
 abbrev pub IsTextRefusal : ℕ → List ℕ → ErrorValue → Type 0
 IsTextRefusal n bytes e =
     ((e ≡ no_memory) × IsOk (text_taken n bytes)) ⊎ ((e ≡ invalid_data e.fault) × (text_taken n bytes ≡ Err e.fault))
 
--- texts are told apart, written and read by their bytes, which they own
+-- strings are compared, written and read by their bytes, which they own
 abbrev pub text_codec : Codec (List ℕ)
 text_codec =
     record { same = bytes_eq; encoding = text_encoding; reading = text_reading; owns = true; owned = λ text. length text }

@@ -7,22 +7,22 @@ use Rattle.sketch_frequencies.specs.Steps.{HoldsSame}
 use Rattle.counter_table.specs.Tables.{sum_of}
 
 module _ {C : Type 0} (codec : Codec C) where
-  -- what is spelled for a sketch is an image of it
+  -- the bytes that are written for a sketch are an image of it
   abbrev pub SpelledIsImage : Type 0
   SpelledIsImage = (image : List ℕ) (s : FrequentState C) → IsSpelled codec image s → IsImage codec image s
 
-  -- no bytes are an image of two sketches, where equal items count as one and sample sizes are left out
+  -- no bytes are an image of two sketches, up to which of equal items they hold and up to their sample sizes
   abbrev pub ImageIsOfOne : Type 0
   ImageIsOfOne =
       (image : List ℕ) (s t : FrequentState C) → IsImage codec image s → IsImage codec image t →
       HoldsSame codec.same s t
 
-  -- bytes are an image of a sketch exactly where no check fails
+  -- bytes are an image of a sketch exactly if no check fails
   abbrev pub ImageIsOfSome : Type 0
   ImageIsOfSome =
       (image : List ℕ) → ((s : FrequentState C) × IsImage codec image s) ↔ (first_fault codec image ≡ None)
 
-  -- whoever wrote the image: the counts and the error of what it says are at most the total
+  -- the counts and the error that an image states are together at most the total, also in an untrusted image
   abbrev pub ImageIsWithinTotal : Type 0
   ImageIsWithinTotal =
       (image : List ℕ) (s : FrequentState C) → IsImage codec image s → sum_of s.counters + s.error ≤ s.total

@@ -15,4 +15,5 @@ pub mod Stands
 pub mod State
 pub mod Steps
 pub mod SuggestedSizes
+pub mod Words
 pub mod Writing

@@ -23,7 +23,7 @@ pub record AreNumbers (image : List ℕ) (n : Numbers) : Type 0 where
   pub total : n.total ≡ total_at image
   pub error : n.error ≡ error_at image
 
--- what was read before, and what is still read
+-- the items that were read before, and then those that are read next
 abbrev pub with_front : {C : Type 0} → List C → Result (List C) Fault → Result (List C) Fault
 with_front front read = read >>= λ others. Ok (front ++ others)
 
@@ -49,7 +49,7 @@ module _ {T C : Type 0} (codec : Codec C) (content : T → C) (eq : T → T → 
     pub read : with_front items (items_in codec (active_at image - k) rest) ≡ items_at codec image
     pub counted : AreCounted entries items (take k (weights_at image))
 
--- memory was refused, or the items of the image do not read for this fault
+-- an allocation failed, or the items of the image cannot be read for this fault
 abbrev pub IsItemsRefusal : {C : Type 0} → Codec C → List ℕ → ErrorValue → Type 0
 IsItemsRefusal codec image e =
     (e ≡ no_memory) ⊎ ((e ≡ invalid_data e.fault) × (fault_in (items_at codec image) ≡ Some e.fault))

@@ -9,7 +9,7 @@ use Rattle.sketch_frequencies.specs.State.{FrequentState, estimate_of}
 use Rattle.counter_table.specs.Tables.{count_of, is_tracked}
 use Rattle.sketch_frequencies.specs.declared.error_type.ErrorType.{ErrorType}
 
--- whether the item of this count is shown: the bound that counts is above the threshold and above the error
+-- whether the item of this count is listed: the compared bound is above both the threshold and the error
 abbrev pub passes : {T : Type 0} → ErrorType → ℕ → FrequentState T → ℕ → Bool
 passes kind threshold s count = is_above kind (max threshold s.error) count (count + s.error)
 
@@ -35,13 +35,13 @@ module _ {T : Type 0} (eq : T → T → Bool) where
         (x : T) → is_tracked eq s.counters x ≡ true → passes kind threshold s (count_of eq s.counters x) ≡ true →
         list_any (λ row. eq x row.item) rows ≡ true
 
-  -- whatever the sketch stands for, no item of a true weight above the threshold and the error is missing
+  -- for every history that the sketch represents, no item of a true weight above the threshold and the error is missing
   abbrev pub MissesNone : ℕ → FrequentState T → List (RowValue T) → Type 0
   MissesNone threshold s rows =
       (h : FrequentHistory T) → Encloses eq s h → (x : T) → max threshold s.error < true_weight eq h x →
       list_any (λ row. eq x row.item) rows ≡ true
 
-  -- whatever the sketch stands for, every item that is shown has a true weight above the threshold and the error
+  -- for every history that the sketch represents, each listed item has a true weight above the threshold and the error
   abbrev pub ShowsNoneBelow : ℕ → FrequentState T → List (RowValue T) → Type 0
   ShowsNoneBelow threshold s rows =
       (h : FrequentHistory T) → Encloses eq s h →

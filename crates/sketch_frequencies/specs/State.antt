@@ -1,12 +1,11 @@
--- A frequent-items sketch as its counters and four numbers.
+-- A frequent-items sketch as its counters and five numbers.
 use Rattle.std.specs.Prelude.{◌≡◌, ℕ, ◌+◌, ◌*◌, ◌/◌, ◌%◌, ◌^◌, ◌<◌, ◌≤◌, min, nat_lt, nat_le, not, ◌&&◌, Bool, IsTrue, List, [], length, All, if◌then◌else◌}
 use Rattle.std.specs.Int.{is_power_of_two}
 use Rattle.std.specs.List.{IsDistinct}
 use Rattle.std.specs.Map.{keys_of}
-use Rattle.counter_table.specs.Tables.{Table, count_of, is_tracked, sum_of}
+use Rattle.counter_table.specs.Tables.{Table, count_by_key, count_of, is_tracked_by_key, is_tracked, sum_of}
 
--- the counters in some order, the error, the total, the greatest and the current size of the table, and how many counters
--- a purge samples
+-- the counters in some order, the error, the total, the maximum and the current size of the table, and the sample size
 pub record FrequentState (T : Type 0) : Type 0 where
   pub counters : List (T × ℕ)
   pub error : ℕ
@@ -30,25 +29,25 @@ state_of map error total max_size sample_size = record {
 abbrev pub capacity : ℕ → ℕ
 capacity size = size * 3 / 4
 
--- the most counters that a purge may sample, by the greatest size
-abbrev pub greatest_sample_size : ℕ → ℕ
-greatest_sample_size max_size = min 1024 (capacity max_size)
+-- the maximum number of counters that a purge may sample, by the maximum size
+abbrev pub max_sample_size : ℕ → ℕ
+max_sample_size max_size = min 1024 (capacity max_size)
 
--- a purge may sample so many, by the greatest size
+-- a purge may sample n counters, by the maximum size
 pub record IsSampleSize (max_size n : ℕ) : Type 0 where
   pub least : 2 ≤ n
   pub even : n % 2 ≡ 0
-  pub greatest : n ≤ greatest_sample_size max_size
+  pub greatest : n ≤ max_sample_size max_size
 
--- so much more weight would make the total pass the greatest `u64`
+-- with this additional weight, the total would exceed `u64::MAX`
 abbrev pub Overflows : {T : Type 0} → FrequentState T → ℕ → Type 0
 Overflows s weight = 2 ^ 64 ≤ s.total + weight
 
--- so much more weight fits
+-- with this additional weight, the total fits
 abbrev pub TotalHasRoom : {T : Type 0} → FrequentState T → ℕ → Type 0
 TotalHasRoom s weight = s.total + weight < 2 ^ 64
 
--- what holds of every sketch
+-- the invariant of every sketch
 pub record IsState {T : Type 0} (eq : T → T → Bool) (s : FrequentState T) : Type 0 where
   pub distinct : IsDistinct eq (keys_of s.counters)
   pub positive : All (λ e. 0 < e.1) s.counters
@@ -62,19 +61,23 @@ pub record IsState {T : Type 0} (eq : T → T → Bool) (s : FrequentState T) : 
   pub empty : s.total ≡ 0 → s.size ≡ 8
   pub sample : IsSampleSize s.max_size s.sample_size
 
--- the sketch into which nothing was fed
+-- the empty sketch of these sizes
 abbrev pub empty_state : {T : Type 0} → (max_size sample_size : ℕ) → FrequentState T
 empty_state max_size sample_size =
     record { counters = []; error = 0; total = 0; max_size = max_size; size = 8; sample_size = sample_size }
 
--- the best single guess of an item's weight: its count and the error where it is tracked, else 0
+-- the estimate of an item's weight: its count plus the error if it is tracked, else 0
 abbrev pub estimate_of : {T : Type 0} → (T → T → Bool) → FrequentState T → T → ℕ
 estimate_of eq s x = if is_tracked eq s.counters x then count_of eq s.counters x + s.error else 0
 
--- the table must double for one more counter: all that it may hold are taken, and it may grow
+-- the estimate of the item that a key names
+abbrev pub estimate_by_key : {T : Type 0} → (T → Bool) → FrequentState T → ℕ
+estimate_by_key names s = if is_tracked_by_key names s.counters then count_by_key names s.counters + s.error else 0
+
+-- the table must double for one more counter: it holds the maximum for its size, and may grow
 abbrev pub must_grow : {T : Type 0} → FrequentState T → Bool
 must_grow s = nat_le (capacity s.size) (length s.counters) && nat_lt s.size s.max_size
 
--- the table must double before the item is added: it is new, and one more counter is too many
+-- the table must double before the item is added: the item is not tracked, and one more counter is too many
 abbrev pub must_double : {T : Type 0} → (T → T → Bool) → FrequentState T → T → Bool
 must_double eq s x = not (is_tracked eq s.counters x) && must_grow s

@@ -1,16 +1,16 @@
--- What an update and a merge do to a sketch. Which counters a purge samples, and the order of a merge, are open.
-use Rattle.std.specs.Prelude.{◌≡◌, ℕ, ◌+◌, ◌*◌, ◌<◌, ◌≤◌, Bool, true, List, [], ◌∷◌, length, IsPermutation}
+-- What an update and a merge do to a sketch. The counters that a purge samples and the order of a merge are unspecified.
+use Rattle.std.specs.Prelude.{◌≡◌, ℕ, ◌+◌, ◌*◌, ◌<◌, ◌≤◌, Bool, true, List, [], ◌∷◌, length, IsPermutation, IsTrue}
 use Rattle.counter_table.specs.Tables.{put, purged, IsSampleMiddle, IsSameMap}
 use Rattle.sketch_frequencies.specs.State.{FrequentState, capacity}
 
 module _ {T : Type 0} where
-  -- these are the new sketch's counters, in some order, and its error and its size are e and n
+  -- the new sketch has these counters in some order, the error e and the size n
   pub record Becomes (all : List (T × ℕ)) (e n : ℕ) (new : FrequentState T) : Type 0 where
     pub counters : IsPermutation all new.counters
     pub error : new.error ≡ e
     pub size : new.size ≡ n
 
-  -- m stood in the middle of a sample: each count lost m, those at or below it went, and the error grew by m
+  -- m is the middle of a sample: each count is less by m, those at or below m are dropped, and the error is greater by m
   pub record Purges (old : FrequentState T) (all : List (T × ℕ)) (new : FrequentState T) : Type 0 where
     pub m : ℕ
     pub middle : IsSampleMiddle old.sample_size all m
@@ -26,11 +26,11 @@ module _ {T : Type 0} (eq : T → T → Bool) where
     pub kept :
         length (put eq old.counters x w) ≤ capacity old.size →
         Becomes (put eq old.counters x w) old.error old.size new
-    -- they do not, and the table doubles
+    -- they do not fit, and the table doubles
     pub doubled :
         capacity old.size < length (put eq old.counters x w) → old.size < old.max_size →
         Becomes (put eq old.counters x w) old.error (2 * old.size) new
-    -- they do not, the table is at its greatest size, and is purged
+    -- they do not fit, the table is at its maximum size, and is purged
     pub purge :
         capacity old.size < length (put eq old.counters x w) → old.size ≡ old.max_size →
         Purges old (put eq old.counters x w) new
@@ -41,7 +41,13 @@ module _ {T : Type 0} (eq : T → T → Bool) where
     pub equal : eq x item ≡ true
     pub step : Steps old item w new
 
-  -- a step for each pair, in turn
+  -- w was added at an item that a key names
+  pub record StepsByKey (old : FrequentState T) (names : T → Bool) (w : ℕ) (new : FrequentState T) : Type 0 where
+    pub item : T
+    pub named : IsTrue (names item)
+    pub step : Steps old item w new
+
+  -- a step for each pair, in order
   abbrev pub StepsAlong : FrequentState T → List (T × ℕ) → FrequentState T → Type 0
   StepsAlong old [] new = new ≡ old
   StepsAlong old (p ∷ ps) new = (mid : FrequentState T) × Steps old p.0 p.1 mid × StepsAlong mid ps new
@@ -57,12 +63,12 @@ module _ {T : Type 0} (eq : T → T → Bool) where
     pub max_size : new.max_size ≡ old.max_size
     pub sample_size : new.sample_size ≡ old.sample_size
 
-  -- new is old after the other was merged into it; an other into which nothing was fed changes nothing
+  -- new is old after the other was merged into it; an empty other changes nothing
   pub record Joins (old other new : FrequentState T) : Type 0 where
     pub nothing : other.total ≡ 0 → new ≡ old
     pub added : 0 < other.total → AddsAll old other new
 
-  -- the same sketch, up to which of equal items it holds and how many counters its purges sample: what an image says
+  -- the same sketch, up to which of equal items it holds and up to its sample size: what an image states
   pub record HoldsSame (s t : FrequentState T) : Type 0 where
     pub counters : IsSameMap eq s.counters t.counters
     pub error : t.error ≡ s.error
@@ -75,7 +81,7 @@ module _ {T : Type 0} (eq : T → T → Bool) where
     pub holds : HoldsSame s t
     pub sample_size : t.sample_size ≡ s.sample_size
 
-  -- the other was merged in, both with items equal to theirs
+  -- new is old after the other was merged into it, up to which of equal items both hold
   pub record JoinsEqual (old other new : FrequentState T) : Type 0 where
     pub own : FrequentState T
     pub same_own : IsSameState old own

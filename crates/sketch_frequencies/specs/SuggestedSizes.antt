@@ -1,7 +1,7 @@
--- What a greatest size buys.
+-- The tail budget of a maximum size.
 use Rattle.std.specs.Prelude.{ℕ, ◌/◌}
-use Rattle.sketch_frequencies.specs.State.{greatest_sample_size}
+use Rattle.sketch_frequencies.specs.State.{max_sample_size}
 
--- how many items the tail budget may set aside where all sketches were made by `new`, of this greatest size or above
+-- how many items the tail budget may set aside if `new` created all sketches, with this maximum size or a larger one
 abbrev pub usual_budget : ℕ → ℕ
-usual_budget max_size = greatest_sample_size max_size / 2
+usual_budget max_size = max_sample_size max_size / 2

@@ -1,4 +1,4 @@
-//! Items that a sketch of frequent items can write into its image, and read from one.
+//! Items that a sketch of frequent items can write to its image, and read from one.
 ghost use Rattle.std.specs.Prelude.{◌≡◌, ◌+◌, ◌^◌, ◌≤◌, length, IfOk, IfErr, IsOk, IsErrOf, OnOk, OnErr, Err, Ok};
 ghost use Rattle.std.specs.String.{string_bytes};
 ghost use Rattle.sketch_base.specs.Errors.{no_memory, invalid_argument, invalid_data};
@@ -9,11 +9,11 @@ use sketch_base::{Error, Fault, SketchBytes, SketchSlice};
 use std::alloc::Global;
 use std::hash::Hash;
 
-/// An item that can stand in an image.
+/// An item that can be written to an image and read from one.
 ///
-/// What an implementation writes it has to read again as an equal item, whatever follows, and to leave that unread.
-/// It is proved once, for the implementation: `codec` defines how contents are written and read, and `lawful` is the
-/// proof that this is so. It also says how many bytes an item owns at most, by which a limit for reading goes.
+/// An implementation reads what it wrote as an equal item, whatever bytes follow, and leaves those bytes unread. This is
+/// proved once, for the implementation: `codec` defines how contents are written and read, and `lawful` is the proof.
+/// `lawful` also bounds the bytes that an item owns. A limit for reading uses this bound.
 ///
 /// # Examples
 ///
@@ -29,24 +29,25 @@ use std::hash::Hash;
 /// }
 /// ```
 pub trait FrequentItemValue: Sized + Eq + Hash {
-    // What an item says, wherever it lies in memory.
+    // The contents of an item, independent of where it lies in memory.
     ghost Content: { Type 0 };
 
     ghost content: { Self → Content };
 
-    // How items are told apart, written and read by their contents.
+    // How items are compared, written and read by their contents.
     ghost codec: { Codec Content };
 
-    /// How many bytes [`serialize_value`](Self::serialize_value) writes. Where that refuses the item, any number.
+    /// Returns the number of bytes that [`serialize_value`](Self::serialize_value) writes.
+    /// The result is arbitrary if that call rejects the item.
     fn serialize_size(item: &Self) -> usize
         ensures { IfOk (codec.encoding (content item.now)) (λ bytes. result ≡ length bytes) };
 
-    /// Writes the item at the end.
+    /// Writes the item at the end of `out`.
     ///
     /// # Errors
     ///
-    /// A fault of the item's own, of the kind `InvalidArgument`, where it cannot be written, and `NoMemory` only where
-    /// its bytes do not fit into the capacity. A part of the item may then stand at the end.
+    /// Returns a fault of the item's own, of the kind `InvalidArgument`, if the item cannot be written. Returns `NoMemory`
+    /// only if its bytes do not fit into the capacity. After an error, a part of the item may be at the end of `out`.
     fn serialize_value(&self, out: &mut SketchBytes) -> Result<(), Error>
         ensures ok { OnOk result (Writes codec out.old.bytes (content self.now) out.new.bytes) }
         ensures err { IfErr result (IsWritingRefusal codec (content self.now)) }
@@ -55,12 +56,12 @@ pub trait FrequentItemValue: Sized + Eq + Hash {
             (λ bytes. length out.old.bytes + length bytes ≤ out.old.capacity → IsOk result) }
         ensures capacity { out.old.capacity ≤ out.new.capacity };
 
-    /// Reads the item at the front, and leaves what follows it unread.
+    /// Reads the item at the front of `slice`, and leaves the bytes after it unread.
     ///
     /// # Errors
     ///
-    /// A fault of the item's own, of the kind `InvalidData`, where no item stands there, and `NoMemory` where there is
-    /// no memory for it. Some bytes may then have been read.
+    /// Returns a fault of the item's own, of the kind `InvalidData`, if there is no item at the front. Returns `NoMemory` if
+    /// the item cannot be allocated. After an error, some bytes may have been read.
     fn deserialize_value(alloc: Global, slice: &mut SketchSlice) -> Result<Self, Error>
         ensures ok { IfOk result (λ item. Reads codec slice.old (content item) slice.new) }
         ensures err { IfErr result (IsReadingRefusal codec slice.old) }
@@ -73,19 +74,19 @@ pub trait FrequentItemValue: Sized + Eq + Hash {
     fn owns_memory() -> bool
         ensures { result ≡ codec.owns };
 
-    /// Returns how many bytes of memory the item owns outside of itself: a string its length in bytes, a number none.
+    /// Returns the number of bytes that the item owns outside of itself: a string's length in bytes, and 0 for a number.
     ///
-    /// An item that was read owns at most as many as it takes in the image, which is part of `lawful`.
+    /// By `lawful`, an item that was read owns at most the number of bytes that it takes in the image.
     fn owned_bytes(item: &Self) -> usize
         ensures { result ≡ codec.owned (content item.now) };
 
-    // Items are equal where their contents say so.
+    // Two items are equal exactly if `codec.same` holds for their contents.
     ghost alike: { (x y : Self) → Self.eq x y ≡ codec.same (content x) (content y) };
 
     ghost lawful: { IsLawful codec };
 }
 
-/// Eight bytes.
+/// Eight bytes, little-endian.
 impl FrequentItemValue for u64 {
     ghost use Rattle.std.proofs.Common.{rules};
     ghost use Rattle.std.specs.Prelude.{ℕ};
@@ -128,7 +129,7 @@ impl FrequentItemValue for u64 {
     }
 }
 
-/// Eight bytes.
+/// Eight bytes of two's complement, little-endian.
 impl FrequentItemValue for i64 {
     ghost use Rattle.std.proofs.Common.{rules};
     ghost use Rattle.std.specs.Prelude.{ℤ};
@@ -171,11 +172,11 @@ impl FrequentItemValue for i64 {
     }
 }
 
-/// Its length in bytes, of 32 bits, and then its UTF-8 bytes.
+/// The length in bytes as a 32-bit number, little-endian, and then the UTF-8 bytes.
 ///
-/// Writing answers [`ItemTooLong`](Fault::ItemTooLong) above 2^32 - 1 bytes. Reading answers
-/// [`InsufficientData`](Fault::InsufficientData) where the length or the bytes are not all there, then
-/// [`InvalidUtf8`](Fault::InvalidUtf8), and then asks for memory.
+/// Writing returns [`ItemTooLong`](Fault::ItemTooLong) if the string has more than 2^32 - 1 bytes. Reading returns
+/// [`InsufficientData`](Fault::InsufficientData) if the length or the bytes are incomplete, and
+/// [`InvalidUtf8`](Fault::InvalidUtf8) if the bytes are not UTF-8. It allocates after these checks.
 impl FrequentItemValue for String {
     ghost use Rattle.std.proofs.Common.{rules};
     ghost use Rattle.std.specs.Prelude.{ℕ, List};
@@ -205,7 +206,7 @@ impl FrequentItemValue for String {
             (λ bytes. length out.old.bytes + length bytes ≤ out.old.capacity → IsOk result) }
         ensures capacity { out.old.capacity ≤ out.new.capacity }
 
-        // A text that is too long is refused for that, whatever memory there is.
+        // A string that is too long is rejected for its length, even if an allocation would fail.
         ensures too_long { 2 ^ 32 ≤ length (string_bytes self.now)
             → IsErrOf result (invalid_argument Fault.ItemTooLong) }
     {
@@ -222,7 +223,7 @@ impl FrequentItemValue for String {
         ensures err { IfErr result (IsReadingRefusal text_codec slice.old) }
         ensures within { OnErr result (TakesBytes slice.old slice.new) }
 
-        // Memory is asked for where a whole text is there, whatever length the bytes state.
+        // `NoMemory` comes only if the whole string is there, whatever length the bytes state.
         ensures memory { IfErr result (λ e. e ≡ no_memory → IsOk (text_reading slice.old)) }
     {
         let len = slice.read_u32_le()?;
@@ -242,7 +243,7 @@ impl FrequentItemValue for String {
     }
 }
 
-/// The text of the first `len` bytes.
+/// Returns the string of the first `len` bytes.
 fn text_of(alloc: Global, unread: &[u8], len: usize) -> Result<String, Error>
     ensures ok { IfOk result (λ text. text_taken len unread.now ≡ Ok (string_bytes text)) }
     ensures err { IfErr result (IsTextRefusal len unread.now) }

@@ -6,30 +6,31 @@ ghost use Rattle.sketch_frequencies.specs.History.{FrequentHistory, total_weight
 ghost use Rattle.sketch_frequencies.specs.History.FrequentHistory.{New, Merge, Reset};
 ghost use Rattle.sketch_frequencies.specs.Sizes.{sample_fault, size_fault, sizes_fault};
 ghost use Rattle.sketch_frequencies.specs.Stands.{StandsFor, KeepsTailBudget, Extends, ExtendsBudget};
-ghost use Rattle.sketch_frequencies.specs.State.{IsState, capacity, greatest_sample_size, empty_state};
+ghost use Rattle.sketch_frequencies.specs.State.{IsState, capacity, max_sample_size, empty_state};
 ghost use Rattle.sketch_frequencies.specs.Steps.{IsSameState};
 
 mod images;
 mod merging;
 mod reports;
+mod text_updates;
 mod updates;
 
-use crate::sizes::{LEAST_MAP_SIZE, check_map_size, check_sample_size, greatest_sample_of};
+use crate::sizes::{MIN_MAP_SIZE, check_map_size, check_sample_size, max_sample_of};
 use counter_table::{ReversePurgeItemHashMap, capacity_of, lg_of};
 use sketch_base::{Error, Fault};
 use std::alloc::Global;
 use std::hash::Hash;
 use std::marker::Model;
 
-/// A sketch of the items that weigh most in a stream, in bounded memory.
+/// A sketch of the most frequent items of a weighted stream, in bounded memory.
 ///
-/// It keeps at most three quarters of its greatest table size in counters. Where one more would be too many, it takes
-/// a middle count of a sample from every counter, drops those that are left with nothing, and adds that count to its
-/// error. So each item's true weight lies between its `lower_bound` and its `upper_bound`, which differ by
+/// It keeps at most three quarters of its maximum table size in counters. If an update needs one more, a purge subtracts
+/// a middle count of a sample from every counter. It drops the counters that are left with nothing, and adds that count
+/// to the error. So each item's true weight lies between its `lower_bound` and its `upper_bound`, which differ by
 /// `maximum_error`.
 ///
-/// How many counters a purge samples, the sample size, is chosen when the sketch is made: a small sample makes a purge
-/// cheap, and a large one keeps the error small. Half of it is the number of items that the tail budget may set aside.
+/// The sample size is the number of counters that a purge samples. It is chosen when the sketch is created. A small sample
+/// makes a purge cheap, and a large one keeps the error small. The tail budget may set aside half as many items.
 ///
 /// # Examples
 ///
@@ -66,38 +67,38 @@ impl<T: Eq + Hash + Drop> Model for FrequentItemsSketch<T> {
 }
 
 impl<T: Eq + Hash + Drop> FrequentItemsSketch<T> {
-    /// An empty sketch whose table has 8 slots and may grow to `max_map_size`, a power of two from 8 to 2^30.
+    /// Creates an empty sketch whose table has 8 slots and may grow to `max_map_size`, a power of two from 8 to 2^30.
     ///
-    /// Its purges sample as many counters as they may: three quarters of `max_map_size`, at most 1024. As
-    /// `with_sample_size` with that sample size.
+    /// Its sample size is the maximum: three quarters of `max_map_size`, at most 1024. Equals `with_sample_size` with that
+    /// sample size. Allocates the table.
     ///
     /// # Errors
     ///
-    /// `MapSizeNotPowerOfTwo`, `MapSizeTooSmall` below 8 and `MapSizeTooLarge` above 2^30, in this order, and
-    /// `NoMemory` where there is no memory for the table.
+    /// Returns `MapSizeNotPowerOfTwo`, `MapSizeTooSmall` below 8 or `MapSizeTooLarge` above 2^30, checked in this order.
+    /// Returns `NoMemory` if the table cannot be allocated.
     pub fn new(alloc: Global, max_map_size: usize) -> Result<Self, Error>
-        ensures ok { IfOk result (λ sketch. sketch ≡ empty_state max_map_size (greatest_sample_size max_map_size)) }
+        ensures ok { IfOk result (λ sketch. sketch ≡ empty_state max_map_size (max_sample_size max_map_size)) }
         ensures state { IfOk result (λ sketch. IsState T.eq sketch) }
         ensures stands { IfOk result (λ sketch.
-            StandsFor T.eq sketch (New max_map_size (greatest_sample_size max_map_size))) }
+            StandsFor T.eq sketch (New max_map_size (max_sample_size max_map_size))) }
         ensures budget { IfOk result (λ sketch.
-            KeepsTailBudget T.eq sketch (New max_map_size (greatest_sample_size max_map_size))) }
+            KeepsTailBudget T.eq sketch (New max_map_size (max_sample_size max_map_size))) }
         ensures accepted { IsOk result → size_fault max_map_size ≡ None }
         ensures refused { IfErr result (λ e. e ≡ refusal_of (size_fault max_map_size)) }
     {
-        Self::with_sample_size(alloc, max_map_size, greatest_sample_of(max_map_size))
+        Self::with_sample_size(alloc, max_map_size, max_sample_of(max_map_size))
     }
 
-    /// An empty sketch whose table has 8 slots and may grow to `max_map_size`, a power of two from 8 to 2^30, and whose
-    /// purges sample `sample_size` counters, an even number from 2 to three quarters of `max_map_size`, at most 1024.
+    /// Creates an empty sketch whose table has 8 slots and may grow to `max_map_size`, a power of two from 8 to 2^30.
     ///
-    /// A small sample makes a purge cheap. It costs accuracy: of the weight of all items the error is at most two parts
-    /// in `sample_size`.
+    /// Its purges sample `sample_size` counters: an even number from 2 to three quarters of `max_map_size`, at most 1024. A
+    /// small sample makes a purge cheap and costs accuracy: `sample_size` * error is at most twice the total weight.
+    /// Allocates the table.
     ///
     /// # Errors
     ///
-    /// `MapSizeNotPowerOfTwo`, `MapSizeTooSmall` below 8 and `MapSizeTooLarge` above 2^30, in this order,
-    /// `BadSampleSize` where `sample_size` is not such a number, and `NoMemory` where there is no memory for the table.
+    /// Returns `MapSizeNotPowerOfTwo`, `MapSizeTooSmall` below 8 or `MapSizeTooLarge` above 2^30, checked in this order.
+    /// Then returns `BadSampleSize` if `sample_size` is out of range or odd, and `NoMemory` if the table cannot be allocated.
     pub fn with_sample_size(
         alloc: Global,
         max_map_size: usize,
@@ -112,7 +113,7 @@ impl<T: Eq + Hash + Drop> FrequentItemsSketch<T> {
     {
         check_map_size(max_map_size)?;
         check_sample_size(max_map_size, sample_size)?;
-        let map = ReversePurgeItemHashMap::new(alloc, LEAST_MAP_SIZE)?;
+        let map = ReversePurgeItemHashMap::new(alloc, MIN_MAP_SIZE)?;
         Ok(FrequentItemsSketch {
             map,
             error: 0,
@@ -122,84 +123,85 @@ impl<T: Eq + Hash + Drop> FrequentItemsSketch<T> {
         })
     }
 
-    /// Forgets everything but the greatest size and the sample size.
+    /// Removes all items, and sets the total weight and the error to 0. Keeps the maximum size and the sample size.
     ///
-    /// No memory is taken or given back. The table keeps its array and uses 8 slots of it; when it next doubles, it
-    /// takes an array for the greater size, and gives the kept one back.
+    /// Does not allocate. The table keeps its array and uses 8 slots of it. When the table next doubles, it allocates an array
+    /// of the new size and frees the kept one.
     pub fn reset(&mut self)
         ensures empty { self.new ≡ empty_state self.old.max_size self.old.sample_size }
         ensures state { IsState T.eq self.new }
         ensures stands { Extends T.eq self.old self.new Reset }
         ensures budget { (h : FrequentHistory T) → KeepsTailBudget T.eq self.new (Reset h) }
     {
-        self.map.clear(LEAST_MAP_SIZE);
+        self.map.clear(MIN_MAP_SIZE);
         self.error = 0;
         self.total = 0;
     }
 
-    /// The weight of all items.
+    /// Returns the total weight of all items.
     pub fn total_weight(&self) -> u64
         ensures { result ≡ self.now.total }
     {
         self.total
     }
 
-    /// Whether the weight of all items is 0. A purge can drop every counter of a sketch that is not empty.
+    /// Returns whether the total weight is 0. A purge can drop every counter of a sketch that is not empty.
     pub fn is_empty(&self) -> bool
         ensures { IsTrue result ↔ (self.now.total ≡ 0) }
     {
         self.total == 0
     }
 
-    /// How many items are tracked: at most three quarters of the greatest table size.
+    /// Returns the number of tracked items: at most three quarters of the maximum table size.
     pub fn num_active_items(&self) -> usize
         ensures active { result ≡ length self.now.counters }
         ensures few { result ≤ capacity self.now.max_size }
 
-        // What holds of every sketch.
+        // The invariant of every sketch.
         ensures state { IsState T.eq self.now }
     {
         self.map.num_active()
     }
 
-    /// The most items that are ever tracked: three quarters of the greatest table size.
+    /// Returns the maximum number of tracked items: three quarters of the maximum table size.
     pub fn maximum_map_capacity(&self) -> usize
         ensures { result ≡ capacity self.now.max_size }
     {
         capacity_of(self.max_size)
     }
 
-    /// The most items that are tracked at the table's current size: three quarters of it.
+    /// Returns the maximum number of tracked items at the table's current size: three quarters of it.
     pub fn current_map_capacity(&self) -> usize
         ensures { result ≡ capacity self.now.size }
     {
         self.map.capacity()
     }
 
-    /// The greatest table size, in slots.
+    /// Returns the maximum table size, in slots.
     pub fn max_map_size(&self) -> usize
         ensures { result ≡ self.now.max_size }
     {
         self.max_size
     }
 
-    /// How many counters a purge samples: an even number from 2 to three quarters of the greatest table size, at most
-    /// 1024.
+    /// Returns the number of counters that a purge samples.
+    ///
+    /// It is an even number from 2 to three quarters of the maximum table size, at most 1024.
     pub fn sample_size(&self) -> usize
         ensures { result ≡ self.now.sample_size }
     {
         self.sample_size
     }
 
-    /// Sets how many counters later purges sample: an even number from 2 to three quarters of the greatest table size, at
-    /// most 1024. Nothing else changes.
+    /// Sets the number of counters that later purges sample: an even number from 2 to three quarters of the maximum table
+    /// size, at most 1024. Nothing else changes.
     ///
-    /// The sketch then stands for what it would if it were merged into a new sketch of this sample size. So a sketch that was
-    /// read from an image, which has no sample size, gets back the one that it had.
+    /// The sketch then represents a merge of its history into a new sketch of its maximum size and this sample size. An image
+    /// does not contain the sample size, so this call restores it after `deserialize`.
     ///
     /// # Errors
     ///
-    /// `BadSampleSize` if it is no such number. The sketch is then unchanged.
+    /// Returns `BadSampleSize` if `sample_size` is out of range or odd. The sketch is then unchanged.
     pub fn set_sample_size(&mut self, sample_size: usize) -> Result<(), Error>
         ensures ok { OnOk result (self.new ≡ record self.old { sample_size = sample_size }) }
         ensures state { IsState T.eq self.new }
@@ -216,33 +218,35 @@ impl<T: Eq + Hash + Drop> FrequentItemsSketch<T> {
         Ok(())
     }
 
-    /// The greatest table size as a power of two.
+    /// Returns the base-2 logarithm of the maximum table size.
     pub fn lg_max_map_size(&self) -> u8
         ensures { 2 ^ result ≡ self.now.max_size }
     {
         lg_of(self.max_size)
     }
 
-    /// The table's current size as a power of two.
+    /// Returns the base-2 logarithm of the table's current size.
     pub fn lg_cur_map_size(&self) -> u8
         ensures { 2 ^ result ≡ self.now.size }
     {
         self.map.lg_length()
     }
 
-    /// An estimate of the table's bytes by a fixed formula: for each slot those of an `Option<T>` and 12 more, or the
-    /// greatest `usize` where that passes it.
+    /// Returns an estimate of the table's bytes by a fixed formula: for each slot, the bytes of an `Option<T>` and 12 more.
+    /// Returns `usize::MAX` if that would exceed it.
     pub fn estimated_size(&self) -> usize
         ensures { result ≡ table_bytes T.row self.now.size }
     {
         self.map.estimated_size()
     }
 
-    /// The same sketch with clones of the items. Clones have to equal their originals.
+    /// Returns the same sketch with clones of the items. Clones have to equal their originals.
+    ///
+    /// Allocates a table of the same size and the clones.
     ///
     /// # Errors
     ///
-    /// `NoMemory` where there is no memory for the table or for a clone.
+    /// Returns `NoMemory` if the table or a clone cannot be allocated.
     pub fn try_clone(&self) -> Result<Self, Error>
     where
         T: Clone,

@@ -19,22 +19,22 @@ use sketch_base::image::{SERIAL_VERSION, opening_fault, u32_at, u64_at};
 use sketch_base::{Error, Family, Fault, SketchBytes, SketchSlice};
 use std::alloc::Global;
 
-/// The longs of the preamble of a sketch into which nothing was fed.
+/// The number of 8-byte words in the preamble of an empty sketch.
 pub const PREAMBLE_LONGS_EMPTY: u8 = 1;
 
-/// The longs of the preamble of any other sketch.
+/// The number of 8-byte words in the preamble of any other sketch.
 pub const PREAMBLE_LONGS_NONEMPTY: u8 = 4;
 
-/// The flags of a sketch into which nothing was fed.
+/// The flags of an empty sketch.
 pub const EMPTY_FLAG_MASK: u8 = 5;
 
-/// The least table size that an image may state, as a power of two.
-const LEAST_LG_SIZE: u8 = 3;
+/// The minimum table size that an image may state, as a power of two.
+const MIN_LG_SIZE: u8 = 3;
 
-/// The greatest one.
-const GREATEST_LG_SIZE: u8 = 30;
+/// The maximum table size that an image may state, as a power of two.
+const MAX_LG_SIZE: u8 = 30;
 
-/// What the first eight bytes of an image say.
+/// The fields in the first eight bytes of an image.
 #[derive(Clone, Copy)]
 pub(crate) struct Header {
     pub(crate) is_empty: bool,
@@ -42,7 +42,7 @@ pub(crate) struct Header {
     pub(crate) lg_cur: u8,
 }
 
-/// What the 24 bytes behind them say.
+/// The fields in the 24 bytes after the header.
 #[derive(Clone, Copy)]
 pub(crate) struct Numbers {
     pub(crate) active: u32,
@@ -50,7 +50,7 @@ pub(crate) struct Numbers {
     pub(crate) error: u64,
 }
 
-/// Reads the first eight bytes.
+/// Reads and checks the first eight bytes.
 pub(crate) fn read_header(image: &[u8]) -> Result<Header, Error>
     ensures checks { OnOk result (first_failing (header_checks image.now) ≡ None) }
     ensures fields { IfOk result (IsHeader image.now) }
@@ -71,17 +71,17 @@ pub(crate) fn read_header(image: &[u8]) -> Result<Header, Error>
     })
 }
 
-/// The fault of the first check of the first eight bytes that fails.
+/// Returns the fault of the first failing check of the first eight bytes.
 fn header_fault(image: &[u8]) -> Option<Fault>
     ensures { result ≡ first_failing (header_checks image.now) }
 {
     if let Some(fault) = opening_fault(image, 8, Family::FREQUENCY) {
         return Some(fault);
     }
-    if image[4] < LEAST_LG_SIZE {
+    if image[4] < MIN_LG_SIZE {
         return Some(Fault::LgCurTooSmall);
     }
-    if image[3] > GREATEST_LG_SIZE {
+    if image[3] > MAX_LG_SIZE {
         return Some(Fault::LgMaxTooLarge);
     }
     if image[4] > image[3] {
@@ -99,7 +99,7 @@ fn header_fault(image: &[u8]) -> Option<Fault>
     None
 }
 
-/// Reads the numbers behind the header, and sees that the weights are there.
+/// Reads and checks the numbers after the header, and checks that the weights are complete.
 pub(crate) fn read_numbers(image: &[u8], lg_cur: u8) -> Result<Numbers, Error>
     requires size { lg_cur ≡ byte_at image.now 4 }
     requires small { lg_cur ≤ 30 }
@@ -121,7 +121,7 @@ pub(crate) fn read_numbers(image: &[u8], lg_cur: u8) -> Result<Numbers, Error>
     })
 }
 
-/// The fault of the first check of these numbers that fails.
+/// Returns the fault of the first failing check of these numbers.
 fn numbers_fault(image: &[u8], lg_cur: u8) -> Option<Fault>
     requires size { lg_cur ≡ byte_at image.now 4 }
     requires small { lg_cur ≤ 30 }
@@ -149,25 +149,26 @@ fn numbers_fault(image: &[u8], lg_cur: u8) -> Option<Fault>
     None
 }
 
-/// Checks that a table of `size` slots takes at most `most_bytes`, by the formula of `estimated_size`, with all that its
-/// items can own where they take `item_bytes` in the image.
+/// Checks that a table of `size` slots and the bytes that its items can own take at most `max_bytes`.
+///
+/// The table's bytes are those of `estimated_size`. The items can own `item_bytes`, their bytes in the image, or nothing.
 pub(crate) fn check_limit<T: FrequentItemValue + Drop>(
     size: usize,
     item_bytes: usize,
-    most_bytes: usize,
+    max_bytes: usize,
 ) -> Result<(), Error>
-    ensures within { OnOk result (memory_bytes (table_bytes T.row size) (max_owned T.codec item_bytes) ≤ most_bytes) }
+    ensures within { OnOk result (memory_bytes (table_bytes T.row size) (max_owned T.codec item_bytes) ≤ max_bytes) }
     ensures err { IfErr result (λ e. (e ≡ invalid_data Fault.TableTooLarge)
-        × (most_bytes < memory_bytes (table_bytes T.row size) (max_owned T.codec item_bytes))) }
+        × (max_bytes < memory_bytes (table_bytes T.row size) (max_owned T.codec item_bytes))) }
 {
     let owned = if T::owns_memory() { item_bytes } else { 0 };
-    if bytes_of_table::<T>(size).saturating_add(owned) > most_bytes {
+    if bytes_of_table::<T>(size).saturating_add(owned) > max_bytes {
         return Err(Error::invalid_data(Fault::TableTooLarge));
     }
     Ok(())
 }
 
-/// Whether the weights together, and they and the error together, are at most the total.
+/// Checks that the sum of the weights, and that sum plus the error, are at most the total.
 pub(crate) fn check_weights(image: &[u8], numbers: &Numbers) -> Result<(), Error>
     requires fields { AreNumbers image.now numbers.now }
     requires weights { 32 + 8 * numbers.now.active ≤ length image.now }
@@ -194,7 +195,7 @@ pub(crate) fn check_weights(image: &[u8], numbers: &Numbers) -> Result<(), Error
     Ok(())
 }
 
-/// The weight of a counter.
+/// Returns the weight of counter `i`.
 #[inline]
 fn weight_at(image: &[u8], i: usize) -> u64
     requires within { i < active_at image.now }
@@ -204,7 +205,7 @@ fn weight_at(image: &[u8], i: usize) -> u64
     u64_at(image, 32 + 8 * i)
 }
 
-/// Reads the items into a table of so many slots, each with its weight.
+/// Reads the items, each with its weight, into a new table of `size` slots.
 pub(crate) fn read_counters<T: FrequentItemValue + Drop>(
     alloc: Global,
     image: &[u8],
@@ -237,10 +238,9 @@ pub(crate) fn read_counters<T: FrequentItemValue + Drop>(
     Ok(map)
 }
 
-/// Returns how many bytes a table takes with those that the items in its slots own, or the greatest `usize` where they
-/// pass it.
+/// Returns the bytes of a table plus those that the items in its slots own, or `usize::MAX` if the sum exceeds it.
 ///
-/// Where items own nothing, as numbers, the compiler knows it, and no slot is read.
+/// If items own nothing, as numbers do, the compiler removes the loop, and no slot is read.
 pub(crate) fn bytes_with_items<T: FrequentItemValue>(table_bytes: usize, slots: &[Slot<T>]) -> usize
     ensures { result ≡ memory_bytes table_bytes (owned_by T.codec T.content (entries_of slots.now)) }
 {
@@ -253,7 +253,7 @@ pub(crate) fn bytes_with_items<T: FrequentItemValue>(table_bytes: usize, slots: 
     bytes
 }
 
-/// The size of a table of this power of two.
+/// Returns 2 to the power of `lg`, a table size.
 pub(crate) fn table_size(lg: u8) -> usize
     requires { lg ≤ 30 }
     ensures value { result ≡ 2 ^ lg }
@@ -263,7 +263,7 @@ pub(crate) fn table_size(lg: u8) -> usize
     1usize << lg
 }
 
-/// The item in the first slot that is taken.
+/// Returns the item in the first taken slot, if any.
 fn first_item<T>(slots: &[Slot<T>]) -> Option<&T>
     ensures { IfNone result (entries_of slots.now ≡ []) }
 {
@@ -275,9 +275,9 @@ fn first_item<T>(slots: &[Slot<T>]) -> Option<&T>
     None
 }
 
-/// Whether each item in the slots takes so many bytes.
+/// Returns whether each item in the slots takes `size` bytes.
 ///
-/// Of a type whose items all take the same, as numbers do, the compiler knows it, and no slot is looked at.
+/// If all items of a type take the same number of bytes, as numbers do, the compiler removes the loop.
 fn take_each<T: FrequentItemValue>(slots: &[Slot<T>], size: usize) -> bool {
     for slot in slots {
         if let Slot::Taken { item, .. } = slot {
@@ -289,8 +289,10 @@ fn take_each<T: FrequentItemValue>(slots: &[Slot<T>], size: usize) -> bool {
     true
 }
 
-/// How many bytes to ask for at first, for the image of a sketch with so many counters in these slots: those of the preamble
-/// and of the weights, and of the items where each takes the same. Where not, [`write_weights`] asks for theirs.
+/// Returns the number of bytes to allocate first for the image of a sketch with these slots and `active` counters.
+///
+/// These are the bytes of the preamble and of the weights, and those of the items if all take the same number. Otherwise
+/// [`write_weights`] allocates the items' bytes.
 pub(crate) fn first_room<T: FrequentItemValue>(slots: &[Slot<T>], active: usize) -> usize
     requires { active ≤ 2 ^ 30 }
 {
@@ -306,9 +308,9 @@ pub(crate) fn first_room<T: FrequentItemValue>(slots: &[Slot<T>], active: usize)
     }
 }
 
-/// The image of a sketch into which nothing was fed.
+/// Returns the image of an empty sketch.
 pub(crate) fn empty_image(alloc: Global, lg_max: u8) -> Result<SketchBytes, Error>
-    ensures ok { IfOk result (λ out. out.bytes ≡ header PREAMBLE_LONGS_EMPTY lg_max LEAST_LG_SIZE EMPTY_FLAG_MASK) }
+    ensures ok { IfOk result (λ out. out.bytes ≡ header PREAMBLE_LONGS_EMPTY lg_max MIN_LG_SIZE EMPTY_FLAG_MASK) }
     ensures err { IfErr result (λ e. e ≡ no_memory) }
 {
     let mut out = SketchBytes::with_capacity(alloc, 8)?;
@@ -317,7 +319,7 @@ pub(crate) fn empty_image(alloc: Global, lg_max: u8) -> Result<SketchBytes, Erro
         SERIAL_VERSION,
         Family::FREQUENCY.id,
         lg_max,
-        LEAST_LG_SIZE,
+        MIN_LG_SIZE,
         EMPTY_FLAG_MASK,
         0,
         0,
@@ -325,7 +327,7 @@ pub(crate) fn empty_image(alloc: Global, lg_max: u8) -> Result<SketchBytes, Erro
     Ok(out)
 }
 
-/// A buffer with room for so many bytes, in which the preamble of an image stands.
+/// Allocates a buffer of `room` bytes, and writes the preamble of an image to it.
 pub(crate) fn begin_image(
     alloc: Global,
     room: usize,
@@ -345,7 +347,7 @@ pub(crate) fn begin_image(
     Ok(out)
 }
 
-/// The bytes of the preamble of an image.
+/// Returns the bytes of the preamble of an image.
 fn preamble_bytes(lg_max: u8, lg_cur: u8, numbers: &Numbers) -> [u8; 32]
     ensures value { result ≡ preamble lg_max lg_cur numbers.now.active numbers.now.total numbers.now.error }
 
@@ -366,14 +368,14 @@ fn preamble_bytes(lg_max: u8, lg_cur: u8, numbers: &Numbers) -> [u8; 32]
     ]
 }
 
-/// How many slots are looked at before their weights are written at once.
+/// The number of slots whose weights are written at once.
 const BLOCK: usize = 64;
 
-/// Puts the weights of the counters in the slots one after another, and answers how many bytes they take, and their items.
+/// Copies the weights of the counters in the slots to `bytes`. Returns the size of the weights and that of the items.
 ///
-/// A free slot puts `none`, over which the next weight comes, and counts as one with the item `other`, so that no branch
-/// depends on the slot. `none` is a reference, and the function is not inlined: with a number of its own the compiler
-/// made a branch again. The bytes of the items are counted modulo 2^64, since no image can be longer.
+/// So that no branch depends on the slot, a free slot writes `none`, which the next weight overwrites, and adds the size of
+/// `other`. The compiler adds a branch if `none` is a number of its own: so it is a reference, and the function is not
+/// inlined. The items' bytes are counted modulo 2^64, since no image can be longer.
 #[inline(never)]
 fn gather_weights<T: FrequentItemValue>(
     slots: &[Slot<T>],
@@ -399,7 +401,7 @@ fn gather_weights<T: FrequentItemValue>(
     (size, items)
 }
 
-/// Writes the weights of the counters in the slots, of which there are so many, and makes room for their items.
+/// Writes the weights of the `active` counters in the slots, and reserves room for their items.
 pub(crate) fn write_weights<T: FrequentItemValue>(
     out: &mut SketchBytes,
     slots: &[Slot<T>],
@@ -414,7 +416,7 @@ pub(crate) fn write_weights<T: FrequentItemValue>(
     let mut bytes = [0; 8 * BLOCK];
     let blocks = slots.len() / BLOCK;
     let mut all = 0usize;
-    // The label is there for the prover alone: its goals are named after it.
+    // The label names the loop for its proof.
     'whole: for b in 0..blocks {
         let at = BLOCK * b;
         let (size, items) = gather_weights(&slots[at..at + BLOCK], &0, other, &mut bytes);

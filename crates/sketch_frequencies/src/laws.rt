@@ -1,13 +1,13 @@
-//! The laws of images. But for `restored`, no function here does anything: what it ensures is the law.
+//! The laws of images and of the error. Except for `restored`, each function has an empty body: its contract is the law.
 //!
-//! The laws speak of the states that the calls of [`FrequentItemsSketch`] leave, as their contracts name them, with
-//! what an item says in place of the item.
+//! The laws are about the states that contracts of [`FrequentItemsSketch`] name. Laws of images have an item's contents
+//! instead of the item.
 ghost use Rattle.std.specs.Prelude.{◌≡◌, ℕ, ◌*◌, ◌<◌, ◌≤◌, IfOk, IfErr};
-ghost use Rattle.sketch_frequencies.specs.History.{FrequentHistory, budget_size, least_size, least_sample, total_weight, HasUsualSamples};
+ghost use Rattle.sketch_frequencies.specs.History.{FrequentHistory, budget_size, min_size, min_sample, total_weight, HasUsualSamples};
 ghost use Rattle.sketch_frequencies.specs.Image.{IsImageWritingRefusal};
 ghost use Rattle.sketch_frequencies.specs.Laws.{SpelledIsImage, ImageIsOfOne, ImageIsOfSome, ImageIsWithinTotal};
 ghost use Rattle.sketch_frequencies.specs.Stands.{Encloses, KeepsTailBudget};
-ghost use Rattle.sketch_frequencies.specs.State.{FrequentState, greatest_sample_size};
+ghost use Rattle.sketch_frequencies.specs.State.{FrequentState, max_sample_size};
 ghost use Rattle.sketch_frequencies.specs.SuggestedSizes.{usual_budget};
 ghost use Rattle.sketch_frequencies.specs.Steps.{HoldsSame};
 
@@ -16,9 +16,11 @@ use crate::frequent_items_sketch::FrequentItemsSketch;
 use sketch_base::Error;
 use std::alloc::Global;
 
-/// What is written is an image, no bytes are an image of two sketches but for their sample sizes, and they are one of
-/// some sketch exactly where no check fails. Whoever wrote the image, the counts and the error of what it says are at
-/// most the total.
+/// Proves the laws of images.
+///
+/// The bytes that `serialize` writes are an image of the sketch (`spelled`). Two sketches with the same image differ at most
+/// in their sample sizes and in which of equal items they hold (`one`). Bytes are an image of some sketch exactly if no check
+/// fails (`some`). For every image, also an untrusted one, the counts plus the error are at most the total (`within`).
 pub fn image_laws<T: FrequentItemValue>()
     ensures spelled { SpelledIsImage T.codec }
     ensures one { ImageIsOfOne T.codec }
@@ -26,42 +28,46 @@ pub fn image_laws<T: FrequentItemValue>()
     ensures within { ImageIsWithinTotal T.codec }
 {}
 
-/// What the tail budget says of the error. For a sample size L, the least of all that took part, it is at most 2 / L of
-/// the weight of all items. Where all were made by `new`, that is, for a greatest size M, the least of all that took
-/// part, at most 8 / 3M of it where M is up to 1024, and at most 1 / 512 of it above.
+/// Proves the bounds that the tail budget gives for the error.
+///
+/// Let W be the total weight, and L the smallest sample size of all sketches that took part: L * error <= 2 * W. Let `new`
+/// have created all of them, and let M be their smallest maximum size: 3 * M * error <= 8 * W if M <= 1024, and
+/// 512 * error <= W otherwise.
 pub fn error_bounds<T: Eq>()
     ensures sampled { (s : FrequentState T) (h : FrequentHistory T) → Encloses T.eq s h → KeepsTailBudget T.eq s h
-        → least_sample h * s.error ≤ 2 * total_weight h }
+        → min_sample h * s.error ≤ 2 * total_weight h }
     ensures small { (s : FrequentState T) (h : FrequentHistory T) → Encloses T.eq s h → KeepsTailBudget T.eq s h
-        → HasUsualSamples h → least_size h ≤ 1024 → 3 * least_size h * s.error ≤ 8 * total_weight h }
+        → HasUsualSamples h → min_size h ≤ 1024 → 3 * min_size h * s.error ≤ 8 * total_weight h }
     ensures large { (s : FrequentState T) (h : FrequentHistory T) → Encloses T.eq s h → KeepsTailBudget T.eq s h
-        → HasUsualSamples h → 1024 < least_size h → 512 * s.error ≤ total_weight h }
+        → HasUsualSamples h → 1024 < min_size h → 512 * s.error ≤ total_weight h }
 {}
 
-/// What a greatest size buys. Where the tail budget may set n items aside, n times the error is at most the weight of all
-/// items (`budget`). So it is where all sketches that took part were made by `new`, and none has a greatest size below one
-/// whose tail budget is n or more (`usual`), as the size that
-/// [`suggest_max_map_size`](crate::suggest_max_map_size) answers for n.
+/// Proves the error bound that a maximum size gives.
+///
+/// If the tail budget may set n items aside, n * error is at most the total weight (`budget`). So it is if `new` created all
+/// sketches that took part, and each maximum size is at least an m whose tail budget is n or more (`usual`).
+/// [`suggest_max_map_size`](crate::suggest_max_map_size) returns such an m for n.
 pub fn map_size_bounds<T: Eq>()
     ensures budget { (s : FrequentState T) (h : FrequentHistory T) (n : ℕ) → Encloses T.eq s h → KeepsTailBudget T.eq s h
         → n ≤ budget_size h → n * s.error ≤ total_weight h }
     ensures usual { (s : FrequentState T) (h : FrequentHistory T) (m n : ℕ) → Encloses T.eq s h → KeepsTailBudget T.eq s h
-        → HasUsualSamples h → m ≤ least_size h → n ≤ usual_budget m → n * s.error ≤ total_weight h }
+        → HasUsualSamples h → m ≤ min_size h → n ≤ usual_budget m → n * s.error ≤ total_weight h }
 {}
 
-/// Writes an image of the sketch and reads it again: the sketch that comes back has the same counters, up to which of
-/// equal items it holds, and the same error, total and sizes. Its purges sample as many counters as those of a sketch
-/// that `new` made of its greatest size.
+/// Writes an image of the sketch and reads it again.
+///
+/// The result has the same counters, error, total and sizes, and may hold other items that are equal to the sketch's. Its
+/// sample size is that of a sketch that `new` creates with its maximum size.
 ///
 /// # Errors
 ///
-/// Those of [`serialize`](FrequentItemsSketch::serialize), and `NoMemory` where there is no memory for the sketch.
+/// Returns the errors of [`serialize`](FrequentItemsSketch::serialize), and `NoMemory` if the sketch cannot be allocated.
 pub fn restored<T: FrequentItemValue + Drop>(
     alloc: Global,
     sketch: &FrequentItemsSketch<T>,
 ) -> Result<FrequentItemsSketch<T>, Error>
     ensures same { IfOk result (λ copy. HoldsSame T.eq sketch.now copy) }
-    ensures sample { IfOk result (λ copy. copy.sample_size ≡ greatest_sample_size sketch.now.max_size) }
+    ensures sample { IfOk result (λ copy. copy.sample_size ≡ max_sample_size sketch.now.max_size) }
     ensures err { IfErr result (IsImageWritingRefusal T.codec T.content sketch.now.counters) }
 {
     let image = sketch.serialize()?;

@@ -1,31 +1,37 @@
-//! A sketch of the items that weigh most in a stream.
+//! A sketch of the most frequent items (heavy hitters) of a weighted stream.
 //!
-//! [`FrequentItemsSketch`] adds up the weights of a stream's items in bounded memory, as a summary of Misra and Gries
-//! with a guarantee for the tail. It never holds more counters than
-//! three quarters of its greatest table size, so it drops the light items now and then; what it takes from every
-//! counter to do so is its error. Each item's true weight lies between `lower_bound` and `upper_bound`, and the error
-//! is paid for by the tail: whichever few items are set aside, it is at most the weight of all the others divided by
-//! what is left of half a purge's sample.
+//! [`FrequentItemsSketch`] adds up the weights of a stream's items in bounded memory. It is a summary of Misra & Gries 1982
+//! with the sampled purges of DataSketches' frequent items (Anderson et al. 2017). It holds at most three quarters of its
+//! maximum table size in counters. To stay below that, it drops light items: a purge subtracts the same count from every
+//! counter, and adds it to the error. So each item's true weight lies between `lower_bound` and `upper_bound`, which differ by
+//! the error.
 //!
-//! A sketch of items that are [`FrequentItemValue`] is written as an image of bytes, and read from one: of texts, of
-//! numbers of 64 bits, or of a user's own type. [`laws`] has what holds of all images.
+//! The tail of the stream bounds the error (Berinde, Indyk, Cormode & Strauss 2009). Let h be half the sample size, and S any
+//! set of at most h items. The kept counts outside S plus (h - |S|) * error are at most the weight outside S. Merges keep
+//! these bounds, with the smallest sample size of all sketches that took part (Agarwal et al. 2012).
 //!
-//! [`ReversePurgeItemHashMap`] is the table of counters under it, from the crate `counter_table`.
+//! A sketch of items that are [`FrequentItemValue`] is written as an image of bytes, and read from one. Items are strings,
+//! 64-bit numbers, or of a user's own type. [`laws`] has the laws of images.
+//!
+//! [`ReversePurgeItemHashMap`], from the crate `counter_table`, is the table of counters.
 #![tactic(auto)]
 
 mod error_type;
 mod frequent_item_value;
 mod frequent_items_sketch;
 mod image;
+mod item_bounds;
 pub mod laws;
 mod row;
 mod sizes;
+mod words;
 
-pub use counter_table::{ReversePurgeItemHashMap, ReversePurgeItemIter};
+pub use counter_table::{ItemKey, OwnedKey, ReversePurgeItemHashMap, ReversePurgeItemIter};
 pub use error_type::ErrorType;
 pub use frequent_item_value::FrequentItemValue;
 pub use frequent_items_sketch::FrequentItemsSketch;
 pub use image::{EMPTY_FLAG_MASK, PREAMBLE_LONGS_EMPTY, PREAMBLE_LONGS_NONEMPTY};
+pub use item_bounds::ItemBounds;
 pub use row::Row;
 pub use sizes::{check_map_size, suggest_max_map_size};
 pub use sketch_base::image::SERIAL_VERSION;

@@ -47,7 +47,7 @@ impl<T> Model for Row<T> {
 }
 
 impl<T> Row<T> {
-    /// A row of an item with this estimate and these bounds.
+    /// Creates a row of an item with this estimate and these bounds.
     pub(crate) fn new(item: T, estimate: u64, upper_bound: u64, lower_bound: u64) -> Self
         ensures { result ≡ record {
           item = item;
@@ -64,9 +64,9 @@ impl<T> Row<T> {
         }
     }
 
-    /// The same row with a clone of the item, which has to equal it.
+    /// Returns the same row with a clone of the item. The clone has to equal the item.
     ///
-    /// Answers `NoMemory` where there is no memory for the clone.
+    /// Returns `NoMemory` if the clone cannot be allocated.
     pub fn try_clone(&self) -> Result<Self, Error>
     where
         T: PartialEq + Clone,
@@ -82,28 +82,28 @@ impl<T> Row<T> {
         })
     }
 
-    /// The item.
+    /// Returns the item.
     pub fn item(&self) -> &T
         ensures { result.now ≡ self.now.item }
     {
         &self.item
     }
 
-    /// The sketch's best guess of the item's true weight.
+    /// Returns the estimate of the item's weight.
     pub fn estimate(&self) -> u64
         ensures { result ≡ self.now.estimate }
     {
         self.estimate
     }
 
-    /// A bound that the item's true weight does not pass.
+    /// Returns the upper bound: the item's true weight is at most this.
     pub fn upper_bound(&self) -> u64
         ensures { result ≡ self.now.upper_bound }
     {
         self.upper_bound
     }
 
-    /// A bound that the item's true weight reaches.
+    /// Returns the lower bound: the item's true weight is at least this.
     pub fn lower_bound(&self) -> u64
         ensures { result ≡ self.now.lower_bound }
     {
@@ -111,7 +111,7 @@ impl<T> Row<T> {
     }
 }
 
-/// Prints the item, its estimate, its lower and its upper bound, with a space between them.
+/// Writes the item, its estimate, its lower and its upper bound, separated by spaces.
 impl<T: fmt::Display> fmt::Display for Row<T> {
     ghost use Rattle.sketch_frequencies.specs.RowValue.{row_text};
 

@@ -1,34 +1,34 @@
-//! Which sizes a sketch may have.
+//! The sizes that a sketch may have.
 ghost use Rattle.std.specs.Prelude.{◌≡◌, ◌↔◌, ℕ, ◌<◌, ◌≤◌, None, IfOk, IfErr, IsOk, OnOk};
 ghost use Rattle.sketch_base.specs.Errors.{invalid_argument, refusal_of};
 ghost use Rattle.sketch_frequencies.specs.Sizes.{size_fault, sample_fault};
-ghost use Rattle.sketch_frequencies.specs.State.{IsSampleSize, greatest_sample_size};
+ghost use Rattle.sketch_frequencies.specs.State.{IsSampleSize, max_sample_size};
 ghost use Rattle.sketch_frequencies.specs.SuggestedSizes.{usual_budget};
 
 use counter_table::{MAX_SAMPLE_SIZE, capacity_of};
 use sketch_base::{Error, Fault};
 
-/// The table size that a sketch begins with, which is the least that it may be limited to.
-pub(crate) const LEAST_MAP_SIZE: usize = 8;
+/// The table size of a new sketch, and the minimum of the maximum size.
+pub(crate) const MIN_MAP_SIZE: usize = 8;
 
-/// The most slots that a table may have.
-const GREATEST_MAP_SIZE: usize = 1 << 30;
+/// The maximum number of slots of a table.
+const MAX_MAP_SIZE: usize = 1 << 30;
 
-/// The fewest counters that a purge may sample.
-const LEAST_SAMPLE_SIZE: usize = 2;
+/// The minimum number of counters that a purge may sample.
+const MIN_SAMPLE_SIZE: usize = 2;
 
-/// The most counters that a purge may sample in a sketch of this greatest size.
-pub(crate) fn greatest_sample_of(max_size: usize) -> usize
-    ensures { result ≡ greatest_sample_size max_size }
+/// Returns the maximum number of counters that a purge may sample in a sketch of this maximum size.
+pub(crate) fn max_sample_of(max_size: usize) -> usize
+    ensures { result ≡ max_sample_size max_size }
 {
-    capacity_of(max_size.min(GREATEST_MAP_SIZE)).min(MAX_SAMPLE_SIZE)
+    capacity_of(max_size.min(MAX_MAP_SIZE)).min(MAX_SAMPLE_SIZE)
 }
 
-/// Whether a sketch may be limited to tables of so many slots: a power of two from 8 to 2^30.
+/// Checks that `max_map_size` is a valid maximum size: a power of two from 8 to 2^30.
 ///
 /// # Errors
 ///
-/// `MapSizeNotPowerOfTwo`, `MapSizeTooSmall` below 8 and `MapSizeTooLarge` above 2^30, in this order.
+/// Returns `MapSizeNotPowerOfTwo`, `MapSizeTooSmall` below 8 or `MapSizeTooLarge` above 2^30, checked in this order.
 pub fn check_map_size(max_map_size: usize) -> Result<(), Error>
     ensures accepted { IsOk result ↔ (size_fault max_map_size ≡ None) }
     ensures refused { IfErr result (λ e. e ≡ refusal_of (size_fault max_map_size)) }
@@ -36,41 +36,43 @@ pub fn check_map_size(max_map_size: usize) -> Result<(), Error>
     if !max_map_size.is_power_of_two() {
         return Err(Error::invalid_argument(Fault::MapSizeNotPowerOfTwo));
     }
-    if max_map_size < LEAST_MAP_SIZE {
+    if max_map_size < MIN_MAP_SIZE {
         return Err(Error::invalid_argument(Fault::MapSizeTooSmall));
     }
-    if max_map_size > GREATEST_MAP_SIZE {
+    if max_map_size > MAX_MAP_SIZE {
         return Err(Error::invalid_argument(Fault::MapSizeTooLarge));
     }
     Ok(())
 }
 
-/// Checks that the purges of a sketch of this greatest size may sample `sample_size` counters: an even number from 2 to
-/// three quarters of the greatest size, at most 1024.
+/// Checks that purges of a sketch of this maximum size may sample `sample_size` counters.
+///
+/// It has to be an even number from 2 to three quarters of the maximum size, at most 1024. Otherwise returns `BadSampleSize`.
 pub(crate) fn check_sample_size(max_map_size: usize, sample_size: usize) -> Result<(), Error>
     ensures accepted { IsOk result ↔ (sample_fault max_map_size sample_size ≡ None) }
     ensures sample { OnOk result (IsSampleSize max_map_size sample_size) }
     ensures refused { IfErr result (λ e. e ≡ invalid_argument Fault.BadSampleSize) }
 {
-    if sample_size < LEAST_SAMPLE_SIZE
+    if sample_size < MIN_SAMPLE_SIZE
         || sample_size % 2 != 0
-        || sample_size > greatest_sample_of(max_map_size)
+        || sample_size > max_sample_of(max_map_size)
     {
         return Err(Error::invalid_argument(Fault::BadSampleSize));
     }
     Ok(())
 }
 
-/// The least greatest size that promises an error of at most the weight of all items over `parts`, for every stream.
+/// Returns the smallest maximum size for which `parts` * error is at most the total weight, for every stream.
 ///
-/// It is for [`new`](crate::FrequentItemsSketch::new), which chooses the greatest sample size: half of that is at least
-/// `parts` with this greatest size, and with no smaller one. So it is a theorem that `parts` times the error is at most
-/// the weight of all items, in whatever order they come, and whatever sketches by `new` of this size or above are merged
-/// ([`map_size_bounds`](crate::laws::map_size_bounds)). For 0 parts it is the least size, 8.
+/// The size is for [`new`](crate::FrequentItemsSketch::new), which chooses the maximum sample size. Half of that is at least
+/// `parts` with this maximum size, and with no smaller one. The bound is proved for every order of the items, and for merges
+/// of sketches that `new` created with this size or a larger one ([`map_size_bounds`](crate::laws::map_size_bounds)). For
+/// 0 parts the size is the minimum, 8.
 ///
 /// # Errors
 ///
-/// `MapSizeTooLarge` above 512 parts: no greatest size promises so much, since a purge samples at most 1024 counters.
+/// Returns `MapSizeTooLarge` if `parts` is above 512. No maximum size gives that bound, since a purge samples at most 1024
+/// counters.
 ///
 /// # Examples
 ///

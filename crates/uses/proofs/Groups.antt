@@ -6,7 +6,7 @@ use Rattle.std.proofs.lemmas.List.Elements.{All-weaker}
 use Rattle.std.proofs.lemmas.List.Sorted.{sum_by-IsPermutation}
 use Rattle.std.specs.List.{list_any}
 use Rattle.counter_table.specs.Tables.{sum_outside}
-use Rattle.sketch_frequencies.specs.History.{weight_outside, least_sample, budget_size}
+use Rattle.sketch_frequencies.specs.History.{weight_outside, min_sample, budget_size}
 use Rattle.sketch_frequencies.specs.History.FrequentHistory.{New, Update, Merge, Restored}
 use Rattle.sketch_frequencies.specs.Image.{Restores, RestoresBudget, state_of_contents}
 use Rattle.sketch_frequencies.specs.Items.{Codec}
@@ -14,7 +14,7 @@ use Rattle.sketch_frequencies.specs.Laws.{SpelledIsImage}
 use Rattle.sketch_frequencies.specs.RowValue.{RowValue}
 use Rattle.sketch_frequencies.specs.Rows.{Shows, ShowsExactly, MissesNone}
 use Rattle.sketch_frequencies.specs.Stands.{StandsFor, KeepsTailBudget, Extends, ExtendsBudget, ExtendsBoth, ExtendsBothBudgets}
-use Rattle.sketch_frequencies.specs.State.{FrequentState, greatest_sample_size}
+use Rattle.sketch_frequencies.specs.State.{FrequentState, max_sample_size}
 use Rattle.sketch_frequencies.specs.declared.error_type.ErrorType.{ErrorType}
 use Rattle.sketch_frequencies.specs.declared.error_type.ErrorType.TheVariants.{NoFalseNegatives}
 use Rattle.uses.specs.Groups.{weight_of, SumsUp, ReportsHeavy, CarriesSums}
@@ -40,11 +40,11 @@ none_else false weight e = e
 module _ {G : Type 0} (eq : G → G → Bool) where
   -- a new sketch sums up no rows
   pub sums_nothing : (max_map_size : ℕ) (s : FrequentState G)
-      → StandsFor eq s (New max_map_size (greatest_sample_size max_map_size))
-      → KeepsTailBudget eq s (New max_map_size (greatest_sample_size max_map_size))
-      → SumsUp eq (greatest_sample_size max_map_size / 2) s []
+      → StandsFor eq s (New max_map_size (max_sample_size max_map_size))
+      → KeepsTailBudget eq s (New max_map_size (max_sample_size max_map_size))
+      → SumsUp eq (max_sample_size max_map_size / 2) s []
   sums_nothing max_map_size s stands budget = record {
-    history = New max_map_size (greatest_sample_size max_map_size);
+    history = New max_map_size (max_sample_size max_map_size);
     stands = stands;
     budget = budget;
     places = omega arith;
@@ -54,9 +54,9 @@ module _ {G : Type 0} (eq : G → G → Bool) where
   }
 
   pub sums_nothing_either : {E : Type 0} (max_map_size : ℕ) (r : Result (FrequentState G) E)
-      → IfOk r (λ s. StandsFor eq s (New max_map_size (greatest_sample_size max_map_size)))
-      → IfOk r (λ s. KeepsTailBudget eq s (New max_map_size (greatest_sample_size max_map_size)))
-      → IfOk r (λ s. SumsUp eq (greatest_sample_size max_map_size / 2) s [])
+      → IfOk r (λ s. StandsFor eq s (New max_map_size (max_sample_size max_map_size)))
+      → IfOk r (λ s. KeepsTailBudget eq s (New max_map_size (max_sample_size max_map_size)))
+      → IfOk r (λ s. SumsUp eq (max_sample_size max_map_size / 2) s [])
   sums_nothing_either max_map_size (Ok s) stands budget = sums_nothing max_map_size s stands budget
   sums_nothing_either max_map_size (Err e) stands budget = tt
 
@@ -98,7 +98,7 @@ module _ {G : Type 0} (eq : G → G → Bool) where
     history = Merge s.history t.history;
     stands = stands s.history t.history s.stands t.stands;
     budget = budget s.history t.history s.stands t.stands s.budget t.budget;
-    places = least_places m n (least_sample s.history) (least_sample t.history) s.places t.places;
+    places = least_places m n (min_sample s.history) (min_sample t.history) s.places t.places;
     total = omega (arith, s.total, t.total, sum_by-append (λ (row : G × ℕ). row.1) rows more);
     groups = λ x. omega (arith, s.groups x, t.groups x, sum_by-append (λ (row : G × ℕ). cond (eq row.0 x) row.1 0) rows more);
     others = λ set. omega (arith, s.others set, t.others set, sum_by-append (λ (row : G × ℕ). cond (list_any (eq row.0) set) 0 row.1) rows more);

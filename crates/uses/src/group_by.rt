@@ -10,7 +10,7 @@ ghost use Rattle.sketch_frequencies.specs.Image.{IsImageOf, IsSpelledFor, IsImag
 ghost use Rattle.sketch_frequencies.specs.Memory.{owned_by, memory_bytes};
 ghost use Rattle.sketch_frequencies.specs.Rows.{ShowsExactly, Descends};
 ghost use Rattle.sketch_frequencies.specs.Sizes.{size_fault};
-ghost use Rattle.sketch_frequencies.specs.State.{FrequentState, TotalHasRoom, empty_state, greatest_sample_size, must_double};
+ghost use Rattle.sketch_frequencies.specs.State.{FrequentState, TotalHasRoom, empty_state, max_sample_size, must_double};
 ghost use Rattle.sketch_frequencies.specs.Steps.{Steps, JoinsEqual};
 ghost use Rattle.uses.specs.Groups.{BringsIn, SumsUp, ReportsHeavy, CarriesSums};
 
@@ -42,8 +42,8 @@ impl<G: Eq + Hash + Drop> GroupSums<G> {
     ///
     /// Returns the errors of [`FrequentItemsSketch::new`].
     pub fn new(alloc: Global, max_map_size: usize) -> Result<Self, Error>
-        ensures ok { IfOk result (λ sums. sums ≡ empty_state max_map_size (greatest_sample_size max_map_size)) }
-        ensures sums { IfOk result (λ sums. SumsUp G.eq (greatest_sample_size max_map_size / 2) sums []) }
+        ensures ok { IfOk result (λ sums. sums ≡ empty_state max_map_size (max_sample_size max_map_size)) }
+        ensures sums { IfOk result (λ sums. SumsUp G.eq (max_sample_size max_map_size / 2) sums []) }
         ensures accepted { IsOk result → size_fault max_map_size ≡ None }
         ensures refused { IfErr result (λ e. e ≡ refusal_of (size_fault max_map_size)) }
     {
@@ -150,7 +150,7 @@ impl<G: FrequentItemValue + Drop> GroupSums<G> {
     /// Returns the errors of [`deserialize_with_limit`](FrequentItemsSketch::deserialize_with_limit).
     pub fn from_image(alloc: Global, image: &[u8], max_bytes: usize) -> Result<Self, Error>
         ensures image { IfOk result (λ sums. IsImageOf G.codec G.content image.now sums) }
-        ensures sample { IfOk result (λ sums. sums.sample_size ≡ greatest_sample_size sums.max_size) }
+        ensures sample { IfOk result (λ sums. sums.sample_size ≡ max_sample_size sums.max_size) }
         ensures sums { IfOk result (λ sums. (n : ℕ) (rows : List (G × ℕ))
             → CarriesSums G.eq G.codec G.content n image.now rows → SumsUp G.eq n sums rows) }
         ensures within { IfOk result (λ sums.

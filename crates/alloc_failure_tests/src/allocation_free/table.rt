@@ -79,9 +79,9 @@ pub fn looks(trial: &mut Trial) {
     let Ok(map) = three::<FEEDS_NOTHING>(trial.alloc) else {
         return trial.fail();
     };
-    let (absent, looked) = counted!(trial, map.get_counted(&Item::of(4)));
+    let (absent, probed) = counted!(trial, map.get_counted(&Item::of(4)));
     trial.write_value("", &absent);
-    trial.write_value(" looked ", &looked);
+    trial.write_value(" probed ", &probed);
     trial.write("\n");
 }
 
@@ -97,7 +97,7 @@ fn next_count<const KIND: u8>(walk: &mut ReversePurgeItemIter<Item<KIND>>) -> u6
 /// the walk. Returns also the sum of the counts, and the count after the end.
 fn walk_past_end<const KIND: u8>(map: &Map<KIND>) -> [u64; 6] {
     let mut walk = map.iter();
-    let (to_come, looked_at) = (walk.len(), walk.looked_at());
+    let (to_come, slots_read) = (walk.len(), walk.slots_read());
     let mut sum = 0u64;
     for _ in 0..3 {
         sum = sum.wrapping_add(next_count(&mut walk));
@@ -105,11 +105,11 @@ fn walk_past_end<const KIND: u8>(map: &Map<KIND>) -> [u64; 6] {
     let behind = next_count(&mut walk);
     [
         to_come as u64,
-        looked_at as u64,
+        slots_read as u64,
         sum,
         behind,
         walk.size_hint().0 as u64,
-        walk.looked_at() as u64,
+        walk.slots_read() as u64,
     ]
 }
 
@@ -118,7 +118,7 @@ pub fn walk<const KIND: u8>(trial: &mut Trial) {
     let Ok(map) = three::<KIND>(trial.alloc) else {
         return trial.fail();
     };
-    let [to_come, looked_at, sum, behind, left, looked] = counted!(trial, walk_past_end(&map));
-    write_values(trial, "walk", &[to_come, looked_at, sum, behind, left]);
-    write_values(trial, "looked", &[3 <= looked && looked <= 8]);
+    let [to_come, slots_read, sum, behind, left, probed] = counted!(trial, walk_past_end(&map));
+    write_values(trial, "walk", &[to_come, slots_read, sum, behind, left]);
+    write_values(trial, "probed", &[3 <= probed && probed <= 8]);
 }

@@ -4,7 +4,7 @@ ghost use Rattle.sketch_base.specs.Checks.{IsImageRefusal};
 ghost use Rattle.counter_table.specs.Bytes.{table_bytes};
 ghost use Rattle.sketch_frequencies.specs.Image.{IsImageOf, IsSpelledFor, IsImageWritingRefusal, Restores, RestoresBudget, early_fault, first_fault, limit_fault, early_fault_within, first_fault_within};
 ghost use Rattle.sketch_frequencies.specs.Memory.{owned_by, memory_bytes};
-ghost use Rattle.sketch_frequencies.specs.State.{IsState, greatest_sample_size};
+ghost use Rattle.sketch_frequencies.specs.State.{IsState, max_sample_size};
 
 use crate::frequent_item_value::FrequentItemValue;
 use crate::frequent_items_sketch::FrequentItemsSketch;
@@ -12,20 +12,22 @@ use crate::image::{
     Numbers, begin_image, bytes_with_items, check_limit, check_weights, empty_image, first_room,
     read_counters, read_header, read_numbers, table_size, write_items, write_weights,
 };
-use crate::sizes::{LEAST_MAP_SIZE, greatest_sample_of};
+use crate::sizes::{MIN_MAP_SIZE, max_sample_of};
 use counter_table::ReversePurgeItemHashMap;
 use sketch_base::Error;
 use std::alloc::Global;
 
 impl<T: FrequentItemValue + Drop> FrequentItemsSketch<T> {
-    /// An image of the sketch: it is 8 bytes long where nothing was fed, and else 32, 8 for each counter, and the bytes
-    /// of the items. The order of the items is left open. The sample size is not in it.
+    /// Returns an image of the sketch.
+    ///
+    /// It has 8 bytes if the sketch is empty. Otherwise it has 32 bytes, 8 for each counter, and the bytes of the items. The
+    /// order of the items is unspecified. The image does not contain the sample size. Allocates once if all items take the same
+    /// number of bytes, and at most twice otherwise.
     ///
     /// # Errors
     ///
-    /// `NoMemory` where there is no memory for the image, which is asked for once where all items take as many bytes, and
-    /// else twice. A fault of the kind `InvalidArgument` where an item has no bytes, as `ItemTooLong` for a text
-    /// of more than 2^32 - 1 bytes.
+    /// Returns `NoMemory` if the image cannot be allocated. Returns a fault of the kind `InvalidArgument` if an item cannot be
+    /// written, such as `ItemTooLong` for a string of more than 2^32 - 1 bytes.
     pub fn serialize(&self) -> Result<Vec<u8>, Error>
         ensures image { IfOk result (λ image. IsSpelledFor T.codec T.content image.items self.now) }
         ensures err { IfErr result (IsImageWritingRefusal T.codec T.content self.now.counters) }
@@ -49,26 +51,25 @@ impl<T: FrequentItemValue + Drop> FrequentItemsSketch<T> {
         Ok(out.into_bytes())
     }
 
-    /// The sketch of an image.
+    /// Returns the sketch of an image.
     ///
-    /// The bytes behind the image are ignored, and so are the unused ones within it. Weights of equal items are added
-    /// up, and items of weight 0 are left out. The table takes as many slots as the image states, at most 2^30, of
-    /// which three quarters may be free: see [`deserialize_with_limit`](Self::deserialize_with_limit). An image that
-    /// says that nothing was fed gives a table of 8 slots, whatever it states. An image says nothing of the sample size:
-    /// it is the one that `new` gives.
+    /// Ignores the bytes after the image and the unused bytes within it. Adds up the weights of equal items, and leaves out items
+    /// of weight 0. Allocates a table of the size that the image states, at most 2^30 slots, even if few of them are taken.
+    /// [`deserialize_with_limit`](Self::deserialize_with_limit) limits this. The image of an empty sketch gives a table of 8
+    /// slots, whatever size it states. The sample size is not in the image: it is the one that `new` chooses.
     ///
     /// # Errors
     ///
-    /// The fault of the first check that fails, of the kind `InvalidData`: in this order `InsufficientData`,
-    /// `BadFamily`, `BadVersion`, `LgCurTooSmall`, `LgMaxTooLarge`, `LgCurAboveMax`, `BadPreamble` and
-    /// `EmptyFlagMismatch`, and where nothing says 'empty' `InsufficientData`, `TooManyActive`, `InsufficientData`,
-    /// `ZeroTotal`, `InsufficientData` twice, `WeightsExceedTotal`, `ErrorExceedsTotal`, and the fault of the first
-    /// item that does not read. `NoMemory` where there is no memory for the table or for an item: that is asked for
-    /// behind all checks but the last three.
+    /// Returns the fault of the first failing check, of the kind `InvalidData`. The order is `InsufficientData`, `BadFamily`,
+    /// `BadVersion`, `LgCurTooSmall`, `LgMaxTooLarge`, `LgCurAboveMax`, `BadPreamble` and `EmptyFlagMismatch`. For a sketch that
+    /// is not empty there follow `InsufficientData`, `TooManyActive`, `InsufficientData`, `ZeroTotal`, `InsufficientData` twice,
+    /// `WeightsExceedTotal`, `ErrorExceedsTotal`, and the fault of the first item that cannot be read.
+    ///
+    /// Returns `NoMemory` if the table or an item cannot be allocated. It comes only if all checks but the last three pass.
     pub fn deserialize(alloc: Global, image: &[u8]) -> Result<Self, Error>
         ensures image { IfOk result (λ sketch. IsImageOf T.codec T.content image.now sketch) }
         ensures state { IfOk result (λ sketch. IsState T.eq sketch) }
-        ensures sample { IfOk result (λ sketch. sketch.sample_size ≡ greatest_sample_size sketch.max_size) }
+        ensures sample { IfOk result (λ sketch. sketch.sample_size ≡ max_sample_size sketch.max_size) }
         ensures stands { IfOk result (λ sketch. Restores T.codec T.content T.eq image.now sketch) }
         ensures budget { IfOk result (λ sketch. RestoresBudget T.codec T.content T.eq image.now sketch) }
         ensures err { IfErr result (IsImageRefusal (early_fault image.now) (first_fault T.codec image.now)) }
@@ -76,20 +77,20 @@ impl<T: FrequentItemValue + Drop> FrequentItemsSketch<T> {
         Self::deserialize_with_limit(alloc, image, usize::MAX)
     }
 
-    /// Returns the sketch of an image whose table and items take at most `most_bytes`, as [`deserialize`](Self::deserialize)
+    /// Returns the sketch of an image whose table and items take at most `max_bytes`, as [`deserialize`](Self::deserialize)
     /// does.
     ///
     /// The limit is compared with the table's [`estimated_size`](Self::estimated_size). If items own memory, as strings do,
     /// the number of bytes after the weights is added to it, which includes bytes after the image. So
     /// [`memory_bytes`](Self::memory_bytes) of the sketch is within the limit.
     ///
-    /// The formula is not the layout: of an item of 1 to 8 bytes a slot takes 24 bytes and one byte of fingerprint, where the
-    /// formula has 13 to 28. The bytes requested from the allocator are at most twice the limit, which is tested and not proved.
+    /// The formula is not the layout. For an item of 1 to 8 bytes a slot takes 24 bytes and a byte of fingerprint, while the
+    /// formula counts 13 to 28. The allocated bytes are at most twice the limit, which is tested and not proved.
     ///
     /// # Errors
     ///
-    /// Those of `deserialize`, and `TableTooLarge` of the kind `InvalidData` if the limit is exceeded. This check comes after
-    /// those that precede any allocation, and then nothing is allocated.
+    /// Returns those of `deserialize`, and `TableTooLarge` of the kind `InvalidData` if the limit is exceeded. This check
+    /// comes after those that precede any allocation. Nothing is allocated if it fails.
     ///
     /// # Examples
     ///
@@ -108,25 +109,25 @@ impl<T: FrequentItemValue + Drop> FrequentItemsSketch<T> {
     pub fn deserialize_with_limit(
         alloc: Global,
         image: &[u8],
-        most_bytes: usize,
+        max_bytes: usize,
     ) -> Result<Self, Error>
         ensures image { IfOk result (λ sketch. IsImageOf T.codec T.content image.now sketch) }
         ensures state { IfOk result (λ sketch. IsState T.eq sketch) }
-        ensures sample { IfOk result (λ sketch. sketch.sample_size ≡ greatest_sample_size sketch.max_size) }
+        ensures sample { IfOk result (λ sketch. sketch.sample_size ≡ max_sample_size sketch.max_size) }
         ensures stands { IfOk result (λ sketch. Restores T.codec T.content T.eq image.now sketch) }
         ensures budget { IfOk result (λ sketch. RestoresBudget T.codec T.content T.eq image.now sketch) }
         ensures within { IfOk result (λ sketch.
-            memory_bytes (table_bytes T.row sketch.size) (owned_by T.codec T.content sketch.counters) ≤ most_bytes) }
-        ensures accepted { IsOk result → limit_fault T.row most_bytes T.codec image.now ≡ None }
-        ensures err { IfErr result (IsImageRefusal (early_fault_within T.row most_bytes T.codec image.now)
-            (first_fault_within T.row most_bytes T.codec image.now)) }
+            memory_bytes (table_bytes T.row sketch.size) (owned_by T.codec T.content sketch.counters) ≤ max_bytes) }
+        ensures accepted { IsOk result → limit_fault T.row max_bytes T.codec image.now ≡ None }
+        ensures err { IfErr result (IsImageRefusal (early_fault_within T.row max_bytes T.codec image.now)
+            (first_fault_within T.row max_bytes T.codec image.now)) }
     {
         let header = read_header(image)?;
         let max_size = table_size(header.lg_max);
-        let sample_size = greatest_sample_of(max_size);
+        let sample_size = max_sample_of(max_size);
         if header.is_empty {
-            check_limit::<T>(LEAST_MAP_SIZE, 0, most_bytes)?;
-            let map = ReversePurgeItemHashMap::new(alloc, LEAST_MAP_SIZE)?;
+            check_limit::<T>(MIN_MAP_SIZE, 0, max_bytes)?;
+            let map = ReversePurgeItemHashMap::new(alloc, MIN_MAP_SIZE)?;
             return Ok(FrequentItemsSketch {
                 map,
                 error: 0,
@@ -138,7 +139,7 @@ impl<T: FrequentItemValue + Drop> FrequentItemsSketch<T> {
         let size = table_size(header.lg_cur);
         let numbers = read_numbers(image, header.lg_cur)?;
         let item_bytes = image.len() - (32 + 8 * numbers.active as usize);
-        check_limit::<T>(size, item_bytes, most_bytes)?;
+        check_limit::<T>(size, item_bytes, max_bytes)?;
         check_weights(image, &numbers)?;
         let map = read_counters(alloc, image, numbers.active, size)?;
         Ok(FrequentItemsSketch {
@@ -150,8 +151,8 @@ impl<T: FrequentItemValue + Drop> FrequentItemsSketch<T> {
         })
     }
 
-    /// Returns how many bytes the sketch takes: its [`estimated_size`](Self::estimated_size) and the bytes that its items own,
-    /// or the greatest `usize` where they pass it. Of a string its length counts, and no spare capacity.
+    /// Returns the number of bytes that the sketch takes: its [`estimated_size`](Self::estimated_size) and the bytes that its
+    /// items own, or `usize::MAX` if the sum exceeds it. A string counts with its length, without spare capacity.
     ///
     /// If items own memory, every slot of the table is read. Nothing is allocated.
     ///

@@ -1,4 +1,4 @@
-//! How two sketches become one.
+//! Merges of two sketches.
 ghost use Rattle.std.specs.Prelude.{◌≡◌, ◌+◌, ◌*◌, ◌<◌, ◌≤◌, IfErr, IsOk, IsTrue, OnOk, OnErr, IsErrOf};
 ghost use Rattle.sketch_base.specs.Errors.{invalid_argument, no_memory};
 ghost use Rattle.sketch_frequencies.specs.Growth.{AddsCounters};
@@ -13,17 +13,17 @@ use sketch_base::{Error, Fault};
 use std::hash::Hash;
 
 impl<T: Eq + Hash + Drop> FrequentItemsSketch<T> {
-    /// Merges another sketch into this one, which then stands for both streams and keeps its own greatest size and
-    /// sample size.
+    /// Merges another sketch into this one, which then represents both streams. Keeps its own maximum size and sample size.
     ///
-    /// Each counter of the other is added as an update, in an order that is left open, and then its error and its
-    /// total. The result is built aside and put in place at the end. An other into which nothing was fed changes
-    /// nothing and takes no memory. Clones of the items have to equal them.
+    /// Adds each counter of the other sketch as an update, in an unspecified order, and then its error and its total. Builds the
+    /// result apart from the sketch, and replaces the sketch at the end. Allocates for a clone of the sketch, for clones of the
+    /// other's items and for larger tables. An empty other sketch changes nothing, and nothing is allocated. Clones of the items
+    /// have to equal them.
     ///
     /// # Errors
     ///
-    /// `WeightOverflow` where the weight of both together would pass the greatest `u64`, and `NoMemory` where there is
-    /// no memory for the result. Both sketches are then as they were.
+    /// Returns `WeightOverflow` if the total weight of both would exceed `u64::MAX`, and `NoMemory` if an allocation fails. After
+    /// an error both sketches are unchanged.
     ///
     /// # Examples
     ///
@@ -51,11 +51,11 @@ impl<T: Eq + Hash + Drop> FrequentItemsSketch<T> {
         ensures join { OnOk result (JoinsEqual T.eq self.old other.now self.new) }
         ensures state { IsState T.eq self.new }
 
-        // What stood for two histories stands for the merged one, and keeps its tail budget.
+        // If both sketches represent histories, the result represents the merged one. It keeps the tail budget if both do.
         ensures stands { OnOk result (ExtendsBoth T.eq self.old other.now self.new Merge) }
         ensures budget { OnOk result (ExtendsBothBudgets T.eq self.old other.now self.new Merge) }
 
-        // A refusal changes nothing.
+        // An error changes nothing.
         ensures err { OnErr result (self.new ≡ self.old) }
         ensures overflow { Overflows self.old other.now.total → IsErrOf result (invalid_argument Fault.WeightOverflow) }
         ensures memory { TotalHasRoom self.old other.now.total → IfErr result (λ e. e ≡ no_memory) }
@@ -74,7 +74,7 @@ impl<T: Eq + Hash + Drop> FrequentItemsSketch<T> {
         Ok(())
     }
 
-    /// Adds every counter of the other.
+    /// Adds every counter of the other sketch.
     fn add_counters(&mut self, other: &Self) -> Result<(), Error>
     where
         T: Clone,
@@ -84,7 +84,7 @@ impl<T: Eq + Hash + Drop> FrequentItemsSketch<T> {
         ensures state { IsState T.eq self.new }
         ensures err { IfErr result (λ e. e ≡ no_memory) }
     {
-        // for the prover: a look at a field brings in what holds of every sketch
+        // Borrows a field, which brings the invariant of the sketch into the proof.
         let _ = &self.map;
         for (item, count) in other.map.iter() {
             self.update_with_count_ref(item, count)?;
@@ -92,7 +92,7 @@ impl<T: Eq + Hash + Drop> FrequentItemsSketch<T> {
         Ok(())
     }
 
-    /// Adds to the error, and puts the total in place.
+    /// Adds to the error, and sets the total.
     fn settle(&mut self, error: u64, total: u64)
         requires sum { sum_of self.old.counters + self.old.error + error ≤ total }
         requires some { 0 < total }

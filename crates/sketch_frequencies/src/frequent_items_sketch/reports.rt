@@ -1,38 +1,52 @@
-//! What a sketch says of its items.
+//! Estimates, bounds and reports of a sketch's items.
 ghost use Rattle.std.specs.Prelude.{◌≡◌, ◌+◌, ◌*◌, ◌<◌, ◌≤◌, ◌^◌, length, map, All, IfOk, IfErr, IsTrue};
 ghost use Rattle.std.specs.List.{AllZip};
 ghost use Rattle.sketch_base.specs.Errors.{no_memory};
-ghost use Rattle.sketch_frequencies.specs.History.{FrequentHistory, least_size, least_sample, total_weight, HasUsualSamples};
+ghost use Rattle.sketch_frequencies.specs.History.{FrequentHistory, min_size, min_sample, total_weight, HasUsualSamples};
 ghost use Rattle.sketch_frequencies.specs.Rows.{ShowsExactly, Descends, MissesNone, ShowsNoneBelow};
 ghost use Rattle.sketch_frequencies.specs.Stands.{Encloses, KeepsTailBudget, IsLowerBound, IsUpperBound, IsExactOfFew};
-ghost use Rattle.sketch_frequencies.specs.State.{estimate_of};
-ghost use Rattle.counter_table.specs.Tables.{count_of};
+ghost use Rattle.sketch_frequencies.specs.State.{estimate_by_key, estimate_of};
+ghost use Rattle.counter_table.specs.Tables.{count_by_key, count_of};
 
 use crate::error_type::ErrorType;
 use crate::frequent_items_sketch::FrequentItemsSketch;
+use crate::item_bounds::ItemBounds;
 use crate::row::Row;
+use counter_table::ItemKey;
 use sketch_base::Error;
 use std::hash::Hash;
 
 impl<T: Eq + Hash + Drop> FrequentItemsSketch<T> {
-    /// The best single guess of the item's weight: its count and the error where it is tracked, else 0.
+    /// Returns the estimate of the item's weight: its count plus the error if it is tracked, else 0.
     ///
-    /// It is the true weight where no more distinct items came than three quarters of the greatest table size, the
-    /// least of all that took part.
+    /// Let M be the smallest maximum size of all sketches that took part. The estimate is the true weight if there were at most
+    /// three quarters of M distinct items. It does not allocate.
     pub fn estimate(&self, item: &T) -> u64
         ensures value { result ≡ estimate_of T.eq self.now item.now }
         ensures exact { IsExactOfFew T.eq self.now item.now result }
     {
-        // for the prover: the sum is at most the total, which fits
+        self.estimate_by_key(item)
+    }
+
+    /// Returns the estimate of the item that the key names. A sketch of `String`s takes a `&str` as the key.
+    ///
+    /// The estimate is that of [`estimate`](Self::estimate) for an item equal to the key. It does not allocate.
+    pub fn estimate_by_key<K: ItemKey<T>>(&self, key: K) -> u64
+        ensures value { result ≡ estimate_by_key (K.names key) self.now }
+        ensures item { (x : T) → IsTrue (K.names key x) → result ≡ estimate_of T.eq self.now x }
+        ensures exact { (x : T) → IsTrue (K.names key x) → IsExactOfFew T.eq self.now x result }
+    {
+        // The sum is at most the total, so it fits. Reading the total brings this into the proof.
         let _total = self.total;
-        match self.map.look_up(item) {
+        match self.map.look_up_by_key(key) {
             Some(count) => count + self.error,
             None => 0,
         }
     }
 
-    /// Writes down the estimate of each item, as [`estimate`](Self::estimate) answers. It takes no memory, and there are
-    /// as many estimates as items.
+    /// Writes the estimate of each item to `estimates`, as [`estimate`](Self::estimate) returns it.
+    ///
+    /// Both slices have the same length. It does not allocate.
     ///
     /// # Examples
     ///
@@ -51,13 +65,13 @@ impl<T: Eq + Hash + Drop> FrequentItemsSketch<T> {
         ensures value { estimates.new ≡ map (estimate_of T.eq self.now) items.now }
         ensures exact { AllZip (IsExactOfFew T.eq self.now) items.now estimates.new }
     {
-        // The label is there for the prover alone.
+        // The label names the loop for its proof.
         'each: for i in 0..items.len() {
             estimates[i] = self.estimate(&items[i]);
         }
     }
 
-    /// A bound that the item's true weight reaches: its count, or 0 where it is not tracked.
+    /// Returns the lower bound of the item's true weight: its count, or 0 if it is not tracked.
     pub fn lower_bound(&self, item: &T) -> u64
         ensures value { result ≡ count_of T.eq self.now.counters item.now }
         ensures bound { IsLowerBound T.eq self.now item.now result }
@@ -65,37 +79,92 @@ impl<T: Eq + Hash + Drop> FrequentItemsSketch<T> {
         self.map.get(item)
     }
 
-    /// A bound that the item's true weight does not pass: its count, or 0 where it is not tracked, and the error.
+    /// Returns the upper bound of the item's true weight: its count, or 0 if it is not tracked, plus the error.
     pub fn upper_bound(&self, item: &T) -> u64
         ensures value { result ≡ count_of T.eq self.now.counters item.now + self.now.error }
         ensures bound { IsUpperBound T.eq self.now item.now result }
     {
-        // for the prover: the sum is at most the total, which fits
+        // The sum is at most the total, so it fits. Reading the total brings this into the proof.
         let _total = self.total;
         self.map.get(item) + self.error
     }
 
-    /// The error: what each item's upper bound is above its lower bound.
+    /// Returns the lower bound of the weight of the item that the key names.
     ///
-    /// For a sample size L, the least of all that took part, it is at most 2 / L of the weight of all items. Where all
-    /// were made by `new`, that is, for a greatest size M, the least of all that took part, at most 8 / 3M of it where M
-    /// is up to 1024, and at most 1 / 512 of it above.
+    /// It is the item's count, or 0 if the item is not tracked. It does not allocate.
+    pub fn lower_bound_by_key<K: ItemKey<T>>(&self, key: K) -> u64
+        ensures value { result ≡ count_by_key (K.names key) self.now.counters }
+        ensures bound { (x : T) → IsTrue (K.names key x) → IsLowerBound T.eq self.now x result }
+    {
+        self.map.look_up_by_key(key).unwrap_or(0)
+    }
+
+    /// Returns the upper bound of the weight of the item that the key names.
+    ///
+    /// It is the item's count, or 0 if the item is not tracked, plus the error. It does not allocate.
+    pub fn upper_bound_by_key<K: ItemKey<T>>(&self, key: K) -> u64
+        ensures value { result ≡ count_by_key (K.names key) self.now.counters + self.now.error }
+        ensures bound { (x : T) → IsTrue (K.names key x) → IsUpperBound T.eq self.now x result }
+    {
+        // The sum is at most the total, so it fits. Reading the total brings this into the proof.
+        let _total = self.total;
+        self.map.look_up_by_key(key).unwrap_or(0) + self.error
+    }
+
+    /// Returns both bounds and the estimate of the weight of the item that the key names, with one look-up.
+    ///
+    /// They are those of [`lower_bound_by_key`](Self::lower_bound_by_key), [`estimate_by_key`](Self::estimate_by_key)
+    /// and [`upper_bound_by_key`](Self::upper_bound_by_key). It does not allocate.
+    pub fn bounds_by_key<K: ItemKey<T>>(&self, key: K) -> ItemBounds
+        ensures lower { result.lower_bound ≡ count_by_key (K.names key) self.now.counters }
+        ensures at_least { (x : T) → IsTrue (K.names key x) → IsLowerBound T.eq self.now x result.lower_bound }
+        ensures estimate { result.estimate ≡ estimate_by_key (K.names key) self.now }
+        ensures item { (x : T) → IsTrue (K.names key x) → result.estimate ≡ estimate_of T.eq self.now x }
+        ensures exact { (x : T) → IsTrue (K.names key x) → IsExactOfFew T.eq self.now x result.estimate }
+        ensures upper { result.upper_bound ≡ count_by_key (K.names key) self.now.counters + self.now.error }
+        ensures at_most { (x : T) → IsTrue (K.names key x) → IsUpperBound T.eq self.now x result.upper_bound }
+    {
+        // The sum is at most the total, so it fits. Reading the total brings this into the proof.
+        let _total = self.total;
+        match self.map.look_up_by_key(key) {
+            Some(count) => {
+                let upper_bound = count + self.error;
+                ItemBounds {
+                    lower_bound: count,
+                    estimate: upper_bound,
+                    upper_bound,
+                }
+            }
+            None => ItemBounds {
+                lower_bound: 0,
+                estimate: 0,
+                upper_bound: self.error,
+            },
+        }
+    }
+
+    /// Returns the error: the difference between each item's upper and lower bound.
+    ///
+    /// Let W be the total weight, and L the smallest sample size of all sketches that took part: L * error <= 2 * W. Let `new`
+    /// have created all of them, and let M be their smallest maximum size: 3 * M * error <= 8 * W if M <= 1024, and
+    /// 512 * error <= W otherwise.
     pub fn maximum_error(&self) -> u64
         ensures value { result ≡ self.now.error }
 
-        // What the tail budget of a history says of it.
+        // The bounds that the tail budget of a history gives.
         ensures sampled { (h : FrequentHistory T) → Encloses T.eq self.now h → KeepsTailBudget T.eq self.now h
-            → least_sample h * result ≤ 2 * total_weight h }
+            → min_sample h * result ≤ 2 * total_weight h }
         ensures small { (h : FrequentHistory T) → Encloses T.eq self.now h → KeepsTailBudget T.eq self.now h
-            → HasUsualSamples h → least_size h ≤ 1024 → 3 * least_size h * result ≤ 8 * total_weight h }
+            → HasUsualSamples h → min_size h ≤ 1024 → 3 * min_size h * result ≤ 8 * total_weight h }
         ensures large { (h : FrequentHistory T) → Encloses T.eq self.now h → KeepsTailBudget T.eq self.now h
-            → HasUsualSamples h → 1024 < least_size h → 512 * result ≤ total_weight h }
+            → HasUsualSamples h → 1024 < min_size h → 512 * result ≤ total_weight h }
     {
         self.error
     }
 
-    /// The tracked items whose bound is above the error, in rows that descend by estimate. As
-    /// `frequent_items_with_threshold` with the error for the threshold.
+    /// Returns the tracked items whose bound is above the error, in rows of descending estimate.
+    ///
+    /// Equals `frequent_items_with_threshold` with the error as the threshold, and returns its errors.
     pub fn frequent_items(&self, error_type: ErrorType) -> Result<Vec<Row<T>>, Error>
     where
         T: Clone,
@@ -107,14 +176,14 @@ impl<T: Eq + Hash + Drop> FrequentItemsSketch<T> {
         self.frequent_items_with_threshold(error_type, self.error)
     }
 
-    /// The tracked items whose bound is above both the threshold and the error, in rows that descend by estimate.
+    /// Returns the tracked items whose bound is above both the threshold and the error, in rows of descending estimate.
     ///
-    /// With `NoFalseNegatives` it is the upper bound that counts, and with `NoFalsePositives` the lower one. The order
-    /// among equal estimates is left open. Clones of the items have to equal them.
+    /// The bound is the upper bound for `NoFalseNegatives`, and the lower bound for `NoFalsePositives`. The order of equal
+    /// estimates is unspecified. Clones of the items have to equal them. Allocates the rows and the clones.
     ///
     /// # Errors
     ///
-    /// `NoMemory` where there is no memory for the rows or for a clone.
+    /// Returns `NoMemory` if the rows or a clone cannot be allocated.
     ///
     /// # Examples
     ///
@@ -141,7 +210,7 @@ impl<T: Eq + Hash + Drop> FrequentItemsSketch<T> {
         ensures exact { IfOk result (λ rows. ShowsExactly T.eq error_type threshold self.now rows.items) }
         ensures descending { IfOk result (λ rows. Descends rows.items) }
 
-        // What the rows say of every history for which the sketch stands.
+        // What the rows guarantee, for every history that the sketch represents.
         ensures none_missing { IfOk result (λ rows.
             error_type ≡ ErrorType.NoFalseNegatives → MissesNone T.eq threshold self.now rows.items) }
         ensures none_below { IfOk result (λ rows.
@@ -153,7 +222,7 @@ impl<T: Eq + Hash + Drop> FrequentItemsSketch<T> {
         Ok(rows)
     }
 
-    /// The rows of a report, in the order of a walk.
+    /// Returns the rows of a report, in the order of a walk.
     fn passing_rows(&self, error_type: ErrorType, threshold: u64) -> Result<Vec<Row<T>>, Error>
     where
         T: Clone,
@@ -161,11 +230,11 @@ impl<T: Eq + Hash + Drop> FrequentItemsSketch<T> {
         ensures exact { IfOk result (λ rows. ShowsExactly T.eq error_type threshold self.now rows.items) }
         ensures err { IfErr result (λ e. e ≡ no_memory) }
     {
-        // for the prover: each count and the error are at most the total, which fits
+        // Each count plus the error is at most the total, so it fits. Reading the total brings this into the proof.
         let _total = self.total;
         let error = self.error;
         let floor = threshold.max(error);
-        // where each count makes a row, the room for all of them is asked for at once
+        // if each counter gives a row, the room for all of them is allocated at once
         let all_pass = floor == error && error_type == ErrorType::NoFalseNegatives;
         let room = if all_pass { self.map.num_active() } else { 0 };
         let mut rows = Vec::with_capacity(self.map.allocator(), room)?;

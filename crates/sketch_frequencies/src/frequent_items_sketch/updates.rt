@@ -1,4 +1,4 @@
-//! How items are added.
+//! Updates: how items are added.
 ghost use Rattle.std.specs.Prelude.{◌≡◌, ◌+◌, ◌*◌, ◌<◌, true, false, length, IfErr, IsOk, IsTrue, OnOk, OnErr, IsErrOf};
 ghost use Rattle.sketch_base.specs.Errors.{invalid_argument, no_memory};
 ghost use Rattle.sketch_frequencies.specs.Batches.{UpdatesAll, StopsAt};
@@ -6,15 +6,18 @@ ghost use Rattle.sketch_frequencies.specs.Growth.{MakesRoom, Adds};
 ghost use Rattle.sketch_frequencies.specs.History.FrequentHistory.{Update};
 ghost use Rattle.sketch_frequencies.specs.Stands.{Extends, ExtendsBudget};
 ghost use Rattle.sketch_frequencies.specs.State.{IsState, capacity, must_double, must_grow, Overflows, TotalHasRoom};
-ghost use Rattle.sketch_frequencies.specs.Steps.{Steps, StepsEqual};
-ghost use Rattle.counter_table.specs.Tables.{is_tracked, put};
+ghost use Rattle.sketch_frequencies.specs.Steps.{Steps, StepsEqual, StepsByKey};
+ghost use Rattle.counter_table.specs.Tables.{is_tracked_by_key, is_tracked, put};
 
 use crate::frequent_items_sketch::FrequentItemsSketch;
+use counter_table::{ItemKey, OwnedKey};
 use sketch_base::{Error, Fault};
 use std::hash::Hash;
 
 impl<T: Eq + Hash + Drop> FrequentItemsSketch<T> {
-    /// Adds 1 to the item's weight. As `update_with_count` with a count of 1.
+    /// Adds 1 to the item's weight.
+    ///
+    /// Equals [`update_with_count`](Self::update_with_count) with a count of 1, and returns its errors.
     pub fn update(&mut self, item: T) -> Result<(), Error>
         ensures step { OnOk result (Steps T.eq self.old item 1 self.new) }
         ensures state { IsState T.eq self.new }
@@ -30,21 +33,23 @@ impl<T: Eq + Hash + Drop> FrequentItemsSketch<T> {
 
     /// Adds `count` to the item's weight. A count of 0 changes nothing and succeeds.
     ///
+    /// Allocates only if the table must double: the item is not tracked, three quarters of the slots are taken, and the table
+    /// may still grow.
+    ///
     /// # Errors
     ///
-    /// `WeightOverflow` where the weight of all items would pass the greatest `u64`, and `NoMemory` where the table
-    /// must double and there is no memory for that: the item is new, all three quarters of the table are taken, and it
-    /// may still grow. The sketch is then as it was.
+    /// Returns `WeightOverflow` if the total weight would exceed `u64::MAX`. Returns `NoMemory` if the table must double and the
+    /// allocation fails. After an error the sketch is unchanged.
     pub fn update_with_count(&mut self, item: T, count: u64) -> Result<(), Error>
         ensures zero { count ≡ 0 → IsOk result × (self.new ≡ self.old) }
         ensures step { OnOk result (0 < count → Steps T.eq self.old item count self.new) }
         ensures state { IsState T.eq self.new }
 
-        // What stood for a history stands for the extended one, and keeps its tail budget.
+        // A sketch that represents a history represents the extended history, and keeps its tail budget.
         ensures stands { OnOk result (0 < count → Extends T.eq self.old self.new (λ h. Update h item count)) }
         ensures budget { OnOk result (0 < count → ExtendsBudget T.eq self.old self.new (λ h. Update h item count)) }
 
-        // A refusal changes nothing. Memory is refused only where the table must double.
+        // An error changes nothing. `NoMemory` comes only if the table must double.
         ensures err { OnErr result (self.new ≡ self.old) }
         ensures overflow { Overflows self.old count → IsErrOf result (invalid_argument Fault.WeightOverflow) }
         ensures memory { TotalHasRoom self.old count → IfErr result (λ e. e ≡ no_memory) }
@@ -67,7 +72,9 @@ impl<T: Eq + Hash + Drop> FrequentItemsSketch<T> {
         Ok(())
     }
 
-    /// Adds 1 to the weight of an item equal to this one. As `update_with_count_ref` with a count of 1.
+    /// Adds 1 to the weight of an item equal to this one.
+    ///
+    /// Equals [`update_with_count_ref`](Self::update_with_count_ref) with a count of 1, and returns its errors.
     pub fn update_ref(&mut self, item: &T) -> Result<(), Error>
     where
         T: Clone,
@@ -84,14 +91,15 @@ impl<T: Eq + Hash + Drop> FrequentItemsSketch<T> {
         self.update_with_count_ref(item, 1)
     }
 
-    /// Adds `count` to the weight of an item equal to this one, which is cloned only where it is not tracked and the
-    /// count is not 0. Clones have to equal their originals. A count of 0 changes nothing and succeeds.
+    /// Adds `count` to the weight of an item equal to this one. A count of 0 changes nothing and succeeds.
+    ///
+    /// Clones the item only if it is not tracked and `count` is not 0. Clones have to equal their originals. Allocates for the
+    /// clone, and for a table of twice the size if the table must double.
     ///
     /// # Errors
     ///
-    /// `WeightOverflow` where the weight of all items would pass the greatest `u64`, and `NoMemory` where the item is
-    /// not tracked and there is no memory for its clone, or for a table of twice the size where it must double. The
-    /// sketch is then as it was.
+    /// Returns `WeightOverflow` if the total weight would exceed `u64::MAX`. Returns `NoMemory` if the item is not tracked and an
+    /// allocation fails. After an error the sketch is unchanged.
     pub fn update_with_count_ref(&mut self, item: &T, count: u64) -> Result<(), Error>
     where
         T: Clone,
@@ -100,11 +108,11 @@ impl<T: Eq + Hash + Drop> FrequentItemsSketch<T> {
         ensures step { OnOk result (0 < count → StepsEqual T.eq self.old item.now count self.new) }
         ensures state { IsState T.eq self.new }
 
-        // What stood for a history stands for the extended one, and keeps its tail budget.
+        // A sketch that represents a history represents the extended history, and keeps its tail budget.
         ensures stands { OnOk result (0 < count → Extends T.eq self.old self.new (λ h. Update h item.now count)) }
         ensures budget { OnOk result (0 < count → ExtendsBudget T.eq self.old self.new (λ h. Update h item.now count)) }
 
-        // A refusal changes nothing. Memory is refused only for an item that is not tracked.
+        // An error changes nothing. An update of a tracked item never returns `NoMemory`.
         ensures err { OnErr result (self.new ≡ self.old) }
         ensures overflow { Overflows self.old count → IsErrOf result (invalid_argument Fault.WeightOverflow) }
         ensures memory { TotalHasRoom self.old count → IfErr result (λ e. e ≡ no_memory) }
@@ -128,12 +136,88 @@ impl<T: Eq + Hash + Drop> FrequentItemsSketch<T> {
         Ok(())
     }
 
-    /// Adds 1 to the weight of an item equal to each of these, as [`update_ref`](Self::update_ref) does one after another.
+    /// Adds 1 to the weight of the item that the key names.
+    ///
+    /// Equals [`update_with_count_by_key`](Self::update_with_count_by_key) with a count of 1, and returns its errors.
+    pub fn update_by_key<K: OwnedKey<T>>(&mut self, key: K) -> Result<(), Error>
+        ensures step { OnOk result (StepsByKey T.eq self.old (K.names key) 1 self.new) }
+        ensures state { IsState T.eq self.new }
+        ensures stands { OnOk result ((x : T) → IsTrue (K.names key x)
+            → Extends T.eq self.old self.new (λ h. Update h x 1)) }
+        ensures budget { OnOk result ((x : T) → IsTrue (K.names key x)
+            → ExtendsBudget T.eq self.old self.new (λ h. Update h x 1)) }
+        ensures err { OnErr result (self.new ≡ self.old) }
+        ensures overflow { Overflows self.old 1 → IsErrOf result (invalid_argument Fault.WeightOverflow) }
+        ensures memory { TotalHasRoom self.old 1 → IfErr result (λ e. e ≡ no_memory) }
+        ensures succeeds { TotalHasRoom self.old 1 → is_tracked_by_key (K.names key) self.old.counters ≡ true → IsOk result }
+    {
+        self.update_with_count_by_key(key, 1)
+    }
+
+    /// Adds `count` to the weight of the item that the key names. A sketch of `String`s takes a `&str` as the key.
+    ///
+    /// Creates an owned item only if the key's item is not tracked and `count` is not 0. Allocates for that item, and
+    /// for a table of twice the size if the table must double. A count of 0 changes nothing and succeeds.
     ///
     /// # Errors
     ///
-    /// Those of `update_ref` at the first item that it refuses. The items before it are added then, and neither it nor
-    /// those behind it are.
+    /// Returns `WeightOverflow` if the total weight would exceed `u64::MAX`. Returns `NoMemory` if the key's item is not
+    /// tracked and an allocation fails. After an error the sketch is unchanged.
+    ///
+    /// # Examples
+    ///
+    /// ```
+    /// use sketch_frequencies::{Error, FrequentItemsSketch};
+    ///
+    /// fn add_word(words: &mut FrequentItemsSketch<String>, word: &str) -> Result<(), Error> {
+    ///     words.update_with_count_by_key(word, 1)
+    /// }
+    /// ```
+    pub fn update_with_count_by_key<K: OwnedKey<T>>(
+        &mut self,
+        key: K,
+        count: u64,
+    ) -> Result<(), Error>
+        ensures zero { count ≡ 0 → IsOk result × (self.new ≡ self.old) }
+        ensures step { OnOk result (0 < count → StepsByKey T.eq self.old (K.names key) count self.new) }
+        ensures state { IsState T.eq self.new }
+
+        // A sketch that represents a history represents the extended history, and keeps its tail budget.
+        ensures stands { OnOk result (0 < count → (x : T) → IsTrue (K.names key x)
+            → Extends T.eq self.old self.new (λ h. Update h x count)) }
+        ensures budget { OnOk result (0 < count → (x : T) → IsTrue (K.names key x)
+            → ExtendsBudget T.eq self.old self.new (λ h. Update h x count)) }
+
+        // An error changes nothing. An update of a tracked item never returns `NoMemory`.
+        ensures err { OnErr result (self.new ≡ self.old) }
+        ensures overflow { Overflows self.old count → IsErrOf result (invalid_argument Fault.WeightOverflow) }
+        ensures memory { TotalHasRoom self.old count → IfErr result (λ e. e ≡ no_memory) }
+        ensures succeeds { TotalHasRoom self.old count → is_tracked_by_key (K.names key) self.old.counters ≡ true → IsOk result }
+    {
+        if count > u64::MAX - self.total {
+            return Err(Error::invalid_argument(Fault::WeightOverflow));
+        }
+        if count == 0 {
+            return Ok(());
+        }
+        if self.map.capacity() > self.map.num_active() {
+            self.put_by_key(key, count)?;
+            return Ok(());
+        }
+        if self.adjust_by_key(key, count) {
+            return Ok(());
+        }
+        let item = key.to_item(self.map.allocator())?;
+        self.track(item, count)?;
+        Ok(())
+    }
+
+    /// Adds 1 to the weight of an item equal to each of these, in order, as [`update_ref`](Self::update_ref) does.
+    ///
+    /// # Errors
+    ///
+    /// Stops at the first item whose update fails, and returns that error of `update_ref`. The items before it stay added. That
+    /// item and the items after it are not added.
     ///
     /// # Examples
     ///
@@ -158,7 +242,7 @@ impl<T: Eq + Hash + Drop> FrequentItemsSketch<T> {
         ensures state { IsState T.eq self.new }
         ensures err { IfErr result (λ e. StopsAt T.eq self.old items.now e self.new) }
     {
-        // for the prover: a look at a field brings in what holds of every sketch
+        // Borrows a field, which brings the invariant of the sketch into the proof.
         let _ = &self.map;
         for item in items {
             self.update_ref(item)?;
@@ -166,7 +250,7 @@ impl<T: Eq + Hash + Drop> FrequentItemsSketch<T> {
         Ok(())
     }
 
-    /// Adds to the item's count, or tracks the item where it is not tracked: with one look-up, where there is room.
+    /// Adds to the item's count, or tracks the item if it is not tracked, in one look-up. Requires a free counter.
     #[inline]
     fn put(&mut self, item: T, count: u64)
         requires positive { 0 < count }
@@ -179,7 +263,28 @@ impl<T: Eq + Hash + Drop> FrequentItemsSketch<T> {
         self.total += count;
     }
 
-    /// The same with a clone of the item, where it is not tracked.
+    /// Adds to the count of the item that the key names, or tracks a new item with it, in one look-up.
+    ///
+    /// Requires a free counter. Returns `NoMemory` and changes nothing if the new item cannot be allocated.
+    #[inline]
+    fn put_by_key<K: OwnedKey<T>>(&mut self, key: K, count: u64) -> Result<(), Error>
+        requires positive { 0 < count }
+        requires fits { TotalHasRoom self.old count }
+        requires room { length self.old.counters < capacity self.old.size }
+        ensures step { OnOk result (StepsByKey T.eq self.old (K.names key) count self.new) }
+        ensures state { IsState T.eq self.new }
+        ensures err { OnErr result (self.new ≡ self.old) }
+        ensures memory { IfErr result (λ e. e ≡ no_memory) }
+        ensures succeeds { is_tracked_by_key (K.names key) self.old.counters ≡ true → IsOk result }
+    {
+        self.map.adjust_or_put_by_key(key, count)?;
+        self.total += count;
+        Ok(())
+    }
+
+    /// Adds to the item's count, or tracks a clone of the item if it is not tracked, in one look-up.
+    ///
+    /// Requires a free counter. Returns `NoMemory` and changes nothing if the clone cannot be allocated.
     #[inline]
     fn put_ref(&mut self, item: &T, count: u64) -> Result<(), Error>
     where
@@ -199,7 +304,7 @@ impl<T: Eq + Hash + Drop> FrequentItemsSketch<T> {
         Ok(())
     }
 
-    /// Adds to the item's count where it is tracked, and answers whether it is.
+    /// Adds to the item's count if it is tracked, and returns whether it is.
     fn adjust(&mut self, item: &T, count: u64) -> bool
         requires positive { 0 < count }
         requires fits { TotalHasRoom self.old count }
@@ -208,7 +313,19 @@ impl<T: Eq + Hash + Drop> FrequentItemsSketch<T> {
         ensures absent { result ≡ false → self.new ≡ self.old }
         ensures state { IsState T.eq self.new }
     {
-        if !self.map.adjust(item, count) {
+        self.adjust_by_key(item, count)
+    }
+
+    /// Adds to the count of the item that the key names if it is tracked, and returns whether it is.
+    fn adjust_by_key<K: ItemKey<T>>(&mut self, key: K, count: u64) -> bool
+        requires positive { 0 < count }
+        requires fits { TotalHasRoom self.old count }
+        ensures tracked { result ≡ is_tracked_by_key (K.names key) self.old.counters }
+        ensures present { result ≡ true → (x : T) → IsTrue (K.names key x) → Steps T.eq self.old x count self.new }
+        ensures absent { result ≡ false → self.new ≡ self.old }
+        ensures state { IsState T.eq self.new }
+    {
+        if !self.map.adjust_by_key(key, count) {
             return false;
         }
         self.total += count;
@@ -217,7 +334,7 @@ impl<T: Eq + Hash + Drop> FrequentItemsSketch<T> {
 
     /// Tracks an item that is not tracked.
     ///
-    /// It is seldom called, and not inlined: a purge's room for its sample would be on the stack of each update.
+    /// It is called rarely, and not inlined. Otherwise each update would have a purge's buffer for its sample on the stack.
     #[inline(never)]
     fn track(&mut self, item: T, count: u64) -> Result<(), Error>
         requires absent { is_tracked T.eq self.old.counters item ≡ false }
@@ -229,14 +346,14 @@ impl<T: Eq + Hash + Drop> FrequentItemsSketch<T> {
         ensures memory { IfErr result (λ e. e ≡ no_memory) }
         ensures succeeds { must_grow self.old ≡ false → IsOk result }
     {
-        // for the prover: a look at a field brings in what holds of every sketch
+        // Borrows a field, which brings the invariant of the sketch into the proof.
         let _ = &self.map;
         self.make_room()?;
         self.insert(item, count);
         Ok(())
     }
 
-    /// Doubles the table where it must grow for one more counter.
+    /// Doubles the table if it must grow for one more counter.
     fn make_room(&mut self) -> Result<(), Error>
         ensures ok { OnOk result (MakesRoom self.old self.new) }
         ensures state { IsState T.eq self.new }
@@ -255,7 +372,7 @@ impl<T: Eq + Hash + Drop> FrequentItemsSketch<T> {
         Ok(())
     }
 
-    /// Inserts an item that is not tracked, and purges where that was one counter too many.
+    /// Inserts an item that is not tracked, and purges if there is then one counter too many.
     fn insert(&mut self, item: T, count: u64)
         requires absent { is_tracked T.eq self.old.counters item ≡ false }
         requires positive { 0 < count }

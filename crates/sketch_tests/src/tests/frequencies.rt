@@ -1,6 +1,7 @@
 //! Worked examples. `tests/program/sessions.py` tests the numbers of sketches, bounds of items, errors, purges and
 //! merges, as lines of the program.
 mod batches;
+mod by_key;
 mod images;
 mod reports;
 mod tables;

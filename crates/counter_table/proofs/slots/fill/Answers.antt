@@ -3,5 +3,5 @@ use borrow.Author.Rules.{scaled_Fits}
 use Rattle.counter_table.proofs.slots.fill.Goals as goal
 
 -- the slice has room
-pub offset_bounds-slots-place : goal.offset_bounds-slots-place
-offset_bounds-slots-place g c = scaled_Fits c.args.place (length c.args.slots.now) _ c.requires.place (search)
+pub offset_bounds-slots-index : goal.offset_bounds-slots-index
+offset_bounds-slots-index g c = scaled_Fits c.args.index (length c.args.slots.now) _ c.requires.index (search)

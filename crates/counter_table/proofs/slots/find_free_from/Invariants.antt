@@ -4,14 +4,14 @@ use Rattle.counter_table.specs.Slots.{is_taken}
 use Rattle.counter_table.proofs.LookupHomes.{Stands}
 use Rattle.counter_table.proofs.slots.find_free_from.Given as goal
 
--- the places so far are taken
+-- the indices so far are taken
 abbrev pub invariant-probe : goal.invariant-probe
 invariant-probe g l =
     let h = home_in g.T.Hash.hash_input (length l.slots) l._item in
     record {
-      stands : Stands g.T.Hash.hash_input l._item (length l.slots) l.place l.looked;
-      taken : (j : ℕ) → j < l.looked → is_taken l.slots (ahead (length l.slots) h j) ≡ true;
+      stands : Stands g.T.Hash.hash_input l._item (length l.slots) l.index l.probed;
+      taken : (j : ℕ) → j < l.probed → is_taken l.slots (ahead (length l.slots) h j) ≡ true;
     }
 
 abbrev pub decreases-probe : goal.decreases-probe
-decreases-probe g l = length l.slots - l.looked
+decreases-probe g l = length l.slots - l.probed

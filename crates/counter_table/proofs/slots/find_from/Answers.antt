@@ -8,38 +8,38 @@ use Rattle.counter_table.proofs.slots.find_from.Goals as goal
 
 pub probe-init : goal.probe-init
 probe-init g c = record {
-  stands = stands_first g.T.Hash.hash_input c.args.item.now _ c.requires.size _ (home_is g.T.Hash.hash_input c.args.item.now _ c.args.hash _ c.requires.hash c.home-place.ensures);
-  passed = IsPassed-none _ _ _ _;
+  stands = stands_first g.K.Hash.hash_input c.args.key _ c.requires.size _ (home_is g.K.Hash.hash_input c.args.key _ c.args.hash _ c.requires.hash c.home-index.ensures);
+  passed = IsPassed-none _ _ _;
 }
 
-pub look_at-seen-requires-clause-place : goal.look_at-seen-requires-clause-place
-look_at-seen-requires-clause-place g c = rw c.requires.fingerprints.long (stands_within g.T.Hash.hash_input c.args.item.now _ c.requires.size c.probe.place c.probe.looked c.probe.invariant.stands)
+pub probe_at-seen-requires-clause-index : goal.probe_at-seen-requires-clause-index
+probe_at-seen-requires-clause-index g c = rw c.requires.fingerprints.long (stands_within g.K.Hash.hash_input c.args.key _ c.requires.size c.probe.index c.probe.probed c.probe.invariant.stands)
 
-pub count_at-found-requires-clause-place : goal.count_at-found-requires-clause-place
-count_at-found-requires-clause-place g c = stands_within g.T.Hash.hash_input c.args.item.now _ c.requires.size c.probe.place c.probe.looked c.probe.invariant.stands
+pub count_at-found-requires-clause-index : goal.count_at-found-requires-clause-index
+count_at-found-requires-clause-index g c = stands_within g.K.Hash.hash_input c.args.key _ c.requires.size c.probe.index c.probe.probed c.probe.invariant.stands
 
 pub returns-then-seen-eq-FREE : goal.returns-then-seen-eq-FREE
 returns-then-seen-eq-FREE g c =
-    IsProbe-free c.probe.invariant.passed c.probe.invariant.stands.below c.probe.place c.look_at-seen.new.looked c.probe.invariant.stands.at_place c.look_at-seen.ensures.counted (seen_free c.requires.fingerprints c.probe.place c.look_at-seen.result c.look_at-seen.ensures.value c.if-seen-eq-FREE.true)
+    IsProbe-free c.probe.invariant.passed c.probe.invariant.stands.below c.probe.index c.probe_at-seen.new.probed c.probe.invariant.stands.at_index c.probe_at-seen.ensures.counted (seen_free c.requires.fingerprints c.probe.index c.probe_at-seen.result c.probe_at-seen.ensures.value c.if-seen-eq-FREE.true)
 
 pub returns-then-is_some : goal.returns-then-is_some
 returns-then-is_some g c =
-    IsProbe-found c.probe.invariant.passed c.probe.invariant.stands.below c.probe.place c.look_at-seen.new.looked c.count_at-found.result c.probe.invariant.stands.at_place c.look_at-seen.ensures.counted c.count_at-found.ensures (sym c.is_some.ensures ∙ c.if-is_some.true)
+    IsProbe-found c.probe.invariant.passed c.probe.invariant.stands.below c.probe.index c.probe_at-seen.new.probed c.count_at-found.result c.probe.invariant.stands.at_index c.probe_at-seen.ensures.counted c.count_at-found.ensures (sym c.is_some.ensures ∙ c.if-is_some.true)
 
 pub probe-preserved : goal.probe-preserved
 probe-preserved g c =
     let slots = c.args.slots.now in
     let n = length slots in
-    let some = seen_taken c.requires.fingerprints c.probe.place c.look_at-seen.result c.look_at-seen.ensures.value c.if-seen-eq-FREE.false in
-    let more = IsPassed-on c.probe.invariant.passed c.probe.place c.count_at-found.result c.probe.invariant.stands.at_place some c.count_at-found.ensures (sym c.is_some.ensures ∙ c.if-is_some.false) in
-    let below = IsPassed-below (home_of-below (fed_bytes g.T.Hash.hash_input c.args.item.now) n (some_size n c.requires.size)) (free_from_few slots c.requires.room) more in
-    rw (c.look_at-seen.ensures.counted) (record {
-      stands = stands_next g.T.Hash.hash_input c.args.item.now n c.requires.size c.probe.place c.next-place.result c.probe.looked c.probe.invariant.stands c.next-place.ensures below;
+    let some = seen_taken c.requires.fingerprints c.probe.index c.probe_at-seen.result c.probe_at-seen.ensures.value c.if-seen-eq-FREE.false in
+    let more = IsPassed-on c.probe.invariant.passed c.probe.index c.count_at-found.result c.probe.invariant.stands.at_index some c.count_at-found.ensures (sym c.is_some.ensures ∙ c.if-is_some.false) in
+    let below = IsPassed-below (home_of-below (fed_bytes g.K.Hash.hash_input c.args.key) n (some_size n c.requires.size)) (free_from_few slots c.requires.room) more in
+    rw (c.probe_at-seen.ensures.counted) (record {
+      stands = stands_next g.K.Hash.hash_input c.args.key n c.requires.size c.probe.index c.next-index.result c.probe.probed c.probe.invariant.stands c.next-index.ensures below;
       passed = more;
     })
 
-pub next-place-requires-clause-place : goal.next-place-requires-clause-place
-next-place-requires-clause-place g c = stands_within g.T.Hash.hash_input c.args.item.now _ c.requires.size c.probe.place c.probe.looked c.probe.invariant.stands
+pub next-index-requires-clause-index : goal.next-index-requires-clause-index
+next-index-requires-clause-index g c = stands_within g.K.Hash.hash_input c.args.key _ c.requires.size c.probe.index c.probe.probed c.probe.invariant.stands
 
 pub count_at-found-requires-clause-fingerprints : goal.count_at-found-requires-clause-fingerprints
 count_at-found-requires-clause-fingerprints g c = c.requires.fingerprints

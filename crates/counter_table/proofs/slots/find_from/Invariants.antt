@@ -4,13 +4,13 @@ use Rattle.counter_table.specs.Probes.{IsPassed}
 use Rattle.counter_table.proofs.LookupHomes.{Stands}
 use Rattle.counter_table.proofs.slots.find_from.Given as goal
 
--- the places so far hold other items
+-- the indices so far hold items that are not named
 abbrev pub invariant-probe : goal.invariant-probe
 invariant-probe g l =
     record {
-      stands : Stands g.T.Hash.hash_input l.item (length l.slots) l.place l.looked;
-      passed : IsPassed g.T.PartialEq.eq (home_in g.T.Hash.hash_input (length l.slots) l.item) l.slots l.item l.looked;
+      stands : Stands g.K.Hash.hash_input l.key (length l.slots) l.index l.probed;
+      passed : IsPassed (g.K.ItemKey.names l.key) (home_in g.K.Hash.hash_input (length l.slots) l.key) l.slots l.probed;
     }
 
 abbrev pub decreases-probe : goal.decreases-probe
-decreases-probe g l = length l.slots - l.looked
+decreases-probe g l = length l.slots - l.probed

@@ -7,27 +7,27 @@ use Rattle.counter_table.proofs.slots.last_free.Goals as goal
 
 -- where the slot at p is taken, a free one from there down is below p
 free_below : {T : Type 0} (slots : List (Slot T)) (p : ℕ) → is_taken slots p ≡ true → (f : ℕ) × (f ≤ p) × (is_taken slots f ≡ false) → (f : ℕ) × (f < p) × (is_taken slots f ≡ false)
-free_below slots p there gap = elim (cases_eq gap.0 p) [
-  | inl e ↦ absurd (both_ways _ (ap (is_taken slots) (sym e) ∙ gap.2) there)
-  | inr n ↦ (gap.0, omega (arith, gap.1), gap.2)
+free_below slots p there free_slot = elim (cases_eq free_slot.0 p) [
+  | inl e ↦ absurd (both_ways _ (ap (is_taken slots) (sym e) ∙ free_slot.2) there)
+  | inr n ↦ (free_slot.0, omega (arith, free_slot.1), free_slot.2)
 ]
 
-pub loop-place-init : goal.loop-place-init
-loop-place-init g c =
+pub loop-index-init : goal.loop-index-init
+loop-index-init g c =
     let f = free_from_few c.args.slots.now c.requires in
-    record { below = omega (arith, c.requires); gap = (f.place, omega (arith, f.below), f.free) }
+    record { below = omega (arith, c.requires); free_slot = (f.index, omega (arith, f.below), f.free) }
 
-pub loop-place-preserved : goal.loop-place-preserved
-loop-place-preserved g c =
-    let f = free_below _ _ (not-false _ (sym c.is_free.ensures ∙ c.loop-place-test.true)) c.loop-place.invariant.gap in
-    record { below = omega (arith, c.loop-place.invariant.below); gap = (f.0, omega (arith, f.1), f.2) }
+pub loop-index-preserved : goal.loop-index-preserved
+loop-index-preserved g c =
+    let f = free_below _ _ (not-false _ (sym c.is_free.ensures ∙ c.loop-index-test.true)) c.loop-index.invariant.free_slot in
+    record { below = omega (arith, c.loop-index.invariant.below); free_slot = (f.0, omega (arith, f.1), f.2) }
 
-pub loop-place-smaller : goal.loop-place-smaller
-loop-place-smaller g c =
-    let f = free_below _ _ (not-false _ (sym c.is_free.ensures ∙ c.loop-place-test.true)) c.loop-place.invariant.gap in
+pub loop-index-smaller : goal.loop-index-smaller
+loop-index-smaller g c =
+    let f = free_below _ _ (not-false _ (sym c.is_free.ensures ∙ c.loop-index-test.true)) c.loop-index.invariant.free_slot in
     omega (arith, f.1)
 
-pub overflow_sub-place-in-loop-place : goal.overflow_sub-place-in-loop-place
-overflow_sub-place-in-loop-place g c =
-    let f = free_below _ _ (not-false _ (sym c.is_free.ensures ∙ c.loop-place-test.true)) c.loop-place.invariant.gap in
+pub overflow_sub-index-in-loop-index : goal.overflow_sub-index-in-loop-index
+overflow_sub-index-in-loop-index g c =
+    let f = free_below _ _ (not-false _ (sym c.is_free.ensures ∙ c.loop-index-test.true)) c.loop-index.invariant.free_slot in
     omega (arith, f.1)

@@ -1,5 +1,5 @@
 use Rattle.std.proofs.Common.{arith, length}
-use Rattle.counter_table.proofs.PurgeSweeps.{sweep_starts, turn_place, sweep_turn, turn_drift, sweep_ends, sweep_few}
+use Rattle.counter_table.proofs.PurgeSweeps.{sweep_starts, turn_index, sweep_turn, turn_drift, sweep_ends, sweep_few}
 use Rattle.counter_table.proofs.slots.lower.Goals as goal
 use Rattle.counter_table.proofs.slots.lower.Goals.{then-settle, else-settle}
 
@@ -9,17 +9,17 @@ loop-on-init g c = record {
   fingerprints_ok = c.requires.fingerprints;
 }
 
-pub settle-requires-clause-place : goal.settle-requires-clause-place
-settle-requires-clause-place g c =
+pub settle-requires-clause-index : goal.settle-requires-clause-index
+settle-requires-clause-index g c =
     let w = c.loop-on.invariant.sweep in
-    let at = turn_place (length c.args.slots.now) c.last_free-free.result c.loop-on.on c.after-place.result w.below c.loop-on-test.true c.after-place.ensures in
+    let at = turn_index (length c.args.slots.now) c.last_free-free.result c.loop-on.on c.after-index.result w.below c.loop-on-test.true c.after-index.ensures in
     omega (arith, at.0, w.long)
 
 pub settle-requires-clause-drift : goal.settle-requires-clause-drift
 settle-requires-clause-drift g c =
     let w = c.loop-on.invariant.sweep in
-    let at = turn_place (length c.args.slots.now) c.last_free-free.result c.loop-on.on c.after-place.result w.below c.loop-on-test.true c.after-place.ensures in
-    turn_drift g.met.T.Eq.laws g.T.Hash.hash_input c.args.amount c.args.slots.now c.loop-on.slots c.last_free-free.result c.loop-on.on c.loop-on.removed c.after-place.result c.requires.slots w at.0 at.1
+    let at = turn_index (length c.args.slots.now) c.last_free-free.result c.loop-on.on c.after-index.result w.below c.loop-on-test.true c.after-index.ensures in
+    turn_drift g.met.T.Eq.laws g.T.Hash.hash_input c.args.amount c.args.slots.now c.loop-on.slots c.last_free-free.result c.loop-on.on c.loop-on.removed c.after-index.result c.requires.slots w at.0 at.1
 
 pub overflow_add-removed : goal.overflow_add-removed
 overflow_add-removed g c = omega (arith, sweep_few c.loop-on.invariant.sweep, c.requires.slots.room, c.requires.slots.size.limit)
@@ -27,8 +27,8 @@ overflow_add-removed g c = omega (arith, sweep_few c.loop-on.invariant.sweep, c.
 pub loop-on-preserved : goal.loop-on-preserved
 loop-on-preserved g c =
     let w = c.loop-on.invariant.sweep in
-    let at = turn_place (length c.args.slots.now) c.last_free-free.result c.loop-on.on c.after-place.result w.below c.loop-on-test.true c.after-place.ensures in
-    let turn = sweep_turn g.met.T.Eq.laws g.T.Hash.hash_input c.args.amount c.args.slots.now c.loop-on.slots c.last_free-free.result c.loop-on.on c.loop-on.removed c.after-place.result c.requires.slots w at.0 at.1 c.settle.result c.settle.new.slots c.settle.ensures.slots in
+    let at = turn_index (length c.args.slots.now) c.last_free-free.result c.loop-on.on c.after-index.result w.below c.loop-on-test.true c.after-index.ensures in
+    let turn = sweep_turn g.met.T.Eq.laws g.T.Hash.hash_input c.args.amount c.args.slots.now c.loop-on.slots c.last_free-free.result c.loop-on.on c.loop-on.removed c.after-index.result c.requires.slots w at.0 at.1 c.settle.result c.settle.new.slots c.settle.ensures.slots in
     elim c.if-settle.branch [
       | then-settle v ↦ rw v.removed-is (record { sweep = turn.0 v.if-settle.true; fingerprints_ok = c.settle.ensures.fingerprints })
       | else-settle v ↦ rw v.removed-is (record { sweep = turn.1 v.if-settle.false; fingerprints_ok = c.settle.ensures.fingerprints })

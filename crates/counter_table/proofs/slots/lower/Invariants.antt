@@ -2,7 +2,7 @@ use Rattle.counter_table.specs.Fingerprints.{AreFingerprints}
 use Rattle.counter_table.proofs.PurgeSweeps.{Sweep}
 use Rattle.counter_table.proofs.slots.lower.Given as goal
 
--- the places before this one are settled
+-- the indices before this one are settled
 abbrev pub invariant-loop-on : goal.invariant-loop-on
 invariant-loop-on g l = record {
   sweep : Sweep g.T.PartialEq.eq g.T.Hash.hash_input l.amount l.fn.slots l.slots l.free l.on l.removed;

@@ -1,12 +1,12 @@
 use Rattle.std.proofs.Common.{ap, sym, ◌∙◌, subst, is_some, length, ℕ}
 use Rattle.std.proofs.lemmas.Bool.{false≢true}
-use Rattle.counter_table.specs.Probes.{IsGap}
+use Rattle.counter_table.specs.Probes.{IsFreeSlot}
 use Rattle.counter_table.specs.Fingerprints.{fingerprint_of}
 use Rattle.counter_table.specs.declared.slot.Slot.TheVariants.{Taken}
 use Rattle.counter_table.proofs.LookupFingerprints.{fingerprints_set, fingerprints_found, hash_alike}
 use Rattle.counter_table.proofs.LookupHomes.{some_size, home_of-below}
-use Rattle.counter_table.proofs.LookupProbes.{answers, fits_from_probe, gap_from_probe, probe_below}
-use Rattle.counter_table.proofs.InsertionWrites.{Wrote, wrote_found, wrote_gap, tracked_alike, home_alike}
+use Rattle.counter_table.proofs.LookupProbes.{answers, fits_from_probe, free_slot_from_probe, probe_below}
+use Rattle.counter_table.proofs.InsertionWrites.{Wrote, wrote_found, wrote_free_slot, tracked_alike, home_alike}
 use Rattle.counter_table.proofs.slots.put_clone_in.Given as given
 use Rattle.counter_table.proofs.slots.put_clone_in.Goals as goal
 
@@ -15,8 +15,8 @@ add_at-requires-clause-fits g c =
     let a = answers g.met.T.Eq.laws g.met.T.Hash.respects_eq c.args.slots.now c.requires.slots c.args.item.now _ _ _ c.find_from-probe.ensures in
     fits_from_probe c.find_from-probe.ensures c.in-Some.is a.looked_up c.args.amount c.requires.fits
 
-pub fill-requires-clause-place : goal.fill-requires-clause-place
-fill-requires-clause-place g c = probe_below (home_of-below _ (length c.args.slots.now) (some_size _ c.requires.slots.size)) c.find_from-probe.ensures
+pub fill-requires-clause-index : goal.fill-requires-clause-index
+fill-requires-clause-index g c = probe_below (home_of-below _ (length c.args.slots.now) (some_size _ c.requires.slots.size)) c.find_from-probe.ensures
 
 pub returns-in_err-clone-in-None-clause-succeeds : goal.returns-in_err-clone-in-None-clause-succeeds
 returns-in_err-clone-in-None-clause-succeeds g c = λ there.
@@ -48,8 +48,8 @@ wrote_clone g c =
     let y = c.in_ok-clone-in-None.clone in
     let same = c.requires.clones x y c.in_ok-clone-in-None.ensures.cases in
     let absent = ap is_some (a.looked_up ∙ c.in-None.is) in
-    let gap = subst (λ (h : ℕ). IsGap h slots c.find_from-probe.result.place c.find_from-probe.result.looked) (home_alike g.met.T.Hash.respects_eq (length slots) x y same) (gap_from_probe c.in-None.is c.find_from-probe.ensures) in
-    wrote_gap g.met.T.Eq.laws g.T.Hash.hash_input slots c.requires.slots y c.args.amount c.find_from-probe.result.place c.find_from-probe.result.looked (tracked_alike g.met.T.Eq.laws _ x y same ∙ absent) (c.requires.room absent) gap c.fill.new.slots c.fill.ensures.slots
+    let free_slot = subst (λ (h : ℕ). IsFreeSlot h slots c.find_from-probe.result.index c.find_from-probe.result.probed) (home_alike g.met.T.Hash.respects_eq (length slots) x y same) (free_slot_from_probe c.in-None.is c.find_from-probe.ensures) in
+    wrote_free_slot g.met.T.Eq.laws g.T.Hash.hash_input slots c.requires.slots y c.args.amount c.find_from-probe.result.index c.find_from-probe.result.probed (tracked_alike g.met.T.Eq.laws _ x y same ∙ absent) (c.requires.room absent) free_slot c.fill.new.slots c.fill.ensures.slots
 
 pub returns-in_ok-clone-in-None-clause-slots : goal.returns-in_ok-clone-in-None-clause-slots
 returns-in_ok-clone-in-None-clause-slots g c = (wrote_clone g c).slots_ok
@@ -71,10 +71,10 @@ returns-in_ok-clone-in-None-clause-fingerprints g c =
     let same = c.requires.clones x y c.in_ok-clone-in-None.ensures.cases in
     let alike = hash_alike g.T.Hash.hash_input g.met.T.Hash.respects_eq x y same in
     let below = probe_below (home_of-below _ (length c.args.slots.now) (some_size _ c.requires.slots.size)) c.find_from-probe.ensures in
-    fingerprints_set c.requires.fingerprints c.find_from-probe.result.place (Taken c.find_from-probe.result.looked c.args.amount y) c.fingerprint.result c.fill.new.slots c.fill.new.fingerprints below (c.fingerprint.ensures ∙ ap fingerprint_of (c.hash_of-hash.ensures ∙ alike)) c.fill.ensures.slots c.fill.ensures.fingerprints
+    fingerprints_set c.requires.fingerprints c.find_from-probe.result.index (Taken c.find_from-probe.result.probed c.args.amount y) c.fingerprint.result c.fill.new.slots c.fill.new.fingerprints below (c.fingerprint.ensures ∙ ap fingerprint_of (c.hash_of-hash.ensures ∙ alike)) c.fill.ensures.slots c.fill.ensures.fingerprints
 
-pub add_at-requires-clause-place : goal.add_at-requires-clause-place
-add_at-requires-clause-place g c = probe_below (home_of-below _ (length c.args.slots.now) (some_size _ c.requires.slots.size)) c.find_from-probe.ensures
+pub add_at-requires-clause-index : goal.add_at-requires-clause-index
+add_at-requires-clause-index g c = probe_below (home_of-below _ (length c.args.slots.now) (some_size _ c.requires.slots.size)) c.find_from-probe.ensures
 
 pub find_from-probe-requires-clause-fingerprints : goal.find_from-probe-requires-clause-fingerprints
 find_from-probe-requires-clause-fingerprints g c = c.requires.fingerprints

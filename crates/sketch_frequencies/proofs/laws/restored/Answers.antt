@@ -6,7 +6,7 @@ use Rattle.sketch_base.specs.Errors.{ErrorValue}
 use Rattle.sketch_base.specs.declared.fault.Fault.{Fault}
 use Rattle.sketch_frequencies.specs.Image.{IsImageOf, IsImageWritingRefusal, first_fault}
 use Rattle.sketch_frequencies.specs.Items.{Codec}
-use Rattle.sketch_frequencies.specs.State.{FrequentState, greatest_sample_size}
+use Rattle.sketch_frequencies.specs.State.{FrequentState, max_sample_size}
 use Rattle.sketch_frequencies.specs.Steps.{HoldsSame}
 use Rattle.sketch_frequencies.proofs.Images.{one_sketch}
 use Rattle.sketch_frequencies.proofs.RoundTrips.{spelled_is_image}
@@ -19,8 +19,8 @@ same_sketch codec content eq alike laws image s (Ok sketch) was is = one_sketch 
 same_sketch codec content eq alike laws image s (Err e) was is = is
 
 -- the copy has the usual sample size of the same greatest size
-usual_copy : {T E : Type 0} (eq : T → T → Bool) (s : FrequentState T) (r : Result (FrequentState T) E) → IfOk r (λ copy. HoldsSame eq s copy) → IfOk r (λ copy. copy.sample_size ≡ greatest_sample_size copy.max_size) → IfOk r (λ copy. copy.sample_size ≡ greatest_sample_size s.max_size)
-usual_copy eq s (Ok copy) same usual = usual ∙ ap (λ (n : ℕ). greatest_sample_size n) same.max_size
+usual_copy : {T E : Type 0} (eq : T → T → Bool) (s : FrequentState T) (r : Result (FrequentState T) E) → IfOk r (λ copy. HoldsSame eq s copy) → IfOk r (λ copy. copy.sample_size ≡ max_sample_size copy.max_size) → IfOk r (λ copy. copy.sample_size ≡ max_sample_size s.max_size)
+usual_copy eq s (Ok copy) same usual = usual ∙ ap (λ (n : ℕ). max_sample_size n) same.max_size
 usual_copy eq s (Err e) same usual = usual
 
 -- no check fails, so that only memory can be refused

@@ -5,7 +5,7 @@ use Rattle.counter_table.proofs.InsertionCounts.{lent_whole}
 use Rattle.counter_table.proofs.reverse_purge_item_hash_map.ReversePurgeItemHashMap.get_counted.Goals as goal
 
 -- what the look-up answers of the map
-answered : (g : given.Over) (c : goal.After-unwrap_or g) → Answers g.T.PartialEq.eq g.T.Hash.hash_input c.args.self.now c.args.item.now c.find-probe.result.found c.find-probe.result.looked
+answered : (g : given.Over) (c : goal.After-unwrap_or g) → Answers g.T.PartialEq.eq g.T.Hash.hash_input c.args.self.now c.args.item.now c.find-probe.result.found c.find-probe.result.probed
 answered g c = answers_lent g.met.T.Eq.laws g.met.T.Hash.respects_eq c.self.inside.slots.items c.deref.result.now c.self.invariant.slots_ok c.args.self.now c.self.view_is c.deref.ensures.value c.args.item.now _ _ _ c.find-probe.ensures
 
 pub returns-clause-count : goal.returns-clause-count
@@ -17,8 +17,8 @@ returns-clause-absent g c = (answered g c).absent
 pub returns-clause-present : goal.returns-clause-present
 returns-clause-present g c = (answered g c).present
 
-pub returns-clause-looked : goal.returns-clause-looked
-returns-clause-looked g c = (answered g c).few
+pub returns-clause-probed : goal.returns-clause-probed
+returns-clause-probed g c = (answered g c).few
 
 pub returns-clause-within : goal.returns-clause-within
 returns-clause-within g c = (answered g c).within

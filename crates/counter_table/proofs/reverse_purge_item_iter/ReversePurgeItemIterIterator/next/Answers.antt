@@ -1,6 +1,6 @@
 use Rattle.std.proofs.Common.{ap, sym, ◌∙◌, arith, length, refl}
 use Rattle.std.proofs.lemmas.List.{append-nil, nil_from_length}
-use Rattle.counter_table.proofs.WalkSteps.{place_within, progress}
+use Rattle.counter_table.proofs.WalkSteps.{index_within, progress}
 use Rattle.counter_table.proofs.WalkSlots.{more_left, slot_stepped}
 use Rattle.counter_table.proofs.LookupHomes.{some_size}
 use Rattle.counter_table.proofs.reverse_purge_item_iter.ReversePurgeItemIterIterator.next.Goals as goal
@@ -8,17 +8,17 @@ use Rattle.counter_table.proofs.reverse_purge_item_iter.ReversePurgeItemIterIter
 pub invariant_of-self : goal.invariant_of-self
 invariant_of-self g c =
     let i = c.walk.invariant in
-    let more = more_left c.self.inside.slots.now c.walk.self-inside.stride c.walk.self-inside.looked c.walk.self-inside.left _ i.rest i.left i.some in
-    let step = slot_stepped _ _ _ _ c.look.result.now i.cursor more c.look.ensures.value in
+    let more = more_left c.self.inside.slots.now c.walk.self-inside.stride c.walk.self-inside.probed c.walk.self-inside.left _ i.rest i.left i.some in
+    let step = slot_stepped _ _ _ _ c.read_slot.result.now i.cursor more c.read_slot.ensures.value in
     let one = ap length (sym i.rest ∙ (rw c.in-Taken.is at step.rest)) in
-    rw (i.same, c.look.ensures.counted) (step.cursor, omega (arith, one, i.left))
+    rw (i.same, c.read_slot.ensures.counted) (step.cursor, omega (arith, one, i.left))
 
 pub returns-in-Taken-clause-steps : goal.returns-in-Taken-clause-steps
 returns-in-Taken-clause-steps g c =
     let i = c.walk.invariant in
-    let more = more_left c.self.inside.slots.now c.walk.self-inside.stride c.walk.self-inside.looked c.walk.self-inside.left _ i.rest i.left i.some in
-    let step = slot_stepped _ _ _ _ c.look.result.now i.cursor more c.look.ensures.value in
-    rw (i.same, c.look.ensures.counted) (sym i.rest ∙ (rw c.in-Taken.is at step.rest), rw (← i.given) (rw c.in-Taken.is at step.given), i.size, omega (arith, i.looked))
+    let more = more_left c.self.inside.slots.now c.walk.self-inside.stride c.walk.self-inside.probed c.walk.self-inside.left _ i.rest i.left i.some in
+    let step = slot_stepped _ _ _ _ c.read_slot.result.now i.cursor more c.read_slot.ensures.value in
+    rw (i.same, c.read_slot.ensures.counted) (sym i.rest ∙ (rw c.in-Taken.is at step.rest), rw (← i.given) (rw c.in-Taken.is at step.given), i.size, omega (arith, i.probed))
 
 pub returns-in-Taken-clause-goes : goal.returns-in-Taken-clause-goes
 returns-in-Taken-clause-goes g c = progress (λ walk. walk.rest) _ _ _ _ (returns-in-Taken-clause-steps g c).0
@@ -26,9 +26,9 @@ returns-in-Taken-clause-goes g c = progress (λ walk. walk.rest) _ _ _ _ (return
 pub walk-preserved : goal.walk-preserved
 walk-preserved g c =
     let i = c.walk.invariant in
-    let more = more_left c.self.inside.slots.now c.walk.self-inside.stride c.walk.self-inside.looked c.walk.self-inside.left _ i.rest i.left i.some in
-    let step = slot_stepped _ _ _ _ c.look.result.now i.cursor more c.look.ensures.value in
-    rw c.look.ensures.counted (record {
+    let more = more_left c.self.inside.slots.now c.walk.self-inside.stride c.walk.self-inside.probed c.walk.self-inside.left _ i.rest i.left i.some in
+    let step = slot_stepped _ _ _ _ c.read_slot.result.now i.cursor more c.read_slot.ensures.value in
+    rw c.read_slot.ensures.counted (record {
       cursor = step.cursor;
       same = i.same;
       given = rw c.in_default.is at step.given ∙ append-nil _ ∙ i.given;
@@ -36,19 +36,19 @@ walk-preserved g c =
       left = i.left;
       some = i.some;
       size = i.size;
-      looked = omega (arith, i.looked);
+      probed = omega (arith, i.probed);
     })
 
-pub look-requires-clause-place : goal.look-requires-clause-place
-look-requires-clause-place g c =
+pub read_slot-requires-clause-index : goal.read_slot-requires-clause-index
+read_slot-requires-clause-index g c =
     let i = c.walk.invariant in
-    let more = more_left c.self.inside.slots.now c.walk.self-inside.stride c.walk.self-inside.looked c.walk.self-inside.left _ i.rest i.left i.some in
-    place_within (length c.self.inside.slots.now) c.walk.self-inside.stride c.walk.self-inside.looked c.walk.self-inside.place i.cursor more
+    let more = more_left c.self.inside.slots.now c.walk.self-inside.stride c.walk.self-inside.probed c.walk.self-inside.left _ i.rest i.left i.some in
+    index_within (length c.self.inside.slots.now) c.walk.self-inside.stride c.walk.self-inside.probed c.walk.self-inside.index i.cursor more
 
-pub look-requires-clause-looked : goal.look-requires-clause-looked
-look-requires-clause-looked g c =
+pub read_slot-requires-clause-probed : goal.read_slot-requires-clause-probed
+read_slot-requires-clause-probed g c =
     let i = c.walk.invariant in
-    let more = more_left c.self.inside.slots.now c.walk.self-inside.stride c.walk.self-inside.looked c.walk.self-inside.left _ i.rest i.left i.some in
+    let more = more_left c.self.inside.slots.now c.walk.self-inside.stride c.walk.self-inside.probed c.walk.self-inside.left _ i.rest i.left i.some in
     omega (arith, more, i.cursor.size_ok.limit)
 
 pub walk-init : goal.walk-init
@@ -62,14 +62,14 @@ walk-init g c =
       left = c.self.invariant.1 ∙ ap (λ walk. length walk.rest) view;
       some = omega (arith, c.if-self-eq0.false);
       size = ap (λ walk. walk.size) view;
-      looked = omega (arith, ap (λ walk. walk.looked) view);
+      probed = omega (arith, ap (λ walk. walk.probed) view);
     }
 
 pub walk-smaller : goal.walk-smaller
 walk-smaller g c =
     let i = c.walk.invariant in
-    let more = more_left c.self.inside.slots.now c.walk.self-inside.stride c.walk.self-inside.looked c.walk.self-inside.left _ i.rest i.left i.some in
-    omega (arith, more, c.look.ensures.counted)
+    let more = more_left c.self.inside.slots.now c.walk.self-inside.stride c.walk.self-inside.probed c.walk.self-inside.left _ i.rest i.left i.some in
+    omega (arith, more, c.read_slot.ensures.counted)
 
 pub overflow_sub-self : goal.overflow_sub-self
 overflow_sub-self g c = some_size _ c.walk.invariant.cursor.size_ok
@@ -77,8 +77,8 @@ overflow_sub-self g c = some_size _ c.walk.invariant.cursor.size_ok
 pub overflow_add-self : goal.overflow_add-self
 overflow_add-self g c =
     let i = c.walk.invariant in
-    let more = more_left c.self.inside.slots.now c.walk.self-inside.stride c.walk.self-inside.looked c.walk.self-inside.left _ i.rest i.left i.some in
-    omega (arith, place_within _ _ _ _ i.cursor more, i.cursor.size_ok.limit, i.cursor.stride_small)
+    let more = more_left c.self.inside.slots.now c.walk.self-inside.stride c.walk.self-inside.probed c.walk.self-inside.left _ i.rest i.left i.some in
+    omega (arith, index_within _ _ _ _ i.cursor more, i.cursor.size_ok.limit, i.cursor.stride_small)
 
 pub overflow_sub-self-in-Taken : goal.overflow_sub-self-in-Taken
 overflow_sub-self-in-Taken g c = c.walk.invariant.some

@@ -19,7 +19,7 @@ pub invariant_of-result : goal.invariant_of-result
 invariant_of-result g c =
     let size = c.table_size-max_size.ensures in
     let h = c.in_ok-header.ensures in
-    rw c.in_ok-map.ensures.ok (restored_empty g.T.PartialEq.eq c.in_ok-header.header.lg_max c.table_size-max_size.result _ (omega (arith, h.least, h.within)) size.value size.limit size.power c.greatest_sample_of-sample_size.ensures)
+    rw c.in_ok-map.ensures.ok (restored_empty g.T.PartialEq.eq c.in_ok-header.header.lg_max c.table_size-max_size.result _ (omega (arith, h.least, h.within)) size.value size.limit size.power c.max_sample_of-sample_size.ensures)
 
 pub returns-then-header-clause-state : goal.returns-then-header-clause-state
 returns-then-header-clause-state g c = invariant_of-result g c
@@ -29,12 +29,12 @@ returns-then-header-clause-image g c =
     let size = c.table_size-max_size.ensures in
     let h = c.in_ok-header.ensures in
     let m = c.table_size-max_size.result in
-    let n = c.greatest_sample_of-sample_size.result in
-    let state = restored_empty g.T.PartialEq.eq c.in_ok-header.header.lg_max m n (omega (arith, h.least, h.within)) size.value size.limit size.power c.greatest_sample_of-sample_size.ensures in
+    let n = c.max_sample_of-sample_size.result in
+    let state = restored_empty g.T.PartialEq.eq c.in_ok-header.header.lg_max m n (omega (arith, h.least, h.within)) size.value size.limit size.power c.max_sample_of-sample_size.ensures in
     rw c.in_ok-map.ensures.ok (image_of_none g.T.FrequentItemValue.codec g.T.FrequentItemValue.content g.T.PartialEq.eq g.met.T.FrequentItemValue.alike c.args.image.now m n state h.checks (sym h.fields.is_empty ∙ c.if-header.true) (size.value ∙ ap (λ (n : ℕ). 2 ^ n) h.fields.lg_max))
 
 pub returns-then-header-clause-stands : goal.returns-then-header-clause-stands
-returns-then-header-clause-stands g c = λ old was h stands. restores g.T.FrequentItemValue.codec g.T.FrequentItemValue.content g.T.PartialEq.eq g.met.T.FrequentItemValue.alike g.met.T.Eq.laws c.args.image.now _ (returns-then-header-clause-image g c) c.greatest_sample_of-sample_size.ensures old was h stands
+returns-then-header-clause-stands g c = λ old was h stands. restores g.T.FrequentItemValue.codec g.T.FrequentItemValue.content g.T.PartialEq.eq g.met.T.FrequentItemValue.alike g.met.T.Eq.laws c.args.image.now _ (returns-then-header-clause-image g c) c.max_sample_of-sample_size.ensures old was h stands
 
 pub returns-then-header-clause-budget : goal.returns-then-header-clause-budget
 returns-then-header-clause-budget g c = λ old was h stands keeps. restores_budget g.T.FrequentItemValue.codec g.T.FrequentItemValue.content g.T.PartialEq.eq g.met.T.FrequentItemValue.alike g.met.T.Eq.laws c.args.image.now _ (returns-then-header-clause-image g c) old was h stands keeps
@@ -49,7 +49,7 @@ invariant_of-result-2 g c =
     let h = c.in_ok-header.ensures in
     let n = c.in_ok-numbers.ensures in
     let image = c.args.image.now in
-    let s : FrequentState g.row.T.Denot = record { counters = c.in_ok-map-2.map.entries; error = c.in_ok-numbers.numbers.error; total = c.in_ok-numbers.numbers.total; max_size = c.table_size-max_size.result; size = c.in_ok-map-2.map.size; sample_size = c.greatest_sample_of-sample_size.result } in
+    let s : FrequentState g.row.T.Denot = record { counters = c.in_ok-map-2.map.entries; error = c.in_ok-numbers.numbers.error; total = c.in_ok-numbers.numbers.total; max_size = c.table_size-max_size.result; size = c.in_ok-map-2.map.size; sample_size = c.max_sample_of-sample_size.result } in
     let least : 2 ^ 3 ≤ 2 ^ c.in_ok-header.header.lg_cur = pow_mono h.least in
     let below : 2 ^ c.in_ok-header.header.lg_cur ≤ 2 ^ c.in_ok-header.header.lg_max = pow_mono h.within in
     let size = c.in_ok-map-2.ensures.size ∙ c.table_size-size.ensures.value in
@@ -62,7 +62,7 @@ invariant_of-result-2 g c =
     (rw c.in_ok-map-2.ensures.size c.table_size-size.ensures.power)
     c.table_size-max_size.ensures.power
     n.some
-    (subst (λ (k : ℕ). IsSampleSize c.table_size-max_size.result k) (sym c.greatest_sample_of-sample_size.ensures) (usual_sample c.table_size-max_size.result (omega (arith, least, below, c.table_size-max_size.ensures.value)) c.table_size-max_size.ensures.power))
+    (subst (λ (k : ℕ). IsSampleSize c.table_size-max_size.result k) (sym c.max_sample_of-sample_size.ensures) (usual_sample c.table_size-max_size.result (omega (arith, least, below, c.table_size-max_size.ensures.value)) c.table_size-max_size.ensures.power))
 
 pub returns-clause-state : goal.returns-clause-state
 returns-clause-state g c = invariant_of-result-2 g c
@@ -71,13 +71,13 @@ pub returns-clause-image : goal.returns-clause-image
 returns-clause-image g c =
     let h = c.in_ok-header.ensures in
     let n = c.in_ok-numbers.ensures in
-    let s : FrequentState g.row.T.Denot = record { counters = c.in_ok-map-2.map.entries; error = c.in_ok-numbers.numbers.error; total = c.in_ok-numbers.numbers.total; max_size = c.table_size-max_size.result; size = c.in_ok-map-2.map.size; sample_size = c.greatest_sample_of-sample_size.result } in
+    let s : FrequentState g.row.T.Denot = record { counters = c.in_ok-map-2.map.entries; error = c.in_ok-numbers.numbers.error; total = c.in_ok-numbers.numbers.total; max_size = c.table_size-max_size.result; size = c.in_ok-map-2.map.size; sample_size = c.max_sample_of-sample_size.result } in
     image_of_counters g.T.FrequentItemValue.codec g.T.FrequentItemValue.content g.T.PartialEq.eq g.met.T.FrequentItemValue.alike c.args.image.now s (invariant_of-result-2 g c) c.in_ok-map-2.ensures.counters h.checks (sym h.fields.is_empty ∙ c.if-header.false) n.checks c.in_ok-check_weights.ensures.checks n.fields.error n.fields.total
     (c.table_size-max_size.ensures.value ∙ ap (λ (k : ℕ). 2 ^ k) h.fields.lg_max)
     (c.in_ok-map-2.ensures.size ∙ c.table_size-size.ensures.value ∙ ap (λ (k : ℕ). 2 ^ k) h.fields.lg_cur)
 
 pub returns-clause-stands : goal.returns-clause-stands
-returns-clause-stands g c = λ old was h stands. restores g.T.FrequentItemValue.codec g.T.FrequentItemValue.content g.T.PartialEq.eq g.met.T.FrequentItemValue.alike g.met.T.Eq.laws c.args.image.now _ (returns-clause-image g c) c.greatest_sample_of-sample_size.ensures old was h stands
+returns-clause-stands g c = λ old was h stands. restores g.T.FrequentItemValue.codec g.T.FrequentItemValue.content g.T.PartialEq.eq g.met.T.FrequentItemValue.alike g.met.T.Eq.laws c.args.image.now _ (returns-clause-image g c) c.max_sample_of-sample_size.ensures old was h stands
 
 pub returns-clause-budget : goal.returns-clause-budget
 returns-clause-budget g c = λ old was h stands keeps. restores_budget g.T.FrequentItemValue.codec g.T.FrequentItemValue.content g.T.PartialEq.eq g.met.T.FrequentItemValue.alike g.met.T.Eq.laws c.args.image.now _ (returns-clause-image g c) old was h stands keeps
@@ -85,62 +85,62 @@ returns-clause-budget g c = λ old was h stands keeps. restores_budget g.T.Frequ
 pub returns-in_err-header : goal.returns-in_err-header
 returns-in_err-header g c =
     let p = err_from_is_err_and c.from_residual.result c.from_residual.ensures.1 in
-    rw (p.1, p.2) (record { image = tt; state = tt; sample = tt; stands = tt; budget = tt; within = tt; accepted = λ ok. absurd cc; err = early_refused _ c.args.most_bytes g.T.FrequentItemValue.codec c.args.image.now _ (c.in_err-header.ensures.err.0, first_of _ _ c.in_err-header.ensures.err.1) })
+    rw (p.1, p.2) (record { image = tt; state = tt; sample = tt; stands = tt; budget = tt; within = tt; accepted = λ ok. absurd cc; err = early_refused _ c.args.max_bytes g.T.FrequentItemValue.codec c.args.image.now _ (c.in_err-header.ensures.err.0, first_of _ _ c.in_err-header.ensures.err.1) })
 
 pub returns-in_err-check_limit : goal.returns-in_err-check_limit
 returns-in_err-check_limit g c =
     let p = err_from_is_err_and c.from_residual-in_err-check_limit.result c.from_residual-in_err-check_limit.ensures.1 in
     let empty = sym c.in_ok-header.ensures.fields.is_empty ∙ c.if-header.true in
-    rw (p.1, p.2) (record { image = tt; state = tt; sample = tt; stands = tt; budget = tt; within = tt; accepted = λ ok. absurd cc; err = limit_refused _ c.args.most_bytes g.T.FrequentItemValue.codec c.args.image.now _ (none_of_empty c.args.image.now c.in_ok-header.ensures.checks empty) (size_of_empty c.args.image.now empty) (room_of_empty c.args.image.now empty) c.in_err-check_limit.ensures.err })
+    rw (p.1, p.2) (record { image = tt; state = tt; sample = tt; stands = tt; budget = tt; within = tt; accepted = λ ok. absurd cc; err = limit_refused _ c.args.max_bytes g.T.FrequentItemValue.codec c.args.image.now _ (none_of_empty c.args.image.now c.in_ok-header.ensures.checks empty) (size_of_empty c.args.image.now empty) (room_of_empty c.args.image.now empty) c.in_err-check_limit.ensures.err })
 
 pub returns-in_err-map : goal.returns-in_err-map
 returns-in_err-map g c =
     let p = err_from_is_err_and c.from_residual-in_err-map.result c.from_residual-in_err-map.ensures.1 in
     let empty = sym c.in_ok-header.ensures.fields.is_empty ∙ c.if-header.true in
-    rw (p.1, p.2) (record { image = tt; state = tt; sample = tt; stands = tt; budget = tt; within = tt; accepted = λ ok. absurd cc; err = memory_refused _ c.args.most_bytes g.T.FrequentItemValue.codec c.args.image.now _ (none_of_empty c.args.image.now c.in_ok-header.ensures.checks empty) (is_within _ c.args.most_bytes g.T.FrequentItemValue.codec c.args.image.now (size_of_empty c.args.image.now empty) (room_of_empty c.args.image.now empty) c.in_ok-check_limit.ensures.within) c.in_err-map.ensures.err })
+    rw (p.1, p.2) (record { image = tt; state = tt; sample = tt; stands = tt; budget = tt; within = tt; accepted = λ ok. absurd cc; err = memory_refused _ c.args.max_bytes g.T.FrequentItemValue.codec c.args.image.now _ (none_of_empty c.args.image.now c.in_ok-header.ensures.checks empty) (is_within _ c.args.max_bytes g.T.FrequentItemValue.codec c.args.image.now (size_of_empty c.args.image.now empty) (room_of_empty c.args.image.now empty) c.in_ok-check_limit.ensures.within) c.in_err-map.ensures.err })
 
 pub returns-in_err-numbers : goal.returns-in_err-numbers
 returns-in_err-numbers g c =
     let p = err_from_is_err_and c.from_residual-in_err-numbers.result c.from_residual-in_err-numbers.ensures.1 in
     let full = sym c.in_ok-header.ensures.fields.is_empty ∙ c.if-header.false in
-    rw (p.1, p.2) (record { image = tt; state = tt; sample = tt; stands = tt; budget = tt; within = tt; accepted = λ ok. absurd cc; err = early_refused _ c.args.most_bytes g.T.FrequentItemValue.codec c.args.image.now _ (c.in_err-numbers.ensures.err.0, counts_of_full c.args.image.now c.in_ok-header.ensures.checks full c.in_err-numbers.ensures.err.1) })
+    rw (p.1, p.2) (record { image = tt; state = tt; sample = tt; stands = tt; budget = tt; within = tt; accepted = λ ok. absurd cc; err = early_refused _ c.args.max_bytes g.T.FrequentItemValue.codec c.args.image.now _ (c.in_err-numbers.ensures.err.0, counts_of_full c.args.image.now c.in_ok-header.ensures.checks full c.in_err-numbers.ensures.err.1) })
 
 pub returns-in_err-check_limit-2 : goal.returns-in_err-check_limit-2
 returns-in_err-check_limit-2 g c =
     let p = err_from_is_err_and c.from_residual-in_err-check_limit-2.result c.from_residual-in_err-check_limit-2.ensures.1 in
     let full = sym c.in_ok-header.ensures.fields.is_empty ∙ c.if-header.false in
-    rw (p.1, p.2) (record { image = tt; state = tt; sample = tt; stands = tt; budget = tt; within = tt; accepted = λ ok. absurd cc; err = limit_refused _ c.args.most_bytes g.T.FrequentItemValue.codec c.args.image.now _ (counts_of_full c.args.image.now c.in_ok-header.ensures.checks full c.in_ok-numbers.ensures.checks) (size_of_full c.args.image.now full (c.table_size-size.ensures.value ∙ ap (λ (k : ℕ). 2 ^ k) c.in_ok-header.ensures.fields.lg_cur)) (room_of_full c.args.image.now full c.in_ok-numbers.ensures.fields.active refl) c.in_err-check_limit-2.ensures.err })
+    rw (p.1, p.2) (record { image = tt; state = tt; sample = tt; stands = tt; budget = tt; within = tt; accepted = λ ok. absurd cc; err = limit_refused _ c.args.max_bytes g.T.FrequentItemValue.codec c.args.image.now _ (counts_of_full c.args.image.now c.in_ok-header.ensures.checks full c.in_ok-numbers.ensures.checks) (size_of_full c.args.image.now full (c.table_size-size.ensures.value ∙ ap (λ (k : ℕ). 2 ^ k) c.in_ok-header.ensures.fields.lg_cur)) (room_of_full c.args.image.now full c.in_ok-numbers.ensures.fields.active refl) c.in_err-check_limit-2.ensures.err })
 
 pub returns-in_err-check_weights : goal.returns-in_err-check_weights
 returns-in_err-check_weights g c =
     let p = err_from_is_err_and c.from_residual-in_err-check_weights.result c.from_residual-in_err-check_weights.ensures.1 in
     let full = sym c.in_ok-header.ensures.fields.is_empty ∙ c.if-header.false in
-    rw (p.1, p.2) (record { image = tt; state = tt; sample = tt; stands = tt; budget = tt; within = tt; accepted = λ ok. absurd cc; err = weights_refused _ c.args.most_bytes g.T.FrequentItemValue.codec c.args.image.now _ (counts_of_full c.args.image.now c.in_ok-header.ensures.checks full c.in_ok-numbers.ensures.checks) (is_within _ c.args.most_bytes g.T.FrequentItemValue.codec c.args.image.now (size_of_full c.args.image.now full (c.table_size-size.ensures.value ∙ ap (λ (k : ℕ). 2 ^ k) c.in_ok-header.ensures.fields.lg_cur)) (room_of_full c.args.image.now full c.in_ok-numbers.ensures.fields.active refl) c.in_ok-check_limit-2.ensures.within) full c.in_err-check_weights.ensures.err })
+    rw (p.1, p.2) (record { image = tt; state = tt; sample = tt; stands = tt; budget = tt; within = tt; accepted = λ ok. absurd cc; err = weights_refused _ c.args.max_bytes g.T.FrequentItemValue.codec c.args.image.now _ (counts_of_full c.args.image.now c.in_ok-header.ensures.checks full c.in_ok-numbers.ensures.checks) (is_within _ c.args.max_bytes g.T.FrequentItemValue.codec c.args.image.now (size_of_full c.args.image.now full (c.table_size-size.ensures.value ∙ ap (λ (k : ℕ). 2 ^ k) c.in_ok-header.ensures.fields.lg_cur)) (room_of_full c.args.image.now full c.in_ok-numbers.ensures.fields.active refl) c.in_ok-check_limit-2.ensures.within) full c.in_err-check_weights.ensures.err })
 
 pub returns-in_err-map-2 : goal.returns-in_err-map-2
 returns-in_err-map-2 g c =
     let p = err_from_is_err_and c.from_residual-in_err-map-2.result c.from_residual-in_err-map-2.ensures.1 in
     let full = sym c.in_ok-header.ensures.fields.is_empty ∙ c.if-header.false in
-    rw (p.1, p.2) (record { image = tt; state = tt; sample = tt; stands = tt; budget = tt; within = tt; accepted = λ ok. absurd cc; err = items_refused _ c.args.most_bytes g.T.FrequentItemValue.codec c.args.image.now _ (counts_of_full c.args.image.now c.in_ok-header.ensures.checks full c.in_ok-numbers.ensures.checks) (is_within _ c.args.most_bytes g.T.FrequentItemValue.codec c.args.image.now (size_of_full c.args.image.now full (c.table_size-size.ensures.value ∙ ap (λ (k : ℕ). 2 ^ k) c.in_ok-header.ensures.fields.lg_cur)) (room_of_full c.args.image.now full c.in_ok-numbers.ensures.fields.active refl) c.in_ok-check_limit-2.ensures.within) full c.in_ok-check_weights.ensures.checks c.in_err-map-2.ensures.err })
+    rw (p.1, p.2) (record { image = tt; state = tt; sample = tt; stands = tt; budget = tt; within = tt; accepted = λ ok. absurd cc; err = items_refused _ c.args.max_bytes g.T.FrequentItemValue.codec c.args.image.now _ (counts_of_full c.args.image.now c.in_ok-header.ensures.checks full c.in_ok-numbers.ensures.checks) (is_within _ c.args.max_bytes g.T.FrequentItemValue.codec c.args.image.now (size_of_full c.args.image.now full (c.table_size-size.ensures.value ∙ ap (λ (k : ℕ). 2 ^ k) c.in_ok-header.ensures.fields.lg_cur)) (room_of_full c.args.image.now full c.in_ok-numbers.ensures.fields.active refl) c.in_ok-check_limit-2.ensures.within) full c.in_ok-check_weights.ensures.checks c.in_err-map-2.ensures.err })
 
 pub returns-then-header-clause-sample : goal.returns-then-header-clause-sample
-returns-then-header-clause-sample g c = c.greatest_sample_of-sample_size.ensures
+returns-then-header-clause-sample g c = c.max_sample_of-sample_size.ensures
 
 pub returns-clause-sample : goal.returns-clause-sample
-returns-clause-sample g c = c.greatest_sample_of-sample_size.ensures
+returns-clause-sample g c = c.max_sample_of-sample_size.ensures
 
 pub returns-then-header-clause-accepted : goal.returns-then-header-clause-accepted
 returns-then-header-clause-accepted g c = λ _.
     let empty = sym c.in_ok-header.ensures.fields.is_empty ∙ c.if-header.true in
-    is_within _ c.args.most_bytes g.T.FrequentItemValue.codec c.args.image.now (size_of_empty c.args.image.now empty) (room_of_empty c.args.image.now empty) c.in_ok-check_limit.ensures.within
+    is_within _ c.args.max_bytes g.T.FrequentItemValue.codec c.args.image.now (size_of_empty c.args.image.now empty) (room_of_empty c.args.image.now empty) c.in_ok-check_limit.ensures.within
 
 pub returns-clause-accepted : goal.returns-clause-accepted
 returns-clause-accepted g c = λ _.
     let full = sym c.in_ok-header.ensures.fields.is_empty ∙ c.if-header.false in
-    is_within _ c.args.most_bytes g.T.FrequentItemValue.codec c.args.image.now (size_of_full c.args.image.now full (c.table_size-size.ensures.value ∙ ap (λ (k : ℕ). 2 ^ k) c.in_ok-header.ensures.fields.lg_cur)) (room_of_full c.args.image.now full c.in_ok-numbers.ensures.fields.active refl) c.in_ok-check_limit-2.ensures.within
+    is_within _ c.args.max_bytes g.T.FrequentItemValue.codec c.args.image.now (size_of_full c.args.image.now full (c.table_size-size.ensures.value ∙ ap (λ (k : ℕ). 2 ^ k) c.in_ok-header.ensures.fields.lg_cur)) (room_of_full c.args.image.now full c.in_ok-numbers.ensures.fields.active refl) c.in_ok-check_limit-2.ensures.within
 
 pub returns-then-header-clause-within : goal.returns-then-header-clause-within
-returns-then-header-clause-within g c = rw c.in_ok-map.ensures.ok (memory_le _ 0 (max_owned g.T.FrequentItemValue.codec 0) c.args.most_bytes (omega arith) c.in_ok-check_limit.ensures.within)
+returns-then-header-clause-within g c = rw c.in_ok-map.ensures.ok (memory_le _ 0 (max_owned g.T.FrequentItemValue.codec 0) c.args.max_bytes (omega arith) c.in_ok-check_limit.ensures.within)
 
 pub returns-clause-within : goal.returns-clause-within
-returns-clause-within g c = rw c.in_ok-map-2.ensures.size (memory_le _ _ _ c.args.most_bytes c.in_ok-map-2.ensures.owned c.in_ok-check_limit-2.ensures.within)
+returns-clause-within g c = rw c.in_ok-map-2.ensures.size (memory_le _ _ _ c.args.max_bytes c.in_ok-map-2.ensures.owned c.in_ok-check_limit-2.ensures.within)

@@ -8,5 +8,5 @@ use Rattle.sketch_frequencies.proofs.frequent_items_sketch.FrequentItemsSketch.n
 pub returns-clause-refused : goal.returns-clause-refused
 returns-clause-refused g c =
     let m = c.args.max_map_size in
-    let usual = ap (λ (n : ℕ). sizes_fault m n) c.greatest_sample_of.ensures ∙ usual_fault m in
+    let usual = ap (λ (n : ℕ). sizes_fault m n) c.max_sample_of.ensures ∙ usual_fault m in
     subst (λ fault. IfErr c.with_sample_size.result (λ e. e ≡ refusal_of fault)) usual c.with_sample_size.ensures.refused
