@@ -1,4 +1,4 @@
-"""Times the heaviest words of a text: this package beside mawk, Python's Counter and an exact counter in Rust.
+"""Times the heaviest words and lines of a text: this package beside mawk, Python's Counter and an exact counter in Rust.
 
     /usr/bin/python3 bench/words.py BUILT
 
@@ -41,6 +41,20 @@ with open(sys.argv[1], "rb") as file, mmap.mmap(file.fileno(), 0, access=mmap.AC
 print(words.total_weight, words.rows(no_false="positives")[:5])
 """
 
+BY_FILE = """
+import sys, datasketches_rattle as ds
+words = ds.FrequentItemsSketch.from_file(sys.argv[1], progress=False)
+print(words.total_weight, words.top(5, no_false="positives"))
+"""
+
+LINES = """
+import mmap, sys, datasketches_rattle as ds
+lines = ds.FrequentItemsSketch(4096, item=str)
+with open(sys.argv[1], "rb") as file, mmap.mmap(file.fileno(), 0, access=mmap.ACCESS_READ) as text:
+    lines.update_lines(text)
+print(lines.total_weight, lines.top(5, no_false="positives"))
+"""
+
 MAWK = "{ for (i = 1; i <= NF; i++) count[$i]++ } END { for (word in count) n += count[word]; print n }"
 
 
@@ -80,21 +94,26 @@ def main():
     python = "/usr/bin/python3"
     rows = [
         ("update_words of an mmap, 4096 slots", [python, "-c", BY_WORDS, TEXT]),
+        ("from_file, 4096 slots", [python, "-c", BY_FILE, TEXT]),
         ("update of split lines, 4096 slots", [python, "-c", BY_LINES, TEXT]),
         ("heavy.py --words --workers 4", [python, f"{TOP}/bindings/dask/heavy.py", "--words", TEXT, "--workers", "4", "--json"]),
         ("exact, Rust", [counter, TEXT]),
         ("exact, Python's Counter", [python, "-c", COUNTER, TEXT]),
         ("exact, mawk", ["mawk", MAWK, TEXT]),
+        ("update_lines of an mmap, 4096 slots, a line", [python, "-c", LINES, TEXT]),
     ]
     words = int(subprocess.run([counter, TEXT], capture_output=True, text=True, check=True).stdout.split()[0])
-    print(f"{os.path.getsize(TEXT)} bytes, {words} words\n\n| what | seconds | ns a word |\n|---|---|---|")
+    with open(TEXT, "rb") as text:
+        lines = text.read().count(b"\n")
+    print(f"{os.path.getsize(TEXT)} bytes, {words} words, {lines} lines\n\n| what | seconds | ns a word |\n|---|---|---|")
     for name, command in rows:
         seconds = []
         for _ in range(3):
             began = time.monotonic()
             subprocess.run(command, env=env, check=True, stdout=subprocess.DEVNULL)
             seconds.append(time.monotonic() - began)
-        print(f"| {name} | {min(seconds):.2f} | {min(seconds) / words * 1e9:.0f} |", flush=True)
+        count = lines if name.endswith("a line") else words
+        print(f"| {name} | {min(seconds):.2f} | {min(seconds) / count * 1e9:.0f} |", flush=True)
 
 
 main()

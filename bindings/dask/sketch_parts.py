@@ -22,11 +22,17 @@ from typing import Any, BinaryIO, Callable, Iterable, Iterator, NamedTuple, Sequ
 
 import datasketches_rattle as ds
 
+try:
+    import numpy
+except ImportError:  # then Python's csv reads all columns
+    numpy = None
+
 BLOCK = 1 << 20
 LONGEST_LINE = 1 << 24
 PACKED_STEP = 512  # this number of bytes of a .gz or .zst unpacks to at most some 16 MiB
 MAX_WINDOW = 1 << 27  # the maximum memory to unpack a file; `xz -9` and `zstd -19` need less
 NUMBER = re.compile(r"\s*[+-]?0*[0-9]{1,20}\s*", re.ASCII)
+BLANK_LINES = re.compile(rb"(?:\A|(?<=\n))(?:\r?\n)+")
 OF_PROCESS = re.compile(r"/dev/(stdin|stdout|stderr|fd/.*)|/proc/.*")
 
 
@@ -200,14 +206,15 @@ def batches(part: Part, least: int = 0, most: int = 2**64 - 1) -> Iterator[Batch
     Raises `BadInput` if the file is not the one that was cut, before the first batch and after the last one.
     """
     for at, data in blocks(part):
-        if part.words:
-            yield Batch(words_of(text_of(part.path, at, data)), None, [])
-            continue
-        lines = lines_of(part.path, at, data)
-        if part.columns is None:
-            yield Batch(lines, None, lines)
-        else:
-            yield columns_of(part, part.columns, at, data, lines, least, most)
+        yield batch_of(part, at, data, least, most)
+
+
+def batch_of(part: Part, at: int, data: bytes, least: int, most: int) -> Batch:
+    """Returns the items of a block that begins at byte `at`."""
+    if part.words:
+        return Batch(words_of(text_of(part.path, at, data)), None, [])
+    lines = lines_of(part.path, at, data)
+    return Batch(lines, None, lines) if part.columns is None else columns_of(part, part.columns, at, data, lines, least, most)
 
 
 def blocks(part: Part) -> Iterator[tuple[int, bytes]]:
@@ -270,6 +277,41 @@ def lines_of(path: str, at: int, data: bytes) -> list[str]:
     """Returns the lines of a block that are not blank."""
     text = text_of(path, at, data).replace("\r\n", "\n").removesuffix("\r")
     return [line for line in text.split("\n") if line]
+
+
+def full_lines(data: bytes) -> bytes:
+    """Returns a block without its blank lines, and without CR at the end of a last line without LF."""
+    data = data.removesuffix(b"\r")
+    if data.startswith((b"\n", b"\r\n")) or b"\n\n" in data or b"\n\r\n" in data:
+        data = BLANK_LINES.sub(b"", data)
+    return data
+
+
+def column_lines(columns: Columns, data: bytes) -> bytes | None:
+    """Returns the fields of a column without weights as lines. Returns None if the block needs Python's csv: for its quotes, or
+    for the error of a row."""
+    data = full_lines(data).replace(b"\r\n", b"\n")
+    delimiter = columns.delimiter.encode()
+    if numpy is None or columns.weight is not None or len(delimiter) != 1 or delimiter in b'"\r\n' or not data:
+        return None
+    if any(byte in data for byte in (b'"', b"\r", b"\0")):
+        return None
+    block = numpy.frombuffer(data + b"\n" * (not data.endswith(b"\n")), numpy.uint8)
+    ends = numpy.flatnonzero(block == ord("\n"))
+    starts = numpy.concatenate(([0], ends[:-1] + 1))
+    breaks = numpy.flatnonzero((block == ord("\n")) | (block == ord(delimiter)))  # the ends of all fields
+    first = numpy.searchsorted(breaks, starts)
+    last = numpy.searchsorted(breaks, ends)
+    if (ends - starts).max() > csv.field_size_limit() or (last - first).min() < columns.item:
+        return None
+    field_ends = breaks[first + columns.item]
+    field_starts = starts if columns.item == 0 else breaks[first + columns.item - 1] + 1
+    kept = numpy.zeros(len(block) + 1, numpy.int8)
+    kept[field_starts] += 1
+    kept[field_ends] -= 1
+    inside = numpy.cumsum(kept[:-1], dtype=numpy.int8).astype(bool)
+    inside[ends] = True
+    return block[inside].tobytes()
 
 
 def words_of(text: str) -> list[str]:
@@ -359,14 +401,8 @@ class Heavy:
     def add(self, sketch: ds.FrequentItemsSketch, batch: Batch) -> None:
         sketch.update(batch.items, 1 if batch.weights is None else batch.weights)
 
-    def add_words(self, sketch: ds.FrequentItemsSketch, path: str, at: int, data: bytes) -> None:
-        """Adds the words of a block that begins at byte `at` of a file."""
-        try:
-            sketch.update_words(data)
-        except ds.SketchError as error:
-            if error.fault == "InvalidUtf8":
-                text_of(path, at, data)
-            raise
+    def add_text(self, sketch: ds.FrequentItemsSketch, text: bytes, words: bool) -> None:
+        (sketch.update_words if words else sketch.update_lines)(text)
 
     def join(self, sketch: ds.FrequentItemsSketch, other: ds.FrequentItemsSketch) -> None:
         sketch += other
@@ -397,6 +433,9 @@ class Traffic:
     def add(self, sketch: ds.CountMinSketch, batch: Batch) -> None:
         sketch.update(batch.items, 1 if batch.weights is None else batch.weights)
 
+    def add_text(self, sketch: ds.CountMinSketch, text: bytes, words: bool) -> None:
+        (sketch.update_words if words else sketch.update_lines)(text)
+
     def join(self, sketch: ds.CountMinSketch, other: ds.CountMinSketch) -> None:
         sketch += other
 
@@ -418,6 +457,9 @@ class Seen:
     def add(self, sketch: ds.BloomFilter, batch: Batch) -> None:
         sketch.insert(batch.items)
 
+    def add_text(self, sketch: ds.BloomFilter, text: bytes, words: bool) -> None:
+        (sketch.insert_words if words else sketch.insert_lines)(text)
+
     def join(self, sketch: ds.BloomFilter, other: ds.BloomFilter) -> None:
         sketch |= other
 
@@ -426,14 +468,21 @@ Shape = Heavy | Traffic | Seen
 
 
 def sketch_part(shape: Shape, part: Part) -> bytes:
-    """Returns the image of a sketch of a part's items."""
+    """Returns the image of a sketch of a part's items. The sketch splits words and lines itself."""
     sketch = shape.empty()
-    if part.words and isinstance(shape, Heavy):
-        for at, data in blocks(part):
-            shape.add_words(sketch, part.path, at, data)
-        return bytes(sketch)
-    for batch in batches(part, shape.least, shape.most):
-        shape.add(sketch, batch)
+    for at, data in blocks(part):
+        if part.columns is not None:
+            text_of(part.path, at, data)  # the other columns are UTF-8 too
+        text = data if part.words else full_lines(data) if part.columns is None else column_lines(part.columns, data)
+        if text is None:
+            shape.add(sketch, batch_of(part, at, data, shape.least, shape.most))
+            continue
+        try:
+            shape.add_text(sketch, text, part.words)
+        except ds.SketchError as error:
+            if error.fault == "InvalidUtf8":
+                text_of(part.path, at, data)
+            raise
     return bytes(sketch)
 
 
@@ -447,7 +496,14 @@ def merge_images(shape: Shape, images: list[bytes]) -> bytes:
 
 def count_part(part: Part) -> int:
     """Returns the number of a part's items."""
-    return sum(len(batch.items) for batch in batches(part))
+    if part.words or part.columns is not None:
+        return sum(len(batch.items) for batch in batches(part))
+    count = 0
+    for at, data in blocks(part):
+        text_of(part.path, at, data)
+        lines = full_lines(data)
+        count += lines.count(b"\n") + (lines != b"" and not lines.endswith(b"\n"))
+    return count
 
 
 def filter_part(shape: Seen, image: bytes, part: Part, target: str | None) -> tuple[int, int]:

@@ -17,7 +17,7 @@ if [ $# -lt 2 ]; then
         exit 1
     }
 fi
-cp "$here"/datasketches_rattle/{__init__.py,__init__.pyi,py.typed} "$out/datasketches_rattle/"
+cp "$here"/datasketches_rattle/{*.py,*.pyi,py.typed} "$out/datasketches_rattle/"
 suffix="$("$python" -c 'import sysconfig; print(sysconfig.get_config_var("EXT_SUFFIX"))')"
 include="$("$python" -c 'import sysconfig; print(sysconfig.get_path("include"))')"
 # shellcheck disable=SC2086

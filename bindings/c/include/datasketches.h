@@ -8,8 +8,10 @@
  * A string is bytes and their number, without an end mark. It must be valid UTF-8.
  *
  * Many strings are one buffer of bytes with offsets, as in Arrow's `large_utf8`. String i is the bytes from offset i up to
- * offset i + 1, so n strings have n + 1 offsets. The first offset may be above 0. Widen offsets of 32 bits first, and pass
- * offsets in `int64_t` by a cast of the pointer. The library keeps neither bytes nor offsets.
+ * offset i + 1, so n strings have n + 1 offsets. The first offset may be above 0. Pass offsets in `int64_t` by a cast of the
+ * pointer. The calls whose names end in `_pairs` take the same strings as an array of `ds_string`: a pointer and a length each.
+ * `ds_strings_from_utf8` makes it from offsets of 32 bits, and from strings some of which are null. The library keeps neither
+ * bytes nor offsets nor pairs.
  *
  * A call returns the first error in this order:
  *
@@ -27,16 +29,17 @@
  *  1. A handle is created as `DS_NONE`, is changed by these calls alone, and is not copied. What it holds belongs to the
  *     library: `ds_free` frees it, and so does a call that puts another sketch into the handle.
  *  2. Pointers are not null, are aligned for their type, and point to as many values as their count says. A caller may read
- *     these values, and write them where there is no `const`. No two arguments of a call overlap.
+ *     these values, and write them where there is no `const`. No two arguments of a call overlap. The strings of pairs may
+ *     overlap one another, but not the array of pairs or another argument. The pointer of an empty string is not null either.
  *  3. One call at a time uses a handle. Another thread may use it later if a lock, a thread's start or a join lies between.
  *     Two threads may use two handles at once.
  *  4. No call is made from a signal handler, or by the child of a `fork` that was made while a call ran.
  *  5. The program has one `malloc`, `realloc` and `free`, which the library calls.
  *  6. A `bool` that the library reads is 0 or 1.
  *
- * This header checks two parts of rule 2, at next to no cost. The same handle twice, or a null pointer with a count above 0,
- * returns DS_BAD_ARGUMENT. A null pointer with the count 0 means no values. These checks are macros of the calls' names:
- * `(ds_bloom_union)(a, b)`, in brackets, is the call without them.
+ * This header checks parts of rule 2, at next to no cost. The same handle twice, a null pointer with a count above 0, or a null
+ * pointer in a pair returns DS_BAD_ARGUMENT. A null pointer with the count 0 means no values. These checks are macros of the
+ * calls' names: `(ds_bloom_union)(a, b)`, in brackets, is the call without them.
  */
 #ifndef DATASKETCHES_H
 #define DATASKETCHES_H
@@ -57,6 +60,12 @@ typedef struct ds_sketch {
 /* The handle of no sketch: `ds_sketch filter = DS_NONE;` */
 #define DS_NONE {0}
 
+/* A string as a pair. The pointer is not null, even if the length is 0. */
+typedef struct ds_string {
+    const uint8_t *bytes;
+    size_t length;
+} ds_string;
+
 /* The results of calls, beside the errors of sketches. */
 enum {
     DS_OK = 0,             /* the call was done */
@@ -66,7 +75,7 @@ enum {
     DS_WRONG_KIND = -2,    /* the sketch is of a kind without this call */
     DS_NO_ROOM = -3,       /* a buffer of the caller has not the length that the call needs */
     DS_BAD_FRACTION = -4,  /* a fraction is not above 0 and at most 1 */
-    DS_BAD_ARGUMENT = -5,  /* from this header alone: the same handle twice, or null with a count above 0 */
+    DS_BAD_ARGUMENT = -5,  /* from this header alone: the same handle twice, null with a count above 0, or null in a pair */
     DS_BAD_OFFSETS = -6    /* there is no offset, one is below the one before it, or one passes the end of the bytes */
 };
 
@@ -137,7 +146,7 @@ static inline const char *ds_result_message(int32_t result)
     case DS_WRONG_KIND: return "the sketch is of another kind";
     case DS_NO_ROOM: return "the buffer has not the length that is needed";
     case DS_BAD_FRACTION: return "the fraction is not above 0 and at most 1";
-    case DS_BAD_ARGUMENT: return "the same handle twice, or null with a count above 0";
+    case DS_BAD_ARGUMENT: return "the same handle twice, or null with a count above 0 or in a pair";
     case DS_BAD_OFFSETS: return "offsets are none, or descend, or pass the end of the bytes";
     DS_SKETCH_ERRORS(DS_AS_MESSAGE)
     default: return result < 0 ? "unknown" : "ok";
@@ -184,6 +193,13 @@ int32_t ds_bloom_insert_all_i64(ds_sketch *handle, const int64_t *items, size_t 
 /* Inserts many strings, as one after another. */
 int32_t ds_bloom_insert_all_string(ds_sketch *handle, const uint8_t *bytes, size_t num_bytes, const uint64_t *offsets,
                                    size_t num_offsets);
+int32_t ds_bloom_insert_all_string_pairs(ds_sketch *handle, const ds_string *strings, size_t count);
+
+/* Inserts each word or each line of a string. A word is a longest run of bytes that are not ASCII white space (space, tab, LF, FF
+ * or CR). A line ends at LF or at the end of the string. It has neither the LF nor a CR before it. Returns DS_INVALID_UTF8 if
+ * the bytes are not UTF-8: then none is inserted. */
+int32_t ds_bloom_insert_words(ds_sketch *handle, const uint8_t *text, size_t length);
+int32_t ds_bloom_insert_lines(ds_sketch *handle, const uint8_t *text, size_t length);
 
 /* Returns DS_YES if the filter contains the item, and DS_NO otherwise. */
 int32_t ds_bloom_contains_u64(ds_sketch *handle, uint64_t item);
@@ -195,6 +211,8 @@ int32_t ds_bloom_contains_all_u64(ds_sketch *handle, const uint64_t *items, size
 int32_t ds_bloom_contains_all_i64(ds_sketch *handle, const int64_t *items, size_t count, bool *results, size_t num_results);
 int32_t ds_bloom_contains_all_string(ds_sketch *handle, const uint8_t *bytes, size_t num_bytes, const uint64_t *offsets,
                                      size_t num_offsets, bool *results, size_t num_results);
+int32_t ds_bloom_contains_all_string_pairs(ds_sketch *handle, const ds_string *strings, size_t count, bool *results,
+                                           size_t num_results);
 
 /* Adds the other filter's positions, keeps those that both have, or removes the other's. The other filter stays as it was.
  * Returns DS_MISMATCH if bits, hashes or seeds differ. */
@@ -239,6 +257,7 @@ int32_t ds_count_min_u64_update_all_u64(ds_sketch *handle, const uint64_t *items
 int32_t ds_count_min_u64_update_all_i64(ds_sketch *handle, const int64_t *items, size_t count);
 int32_t ds_count_min_u64_update_all_string(ds_sketch *handle, const uint8_t *bytes, size_t num_bytes, const uint64_t *offsets,
                                            size_t num_offsets);
+int32_t ds_count_min_u64_update_all_string_pairs(ds_sketch *handle, const ds_string *strings, size_t count);
 
 /* Adds a weight to each item's, in order. Returns DS_NO_ROOM unless there are as many weights as items. Returns
  * DS_WEIGHT_OVERFLOW if the total would exceed 2^64 - 1 with all weights: then none is added. */
@@ -249,6 +268,14 @@ int32_t ds_count_min_u64_update_all_weighted_i64(ds_sketch *handle, const int64_
 int32_t ds_count_min_u64_update_all_weighted_string(ds_sketch *handle, const uint8_t *bytes, size_t num_bytes,
                                                     const uint64_t *offsets, size_t num_offsets, const uint64_t *weights,
                                                     size_t num_weights);
+int32_t ds_count_min_u64_update_all_weighted_string_pairs(ds_sketch *handle, const ds_string *strings, size_t count,
+                                                          const uint64_t *weights, size_t num_weights);
+
+/* Adds 1 to the weight of each word or each line of a string, in order, as `ds_bloom_insert_words` and `ds_bloom_insert_lines`
+ * split it. Returns DS_INVALID_UTF8 if the bytes are not UTF-8: then none is counted. Returns DS_WEIGHT_OVERFLOW if the total
+ * would exceed 2^64 - 1: then those before the first that does not fit are counted. */
+int32_t ds_count_min_u64_update_words(ds_sketch *handle, const uint8_t *text, size_t length);
+int32_t ds_count_min_u64_update_lines(ds_sketch *handle, const uint8_t *text, size_t length);
 
 /* Writes the estimate of the item's weight: the minimum of its cells. */
 int32_t ds_count_min_u64_estimate_u64(ds_sketch *handle, uint64_t item, uint64_t *estimate);
@@ -262,6 +289,8 @@ int32_t ds_count_min_u64_estimate_all_i64(ds_sketch *handle, const int64_t *item
                                           size_t num_estimates);
 int32_t ds_count_min_u64_estimate_all_string(ds_sketch *handle, const uint8_t *bytes, size_t num_bytes, const uint64_t *offsets,
                                              size_t num_offsets, uint64_t *estimates, size_t num_estimates);
+int32_t ds_count_min_u64_estimate_all_string_pairs(ds_sketch *handle, const ds_string *strings, size_t count, uint64_t *estimates,
+                                                   size_t num_estimates);
 
 /* Writes the estimate plus a margin: e times the total over the buckets, rounded down. The sum stops at 2^64 - 1. */
 int32_t ds_count_min_u64_upper_bound_u64(ds_sketch *handle, uint64_t item, uint64_t *bound);
@@ -317,6 +346,7 @@ int32_t ds_count_min_i64_update_all_u64(ds_sketch *handle, const uint64_t *items
 int32_t ds_count_min_i64_update_all_i64(ds_sketch *handle, const int64_t *items, size_t count);
 int32_t ds_count_min_i64_update_all_string(ds_sketch *handle, const uint8_t *bytes, size_t num_bytes, const uint64_t *offsets,
                                            size_t num_offsets);
+int32_t ds_count_min_i64_update_all_string_pairs(ds_sketch *handle, const ds_string *strings, size_t count);
 int32_t ds_count_min_i64_update_all_weighted_u64(ds_sketch *handle, const uint64_t *items, size_t count, const int64_t *weights,
                                                  size_t num_weights);
 int32_t ds_count_min_i64_update_all_weighted_i64(ds_sketch *handle, const int64_t *items, size_t count, const int64_t *weights,
@@ -324,6 +354,10 @@ int32_t ds_count_min_i64_update_all_weighted_i64(ds_sketch *handle, const int64_
 int32_t ds_count_min_i64_update_all_weighted_string(ds_sketch *handle, const uint8_t *bytes, size_t num_bytes,
                                                     const uint64_t *offsets, size_t num_offsets, const int64_t *weights,
                                                     size_t num_weights);
+int32_t ds_count_min_i64_update_all_weighted_string_pairs(ds_sketch *handle, const ds_string *strings, size_t count,
+                                                          const int64_t *weights, size_t num_weights);
+int32_t ds_count_min_i64_update_words(ds_sketch *handle, const uint8_t *text, size_t length);
+int32_t ds_count_min_i64_update_lines(ds_sketch *handle, const uint8_t *text, size_t length);
 int32_t ds_count_min_i64_estimate_u64(ds_sketch *handle, uint64_t item, int64_t *estimate);
 int32_t ds_count_min_i64_estimate_i64(ds_sketch *handle, int64_t item, int64_t *estimate);
 int32_t ds_count_min_i64_estimate_string(ds_sketch *handle, const uint8_t *item, size_t length, int64_t *estimate);
@@ -333,6 +367,8 @@ int32_t ds_count_min_i64_estimate_all_i64(ds_sketch *handle, const int64_t *item
                                           size_t num_estimates);
 int32_t ds_count_min_i64_estimate_all_string(ds_sketch *handle, const uint8_t *bytes, size_t num_bytes, const uint64_t *offsets,
                                              size_t num_offsets, int64_t *estimates, size_t num_estimates);
+int32_t ds_count_min_i64_estimate_all_string_pairs(ds_sketch *handle, const ds_string *strings, size_t count, int64_t *estimates,
+                                                   size_t num_estimates);
 int32_t ds_count_min_i64_upper_bound_u64(ds_sketch *handle, uint64_t item, int64_t *bound);
 int32_t ds_count_min_i64_upper_bound_i64(ds_sketch *handle, int64_t item, int64_t *bound);
 int32_t ds_count_min_i64_upper_bound_string(ds_sketch *handle, const uint8_t *item, size_t length, int64_t *bound);
@@ -371,10 +407,11 @@ int32_t ds_frequent_items_u64_update(ds_sketch *handle, uint64_t item, uint64_t 
 int32_t ds_frequent_items_i64_update(ds_sketch *handle, int64_t item, uint64_t weight);
 int32_t ds_frequent_items_string_update(ds_sketch *handle, const uint8_t *item, size_t length, uint64_t weight);
 
-/* Adds 1 to the weight of each word of a string, in order. A word is a longest run of bytes that are not ASCII white space
- * (space, tab, LF, FF or CR). Returns DS_INVALID_UTF8 if the bytes are not UTF-8: then none is added. Returns the error of the
- * first word whose own update returns one: then the words before it are added, and no others. */
+/* Adds 1 to the weight of each word or each line of a string, in order, as `ds_bloom_insert_words` and `ds_bloom_insert_lines`
+ * split it. Returns DS_INVALID_UTF8 if the bytes are not UTF-8: then none is added. Returns the error of the first word or line
+ * whose own update returns one: then those before it are added, and no others. */
 int32_t ds_frequent_items_string_update_words(ds_sketch *handle, const uint8_t *text, size_t length);
+int32_t ds_frequent_items_string_update_lines(ds_sketch *handle, const uint8_t *text, size_t length);
 
 /* Writes the item's bounds. Does not allocate. */
 int32_t ds_frequent_items_u64_bounds(ds_sketch *handle, uint64_t item, ds_frequent_items_bounds *bounds);
@@ -388,6 +425,8 @@ int32_t ds_frequent_items_i64_bounds_all(ds_sketch *handle, const int64_t *items
                                          size_t num_bounds);
 int32_t ds_frequent_items_string_bounds_all(ds_sketch *handle, const uint8_t *bytes, size_t num_bytes, const uint64_t *offsets,
                                             size_t num_offsets, ds_frequent_items_bounds *bounds, size_t num_bounds);
+int32_t ds_frequent_items_string_bounds_all_pairs(ds_sketch *handle, const ds_string *strings, size_t count,
+                                                  ds_frequent_items_bounds *bounds, size_t num_bounds);
 
 /* Merges the other sketch into this one, which then stands for both streams. The other sketch stays as it was. Returns
  * DS_WEIGHT_OVERFLOW if the totals together exceed 2^64 - 1, and DS_NO_MEMORY. */
@@ -401,6 +440,7 @@ int32_t ds_frequent_items_u64_update_all(ds_sketch *handle, const uint64_t *item
 int32_t ds_frequent_items_i64_update_all(ds_sketch *handle, const int64_t *items, size_t count);
 int32_t ds_frequent_items_string_update_all(ds_sketch *handle, const uint8_t *bytes, size_t num_bytes, const uint64_t *offsets,
                                             size_t num_offsets);
+int32_t ds_frequent_items_string_update_all_pairs(ds_sketch *handle, const ds_string *strings, size_t count);
 
 /* Adds a weight to each item's, in order. Returns DS_NO_ROOM unless there are as many weights as items. Returns
  * DS_WEIGHT_OVERFLOW if the total would exceed 2^64 - 1 with all weights: then none is added. Returns DS_NO_MEMORY for the
@@ -412,6 +452,8 @@ int32_t ds_frequent_items_i64_update_all_weighted(ds_sketch *handle, const int64
 int32_t ds_frequent_items_string_update_all_weighted(ds_sketch *handle, const uint8_t *bytes, size_t num_bytes,
                                                      const uint64_t *offsets, size_t num_offsets, const uint64_t *weights,
                                                      size_t num_weights);
+int32_t ds_frequent_items_string_update_all_weighted_pairs(ds_sketch *handle, const ds_string *strings, size_t count,
+                                                           const uint64_t *weights, size_t num_weights);
 
 /* Removes all items and weights. `max_map_size` and `sample_size` stay as they were. */
 int32_t ds_frequent_items_u64_reset(ds_sketch *handle);
@@ -483,6 +525,15 @@ static inline void *ds_no_values(void)
     return &none;
 }
 
+/* Returns whether there are strings at null, or a string is at null. */
+static inline bool ds_have_null(const ds_string *strings, size_t count)
+{
+    bool found = false;
+    if (!strings) return count > 0;
+    for (size_t i = 0; i < count; i++) found |= !strings[i].bytes;
+    return found;
+}
+
 #define DS_CHECK_HANDLES(call) \
     static inline int32_t call##_checked(ds_sketch *handle, ds_sketch *other) \
     { \
@@ -532,6 +583,20 @@ static inline void *ds_no_values(void)
                     offsets ? offsets : (const uint64_t *)ds_no_values(), num_offsets, \
                     results ? results : (result *)ds_no_values(), num_results); \
     }
+#define DS_CHECK_PAIRS(call) \
+    static inline int32_t call##_checked(ds_sketch *handle, const ds_string *strings, size_t count) \
+    { \
+        if (ds_have_null(strings, count)) return DS_BAD_ARGUMENT; \
+        return call(handle, strings ? strings : (const ds_string *)ds_no_values(), count); \
+    }
+#define DS_CHECK_PAIRS_AND_RESULTS(call, result) \
+    static inline int32_t call##_checked(ds_sketch *handle, const ds_string *strings, size_t count, result *results, \
+                                         size_t num_results) \
+    { \
+        if (ds_have_null(strings, count) || (!results && num_results)) return DS_BAD_ARGUMENT; \
+        return call(handle, strings ? strings : (const ds_string *)ds_no_values(), count, \
+                    results ? results : (result *)ds_no_values(), num_results); \
+    }
 #define DS_CHECK_BUFFER(call) \
     static inline int32_t call##_checked(ds_sketch *handle, uint8_t *out, size_t capacity, size_t *written) \
     { \
@@ -563,10 +628,12 @@ DS_CHECK_ITEMS(ds_bloom_insert_string, uint8_t)
 DS_CHECK_ITEMS(ds_bloom_insert_all_u64, uint64_t)
 DS_CHECK_ITEMS(ds_bloom_insert_all_i64, int64_t)
 DS_CHECK_STRINGS(ds_bloom_insert_all_string)
+DS_CHECK_PAIRS(ds_bloom_insert_all_string_pairs)
 DS_CHECK_ITEMS(ds_bloom_contains_string, uint8_t)
 DS_CHECK_ITEMS_AND_RESULTS(ds_bloom_contains_all_u64, uint64_t, bool)
 DS_CHECK_ITEMS_AND_RESULTS(ds_bloom_contains_all_i64, int64_t, bool)
 DS_CHECK_STRINGS_AND_RESULTS(ds_bloom_contains_all_string, bool)
+DS_CHECK_PAIRS_AND_RESULTS(ds_bloom_contains_all_string_pairs, bool)
 DS_CHECK_HANDLES(ds_bloom_union)
 DS_CHECK_HANDLES(ds_bloom_intersect)
 DS_CHECK_HANDLES(ds_bloom_difference)
@@ -577,13 +644,16 @@ DS_CHECK_ITEMS_AND(ds_count_min_u64_update_string, uint8_t, uint64_t)
 DS_CHECK_ITEMS(ds_count_min_u64_update_all_u64, uint64_t)
 DS_CHECK_ITEMS(ds_count_min_u64_update_all_i64, int64_t)
 DS_CHECK_STRINGS(ds_count_min_u64_update_all_string)
+DS_CHECK_PAIRS(ds_count_min_u64_update_all_string_pairs)
 DS_CHECK_ITEMS_AND_RESULTS(ds_count_min_u64_update_all_weighted_u64, uint64_t, const uint64_t)
 DS_CHECK_ITEMS_AND_RESULTS(ds_count_min_u64_update_all_weighted_i64, int64_t, const uint64_t)
 DS_CHECK_STRINGS_AND_RESULTS(ds_count_min_u64_update_all_weighted_string, const uint64_t)
+DS_CHECK_PAIRS_AND_RESULTS(ds_count_min_u64_update_all_weighted_string_pairs, const uint64_t)
 DS_CHECK_ITEMS_AND(ds_count_min_u64_estimate_string, uint8_t, uint64_t *)
 DS_CHECK_ITEMS_AND_RESULTS(ds_count_min_u64_estimate_all_u64, uint64_t, uint64_t)
 DS_CHECK_ITEMS_AND_RESULTS(ds_count_min_u64_estimate_all_i64, int64_t, uint64_t)
 DS_CHECK_STRINGS_AND_RESULTS(ds_count_min_u64_estimate_all_string, uint64_t)
+DS_CHECK_PAIRS_AND_RESULTS(ds_count_min_u64_estimate_all_string_pairs, uint64_t)
 DS_CHECK_ITEMS_AND(ds_count_min_u64_upper_bound_string, uint8_t, uint64_t *)
 DS_CHECK_HANDLES(ds_count_min_u64_merge)
 DS_CHECK_HANDLES(ds_count_min_u64_equal)
@@ -593,13 +663,16 @@ DS_CHECK_ITEMS_AND(ds_count_min_i64_update_string, uint8_t, int64_t)
 DS_CHECK_ITEMS(ds_count_min_i64_update_all_u64, uint64_t)
 DS_CHECK_ITEMS(ds_count_min_i64_update_all_i64, int64_t)
 DS_CHECK_STRINGS(ds_count_min_i64_update_all_string)
+DS_CHECK_PAIRS(ds_count_min_i64_update_all_string_pairs)
 DS_CHECK_ITEMS_AND_RESULTS(ds_count_min_i64_update_all_weighted_u64, uint64_t, const int64_t)
 DS_CHECK_ITEMS_AND_RESULTS(ds_count_min_i64_update_all_weighted_i64, int64_t, const int64_t)
 DS_CHECK_STRINGS_AND_RESULTS(ds_count_min_i64_update_all_weighted_string, const int64_t)
+DS_CHECK_PAIRS_AND_RESULTS(ds_count_min_i64_update_all_weighted_string_pairs, const int64_t)
 DS_CHECK_ITEMS_AND(ds_count_min_i64_estimate_string, uint8_t, int64_t *)
 DS_CHECK_ITEMS_AND_RESULTS(ds_count_min_i64_estimate_all_u64, uint64_t, int64_t)
 DS_CHECK_ITEMS_AND_RESULTS(ds_count_min_i64_estimate_all_i64, int64_t, int64_t)
 DS_CHECK_STRINGS_AND_RESULTS(ds_count_min_i64_estimate_all_string, int64_t)
+DS_CHECK_PAIRS_AND_RESULTS(ds_count_min_i64_estimate_all_string_pairs, int64_t)
 DS_CHECK_ITEMS_AND(ds_count_min_i64_upper_bound_string, uint8_t, int64_t *)
 DS_CHECK_HANDLES(ds_count_min_i64_merge)
 DS_CHECK_HANDLES(ds_count_min_i64_equal)
@@ -607,19 +680,29 @@ DS_CHECK_BUFFER(ds_count_min_i64_serialize)
 DS_CHECK_IMAGE_AND_SEED(ds_count_min_i64_deserialize)
 DS_CHECK_ITEMS_AND(ds_frequent_items_string_update, uint8_t, uint64_t)
 DS_CHECK_ITEMS(ds_frequent_items_string_update_words, uint8_t)
+DS_CHECK_ITEMS(ds_frequent_items_string_update_lines, uint8_t)
+DS_CHECK_ITEMS(ds_count_min_i64_update_lines, uint8_t)
+DS_CHECK_ITEMS(ds_count_min_i64_update_words, uint8_t)
+DS_CHECK_ITEMS(ds_count_min_u64_update_lines, uint8_t)
+DS_CHECK_ITEMS(ds_count_min_u64_update_words, uint8_t)
+DS_CHECK_ITEMS(ds_bloom_insert_lines, uint8_t)
+DS_CHECK_ITEMS(ds_bloom_insert_words, uint8_t)
 DS_CHECK_ITEMS_AND(ds_frequent_items_string_bounds, uint8_t, ds_frequent_items_bounds *)
 DS_CHECK_ITEMS_AND_RESULTS(ds_frequent_items_u64_bounds_all, uint64_t, ds_frequent_items_bounds)
 DS_CHECK_ITEMS_AND_RESULTS(ds_frequent_items_i64_bounds_all, int64_t, ds_frequent_items_bounds)
 DS_CHECK_STRINGS_AND_RESULTS(ds_frequent_items_string_bounds_all, ds_frequent_items_bounds)
+DS_CHECK_PAIRS_AND_RESULTS(ds_frequent_items_string_bounds_all_pairs, ds_frequent_items_bounds)
 DS_CHECK_HANDLES(ds_frequent_items_u64_merge)
 DS_CHECK_HANDLES(ds_frequent_items_i64_merge)
 DS_CHECK_HANDLES(ds_frequent_items_string_merge)
 DS_CHECK_ITEMS(ds_frequent_items_u64_update_all, uint64_t)
 DS_CHECK_ITEMS(ds_frequent_items_i64_update_all, int64_t)
 DS_CHECK_STRINGS(ds_frequent_items_string_update_all)
+DS_CHECK_PAIRS(ds_frequent_items_string_update_all_pairs)
 DS_CHECK_ITEMS_AND_RESULTS(ds_frequent_items_u64_update_all_weighted, uint64_t, const uint64_t)
 DS_CHECK_ITEMS_AND_RESULTS(ds_frequent_items_i64_update_all_weighted, int64_t, const uint64_t)
 DS_CHECK_STRINGS_AND_RESULTS(ds_frequent_items_string_update_all_weighted, const uint64_t)
+DS_CHECK_PAIRS_AND_RESULTS(ds_frequent_items_string_update_all_weighted_pairs, const uint64_t)
 DS_CHECK_BUFFER(ds_frequent_items_u64_serialize)
 DS_CHECK_BUFFER(ds_frequent_items_i64_serialize)
 DS_CHECK_BUFFER(ds_frequent_items_string_serialize)
@@ -636,6 +719,7 @@ DS_CHECK_STRING_ROWS(ds_frequent_items_string_rows)
 #define ds_bloom_insert_all_i64(handle, items, count) ds_bloom_insert_all_i64_checked(handle, items, count)
 #define ds_bloom_insert_all_string(handle, bytes, num_bytes, offsets, num_offsets) \
     ds_bloom_insert_all_string_checked(handle, bytes, num_bytes, offsets, num_offsets)
+#define ds_bloom_insert_all_string_pairs(handle, strings, count) ds_bloom_insert_all_string_pairs_checked(handle, strings, count)
 #define ds_bloom_contains_string(handle, item, length) ds_bloom_contains_string_checked(handle, item, length)
 #define ds_bloom_contains_all_u64(handle, items, count, results, num_results) \
     ds_bloom_contains_all_u64_checked(handle, items, count, results, num_results)
@@ -643,6 +727,8 @@ DS_CHECK_STRING_ROWS(ds_frequent_items_string_rows)
     ds_bloom_contains_all_i64_checked(handle, items, count, results, num_results)
 #define ds_bloom_contains_all_string(handle, bytes, num_bytes, offsets, num_offsets, results, num_results) \
     ds_bloom_contains_all_string_checked(handle, bytes, num_bytes, offsets, num_offsets, results, num_results)
+#define ds_bloom_contains_all_string_pairs(handle, strings, count, results, num_results) \
+    ds_bloom_contains_all_string_pairs_checked(handle, strings, count, results, num_results)
 #define ds_bloom_union(handle, other) ds_bloom_union_checked(handle, other)
 #define ds_bloom_intersect(handle, other) ds_bloom_intersect_checked(handle, other)
 #define ds_bloom_difference(handle, other) ds_bloom_difference_checked(handle, other)
@@ -658,12 +744,16 @@ DS_CHECK_STRING_ROWS(ds_frequent_items_string_rows)
     ds_count_min_u64_update_all_i64_checked(handle, items, count)
 #define ds_count_min_u64_update_all_string(handle, bytes, num_bytes, offsets, num_offsets) \
     ds_count_min_u64_update_all_string_checked(handle, bytes, num_bytes, offsets, num_offsets)
+#define ds_count_min_u64_update_all_string_pairs(handle, strings, count) \
+    ds_count_min_u64_update_all_string_pairs_checked(handle, strings, count)
 #define ds_count_min_u64_update_all_weighted_u64(handle, items, count, weights, num_weights) \
     ds_count_min_u64_update_all_weighted_u64_checked(handle, items, count, weights, num_weights)
 #define ds_count_min_u64_update_all_weighted_i64(handle, items, count, weights, num_weights) \
     ds_count_min_u64_update_all_weighted_i64_checked(handle, items, count, weights, num_weights)
 #define ds_count_min_u64_update_all_weighted_string(handle, bytes, num_bytes, offsets, num_offsets, weights, num_weights) \
     ds_count_min_u64_update_all_weighted_string_checked(handle, bytes, num_bytes, offsets, num_offsets, weights, num_weights)
+#define ds_count_min_u64_update_all_weighted_string_pairs(handle, strings, count, weights, num_weights) \
+    ds_count_min_u64_update_all_weighted_string_pairs_checked(handle, strings, count, weights, num_weights)
 #define ds_count_min_u64_estimate_string(handle, item, length, estimate) \
     ds_count_min_u64_estimate_string_checked(handle, item, length, estimate)
 #define ds_count_min_u64_estimate_all_u64(handle, items, count, estimates, num_estimates) \
@@ -672,6 +762,8 @@ DS_CHECK_STRING_ROWS(ds_frequent_items_string_rows)
     ds_count_min_u64_estimate_all_i64_checked(handle, items, count, estimates, num_estimates)
 #define ds_count_min_u64_estimate_all_string(handle, bytes, num_bytes, offsets, num_offsets, estimates, num_estimates) \
     ds_count_min_u64_estimate_all_string_checked(handle, bytes, num_bytes, offsets, num_offsets, estimates, num_estimates)
+#define ds_count_min_u64_estimate_all_string_pairs(handle, strings, count, estimates, num_estimates) \
+    ds_count_min_u64_estimate_all_string_pairs_checked(handle, strings, count, estimates, num_estimates)
 #define ds_count_min_u64_upper_bound_string(handle, item, length, bound) \
     ds_count_min_u64_upper_bound_string_checked(handle, item, length, bound)
 #define ds_count_min_u64_merge(handle, other) ds_count_min_u64_merge_checked(handle, other)
@@ -688,12 +780,16 @@ DS_CHECK_STRING_ROWS(ds_frequent_items_string_rows)
     ds_count_min_i64_update_all_i64_checked(handle, items, count)
 #define ds_count_min_i64_update_all_string(handle, bytes, num_bytes, offsets, num_offsets) \
     ds_count_min_i64_update_all_string_checked(handle, bytes, num_bytes, offsets, num_offsets)
+#define ds_count_min_i64_update_all_string_pairs(handle, strings, count) \
+    ds_count_min_i64_update_all_string_pairs_checked(handle, strings, count)
 #define ds_count_min_i64_update_all_weighted_u64(handle, items, count, weights, num_weights) \
     ds_count_min_i64_update_all_weighted_u64_checked(handle, items, count, weights, num_weights)
 #define ds_count_min_i64_update_all_weighted_i64(handle, items, count, weights, num_weights) \
     ds_count_min_i64_update_all_weighted_i64_checked(handle, items, count, weights, num_weights)
 #define ds_count_min_i64_update_all_weighted_string(handle, bytes, num_bytes, offsets, num_offsets, weights, num_weights) \
     ds_count_min_i64_update_all_weighted_string_checked(handle, bytes, num_bytes, offsets, num_offsets, weights, num_weights)
+#define ds_count_min_i64_update_all_weighted_string_pairs(handle, strings, count, weights, num_weights) \
+    ds_count_min_i64_update_all_weighted_string_pairs_checked(handle, strings, count, weights, num_weights)
 #define ds_count_min_i64_estimate_string(handle, item, length, estimate) \
     ds_count_min_i64_estimate_string_checked(handle, item, length, estimate)
 #define ds_count_min_i64_estimate_all_u64(handle, items, count, estimates, num_estimates) \
@@ -702,6 +798,8 @@ DS_CHECK_STRING_ROWS(ds_frequent_items_string_rows)
     ds_count_min_i64_estimate_all_i64_checked(handle, items, count, estimates, num_estimates)
 #define ds_count_min_i64_estimate_all_string(handle, bytes, num_bytes, offsets, num_offsets, estimates, num_estimates) \
     ds_count_min_i64_estimate_all_string_checked(handle, bytes, num_bytes, offsets, num_offsets, estimates, num_estimates)
+#define ds_count_min_i64_estimate_all_string_pairs(handle, strings, count, estimates, num_estimates) \
+    ds_count_min_i64_estimate_all_string_pairs_checked(handle, strings, count, estimates, num_estimates)
 #define ds_count_min_i64_upper_bound_string(handle, item, length, bound) \
     ds_count_min_i64_upper_bound_string_checked(handle, item, length, bound)
 #define ds_count_min_i64_merge(handle, other) ds_count_min_i64_merge_checked(handle, other)
@@ -714,6 +812,14 @@ DS_CHECK_STRING_ROWS(ds_frequent_items_string_rows)
     ds_frequent_items_string_update_checked(handle, item, length, weight)
 #define ds_frequent_items_string_update_words(handle, text, length) \
     ds_frequent_items_string_update_words_checked(handle, text, length)
+#define ds_frequent_items_string_update_lines(handle, text, length) \
+    ds_frequent_items_string_update_lines_checked(handle, text, length)
+#define ds_count_min_i64_update_lines(handle, text, length) ds_count_min_i64_update_lines_checked(handle, text, length)
+#define ds_count_min_i64_update_words(handle, text, length) ds_count_min_i64_update_words_checked(handle, text, length)
+#define ds_count_min_u64_update_lines(handle, text, length) ds_count_min_u64_update_lines_checked(handle, text, length)
+#define ds_count_min_u64_update_words(handle, text, length) ds_count_min_u64_update_words_checked(handle, text, length)
+#define ds_bloom_insert_lines(handle, text, length) ds_bloom_insert_lines_checked(handle, text, length)
+#define ds_bloom_insert_words(handle, text, length) ds_bloom_insert_words_checked(handle, text, length)
 #define ds_frequent_items_string_bounds(handle, item, length, bounds) \
     ds_frequent_items_string_bounds_checked(handle, item, length, bounds)
 #define ds_frequent_items_u64_bounds_all(handle, items, count, bounds, num_bounds) \
@@ -722,6 +828,8 @@ DS_CHECK_STRING_ROWS(ds_frequent_items_string_rows)
     ds_frequent_items_i64_bounds_all_checked(handle, items, count, bounds, num_bounds)
 #define ds_frequent_items_string_bounds_all(handle, bytes, num_bytes, offsets, num_offsets, bounds, num_bounds) \
     ds_frequent_items_string_bounds_all_checked(handle, bytes, num_bytes, offsets, num_offsets, bounds, num_bounds)
+#define ds_frequent_items_string_bounds_all_pairs(handle, strings, count, bounds, num_bounds) \
+    ds_frequent_items_string_bounds_all_pairs_checked(handle, strings, count, bounds, num_bounds)
 #define ds_frequent_items_u64_merge(handle, other) ds_frequent_items_u64_merge_checked(handle, other)
 #define ds_frequent_items_i64_merge(handle, other) ds_frequent_items_i64_merge_checked(handle, other)
 #define ds_frequent_items_string_merge(handle, other) ds_frequent_items_string_merge_checked(handle, other)
@@ -731,12 +839,16 @@ DS_CHECK_STRING_ROWS(ds_frequent_items_string_rows)
     ds_frequent_items_i64_update_all_checked(handle, items, count)
 #define ds_frequent_items_string_update_all(handle, bytes, num_bytes, offsets, num_offsets) \
     ds_frequent_items_string_update_all_checked(handle, bytes, num_bytes, offsets, num_offsets)
+#define ds_frequent_items_string_update_all_pairs(handle, strings, count) \
+    ds_frequent_items_string_update_all_pairs_checked(handle, strings, count)
 #define ds_frequent_items_u64_update_all_weighted(handle, items, count, weights, num_weights) \
     ds_frequent_items_u64_update_all_weighted_checked(handle, items, count, weights, num_weights)
 #define ds_frequent_items_i64_update_all_weighted(handle, items, count, weights, num_weights) \
     ds_frequent_items_i64_update_all_weighted_checked(handle, items, count, weights, num_weights)
 #define ds_frequent_items_string_update_all_weighted(handle, bytes, num_bytes, offsets, num_offsets, weights, num_weights) \
     ds_frequent_items_string_update_all_weighted_checked(handle, bytes, num_bytes, offsets, num_offsets, weights, num_weights)
+#define ds_frequent_items_string_update_all_weighted_pairs(handle, strings, count, weights, num_weights) \
+    ds_frequent_items_string_update_all_weighted_pairs_checked(handle, strings, count, weights, num_weights)
 #define ds_frequent_items_u64_serialize(handle, out, capacity, written) \
     ds_frequent_items_u64_serialize_checked(handle, out, capacity, written)
 #define ds_frequent_items_i64_serialize(handle, out, capacity, written) \
@@ -765,9 +877,93 @@ DS_CHECK_STRING_ROWS(ds_frequent_items_string_rows)
 #undef DS_CHECK_STRINGS
 #undef DS_CHECK_ITEMS_AND_RESULTS
 #undef DS_CHECK_STRINGS_AND_RESULTS
+#undef DS_CHECK_PAIRS
+#undef DS_CHECK_PAIRS_AND_RESULTS
 #undef DS_CHECK_BUFFER
 #undef DS_CHECK_STRING_ROWS
 #undef DS_CHECK_ROWS
+
+/* --- Columns with nulls, and columns with offsets of 32 bits, as in Arrow. These functions of the header allocate nothing. A
+ * bitmap `validity` says which items are there: item i is there if bit `validity_offset` + i is set, where bit k is the bit
+ * k % 8, lowest first, of byte k / 8. If `validity` is null, all items are there. For a slice of a column, pass pointers to its
+ * first offset and number, and the slice's start as `validity_offset`. --- */
+
+/* Returns whether item i is there. `validity` is not null. */
+static inline bool ds_is_valid(const uint8_t *validity, size_t validity_offset, size_t i)
+{
+    size_t k = validity_offset + i;
+    return validity[k / 8] >> k % 8 & 1;
+}
+
+/* Makes pairs from the strings of Arrow's `utf8` and `large_utf8` that are there, in order. String i is the bytes from offset i
+ * up to offset i + 1, so `count` strings have `count` + 1 offsets. If `count` is 0, no offset is read. `strings` has room for
+ * `count` pairs. The pairs point into `bytes`. `num_strings` is their number.
+ *
+ * Returns DS_BAD_ARGUMENT if `bytes`, `offsets` or `strings` is null with a count above 0. Returns DS_BAD_OFFSETS if the first
+ * offset is below 0, an offset is below the one before it, or the last offset passes the end of the bytes. The offsets of
+ * strings that are not there are checked too. Then nothing is written. */
+#define DS_STRINGS_FROM(function, offset) \
+    static inline int32_t function(const uint8_t *bytes, size_t num_bytes, const offset *offsets, size_t count, \
+                                   const uint8_t *validity, size_t validity_offset, ds_string *strings, size_t *num_strings) \
+    { \
+        bool bad = false; \
+        size_t found = 0; \
+        if ((!bytes && num_bytes) || ((!offsets || !strings) && count)) return DS_BAD_ARGUMENT; \
+        for (size_t i = 0; i < count; i++) bad |= offsets[i + 1] < offsets[i]; \
+        if (count) bad |= offsets[0] < 0 || (uint64_t)offsets[count] > num_bytes; \
+        if (bad) return DS_BAD_OFFSETS; \
+        if (!bytes) bytes = (const uint8_t *)ds_no_values(); \
+        for (size_t i = 0; i < count; i++) { \
+            if (validity && !ds_is_valid(validity, validity_offset, i)) continue; \
+            strings[found].bytes = bytes + offsets[i]; \
+            strings[found].length = (size_t)(offsets[i + 1] - offsets[i]); \
+            found++; \
+        } \
+        *num_strings = found; \
+        return DS_OK; \
+    }
+DS_STRINGS_FROM(ds_strings_from_utf8, int32_t)
+DS_STRINGS_FROM(ds_strings_from_large_utf8, int64_t)
+#undef DS_STRINGS_FROM
+
+/* Copies the numbers that are there to the front of `out`, in order, and returns their number. With the bitmap of a column of
+ * strings it keeps the weights of the strings that are there. `out` has room for `count` numbers, and may be `items`. What is
+ * behind the copied numbers may be overwritten. */
+#define DS_VALID(function, type) \
+    static inline size_t function(const type *items, size_t count, const uint8_t *validity, size_t validity_offset, type *out) \
+    { \
+        size_t found = 0; \
+        for (size_t i = 0; i < count; i++) { \
+            out[found] = items[i]; \
+            found += !validity || ds_is_valid(validity, validity_offset, i); \
+        } \
+        return found; \
+    }
+DS_VALID(ds_valid_u64, uint64_t)
+DS_VALID(ds_valid_i64, int64_t)
+#undef DS_VALID
+
+/* Writes the positions of the results that are true to the front of `positions`, in ascending order, and returns their number:
+ * a selection vector. `positions` has room for `count` positions. What is behind the written positions may be overwritten. */
+static inline size_t ds_select(const bool *results, size_t count, size_t *positions)
+{
+    size_t found = 0;
+    for (size_t i = 0; i < count; i++) {
+        positions[found] = i;
+        found += results[i];
+    }
+    return found;
+}
+
+/* --- Chunks of a stream. These calls take no handle, and return a number of bytes, never an error. --- */
+
+/* Returns the number of bytes through the last byte of ASCII white space, or through the last LF, or 0 if there is none. Words or
+ * lines that begin after them may go on in the next chunk: pass on the bytes before, and put the rest before the next chunk. */
+size_t ds_finished_words(const uint8_t *text, size_t length);
+size_t ds_finished_lines(const uint8_t *text, size_t length);
+
+/* Returns the number of bytes before the first that is not part of valid UTF-8, or `length` if all are UTF-8. */
+size_t ds_valid_utf8(const uint8_t *text, size_t length);
 
 /* --- Sizes from error targets. Each call writes a size if it returns DS_OK, and leaves it as it was otherwise. --- */
 

@@ -1,5 +1,6 @@
 /* Performs the program's lines `bloom`, `countu`, `frequent`, `insert`, `add` and `ask` with calls of the C library that take
- * many strings, and prints the program's replies. Makes one call for each run of lines that begin with the same two words. */
+ * many strings, and prints the program's replies. Makes one call for each run of lines that begin with the same two words. With
+ * an argument the strings are passed as pairs, and otherwise as a buffer with offsets. */
 #include <datasketches.h>
 #include <inttypes.h>
 #include <stdio.h>
@@ -13,11 +14,14 @@ struct line {
 };
 
 /* A run's strings, as the calls take them. A byte that belongs to no string comes before the first string. */
-struct texts {
+struct strings {
     uint8_t bytes[1 + RUN * 64];
     uint64_t offsets[RUN + 1], weights[RUN];
+    ds_string pairs[RUN];
     size_t count, length;
 };
+
+static bool as_pairs;
 
 static char names[NAMES][64];
 static ds_sketch sketches[NAMES];
@@ -43,7 +47,7 @@ static void create(const struct line *it)
     puts("ok");
 }
 
-static void collect(struct texts *all, const struct line *lines, size_t count, int place)
+static void collect(struct strings *all, const struct line *lines, size_t count, int place)
 {
     size_t end = 1;
     all->bytes[0] = 0xff;
@@ -56,32 +60,47 @@ static void collect(struct texts *all, const struct line *lines, size_t count, i
         end += strlen(text);
     }
     all->offsets[count] = all->length = end;
+    const int64_t *offsets = (const int64_t *)all->offsets;
+    size_t found;
+    int32_t made = ds_strings_from_large_utf8(all->bytes, end, offsets, count, NULL, 0, all->pairs, &found);
+    if (made != DS_OK || found != count) abort();
 }
 
-static void insert(ds_sketch *handle, struct texts *all)
+static void insert(ds_sketch *handle, struct strings *all)
 {
-    if (ds_bloom_insert_all_string(handle, all->bytes, all->length, all->offsets, all->count + 1) != DS_OK) abort();
+    int32_t answer = as_pairs ? ds_bloom_insert_all_string_pairs(handle, all->pairs, all->count)
+                              : ds_bloom_insert_all_string(handle, all->bytes, all->length, all->offsets, all->count + 1);
+    if (answer != DS_OK) abort();
     for (size_t i = 0; i < all->count; i++) puts("ok");
 }
 
 /* Returns whether all weights are 1. */
-static int are_ones(const struct texts *all)
+static int are_ones(const struct strings *all)
 {
     for (size_t i = 0; i < all->count; i++)
         if (all->weights[i] != 1) return 0;
     return 1;
 }
 
-static int32_t add_ones(ds_sketch *handle, struct texts *all)
+static int32_t add_ones(ds_sketch *handle, struct strings *all)
 {
+    if (as_pairs) {
+        int32_t counted = ds_count_min_u64_update_all_string_pairs(handle, all->pairs, all->count);
+        return counted != DS_WRONG_KIND ? counted : ds_frequent_items_string_update_all_pairs(handle, all->pairs, all->count);
+    }
     int32_t answer = ds_count_min_u64_update_all_string(handle, all->bytes, all->length, all->offsets, all->count + 1);
     if (answer != DS_WRONG_KIND) return answer;
     return ds_frequent_items_string_update_all(handle, all->bytes, all->length, all->offsets, all->count + 1);
 }
 
-static int32_t add_weights(ds_sketch *handle, struct texts *all)
+static int32_t add_weights(ds_sketch *handle, struct strings *all)
 {
     size_t count = all->count;
+    if (as_pairs) {
+        int32_t counted = ds_count_min_u64_update_all_weighted_string_pairs(handle, all->pairs, count, all->weights, count);
+        if (counted != DS_WRONG_KIND) return counted;
+        return ds_frequent_items_string_update_all_weighted_pairs(handle, all->pairs, count, all->weights, count);
+    }
     int32_t answer =
         ds_count_min_u64_update_all_weighted_string(handle, all->bytes, all->length, all->offsets, count + 1, all->weights, count);
     if (answer != DS_WRONG_KIND) return answer;
@@ -89,7 +108,7 @@ static int32_t add_weights(ds_sketch *handle, struct texts *all)
                                                         count);
 }
 
-static void add(ds_sketch *handle, struct texts *all)
+static void add(ds_sketch *handle, struct strings *all)
 {
     if ((are_ones(all) ? add_ones : add_weights)(handle, all) != DS_OK) abort();
     for (size_t i = 0; i < all->count; i++) puts("ok");
@@ -100,14 +119,19 @@ static void show(uint64_t estimate, uint64_t lower, uint64_t upper)
     printf("estimate %" PRIu64 " lower %" PRIu64 " upper %" PRIu64 "\n", estimate, lower, upper);
 }
 
-static void ask(ds_sketch *handle, struct texts *all)
+static void ask(ds_sketch *handle, struct strings *all)
 {
     bool answers[RUN];
     uint64_t estimates[RUN];
     size_t count = all->count;
-    int32_t contains = ds_bloom_contains_all_string(handle, all->bytes, all->length, all->offsets, count + 1, answers, count);
-    int32_t counts =
-        ds_count_min_u64_estimate_all_string(handle, all->bytes, all->length, all->offsets, count + 1, estimates, count);
+    int32_t contains, counts;
+    if (as_pairs) {
+        contains = ds_bloom_contains_all_string_pairs(handle, all->pairs, count, answers, count);
+        counts = ds_count_min_u64_estimate_all_string_pairs(handle, all->pairs, count, estimates, count);
+    } else {
+        contains = ds_bloom_contains_all_string(handle, all->bytes, all->length, all->offsets, count + 1, answers, count);
+        counts = ds_count_min_u64_estimate_all_string(handle, all->bytes, all->length, all->offsets, count + 1, estimates, count);
+    }
     for (size_t i = 0; i < count; i++) {
         const uint8_t *text = all->bytes + all->offsets[i];
         size_t length = (size_t)(all->offsets[i + 1] - all->offsets[i]);
@@ -126,7 +150,7 @@ static void ask(ds_sketch *handle, struct texts *all)
 
 static void play(const struct line *lines, size_t count)
 {
-    static struct texts all;
+    static struct strings all;
     const char *verb = lines->words[0];
     ds_sketch *handle = look_up(lines->words[1]);
     collect(&all, lines, count, strcmp(verb, "add") == 0 ? 3 : 2);
@@ -141,8 +165,10 @@ static int is_of_run(const struct line *first, const struct line *it)
     return strcmp(first->words[0], it->words[0]) == 0 && strcmp(first->words[1], it->words[1]) == 0;
 }
 
-int main(void)
+int main(int argc, char **argv)
 {
+    (void)argv;
+    as_pairs = argc > 1;
     static char text[1 << 10];
     static struct line lines[RUN + 1];
     size_t count = 0;

@@ -331,7 +331,7 @@ FREQUENT(frequent_numbers, uint64_t, ds_frequent_items_u64)
 FREQUENT(frequent_signed_numbers, int64_t, ds_frequent_items_i64)
 
 /* Frequent strings: the same purge, and which bytes are a string. */
-static void frequent_texts(void)
+static void frequent_strings(void)
 {
     static const char *const words[7] = {"a", "b", "c", "d", "e", "f", "g"};
     ds_sketch a = DS_NONE, b = DS_NONE, copy = DS_NONE;
@@ -426,7 +426,7 @@ static const struct {
 } BAD_ENDS[] = {{{0}, 0}, {{2, 1, 3}, 3}, {{0, 13, 14}, 3}, {{14}, 1}, {{1, UINT64_MAX, 3}, 3}, {{0, 3, 2}, 3}};
 
 /* Makes each call for many strings with these offsets. Checks that all return the same error and change nothing. */
-static void refused_texts(ds_sketch *filter, ds_sketch *count, ds_sketch *signs, ds_sketch *frequent, const uint8_t *bytes,
+static void refused_strings(ds_sketch *filter, ds_sketch *count, ds_sketch *signs, ds_sketch *frequent, const uint8_t *bytes,
                           size_t length, const uint64_t *offsets, size_t num_offsets, int32_t answer)
 {
     bool answers[2] = {true, true};
@@ -452,7 +452,7 @@ static void refused_texts(ds_sketch *filter, ds_sketch *count, ds_sketch *signs,
     CHECK(ds_frequent_items_string_get_status(frequent, &weighed) == DS_OK && weighed.total_weight == 0);
 }
 
-static void many_texts(void)
+static void many_strings(void)
 {
     ds_sketch filter = DS_NONE, one = DS_NONE, count = DS_NONE, signs = DS_NONE, frequent = DS_NONE;
     ds_frequent_items_bounds bounds;
@@ -468,9 +468,9 @@ static void many_texts(void)
     CHECK(ds_count_min_u64_new(&count, 4, 128, 9001) == DS_OK && ds_count_min_i64_new(&signs, 4, 128, 9001) == DS_OK);
     CHECK(ds_frequent_items_string_new(&frequent, 64, 48) == DS_OK);
     for (size_t i = 0; i < sizeof BAD_ENDS / sizeof *BAD_ENDS; i++)
-        refused_texts(&filter, &count, &signs, &frequent, MANY, bytes, BAD_ENDS[i].offsets, BAD_ENDS[i].count, DS_BAD_OFFSETS);
+        refused_strings(&filter, &count, &signs, &frequent, MANY, bytes, BAD_ENDS[i].offsets, BAD_ENDS[i].count, DS_BAD_OFFSETS);
     /* the bytes are UTF-8 as a whole, but a string must not end within a letter */
-    refused_texts(&filter, &count, &signs, &frequent, MANY, bytes, halves, 3, DS_INVALID_UTF8);
+    refused_strings(&filter, &count, &signs, &frequent, MANY, bytes, halves, 3, DS_INVALID_UTF8);
     CHECK(ds_bloom_insert_all_string(&filter, NULL, 1, ENDS, 5) == DS_BAD_ARGUMENT);
     CHECK(ds_bloom_insert_all_string(&filter, MANY, bytes, NULL, 5) == DS_BAD_ARGUMENT);
     CHECK(ds_bloom_insert_all_string(&filter, NULL, 0, NULL, 0) == DS_BAD_OFFSETS);
@@ -517,7 +517,7 @@ static void many_texts(void)
 /* Many items, each with a weight. */
 static void weights(void)
 {
-    ds_sketch count = DS_NONE, signs = DS_NONE, numbers = DS_NONE, below = DS_NONE, texts = DS_NONE, none = DS_NONE;
+    ds_sketch count = DS_NONE, signs = DS_NONE, numbers = DS_NONE, below = DS_NONE, strings = DS_NONE, none = DS_NONE;
     ds_count_min_status counted;
     ds_frequent_items_status weighed;
     ds_frequent_items_bounds bounds, all[4];
@@ -563,7 +563,7 @@ static void weights(void)
     CHECK(ds_count_min_i64_estimate_string(&signs, MANY + 1, 5, &estimate) == DS_OK && estimate == -1);
 
     CHECK(ds_frequent_items_u64_new(&numbers, 64, 48) == DS_OK && ds_frequent_items_i64_new(&below, 64, 48) == DS_OK);
-    CHECK(ds_frequent_items_string_new(&texts, 64, 48) == DS_OK);
+    CHECK(ds_frequent_items_string_new(&strings, 64, 48) == DS_OK);
     CHECK(ds_frequent_items_u64_update_all_weighted(&numbers, items, 3, some, 3) == DS_OK);
     CHECK(ds_frequent_items_u64_bounds(&numbers, 3, &bounds) == DS_OK && bounds.lower_bound == 7 && bounds.upper_bound == 7);
     CHECK(ds_frequent_items_u64_get_status(&numbers, &weighed) == DS_OK && weighed.num_active_items == 1 &&
@@ -574,32 +574,32 @@ static void weights(void)
     CHECK(ds_frequent_items_u64_get_status(&numbers, &weighed) == DS_OK && weighed.total_weight == UINT64_MAX - 6);
     CHECK(ds_frequent_items_i64_update_all_weighted(&below, same, 3, some, 3) == DS_OK);
     CHECK(ds_frequent_items_i64_bounds(&below, 3, &bounds) == DS_OK && bounds.estimate == 7);
-    CHECK(ds_frequent_items_string_update_all_weighted(&texts, MANY, bytes, ENDS, 5, of_four, 4) == DS_OK);
-    CHECK(ds_frequent_items_string_bounds(&texts, MANY + 9, 4, &bounds) == DS_OK && bounds.estimate == 9);
-    CHECK(ds_frequent_items_string_bounds_all(&texts, MANY, bytes, ENDS, 5, all, 4) == DS_OK && all[3].estimate == 9);
+    CHECK(ds_frequent_items_string_update_all_weighted(&strings, MANY, bytes, ENDS, 5, of_four, 4) == DS_OK);
+    CHECK(ds_frequent_items_string_bounds(&strings, MANY + 9, 4, &bounds) == DS_OK && bounds.estimate == 9);
+    CHECK(ds_frequent_items_string_bounds_all(&strings, MANY, bytes, ENDS, 5, all, 4) == DS_OK && all[3].estimate == 9);
     CHECK(all[0].lower_bound == 1 && all[1].upper_bound == 2 && all[2].estimate == 0);
-    CHECK(ds_frequent_items_string_bounds_all(&texts, MANY, bytes, ENDS, 5, all, 3) == DS_NO_ROOM);
+    CHECK(ds_frequent_items_string_bounds_all(&strings, MANY, bytes, ENDS, 5, all, 3) == DS_NO_ROOM);
     CHECK(ds_frequent_items_string_bounds_all(&numbers, MANY, bytes, ENDS, 5, all, 4) == DS_WRONG_KIND && all[3].estimate == 9);
     CHECK(ds_frequent_items_string_bounds_all(&none, MANY, bytes, ENDS, 5, all, 4) == DS_NO_SKETCH && all[3].estimate == 9);
-    CHECK(ds_frequent_items_string_get_status(&texts, &weighed) == DS_OK && weighed.num_active_items == 3 &&
+    CHECK(ds_frequent_items_string_get_status(&strings, &weighed) == DS_OK && weighed.num_active_items == 3 &&
           weighed.total_weight == 12);
-    CHECK(ds_frequent_items_string_update_all_weighted(&texts, MANY, bytes, ENDS, 5, of_four, 3) == DS_NO_ROOM);
-    CHECK(ds_frequent_items_string_update_all_weighted(&texts, MANY, bytes - 1, ENDS, 5, of_four, 4) == DS_BAD_OFFSETS);
-    CHECK(ds_frequent_items_string_update_all_weighted(&texts, MANY, bytes, ENDS, 4, most, 3) == DS_OK);
-    CHECK(ds_frequent_items_string_update_all_weighted(&texts, MANY, bytes, ENDS, 4, most, 3) == DS_WEIGHT_OVERFLOW);
-    CHECK(ds_frequent_items_string_get_status(&texts, &weighed) == DS_OK && weighed.total_weight == UINT64_MAX - 1);
+    CHECK(ds_frequent_items_string_update_all_weighted(&strings, MANY, bytes, ENDS, 5, of_four, 3) == DS_NO_ROOM);
+    CHECK(ds_frequent_items_string_update_all_weighted(&strings, MANY, bytes - 1, ENDS, 5, of_four, 4) == DS_BAD_OFFSETS);
+    CHECK(ds_frequent_items_string_update_all_weighted(&strings, MANY, bytes, ENDS, 4, most, 3) == DS_OK);
+    CHECK(ds_frequent_items_string_update_all_weighted(&strings, MANY, bytes, ENDS, 4, most, 3) == DS_WEIGHT_OVERFLOW);
+    CHECK(ds_frequent_items_string_get_status(&strings, &weighed) == DS_OK && weighed.total_weight == UINT64_MAX - 1);
     CHECK(ds_frequent_items_string_update_all_weighted(&numbers, MANY, bytes, ENDS, 5, of_four, 4) == DS_WRONG_KIND);
     ds_free(&count);
     ds_free(&signs);
     ds_free(&numbers);
     ds_free(&below);
-    ds_free(&texts);
+    ds_free(&strings);
 }
 
 /* The rows of a report of strings, with enough room and with too little room for each output. */
-static void rows_of_texts(void)
+static void rows_of_strings(void)
 {
-    ds_sketch texts = DS_NONE, other = DS_NONE;
+    ds_sketch strings = DS_NONE, other = DS_NONE;
     const uint64_t of_four[4] = {5, 7, 1, 9};
     uint8_t bytes[16], before[16];
     uint64_t offsets[6] = {8, 8, 8, 8, 8, 8};
@@ -608,27 +608,27 @@ static void rows_of_texts(void)
 
     memset(bytes, '.', sizeof bytes);
     memset(before, '.', sizeof before);
-    CHECK(ds_frequent_items_string_rows(&texts, true, 0, bytes, 16, offsets, 6, bounds, 4, &count, &length) == DS_NO_SKETCH);
+    CHECK(ds_frequent_items_string_rows(&strings, true, 0, bytes, 16, offsets, 6, bounds, 4, &count, &length) == DS_NO_SKETCH);
     CHECK(ds_bloom_new(&other, 64, 1, 9001) == DS_OK);
     CHECK(ds_frequent_items_string_rows(&other, true, 0, bytes, 16, offsets, 6, bounds, 4, &count, &length) == DS_WRONG_KIND);
     CHECK(count == 77 && length == 78);
-    CHECK(ds_frequent_items_string_new(&texts, 64, 48) == DS_OK);
-    CHECK(ds_frequent_items_string_rows(&texts, true, 0, bytes, 16, offsets, 1, bounds, 0, &count, &length) == DS_OK);
+    CHECK(ds_frequent_items_string_new(&strings, 64, 48) == DS_OK);
+    CHECK(ds_frequent_items_string_rows(&strings, true, 0, bytes, 16, offsets, 1, bounds, 0, &count, &length) == DS_OK);
     CHECK(count == 0 && length == 0 && offsets[0] == 0 && offsets[1] == 8);
-    CHECK(ds_frequent_items_string_update_all_weighted(&texts, MANY, sizeof MANY - 1, ENDS, 5, of_four, 4) == DS_OK);
-    CHECK(ds_frequent_items_string_rows(&texts, true, 1, NULL, 0, NULL, 0, NULL, 0, &count, &length) == DS_NO_ROOM);
+    CHECK(ds_frequent_items_string_update_all_weighted(&strings, MANY, sizeof MANY - 1, ENDS, 5, of_four, 4) == DS_OK);
+    CHECK(ds_frequent_items_string_rows(&strings, true, 1, NULL, 0, NULL, 0, NULL, 0, &count, &length) == DS_NO_ROOM);
     CHECK(count == 3 && length == 12);
-    CHECK(ds_frequent_items_string_rows(&texts, true, 1, bytes, 11, offsets, 6, bounds, 4, &count, &length) == DS_NO_ROOM);
-    CHECK(ds_frequent_items_string_rows(&texts, true, 1, bytes, 12, offsets, 3, bounds, 4, &count, &length) == DS_NO_ROOM);
-    CHECK(ds_frequent_items_string_rows(&texts, true, 1, bytes, 12, offsets, 4, bounds, 2, &count, &length) == DS_NO_ROOM);
-    CHECK(ds_frequent_items_string_rows(&texts, true, 1, NULL, 1, offsets, 4, bounds, 3, &count, &length) == DS_BAD_ARGUMENT);
+    CHECK(ds_frequent_items_string_rows(&strings, true, 1, bytes, 11, offsets, 6, bounds, 4, &count, &length) == DS_NO_ROOM);
+    CHECK(ds_frequent_items_string_rows(&strings, true, 1, bytes, 12, offsets, 3, bounds, 4, &count, &length) == DS_NO_ROOM);
+    CHECK(ds_frequent_items_string_rows(&strings, true, 1, bytes, 12, offsets, 4, bounds, 2, &count, &length) == DS_NO_ROOM);
+    CHECK(ds_frequent_items_string_rows(&strings, true, 1, NULL, 1, offsets, 4, bounds, 3, &count, &length) == DS_BAD_ARGUMENT);
     CHECK(memcmp(bytes, before, 16) == 0 && offsets[1] == 8 && bounds[0].estimate == 0);
-    CHECK(ds_frequent_items_string_rows(&texts, true, 1, bytes, 16, offsets, 6, bounds, 4, &count, &length) == DS_OK);
+    CHECK(ds_frequent_items_string_rows(&strings, true, 1, bytes, 16, offsets, 6, bounds, 4, &count, &length) == DS_OK);
     CHECK(count == 3 && length == 12 && memcmp(bytes, "\xe2\x82\xac!a\xcc\x88" "apple....", 16) == 0);
     CHECK(offsets[0] == 0 && offsets[1] == 4 && offsets[2] == 7 && offsets[3] == 12 && offsets[4] == 8);
     CHECK(bounds[0].estimate == 9 && bounds[1].lower_bound == 7 && bounds[2].upper_bound == 5 && bounds[3].estimate == 3);
-    CHECK(ds_frequent_items_string_rows(&texts, false, 6, bytes, 7, offsets, 3, bounds, 2, &count, &length) == DS_OK && count == 2);
-    ds_free(&texts);
+    CHECK(ds_frequent_items_string_rows(&strings, false, 6, bytes, 7, offsets, 3, bounds, 2, &count, &length) == DS_OK && count == 2);
+    ds_free(&strings);
     ds_free(&other);
 }
 
@@ -772,11 +772,11 @@ int main(void)
     more_counts();
     frequent_numbers();
     frequent_signed_numbers();
-    frequent_texts();
+    frequent_strings();
     words_of_strings();
-    many_texts();
+    many_strings();
     weights();
-    rows_of_texts();
+    rows_of_strings();
     first_errors();
     bytes_taken();
     equal_sketches();

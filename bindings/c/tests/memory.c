@@ -46,25 +46,32 @@ static void keep(ds_sketch *filter)
 /* 64 strings of two letters each, one after the other. */
 static uint8_t letters[128];
 static uint64_t ends[65];
+static ds_string pairs[64];
+
+/* Whether the strings are passed as pairs. Otherwise they are passed as a buffer with offsets. */
+static bool as_pairs;
 
 /* Room for a report of them. */
 static uint8_t shown[128];
 static uint64_t starts[65];
 static ds_frequent_items_bounds bounds[64];
 
-static void write_texts(void)
+static void write_strings(void)
 {
     for (size_t i = 0; i < 64; i++) {
         letters[2 * i] = (uint8_t)('a' + i / 8);
         letters[2 * i + 1] = (uint8_t)('a' + i % 8);
         ends[i + 1] = 2 * i + 2;
+        pairs[i] = (ds_string){letters + 2 * i, 2};
     }
 }
 
 /* Adds the strings from index `from` on, each with the weight 1 or with its weight of `weights`. */
-static int32_t add_texts(ds_sketch *handle, size_t from, const uint64_t *weights)
+static int32_t add_strings(ds_sketch *handle, size_t from, const uint64_t *weights)
 {
     size_t count = 64 - from;
+    if (as_pairs && !weights) return ds_frequent_items_string_update_all_pairs(handle, pairs + from, count);
+    if (as_pairs) return ds_frequent_items_string_update_all_weighted_pairs(handle, pairs + from, count, weights + from, count);
     if (!weights) return ds_frequent_items_string_update_all(handle, letters, sizeof letters, ends + from, count + 1);
     return ds_frequent_items_string_update_all_weighted(handle, letters, sizeof letters, ends + from, count + 1, weights + from,
                                                         count);
@@ -72,22 +79,24 @@ static int32_t add_texts(ds_sketch *handle, size_t from, const uint64_t *weights
 
 /* Adds all strings, and returns whether all were added. If an allocation fails for a string, those before it must have been
  * added, and a second call adds the rest. */
-static int adds_texts(ds_sketch *handle, const uint64_t *weights)
+static int adds_strings(ds_sketch *handle, const uint64_t *weights)
 {
     uint64_t start = weight_of(handle), whole = weights ? 128 : 64;
-    int32_t answer = add_texts(handle, 0, weights);
+    int32_t answer = add_strings(handle, 0, weights);
     if (answer == DS_NO_MEMORY) {
         uint64_t added = weight_of(handle) - start;
         if (added >= whole || added % (whole / 64)) return 0;
-        answer = add_texts(handle, (size_t)(added / (whole / 64)), weights);
+        answer = add_strings(handle, (size_t)(added / (whole / 64)), weights);
     }
     return answer == DS_OK && weight_of(handle) == start + whole;
 }
 
 /* Returns whether all strings get their bounds. The call does not allocate, so it succeeds whichever allocation fails. */
-static int tells_of_texts(ds_sketch *handle)
+static int tells_of_strings(ds_sketch *handle)
 {
-    if (ds_frequent_items_string_bounds_all(handle, letters, sizeof letters, ends, 65, bounds, 64) != DS_OK) return 0;
+    int32_t answer = as_pairs ? ds_frequent_items_string_bounds_all_pairs(handle, pairs, 64, bounds, 64)
+                              : ds_frequent_items_string_bounds_all(handle, letters, sizeof letters, ends, 65, bounds, 64);
+    if (answer != DS_OK) return 0;
     for (size_t i = 0; i < 64; i++)
         if (bounds[i].upper_bound < 4 || bounds[i].lower_bound > 4) return 0;
     return 1;
@@ -134,18 +143,23 @@ int main(void)
     DONE(&copy, ds_frequent_items_u64_deserialize(&copy, image, length, 1 << 14));
     if (ds_frequent_items_u64_get_status(&frequent, &numbers) != DS_OK || numbers.total_weight != 2 * 2080) return 1;
     if (ds_frequent_items_u64_get_status(&copy, &numbers) != DS_OK || numbers.total_weight != 2080) return 1;
-    write_texts();
-    DONE(&frequent, ds_frequent_items_string_new(&frequent, 64, 48));
-    if (!adds_texts(&frequent, NULL) || !adds_texts(&frequent, NULL)) return 1;
+    write_strings();
     for (uint64_t i = 0; i < 64; i++) items[i] = 2;
-    if (!adds_texts(&frequent, items)) return 1;
-    if (!tells_of_texts(&frequent)) return 1;
+    for (int form = 0; form < 2; form++) {
+        as_pairs = form == 1;
+        DONE(&frequent, ds_frequent_items_string_new(&frequent, 64, 48));
+        if (!adds_strings(&frequent, NULL) || !adds_strings(&frequent, NULL)) return 1;
+        if (!adds_strings(&frequent, items)) return 1;
+        if (!tells_of_strings(&frequent)) return 1;
+    }
     size_t rows = 0, num_bytes = 0;
     DONE(&frequent,
          ds_frequent_items_string_rows(&frequent, true, 0, shown, sizeof shown, starts, 65, bounds, 64, &rows, &num_bytes));
     if (num_bytes != 2 * rows || starts[rows] != num_bytes) return 1;
     DONE(&filter, ds_bloom_insert_all_string(&filter, letters, sizeof letters, ends, 65));
     DONE(&count, ds_count_min_u64_update_all_string(&count, letters, sizeof letters, ends, 65));
+    DONE(&filter, ds_bloom_insert_all_string_pairs(&filter, pairs, 64));
+    DONE(&count, ds_count_min_u64_update_all_string_pairs(&count, pairs, 64));
     ds_free(&frequent);
     ds_free(&many);
     ds_free(&copy);

@@ -73,8 +73,9 @@ static const uint64_t WEIGHTS[3] = {1, 2, 3};
 static const int64_t DIFFERENCES[3] = {1, -2, 3};
 
 /* Two strings, `ab` and `cde`. */
-static const uint8_t TEXTS[5] = "abcde";
+static const uint8_t STRINGS[5] = "abcde";
 static const uint64_t OFFSETS[3] = {0, 2, 5};
+static const ds_string PAIRS[2] = {{STRINGS, 2}, {STRINGS + 2, 3}};
 
 /* The image of an empty filter of four words and three hashes. */
 static const uint8_t FILTER[24] = {3, 1, 21, 4, 3, 0, 0, 0, 0x29, 0x23, 0, 0, 0, 0, 0, 0, 4, 0, 0, 0, 0, 0, 0, 0};
@@ -102,16 +103,18 @@ static void filters(void)
     DO(ds_count_min_u64_new(&count, 3, 64, 9001));
     FREE(DS_OK, ds_bloom_insert_u64(&filter, 3));
     FREE(DS_OK, ds_bloom_insert_i64(&filter, -1));
-    FREE(DS_OK, ds_bloom_insert_string(&filter, TEXTS, 5));
+    FREE(DS_OK, ds_bloom_insert_string(&filter, STRINGS, 5));
     FREE(DS_OK, ds_bloom_insert_all_u64(&filter, ITEMS, 3));
     FREE(DS_OK, ds_bloom_insert_all_i64(&filter, SIGNED, 3));
-    FREE(DS_OK, ds_bloom_insert_all_string(&filter, TEXTS, 5, OFFSETS, 3));
+    FREE(DS_OK, ds_bloom_insert_all_string(&filter, STRINGS, 5, OFFSETS, 3));
+    FREE(DS_OK, ds_bloom_insert_all_string_pairs(&filter, PAIRS, 2));
     FREE(DS_YES, ds_bloom_contains_u64(&filter, 5));
     FREE(DS_YES, ds_bloom_contains_i64(&filter, -1));
-    FREE(DS_YES, ds_bloom_contains_string(&filter, TEXTS, 2));
+    FREE(DS_YES, ds_bloom_contains_string(&filter, STRINGS, 2));
     FREE(DS_OK, ds_bloom_contains_all_u64(&filter, ITEMS, 3, answers, 3));
     FREE(DS_OK, ds_bloom_contains_all_i64(&filter, SIGNED, 3, answers, 3));
-    FREE(DS_OK, ds_bloom_contains_all_string(&filter, TEXTS, 5, OFFSETS, 3, answers, 2));
+    FREE(DS_OK, ds_bloom_contains_all_string(&filter, STRINGS, 5, OFFSETS, 3, answers, 2));
+    FREE(DS_OK, ds_bloom_contains_all_string_pairs(&filter, PAIRS, 2, answers, 2));
     FREE(DS_NO_ROOM, ds_bloom_contains_all_u64(&filter, ITEMS, 3, answers, 2));
     FREE(DS_OK, ds_bloom_union(&same, &filter));
     FREE(DS_OK, ds_bloom_intersect(&same, &filter));
@@ -154,23 +157,26 @@ static void counts(void)
     DO(ds_bloom_new(&filter, 256, 3, 9001));
     FREE(DS_OK, ds_count_min_u64_update_u64(&count, 3, 250));
     FREE(DS_OK, ds_count_min_u64_update_i64(&count, -1, 7));
-    FREE(DS_OK, ds_count_min_u64_update_string(&count, TEXTS, 5, 9));
+    FREE(DS_OK, ds_count_min_u64_update_string(&count, STRINGS, 5, 9));
     FREE(DS_OK, ds_count_min_u64_update_all_u64(&count, ITEMS, 3));
     FREE(DS_OK, ds_count_min_u64_update_all_i64(&count, SIGNED, 3));
-    FREE(DS_OK, ds_count_min_u64_update_all_string(&count, TEXTS, 5, OFFSETS, 3));
+    FREE(DS_OK, ds_count_min_u64_update_all_string(&count, STRINGS, 5, OFFSETS, 3));
+    FREE(DS_OK, ds_count_min_u64_update_all_string_pairs(&count, PAIRS, 2));
     FREE(DS_OK, ds_count_min_u64_update_all_weighted_u64(&count, ITEMS, 3, WEIGHTS, 3));
     FREE(DS_OK, ds_count_min_u64_update_all_weighted_i64(&count, SIGNED, 3, WEIGHTS, 3));
-    FREE(DS_OK, ds_count_min_u64_update_all_weighted_string(&count, TEXTS, 5, OFFSETS, 3, WEIGHTS, 2));
+    FREE(DS_OK, ds_count_min_u64_update_all_weighted_string(&count, STRINGS, 5, OFFSETS, 3, WEIGHTS, 2));
+    FREE(DS_OK, ds_count_min_u64_update_all_weighted_string_pairs(&count, PAIRS, 2, WEIGHTS, 2));
     FREE(DS_OK, ds_count_min_u64_estimate_u64(&count, 5, &estimate));
     FREE(DS_OK, ds_count_min_u64_estimate_i64(&count, -1, &estimate));
-    FREE(DS_OK, ds_count_min_u64_estimate_string(&count, TEXTS, 2, &estimate));
+    FREE(DS_OK, ds_count_min_u64_estimate_string(&count, STRINGS, 2, &estimate));
     FREE(DS_OK, ds_count_min_u64_estimate_all_u64(&count, ITEMS, 3, estimates, 3));
     FREE(DS_OK, ds_count_min_u64_estimate_all_i64(&count, SIGNED, 3, estimates, 3));
-    FREE(DS_OK, ds_count_min_u64_estimate_all_string(&count, TEXTS, 5, OFFSETS, 3, estimates, 2));
+    FREE(DS_OK, ds_count_min_u64_estimate_all_string(&count, STRINGS, 5, OFFSETS, 3, estimates, 2));
+    FREE(DS_OK, ds_count_min_u64_estimate_all_string_pairs(&count, PAIRS, 2, estimates, 2));
     FREE(DS_NO_ROOM, ds_count_min_u64_estimate_all_u64(&count, ITEMS, 3, estimates, 2));
     FREE(DS_OK, ds_count_min_u64_upper_bound_u64(&count, 5, &estimate));
     FREE(DS_OK, ds_count_min_u64_upper_bound_i64(&count, -1, &estimate));
-    FREE(DS_OK, ds_count_min_u64_upper_bound_string(&count, TEXTS, 2, &estimate));
+    FREE(DS_OK, ds_count_min_u64_upper_bound_string(&count, STRINGS, 2, &estimate));
     FREE(DS_OK, ds_count_min_u64_merge(&same, &count));
     FREE(DS_YES, ds_count_min_u64_equal(&same, &count));
     FREE(DS_NO, ds_count_min_u64_equal(&count, &unlike));
@@ -210,22 +216,25 @@ static void signed_counts(void)
     DO(ds_count_min_i64_new(&unlike, 3, 65, 9001));
     FREE(DS_OK, ds_count_min_i64_update_u64(&count, 3, 250));
     FREE(DS_OK, ds_count_min_i64_update_i64(&count, -1, -7));
-    FREE(DS_OK, ds_count_min_i64_update_string(&count, TEXTS, 5, 9));
+    FREE(DS_OK, ds_count_min_i64_update_string(&count, STRINGS, 5, 9));
     FREE(DS_OK, ds_count_min_i64_update_all_u64(&count, ITEMS, 3));
     FREE(DS_OK, ds_count_min_i64_update_all_i64(&count, SIGNED, 3));
-    FREE(DS_OK, ds_count_min_i64_update_all_string(&count, TEXTS, 5, OFFSETS, 3));
+    FREE(DS_OK, ds_count_min_i64_update_all_string(&count, STRINGS, 5, OFFSETS, 3));
+    FREE(DS_OK, ds_count_min_i64_update_all_string_pairs(&count, PAIRS, 2));
     FREE(DS_OK, ds_count_min_i64_update_all_weighted_u64(&count, ITEMS, 3, DIFFERENCES, 3));
     FREE(DS_OK, ds_count_min_i64_update_all_weighted_i64(&count, SIGNED, 3, DIFFERENCES, 3));
-    FREE(DS_OK, ds_count_min_i64_update_all_weighted_string(&count, TEXTS, 5, OFFSETS, 3, DIFFERENCES, 2));
+    FREE(DS_OK, ds_count_min_i64_update_all_weighted_string(&count, STRINGS, 5, OFFSETS, 3, DIFFERENCES, 2));
+    FREE(DS_OK, ds_count_min_i64_update_all_weighted_string_pairs(&count, PAIRS, 2, DIFFERENCES, 2));
     FREE(DS_OK, ds_count_min_i64_estimate_u64(&count, 5, &estimate));
     FREE(DS_OK, ds_count_min_i64_estimate_i64(&count, -1, &estimate));
-    FREE(DS_OK, ds_count_min_i64_estimate_string(&count, TEXTS, 2, &estimate));
+    FREE(DS_OK, ds_count_min_i64_estimate_string(&count, STRINGS, 2, &estimate));
     FREE(DS_OK, ds_count_min_i64_estimate_all_u64(&count, ITEMS, 3, estimates, 3));
     FREE(DS_OK, ds_count_min_i64_estimate_all_i64(&count, SIGNED, 3, estimates, 3));
-    FREE(DS_OK, ds_count_min_i64_estimate_all_string(&count, TEXTS, 5, OFFSETS, 3, estimates, 2));
+    FREE(DS_OK, ds_count_min_i64_estimate_all_string(&count, STRINGS, 5, OFFSETS, 3, estimates, 2));
+    FREE(DS_OK, ds_count_min_i64_estimate_all_string_pairs(&count, PAIRS, 2, estimates, 2));
     FREE(DS_OK, ds_count_min_i64_upper_bound_u64(&count, 5, &estimate));
     FREE(DS_OK, ds_count_min_i64_upper_bound_i64(&count, -1, &estimate));
-    FREE(DS_OK, ds_count_min_i64_upper_bound_string(&count, TEXTS, 2, &estimate));
+    FREE(DS_OK, ds_count_min_i64_upper_bound_string(&count, STRINGS, 2, &estimate));
     FREE(DS_OK, ds_count_min_i64_merge(&same, &count));
     FREE(DS_MISMATCH, ds_count_min_i64_merge(&count, &unlike));
     FREE(DS_OK, ds_count_min_i64_get_status(&count, &numbers));
@@ -321,23 +330,28 @@ static void full(void)
     ds_free(&other);
 }
 
-static void frequent_texts(void)
+static void frequent_strings(void)
 {
-    ds_sketch sketch = DS_NONE, empty = DS_NONE;
+    ds_sketch sketch = DS_NONE, empty = DS_NONE, pairs = DS_NONE;
     ds_frequent_items_status numbers;
     ds_frequent_items_bounds bounds[2];
     uint8_t image[256];
     size_t written;
     DO(ds_frequent_items_string_new(&sketch, 64, 48));
     DO(ds_frequent_items_string_new(&empty, 64, 48));
+    DO(ds_frequent_items_string_new(&pairs, 64, 48));
     /* a string is copied only if it is not tracked */
-    FREE(DS_OK, ds_frequent_items_string_update(&sketch, TEXTS, 5, 0));
-    ROW(1, 0, DS_OK, ds_frequent_items_string_update(&sketch, TEXTS, 5, 1));
-    FREE(DS_OK, ds_frequent_items_string_update(&sketch, TEXTS, 5, 1));
-    FREE(DS_WEIGHT_OVERFLOW, ds_frequent_items_string_update(&sketch, TEXTS, 2, UINT64_MAX));
-    FREE(DS_OK, ds_frequent_items_string_bounds(&sketch, TEXTS, 5, bounds));
-    FREE(DS_OK, ds_frequent_items_string_bounds(&sketch, TEXTS, 2, bounds));
-    FREE(DS_OK, ds_frequent_items_string_bounds_all(&sketch, TEXTS, 5, OFFSETS, 3, bounds, 2));
+    FREE(DS_OK, ds_frequent_items_string_update(&sketch, STRINGS, 5, 0));
+    ROW(1, 0, DS_OK, ds_frequent_items_string_update(&sketch, STRINGS, 5, 1));
+    FREE(DS_OK, ds_frequent_items_string_update(&sketch, STRINGS, 5, 1));
+    FREE(DS_WEIGHT_OVERFLOW, ds_frequent_items_string_update(&sketch, STRINGS, 2, UINT64_MAX));
+    ROW(2, 0, DS_OK, ds_frequent_items_string_update_all_pairs(&pairs, PAIRS, 2));
+    FREE(DS_OK, ds_frequent_items_string_update_all_pairs(&pairs, PAIRS, 2));
+    FREE(DS_OK, ds_frequent_items_string_update_all_weighted_pairs(&pairs, PAIRS, 2, WEIGHTS, 2));
+    FREE(DS_OK, ds_frequent_items_string_bounds(&sketch, STRINGS, 5, bounds));
+    FREE(DS_OK, ds_frequent_items_string_bounds(&sketch, STRINGS, 2, bounds));
+    FREE(DS_OK, ds_frequent_items_string_bounds_all(&sketch, STRINGS, 5, OFFSETS, 3, bounds, 2));
+    FREE(DS_OK, ds_frequent_items_string_bounds_all_pairs(&sketch, PAIRS, 2, bounds, 2));
     FREE(DS_OK, ds_frequent_items_string_get_status(&sketch, &numbers));
     FREE(DS_OK, ds_memory_bytes(&sketch, &written));
     FREE(DS_OK, ds_frequent_items_string_merge(&sketch, &empty));
@@ -349,6 +363,7 @@ static void frequent_texts(void)
     FREE(DS_OK, ds_frequent_items_string_reset(&empty));
     ds_free(&sketch);
     ds_free(&empty);
+    ds_free(&pairs);
 }
 
 int main(void)
@@ -358,7 +373,7 @@ int main(void)
     signed_counts();
     frequent_numbers();
     full();
-    frequent_texts();
+    frequent_strings();
     printf("%d of %d rows hold\n", rows - failures, rows);
     return failures != 0;
 }

@@ -41,6 +41,8 @@ def in_c(kind):
     """Returns the C types of a parameter."""
     if kind == "Global":
         return []
+    if kind == "&[&[u8]]":
+        return ["const ds_string *", "size_t"]
     found = re.fullmatch(r"(&(?:mut )?)?\[?(\w+)\]?", kind)
     borrowed, name = found.groups()
     if not borrowed:
@@ -120,14 +122,14 @@ class Tests:
         constants = re.findall(r"DS_(\w+) = (-?\d+)", read(f"{C}/include/datasketches.h"))
         self.check("the other results", set(others) == set(constants) - {("BAD_ARGUMENT", "-5"), ("MIN_RESULT", "-44")})
 
-    def calls(self):
-        source = f"{HERE}/calls.c"
+    def calls(self, source):
+        """Runs a source's checks plainly, with the address sanitizer, and under valgrind."""
         plain = self.compile(source, "-O2", static=False)
         checked = self.compile(source, "-g", "-O1", "-fsanitize=address,undefined", "-fno-sanitize-recover=all")
         valgrind = ["valgrind", "-q", "--leak-check=full", "--show-leak-kinds=all", "--error-exitcode=9"]
         for name, command in [("plainly", [plain]), ("with addresses checked", [checked]), ("under valgrind", [*valgrind, plain])]:
             ran = self.run(command)
-            self.check(f"calls, {name}", ran.returncode == 0 and b"checks hold" in ran.stdout, ran)
+            self.check(f"{os.path.basename(source)}, {name}", ran.returncode == 0 and b"checks hold" in ran.stdout, ran)
 
     def sizes(self):
         checked = self.compile(f"{HERE}/sizes.c", "-g", "-O1", "-fsanitize=address,undefined", "-fno-sanitize-recover=all")
@@ -179,9 +181,12 @@ class Tests:
         """Compares runs of lines on one sketch, whose strings are passed in one call, with the program's replies to each line."""
         batches = self.compile(f"{HERE}/batches.c", "-g", "-O1", "-fsanitize=address,undefined", "-fno-sanitize-recover=all")
         lines = "".join(f"{line}\n" for line in runs_by_chance(6_000)).encode()
-        wanted, got = (self.run([it], lines).stdout.splitlines() for it in [self.program, batches])
-        unlike = next((it for it in zip(wanted, got) if it[0] != it[1]), "")
-        self.check("six thousand lines in runs", len(wanted) >= 6_000 and wanted == got, (len(wanted), len(got), unlike))
+        wanted = self.run([self.program], lines).stdout.splitlines()
+        for name, words in [("with offsets", []), ("as pairs", ["pairs"])]:
+            got = self.run([batches, *words], lines).stdout.splitlines()
+            unlike = next((it for it in zip(wanted, got) if it[0] != it[1]), "")
+            same = len(wanted) >= 6_000 and wanted == got
+            self.check(f"six thousand lines in runs, {name}", same, (len(wanted), len(got), unlike))
         for word in [b"yes", b"no", b"estimate"]:
             self.check(f"some line in a run gets {word.decode()}", any(reply.startswith(word) for reply in wanted))
 
@@ -286,7 +291,9 @@ def main():
     with tempfile.TemporaryDirectory() as work:
         tests = Tests(os.path.abspath(words[0]), words[1:], work)
         tests.header()
-        tests.calls()
+        tests.calls(f"{HERE}/calls.c")
+        tests.calls(f"{HERE}/pairs.c")
+        tests.calls(f"{HERE}/words.c")
         tests.sizes()
         tests.requests_counted()
         requests = tests.refused_in_turn()

@@ -298,5 +298,39 @@ class Compressed(InFolder):
         self.assertEqual(str(refused.exception), f"{path} needs the package python3-zstandard")
 
 
+class Bytes(unittest.TestCase):
+    """The lines and the columns that a sketch splits itself are those that Python's csv reads."""
+
+    def test_random_blocks(self):
+        chance, plain = random.Random(3), 0
+        for attempt in range(5000):
+            delimiter = chance.choice([",", ";", "\t"])
+            pieces = ["a", "b", "ä", delimiter, delimiter, "\n", "\n", "\r\n", " ", "x" * 5]
+            if attempt % 5 == 0:
+                pieces += ['"', "\r"]
+            data = "".join(chance.choices(pieces, k=chance.randrange(40))).encode()
+            lines = sketch_parts.full_lines(data)
+            wanted = sketch_parts.lines_of("block", 0, data)
+            one, other = sketch_parts.Heavy(1024).empty(), sketch_parts.Heavy(1024).empty()
+            one.update_lines(lines)
+            other.update(wanted)
+            self.assertEqual(one.rows(), other.rows(), data)
+            self.assertEqual(lines.count(b"\n") + (lines != b"" and not lines.endswith(b"\n")), len(wanted))
+            columns = Columns(chance.randrange(3), None, delimiter)
+            fields = sketch_parts.column_lines(columns, data)
+            if fields is not None:
+                part = sketch_parts.Part("block", 0, len(data), None, columns=columns)
+                self.assertEqual(fields.decode().split("\n")[:-1], sketch_parts.batch_of(part, 0, data, 0, 9).items, data)
+                plain += 1
+        self.assertTrue(plain > 1000 or sketch_parts.numpy is None)
+
+    def test_another_column_is_checked_too(self):
+        with tempfile.TemporaryDirectory() as folder:
+            path = write(folder, "bad", b"a,b\nc,\xff\n")
+            for item in (0, 1):
+                with self.assertRaisesRegex(BadInput, "line at byte 4: not UTF-8"):
+                    sketch_parts.sketch_part(sketch_parts.Heavy(64), whole(path, columns=Columns(item)))
+
+
 if __name__ == "__main__":
     unittest.main()

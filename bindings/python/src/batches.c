@@ -78,8 +78,9 @@ static bool handle_interrupt(void)
     return !PyErr_Occurred();
 }
 
-/* Releases the sketch's lock for the handler, which may use the sketch. Handlers of other signals run after the batch. */
-bool batch_goes_on(Batch *batch)
+/* Checks for Ctrl-C between two chunks, from time to time. Returns false, with an error set, if the batch ends. Releases the
+ * sketch's lock for the handler, which may use the sketch. Handlers of other signals run after the batch. */
+static bool batch_goes_on(Batch *batch)
 {
     bool goes_on = true;
     if (batch->thread == NULL)
@@ -124,7 +125,7 @@ static void set_error(int32_t answer, const Batch *batch, const Items *items)
         PyErr_Format(PyExc_MemoryError, "memory ended when %zu of %zu items were counted", batch->done, items->count);
     else if (answer == DS_NO_MEMORY)
         PyErr_Format(PyExc_MemoryError, "memory ended when %zu items were counted", batch->done);
-    else if (answer == CHANGED)
+    else if (answer == CHANGED || answer == DS_INVALID_UTF8) /* all strings were checked before */
         PyErr_SetString(PyExc_RuntimeError, "another thread changed a buffer during the call");
     else if (answer != STOPPED)
         refuse(answer);
@@ -132,15 +133,63 @@ static void set_error(int32_t answer, const Batch *batch, const Items *items)
         note_taken(batch->done);
 }
 
-PyObject *update_all(Sketch *self, Items *items, Weights *weights, items_check check, update_work work)
+/* Returns the number of items from index `from` on that are all strings, or all numbers. Copies such numbers. */
+static size_t run_length(Chunk *chunk, const Items *items, size_t from)
 {
-    Batch batch = {.self = self, .took = QUICK};
+    size_t end = from;
+    if (!items->with_texts)
+        return chunk->count;
+    for (bool text = chunk->strings[from].bytes != NULL; end < chunk->count && text == (chunk->strings[end].bytes != NULL); end++)
+        chunk->numbers[end] = chunk->strings[end].length;
+    return end - from;
+}
+
+/* Takes the items of a chunk. */
+static int32_t take_chunk(Batch *batch, Chunk *chunk, bool with_weights, const Updates *updates)
+{
+    int32_t answer = DS_OK;
+    for (size_t i = 0, count; i < chunk->count && answer >= 0; i += count) {
+        const uint64_t *weights = with_weights ? chunk->weights + i : NULL;
+        count = run_length(chunk, batch->items, i);
+        if (batch->items->with_texts && chunk->strings[i].bytes != NULL)
+            answer = updates->strings(batch, chunk->strings + i, weights, count);
+        else
+            answer = updates->numbers(batch, chunk->numbers + i, weights, count);
+        batch->done += answer >= 0 ? count : 0;
+    }
+    return answer;
+}
+
+/* Takes all items that were read. Runs without the interpreter's lock, but for quick chunks. */
+static int32_t take_items(Batch *batch, const Weights *weights, const Updates *updates)
+{
+    Chunk chunk;
+    const Items *items = batch->items;
+    bool by_one = updates->room == NULL || (!weights->each && weights->same == 1);
+    int32_t answer = updates->room != NULL ? weights_fit(items, weights, updates->room(batch->self)) : DS_OK;
+    chunk_open(&chunk, items->count, by_one && updates->longest != NULL ? updates->longest(batch->self) : CHUNK);
+    for (size_t i = 0; i < items->count && answer >= 0; i += chunk.rows) {
+        if (i > 0 && !batch_goes_on(batch))
+            answer = STOPPED;
+        else
+            answer = chunk_read(&chunk, items, by_one ? NULL : weights, i);
+        if (answer >= 0)
+            answer = take_chunk(batch, &chunk, !by_one, updates);
+    }
+    chunk_close(&chunk);
+    return answer;
+}
+
+PyObject *update_all(Sketch *self, Items *items, Weights *weights, const Updates *updates)
+{
+    Batch batch = {.self = self, .items = items, .took = QUICK};
     int32_t answer;
     do {
         answer = STOPPED;
-        if (!update_next(items, weights) || (check != NULL && !check(self, items)) || !batch_begin(&batch, items))
+        if (!update_next(items, weights) || (updates->check != NULL && !updates->check(self, items)) ||
+            !batch_begin(&batch, items))
             break;
-        answer = work(&batch, items, weights);
+        answer = take_items(&batch, weights, updates);
         batch_end(&batch);
     } while (answer >= 0 && items->iterator != NULL);
     if (answer < 0)
@@ -163,7 +212,10 @@ static bool room_in_array(const Question *question, size_t count, Room *room)
 {
     PyObject *numpy = PyImport_ImportModule("numpy");
     PyObject *empty = numpy != NULL ? attribute(numpy, "empty") : NULL;
-    room->array = empty != NULL ? PyObject_CallFunction(empty, "ns", (Py_ssize_t)count, question->kind) : NULL;
+    Py_ssize_t rows = (Py_ssize_t)count;
+    if (empty != NULL)
+        room->array = question->width == 1 ? PyObject_CallFunction(empty, "ns", rows, question->kind)
+                                           : PyObject_CallFunction(empty, "(ni)s", rows, question->width, question->kind);
     Py_XDECREF(empty);
     Py_XDECREF(numpy);
     if (room->array == NULL || PyObject_GetBuffer(room->array, &room->view, PyBUF_CONTIG) < 0)
@@ -195,13 +247,48 @@ static void room_release(Room *room)
     Py_CLEAR(room->array);
 }
 
+/* Writes the results for a chunk. */
+static int32_t ask_chunk(Batch *batch, Chunk *chunk, const Question *question, char *answers)
+{
+    int32_t answer = DS_OK;
+    for (size_t i = 0, count; i < chunk->count && answer >= 0; i += count) {
+        char *place = answers + i * question->size;
+        count = run_length(chunk, batch->items, i);
+        if (batch->items->with_texts && chunk->strings[i].bytes != NULL)
+            answer = question->strings(batch, chunk->strings + i, count, place);
+        else
+            answer = question->numbers(batch, chunk->numbers + i, count, place);
+    }
+    return answer;
+}
+
+static int32_t ask_items(Batch *batch, const Question *question, char *answers)
+{
+    Chunk chunk;
+    const Items *items = batch->items;
+    int32_t answer = DS_OK;
+    chunk_open(&chunk, items->count, question->longest != NULL ? question->longest(batch->self) : CHUNK);
+    for (size_t i = 0; i < items->count && answer >= 0; i += chunk.rows) {
+        answer = i > 0 && !batch_goes_on(batch) ? STOPPED : chunk_read(&chunk, items, NULL, i);
+        if (answer >= 0 && chunk.count < chunk.rows)
+            answer = CHANGED;
+        if (answer >= 0)
+            answer = ask_chunk(batch, &chunk, question, answers + i * question->size);
+    }
+    chunk_close(&chunk);
+    return answer;
+}
+
 static bool ask(Batch *batch, const Question *question, const Items *items, void *answers)
 {
-    if (!batch_begin(batch, items))
+    batch->items = items;
+    if ((question->check != NULL && !question->check(batch->self, items)) || !batch_begin(batch, items))
         return false;
-    int32_t answer = question->work(batch, items, answers);
+    int32_t answer = ask_items(batch, question, answers);
     batch_end(batch);
-    if (answer < 0 && answer != STOPPED)
+    if (answer == CHANGED || answer == DS_INVALID_UTF8)
+        set_error(CHANGED, batch, items);
+    else if (answer < 0 && answer != STOPPED)
         refuse(answer);
     return answer >= 0;
 }
@@ -251,25 +338,43 @@ static PyObject *ask_stream(Batch *batch, const Question *question, Items *items
     return list;
 }
 
-PyObject *ask_all(Sketch *self, PyObject *given, const Question *question)
+/* Returns whether no item is missing. Sets an error if one is: it has no result. */
+static bool no_gaps(const Items *items, const Question *question)
 {
-    Batch batch = {.self = self, .took = QUICK};
+    size_t gaps = items_gaps(items);
+    if (gaps > 0)
+        PyErr_Format(PyExc_ValueError, "%s takes no missing items, and %zu of %zu are missing: drop them first", question->call,
+                     gaps, items->count);
+    return gaps == 0;
+}
+
+static PyObject *ask_source(Batch *batch, const Source *source, const Question *question)
+{
     Items items = {0};
     Room room = {0};
     PyObject *result = NULL;
-    PyObject *source = source_of(given, question->call);
-    if (source == NULL)
-        return NULL;
-    if (is_masked(source))
-        PyErr_Format(PyExc_TypeError, "%s takes no masked array: write %s(array.compressed())", question->call, question->call);
-    else if (items_open(source, &items)) {
+    if (items_open(source, &items)) {
         if (items.iterator != NULL)
-            result = ask_stream(&batch, question, &items);
-        else if (room_for(question, is_numpy_array(source), items.count, &room) && ask(&batch, question, &items, room.values))
-            result = room.array != NULL ? Py_NewRef(room.array) : list_of(self, question, room.values, items.count);
+            result = ask_stream(batch, question, &items);
+        else if (no_gaps(&items, question) && room_for(question, source->in_array, items.count, &room) &&
+                 ask(batch, question, &items, room.values))
+            result = room.array != NULL ? Py_NewRef(room.array) : list_of(batch->self, question, room.values, items.count);
     }
     room_release(&room);
     items_release(&items);
-    Py_DECREF(source);
+    return result;
+}
+
+PyObject *ask_all(Sketch *self, PyObject *given, const Question *question)
+{
+    Batch batch = {.self = self, .took = QUICK};
+    Source source;
+    PyObject *result = NULL;
+    if (is_masked(given))
+        return PyErr_Format(PyExc_TypeError, "%s takes no masked array: write %s(array.compressed())", question->call,
+                            question->call);
+    if (source_of(given, question->call, false, &source))
+        result = ask_source(&batch, &source, question);
+    source_release(&source);
     return result;
 }

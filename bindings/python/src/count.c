@@ -276,6 +276,8 @@ static PyGetSetDef count_fields[] = {
 
 static PyMethodDef count_methods[] = {
     {"update", FAST(count_update), METH_FASTCALL, count_update_doc},
+    WITH_KEYWORDS("update_words", count_update_words),
+    WITH_KEYWORDS("update_lines", count_update_lines),
     {"estimate", count_estimate, METH_O, count_estimate_doc},
     {"upper_bound", count_upper_bound, METH_O, count_upper_bound_doc},
     {"halve", count_halve, METH_NOARGS, halve_doc},
@@ -286,8 +288,8 @@ static PyMethodDef count_methods[] = {
     {"__reduce__", count_reduce, METH_NOARGS, NULL},
     {"_unpickle", count_unpickle, METH_CLASS | METH_VARARGS, NULL},
     {"__sizeof__", sketch_sizeof, METH_NOARGS, sketch_sizeof_doc},
-    SUGGESTS("suggest_num_buckets", count_suggest_buckets),
-    SUGGESTS("suggest_num_hashes", count_suggest_hashes),
+    CLASS_METHOD("suggest_num_buckets", count_suggest_buckets),
+    CLASS_METHOD("suggest_num_hashes", count_suggest_hashes),
     {"close", sketch_close, METH_NOARGS, sketch_close_doc},
     {"__copy__", sketch_copy, METH_NOARGS, NULL},
     {"__deepcopy__", sketch_deepcopy, METH_O, NULL},

@@ -6,25 +6,9 @@
 #define LONG_CHUNK ((size_t)1 << 19)
 #define LONG_WORK ((size_t)1 << 23)
 
-/* Returns room for the numbers of one call, of `count` in all: `few`, or memory that `chunk_release` frees. Sets `most` to the
- * maximum number that a call gets. */
-static uint64_t *chunk_for(const Sketch *self, size_t count, uint64_t *few, size_t *most)
+static size_t longest(const Sketch *self)
 {
-    uint64_t *many = NULL;
-    size_t longest = self->hashes > 16 ? LONG_WORK / self->hashes : LONG_CHUNK;
-    *most = count < longest ? count : longest;
-    if (*most > CHUNK)
-        many = PyMem_RawMalloc(*most * sizeof *many);
-    if (many != NULL)
-        return many;
-    *most = CHUNK;
-    return few;
-}
-
-static void chunk_release(uint64_t *chunk, const uint64_t *few)
-{
-    if (chunk != few)
-        PyMem_RawFree(chunk);
+    return self->hashes > 16 ? LONG_WORK / self->hashes : LONG_CHUNK;
 }
 
 static int32_t update_one(Sketch *self, const Item *item, uint64_t weight)
@@ -66,89 +50,53 @@ static int32_t upper_bound_one(Sketch *self, const Item *item, uint64_t *number)
                             : ds_count_min_u64_upper_bound_u64(handle, item->value, number);
 }
 
-static int32_t update_numbers(Sketch *self, bool with_sign, const uint64_t *numbers, size_t count)
+/* Returns the sum of weights that does not overflow. */
+static uint64_t room(Sketch *self)
 {
+    ds_count_min_status status = {0};
     if (self->with_sign)
-        return with_sign ? ds_count_min_i64_update_all_i64(&self->handle, (const int64_t *)numbers, count)
-                         : ds_count_min_i64_update_all_u64(&self->handle, numbers, count);
-    return with_sign ? ds_count_min_u64_update_all_i64(&self->handle, (const int64_t *)numbers, count)
-                     : ds_count_min_u64_update_all_u64(&self->handle, numbers, count);
+        ds_count_min_i64_get_status(&self->handle, &status);
+    else
+        ds_count_min_u64_get_status(&self->handle, &status);
+    return (self->with_sign ? INT64_MAX : UINT64_MAX) - status.total_weight;
 }
 
-static int32_t update_numbers_by(Sketch *self, bool with_sign, const uint64_t *numbers, const uint64_t *weights, size_t count)
+static int32_t update_strings(Batch *batch, const ds_string *strings, const uint64_t *weights, size_t count)
 {
-    ds_sketch *handle = &self->handle;
-    const int64_t *with = (const int64_t *)numbers;
-    if (self->with_sign)
-        return with_sign ? ds_count_min_i64_update_all_weighted_i64(handle, with, count, (const int64_t *)weights, count)
-                         : ds_count_min_i64_update_all_weighted_u64(handle, numbers, count, (const int64_t *)weights, count);
-    return with_sign ? ds_count_min_u64_update_all_weighted_i64(handle, with, count, weights, count)
-                     : ds_count_min_u64_update_all_weighted_u64(handle, numbers, count, weights, count);
+    ds_sketch *handle = &batch->self->handle;
+    const int64_t *with_sign = (const int64_t *)weights;
+    if (batch->self->with_sign)
+        return weights == NULL
+                   ? (ds_count_min_i64_update_all_string_pairs)(handle, strings, count)
+                   : (ds_count_min_i64_update_all_weighted_string_pairs)(handle, strings, count, with_sign, count);
+    return weights == NULL ? (ds_count_min_u64_update_all_string_pairs)(handle, strings, count)
+                           : (ds_count_min_u64_update_all_weighted_string_pairs)(handle, strings, count, weights, count);
 }
 
-/* Adds 1 to each number's weight. */
-static int32_t update_by_one(Batch *batch, const Items *items)
+/* A number below 0 is the same item as its unsigned number of the same bytes. */
+static int32_t update_numbers(Batch *batch, const uint64_t *numbers, const uint64_t *weights, size_t count)
 {
-    uint64_t few[CHUNK];
-    size_t most;
-    uint64_t *chunk = chunk_for(batch->self, items->count, few, &most);
-    int32_t answer = DS_OK;
-    for (size_t i = 0, count; i < items->count && answer >= 0; i += count) {
-        count = items_chunk(items, i, most, chunk);
-        answer = i > 0 && !batch_goes_on(batch) ? STOPPED : update_numbers(batch->self, items->with_sign, chunk, count);
-        batch->done += answer >= 0 ? count : 0;
-    }
-    chunk_release(chunk, few);
-    return answer;
+    ds_sketch *handle = &batch->self->handle;
+    const int64_t *with_sign = (const int64_t *)weights;
+    if (batch->self->with_sign)
+        return weights == NULL ? ds_count_min_i64_update_all_u64(handle, numbers, count)
+                               : ds_count_min_i64_update_all_weighted_u64(handle, numbers, count, with_sign, count);
+    return weights == NULL ? ds_count_min_u64_update_all_u64(handle, numbers, count)
+                           : ds_count_min_u64_update_all_weighted_u64(handle, numbers, count, weights, count);
 }
 
-static int32_t update_each(Batch *batch, const Item *items, const uint64_t *weights, size_t count)
-{
-    int32_t answer = DS_OK;
-    for (size_t i = 0; i < count && answer >= 0; i++) {
-        answer = update_one(batch->self, &items[i], weights[i]);
-        batch->done += answer >= 0;
-    }
-    return answer;
-}
-
-static int32_t update_many(Batch *batch, const Items *items, const Weights *weights)
-{
-    uint64_t numbers[CHUNK], chunk[CHUNK];
-    Sketch *self = batch->self;
-    ds_count_min_status was;
-    int32_t answer = self->with_sign ? ds_count_min_i64_get_status(&self->handle, &was)
-                                     : ds_count_min_u64_get_status(&self->handle, &was);
-    if (answer >= 0)
-        answer = weights_fit(weights, items->count, (self->with_sign ? INT64_MAX : UINT64_MAX) - was.total_weight);
-    if (answer < 0)
-        return answer;
-    if (!items->with_texts && !weights->each && weights->same == 1)
-        return update_by_one(batch, items);
-    for (size_t i = 0, count; i < items->count && answer >= 0; i += count) {
-        if (i > 0 && !batch_goes_on(batch))
-            return STOPPED;
-        count = items_chunk(items, i, CHUNK, numbers);
-        if (!weights_chunk(weights, i, count, chunk))
-            return CHANGED;
-        if (items->with_texts)
-            answer = update_each(batch, &items->items[i], chunk, count);
-        else
-            answer = update_numbers_by(self, items->with_sign, numbers, chunk, count);
-        if (answer >= 0 && !items->with_texts)
-            batch->done += count;
-    }
-    return answer;
-}
+static const Updates updates = {.room = room, .longest = longest, .strings = update_strings, .numbers = update_numbers};
 
 const char count_update_doc[] = PyDoc_STR(
 "update($self, items, weight=1, /)\n--\n\n"
-"Add a weight to an item's, or to those of many: an iterable, a buffer of integers, or an array of strings.\n\n"
+"Add a weight to an item's, or to those of many: an iterable, a buffer of integers, an array of strings, or a column of\n"
+"Arrow or pandas.\n\n"
 "The weight is from 0 to 2**64 - 1, in a signed sketch from -2**63 to 2**63 - 1. Many items have one weight each, or a\n"
-"weight for each item in an iterable or a buffer. A mapping adds its values to the weights of its keys. Raise\n"
-"'WeightOverflow' if the total weight would exceed the maximum. Then nothing is counted.\n\n"
-"All items of a list, an array or a mapping are checked before the first is counted. Any other iterable is checked and\n"
-"counted 4,096 items at a time. A later error has a note with the number of counted items.\n\n"
+"weight for each item in an iterable, a buffer or a column. Missing items and items with a missing weight are skipped. A\n"
+"mapping adds its values to the weights of its keys. Raise 'WeightOverflow' if the total weight would exceed the maximum.\n"
+"Then nothing is counted.\n\n"
+"All items of a list, an array, a column or a mapping are checked before the first is counted. Any other iterable is\n"
+"checked and counted 4,096 items at a time. A later error has a note with the number of counted items.\n\n"
 ">>> import datasketches_rattle as ds\n"
 ">>> load = ds.CountMinSketch(num_hashes=4, num_buckets=1 << 10)\n"
 ">>> load.update(7, 30)\n"
@@ -172,7 +120,7 @@ PyObject *count_update(PyObject *object, PyObject *const *args, Py_ssize_t count
         return PyErr_Format(PyExc_TypeError, "update takes items and a weight, not %zd arguments", count);
     if (!is_single(args[0])) {
         bool opened = update_open(args[0], given, self->with_sign, &items, &weights);
-        return opened ? update_all(self, &items, &weights, NULL, update_many) : NULL;
+        return opened ? update_all(self, &items, &weights, &updates) : NULL;
     }
     if ((given != NULL && !number_of_kind(given, "weight", self->with_sign, &weight)) || !item_of(args[0], &item) ||
         !sketch_ready(self))
@@ -207,49 +155,25 @@ PyObject *count_at(PyObject *object, PyObject *item)
     return asked(object, item, estimate_one);
 }
 
-static int32_t estimate_numbers(Sketch *self, bool with_sign, const uint64_t *items, size_t count, uint64_t *numbers)
+static int32_t estimate_strings(Batch *batch, const ds_string *strings, size_t count, void *answers)
 {
-    if (self->with_sign)
-        return with_sign ? ds_count_min_i64_estimate_all_i64(&self->handle, (const int64_t *)items, count, (int64_t *)numbers,
-                                                             count)
-                         : ds_count_min_i64_estimate_all_u64(&self->handle, items, count, (int64_t *)numbers, count);
-    return with_sign ? ds_count_min_u64_estimate_all_i64(&self->handle, (const int64_t *)items, count, numbers, count)
-                     : ds_count_min_u64_estimate_all_u64(&self->handle, items, count, numbers, count);
+    ds_sketch *handle = &batch->self->handle;
+    return batch->self->with_sign ? (ds_count_min_i64_estimate_all_string_pairs)(handle, strings, count, answers, count)
+                                  : (ds_count_min_u64_estimate_all_string_pairs)(handle, strings, count, answers, count);
 }
 
-static int32_t estimate_texts(Batch *batch, const Items *items, uint64_t *numbers)
+static int32_t estimate_numbers(Batch *batch, const uint64_t *numbers, size_t count, void *answers)
 {
-    int32_t answer = DS_OK;
-    for (size_t i = 0; i < items->count && answer >= 0; i++) {
-        bool goes_on = i % CHUNK != CHUNK - 1 || batch_goes_on(batch);
-        answer = goes_on ? estimate_one(batch->self, &items->items[i], &numbers[i]) : STOPPED;
-    }
-    return answer;
-}
-
-static int32_t estimate_many(Batch *batch, const Items *items, void *room)
-{
-    uint64_t few[CHUNK], *numbers = room;
-    size_t most;
-    int32_t answer = DS_OK;
-    if (items->with_texts)
-        return estimate_texts(batch, items, numbers);
-    uint64_t *chunk = chunk_for(batch->self, items->count, few, &most);
-    for (size_t i = 0, count; i < items->count && answer >= 0; i += count) {
-        count = items_chunk(items, i, most, chunk);
-        answer = i > 0 && !batch_goes_on(batch)
-                     ? STOPPED
-                     : estimate_numbers(batch->self, items->with_sign, chunk, count, numbers + i);
-    }
-    chunk_release(chunk, few);
-    return answer;
+    ds_sketch *handle = &batch->self->handle;
+    return batch->self->with_sign ? ds_count_min_i64_estimate_all_u64(handle, numbers, count, answers, count)
+                                  : ds_count_min_u64_estimate_all_u64(handle, numbers, count, answers, count);
 }
 
 const char count_estimate_doc[] = PyDoc_STR(
 "estimate($self, items, /)\n--\n\n"
 "Return the estimate of an item's weight, as `load[item]` does. It is never below what was added since the last halving\n"
 "or decay, if no weight is below 0.\n\n"
-"Return a list of estimates for many items, and an array for a numpy array.\n\n"
+"Return a list of estimates for many items, and an array for an array of numpy or pandas.\n\n"
 ">>> import datasketches_rattle as ds\n"
 ">>> load = ds.CountMinSketch(num_hashes=4, num_buckets=1 << 10)\n"
 ">>> load.update(7, 30)\n"
@@ -263,8 +187,12 @@ static PyObject *number_at(const Sketch *self, const void *answers, size_t index
 
 PyObject *count_estimate(PyObject *object, PyObject *given)
 {
-    static const Question natural = {"estimate", sizeof(uint64_t), "u8", number_at, estimate_many};
-    static const Question with_sign = {"estimate", sizeof(int64_t), "i8", number_at, estimate_many};
+    static const Question natural = {.call = "estimate", .size = sizeof(uint64_t), .kind = "u8", .width = 1,
+                                     .object = number_at, .longest = longest, .strings = estimate_strings,
+                                     .numbers = estimate_numbers};
+    static const Question with_sign = {.call = "estimate", .size = sizeof(int64_t), .kind = "i8", .width = 1,
+                                       .object = number_at, .longest = longest, .strings = estimate_strings,
+                                       .numbers = estimate_numbers};
     Sketch *self = (Sketch *)object;
     return is_single(given) ? count_at(object, given) : ask_all(self, given, self->with_sign ? &with_sign : &natural);
 }

@@ -172,12 +172,14 @@ static PyGetSetDef filter_fields[] = {
 
 static PyMethodDef filter_methods[] = {
     {"insert", filter_insert, METH_O, filter_insert_doc},
+    WITH_KEYWORDS("insert_words", filter_insert_words),
+    WITH_KEYWORDS("insert_lines", filter_insert_lines),
     {"contains", filter_contains, METH_O, filter_contains_doc},
     {"reset", filter_reset, METH_NOARGS, reset_doc},
     {"serialize", filter_serialize, METH_NOARGS, serialize_doc},
     {"deserialize", (PyCFunction)(void (*)(void))filter_deserialize, METH_CLASS | METH_VARARGS | METH_KEYWORDS, deserialize_doc},
-    SUGGESTS("suggest_num_bits", filter_suggest_bits),
-    SUGGESTS("suggest_num_hashes", filter_suggest_hashes),
+    CLASS_METHOD("suggest_num_bits", filter_suggest_bits),
+    CLASS_METHOD("suggest_num_hashes", filter_suggest_hashes),
     {"close", sketch_close, METH_NOARGS, sketch_close_doc},
     {"__bytes__", filter_serialize, METH_NOARGS, NULL},
     {"__copy__", sketch_copy, METH_NOARGS, NULL},

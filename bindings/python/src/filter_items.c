@@ -16,70 +16,34 @@ static int32_t contains_one(ds_sketch *handle, const Item *item)
                           : ds_bloom_contains_u64(handle, item->value);
 }
 
-static int32_t insert_texts(ds_sketch *handle, const Item *items, size_t count, size_t *done)
+static int32_t insert_strings(Batch *batch, const ds_string *strings, const uint64_t *Py_UNUSED(weights), size_t count)
 {
-    int32_t answer = DS_OK;
-    for (size_t i = 0; i < count && answer >= 0; i++) {
-        answer = insert_one(handle, &items[i]);
-        *done += answer >= 0;
-    }
-    return answer;
+    return (ds_bloom_insert_all_string_pairs)(&batch->self->handle, strings, count);
 }
 
-static int32_t insert_many(Batch *batch, const Items *items, const Weights *Py_UNUSED(weights))
+/* A number below 0 is the same item as its unsigned number of the same bytes. */
+static int32_t insert_numbers(Batch *batch, const uint64_t *numbers, const uint64_t *Py_UNUSED(weights), size_t count)
 {
-    uint64_t chunk[CHUNK];
-    ds_sketch *handle = &batch->self->handle;
-    int32_t answer = DS_OK;
-    for (size_t i = 0, count; i < items->count && answer >= 0; i += count) {
-        if (i > 0 && !batch_goes_on(batch))
-            return STOPPED;
-        count = items_chunk(items, i, CHUNK, chunk);
-        if (items->with_texts)
-            answer = insert_texts(handle, &items->items[i], count, &batch->done);
-        else
-            answer = items->with_sign ? ds_bloom_insert_all_i64(handle, (const int64_t *)chunk, count)
-                                      : ds_bloom_insert_all_u64(handle, chunk, count);
-        if (answer >= 0 && !items->with_texts)
-            batch->done += count;
-    }
-    return answer;
+    return ds_bloom_insert_all_u64(&batch->self->handle, numbers, count);
 }
 
-static int32_t contains_texts(ds_sketch *handle, const Item *items, size_t count, bool *answers)
+static const Updates inserts = {.strings = insert_strings, .numbers = insert_numbers};
+
+static int32_t contains_strings(Batch *batch, const ds_string *strings, size_t count, void *answers)
 {
-    int32_t answer = DS_OK;
-    for (size_t i = 0; i < count && answer >= 0; i++) {
-        answer = contains_one(handle, &items[i]);
-        answers[i] = answer == DS_YES;
-    }
-    return answer;
+    return (ds_bloom_contains_all_string_pairs)(&batch->self->handle, strings, count, answers, count);
 }
 
-static int32_t contains_many(Batch *batch, const Items *items, void *room)
+static int32_t contains_numbers(Batch *batch, const uint64_t *numbers, size_t count, void *answers)
 {
-    uint64_t chunk[CHUNK];
-    bool *answers = room;
-    ds_sketch *handle = &batch->self->handle;
-    int32_t answer = DS_OK;
-    for (size_t i = 0, count; i < items->count && answer >= 0; i += count) {
-        if (i > 0 && !batch_goes_on(batch))
-            return STOPPED;
-        count = items_chunk(items, i, CHUNK, chunk);
-        if (items->with_texts)
-            answer = contains_texts(handle, &items->items[i], count, answers + i);
-        else
-            answer = items->with_sign
-                         ? ds_bloom_contains_all_i64(handle, (const int64_t *)chunk, count, answers + i, count)
-                         : ds_bloom_contains_all_u64(handle, chunk, count, answers + i, count);
-    }
-    return answer;
+    return ds_bloom_contains_all_u64(&batch->self->handle, numbers, count, answers, count);
 }
 
 const char filter_insert_doc[] = PyDoc_STR(
 "insert($self, items, /)\n--\n\n"
-"Insert a str, an int, or each of many: a list or other iterable of these, a buffer of integers, or an array of strings.\n\n"
-"All items of a list or an array are checked before the first is inserted. Any other iterable is checked and inserted\n"
+"Insert a str, an int, or each of many: a list or other iterable of these, a buffer of integers, an array of strings, or a\n"
+"column of Arrow or pandas, of which missing items are skipped.\n\n"
+"All items of a list, an array or a column are checked before the first is inserted. Any other iterable is checked and inserted\n"
 "4,096 items at a time. A later error has a note with the number of inserted items. A mapping is rejected: "
 "write 'insert(mapping.keys())'.\n\n"
 ">>> import datasketches_rattle as ds\n"
@@ -96,7 +60,7 @@ PyObject *filter_insert(PyObject *object, PyObject *given)
     Items items;
     Weights weights;
     if (!is_single(given))
-        return items_of(given, "insert", &items, &weights) ? update_all(self, &items, &weights, NULL, insert_many) : NULL;
+        return items_of(given, "insert", &items, &weights) ? update_all(self, &items, &weights, &inserts) : NULL;
     if (!item_of(given, &item) || !sketch_ready(self))
         return NULL;
     int32_t answer = insert_one(&self->handle, &item);
@@ -119,7 +83,8 @@ int filter_has(PyObject *object, PyObject *given)
 
 const char filter_contains_doc[] = PyDoc_STR(
 "contains($self, items, /)\n--\n\n"
-"Return whether the filter contains an item. Return a list of bools for many items, and an array for a numpy array.\n\n"
+"Return whether the filter contains an item. Return a list of bools for many items, and an array for an array of\n"
+"numpy or pandas.\n\n"
 "False is certain for items that were only inserted and never taken away. True may be a false positive.\n\n"
 ">>> import datasketches_rattle as ds\n"
 ">>> seen = ds.BloomFilter(num_bits=1024, num_hashes=5)\n"
@@ -136,7 +101,8 @@ static PyObject *bool_at(const Sketch *Py_UNUSED(self), const void *answers, siz
 
 PyObject *filter_contains(PyObject *object, PyObject *given)
 {
-    static const Question contains = {"contains", sizeof(bool), "?", bool_at, contains_many};
+    static const Question contains = {.call = "contains", .size = sizeof(bool), .kind = "?", .width = 1, .object = bool_at,
+                                      .strings = contains_strings, .numbers = contains_numbers};
     if (!is_single(given))
         return ask_all((Sketch *)object, given, &contains);
     int answer = filter_has(object, given);

@@ -1,8 +1,6 @@
 /* FrequentItemsSketch: heavy hitters. Items are signed or unsigned 64-bit int, or str. */
 #include "sketches.h"
 
-#include <string.h>
-
 /* The library's calls for one type of items. */
 typedef struct {
     const char *name;
@@ -124,14 +122,18 @@ static Py_hash_t frequent_hash(PyObject *object)
     return PyBaseObject_Type.tp_hash(object);
 }
 
-static bool numbers_of(PyObject *object, ds_frequent_items_status *numbers)
+bool frequent_status(Sketch *self, ds_frequent_items_status *numbers)
 {
-    Sketch *self = (Sketch *)object;
     if (!sketch_lock(self))
         return false;
     int32_t answer = kind_of(self)->status(&self->handle, numbers);
     sketch_unlock(self);
     return answer >= 0 || refuse(answer) != NULL;
+}
+
+static bool numbers_of(PyObject *object, ds_frequent_items_status *numbers)
+{
+    return frequent_status((Sketch *)object, numbers);
 }
 
 PyDoc_STRVAR(reset_doc,
@@ -232,91 +234,34 @@ static PyObject *frequent_unpickle(PyObject *type, PyObject *args)
     return sketch_unpickle(type, args, names, frequent_deserialize);
 }
 
-/* Room for rows: their items and their bounds. */
-typedef struct {
-    uint64_t *items;
-    ds_frequent_items_bounds *bounds;
-} Rows;
+PyDoc_STRVAR(frequent_from_file_doc,
+"from_file($type, path, split='words', max_map_size=4096, sample_size=None, progress=None)\n--\n\n"
+"Return a sketch of the words of a file in UTF-8, or of its lines with `split='lines'`. They are those of `update_words` and\n"
+"`update_lines`; a byte order mark at the front is skipped.\n\n"
+"The file is read once, in chunks, so it may be a pipe. Raise 'InvalidUtf8' if some bytes are not UTF-8. With tqdm installed a\n"
+"bar shows the progress: by default on a terminal, after two seconds; with True always, and with False never.\n\n"
+">>> import datasketches_rattle as ds, os, tempfile\n"
+">>> with tempfile.TemporaryDirectory() as folder:\n"
+"...     path = os.path.join(folder, 'book.txt')\n"
+"...     with open(path, 'w', encoding='utf-8') as book:\n"
+"...         print('to be or not to be', file=book)\n"
+"...     words = ds.FrequentItemsSketch.from_file(path)\n"
+">>> words.top(2)\n"
+"[('be', 2, 2, 2), ('to', 2, 2, 2)]\n");
 
-static int32_t rows_of(Sketch *self, bool no_false_negatives, uint64_t threshold, Rows *rows, size_t room, size_t *count)
+/* Calls the function of the package's module with the class. */
+static PyObject *frequent_from_file(PyObject *type, PyObject *args, PyObject *keywords)
 {
-    return self->with_sign ? ds_frequent_items_i64_rows(&self->handle, no_false_negatives, threshold, (int64_t *)rows->items, room,
-                                                  rows->bounds, room, count)
-                           : ds_frequent_items_u64_rows(&self->handle, no_false_negatives, threshold, rows->items, room,
-                                                  rows->bounds, room, count);
-}
-
-static PyObject *row(const Sketch *self, uint64_t item, const ds_frequent_items_bounds *bounds)
-{
-    PyObject *number = self->with_sign ? PyLong_FromLongLong((int64_t)item) : PyLong_FromUnsignedLongLong(item);
-    return Py_BuildValue("NKKK", number, (unsigned long long)bounds->lower_bound, (unsigned long long)bounds->estimate,
-                         (unsigned long long)bounds->upper_bound);
-}
-
-PyDoc_STRVAR(rows_doc,
-"rows($self, /, threshold=0, no_false='negatives')\n--\n\n"
-"Return the heavy hitters, heaviest first: a list of (item, lower bound, estimate, upper bound).\n\n"
-"No item is missing that weighs more than `threshold` and more than `maximum_error`. With `no_false='positives'` each\n"
-"returned item weighs more than both, and some of these items may be missing.\n\n"
-">>> import datasketches_rattle as ds\n"
-">>> heavy = ds.FrequentItemsSketch(64)\n"
-">>> heavy.update([7, 7, 7, 8, 8, -9])\n"
-">>> heavy.rows(threshold=1)\n"
-"[(7, 3, 3, 3), (8, 2, 2, 2)]\n");
-
-static PyObject *list_of(const Sketch *self, const Rows *rows, size_t count)
-{
-    PyObject *list = PyList_New(0);
-    for (size_t i = 0; list != NULL && i < count; i++)
-        if (!append_row(list, row(self, rows->items[i], &rows->bounds[i])))
-            Py_CLEAR(list);
-    return list;
-}
-
-static PyObject *frequent_rows(PyObject *object, PyObject *args, PyObject *keywords)
-{
-    static char *names[] = {"threshold", "no_false", NULL};
-    Sketch *self = (Sketch *)object;
-    ds_frequent_items_status numbers;
-    PyObject *threshold_object = NULL;
-    const char *no_false = "negatives";
-    uint64_t threshold = 0;
-    if (!PyArg_ParseTupleAndKeywords(args, keywords, "|Os:rows", names, &threshold_object, &no_false) ||
-        (threshold_object != NULL && !natural_of(threshold_object, "threshold", &threshold)))
-        return NULL;
-    bool all = strcmp(no_false, "negatives") == 0;
-    if (!all && strcmp(no_false, "positives") != 0) {
-        PyErr_SetString(PyExc_ValueError, "no_false is 'negatives' or 'positives'");
-        return NULL;
-    }
-    if (self->with_texts)
-        return texts_rows(self, all, threshold);
-    if (!numbers_of(object, &numbers))
-        return NULL;
-    Rows rows = {NULL, NULL};
-    size_t room = (size_t)numbers.num_active_items, count = 0;
-    int32_t answer;
-    do {
-        PyMem_Free(rows.items);
-        PyMem_Free(rows.bounds);
-        rows.items = PyMem_New(uint64_t, room);
-        rows.bounds = PyMem_New(ds_frequent_items_bounds, room);
-        if (rows.items == NULL || rows.bounds == NULL) {
-            answer = DS_NO_MEMORY;
-        } else if (sketch_lock(self)) {
-            BATCH_BEGIN(self)
-            answer = rows_of(self, all, threshold, &rows, room, &count);
-            BATCH_END(self)
-            sketch_unlock(self);
-            room = answer == DS_NO_ROOM ? count : room;
-        } else {
-            answer = DS_NO_SKETCH;
-        }
-    } while (answer == DS_NO_ROOM);
-    PyObject *list = answer >= 0 ? list_of(self, &rows, count) : NULL;
-    PyMem_Free(rows.items);
-    PyMem_Free(rows.bounds);
-    return answer < 0 && answer != DS_NO_SKETCH ? refuse(answer) : list;
+    PyObject *module = PyImport_ImportModule("datasketches_rattle._files");
+    PyObject *function = module != NULL ? attribute(module, "from_file") : NULL;
+    PyObject *first = PyTuple_Pack(1, type);
+    PyObject *all = first != NULL ? PySequence_Concat(first, args) : NULL;
+    PyObject *sketch = function != NULL && all != NULL ? PyObject_Call(function, all, keywords) : NULL;
+    Py_XDECREF(module);
+    Py_XDECREF(function);
+    Py_XDECREF(first);
+    Py_XDECREF(all);
+    return sketch;
 }
 
 static PyObject *frequent_repr(PyObject *object)
@@ -352,10 +297,13 @@ static PyGetSetDef frequent_fields[] = {
 
 static PyMethodDef frequent_methods[] = {
     {"update", (PyCFunction)(void (*)(void))frequent_update, METH_FASTCALL, frequent_update_doc},
-    {"update_words", frequent_update_words, METH_O, frequent_update_words_doc},
+    WITH_KEYWORDS("update_words", frequent_update_words),
+    WITH_KEYWORDS("update_lines", frequent_update_lines),
+    CLASS_METHOD("from_file", frequent_from_file),
     {"bounds", frequent_bounds, METH_O, frequent_bounds_doc},
     {"estimate", frequent_estimate, METH_O, frequent_estimate_doc},
-    {"rows", (PyCFunction)(void (*)(void))frequent_rows, METH_VARARGS | METH_KEYWORDS, rows_doc},
+    WITH_KEYWORDS("rows", frequent_rows),
+    WITH_KEYWORDS("top", frequent_top),
     {"reset", frequent_reset, METH_NOARGS, reset_doc},
     {"serialize", frequent_serialize, METH_NOARGS, serialize_doc},
     {"deserialize", (PyCFunction)(void (*)(void))frequent_deserialize, METH_CLASS | METH_VARARGS | METH_KEYWORDS,
@@ -364,7 +312,7 @@ static PyMethodDef frequent_methods[] = {
     {"__reduce__", frequent_reduce, METH_NOARGS, NULL},
     {"_unpickle", frequent_unpickle, METH_CLASS | METH_VARARGS, NULL},
     {"__sizeof__", sketch_sizeof, METH_NOARGS, sketch_sizeof_doc},
-    SUGGESTS("suggest_max_map_size", frequent_suggest_max_map_size),
+    CLASS_METHOD("suggest_max_map_size", frequent_suggest_max_map_size),
     {"close", sketch_close, METH_NOARGS, sketch_close_doc},
     {"__copy__", sketch_copy, METH_NOARGS, NULL},
     {"__deepcopy__", sketch_deepcopy, METH_O, NULL},
@@ -374,7 +322,7 @@ static PyMethodDef frequent_methods[] = {
 };
 
 static PyNumberMethods frequent_as_number = {.nb_add = frequent_add, .nb_inplace_add = frequent_add_into};
-static PyMappingMethods frequent_as_mapping = {.mp_subscript = frequent_estimate};
+static PyMappingMethods frequent_as_mapping = {.mp_subscript = frequent_at};
 
 PyDoc_STRVAR(frequent_doc,
 "FrequentItemsSketch(max_map_size, item=int, sample_size=None)\n--\n\n"

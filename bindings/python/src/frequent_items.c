@@ -21,36 +21,78 @@ static bool counts(const Sketch *self, bool text, uint64_t value, bool negative)
     return false;
 }
 
-/* Returns whether the items are a buffer whose numbers have the other signedness than the sketch's. */
+/* Returns whether the items are numbers of runs that have the other signedness than the sketch's. */
 static bool other_sign(const Sketch *self, const Items *items)
 {
-    return items->items == NULL && items->with_sign != self->with_sign;
+    return items->items == NULL && !items->of_entries && items->with_sign != self->with_sign;
 }
 
-static bool counts_all(const Sketch *self, const Items *items)
+/* Returns whether all values of the dictionary are counted, which need not all be used. Sets no error. */
+static bool counts_entries(const Sketch *self, const Run *run)
 {
-    uint64_t chunk[CHUNK];
-    for (size_t i = 0; items->items != NULL && i < items->count; i++)
-        if (!counts(self, items->items[i].text != NULL, items->items[i].value, items->items[i].negative))
+    bool good = true;
+    for (size_t i = 0; good && i < run->num_entries; i++) {
+        const Item *item = &run->entries[i];
+        bool in_range = self->with_sign ? item->negative || item->value <= INT64_MAX : !item->negative;
+        good = item->missing || (self->with_texts ? item->text != NULL : item->text == NULL && in_range);
+    }
+    return good;
+}
+
+/* Checks the items of a list, or of a column with a dictionary. */
+static bool counts_each(const Sketch *self, const Items *items)
+{
+    bool all_texts = self->with_texts && !items->with_numbers;
+    for (size_t i = 0; items->items != NULL && !all_texts && i < items->count; i++) {
+        const Item *item = &items->items[i];
+        if (!item->missing && !counts(self, item->text != NULL, item->value, item->negative))
             return false;
-    if (items->items != NULL || items->count == 0 || (!other_sign(self, items) && !self->with_texts))
-        return true;
-    for (size_t i = 0; i < items->count; i += CHUNK) {
-        size_t count = items_chunk(items, i, CHUNK, chunk);
-        for (size_t j = self->with_texts || !below_top(chunk, count) ? 0 : count; j < count; j++)
-            if (!counts(self, false, chunk[j], items->with_sign && chunk[j] > INT64_MAX))
+    }
+    for (size_t i = 0; i < items->num_runs; i++) {
+        const Run *run = &items->runs[i];
+        size_t count = counts_entries(self, run) ? 0 : run->count;
+        for (size_t at = 0; at < count; at++) {
+            const Item *item = run_entry(run, at);
+            if (item != NULL && !item->missing && !counts(self, item->text != NULL, item->value, item->negative))
                 return false;
+        }
     }
     return true;
 }
 
+/* Checks numbers of the other signedness. */
+static bool counts_numbers(const Sketch *self, const Items *items)
+{
+    Chunk chunk;
+    bool good = true;
+    chunk_open(&chunk, items->count, CHUNK);
+    for (size_t i = 0; i < items->count && good; i += chunk.rows) {
+        chunk_read(&chunk, items, NULL, i);
+        for (size_t j = below_top(chunk.numbers, chunk.count) ? chunk.count : 0; j < chunk.count && good; j++)
+            good = counts(self, false, chunk.numbers[j], items->with_sign && chunk.numbers[j] > INT64_MAX);
+    }
+    chunk_close(&chunk);
+    return good;
+}
+
+static bool counts_all(const Sketch *self, const Items *items)
+{
+    if (items->items != NULL || items->of_entries)
+        return counts_each(self, items);
+    if (items->with_texts != self->with_texts)
+        return items_gaps(items) == items->count || counts(self, items->with_texts, 0, false);
+    return self->with_texts || !other_sign(self, items) || counts_numbers(self, items);
+}
+
 const char frequent_update_doc[] = PyDoc_STR(
 "update($self, items, weight=1, /)\n--\n\n"
-"Add a weight, 0 to 2**64 - 1, to an item's, or to those of many: an iterable, a buffer of integers, or an array of strings.\n\n"
-"Many items have one weight each, or a weight for each item in an iterable or a buffer. A mapping adds its values to the\n"
-"weights of its keys. Raise 'WeightOverflow' if the total weight would exceed 2**64 - 1. Then nothing is counted.\n\n"
-"All items of a list, an array or a mapping are checked before the first is counted. Any other iterable is checked and\n"
-"counted 4,096 items at a time. A later error has a note with the number of counted items.\n\n"
+"Add a weight, 0 to 2**64 - 1, to an item's, or to those of many: an iterable, a buffer of integers, an array of strings,\n"
+"or a column of Arrow or pandas.\n\n"
+"Many items have one weight each, or a weight for each item in an iterable, a buffer or a column. Missing items and items\n"
+"with a missing weight are skipped. A mapping adds its values to the weights of its keys. Raise 'WeightOverflow' if the\n"
+"total weight would exceed 2**64 - 1. Then nothing is counted.\n\n"
+"All items of a list, an array, a column or a mapping are checked before the first is counted. Any other iterable is\n"
+"checked and counted 4,096 items at a time. A later error has a note with the number of counted items.\n\n"
 ">>> import datasketches_rattle as ds\n"
 ">>> heavy = ds.FrequentItemsSketch(64)\n"
 ">>> heavy.update(7, 30)\n"
@@ -72,13 +114,6 @@ static int32_t update_one(Sketch *self, const Item *item, uint64_t weight)
     return BY_SIGN(self, update, &self->handle, item->value, weight);
 }
 
-/* Adds 1 to each number's weight. */
-static int32_t update_numbers(Sketch *self, const uint64_t *numbers, size_t count)
-{
-    return self->with_sign ? ds_frequent_items_i64_update_all(&self->handle, (const int64_t *)numbers, count)
-                           : ds_frequent_items_u64_update_all(&self->handle, numbers, count);
-}
-
 static uint64_t total_of(Sketch *self)
 {
     ds_frequent_items_status numbers = {0};
@@ -91,44 +126,51 @@ static uint64_t total_of(Sketch *self)
     return numbers.total_weight;
 }
 
-static int32_t update_by_one(Batch *batch, const uint64_t *numbers, size_t count)
+static uint64_t room(Sketch *self)
 {
+    return UINT64_MAX - total_of(self);
+}
+
+/* Adds to `done` the number of items that a call counted before its error, by the weight that it added. The next item weighs more
+ * than 0, since an update by 0 returns no error. */
+static int32_t note_counted(Batch *batch, int32_t answer, const uint64_t *weights, size_t count, uint64_t was)
+{
+    uint64_t added = answer < 0 ? total_of(batch->self) - was : 0;
+    for (size_t i = 0; answer < 0 && i < count && (weights == NULL ? 1 : weights[i]) <= added; i++) {
+        added -= weights == NULL ? 1 : weights[i];
+        batch->done++;
+    }
+    return answer;
+}
+
+static int32_t update_strings(Batch *batch, const ds_string *strings, const uint64_t *weights, size_t count)
+{
+    ds_sketch *handle = &batch->self->handle;
     uint64_t was = total_of(batch->self);
-    int32_t answer = update_numbers(batch->self, numbers, count);
-    batch->done += (size_t)(total_of(batch->self) - was);
-    return answer;
+    int32_t answer = weights == NULL
+                         ? (ds_frequent_items_string_update_all_pairs)(handle, strings, count)
+                         : (ds_frequent_items_string_update_all_weighted_pairs)(handle, strings, count, weights, count);
+    return note_counted(batch, answer, weights, count, was);
 }
 
-static int32_t update_each(Batch *batch, const Item *texts, const uint64_t *numbers, const uint64_t *weights, size_t count)
+static int32_t update_numbers(Batch *batch, const uint64_t *numbers, const uint64_t *weights, size_t count)
 {
-    Sketch *self = batch->self;
-    int32_t answer = DS_OK;
-    for (size_t i = 0; i < count && answer >= 0; i++) {
-        answer = texts != NULL ? update_one(self, &texts[i], weights[i])
-                               : BY_SIGN(self, update, &self->handle, numbers[i], weights[i]);
-        batch->done += answer >= 0;
-    }
-    return answer;
+    ds_sketch *handle = &batch->self->handle;
+    const int64_t *with_sign = (const int64_t *)numbers;
+    uint64_t was = total_of(batch->self);
+    int32_t answer;
+    if (other_sign(batch->self, batch->items) && !below_top(numbers, count))
+        return CHANGED;
+    if (batch->self->with_sign)
+        answer = weights == NULL ? ds_frequent_items_i64_update_all(handle, with_sign, count)
+                                 : ds_frequent_items_i64_update_all_weighted(handle, with_sign, count, weights, count);
+    else
+        answer = weights == NULL ? ds_frequent_items_u64_update_all(handle, numbers, count)
+                                 : ds_frequent_items_u64_update_all_weighted(handle, numbers, count, weights, count);
+    return note_counted(batch, answer, weights, count, was);
 }
 
-static int32_t update_many(Batch *batch, const Items *items, const Weights *weights)
-{
-    uint64_t numbers[CHUNK], chunk[CHUNK];
-    Sketch *self = batch->self;
-    bool by_one = !self->with_texts && !weights->each && weights->same == 1;
-    int32_t answer = weights_fit(weights, items->count, UINT64_MAX - total_of(self));
-    for (size_t i = 0, count; i < items->count && answer >= 0; i += count) {
-        if (i > 0 && !batch_goes_on(batch))
-            return STOPPED;
-        count = items_chunk(items, i, CHUNK, numbers);
-        if ((other_sign(self, items) && !below_top(numbers, count)) || (!by_one && !weights_chunk(weights, i, count, chunk)))
-            return CHANGED;
-        answer = by_one
-                     ? update_by_one(batch, numbers, count)
-                     : update_each(batch, self->with_texts ? &items->items[i] : NULL, numbers, chunk, count);
-    }
-    return answer;
-}
+static const Updates updates = {.check = counts_all, .room = room, .strings = update_strings, .numbers = update_numbers};
 
 PyObject *frequent_update(PyObject *object, PyObject *const *args, Py_ssize_t count)
 {
@@ -142,7 +184,7 @@ PyObject *frequent_update(PyObject *object, PyObject *const *args, Py_ssize_t co
         return PyErr_Format(PyExc_TypeError, "update takes items and a weight, not %zd arguments", count);
     if (!is_single(args[0])) {
         bool opened = update_open(args[0], given, false, &items, &weights);
-        return opened ? update_all(self, &items, &weights, counts_all, update_many) : NULL;
+        return opened ? update_all(self, &items, &weights, &updates) : NULL;
     }
     if ((given != NULL && !natural_of(given, "weight", &weight)) || !item_of(args[0], &item) ||
         !counts(self, item.text != NULL, item.value, item.negative) || !sketch_ready(self))
@@ -165,35 +207,100 @@ static bool bounds_of(PyObject *object, PyObject *given, ds_frequent_items_bound
     return answer >= 0 || refuse(answer) != NULL;
 }
 
+static int32_t bounds_strings(Batch *batch, const ds_string *strings, size_t count, void *answers)
+{
+    return (ds_frequent_items_string_bounds_all_pairs)(&batch->self->handle, strings, count, answers, count);
+}
+
+static int32_t bounds_numbers(Batch *batch, const uint64_t *numbers, size_t count, void *answers)
+{
+    ds_sketch *handle = &batch->self->handle;
+    if (other_sign(batch->self, batch->items) && !below_top(numbers, count))
+        return CHANGED;
+    return batch->self->with_sign ? ds_frequent_items_i64_bounds_all(handle, (const int64_t *)numbers, count, answers, count)
+                                  : ds_frequent_items_u64_bounds_all(handle, numbers, count, answers, count);
+}
+
+static void keep_estimates(const ds_frequent_items_bounds *bounds, size_t count, uint64_t *estimates)
+{
+    for (size_t i = 0; i < count; i++)
+        estimates[i] = bounds[i].estimate;
+}
+
+static int32_t estimate_strings(Batch *batch, const ds_string *strings, size_t count, void *answers)
+{
+    ds_frequent_items_bounds bounds[CHUNK];
+    int32_t answer = bounds_strings(batch, strings, count, bounds);
+    if (answer >= 0)
+        keep_estimates(bounds, count, answers);
+    return answer;
+}
+
+static int32_t estimate_numbers(Batch *batch, const uint64_t *numbers, size_t count, void *answers)
+{
+    ds_frequent_items_bounds bounds[CHUNK];
+    int32_t answer = bounds_numbers(batch, numbers, count, bounds);
+    if (answer >= 0)
+        keep_estimates(bounds, count, answers);
+    return answer;
+}
+
+static PyObject *tuple_of(const ds_frequent_items_bounds *bounds)
+{
+    return Py_BuildValue("KKK", (unsigned long long)bounds->lower_bound, (unsigned long long)bounds->estimate,
+                         (unsigned long long)bounds->upper_bound);
+}
+
+static PyObject *bounds_at(const Sketch *Py_UNUSED(self), const void *answers, size_t index)
+{
+    return tuple_of((const ds_frequent_items_bounds *)answers + index);
+}
+
+static PyObject *estimate_at(const Sketch *Py_UNUSED(self), const void *answers, size_t index)
+{
+    return PyLong_FromUnsignedLongLong(((const uint64_t *)answers)[index]);
+}
+
 const char frequent_bounds_doc[] = PyDoc_STR(
-"bounds($self, item, /)\n--\n\n"
+"bounds($self, items, /)\n--\n\n"
 "Return the lower bound, the estimate and the upper bound of an item's weight. It lies between the first and the last.\n\n"
+"Return a list of these for many items, and an array with three columns for an array of numpy or pandas.\n\n"
 ">>> import datasketches_rattle as ds\n"
 ">>> heavy = ds.FrequentItemsSketch(8)\n"
 ">>> heavy.update(range(7))\n"
-">>> heavy.bounds(3)\n"
-"(0, 0, 1)\n");
+">>> heavy.bounds(3), heavy.bounds([3, 4])\n"
+"((0, 0, 1), [(0, 0, 1), (0, 0, 1)])\n");
 
-PyObject *frequent_bounds(PyObject *object, PyObject *item)
+PyObject *frequent_bounds(PyObject *object, PyObject *items)
 {
+    static const Question all = {.call = "bounds", .size = sizeof(ds_frequent_items_bounds), .kind = "u8", .width = 3,
+                                 .object = bounds_at, .check = counts_all, .strings = bounds_strings,
+                                 .numbers = bounds_numbers};
     ds_frequent_items_bounds bounds;
-    if (!bounds_of(object, item, &bounds))
-        return NULL;
-    return Py_BuildValue("KKK", (unsigned long long)bounds.lower_bound, (unsigned long long)bounds.estimate,
-                         (unsigned long long)bounds.upper_bound);
+    if (!is_single(items))
+        return ask_all((Sketch *)object, items, &all);
+    return bounds_of(object, items, &bounds) ? tuple_of(&bounds) : NULL;
 }
 
-const char frequent_estimate_doc[] = PyDoc_STR(
-"estimate($self, item, /)\n--\n\n"
-"Return the estimate of an item's weight, as `heavy[item]` does.\n\n"
-">>> import datasketches_rattle as ds\n"
-">>> heavy = ds.FrequentItemsSketch(8)\n"
-">>> heavy.update(7, 30)\n"
-">>> heavy.estimate(7)\n"
-"30\n");
-
-PyObject *frequent_estimate(PyObject *object, PyObject *item)
+PyObject *frequent_at(PyObject *object, PyObject *item)
 {
     ds_frequent_items_bounds bounds;
     return bounds_of(object, item, &bounds) ? PyLong_FromUnsignedLongLong(bounds.estimate) : NULL;
+}
+
+const char frequent_estimate_doc[] = PyDoc_STR(
+"estimate($self, items, /)\n--\n\n"
+"Return the estimate of an item's weight, as `heavy[item]` does.\n\n"
+"Return a list of estimates for many items, and an array for an array of numpy or pandas.\n\n"
+">>> import datasketches_rattle as ds\n"
+">>> heavy = ds.FrequentItemsSketch(8)\n"
+">>> heavy.update(7, 30)\n"
+">>> heavy.estimate(7), heavy.estimate([7, 8])\n"
+"(30, [30, 0])\n");
+
+PyObject *frequent_estimate(PyObject *object, PyObject *items)
+{
+    static const Question all = {.call = "estimate", .size = sizeof(uint64_t), .kind = "u8", .width = 1, .object = estimate_at,
+                                 .check = counts_all, .strings = estimate_strings, .numbers = estimate_numbers};
+    return is_single(items) ? frequent_at(object, items) : ask_all((Sketch *)object, items, &all);
 }

@@ -57,41 +57,23 @@ static void sort_rows(RowRoom *room, size_t count)
     qsort(room->rows, count, sizeof *room->rows, heavier);
 }
 
-bool append_row(PyObject *list, PyObject *row)
+static PyObject *list_of(RowRoom *room, size_t count, const Wanted *wanted)
 {
-    bool done = row != NULL && PyList_Append(list, row) == 0;
-    Py_XDECREF(row);
-    if (done && PyList_GET_SIZE(list) % ROWS_AT_ONCE == 0) {
-        Py_BEGIN_ALLOW_THREADS
-        Py_END_ALLOW_THREADS
-    }
-    return done;
-}
-
-static PyObject *row_of(const TextRow *row)
-{
-    PyObject *text = PyUnicode_DecodeUTF8(row->text, (Py_ssize_t)row->length, NULL);
-    if (text == NULL)
-        return NULL;
-    return Py_BuildValue("NKKK", text, (unsigned long long)row->bounds.lower_bound,
-                         (unsigned long long)row->bounds.estimate, (unsigned long long)row->bounds.upper_bound);
-}
-
-static PyObject *list_of(RowRoom *room, size_t count)
-{
+    RowList list;
     if (count > 0) {
         Py_BEGIN_ALLOW_THREADS
         sort_rows(room, count);
         Py_END_ALLOW_THREADS
     }
-    PyObject *list = PyList_New(0);
-    for (size_t i = 0; list != NULL && i < count; i++)
-        if (!append_row(list, row_of(&room->rows[i])))
-            Py_CLEAR(list);
-    return list;
+    bool good = row_list_open(&list, wanted->columns);
+    for (size_t i = 0; good && i < count && i < wanted->most; i++) {
+        const TextRow *row = &room->rows[i];
+        good = row_list_append(&list, PyUnicode_DecodeUTF8(row->text, (Py_ssize_t)row->length, NULL), &row->bounds);
+    }
+    return row_list_close(&list, good);
 }
 
-PyObject *texts_rows(Sketch *self, bool no_false_negatives, uint64_t threshold)
+PyObject *texts_rows(Sketch *self, const Wanted *wanted)
 {
     PyObject *list = NULL;
     size_t rows = 64, bytes = 1024;
@@ -102,11 +84,11 @@ PyObject *texts_rows(Sketch *self, bool no_false_negatives, uint64_t threshold)
         size_t count = 0, num_bytes = 0;
         if (ready) {
             BATCH_BEGIN(self)
-            answer = ds_frequent_items_string_rows(&self->handle, no_false_negatives, threshold, room.bytes, bytes, room.offsets,
-                                           rows + 1, room.bounds, rows, &count, &num_bytes);
+            answer = ds_frequent_items_string_rows(&self->handle, wanted->no_false_negatives, wanted->threshold, room.bytes,
+                                                   bytes, room.offsets, rows + 1, room.bounds, rows, &count, &num_bytes);
             BATCH_END(self)
             sketch_unlock(self);
-            list = answer >= 0 ? list_of(&room, count) : answer == DS_NO_ROOM ? NULL : refuse(answer);
+            list = answer >= 0 ? list_of(&room, count, wanted) : answer == DS_NO_ROOM ? NULL : refuse(answer);
         }
         row_room_free(&room);
         if (answer != DS_NO_ROOM)

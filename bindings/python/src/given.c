@@ -10,7 +10,7 @@ PyObject *attribute(PyObject *object, const char *name)
     return value;
 }
 
-static bool type_has(PyObject *object, const char *name)
+bool type_has(PyObject *object, const char *name)
 {
     PyObject *value = attribute((PyObject *)Py_TYPE(object), name);
     bool has = value != NULL;
@@ -19,8 +19,7 @@ static bool type_has(PyObject *object, const char *name)
     return has;
 }
 
-/* Calls a method without arguments. */
-static PyObject *called(PyObject *object, const char *name)
+PyObject *called(PyObject *object, const char *name)
 {
     PyObject *method = attribute(object, name);
     PyObject *result = method != NULL ? PyObject_CallNoArgs(method) : NULL;
@@ -133,26 +132,74 @@ bool mapping_split(PyObject *mapping, PyObject **keys, PyObject **values)
     return false;
 }
 
-PyObject *source_of(PyObject *object, const char *call)
+bool no_table(const Source *source)
 {
-    if (is_whole(object) || PyObject_CheckBuffer(object) || PyIter_Check(object))
-        return Py_NewRef(object);
+    PyErr_Format(PyExc_TypeError, "%s takes no table (%.200s): pass one of its columns, as in %s(table['name'])", source->call,
+                 source->type, source->call);
+    return false;
+}
+
+/* Finds out what the items of a masked array are read from. */
+static bool masked_source(PyObject *array, Source *source)
+{
+    PyObject *masked = PyImport_ImportModule("numpy.ma");
+    source->values = masked != NULL ? called_with(masked, "getdata", array) : NULL;
+    source->missing = source->values != NULL ? called_with(masked, "getmaskarray", array) : NULL;
+    Py_XDECREF(masked);
+    return source->missing != NULL;
+}
+
+/* Returns whether the object is neither a table nor a mapping, of which no call knows what its items are. */
+static bool has_items(PyObject *object, const Source *source)
+{
+    const char *call = source->call;
     if (is_table(object))
-        return PyErr_Format(PyExc_TypeError, "%s takes no table (%.200s): pass one of its columns, as in %s(table['name'])", call,
-                            Py_TYPE(object)->tp_name, call);
+        return no_table(source);
     if (is_mapping(object))
-        return PyErr_Format(PyExc_TypeError, "%s takes no mapping (%.200s): write %s(mapping.keys())", call,
-                            Py_TYPE(object)->tp_name, call);
-    if (Py_TYPE(object)->tp_iter == NULL && type_has(object, "keys"))
-        return PyErr_Format(PyExc_TypeError, "%s takes no %.200s: it has keys, and no iterator", call, Py_TYPE(object)->tp_name);
-    if (!type_has(object, "to_numpy") || !type_has(object, "dtype"))
-        return Py_NewRef(object);
-    PyObject *array = called(object, "to_numpy");
-    if (array != NULL && !PyObject_CheckBuffer(array) && !is_whole(array)) {
-        PyErr_Format(PyExc_TypeError, "to_numpy() of %.200s returned no array", Py_TYPE(object)->tp_name);
-        Py_CLEAR(array);
+        PyErr_Format(PyExc_TypeError, "%s takes no mapping (%.200s): write %s(mapping.keys())", call, Py_TYPE(object)->tp_name,
+                     call);
+    else if (Py_TYPE(object)->tp_iter == NULL && type_has(object, "keys"))
+        PyErr_Format(PyExc_TypeError, "%s takes no %.200s: it has keys, and no iterator", call, Py_TYPE(object)->tp_name);
+    return !PyErr_Occurred();
+}
+
+static bool find_source(PyObject *object, bool of_weights, Source *source)
+{
+    bool has_buffer = PyObject_CheckBuffer(object);
+    if (has_buffer && is_masked(object))
+        return masked_source(object, source);
+    if (!has_buffer && !is_whole(object) && !PyIter_Check(object)) {
+        if (!has_items(object, source))
+            return false;
+        if (is_series(object))
+            return series_source(object, of_weights, source);
+        source->of_arrow = is_arrow(object);
     }
-    return array;
+    source->values = source->of_arrow ? arrow_export(object) : Py_NewRef(object);
+    return source->values != NULL;
+}
+
+bool source_of(PyObject *object, const char *call, bool of_weights, Source *source)
+{
+    *source = (Source){.call = call, .type = Py_TYPE(object)->tp_name};
+    if (!find_source(object, of_weights, source)) {
+        source_release(source);
+        return false;
+    }
+    if (source->values != NULL && is_numpy_array(source->values))
+        source->in_array = true;
+    return true;
+}
+
+/* Keeps the error that is set: the destructor of a capsule may call Python. */
+void source_release(Source *source)
+{
+    PyObject *type, *error, *trace;
+    PyErr_Fetch(&type, &error, &trace);
+    Py_CLEAR(source->values);
+    Py_CLEAR(source->missing);
+    Py_CLEAR(source->categories);
+    PyErr_Restore(type, error, trace);
 }
 
 /* Returns whether a numpy array has one dimension. Sets an error if not. */
@@ -166,8 +213,7 @@ static bool has_one_dimension(PyObject *array)
     return !PyErr_Occurred();
 }
 
-/* Returns the letter for the kind of an array's type, or 0 if it has none. */
-static Py_UCS4 kind_of(PyObject *dtype)
+Py_UCS4 kind_of_array(PyObject *dtype)
 {
     PyObject *letter = attribute(dtype, "kind");
     bool is_letter = letter != NULL && PyUnicode_Check(letter) && PyUnicode_GET_LENGTH(letter) == 1;
@@ -177,24 +223,11 @@ static Py_UCS4 kind_of(PyObject *dtype)
     return kind;
 }
 
-/* Replaces each bytes object of a list by its str. */
-static bool decode_each(PyObject *list)
-{
-    for (Py_ssize_t i = 0; i < PyList_GET_SIZE(list); i++) {
-        PyObject *bytes = PyList_GET_ITEM(list, i);
-        PyObject *text = PyBytes_Check(bytes) ? PyUnicode_DecodeUTF8(PyBytes_AS_STRING(bytes), PyBytes_GET_SIZE(bytes), NULL)
-                                              : Py_NewRef(bytes);
-        if (text == NULL || PyList_SetItem(list, i, text) < 0)
-            return false;
-    }
-    return true;
-}
-
 PyObject *array_entries(PyObject *array, const char *what)
 {
     PyObject *dtype = has_one_dimension(array) ? attribute(array, "dtype") : NULL;
     Py_ssize_t count = dtype != NULL ? PyObject_Size(array) : -1;
-    Py_UCS4 kind = count > 0 ? kind_of(dtype) : 0;
+    Py_UCS4 kind = count > 0 ? kind_of_array(dtype) : 0;
     PyObject *list = NULL;
     if (count == 0)
         list = PyList_New(0);
@@ -203,57 +236,10 @@ PyObject *array_entries(PyObject *array, const char *what)
     else if (count > 0)
         PyErr_Format(PyExc_TypeError, "an array of %s has integers or strings, not %S", what, dtype);
     Py_XDECREF(dtype);
-    if (list == NULL || (PyList_Check(list) && (kind != 'S' || decode_each(list))))
+    if (list == NULL || PyList_Check(list))
         return list;
     if (!PyErr_Occurred())
         PyErr_SetString(PyExc_TypeError, "tolist() of the array returned no list");
     Py_DECREF(list);
     return NULL;
-}
-
-/* Replaces an array by its entries for which `keep` is true. */
-static bool keep_entries(PyObject *masked, PyObject **array, PyObject *keep)
-{
-    PyObject *data = called_with(masked, "getdata", *array);
-    PyObject *kept = data != NULL ? PyObject_GetItem(data, keep) : NULL;
-    Py_XDECREF(data);
-    if (kept != NULL)
-        Py_SETREF(*array, kept);
-    return kept != NULL;
-}
-
-/* Returns an array of bool that is true for the entries that neither array masks. `second` may be NULL. */
-static PyObject *unmasked(PyObject *masked, PyObject *first, PyObject *second)
-{
-    PyObject *mask = called_with(masked, "getmaskarray", first);
-    PyObject *other = second != NULL ? called_with(masked, "getmaskarray", second) : NULL;
-    PyObject *both = mask != NULL && other != NULL ? PyNumber_Or(mask, other) : NULL;
-    PyObject *keep = NULL;
-    if (second == NULL ? mask != NULL : both != NULL)
-        keep = PyNumber_Invert(second == NULL ? mask : both);
-    Py_XDECREF(mask);
-    Py_XDECREF(other);
-    Py_XDECREF(both);
-    return keep;
-}
-
-bool masks_drop(PyObject **items, PyObject **weights)
-{
-    if (!is_numpy_array(*items) || (*weights != NULL && !is_numpy_array(*weights))) {
-        PyErr_SetString(PyExc_TypeError, "beside a masked array, the items and the weights are arrays of numpy");
-        return false;
-    }
-    if (!has_one_dimension(*items) || (*weights != NULL && !has_one_dimension(*weights)))
-        return false;
-    Py_ssize_t count = PyObject_Size(*items), others = *weights != NULL ? PyObject_Size(*weights) : count;
-    if (count != others)
-        PyErr_Format(PyExc_ValueError, "there are %zd items and %zd weights", count, others);
-    if (PyErr_Occurred())
-        return false;
-    PyObject *masked = PyImport_ImportModule("numpy.ma");
-    PyObject *keep = masked != NULL ? unmasked(masked, *items, *weights) : NULL;
-    bool dropped = keep != NULL && keep_entries(masked, items, keep) && (*weights == NULL || keep_entries(masked, weights, keep));
-    Py_XDECREF(masked);
-    Py_XDECREF(keep);
-    return dropped;
 }

@@ -18,7 +18,7 @@ bool is_single(PyObject *object)
 
 static bool number_of(PyObject *object, Item *item)
 {
-    PyObject *number = PyNumber_Index(object);
+    PyObject *number = PyLong_CheckExact(object) ? Py_NewRef(object) : PyNumber_Index(object);
     if (number == NULL)
         return false;
     int overflow = 0;

@@ -1,4 +1,4 @@
-/* Many items: those of a buffer, of a list, or of an iterator. */
+/* Many items: those of a buffer, of a list, of an iterator, or of categories. */
 #include "sketches.h"
 
 #include <string.h>
@@ -6,19 +6,31 @@
 /* The number of objects that are read between two checks for signals. */
 #define SIGNALS ((size_t)1 << 16)
 
-/* Returns whether a buffer of this format has integers of 8 to 64 bits. Sets `with_sign` if they are signed, and `swapped` if
- * their bytes are in the other order. */
+/* Skips the mark of a format's byte order. Sets `swapped` if the bytes are in the other order. */
+static const char *skip_order(const char *format, bool *swapped)
+{
+    *swapped = *format == (PY_LITTLE_ENDIAN ? '>' : '<') || (*format == '!' && PY_LITTLE_ENDIAN);
+    return *format != '\0' && strchr("@=<>!", *format) != NULL ? format + 1 : format;
+}
+
+/* Returns whether a buffer of this format has integers of 8 to 64 bits. Sets `with_sign` if they are signed. */
 static bool reads_format(const char *format, Py_ssize_t size, bool *with_sign, bool *swapped)
 {
     if (size != 1 && size != 2 && size != 4 && size != 8)
         return false;
-    *swapped = *format == (PY_LITTLE_ENDIAN ? '>' : '<') || (*format == '!' && PY_LITTLE_ENDIAN);
-    if (*format != '\0' && strchr("@=<>!", *format) != NULL)
-        format++;
+    format = skip_order(format, swapped);
     if (format[0] == '\0' || format[1] != '\0')
         return false;
     *with_sign = strchr("bhilqn", format[0]) != NULL;
     return *with_sign || strchr("BHILQN", format[0]) != NULL;
+}
+
+/* Returns the layout of numpy's strings of a fixed size in a buffer of this format, or NUMBERS if it has others. */
+static Layout fixed_layout(const char *format, bool *swapped)
+{
+    format = skip_order(format, swapped);
+    format += strspn(format, "0123456789");
+    return strcmp(format, "s") == 0 ? FIXED_BYTES : strcmp(format, "w") == 0 ? FIXED_WIDE : NUMBERS;
 }
 
 static void set_wrong_type(PyObject *object, const Items *items)
@@ -28,25 +40,101 @@ static void set_wrong_type(PyObject *object, const Items *items)
                  Py_TYPE(object)->tp_name);
 }
 
-/* Opens the numbers of a buffer. Unsigned numbers of 8 bits are bytes, which are rejected unless they are in an array. */
+static const char *name_of(const Items *items)
+{
+    return items->of_weights ? "weights" : "items";
+}
+
+/* Copies an array that is true for missing values, since other threads may change it. Keeps no copy if it is all false. */
+static bool copy_missing(PyObject *array, Items *items)
+{
+    Py_buffer view;
+    bool any = false;
+    if (PyObject_GetBuffer(array, &view, PyBUF_STRIDES) < 0)
+        return false;
+    size_t count = view.ndim == 1 && view.itemsize == 1 ? (size_t)view.shape[0] : 0;
+    items->count = count;
+    items->missing = count > 0 ? PyMem_New(bool, count) : NULL;
+    if (view.ndim != 1)
+        PyErr_Format(PyExc_ValueError, "an array of %s has one dimension", name_of(items));
+    else if (items->missing == NULL && count > 0)
+        PyErr_NoMemory();
+    for (size_t i = 0; items->missing != NULL && i < count; i++) {
+        items->missing[i] = ((const char *)view.buf)[(Py_ssize_t)i * view.strides[0]] != 0;
+        any |= items->missing[i];
+    }
+    PyBuffer_Release(&view);
+    items->has_gaps = any;
+    if (!any) {
+        PyMem_Free(items->missing);
+        items->missing = NULL;
+    }
+    return !PyErr_Occurred();
+}
+
+/* Sets the number of items. Returns false, with an error set, if the array of missing values has another. */
+static bool set_count(Items *items, size_t count)
+{
+    if (items->missing != NULL && count != items->count) {
+        PyErr_Format(PyExc_ValueError, "there are %zu %s and a mask for %zu", count, name_of(items), items->count);
+        return false;
+    }
+    items->count = count;
+    return true;
+}
+
+bool items_add(Items *items, const Run *run)
+{
+    size_t count = items->num_runs;
+    if ((count & (count - 1)) == 0) { /* the room is a power of two, and full */
+        Run *runs = PyMem_Realloc(items->runs, (count > 0 ? 2 * count : 1) * sizeof *runs);
+        if (runs == NULL) {
+            PyErr_NoMemory();
+            return false;
+        }
+        items->runs = runs;
+    }
+    items->runs[items->num_runs++] = *run;
+    return true;
+}
+
+/* Appends the rows of the buffer as one run, and checks them. */
+static bool add_view(Items *items, const Run *like, PyObject *array)
+{
+    const Py_buffer *view = &items->view;
+    Run run = *like;
+    if (!set_count(items, (size_t)view->shape[0]))
+        return false;
+    run.start = view->buf;
+    run.count = items->count;
+    run.size = view->itemsize;
+    run.stride = view->strides != NULL ? view->strides[0] : view->itemsize;
+    items->with_sign = run.with_sign;
+    items->with_texts = run.layout != NUMBERS;
+    return run.count == 0 || (items_add(items, &run) && run_check(&items->runs[0], items->missing, array));
+}
+
+/* Opens the numbers of a buffer, or a numpy array of strings of a fixed size. Unsigned numbers of 8 bits are bytes, which are
+ * rejected unless they are in an array. */
 static bool items_of_buffer(PyObject *object, Items *items)
 {
     Py_buffer *view = &items->view;
     if (PyObject_GetBuffer(object, view, PyBUF_STRIDES | PyBUF_FORMAT) < 0)
         return false;
-    const char *format = view->format != NULL ? view->format : "B", *what = items->of_weights ? "weights" : "items";
-    bool of_numbers = reads_format(format, view->itemsize, &items->with_sign, &items->swapped);
+    Run run = {0};
+    const char *format = view->format != NULL ? view->format : "B";
+    bool of_numbers = reads_format(format, view->itemsize, &run.with_sign, &run.swapped);
+    if (!of_numbers && view->ndim == 1 && !items->of_weights && is_numpy_array(object))
+        run.layout = fixed_layout(format, &run.swapped);
     if (!of_numbers && view->ndim == 0)
         set_wrong_type(object, items);
-    else if (!of_numbers || (view->itemsize == 1 && !items->with_sign && !is_array_of_bytes(object)))
-        PyErr_Format(PyExc_TypeError, "a buffer of %s has integers, not the format '%.50s' (%.200s)", what, format,
+    else if (run.layout == NUMBERS && (!of_numbers || (view->itemsize == 1 && !run.with_sign && !is_array_of_bytes(object))))
+        PyErr_Format(PyExc_TypeError, "a buffer of %s has integers, not the format '%.50s' (%.200s)", name_of(items), format,
                      Py_TYPE(object)->tp_name);
     else if (view->ndim != 1)
-        PyErr_Format(PyExc_ValueError, "a buffer of %s has one dimension", what);
+        PyErr_Format(PyExc_ValueError, "a buffer of %s has one dimension", name_of(items));
     else
-        items->count = (size_t)view->shape[0];
-    if (!PyErr_Occurred())
-        return true;
+        return add_view(items, &run, object);
     PyBuffer_Release(view);
     return false;
 }
@@ -58,26 +146,60 @@ static bool read_one(PyObject *object, Items *items, Item *item)
         return number_of_kind(object, "a weight", items->weights_with_sign, &item->value);
     bool read = item_of(object, item);
     items->with_texts |= item->text != NULL;
+    items->with_numbers |= item->text == NULL;
     return read;
+}
+
+/* Reads the objects of the tuple, but for the missing ones. Returns NULL, with an error set, if one is no item. */
+static Item *read_tuple(Items *items)
+{
+    size_t count = (size_t)PyTuple_GET_SIZE(items->tuple), i = 0;
+    Item *read = PyMem_New(Item, count);
+    if (read == NULL)
+        PyErr_NoMemory();
+    for (; read != NULL && i < count; i++) {
+        read[i] = (Item){.missing = true};
+        bool is_there = items->missing == NULL || !items->missing[i];
+        if ((is_there && !read_one(PyTuple_GET_ITEM(items->tuple, (Py_ssize_t)i), items, &read[i])) ||
+            (i % SIGNALS == SIGNALS - 1 && PyErr_CheckSignals() < 0))
+            break;
+    }
+    if (i == count)
+        return read;
+    PyMem_Free(read);
+    return NULL;
 }
 
 static bool items_of_tuple(PyObject *object, Items *items)
 {
     items->tuple = PySequence_Tuple(object);
-    if (items->tuple == NULL)
+    if (items->tuple == NULL || !set_count(items, (size_t)PyTuple_GET_SIZE(items->tuple)))
         return false;
-    size_t count = (size_t)PyTuple_GET_SIZE(items->tuple);
-    items->items = PyMem_New(Item, count);
-    if (items->items == NULL) {
-        PyErr_NoMemory();
-        return false;
+    items->items = read_tuple(items);
+    return items->items != NULL;
+}
+
+/* Opens the codes of categories, which are read once for all codes. */
+static bool items_of_categories(const Source *source, Items *items)
+{
+    bool *missing = items->missing;
+    items->missing = NULL;
+    items->tuple = PySequence_Tuple(source->categories);
+    Item *entries = items->tuple != NULL ? read_tuple(items) : NULL;
+    bool with_texts = items->with_texts, opened = entries != NULL && items_of_buffer(source->values, items);
+    items->missing = missing;
+    items->with_texts = with_texts;
+    if (!opened || items->num_runs == 0) {
+        PyMem_Free(entries);
+        return opened;
     }
-    for (size_t i = 0; i < count; i++)
-        if (!read_one(PyTuple_GET_ITEM(items->tuple, (Py_ssize_t)i), items, &items->items[i]) ||
-            (i % SIGNALS == SIGNALS - 1 && PyErr_CheckSignals() < 0))
-            return false;
-    items->count = count;
-    return true;
+    Run *run = &items->runs[0];
+    run->entries = run->own_entries = entries;
+    run->num_entries = (size_t)PyTuple_GET_SIZE(items->tuple);
+    run->gaps_by_code = items->of_entries = true;
+    bool good = run_check(run, NULL, NULL);
+    items->has_gaps |= run->has_gaps;
+    return good;
 }
 
 static bool items_of_iterable(PyObject *object, Items *items)
@@ -89,33 +211,41 @@ static bool items_of_iterable(PyObject *object, Items *items)
     return items->iterator != NULL;
 }
 
-/* Opens the entries of a numpy array without integers, and clears the error that is set. Keeps the error for another object. */
+/* Opens the entries of a numpy array whose buffer cannot be read, and clears the error that is set. Keeps the error of a buffer
+ * that was read, and that of another object. */
 static bool items_of_entries(PyObject *array, Items *items)
 {
     PyObject *type, *error, *trace;
     PyErr_Fetch(&type, &error, &trace);
-    if (!is_numpy_array(array)) {
+    if (!is_numpy_array(array) || items->view.obj != NULL) {
         PyErr_Restore(type, error, trace);
         return false;
     }
     Py_XDECREF(type);
     Py_XDECREF(error);
     Py_XDECREF(trace);
-    PyObject *entries = array_entries(array, items->of_weights ? "weights" : "items");
+    PyObject *entries = array_entries(array, name_of(items));
     bool opened = entries != NULL && items_of_tuple(entries, items);
     Py_XDECREF(entries);
     return opened;
 }
 
-bool items_open(PyObject *source, Items *items)
+bool items_open(const Source *source, Items *items)
 {
-    bool opened;
-    if (PyObject_CheckBuffer(source))
-        opened = items_of_buffer(source, items) || items_of_entries(source, items);
-    else if (PyList_Check(source) || PyTuple_Check(source) || PyAnySet_Check(source))
-        opened = items_of_tuple(source, items);
+    PyObject *values = source->values;
+    bool opened = source->missing == NULL || copy_missing(source->missing, items);
+    if (!opened)
+        ;
+    else if (source->of_arrow)
+        opened = arrow_open(source, items);
+    else if (source->categories != NULL)
+        opened = items_of_categories(source, items);
+    else if (PyObject_CheckBuffer(values))
+        opened = items_of_buffer(values, items) || items_of_entries(values, items);
+    else if (PyList_Check(values) || PyTuple_Check(values) || PyAnySet_Check(values))
+        opened = items_of_tuple(values, items);
     else
-        opened = items_of_iterable(source, items);
+        opened = items_of_iterable(values, items);
     if (!opened)
         items_release(items);
     return opened;
@@ -150,7 +280,7 @@ bool items_next(Items *items, size_t most)
 {
     let_go(items);
     items->count = 0;
-    items->with_texts = false;
+    items->with_texts = items->with_numbers = false;
     if (!has_place(items) || PyErr_CheckSignals() < 0)
         return false;
     while (items->iterator != NULL && items->num_held < most) {
@@ -171,76 +301,35 @@ bool items_next(Items *items, size_t most)
     return true;
 }
 
+/* Releases an array of a column. The release may call Python, and so no error is set meanwhile. */
+static void release_array(ArrowArray *array)
+{
+    PyObject *type, *error, *trace;
+    if (array->release == NULL)
+        return;
+    PyErr_Fetch(&type, &error, &trace);
+    array->release(array);
+    PyErr_Restore(type, error, trace);
+}
+
 void items_release(Items *items)
 {
     let_go(items);
     PyMem_Free(items->held);
     items->held = NULL;
+    for (size_t i = 0; i < items->num_runs; i++) {
+        PyMem_Free(items->runs[i].own_entries);
+        release_array(&items->runs[i].array);
+    }
+    items->num_runs = 0;
+    PyMem_Free(items->runs);
+    items->runs = NULL;
     if (items->view.obj != NULL)
         PyBuffer_Release(&items->view);
     PyMem_Free(items->items);
     items->items = NULL;
+    PyMem_Free(items->missing);
+    items->missing = NULL;
     Py_CLEAR(items->tuple);
     Py_CLEAR(items->iterator);
-}
-
-/* Copies numbers of a C type into 64-bit numbers. */
-#define WIDEN(type) \
-    for (size_t i = 0; i < count; i++) { \
-        type number; \
-        memcpy(&number, start + (Py_ssize_t)i * stride, sizeof number); \
-        chunk[i] = (uint64_t)number; \
-    } \
-    break
-
-static void copy_native(const char *start, Py_ssize_t stride, Py_ssize_t size, bool with_sign, size_t count, uint64_t *chunk)
-{
-    switch (with_sign ? size : -size) {
-    case 1: WIDEN(int8_t);
-    case 2: WIDEN(int16_t);
-    case 4: WIDEN(int32_t);
-    case -1: WIDEN(uint8_t);
-    case -2: WIDEN(uint16_t);
-    case -4: WIDEN(uint32_t);
-    default: WIDEN(uint64_t);
-    }
-}
-
-/* Copies numbers whose bytes are in the other order. */
-static void copy_swapped(const char *start, Py_ssize_t stride, Py_ssize_t size, bool with_sign, size_t count, uint64_t *chunk)
-{
-    unsigned char bytes[8] = {0};
-    for (size_t i = 0; i < count; i++) {
-        for (Py_ssize_t j = 0; j < size; j++)
-            bytes[j] = (unsigned char)start[(Py_ssize_t)i * stride + size - 1 - j];
-        copy_native((const char *)bytes, size, size, with_sign, 1, &chunk[i]);
-    }
-}
-
-size_t items_chunk(const Items *items, size_t first, size_t most, uint64_t *chunk)
-{
-    size_t count = items->count - first < most ? items->count - first : most;
-    if (items->items != NULL) {
-        for (size_t i = 0; i < count; i++)
-            chunk[i] = items->items[first + i].value;
-        return count;
-    }
-    Py_ssize_t size = items->view.itemsize;
-    Py_ssize_t stride = items->view.strides != NULL ? items->view.strides[0] : size;
-    const char *start = (const char *)items->view.buf + (Py_ssize_t)first * stride;
-    if (items->swapped)
-        copy_swapped(start, stride, size, items->with_sign, count, chunk);
-    else if (size == 8 && stride == 8)
-        memcpy(chunk, start, count * 8);
-    else
-        copy_native(start, stride, size, items->with_sign, count, chunk);
-    return count;
-}
-
-bool below_top(const uint64_t *chunk, size_t count)
-{
-    uint64_t all = 0;
-    for (size_t i = 0; i < count; i++)
-        all |= chunk[i];
-    return all <= INT64_MAX;
 }

@@ -110,6 +110,24 @@ static PyObject *refuse_as(int32_t answer, const char *kind)
     return NULL;
 }
 
+PyObject *refuse_at(int32_t answer, size_t byte)
+{
+    PyObject *type, *error, *trace;
+    PyObject *at = PyLong_FromSize_t(byte);
+    PyObject *text = PyUnicode_FromFormat("%s at byte %zu", ds_result_message(answer), byte);
+    PyObject *arguments = text != NULL ? PyTuple_Pack(1, text) : NULL;
+    refuse(answer);
+    PyErr_Fetch(&type, &error, &trace);
+    if (error == NULL || at == NULL || arguments == NULL || PyObject_SetAttrString(error, "args", arguments) < 0 ||
+        PyObject_SetAttrString(error, "byte", at) < 0)
+        PyErr_Clear();
+    Py_XDECREF(at);
+    Py_XDECREF(text);
+    Py_XDECREF(arguments);
+    PyErr_Restore(type, error, trace);
+    return NULL;
+}
+
 PyObject *refuse(int32_t answer)
 {
     return refuse_as(answer, "InvalidArgument");
@@ -247,7 +265,8 @@ PyObject *sketch_exit(PyObject *self, PyObject *Py_UNUSED(arguments))
 
 PyDoc_STRVAR(error_doc,
 "A sketch rejected a call, and is unchanged.\n\n"
-"`kind` is 'InvalidArgument' or 'InvalidData', and `fault` names the error.\n\n"
+"`kind` is 'InvalidArgument' or 'InvalidData', and `fault` names the error. `byte` is the offset of the first bytes of words\n"
+"or lines that are not UTF-8, else None.\n\n"
 ">>> import datasketches_rattle as ds\n"
 ">>> try:\n"
 "...     ds.BloomFilter(num_bits=0, num_hashes=7)\n"
@@ -279,7 +298,7 @@ static bool add_class(PyObject *m, const char *name, PyTypeObject *type)
 PyMODINIT_FUNC PyInit__sketches(void)
 {
     PyObject *m = PyModule_Create(&module);
-    PyObject *fields = Py_BuildValue("{sOsO}", "kind", Py_None, "fault", Py_None);
+    PyObject *fields = Py_BuildValue("{sOsOsO}", "kind", Py_None, "fault", Py_None, "byte", Py_None);
     if (m == NULL || fields == NULL)
         goto failed;
     sketch_error = PyErr_NewExceptionWithDoc("datasketches_rattle.SketchError", error_doc, NULL, fields);

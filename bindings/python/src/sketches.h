@@ -67,6 +67,9 @@ void sketch_unlock_both(Sketch *self, Sketch *other);
 PyObject *refuse(int32_t answer);
 PyObject *refuse_image(int32_t answer);
 
+/* Does the same for the bytes at an offset, which the error has as `byte`. */
+PyObject *refuse_at(int32_t answer, size_t byte);
+
 /* Changes the whole sketch: a reset or a halving. */
 PyObject *sketch_change(Sketch *self, int32_t (*change)(ds_sketch *));
 
@@ -142,6 +145,7 @@ typedef struct {
     const char *text;
     uint64_t value; /* of a string: its length in bytes */
     bool negative;
+    bool missing; /* a null: neither counted nor inserted */
 } Item;
 
 bool is_single(PyObject *object);
@@ -163,15 +167,35 @@ bool limit_of(PyObject *object, size_t *limit);
 /* Returns the attribute of this name, or NULL with an error set. */
 PyObject *attribute(PyObject *object, const char *name);
 
+/* Calls a method without arguments. */
+PyObject *called(PyObject *object, const char *name);
+
+/* Returns whether the object's type has an attribute of this name. */
+bool type_has(PyObject *object, const char *name);
+
 /* Returns whether the object is a mapping of items to weights: it has keys and items, and is not a table or a pandas Series. */
 bool is_mapping(PyObject *object);
 
 /* Returns the keys and the values of a mapping as two lists in the same order. */
 bool mapping_split(PyObject *mapping, PyObject **keys, PyObject **values);
 
-/* Returns the object that items are read from: a list, a tuple, a set, a buffer, or another iterable. Of a pandas Series this is
- * its array. Sets an error, which names the call, for a table and for a mapping. The reference is new. */
-PyObject *source_of(PyObject *object, const char *call);
+/* What items or weights are read from. */
+typedef struct {
+    const char *call, *type; /* the names of the call and of the object's type, for errors */
+    PyObject *values; /* a list, tuple, set, buffer or other iterable; of categories their codes */
+    PyObject *missing; /* NULL, or an array of bool that is true for missing values */
+    PyObject *categories; /* NULL, or a list of the categories */
+    bool of_arrow; /* whether `values` exports a column of Arrow: then it is a capsule, or a tuple of two */
+    bool in_array; /* whether the results of a query are a numpy array */
+} Source;
+
+/* Finds out what items are read from, or weights if `of_weights`. Sets an error, which names the call, for a table and for a
+ * mapping. `source_release` releases the references. */
+bool source_of(PyObject *object, const char *call, bool of_weights, Source *source);
+void source_release(Source *source);
+
+/* Sets the error for a table, and returns false. */
+bool no_table(const Source *source);
 
 bool is_numpy_array(PyObject *object);
 
@@ -183,54 +207,178 @@ bool is_array_of_bytes(PyObject *object);
  * objects. An empty array is accepted. */
 PyObject *array_entries(PyObject *array, const char *what);
 
-/* Returns whether the source is a numpy array that may have masked entries. */
-bool is_masked(PyObject *source);
+/* Returns whether the object is a numpy array that may have masked entries. */
+bool is_masked(PyObject *object);
 
-/* Replaces each array by its entries that neither array masks. `weights` may point to NULL. */
-bool masks_drop(PyObject **items, PyObject **weights);
+/* Returns the letter for the kind of an array's type, or 0 if it has none. */
+Py_UCS4 kind_of_array(PyObject *dtype);
+
+/* --- series.c --- */
+
+/* Returns whether the object is a column with a type and an array of its values, such as a pandas Series or Index. */
+bool is_series(PyObject *object);
+
+/* Finds out what the items of a Series are read from. Its missing values are those of its `isna`. */
+bool series_source(PyObject *series, bool of_weights, Source *source);
+
+/* --- runs.c --- */
+
+/* How the rows of a run are stored. In strings of a fixed size, NULs at the end are dropped, as numpy does. */
+typedef enum {
+    NUMBERS,
+    STRINGS_32, /* Arrow's strings with offsets of 32 bits */
+    STRINGS_64,
+    VIEWS, /* Arrow's strings in views of 16 bytes */
+    FIXED_BYTES, /* UTF-8 in a fixed number of bytes */
+    FIXED_WIDE, /* a fixed number of code points of 32 bits */
+    NOTHING /* all rows are missing */
+} Layout;
+
+/* Arrow's C data interface. */
+typedef struct ArrowSchema {
+    const char *format, *name, *metadata;
+    int64_t flags, n_children;
+    struct ArrowSchema **children, *dictionary;
+    void (*release)(struct ArrowSchema *);
+    void *private_data;
+} ArrowSchema;
+
+typedef struct ArrowArray {
+    int64_t length, null_count, offset, n_buffers, n_children;
+    const void **buffers;
+    struct ArrowArray **children, *dictionary;
+    void (*release)(struct ArrowArray *);
+    void *private_data;
+} ArrowArray;
+
+/* Rows that are stored in one way: those of a buffer, or of an array of an Arrow column. */
+typedef struct {
+    Layout layout;
+    size_t first, count; /* the index of its first row among all, and the number of its rows */
+    const char *start; /* the first row's number, offset, view or string of a fixed size */
+    Py_ssize_t stride, size;
+    bool with_sign, swapped;
+    const uint8_t *validity; /* a bit for each row, which is 0 if the row is missing; NULL if no row is missing */
+    size_t bit; /* the bit of the first row */
+    const uint8_t *bytes; /* the strings behind the offsets */
+    uint64_t num_bytes; /* the last offset when the offsets were checked */
+    const void *const *buffers; /* the strings behind the views */
+    const int64_t *sizes;
+    size_t num_buffers;
+    const Item *entries; /* NULL, or a dictionary's values; then the numbers are indices into them */
+    size_t num_entries;
+    bool gaps_by_code; /* whether the index -1 is a missing row */
+    bool has_gaps; /* whether `run_check` found that a row may be missing */
+    Item *own_entries;
+    ArrowArray array; /* to be released, unless its `release` is NULL */
+} Run;
+
+typedef struct Items Items;
+typedef struct Weights Weights;
+
+/* Copies `count` numbers from row `at` on. Of a missing row it copies any number. Returns false if an index is out of range. */
+bool run_numbers(const Run *run, size_t at, size_t count, uint64_t *numbers);
+
+/* Returns a row's value in the dictionary: a missing one for a missing row, or NULL if its index is out of range. */
+const Item *run_entry(const Run *run, size_t at);
+
+/* Sets to false what belongs to missing rows. */
+void run_present(const Run *run, size_t at, size_t count, bool *present);
+
+/* Makes pairs of the strings of `count` rows. `room` has `count` * `size` bytes for strings of a fixed size. Returns false if a
+ * row is malformed, for which a buffer must have changed after `run_check`. A missing row becomes any pair. */
+bool run_strings(const Run *run, size_t at, size_t count, uint8_t *room, ds_string *strings);
+
+/* Checks all rows that are not missing: offsets, indices and UTF-8. Sets an error if one is malformed. `missing` is NULL or has a
+ * bool for each row, `array` is NULL or a numpy array with the rows. */
+bool run_check(Run *run, const bool *missing, PyObject *array);
 
 /* --- many.c --- */
 
-/* Many items: the numbers of a buffer, the strings and numbers of a list, or those of an iterator. A buffer and a list are read
- * as a whole, and an iterator in chunks. All items here were checked. Weights are read in the same way. */
-typedef struct {
-    size_t count;
+/* Many items: those of runs, the strings and numbers of a list, or those of an iterator. Runs and a list are read as a whole, and
+ * an iterator in chunks. All items here were checked. Weights are read in the same way. */
+struct Items {
+    size_t count; /* with the missing ones */
     bool of_weights;
     bool weights_with_sign;
-    bool with_texts;
-    Item *items; /* NULL for a buffer */
+    bool with_texts; /* whether some item may be a string */
+    bool with_numbers; /* of a list or an iterator: whether some item is a number */
+    Item *items; /* NULL for runs */
     PyObject *tuple;
+    Run *runs;
+    size_t num_runs;
+    bool with_sign; /* whether the numbers of runs are signed */
+    bool of_entries; /* whether the runs have dictionaries */
+    bool has_gaps; /* whether an item may be missing */
+    bool *missing; /* NULL, or a bool for each item */
     Py_buffer view;
-    bool with_sign, swapped; /* of a buffer's numbers */
     PyObject *iterator; /* NULL if all items are read */
     PyObject **held; /* the objects of the iterator's chunk */
     size_t num_held, room;
-} Items;
+};
 
 #define STREAM_CHUNK 4096
 
-/* Opens what `source_of` returns. Items of an iterator are not read yet. */
-bool items_open(PyObject *source, Items *items);
+/* Opens a source. Items of an iterator are not read yet. */
+bool items_open(const Source *source, Items *items);
 
 /* Reads the next items of an iterator, at most `most`. Sets `iterator` to NULL at its end. */
 bool items_next(Items *items, size_t most);
 void items_release(Items *items);
 
-/* Copies the numbers from index `first` on, at most `most`, and returns their number. Other threads cannot change the copies. */
-size_t items_chunk(const Items *items, size_t first, size_t most, uint64_t *chunk);
+/* Appends a run, and takes its array. Returns false, with an error set, if that fails: then the caller releases the array. */
+bool items_add(Items *items, const Run *run);
+
+/* Sets to false what belongs to missing items. */
+void items_present(const Items *items, size_t first, size_t count, bool *present);
+
+/* Returns the number of missing items. */
+size_t items_gaps(const Items *items);
 
 /* Returns whether all numbers are below 2^63, and so have the same value as signed numbers. */
 bool below_top(const uint64_t *chunk, size_t count);
 
+/* Some items, without the missing ones, and their weights. */
+typedef struct {
+    size_t most; /* the maximum number of rows with numbers; of strings it is CHUNK at most */
+    size_t rows; /* the number of rows that were read */
+    size_t count; /* the number of items in them */
+    uint64_t *numbers; /* `few`, or room for more */
+    uint64_t few[CHUNK];
+    uint64_t weights[CHUNK];
+    ds_string strings[CHUNK]; /* if `with_texts`; the bytes of a number are NULL, and its length is the number */
+    uint8_t *room; /* for strings of a fixed size */
+    size_t room_size;
+} Chunk;
+
+/* Prepares a chunk for `count` items. It has room for `longest` numbers if memory can be allocated, and else for CHUNK. */
+void chunk_open(Chunk *chunk, size_t count, size_t longest);
+void chunk_close(Chunk *chunk);
+
+/* Reads items and weights from row `first` on. Other threads cannot change the numbers here. `weights` is NULL if all items weigh
+ * 1. Returns CHANGED if a buffer changed after it was checked so that a value is malformed, and DS_NO_MEMORY. */
+int32_t chunk_read(Chunk *chunk, const Items *items, const Weights *weights, size_t first);
+
+/* --- arrow.c --- */
+
+/* Returns whether the object exports a column by Arrow's C data interface. */
+bool is_arrow(PyObject *object);
+
+/* Calls the object's export. Returns a capsule of a stream, or a tuple of the capsules of a schema and an array. */
+PyObject *arrow_export(PyObject *object);
+
+/* Opens what `arrow_export` returns. Takes over what the capsules own. */
+bool arrow_open(const Source *source, Items *items);
+
 /* --- weights.c --- */
 
 /* The weights of items: one for all, or one for each. */
-typedef struct {
+struct Weights {
     uint64_t same;
     bool each;
     bool with_sign; /* whether a weight may be below 0 */
     Items items;
-} Weights;
+};
 
 /* Opens the arguments of an update: a mapping, or items with weights, which may be NULL. */
 bool update_open(PyObject *given, PyObject *given_weights, bool with_sign, Items *items, Weights *weights);
@@ -241,19 +389,22 @@ bool items_of(PyObject *given, const char *call, Items *items, Weights *weights)
 /* Reads the next items and weights if they come from iterators. */
 bool update_next(Items *items, Weights *weights);
 
-/* Copies `count` weights from index `first` on. Returns false if a buffer changed after it was checked and one of them is now
- * outside the sketch's range. */
-bool weights_chunk(const Weights *weights, size_t first, size_t count, uint64_t *chunk);
+/* Copies `count` weights from index `first` on. The weight of a missing item may be out of the sketch's range. */
+void weights_chunk(const Weights *weights, size_t first, size_t count, uint64_t *chunk);
 
-/* Returns DS_WEIGHT_OVERFLOW if the sum of all weights is above `room`, and CHANGED if `weights_chunk` returns false for some of
- * them. Signed weights count by their absolute value. */
-int32_t weights_fit(const Weights *weights, size_t count, uint64_t room);
+/* Returns whether each of these weights is in the sketch's range. A buffer may have changed after it was checked. */
+bool weights_hold(const Weights *weights, const uint64_t *chunk, size_t count);
+
+/* Returns DS_WEIGHT_OVERFLOW if the sum of the weights of all items is above `room`, and CHANGED if one is out of the sketch's
+ * range. Signed weights count by their absolute value. */
+int32_t weights_fit(const Items *items, const Weights *weights, uint64_t room);
 
 /* --- batches.c --- */
 
 /* A running call for many items. */
 typedef struct {
     Sketch *self;
+    const Items *items;
     PyThreadState *thread; /* while the interpreter's lock is released */
     bool locked; /* whether it has the sketch's lock */
     uint64_t due; /* the time of the next check for Ctrl-C, in nanoseconds, or 0 */
@@ -266,29 +417,39 @@ typedef struct {
 #define STOPPED INT32_MIN
 #define CHANGED (INT32_MIN + 1)
 
-/* Checks for Ctrl-C between two chunks, from time to time. Returns false, with an error set, if the batch ends. */
-bool batch_goes_on(Batch *batch);
-
 /* Adds a note to the error that is set: the number of items that the call has counted or inserted. */
 void note_taken(size_t done);
 
 typedef bool (*items_check)(const Sketch *self, const Items *items);
-typedef int32_t (*update_work)(Batch *batch, const Items *items, const Weights *weights);
-typedef int32_t (*question_work)(Batch *batch, const Items *items, void *answers);
 
-/* Updates the sketch with all items, and releases them. `check` may be NULL. */
-PyObject *update_all(Sketch *self, Items *items, Weights *weights, items_check check, update_work work);
+/* How a sketch takes many items. `weights` is NULL if each item weighs 1. A function that returns an error adds to `done` the
+ * number of items before it. */
+typedef struct {
+    items_check check; /* of all items, before the first is taken; or NULL */
+    uint64_t (*room)(Sketch *self); /* the maximum sum of weights that the sketch can take; or NULL */
+    size_t (*longest)(const Sketch *self); /* the maximum of numbers without weights in one call; or NULL for CHUNK */
+    int32_t (*strings)(Batch *batch, const ds_string *strings, const uint64_t *weights, size_t count);
+    int32_t (*numbers)(Batch *batch, const uint64_t *numbers, const uint64_t *weights, size_t count);
+} Updates;
 
-/* A query of many items: its name, the bytes of a result, numpy's name of its type, and a function that returns its object. */
+/* Updates the sketch with all items, and releases them. */
+PyObject *update_all(Sketch *self, Items *items, Weights *weights, const Updates *updates);
+
+/* A query of many items: its name, the bytes of a result, numpy's name of its type, how many numbers of this type it has, and a
+ * function that returns its object. */
 typedef struct {
     const char *call;
     size_t size;
     const char *kind;
+    int width;
     PyObject *(*object)(const Sketch *self, const void *answers, size_t index);
-    question_work work;
+    items_check check;
+    size_t (*longest)(const Sketch *self);
+    int32_t (*strings)(Batch *batch, const ds_string *strings, size_t count, void *answers);
+    int32_t (*numbers)(Batch *batch, const uint64_t *numbers, size_t count, void *answers);
 } Question;
 
-/* Returns the results: an array if the items come from a numpy array, else a list. */
+/* Returns the results: an array if the items come from a numpy array or a pandas Series, else a list. */
 PyObject *ask_all(Sketch *self, PyObject *given, const Question *question);
 
 /* --- filter_items.c --- */
@@ -315,26 +476,73 @@ extern const char frequent_update_doc[];
 extern const char frequent_bounds_doc[];
 extern const char frequent_estimate_doc[];
 PyObject *frequent_update(PyObject *object, PyObject *const *args, Py_ssize_t count);
-PyObject *frequent_bounds(PyObject *object, PyObject *item);
-PyObject *frequent_estimate(PyObject *object, PyObject *item);
+PyObject *frequent_bounds(PyObject *object, PyObject *items);
+PyObject *frequent_at(PyObject *object, PyObject *item);
+PyObject *frequent_estimate(PyObject *object, PyObject *items);
 
 /* --- words.c --- */
 
+extern const char filter_insert_words_doc[];
+extern const char filter_insert_lines_doc[];
+extern const char count_update_words_doc[];
+extern const char count_update_lines_doc[];
 extern const char frequent_update_words_doc[];
-PyObject *frequent_update_words(PyObject *object, PyObject *given);
+extern const char frequent_update_lines_doc[];
+PyObject *filter_insert_words(PyObject *object, PyObject *args, PyObject *keywords);
+PyObject *filter_insert_lines(PyObject *object, PyObject *args, PyObject *keywords);
+PyObject *count_update_words(PyObject *object, PyObject *args, PyObject *keywords);
+PyObject *count_update_lines(PyObject *object, PyObject *args, PyObject *keywords);
+PyObject *frequent_update_words(PyObject *object, PyObject *args, PyObject *keywords);
+PyObject *frequent_update_lines(PyObject *object, PyObject *args, PyObject *keywords);
+
+/* A method that takes keywords. */
+#define WITH_KEYWORDS(name, function) \
+    {name, (PyCFunction)(void (*)(void))function, METH_VARARGS | METH_KEYWORDS, function##_doc}
+
+/* --- frequent.c --- */
+
+/* Reads the sketch's numbers. Returns false, with an error set, if it is closed. */
+bool frequent_status(Sketch *self, ds_frequent_items_status *numbers);
+
+/* --- rows.c --- */
+
+extern const char frequent_rows_doc[];
+extern const char frequent_top_doc[];
+PyObject *frequent_rows(PyObject *object, PyObject *args, PyObject *keywords);
+PyObject *frequent_top(PyObject *object, PyObject *args, PyObject *keywords);
+
+/* The rows that a call returns: at most `most`, as a dict of four lists if `columns`. */
+typedef struct {
+    bool no_false_negatives;
+    bool columns;
+    uint64_t threshold;
+    size_t most;
+} Wanted;
+
+/* Other Python threads may run after each such number of rows of a list. */
+#define ROWS_AT_ONCE 4096
+
+/* The rows for Python: a list of tuples, or four lists. */
+typedef struct {
+    PyObject *rows;
+    PyObject *columns[4];
+} RowList;
+
+/* Returns false, with an error set, if allocation fails. `row_list_close` is called in any case. */
+bool row_list_open(RowList *list, bool columns);
+
+/* Takes an item, which may be NULL, and appends a row. Returns false, with an error set, if it is NULL or allocation fails. */
+bool row_list_append(RowList *list, PyObject *item, const ds_frequent_items_bounds *bounds);
+
+/* Returns the list, or the dict of four lists. Returns NULL, with an error set, if not `good`. */
+PyObject *row_list_close(RowList *list, bool good);
 
 /* --- frequent_texts.c --- */
 
 /* The number of bytes that an image of strings is first assumed to have. */
 #define TEXTS_GUESS 4096
 
-PyObject *texts_rows(Sketch *self, bool no_false_negatives, uint64_t threshold);
-
-/* Other Python threads may run after each such number of rows of a list. */
-#define ROWS_AT_ONCE 4096
-
-/* Takes a row, which may be NULL, and appends it. Returns false, with an error set, if the row is NULL or allocation fails. */
-bool append_row(PyObject *list, PyObject *row);
+PyObject *texts_rows(Sketch *self, const Wanted *wanted);
 
 /* --- sizes.c --- */
 
@@ -350,7 +558,7 @@ PyObject *count_suggest_hashes(PyObject *type, PyObject *args, PyObject *keyword
 PyObject *frequent_suggest_max_map_size(PyObject *type, PyObject *args, PyObject *keywords);
 
 /* A class method that takes keywords. */
-#define SUGGESTS(name, function) \
+#define CLASS_METHOD(name, function) \
     {name, (PyCFunction)(void (*)(void))function, METH_CLASS | METH_VARARGS | METH_KEYWORDS, function##_doc}
 
 extern PyTypeObject filter_type;

@@ -1,25 +1,26 @@
 /* The weights of many items, and the arguments of an update. */
 #include "sketches.h"
 
+#include <string.h>
+
 static bool is_many(PyObject *object)
 {
     return !is_single(object) &&
-           (PyObject_CheckBuffer(object) || Py_TYPE(object)->tp_iter != NULL || PySequence_Check(object));
+           (PyObject_CheckBuffer(object) || Py_TYPE(object)->tp_iter != NULL || PySequence_Check(object) || is_arrow(object));
 }
 
-/* Returns the object that weights are read from. Sets an error for a set, and for a mapping, whose keys would be read. */
-static PyObject *weight_source_of(PyObject *object)
+/* Finds out what weights are read from. Sets an error for a set, and for a mapping, whose keys would be read. */
+static bool weight_source_of(PyObject *object, Source *source)
 {
     if (PyAnySet_Check(object))
-        return PyErr_Format(PyExc_TypeError, "weights come in the order of the items, and a %.200s has none",
-                            Py_TYPE(object)->tp_name);
-    if (is_mapping(object))
-        return PyErr_Format(PyExc_TypeError, "weights are no mapping (%.200s): a mapping of items to weights is the first argument",
-                            Py_TYPE(object)->tp_name);
-    return source_of(object, "update");
+        PyErr_Format(PyExc_TypeError, "weights come in the order of the items, and a %.200s has none", Py_TYPE(object)->tp_name);
+    else if (is_mapping(object))
+        PyErr_Format(PyExc_TypeError, "weights are no mapping (%.200s): a mapping of items to weights is the first argument",
+                     Py_TYPE(object)->tp_name);
+    return !PyErr_Occurred() && source_of(object, "update", true, source);
 }
 
-static bool weights_open(PyObject *source, Weights *weights)
+static bool weights_open(const Source *source, Weights *weights)
 {
     weights->items.of_weights = true;
     weights->items.weights_with_sign = weights->with_sign;
@@ -49,59 +50,72 @@ static bool read_beside(Items *items, Items *weights)
     return items->count == weights->count || differ(items, weights);
 }
 
-/* Checks the weights of a buffer whose type has the other signedness than the sketch's. */
-static bool each_fits(const Weights *weights)
+/* Returns whether some weight may be out of the sketch's range: the numbers of runs are of the other signedness. */
+static bool may_not_hold(const Weights *weights)
+{
+    return weights->each && weights->items.items == NULL && weights->items.with_sign != weights->with_sign;
+}
+
+/* Checks the weights of runs that belong to an item. */
+static bool each_fits(const Items *items, const Weights *weights)
 {
     uint64_t chunk[CHUNK];
-    const Items *items = &weights->items;
-    if (items->items != NULL || items->with_sign == weights->with_sign)
-        return true;
-    for (size_t i = 0; i < items->count; i += CHUNK) {
-        size_t count = items_chunk(items, i, CHUNK, chunk);
-        for (size_t j = below_top(chunk, count) ? count : 0; j < count; j++)
-            if (!number_fits("a weight", weights->with_sign, chunk[j], items->with_sign && chunk[j] > INT64_MAX))
+    bool present[CHUNK];
+    for (size_t i = 0, count; may_not_hold(weights) && i < items->count; i += count) {
+        count = items->count - i < CHUNK ? items->count - i : CHUNK;
+        weights_chunk(weights, i, count, chunk);
+        if (below_top(chunk, count))
+            continue;
+        memset(present, true, count);
+        items_present(items, i, count, present);
+        items_present(&weights->items, i, count, present);
+        for (size_t j = 0; j < count; j++)
+            if (present[j] && !number_fits("a weight", weights->with_sign, chunk[j],
+                                           weights->items.with_sign && chunk[j] > INT64_MAX))
                 return false;
     }
     return true;
 }
 
-static bool open_sources(PyObject **source, PyObject **weight_source, Items *items, Weights *weights)
+static bool open_sources(const Source *source, const Source *weight_source, Items *items, Weights *weights)
 {
-    if (weights->each && PyAnySet_Check(*source)) {
-        PyErr_Format(PyExc_TypeError, "a %.200s has no order, and takes one weight for all items", Py_TYPE(*source)->tp_name);
+    if (weights->each && PyAnySet_Check(source->values)) {
+        PyErr_Format(PyExc_TypeError, "a %.200s has no order, and takes one weight for all items",
+                     Py_TYPE(source->values)->tp_name);
         return false;
     }
-    if ((is_masked(*source) || (weights->each && is_masked(*weight_source))) && !masks_drop(source, weight_source))
-        return false;
-    if (!items_open(*source, items))
+    if (!items_open(source, items))
         return false;
     if (!weights->each)
         return true;
-    return weights_open(*weight_source, weights) && read_beside(items, &weights->items) && each_fits(weights);
+    return weights_open(weight_source, weights) && read_beside(items, &weights->items) && each_fits(items, weights);
+}
+
+/* Finds out what the arguments are read from. */
+static bool find_sources(PyObject *given, PyObject *given_weights, Source *source, Source *weight_source, Weights *weights)
+{
+    if (is_mapping(given)) {
+        if (given_weights != NULL)
+            PyErr_SetString(PyExc_TypeError, "a mapping of items to weights takes no second argument");
+        weights->each = given_weights == NULL && mapping_split(given, &source->values, &weight_source->values);
+        return weights->each;
+    }
+    weights->each = given_weights != NULL && is_many(given_weights);
+    if (weights->each)
+        return source_of(given, "update", false, source) && weight_source_of(given_weights, weight_source);
+    return (given_weights == NULL || number_of_kind(given_weights, "weight", weights->with_sign, &weights->same)) &&
+           source_of(given, "update", false, source);
 }
 
 bool update_open(PyObject *given, PyObject *given_weights, bool with_sign, Items *items, Weights *weights)
 {
-    PyObject *source = NULL, *weight_source = NULL;
-    bool opened = false;
+    Source source = {0}, weight_source = {0};
     *items = (Items){0};
     *weights = (Weights){.same = 1, .with_sign = with_sign};
-    if (is_mapping(given)) {
-        if (given_weights != NULL)
-            PyErr_SetString(PyExc_TypeError, "a mapping of items to weights takes no second argument");
-        weights->each = given_weights == NULL && mapping_split(given, &source, &weight_source);
-    } else if (given_weights == NULL || !is_many(given_weights)) {
-        if (given_weights == NULL || number_of_kind(given_weights, "weight", with_sign, &weights->same))
-            source = source_of(given, "update");
-    } else {
-        weights->each = true;
-        source = source_of(given, "update");
-        weight_source = source != NULL ? weight_source_of(given_weights) : NULL;
-    }
-    if (source != NULL && (!weights->each || weight_source != NULL))
-        opened = open_sources(&source, &weight_source, items, weights);
-    Py_XDECREF(source);
-    Py_XDECREF(weight_source);
+    bool opened = find_sources(given, given_weights, &source, &weight_source, weights) &&
+                  open_sources(&source, &weight_source, items, weights);
+    source_release(&source);
+    source_release(&weight_source);
     if (!opened) {
         items_release(items);
         items_release(&weights->items);
@@ -111,11 +125,11 @@ bool update_open(PyObject *given, PyObject *given_weights, bool with_sign, Items
 
 bool items_of(PyObject *given, const char *call, Items *items, Weights *weights)
 {
-    PyObject *source = source_of(given, call), *none = NULL;
+    Source source;
     *items = (Items){0};
     *weights = (Weights){.same = 1};
-    bool opened = source != NULL && open_sources(&source, &none, items, weights);
-    Py_XDECREF(source);
+    bool opened = source_of(given, call, false, &source) && open_sources(&source, NULL, items, weights);
+    source_release(&source);
     if (!opened)
         items_release(items);
     return opened;
@@ -138,15 +152,9 @@ bool update_next(Items *items, Weights *weights)
     return items->count == others->count;
 }
 
-bool weights_chunk(const Weights *weights, size_t first, size_t count, uint64_t *chunk)
+bool weights_hold(const Weights *weights, const uint64_t *chunk, size_t count)
 {
-    if (weights->each) {
-        items_chunk(&weights->items, first, count, chunk);
-        return weights->items.items != NULL || weights->items.with_sign == weights->with_sign || below_top(chunk, count);
-    }
-    for (size_t i = 0; i < count; i++)
-        chunk[i] = weights->same;
-    return true;
+    return !may_not_hold(weights) || below_top(chunk, count);
 }
 
 static uint64_t distance(uint64_t weight, bool with_sign)
@@ -154,21 +162,35 @@ static uint64_t distance(uint64_t weight, bool with_sign)
     return with_sign && weight > INT64_MAX ? 0 - weight : weight;
 }
 
-int32_t weights_fit(const Weights *weights, size_t count, uint64_t room)
+/* Subtracts the weights of items from the room, but for those of missing items. */
+static int32_t take_room(const Weights *weights, const uint64_t *chunk, const bool *present, size_t count, uint64_t *room)
 {
-    uint64_t chunk[CHUNK], same = distance(weights->same, weights->with_sign);
-    if (!weights->each)
-        return same == 0 || count <= room / same ? DS_OK : DS_WEIGHT_OVERFLOW;
-    for (size_t i = 0, some; i < count; i += some) {
-        some = count - i < CHUNK ? count - i : CHUNK;
-        if (!weights_chunk(weights, i, some, chunk))
+    for (size_t i = 0; i < count; i++) {
+        uint64_t weight = present[i] ? distance(chunk[i], weights->with_sign) : 0;
+        if (present[i] && !weights_hold(weights, &chunk[i], 1))
             return CHANGED;
-        for (size_t j = 0; j < some; j++) {
-            uint64_t weight = distance(chunk[j], weights->with_sign);
-            if (weight > room)
-                return DS_WEIGHT_OVERFLOW;
-            room -= weight;
-        }
+        if (weight > *room)
+            return DS_WEIGHT_OVERFLOW;
+        *room -= weight;
     }
     return DS_OK;
+}
+
+int32_t weights_fit(const Items *items, const Weights *weights, uint64_t room)
+{
+    uint64_t chunk[CHUNK], same = distance(weights->same, weights->with_sign);
+    bool present[CHUNK];
+    int32_t answer = DS_OK;
+    if (!weights->each && (same == 0 || items->count <= room / same))
+        return DS_OK;
+    for (size_t i = 0, count; i < items->count && answer >= 0; i += count) {
+        count = items->count - i < CHUNK ? items->count - i : CHUNK;
+        weights_chunk(weights, i, count, chunk);
+        memset(present, true, count);
+        items_present(items, i, count, present);
+        if (weights->each)
+            items_present(&weights->items, i, count, present);
+        answer = take_room(weights, chunk, present, count, &room);
+    }
+    return answer;
 }

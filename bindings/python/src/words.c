@@ -1,46 +1,52 @@
-/* The words of a string or of a buffer, for a FrequentItemsSketch of strings. */
+/* The words and the lines of a string or of a buffer. */
 #include "sketches.h"
 
 #include <string.h>
 
-/* How many bytes one call of the library takes, and more only up to the end of a word. Other Python threads may use the sketch
- * between two calls, and Ctrl-C is checked there. */
+/* How many bytes one call of the library takes, and more only up to the end of a word or line. Other Python threads may use the
+ * sketch between two calls, and Ctrl-C is checked there. */
 #define PIECE ((size_t)1 << 20)
 
-/* The bytes whose words are counted: those of a string or of a buffer. */
+/* A method that takes words, or lines if `of_lines`. */
+typedef struct {
+    const char *name;
+    bool of_lines;
+} Method;
+
+/* The bytes whose words or lines are taken: those of a string or of a buffer. */
 typedef struct {
     const uint8_t *bytes;
     size_t length;
     bool may_change; /* then each piece is copied before the library reads it */
     uint8_t *copy;
     Py_buffer view;
-    size_t done; /* the number of words that were counted */
-} Words;
+    uint64_t done; /* the number of words or lines that were counted */
+} Text;
 
-static bool words_open(PyObject *given, Words *words)
+static bool text_open(PyObject *given, const Method *method, Text *text)
 {
     if (PyUnicode_Check(given)) {
         Py_ssize_t length;
-        words->bytes = (const uint8_t *)PyUnicode_AsUTF8AndSize(given, &length);
-        words->length = words->bytes != NULL ? (size_t)length : 0;
-        return words->bytes != NULL;
+        text->bytes = (const uint8_t *)PyUnicode_AsUTF8AndSize(given, &length);
+        text->length = text->bytes != NULL ? (size_t)length : 0;
+        return text->bytes != NULL;
     }
-    if (PyObject_GetBuffer(given, &words->view, PyBUF_ND | PyBUF_FORMAT) < 0)
+    if (PyObject_GetBuffer(given, &text->view, PyBUF_ND | PyBUF_FORMAT) < 0)
         return false;
-    words->bytes = words->view.buf;
-    words->length = (size_t)words->view.len;
-    words->may_change = !is_constant(&words->view);
-    if (words->view.itemsize == 1)
+    text->bytes = text->view.buf;
+    text->length = (size_t)text->view.len;
+    text->may_change = !is_constant(&text->view);
+    if (text->view.itemsize == 1)
         return true;
-    PyErr_SetString(PyExc_TypeError, "update_words takes a str or a buffer of bytes");
+    PyErr_Format(PyExc_TypeError, "%s takes a str or a buffer of bytes", method->name);
     return false;
 }
 
-static void words_release(Words *words)
+static void text_release(Text *text)
 {
-    PyMem_RawFree(words->copy);
-    if (words->view.obj != NULL)
-        PyBuffer_Release(&words->view);
+    PyMem_RawFree(text->copy);
+    if (text->view.obj != NULL)
+        PyBuffer_Release(&text->view);
 }
 
 static bool is_space(uint8_t byte)
@@ -48,89 +54,298 @@ static bool is_space(uint8_t byte)
     return byte == ' ' || byte == '\t' || byte == '\n' || byte == '\f' || byte == '\r';
 }
 
-/* Returns the end of the piece that begins at `from`: no word goes on after it. */
-static size_t piece_end(const Words *words, size_t from)
+/* Returns the end of the piece that begins at `from`: no word or line goes on after it. */
+static size_t piece_end(const Text *text, bool of_lines, size_t from)
 {
-    if (words->length - from <= PIECE)
-        return words->length;
+    if (text->length - from <= PIECE)
+        return text->length;
     size_t end = from + PIECE;
-    while (end < words->length && !is_space(words->bytes[end]))
+    if (of_lines) {
+        const uint8_t *last = memchr(text->bytes + end, '\n', text->length - end);
+        return last != NULL ? (size_t)(last - text->bytes) + 1 : text->length;
+    }
+    while (end < text->length && !is_space(text->bytes[end]))
         end++;
     return end;
 }
 
-/* Counts the words of a piece. Runs without the interpreter's lock. */
-static int32_t count_piece(Sketch *self, Words *words, size_t from, size_t end)
+/* Returns the number of words or lines at the front of the text. Only a filter, which has no total weight, has to count them. */
+static uint64_t count_front(const Text *text, bool of_lines, size_t length)
 {
-    const uint8_t *piece = words->bytes + from;
-    ds_frequent_items_status before = {0}, after = {0};
-    if (words->may_change) {
-        uint8_t *copy = PyMem_RawRealloc(words->copy, end - from);
+    uint64_t count = 0;
+    for (size_t i = 0; i < length; i++)
+        if (of_lines)
+            count += text->bytes[i] == '\n';
+        else
+            count += !is_space(text->bytes[i]) && (i == 0 || is_space(text->bytes[i - 1]));
+    return count;
+}
+
+static bool is_filter(const Sketch *self)
+{
+    return PyObject_TypeCheck((PyObject *)self, &filter_type);
+}
+
+static bool is_count(const Sketch *self)
+{
+    return PyObject_TypeCheck((PyObject *)self, &count_type);
+}
+
+/* Returns the total weight, or 0 for a filter. */
+static uint64_t total_of(Sketch *self)
+{
+    ds_count_min_status count = {0};
+    ds_frequent_items_status frequent = {0};
+    if (is_count(self) && self->with_sign)
+        ds_count_min_i64_get_status(&self->handle, &count);
+    else if (is_count(self))
+        ds_count_min_u64_get_status(&self->handle, &count);
+    else if (!is_filter(self))
+        ds_frequent_items_string_get_status(&self->handle, &frequent);
+    return count.total_weight + frequent.total_weight;
+}
+
+static int32_t take_words(Sketch *self, const uint8_t *text, size_t length)
+{
+    if (is_filter(self))
+        return ds_bloom_insert_words(&self->handle, text, length);
+    if (!is_count(self))
+        return ds_frequent_items_string_update_words(&self->handle, text, length);
+    return self->with_sign ? ds_count_min_i64_update_words(&self->handle, text, length)
+                           : ds_count_min_u64_update_words(&self->handle, text, length);
+}
+
+static int32_t take_lines(Sketch *self, const uint8_t *text, size_t length)
+{
+    if (is_filter(self))
+        return ds_bloom_insert_lines(&self->handle, text, length);
+    if (!is_count(self))
+        return ds_frequent_items_string_update_lines(&self->handle, text, length);
+    return self->with_sign ? ds_count_min_i64_update_lines(&self->handle, text, length)
+                           : ds_count_min_u64_update_lines(&self->handle, text, length);
+}
+
+/* Takes the words or lines of a piece. Runs without the interpreter's lock. */
+static int32_t take_piece(Sketch *self, Text *text, bool of_lines, size_t from, size_t end)
+{
+    const uint8_t *piece = text->bytes + from;
+    uint64_t before = total_of(self);
+    if (text->may_change) {
+        uint8_t *copy = PyMem_RawRealloc(text->copy, end - from);
         if (copy == NULL)
             return DS_NO_MEMORY;
-        words->copy = copy;
+        text->copy = copy;
         memcpy(copy, piece, end - from);
         piece = copy;
     }
-    ds_frequent_items_string_get_status(&self->handle, &before);
-    int32_t answer = ds_frequent_items_string_update_words(&self->handle, piece, end - from);
-    ds_frequent_items_string_get_status(&self->handle, &after);
-    words->done += after.total_weight - before.total_weight;
+    int32_t answer = of_lines ? take_lines(self, piece, end - from) : take_words(self, piece, end - from);
+    text->done += total_of(self) - before;
     return answer;
 }
 
-/* Counts all words. Returns false, with an error set, if a piece is rejected or Ctrl-C ends the call. */
-static bool count_words(Sketch *self, Words *words)
+/* Sets the error of a piece that is not UTF-8. `byte` is the offset of its first malformed character. */
+static void refuse_utf8(const Text *text, size_t from, size_t end)
 {
-    for (size_t from = 0, end; from < words->length; from = end) {
+    const uint8_t *piece = text->may_change ? text->copy : text->bytes + from;
+    Py_ssize_t start = 0;
+    PyObject *type, *error, *trace;
+    Py_XDECREF(PyUnicode_DecodeUTF8((const char *)piece, (Py_ssize_t)(end - from), NULL));
+    if (!PyErr_Occurred())
+        refuse(DS_INVALID_UTF8);
+    if (!PyErr_ExceptionMatches(PyExc_UnicodeDecodeError))
+        return;
+    PyErr_Fetch(&type, &error, &trace);
+    PyErr_NormalizeException(&type, &error, &trace);
+    PyUnicodeDecodeError_GetStart(error, &start);
+    Py_XDECREF(type);
+    Py_XDECREF(error);
+    Py_XDECREF(trace);
+    refuse_at(DS_INVALID_UTF8, from + (size_t)start);
+}
+
+/* Sets the error of a piece that was rejected, with the number of words or lines that were counted before. */
+static void refuse_piece(Sketch *self, Text *text, const Method *method, int32_t answer, size_t from, size_t end)
+{
+    if (answer == DS_NO_MEMORY) {
+        PyErr_Format(PyExc_MemoryError, "memory ended when %llu %s were counted", (unsigned long long)text->done,
+                     method->of_lines ? "lines" : "words");
+        return;
+    }
+    if (answer == DS_INVALID_UTF8)
+        refuse_utf8(text, from, end);
+    else if (answer < 0)
+        refuse(answer);
+    if (is_filter(self))
+        text->done = count_front(text, method->of_lines, answer < 0 ? from : end);
+    if (text->done > 0)
+        note_taken(text->done);
+}
+
+/* Takes all words or lines. Returns false, with an error set, if a piece is rejected or Ctrl-C ends the call. */
+static bool take_text(Sketch *self, Text *text, const Method *method)
+{
+    for (size_t from = 0, end; from < text->length; from = end) {
         int32_t answer;
-        end = piece_end(words, from);
+        end = piece_end(text, method->of_lines, from);
         if (!sketch_lock(self))
             return false;
         BATCH_BEGIN(self)
-        answer = count_piece(self, words, from, end);
+        answer = take_piece(self, text, method->of_lines, from, end);
         BATCH_END(self)
         sketch_unlock(self);
-        if (answer == DS_NO_MEMORY) {
-            PyErr_Format(PyExc_MemoryError, "memory ended when %zu words were counted", words->done);
-            return false;
-        }
-        if (answer < 0)
-            refuse(answer);
-        if (answer < 0 || (end < words->length && PyErr_CheckSignals() < 0)) {
-            if (words->done > 0)
-                note_taken(words->done);
+        if (answer < 0 || (end < text->length && PyErr_CheckSignals() < 0)) {
+            refuse_piece(self, text, method, answer, from, end);
             return false;
         }
     }
     return true;
 }
 
-const char frequent_update_words_doc[] = PyDoc_STR(
-"update_words($self, words, /)\n--\n\n"
+/* Returns the number of bytes, or of the characters of a str, before those at the end that are not taken. */
+static PyObject *used_of(PyObject *given, const Text *text, size_t whole)
+{
+    size_t used = text->length;
+    if (PyUnicode_Check(given)) {
+        used = (size_t)PyUnicode_GET_LENGTH(given);
+        for (size_t i = text->length; i < whole; i++)
+            used -= text->bytes[i] >> 6 != 2;
+    }
+    return PyLong_FromSize_t(used);
+}
+
+static PyObject *take(PyObject *object, PyObject *args, PyObject *keywords, const Method *method)
+{
+    static char *names[] = {"", "final", NULL};
+    Sketch *self = (Sketch *)object;
+    PyObject *given, *used = NULL;
+    int final = 1;
+    Text text = {0};
+    if (!PyArg_ParseTupleAndKeywords(args, keywords, "O|$p", names, &given, &final) || !sketch_ready(self))
+        return NULL;
+    if (!is_filter(self) && !is_count(self) && !self->with_texts)
+        return PyErr_Format(PyExc_TypeError, "%s takes a sketch of strings: FrequentItemsSketch(.., item=str)", method->name);
+    if (text_open(given, method, &text)) {
+        size_t whole = text.length;
+        if (!final)
+            text.length = method->of_lines ? ds_finished_lines(text.bytes, whole) : ds_finished_words(text.bytes, whole);
+        if (take_text(self, &text, method))
+            used = used_of(given, &text, whole);
+    }
+    text_release(&text);
+    return used;
+}
+
+#define WORDS_ARE "A word is a longest run of bytes that are not space, tab, LF, FF or CR. "
+#define LINES_ARE \
+"A line ends with LF or CR LF, which do not belong to it. A last line without LF counts if it is not empty.\n\n"
+#define HOW_MUCH(words) \
+"Return how much of `text` was used: `text[used:]` is\n" \
+"the rest. With `final=False` this is an unfinished last " words ", which goes before the next chunk of a stream. Otherwise\n" \
+"there is none.\n\n"
+#define ERRORS_ARE(words) \
+"Raise 'InvalidUtf8' if some bytes are not UTF-8, with the offset of the first as `byte`. A buffer is read in pieces of about\n" \
+"1 MiB. " words " before an error may be counted: a note of the error has their number.\n\n"
+
+const char filter_insert_words_doc[] = PyDoc_STR(
+"insert_words($self, text, /, *, final=True)\n--\n\n"
+"Insert each word of a str, or of a buffer of UTF-8 bytes, such as bytes or an mmap.\n\n"
+WORDS_ARE HOW_MUCH("word") ERRORS_ARE("Words")
+">>> import datasketches_rattle as ds\n"
+">>> seen = ds.BloomFilter(num_bits=1024, num_hashes=5)\n"
+">>> seen.insert_words(b'to be or not to be')\n"
+"18\n"
+">>> 'not' in seen, 'apple' in seen\n"
+"(True, False)\n");
+
+const char filter_insert_lines_doc[] = PyDoc_STR(
+"insert_lines($self, text, /, *, final=True)\n--\n\n"
+"Insert each line of a str, or of a buffer of UTF-8 bytes, such as bytes or an mmap.\n\n"
+LINES_ARE HOW_MUCH("line") ERRORS_ARE("Lines")
+">>> import datasketches_rattle as ds\n"
+">>> seen = ds.BloomFilter(num_bits=1024, num_hashes=5)\n"
+">>> seen.insert_lines('first line\\nsecond line\\n')\n"
+"23\n"
+">>> 'second line' in seen, 'second' in seen\n"
+"(True, False)\n");
+
+const char count_update_words_doc[] = PyDoc_STR(
+"update_words($self, text, /, *, final=True)\n--\n\n"
 "Add 1 to the weight of each word of a str, or of a buffer of UTF-8 bytes, such as bytes or an mmap.\n\n"
-"A word is a longest run of bytes that are not space, tab, LF, FF or CR. Raise 'InvalidUtf8' if some bytes are not UTF-8,\n"
-"and 'WeightOverflow' if the total weight would exceed 2**64 - 1. A buffer is read in pieces of about 1 MiB. Words before\n"
-"an error may be counted: a note of the error has their number.\n\n"
+WORDS_ARE HOW_MUCH("word") ERRORS_ARE("Words")
+">>> import datasketches_rattle as ds\n"
+">>> load = ds.CountMinSketch(num_hashes=4, num_buckets=1 << 10)\n"
+">>> load.update_words(b'to be or not to be')\n"
+"18\n"
+">>> load['be'], load.total_weight\n"
+"(2, 6)\n");
+
+const char count_update_lines_doc[] = PyDoc_STR(
+"update_lines($self, text, /, *, final=True)\n--\n\n"
+"Add 1 to the weight of each line of a str, or of a buffer of UTF-8 bytes, such as bytes or an mmap.\n\n"
+LINES_ARE HOW_MUCH("line") ERRORS_ARE("Lines")
+">>> import datasketches_rattle as ds\n"
+">>> load = ds.CountMinSketch(num_hashes=4, num_buckets=1 << 10)\n"
+">>> load.update_lines('first line\\nsecond line\\n')\n"
+"23\n"
+">>> load['second line'], load.total_weight\n"
+"(1, 2)\n");
+
+const char frequent_update_words_doc[] = PyDoc_STR(
+"update_words($self, text, /, *, final=True)\n--\n\n"
+"Add 1 to the weight of each word of a str, or of a buffer of UTF-8 bytes, such as bytes or an mmap.\n\n"
+WORDS_ARE HOW_MUCH("word") ERRORS_ARE("Words")
 ">>> import datasketches_rattle as ds\n"
 ">>> words = ds.FrequentItemsSketch(64, item=str)\n"
 ">>> words.update_words(b'to be or not to be')\n"
+"18\n"
 ">>> words['be'], words.total_weight\n"
-"(2, 6)\n");
+"(2, 6)\n"
+">>> chunk = 'it is not easy to'\n"
+">>> used = words.update_words(chunk, final=False)\n"
+">>> chunk[used:]\n"
+"'to'\n");
 
-PyObject *frequent_update_words(PyObject *object, PyObject *given)
+const char frequent_update_lines_doc[] = PyDoc_STR(
+"update_lines($self, text, /, *, final=True)\n--\n\n"
+"Add 1 to the weight of each line of a str, or of a buffer of UTF-8 bytes, such as bytes or an mmap.\n\n"
+LINES_ARE HOW_MUCH("line") ERRORS_ARE("Lines")
+">>> import datasketches_rattle as ds\n"
+">>> lines = ds.FrequentItemsSketch(64, item=str)\n"
+">>> lines.update_lines('first line\\nsecond line\\n')\n"
+"23\n"
+">>> lines['second line'], lines.total_weight\n"
+"(1, 2)\n");
+
+PyObject *filter_insert_words(PyObject *object, PyObject *args, PyObject *keywords)
 {
-    Sketch *self = (Sketch *)object;
-    Words words = {0};
-    if (!sketch_ready(self))
-        return NULL;
-    if (!self->with_texts) {
-        PyErr_SetString(PyExc_TypeError, "update_words takes a sketch of strings: FrequentItemsSketch(.., item=str)");
-        return NULL;
-    }
-    bool counted = words_open(given, &words) && count_words(self, &words);
-    words_release(&words);
-    if (!counted)
-        return NULL;
-    Py_RETURN_NONE;
+    static const Method method = {"insert_words", false};
+    return take(object, args, keywords, &method);
+}
+
+PyObject *filter_insert_lines(PyObject *object, PyObject *args, PyObject *keywords)
+{
+    static const Method method = {"insert_lines", true};
+    return take(object, args, keywords, &method);
+}
+
+PyObject *count_update_words(PyObject *object, PyObject *args, PyObject *keywords)
+{
+    static const Method method = {"update_words", false};
+    return take(object, args, keywords, &method);
+}
+
+PyObject *count_update_lines(PyObject *object, PyObject *args, PyObject *keywords)
+{
+    static const Method method = {"update_lines", true};
+    return take(object, args, keywords, &method);
+}
+
+PyObject *frequent_update_words(PyObject *object, PyObject *args, PyObject *keywords)
+{
+    return count_update_words(object, args, keywords);
+}
+
+PyObject *frequent_update_lines(PyObject *object, PyObject *args, PyObject *keywords)
+{
+    return count_update_lines(object, args, keywords);
 }

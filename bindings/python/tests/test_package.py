@@ -42,6 +42,24 @@ except MemoryError as error:
     print(str(error) == f"memory ended when {heavy.total_weight} of 4000000 items were counted", 0 < heavy.total_weight < 4000000)
 """
 
+COUNTED_WEIGHTS = """
+import array, resource
+import datasketches_rattle as ds
+weights = array.array("Q", [0, 0, 3, 1, 0]) * 400000
+for item, items in ((int, array.array("q", range(2000000))), (str, [str(number) for number in range(2000000)])):
+    heavy = ds.FrequentItemsSketch(1 << 26, item=item)
+    before = resource.getrlimit(resource.RLIMIT_AS)
+    with open("/proc/self/statm") as file:
+        size = int(file.read().split()[0]) * resource.getpagesize()
+    resource.setrlimit(resource.RLIMIT_AS, (size + (1 << 26), before[1]))
+    try:
+        heavy.update(items, weights)
+    except MemoryError as error:
+        count = int(str(error).split()[3])
+        print(str(error), count < 2000000, sum(weights[:count]) == heavy.total_weight, weights[count] > 0)
+    resource.setrlimit(resource.RLIMIT_AS, before)
+"""
+
 GIVEN_BACK = """
 import array, copy, pickle, resource
 import datasketches_rattle as ds
@@ -70,6 +88,10 @@ for round in range(60):
     words.update(str(number) + "x" * 10000 for number in range(500))
     words = pickle.loads(pickle.dumps(copy.copy(words) + words))
     words.rows(), words.total_weight
+    words.update_words(b"to be " * 300000)
+    words.update_lines("to be\\n" * 100000)
+    words.update(words.rows(columns=True)["item"])
+    words.top(5), words.bounds(["to"] * 100000)
     words.reset()
     for wrong in ([1, 2.0], ["a", None], 1.5):
         try:
@@ -95,7 +117,7 @@ class Package(unittest.TestCase):
     def test_types_are_those_of_the_classes(self):
         with open(os.path.join(FOLDER, "__init__.pyi"), encoding="utf-8") as file:
             stub = ast.parse(file.read())
-        classes = {each.name: each for each in stub.body if isinstance(each, ast.ClassDef)}
+        classes = {each.name: each for each in stub.body if isinstance(each, ast.ClassDef) and not each.name.startswith("_")}
         self.assertEqual(sorted(classes), sorted(ds.__all__))
         for name, tree in classes.items():
             told = {each.name for each in tree.body if isinstance(each, ast.FunctionDef)}
@@ -122,6 +144,11 @@ class Package(unittest.TestCase):
     @unittest.skipIf("asan" in os.environ.get("LD_PRELOAD", ""), "the limit on memory is too low for this run")
     def test_memory_that_ends_in_a_batch(self):
         self.assertEqual(run(COUNTED_SO_FAR), (0, ["True True"], ""))
+
+    @unittest.skipIf("asan" in os.environ.get("LD_PRELOAD", ""), "the limit on memory is too low for this run")
+    def test_memory_that_ends_among_weights(self):
+        status, lines, errors = run(COUNTED_WEIGHTS)
+        self.assertEqual((status, [line.split()[-3:] for line in lines], errors), (0, [["True"] * 3] * 2, ""))
 
     @unittest.skipIf("asan" in os.environ.get("LD_PRELOAD", ""), "the limit on memory is too low for this run")
     def test_memory_given_back(self):

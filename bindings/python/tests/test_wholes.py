@@ -507,7 +507,7 @@ FIELDS = {ds.BloomFilter: ["capacity", "num_hashes", "seed", "bits_used"],
           ds.CountMinSketch: ["num_hashes", "num_buckets", "seed", "signed", "total_weight"],
           ds.FrequentItemsSketch: ["total_weight", "maximum_error", "num_active_items", "max_map_size", "sample_size"]}
 OF_A_CLASS = {"deserialize", "suggest_num_bits", "suggest_num_hashes", "suggest_num_buckets", "suggest_max_map_size",
-              "unpickle_max_bytes"}
+              "unpickle_max_bytes", "from_file"}
 
 
 class Closed(unittest.TestCase):
@@ -522,8 +522,9 @@ class Closed(unittest.TestCase):
             whole.close()
             kind = type(whole)
             calls = {name: (lambda whole=whole, name=name: getattr(whole, name)) for name in FIELDS[kind]}
-            takes = {"decay": [1, 2]}
-            takes |= dict.fromkeys(("insert", "contains", "update", "estimate", "upper_bound", "bounds", "update_words"), [item])
+            takes = {"decay": [1, 2], "top": [1]}
+            takes |= dict.fromkeys(("insert", "contains", "update", "estimate", "upper_bound", "bounds", "insert_words", "insert_lines",
+                                    "update_words", "update_lines"), [item])
             names = {name for name in vars(kind) if not name.startswith("_")} - OF_A_CLASS
             self.assertLessEqual(set(FIELDS[kind]), names)
             for name in names - set(FIELDS[kind]):

@@ -45,7 +45,7 @@ back-distance n p k l m = let d = distance_is n k p m l in let a = ahead_is n p 
 pub distance-between : (n h k p : ℕ) → h < n → k < n → p < n → distance n h k < distance n h p → distance n k p ≤ distance n h p
 distance-between n h k p a b c l = let d = distance_is n h k a b in let e = distance_is n h p a c in let f = distance_is n k p b c in omega arith
 
--- a index f that is m back from p, where h is as far back or further, and k is nearer
+-- an index f that is m back from p, where h is as far back or further, and k is nearer
 pub passes : (n h k p m : ℕ) → h < n → k < n → p < n → distance n k p < m → m ≤ distance n h p → (distance n h p - m ≤ distance n h k) × (ahead n h (distance n h p - m) ≡ ahead n p (n - m))
 passes n h k p m a b c l g =
     let d = distance_is n h k a b in let e = distance_is n h p a c in let f = distance_is n k p b c in
@@ -54,7 +54,7 @@ passes n h k p m a b c l g =
 pub distance-same : (n p : ℕ) → p < n → distance n p p ≡ 0
 distance-same n p l = let d = distance_is n p p l l in omega arith
 
--- a index k that is no more than j back from the index j indices on from h
+-- an index k that is no more than j back from the index j indices on from h
 pub ahead-back : (n h k j : ℕ) → h < n → k < n → j < n → distance n k (ahead n h j) ≤ j → ahead n h (j - distance n k (ahead n h j)) ≡ k
 ahead-back n h k j l m b near =
     let a = ahead_is n h j l (omega arith) in

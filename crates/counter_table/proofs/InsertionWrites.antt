@@ -1,11 +1,11 @@
 -- A write to the slot where a look-up ended.
-use Rattle.std.proofs.Common.{◌≡◌, ℕ, zero, suc, ◌+◌, ◌-◌, ◌<◌, ◌≤◌, Bool, true, false, inl, inr, refl, ap, sym, ◌∙◌, subst, arith, List, [], ◌∷◌, ◌++◌, length, Option, Some, is_some, IsPermutation}
+use Rattle.std.proofs.Common.{◌≡◌, ℕ, zero, suc, ◌+◌, ◌-◌, ◌<◌, ◌≤◌, Bool, true, false, inl, inr, ap, sym, ◌∙◌, subst, arith, List, [], ◌∷◌, ◌++◌, length, get_or, Option, Some, is_some, IsPermutation}
 use Rattle.std.specs.Cmp.{IsEquivalence}
-use Rattle.std.specs.List.{IsDistinct, concat}
+use Rattle.std.specs.List.{IsDistinct}
 use Rattle.std.specs.Prelude.{IsTrue}
-use Rattle.std.specs.Map.{keys_of, lookup}
+use Rattle.std.specs.Map.{keys_of}
 use Rattle.std.proofs.Math.ListN.{set}
-use Rattle.std.proofs.lemmas.List.{length-set}
+use Rattle.std.proofs.lemmas.List.{get_or_default, length-set}
 use Rattle.std.proofs.lemmas.List.Sorted.{IsPermutation-refl, IsPermutation-to_front, IsPermutation-cons, IsPermutation-map, length_permutation}
 use Rattle.std.proofs.lemmas.Bool.{cases_eq, false≢true, both_ways, false_from_ne_true}
 use Rattle.std.proofs.lemmas.Map.Keys.{IsDistinct-head, IsDistinct-tail, IsDistinct-IsPermutation}
@@ -13,13 +13,17 @@ use Rattle.counter_table.specs.Tables.{is_tracked, put}
 use Rattle.counter_table.proofs.InsertionPuts.{put_new, distinct_tracked, distinct_new, length_tracked, length_new}
 use Rattle.counter_table.specs.declared.slot.Slot.{Slot}
 use Rattle.counter_table.specs.declared.slot.Slot.TheVariants.{Free, Taken}
-use Rattle.counter_table.specs.Homes.{home_in, home_of, ahead, distance}
-use Rattle.counter_table.specs.Slots.{Held, taken, entries_of, slot_at, is_taken, AddsAt, IsPlaced, IsSlots}
+use Rattle.counter_table.specs.Homes.{home_in, ahead, distance}
+use Rattle.counter_table.specs.Slots.{Held, held, taken, entries_of, slot_at, is_taken, AddsAt, IsPlaced, IsSlots}
 use Rattle.counter_table.specs.Probes.{IsFreeSlot, IsProbe}
 use Rattle.counter_table.proofs.ArithmeticRing.{ahead-distance, distance-ahead}
 use Rattle.counter_table.proofs.LookupHomes.{some_size, home_of-below}
 use Rattle.counter_table.proofs.LookupReach.{is_taken-below, slot_at-set_same, slot_at-set_other}
 use Rattle.counter_table.proofs.LookupProbes.{differs, free_slot_below, lookup_slot}
+
+-- ---- a slot that was read
+pub slot_read : {T : Type 0} (slots : List (Slot T)) (k : ℕ) (o d : Slot T) → k < length slots → o ≡ get_or slots k d → slot_at slots k ≡ held o
+slot_read slots k o d l is = ap held (get_or_default slots k Free d l ∙ sym is)
 
 -- ---- the entries
 put_hit : {T : Type 0} {eq : T → T → Bool} → IsEquivalence eq → (slots : List (Slot T)) (x : T) (w k : ℕ) (s : Held T) → IsDistinct eq (keys_of (entries_of slots)) → slot_at slots k ≡ Some s → eq x s.item ≡ true →
@@ -160,16 +164,3 @@ wrote_free_slot {T} {eq} laws input slots ok x w k probed absent room p new is =
       };
       entries = moved;
     })
-
--- ---- an item that is equal to another
-lookup_alike : {T : Type 0} {eq : T → T → Bool} → IsEquivalence eq → (es : List (T × ℕ)) (x y : T) → eq x y ≡ true → lookup (eq x) es ≡ lookup (eq y) es
-lookup_alike laws [] x y h = refl
-lookup_alike laws (e ∷ es) x y h = rw (laws.congr x y e.0 h, lookup_alike laws es x y h) refl
-
--- is tracked where that is
-pub tracked_alike : {T : Type 0} {eq : T → T → Bool} → IsEquivalence eq → (es : List (T × ℕ)) (x y : T) → eq x y ≡ true → is_tracked eq es y ≡ is_tracked eq es x
-tracked_alike laws es x y h = ap is_some (sym (lookup_alike laws es x y h))
-
--- and has its home
-pub home_alike : {T : Type 0} {eq : T → T → Bool} {input : T → List (List ℕ)} → ((x y : T) → IsTrue (eq x y) → input x ≡ input y) → (n : ℕ) (x y : T) → IsTrue (eq x y) → home_in input n x ≡ home_in input n y
-home_alike respects n x y t = ap (λ f. home_of (concat f) n) (respects x y t)

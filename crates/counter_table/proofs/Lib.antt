@@ -3,6 +3,7 @@ pub mod ArithmeticRing
 pub mod CloneSlots
 pub mod GrowthMoves
 pub mod InsertionCounts
+pub mod InsertionEnds
 pub mod InsertionPuts
 pub mod InsertionWrites
 pub mod LookupCounts

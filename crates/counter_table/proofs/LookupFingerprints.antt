@@ -1,16 +1,15 @@
 -- What a fingerprint says of its slot, and what a write to a slot makes of the fingerprints.
-use Rattle.std.proofs.Common.{◌≡◌, ℕ, zero, suc, ◌∷◌, ◌+◌, ◌%◌, ◌<◌, Bool, true, false, inl, inr, refl, ap, sym, ◌∙◌, arith, List, [], length, get_or, replicate, Option, Some, is_some}
+use Rattle.std.proofs.Common.{◌≡◌, ℕ, zero, suc, ◌∷◌, ◌+◌, ◌%◌, ◌<◌, Bool, true, false, inl, inr, refl, ap, sym, ◌∙◌, arith, List, [], length, get_or, replicate, None, Some, is_some}
 use Rattle.std.specs.Prelude.{IsTrue}
 use Rattle.std.specs.List.{AllZip, concat}
 use Rattle.std.proofs.Math.ListN.{set}
 use Rattle.std.proofs.lemmas.Bool.{cases_Bool, cases_eq}
-use Rattle.std.proofs.lemmas.List.{length-set, length-replicate, get_or-set_same, get_or-set_other}
+use Rattle.std.proofs.lemmas.List.{length-set, length-replicate, set-get_or, get_or-set_same, get_or-set_other}
 use Rattle.sketch_base.specs.Hashes.{fed_bytes}
 use Rattle.counter_table.specs.declared.slot.Slot.{Slot}
 use Rattle.counter_table.specs.declared.slot.Slot.TheVariants.{Free, Taken}
 use Rattle.counter_table.specs.Fingerprints.{hash_of, hash_in, fingerprint_of, slot_fingerprint, AreFingerprints}
 use Rattle.counter_table.specs.Homes.{home_of, home_in}
-use Rattle.counter_table.specs.Probes.{IsProbe}
 use Rattle.counter_table.specs.Slots.{Held, held, entries_of, slot_at, is_taken, AddsAt, IsSameSlot}
 use Rattle.counter_table.proofs.CloneSlots.{cloned_size}
 use Rattle.counter_table.proofs.GrowthMoves.{nothing_at}
@@ -43,6 +42,16 @@ taken_is : {T : Type 0} (input : T → List (List ℕ)) (o : Slot T) → (slot_f
 taken_is input Free n = absurd (n refl)
 taken_is input (Taken d c x) n = refl
 
+-- a key with another fingerprint names another
+pub seen_other : {T : Type 0} (input : T → List (List ℕ)) (slots : List (Slot T)) {names : T → Bool} {fed : List (List ℕ)} → ((x : T) → IsTrue (names x) → fed ≡ input x) → (hash index seen mark : ℕ) → hash ≡ hash_of (concat fed) → mark ≡ fingerprint_of hash → seen ≡ slot_fingerprint input (get_or slots index Free) → (seen ≡ mark → ⊥) → (s : Held T) → slot_at slots index ≡ Some s → names s.item ≡ false
+seen_other input slots {names} {fed} respects hash index seen mark h m is other s e = elim (cases_Bool (names s.item)) [
+  | inl same ↦
+      let alike : hash_of (concat fed) ≡ hash_in input s.item = ap (λ f. hash_of (concat f)) (respects s.item same) in
+      let there = ap (slot_fingerprint input) (slot_from_held (get_or slots index Free) s e) in
+      absurd (other (is ∙ (there ∙ (ap fingerprint_of (sym alike) ∙ (ap fingerprint_of (sym h) ∙ sym m)))))
+  | inr f ↦ f
+]
+
 module _ {T : Type 0} {input : T → List (List ℕ)} {slots : List (Slot T)} {bytes : List ℕ} (are : AreFingerprints input slots bytes) where
   -- 0 stands at the free slots alone
   pub seen_free : (index seen : ℕ) → seen ≡ get_or bytes index 0 → seen ≡ 0 → is_taken slots index ≡ false
@@ -53,15 +62,6 @@ module _ {T : Type 0} {input : T → List (List ℕ)} {slots : List (Slot T)} {b
 
   fingerprint_at : (index : ℕ) (s : Held T) → slot_at slots index ≡ Some s → get_or bytes index 0 ≡ fingerprint_of (hash_in input s.item)
   fingerprint_at index s e = are.each index ∙ ap (slot_fingerprint input) (slot_from_held (get_or slots index Free) s e)
-
-  -- a key with another fingerprint names another
-  pub seen_other : {names : T → Bool} {fed : List (List ℕ)} → ((x : T) → IsTrue (names x) → fed ≡ input x) → (hash index seen mark : ℕ) → hash ≡ hash_of (concat fed) → mark ≡ fingerprint_of hash → seen ≡ get_or bytes index 0 → (seen ≡ mark → ⊥) → (s : Held T) → slot_at slots index ≡ Some s → names s.item ≡ false
-  seen_other {names} {fed} respects hash index seen mark h m is other s e = elim (cases_Bool (names s.item)) [
-    | inl same ↦
-        let alike : hash_of (concat fed) ≡ hash_in input s.item = ap (λ f. hash_of (concat f)) (respects s.item same) in
-        absurd (other (is ∙ (fingerprint_at index s e ∙ (ap fingerprint_of (sym alike) ∙ (ap fingerprint_of (sym h) ∙ sym m)))))
-    | inr f ↦ f
-  ]
 
   -- ---- a write of a slot and of its fingerprint
   pub fingerprints_set : (index : ℕ) (o : Slot T) (b : ℕ) (new : List (Slot T)) (news : List ℕ) → index < length slots → b ≡ slot_fingerprint input o → new ≡ set slots index o → news ≡ set bytes index b → AreFingerprints input new news
@@ -89,10 +89,6 @@ module _ {T : Type 0} {input : T → List (List ℕ)} {slots : List (Slot T)} {b
     ];
   })
 
-  -- which is added where a look-up found the item
-  pub fingerprints_found : {names : T → Bool} {h index c probed : ℕ} {found : Option ℕ} → IsProbe names h slots index found probed → found ≡ Some c → (w : ℕ) {new : List (Slot T)} → AddsAt slots index w new → AreFingerprints input new bytes
-  fingerprints_found {index = index} p hit w {new} adds = let here = p.here _ hit in fingerprints_counted index (here.0.count + w) here.0 new here.1 (adds here.0 here.1)
-
   -- a slot is freed
   pub fingerprints_freed : (index : ℕ) → index < length slots → AreFingerprints input (set slots index Free) (set bytes index 0)
   fingerprints_freed index below = fingerprints_set index Free 0 (set slots index Free) (set bytes index 0) below refl refl refl
@@ -100,6 +96,30 @@ module _ {T : Type 0} {input : T → List (List ℕ)} {slots : List (Slot T)} {b
   -- the byte that goes with an item
   pub fingerprint_moves : (index : ℕ) (s : Held T) (moving probed count : ℕ) → slot_at slots index ≡ Some s → moving ≡ get_or bytes index 0 → moving ≡ slot_fingerprint input (Taken probed count s.item)
   fingerprint_moves index s moving probed count e is = is ∙ fingerprint_at index s e
+
+-- ---- w is added to the count in the slot at an index, if it is taken
+pub record AddedAt {T : Type 0} (input : T → List (List ℕ)) (old : List (Slot T)) (index w : ℕ) (new : List (Slot T)) (bytes : List ℕ) : Type 0 where
+  pub are : AreFingerprints input new bytes
+  pub adds : AddsAt old index w new
+  pub long : length new ≡ length old
+
+module _ {T : Type 0} {input : T → List (List ℕ)} {slots : List (Slot T)} {bytes : List ℕ} (are : AreFingerprints input slots bytes) (index w : ℕ) where
+  pub added_taken : (s : Held T) → slot_at slots index ≡ Some s → AddedAt input slots index w (set slots index (Taken s.drift (s.count + w) s.item)) bytes
+  added_taken s at = record {
+    are = fingerprints_counted are index (s.count + w) s _ at refl;
+    adds = λ t e.
+        let both : Some s ≡ Some t = sym at ∙ e in
+        let same : s ≡ t = cc in
+        ap (λ (q : Held T). set slots index (Taken q.drift (q.count + w) q.item)) same;
+    long = length-set slots index (Taken s.drift (s.count + w) s.item);
+  }
+
+  pub added_free : (o : Slot T) → o ≡ get_or slots index o → slot_at slots index ≡ None → AddedAt input slots index w (set slots index o) bytes
+  added_free o is free = rw (ap (set slots index) is ∙ set-get_or slots index o) (record {
+    are = are;
+    adds = λ t e. let both : None ≡ Some t = sym free ∙ e in cc;
+    long = refl;
+  })
 
 -- ---- all slots
 none_held : {T : Type 0} (slots : List (Slot T)) (k : ℕ) → entries_of slots ≡ [] → get_or slots k Free ≡ Free

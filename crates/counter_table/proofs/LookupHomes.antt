@@ -1,4 +1,4 @@
--- The home of an item, the index after a index, and where a look-up stands.
+-- The home of an item, the index after an index, and where a look-up stands.
 use Rattle.std.proofs.Common.{◌≡◌, ℕ, ◌+◌, ◌-◌, ◌%◌, ◌<◌, ap, sym, ◌∙◌, arith, List, bit_and}
 use Rattle.std.proofs.Math.Nat.{mod-lt}
 use Rattle.sketch_base.specs.Hashes.{fed_bytes}

@@ -109,7 +109,7 @@ part_yes n f a slots k l = at_keep (done n f a) slots k ∙ ap (λ b. cond b (ge
 part_no : {T : Type 0} (n f a : ℕ) (slots : List (Slot T)) (k : ℕ) → a ≤ distance n f k → get_or (part n f a slots) k Free ≡ Free
 part_no n f a slots k l = at_keep (done n f a) slots k ∙ ap (λ b. cond b (get_or slots k Free) Free) (le-ltb (distance n f k) a l)
 
--- a index whose slot is free, settled or not
+-- an index whose slot is free, settled or not
 part_free : {T : Type 0} (n f a : ℕ) (slots : List (Slot T)) (k : ℕ) → get_or slots k Free ≡ Free → get_or (part n f a slots) k Free ≡ Free
 part_free n f a slots k e = at_keep (done n f a) slots k ∙ ap (λ o. cond (done n f a k) o Free) e ∙ kept_no (done n f a k) Free
 

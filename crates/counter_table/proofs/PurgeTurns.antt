@@ -26,7 +26,7 @@ pub slot_from_none : {T : Type 0} (o : Slot T) → is_some (held o) ≡ false �
 slot_from_none Free e = refl
 slot_from_none (Taken d n x) e = cc
 
--- a index outside holds nothing
+-- an index outside holds nothing
 pub set_free : {T : Type 0} (slots : List (Slot T)) (k : ℕ) → is_taken slots k ≡ false → set slots k Free ≡ slots
 set_free slots k f = ap (set slots k) (sym (slot_from_none (get_or slots k Free) f)) ∙ set-get_or slots k Free
 

@@ -3,7 +3,6 @@ use Rattle.std.specs.Prelude.{◌≡◌, ℕ, ◌+◌, ◌<◌, ◌≤◌, ◌^�
 use Rattle.std.specs.Int.{is_power_of_two}
 use Rattle.std.specs.List.{filter_map, IsDistinct}
 use Rattle.std.specs.Map.{keys_of}
-use Rattle.counter_table.specs.Fingerprints.{AreFingerprints}
 use Rattle.counter_table.specs.Homes.{ahead, distance, home_in}
 use Rattle.counter_table.specs.Tables.{Table}
 use Rattle.counter_table.specs.declared.slot.Slot.{Slot}
@@ -60,11 +59,10 @@ pub record IsSlots {T : Type 0} (eq : T → T → Bool) (input : T → List (Lis
   pub room : length (entries_of slots) < length slots
   pub size : IsTableSize (length slots)
 
--- the invariant of the slots with their fingerprints and the number of entries
-pub record IsCounted {T : Type 0} (eq : T → T → Bool) (input : T → List (List ℕ)) (slots : List (Slot T))
-    (fingerprints : List ℕ) (active : ℕ) : Type 0 where
+-- the invariant of the slots with the number of entries
+pub record IsCounted {T : Type 0} (eq : T → T → Bool) (input : T → List (List ℕ)) (slots : List (Slot T)) (active : ℕ)
+    : Type 0 where
   pub slots_ok : IsSlots eq input slots
-  pub fingerprints_ok : AreFingerprints input slots fingerprints
   pub active_is : active ≡ length (entries_of slots)
 
 -- adding w to the count in the slot at k does not overflow

@@ -3,27 +3,27 @@
 //! A slot of an item of 8 bytes takes 24 bytes, and its fingerprint one. A look-up probes the fingerprints, and reads a slot
 //! only if its fingerprint is the item's. So few or no slots are read for an absent item. The fingerprint is taken from the
 //! top bits of the hash, and the home from its low bits.
-ghost use Rattle.std.specs.Prelude.{◌≡◌, ◌+◌, ◌<◌, ◌%◌, ◌^◌, None, Some, length, slice_index, replicate, IfOk, IfErr};
+ghost use Rattle.std.specs.Prelude.{◌≡◌, ◌+◌, ◌<◌, ◌%◌, ◌^◌, None, Some, length, slice_index, slice_index_or, replicate, IfOk, IfErr};
 ghost use Rattle.sketch_base.specs.Errors.{no_memory};
-ghost use Rattle.counter_table.specs.Fingerprints.{fingerprint_of, hash_in, AreFingerprints};
+ghost use Rattle.counter_table.specs.Fingerprints.{fingerprint_of, hash_in, slot_fingerprint};
 ghost use Rattle.counter_table.specs.Probes.{IsCountAt};
 ghost use Rattle.counter_table.specs.Slots.{IsTableSize};
 
 use crate::item_key::ItemKey;
 use crate::slot::Slot;
-use sketch_base::{DEFAULT_UPDATE_SEED, Error, murmur3_of};
+use sketch_base::{DEFAULT_UPDATE_SEED, Error};
 use std::alloc::Global;
 use std::hash::Hash;
 
 /// The fingerprint of a free slot. An item's fingerprint is from 128 to 255.
 pub(crate) const FREE: u8 = 0;
 
-/// Returns the hash of the item.
+/// Returns the hash of the items that the key names.
 #[inline(always)]
-pub(crate) fn hash_of<T: Hash>(item: &T) -> u64
-    ensures { result ≡ hash_in T.hash_input item.now }
+pub(crate) fn hash_of<T: Eq + Hash, K: ItemKey<T>>(key: K) -> u64
+    ensures { result ≡ hash_in K.hash_input key }
 {
-    murmur3_of(item, DEFAULT_UPDATE_SEED).0
+    key.murmur3(DEFAULT_UPDATE_SEED).0
 }
 
 /// Returns the home, in a table of this size, of an item with this hash.
@@ -61,16 +61,14 @@ pub(crate) fn probe_at(fingerprints: &[u8], index: usize, probed: &mut usize) ->
 #[inline(always)]
 pub(crate) fn count_at<T: Eq + Hash, K: ItemKey<T>>(
     slots: &[Slot<T>],
-    fingerprints: &[u8],
     key: K,
     hash: u64,
     index: usize,
     seen: u8,
 ) -> Option<u64>
-    requires fingerprints { AreFingerprints T.hash_input slots.now fingerprints.now }
     requires hash { hash ≡ hash_in K.hash_input key }
     requires index { index < length slots.now }
-    requires seen { seen ≡ slice_index fingerprints.now index }
+    requires seen { seen ≡ slot_fingerprint T.hash_input (slice_index_or slots.now index Slot.Free) }
     ensures { IsCountAt (K.names key) slots.now index result }
 {
     if seen != fingerprint(hash) {

@@ -5,7 +5,10 @@ ghost use Rattle.std.specs.Hash as fed;
 ghost use Rattle.std.specs.Str.{bytes_eq};
 ghost use Rattle.std.specs.String.{string_bytes};
 ghost use Rattle.std.proofs.Common.{ap};
+ghost use Rattle.sketch_base.specs.Hashes.{fed_bytes};
+ghost use Rattle.sketch_base.specs.Murmur3.{murmur3_x64_128};
 
+use sketch_base::{murmur3_of, murmur3_of_str};
 use std::alloc::{AllocError, Global};
 use std::hash::Hash;
 
@@ -20,6 +23,10 @@ pub trait ItemKey<T: Eq + Hash>: Copy + Hash {
     /// Returns whether the key names the item.
     fn names(&self, item: &T) -> bool
         ensures { result ≡ names self.now item.now };
+
+    /// Returns both halves of MurmurHash3 x64 128 of all bytes that the key's `Hash` feeds, under a seed. Does not allocate.
+    fn murmur3(&self, seed: u64) -> (u64, u64)
+        ensures { result ≡ murmur3_x64_128 (fed_bytes Self.hash_input self.now) seed };
 
     // A key hashes as the items that it names.
     ghost respects_hash: { (k : Self) (x : T) → IsTrue (names k x) → Self.hash_input k ≡ T.hash_input x };
@@ -39,6 +46,11 @@ impl<T: Eq + Hash> ItemKey<T> for &T {
     fn names(&self, item: &T) -> bool {
         **self == *item
     }
+
+    #[inline(always)]
+    fn murmur3(&self, seed: u64) -> (u64, u64) {
+        murmur3_of(*self, seed)
+    }
 }
 
 impl ItemKey<String> for &str {
@@ -51,6 +63,11 @@ impl ItemKey<String> for &str {
     #[inline(always)]
     fn names(&self, item: &String) -> bool {
         *self == item.as_str()
+    }
+
+    #[inline(always)]
+    fn murmur3(&self, seed: u64) -> (u64, u64) {
+        murmur3_of_str(self, seed)
     }
 }
 

@@ -12,13 +12,13 @@
 #![tactic(auto)]
 
 mod fingerprints;
+mod indices;
 mod item_key;
-mod look_ups;
 mod reverse_purge_item_hash_map;
 mod reverse_purge_item_iter;
 mod sizes;
 mod slot;
-mod slots;
+mod slot_table;
 
 pub use item_key::{ItemKey, OwnedKey};
 pub use reverse_purge_item_hash_map::ReversePurgeItemHashMap;

@@ -10,12 +10,11 @@ ghost use Rattle.counter_table.specs.Slots.{entries_of};
 ghost use Rattle.counter_table.specs.Tables.{count_by_key, count_of, is_tracked_by_key, is_tracked, put, purged, IsSampleMiddle, IsSameMap, PutsEqual, PutsByKey};
 ghost use Rattle.counter_table.specs.Walk.{entry_of};
 
-use crate::fingerprints::{FREE, free_fingerprints};
 use crate::item_key::{ItemKey, OwnedKey};
 use crate::reverse_purge_item_iter::ReversePurgeItemIter;
 use crate::sizes::{MAX_SAMPLE_SIZE, bytes_of_table, capacity_of, lg_of};
 use crate::slot::Slot;
-use crate::{look_ups, slots};
+use crate::slot_table::SlotTable;
 use sketch_base::Error;
 use std::alloc::Global;
 use std::hash::Hash;
@@ -46,9 +45,7 @@ use std::mem;
 /// ```
 #[derive(Debug, Drop)]
 pub struct ReversePurgeItemHashMap<T: Eq + Hash + Drop> {
-    slots: Vec<Slot<T>>,
-    // a byte for each slot
-    fingerprints: Vec<u8>,
+    table: SlotTable<T>,
     active: usize,
 }
 
@@ -59,9 +56,9 @@ impl<T: Eq + Hash + Drop> Model for ReversePurgeItemHashMap<T> {
 
     ghost use Rattle.counter_table.specs.Slots.{table_of, IsCounted};
 
-    ghost view = { λ a. table_of a.slots.items };
+    ghost view = { λ a. table_of a.table };
 
-    ghost invariant = { λ a. IsCounted T.eq T.hash_input a.slots.items a.fingerprints.items a.active };
+    ghost invariant = { λ a. IsCounted T.eq T.hash_input a.table a.active };
 }
 
 impl<T: Eq + Hash + Drop> ReversePurgeItemHashMap<T> {
@@ -74,13 +71,8 @@ impl<T: Eq + Hash + Drop> ReversePurgeItemHashMap<T> {
         ensures ok { IfOk result (λ map. map ≡ record { entries = []; size = map_size }) }
         ensures err { IfErr result (λ e. e ≡ no_memory) }
     {
-        let slots = slots::free_slots(alloc, map_size)?;
-        let fingerprints = free_fingerprints(alloc, map_size)?;
-        Ok(ReversePurgeItemHashMap {
-            slots,
-            fingerprints,
-            active: 0,
-        })
+        let table = SlotTable::new(alloc, map_size)?;
+        Ok(ReversePurgeItemHashMap { table, active: 0 })
     }
 
     /// Returns the count of the item, 0 if it is absent. [`get_counted`](Self::get_counted) also returns the number of probes.
@@ -106,7 +98,7 @@ impl<T: Eq + Hash + Drop> ReversePurgeItemHashMap<T> {
         ensures probed { result.1 ≤ length self.now.entries + 1 }
         ensures within { result.1 ≤ self.now.size }
     {
-        let probe = slots::find(&self.slots, &self.fingerprints, item);
+        let probe = self.table.as_slices().find(item);
         (probe.found.unwrap_or(0), probe.probed)
     }
 
@@ -129,7 +121,7 @@ impl<T: Eq + Hash + Drop> ReversePurgeItemHashMap<T> {
         requires { length counts.old ≡ length items.now }
         ensures { counts.new ≡ map (count_of T.eq self.now.entries) items.now }
     {
-        look_ups::counts_of(&self.slots, &self.fingerprints, items, counts);
+        self.table.counts_of(items, counts);
     }
 
     /// Adds the amount to the item's count, or inserts the item with the amount as its count.
@@ -144,7 +136,7 @@ impl<T: Eq + Hash + Drop> ReversePurgeItemHashMap<T> {
         ensures size { self.new.size ≡ self.old.size }
         ensures distinct { IsDistinct T.eq (keys_of self.new.entries) }
     {
-        if slots::put_in(&mut self.slots, &mut self.fingerprints, item, adjust_amount) {
+        if self.table.put(item, adjust_amount) {
             self.active += 1;
         }
     }
@@ -172,7 +164,7 @@ impl<T: Eq + Hash + Drop> ReversePurgeItemHashMap<T> {
         ensures memory { IfErr result (λ e. e ≡ no_memory) }
         ensures succeeds { is_tracked T.eq self.old.entries item.now ≡ true → IsOk result }
     {
-        if slots::put_clone_in(&mut self.slots, &mut self.fingerprints, item, adjust_amount)? {
+        if self.table.put_clone(item, adjust_amount)? {
             self.active += 1;
         }
         Ok(())
@@ -202,13 +194,7 @@ impl<T: Eq + Hash + Drop> ReversePurgeItemHashMap<T> {
         ensures memory { IfErr result (λ e. e ≡ no_memory) }
         ensures succeeds { is_tracked_by_key (K.names key) self.old.entries ≡ true → IsOk result }
     {
-        if slots::put_by_key_in(
-            self.allocator(),
-            &mut self.slots,
-            &mut self.fingerprints,
-            key,
-            adjust_amount,
-        )? {
+        if self.table.put_by_key(key, adjust_amount)? {
             self.active += 1;
         }
         Ok(())
@@ -230,8 +216,8 @@ impl<T: Eq + Hash + Drop> ReversePurgeItemHashMap<T> {
             ≤ length self.old.entries }
     {
         let size = sample_size.min(self.active.min(MAX_SAMPLE_SIZE));
-        let middle = slots::middle_of(&self.slots, size);
-        let removed = slots::lower(&mut self.slots, &mut self.fingerprints, middle);
+        let middle = self.table.middle_of(size);
+        let removed = self.table.lower(middle);
         self.active -= removed;
         middle
     }
@@ -249,11 +235,9 @@ impl<T: Eq + Hash + Drop> ReversePurgeItemHashMap<T> {
         ensures memory { IfErr result (λ e. e ≡ no_memory) }
         ensures distinct { IsDistinct T.eq (keys_of self.new.entries) }
     {
-        let slots = slots::free_slots(self.allocator(), new_size)?;
-        let fingerprints = free_fingerprints(self.allocator(), new_size)?;
-        let old = mem::replace(&mut self.slots, slots);
-        self.fingerprints = fingerprints;
-        slots::move_all(old, &mut self.slots, &mut self.fingerprints);
+        let table = SlotTable::new(self.allocator(), new_size)?;
+        let old = mem::replace(&mut self.table, table);
+        self.table.move_all(old);
         Ok(())
     }
 
@@ -262,21 +246,21 @@ impl<T: Eq + Hash + Drop> ReversePurgeItemHashMap<T> {
         ensures size { result ≡ self.now.size }
         ensures limit { result ≤ 2 ^ 30 }
     {
-        self.slots.len()
+        self.table.len()
     }
 
     /// Returns the base-2 logarithm of the number of slots.
     pub fn lg_length(&self) -> u8
         ensures { 2 ^ result ≡ self.now.size }
     {
-        lg_of(self.slots.len())
+        lg_of(self.table.len())
     }
 
     /// Returns the number of entries that a sketch keeps in a table of this size: three quarters of the slots.
     pub fn capacity(&self) -> usize
         ensures { result ≡ self.now.size * 3 / 4 }
     {
-        capacity_of(self.slots.len())
+        capacity_of(self.table.len())
     }
 
     /// Returns the number of entries.
@@ -295,7 +279,7 @@ impl<T: Eq + Hash + Drop> ReversePurgeItemHashMap<T> {
         ensures probed { result.probed ≡ 0 }
         ensures size { result.size ≡ self.now.size }
     {
-        ReversePurgeItemIter::new(self.slots.as_slice(), self.active)
+        ReversePurgeItemIter::new(self.table.slots(), self.active)
     }
 
     /// Returns every entry once, in an unspecified order.
@@ -314,7 +298,7 @@ impl<T: Eq + Hash + Drop> ReversePurgeItemHashMap<T> {
     pub fn estimated_size(&self) -> usize
         ensures { result ≡ table_bytes T.row self.now.size }
     {
-        bytes_of_table::<T>(self.slots.len())
+        bytes_of_table::<T>(self.table.len())
     }
 
     /// Returns the same map with clones of the items, in a table of the same size. Clones have to equal their originals.
@@ -329,11 +313,9 @@ impl<T: Eq + Hash + Drop> ReversePurgeItemHashMap<T> {
         ensures distinct { IfOk result (λ map. IsDistinct T.eq (keys_of map.entries)) }
         ensures err { IfErr result (λ e. e ≡ no_memory) }
     {
-        let slots = slots::clone_slots(self.allocator(), &self.slots)?;
-        let fingerprints = self.fingerprints.clone()?;
+        let table = self.table.try_clone()?;
         Ok(ReversePurgeItemHashMap {
-            slots,
-            fingerprints,
+            table,
             active: self.active,
         })
     }
@@ -342,14 +324,14 @@ impl<T: Eq + Hash + Drop> ReversePurgeItemHashMap<T> {
     pub fn look_up(&self, item: &T) -> Option<u64>
         ensures { result ≡ lookup (T.eq item.now) self.now.entries }
     {
-        slots::find(&self.slots, &self.fingerprints, item).found
+        self.table.as_slices().find(item).found
     }
 
     /// Returns the count of the item that the key names, if it has an entry. It does not allocate.
     pub fn look_up_by_key<K: ItemKey<T>>(&self, key: K) -> Option<u64>
         ensures { result ≡ lookup (K.names key) self.now.entries }
     {
-        slots::find(&self.slots, &self.fingerprints, key).found
+        self.table.as_slices().find(key).found
     }
 
     /// Adds to the item's count if it has an entry, and returns whether it has one.
@@ -381,7 +363,7 @@ impl<T: Eq + Hash + Drop> ReversePurgeItemHashMap<T> {
         ensures size { self.new.size ≡ self.old.size }
         ensures distinct { IsDistinct T.eq (keys_of self.new.entries) }
     {
-        slots::adjust_in(&mut self.slots, &self.fingerprints, key, adjust_amount)
+        self.table.adjust(key, adjust_amount)
     }
 
     /// Inserts an item that is absent. Requires that a slot stays free after the insertion. It does not allocate.
@@ -392,7 +374,7 @@ impl<T: Eq + Hash + Drop> ReversePurgeItemHashMap<T> {
         ensures size { self.new.size ≡ self.old.size }
         ensures distinct { IsDistinct T.eq (keys_of self.new.entries) }
     {
-        slots::insert_in(&mut self.slots, &mut self.fingerprints, item, amount);
+        self.table.insert(item, amount);
         self.active += 1;
     }
 
@@ -404,10 +386,7 @@ impl<T: Eq + Hash + Drop> ReversePurgeItemHashMap<T> {
         requires within { size ≤ self.old.size }
         ensures { self.new ≡ record { entries = []; size = size } }
     {
-        self.slots.truncate(size);
-        slots::free_all(&mut self.slots);
-        self.fingerprints.truncate(size);
-        self.fingerprints.fill(FREE);
+        self.table.clear(size);
         self.active = 0;
     }
 
@@ -415,12 +394,12 @@ impl<T: Eq + Hash + Drop> ReversePurgeItemHashMap<T> {
     pub fn slots(&self) -> &[Slot<T>]
         ensures { entries_of result.now ≡ self.now.entries }
     {
-        &self.slots
+        self.table.slots()
     }
 
     /// Returns the allocator of the table.
     pub fn allocator(&self) -> Global {
-        *self.slots.allocator()
+        self.table.allocator()
     }
 }
 

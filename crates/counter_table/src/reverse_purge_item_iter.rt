@@ -1,11 +1,10 @@
 //! Walks over the table of counters.
-ghost use Rattle.std.specs.Prelude.{◌≡◌, ◌≤◌, [], length, IfSome, IsPermutation};
+ghost use Rattle.std.specs.Prelude.{◌≡◌, ◌+◌, ◌<◌, ◌≤◌, ◌^◌, [], length, slice_index_or, IfSome, IsPermutation};
 ghost use Rattle.std.specs.Iterator.{at_most, item_count, UpTo};
 ghost use Rattle.std.specs.Iterator.SizeHint.{IsWithinCount};
 ghost use Rattle.counter_table.specs.Slots.{IsTableSize, entries_of};
 
 use crate::slot::Slot;
-use crate::slots;
 use std::iter::FusedIterator;
 use std::marker::Model;
 
@@ -105,11 +104,7 @@ impl<'a, T> Iterator for ReversePurgeItemIter<'a, T> {
         'walk: loop {
             let index = self.index;
             self.index = (index + self.stride) & (slots.len() - 1);
-            if let Slot::Taken { count, item, .. } = slots::read_slot(
-                slots,
-                index,
-                &mut self.probed,
-            ) {
+            if let Slot::Taken { count, item, .. } = read_slot(slots, index, &mut self.probed) {
                 self.left -= 1;
                 return Some((item, *count));
             }
@@ -133,3 +128,15 @@ impl<'a, T> ExactSizeIterator for ReversePurgeItemIter<'a, T> {
 }
 
 impl<'a, T> FusedIterator for ReversePurgeItemIter<'a, T> {}
+
+/// Returns a slot, and counts the probe. Walks read slots by this call alone.
+#[inline(always)]
+fn read_slot<'a, T>(slots: &'a [Slot<T>], index: usize, probed: &mut usize) -> &'a Slot<T>
+    requires index { index < length slots.now }
+    requires probed { probed.old < 2 ^ 30 }
+    ensures value { result.now ≡ slice_index_or slots.now index Slot.Free }
+    ensures counted { probed.new ≡ probed.old + 1 }
+{
+    *probed += 1;
+    &slots[index]
+}

@@ -8,12 +8,12 @@ use Rattle.std.proofs.lemmas.List.{map-id, length_push, length-map, length-take-
 use Rattle.std.proofs.lemmas.List.Sums.{sum_by_push}
 use Rattle.sketch_countmin.specs.Buckets.{bucket_of}
 use Rattle.sketch_countmin.specs.Rows.{cell_at}
-use Rattle.sketch_countmin.specs.History.{CountHistory, all_updated}
+use Rattle.sketch_countmin.specs.History.{CountHistory, all_updated, each_updated}
 use Rattle.sketch_countmin.specs.History.CountHistory.{Update}
 use Rattle.sketch_countmin.specs.Stands.{StandsFor, Extends}
-use Rattle.sketch_countmin.specs.State.{CountState, Counts, CountsAll}
+use Rattle.sketch_countmin.specs.State.{CountState, Counts, CountsAll, CountsEach}
 use Rattle.datasketches_c.specs.CountCalls.{EstimatesAll}
-use Rattle.datasketches_c.specs.CountSteps.{Weighs, WeighsAll, WeighsEach, each_updated}
+use Rattle.datasketches_c.specs.CountSteps.{Weighs, WeighsAll, WeighsEach}
 use Rattle.datasketches_c.specs.Estimates.{IsEstimate}
 use Rattle.datasketches_c.specs.InTurn.{InTurn}
 use Rattle.datasketches_c.specs.declared.any_sketch.AnySketch.{AnySketch}
@@ -124,13 +124,21 @@ pub own_numbers : {I : Type 0} (part : AnySketch → Option CountState) (old new
     → EstimatesAll part old new result bytes_of items (map (λ (x : ℤ). x) estimates) → EstimatesAll part old new result bytes_of items estimates
 own_numbers part old new result bytes_of items estimates said = subst (λ (zs : List ℤ). EstimatesAll part old new result bytes_of items zs) (map-id estimates) said
 
--- weights that were counted in turn are so in the history
-weighed_in_turn : {I W : Type 0} (bytes_of : I → List ℕ) (number : W → ℤ) (old : CountState) (pairs : List (I × W)) (new : CountState)
-    → InTurn (λ s (pair : I × W) t. Weighs s (bytes_of pair.0) (number pair.1) t) old pairs new → Extends old new (λ h. each_updated bytes_of number h pairs)
-weighed_in_turn bytes_of number old [] new each = λ h is. subst (λ (s : CountState). StandsFor s h) (sym each) is
-weighed_in_turn bytes_of number old (pair ∷ pairs) new each =
-    λ h is. weighed_in_turn bytes_of number each.0 pairs new each.2 (Update h (bytes_of pair.0) (number pair.1)) (each.1.stands h is)
+-- weights that were counted in turn are counted in a chain
+counted_in_turn : {I W : Type 0} (bytes_of : I → List ℕ) (number : W → ℤ) (old : CountState) (items : List I) (weights : List W) (new : CountState)
+    → InTurn (λ s (pair : I × W) t. Weighs s (bytes_of pair.0) (number pair.1) t) old (zip items weights) new → CountsEach old (zip (map bytes_of items) (map number weights)) new
+counted_in_turn bytes_of number old [] weights new each = each
+counted_in_turn bytes_of number old (x ∷ xs) [] new each = each
+counted_in_turn bytes_of number old (x ∷ xs) (w ∷ ws) new each = (each.0, each.1.counted, counted_in_turn bytes_of number each.0 xs ws new each.2)
+
+-- and in the history
+weighed_in_turn : {I W : Type 0} (bytes_of : I → List ℕ) (number : W → ℤ) (old : CountState) (items : List I) (weights : List W) (new : CountState)
+    → InTurn (λ s (pair : I × W) t. Weighs s (bytes_of pair.0) (number pair.1) t) old (zip items weights) new → Extends old new (λ h. each_updated h (zip (map bytes_of items) (map number weights)))
+weighed_in_turn bytes_of number old [] weights new each = λ h is. subst (λ (s : CountState). StandsFor s h) (sym each) is
+weighed_in_turn bytes_of number old (x ∷ xs) [] new each = λ h is. subst (λ (s : CountState). StandsFor s h) (sym each) is
+weighed_in_turn bytes_of number old (x ∷ xs) (w ∷ ws) new each =
+    λ h is. weighed_in_turn bytes_of number each.0 xs ws new each.2 (Update h (bytes_of x) (number w)) (each.1.stands h is)
 
 pub each_weighed : {I W : Type 0} (bytes_of : I → List ℕ) (number : W → ℤ) (old : CountState) (items : List I) (weights : List W) (new : CountState)
     → InTurn (λ s (pair : I × W) t. Weighs s (bytes_of pair.0) (number pair.1) t) old (zip items weights) new → WeighsEach bytes_of number old items weights new
-each_weighed bytes_of number old items weights new each = record { each = each; stands = weighed_in_turn bytes_of number old (zip items weights) new each }
+each_weighed bytes_of number old items weights new each = record { counted = counted_in_turn bytes_of number old items weights new each; stands = weighed_in_turn bytes_of number old items weights new each }

@@ -7,7 +7,7 @@ use Rattle.datasketches_c.specs.Joining.{IsCombined, joined, joined_history}
 use Rattle.datasketches_c.specs.Kinds.{OnKind, HoldsKind, filter_of}
 use Rattle.datasketches_c.specs.Numbers.{ok, refusal_number}
 use Rattle.datasketches_c.specs.declared.any_sketch.AnySketch.{AnySketch}
-use Rattle.datasketches_c.specs.declared.any_sketch.AnySketch.TheVariants.{Filter, CountI64, CountU64, FrequentI64, FrequentTexts, FrequentU64}
+use Rattle.datasketches_c.specs.declared.any_sketch.AnySketch.TheVariants.{Filter, CountI64, CountU64, FrequentI64, FrequentStrings, FrequentU64}
 use Rattle.datasketches_c.specs.declared.filter.SetOperation.{SetOperation}
 use Rattle.datasketches_c.proofs.KindLemmas.{on_kind_less, of_held, holds_less}
 
@@ -18,7 +18,7 @@ holds_filter (Some (CountI64 c)) s is = absurd is
 holds_filter (Some (CountU64 c)) s is = absurd is
 holds_filter (Some (FrequentI64 c)) s is = absurd is
 holds_filter (Some (FrequentU64 c)) s is = absurd is
-holds_filter (Some (FrequentTexts c)) s is = absurd is
+holds_filter (Some (FrequentStrings c)) s is = absurd is
 holds_filter None s is = absurd is
 
 -- a filter of a handle that another handle's filter was set against

@@ -10,7 +10,7 @@ use mir.Val.{of_z, to_z}
 use Rattle.sketch_base.specs.declared.fault.Fault.TheVariants.{NoMemory, WeightOverflow}
 use Rattle.sketch_frequencies.specs.State.{FrequentState, TotalHasRoom}
 use Rattle.datasketches_c.specs.FrequentCalls.{Updates}
-use Rattle.datasketches_c.specs.FrequentTexts.{UpdatesText, text_eq}
+use Rattle.datasketches_c.specs.FrequentStrings.{UpdatesString, strings_eq}
 use Rattle.datasketches_c.specs.InTurn.{InTurn}
 use Rattle.datasketches_c.specs.Numbers.{OnDone, OnRefused, ok, refusal_number, max_u64}
 use Rattle.datasketches_c.specs.Weights.{AddsWeights}
@@ -23,11 +23,11 @@ pub total_of_update : {T : Type 0} (eq : T → T → Bool) (old : FrequentState 
 total_of_update eq old item zero new said = ap (λ s. s.total) (said.zero refl).1 ∙ omega arith
 total_of_update eq old item (suc n) new said = let positive : 0 < suc n = omega arith in (said.done.1 positive).step.total
 
-pub total_of_text : (old : FrequentState (String Global)) (text : List ℕ) (weight : ℕ) (new : FrequentState (String Global))
-    → UpdatesText old text weight new ok → new.total ≡ old.total + weight
-unfolding UpdatesText
-total_of_text old text weight new (inl said) = total_of_update text_eq old said.0 weight new said.2
-total_of_text old text weight new (inr said) = let number : ok ≡ refusal_number NoMemory = said.number in cc
+pub total_of_string : (old : FrequentState (String Global)) (string : List ℕ) (weight : ℕ) (new : FrequentState (String Global))
+    → UpdatesString old string weight new ok → new.total ≡ old.total + weight
+unfolding UpdatesString
+total_of_string old string weight new (inl said) = total_of_update strings_eq old said.0 weight new said.2
+total_of_string old string weight new (inr said) = let number : ok ≡ refusal_number NoMemory = said.number in cc
 
 -- a number, said of a refusal
 on_refused : (answer z : ℤ) → answer ≡ z → OnRefused answer (answer ≡ z)
@@ -35,11 +35,11 @@ on_refused (pos n) z e = tt
 on_refused (negsuc n) z e = e
 
 -- what is refused where the total has room is memory
-pub memory_of_text : (old : FrequentState (String Global)) (text : List ℕ) (weight : ℕ) (new : FrequentState (String Global)) (answer : ℤ) → TotalHasRoom old weight
-    → UpdatesText old text weight new answer → OnRefused answer (answer ≡ refusal_number NoMemory)
-unfolding UpdatesText
-memory_of_text old text weight new answer room (inl said) = said.2.memory room
-memory_of_text old text weight new answer room (inr said) = on_refused answer (refusal_number NoMemory) said.number
+pub memory_of_string : (old : FrequentState (String Global)) (string : List ℕ) (weight : ℕ) (new : FrequentState (String Global)) (answer : ℤ) → TotalHasRoom old weight
+    → UpdatesString old string weight new answer → OnRefused answer (answer ≡ refusal_number NoMemory)
+unfolding UpdatesString
+memory_of_string old string weight new answer room (inl said) = said.2.memory room
+memory_of_string old string weight new answer room (inr said) = on_refused answer (refusal_number NoMemory) said.number
 
 -- a part of what is said of an answer
 pub on_done_first : (answer : ℤ) (A B : Type 0) → OnDone answer (A × B) → OnDone answer A

@@ -6,7 +6,7 @@ pub mod CountLemmas
 pub mod EqualityLemmas
 pub mod FilterLemmas
 pub mod FrequentLemmas
-pub mod GhostTexts
+pub mod GhostStrings
 pub mod Handles
 pub mod InTurnLemmas
 pub mod KindLemmas
@@ -14,8 +14,8 @@ pub mod Reading
 pub mod ReadingCounts
 pub mod Refusals
 pub mod Reports
-pub mod TextLemmas
-pub mod TextReports
-pub mod TextRows
+pub mod StringLemmas
+pub mod StringReports
+pub mod StringRows
 pub mod WeightLemmas
 pub mod Words

@@ -17,7 +17,7 @@ use Rattle.sketch_frequencies.specs.Image as frequent
 use Rattle.sketch_frequencies.specs.Items.{Codec, text_codec, text_encoding}
 use Rattle.sketch_frequencies.specs.State.{FrequentState}
 use denote.RattleType.{RattleType}
-use Rattle.datasketches_c.specs.FrequentTextImages.{WritesFrequentTexts}
+use Rattle.datasketches_c.specs.FrequentStringImages.{WritesFrequentStrings}
 use Rattle.datasketches_c.specs.Images.{WritesImage, IsRefusedImage}
 use Rattle.datasketches_c.specs.Numbers.{OnRefused, ok, no_room, refusal_number}
 
@@ -50,21 +50,21 @@ copied_image Spelled image out new written result is counted copied few = elim (
       )
 ]
 
--- a text that has no bytes in an image is too long
-too_long : (text : String Global) (fault : Fault) → text_encoding (string_bytes text) ≡ Err fault → (fault ≡ ItemTooLong) × (2 ^ 32 ≤ length (string_bytes text))
-too_long text fault none =
-    let bytes = string_bytes text in
-    let utf8 : is_utf8 bytes ≡ true = is_utf8-from_IsUtf8 bytes (IsUtf8-string_bytes text) in
+-- a string that has no bytes in an image is too long
+too_long : (string : String Global) (fault : Fault) → text_encoding (string_bytes string) ≡ Err fault → (fault ≡ ItemTooLong) × (2 ^ 32 ≤ length (string_bytes string))
+too_long string fault none =
+    let bytes = string_bytes string in
+    let utf8 : is_utf8 bytes ≡ true = is_utf8-from_IsUtf8 bytes (IsUtf8-string_bytes string) in
     elim (cases_lt (length bytes) (2 ^ 32)) as (λ _. (fault ≡ ItemTooLong) × (2 ^ 32 ≤ length bytes)) [
       | inl short ↦ let fits : nat_lt (length bytes) (2 ^ 32) ≡ true = lt-ltb _ _ short in cc
       | inr long ↦ let over : nat_lt (length bytes) (2 ^ 32) ≡ false = le-ltb _ _ long in let is : fault ≡ ItemTooLong = cc in (is, long)
     ]
 
--- a refusal to write an image of texts, by its number
-pub texts_not_written : (s : FrequentState (String Global)) (old new : List ℕ) (written : ℕ) (e : ErrorValue)
-    → frequent.IsImageWritingRefusal text_codec (λ (text : String Global). string_bytes text) s.counters e → WritesFrequentTexts s old new written (refusal_number e.fault)
-texts_not_written s old new written e (inl is) = inl (inr (inr (ap (λ (x : ErrorValue). refusal_number x.fault) is)))
-texts_not_written s old new written e (inr (is, (k, counter, there, at, none))) =
+-- a refusal to write an image of strings, by its number
+pub strings_not_written : (s : FrequentState (String Global)) (old new : List ℕ) (written : ℕ) (e : ErrorValue)
+    → frequent.IsImageWritingRefusal text_codec (λ (item : String Global). string_bytes item) s.counters e → WritesFrequentStrings s old new written (refusal_number e.fault)
+strings_not_written s old new written e (inl is) = inl (inr (inr (ap (λ (x : ErrorValue). refusal_number x.fault) is)))
+strings_not_written s old new written e (inr (is, (k, counter, there, at, none))) =
     let why = too_long counter.0 e.fault none in
     inr (ap refusal_number why.0, (k, counter, there, at, why.1))
 

@@ -9,7 +9,7 @@ use Rattle.sketch_frequencies.specs.State.{FrequentState}
 use Rattle.sketch_frequencies.specs.Steps.{IsSameState}
 use Rattle.datasketches_c.specs.Numbers.{OnDone, OnRefused, ok, no_sketch, refusal_number}
 use Rattle.datasketches_c.specs.declared.any_sketch.AnySketch.{AnySketch}
-use Rattle.datasketches_c.specs.declared.any_sketch.AnySketch.TheVariants.{FrequentTexts, FrequentI64, FrequentU64}
+use Rattle.datasketches_c.specs.declared.any_sketch.AnySketch.TheVariants.{FrequentStrings, FrequentI64, FrequentU64}
 
 -- new is a copy of old, up to the order of its counters and which of equal items it holds. It stands for the same histories, and
 -- keeps each tail budget that old keeps
@@ -20,7 +20,7 @@ pub record IsCopy {T : Type 0} (eq : T → T → Bool) (old new : FrequentState 
 
 -- the handle holds a copy of the sketch. A copied filter or Count-Min sketch is equal to it, so it stands for the same histories
 abbrev pub HoldsCopy : AnySketch → Option AnySketch → Type 0
-HoldsCopy (FrequentTexts s) (Some (FrequentTexts t)) = IsCopy string_eq s t
+HoldsCopy (FrequentStrings s) (Some (FrequentStrings t)) = IsCopy string_eq s t
 HoldsCopy (FrequentI64 s) (Some (FrequentI64 t)) = IsCopy int_eq s t
 HoldsCopy (FrequentU64 s) (Some (FrequentU64 t)) = IsCopy nat_eq s t
 HoldsCopy sketch held = held ≡ Some sketch

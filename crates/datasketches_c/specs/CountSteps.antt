@@ -1,11 +1,10 @@
 -- Effects of calls on a Count-Min sketch, and the histories for which it then stands.
-use Rattle.std.specs.Prelude.{ℕ, ℤ, List, [], ◌∷◌}
+use Rattle.std.specs.Prelude.{ℕ, ℤ, List, map}
 use Rattle.std.specs.List.{zip}
-use Rattle.sketch_countmin.specs.History.{CountHistory, all_updated}
+use Rattle.sketch_countmin.specs.History.{all_updated, each_updated}
 use Rattle.sketch_countmin.specs.History.CountHistory.{Update, Merge}
 use Rattle.sketch_countmin.specs.Stands.{Extends, ExtendsBoth}
-use Rattle.sketch_countmin.specs.State.{CountState, Counts, CountsAll, Joins}
-use Rattle.datasketches_c.specs.InTurn.{InTurn}
+use Rattle.sketch_countmin.specs.State.{CountState, Counts, CountsAll, CountsEach, Joins}
 
 -- new is old with the weight counted for the byte list, and stands for the history with that update
 pub record Weighs (old : CountState) (bytes : List ℕ) (weight : ℤ) (new : CountState) : Type 0 where
@@ -17,16 +16,12 @@ pub record WeighsAll (old : CountState) (items : List (List ℕ)) (new : CountSt
   pub counted : CountsAll old items new
   pub stands : Extends old new (λ h. all_updated h items)
 
-module _ {I W : Type 0} (bytes_of : I → List ℕ) (number : W → ℤ) where
-  -- the history, followed by an update of each item with its weight
-  abbrev pub each_updated : CountHistory → List (I × W) → CountHistory
-  each_updated h [] = h
-  each_updated h (pair ∷ pairs) = each_updated (Update h (bytes_of pair.0) (number pair.1)) pairs
-
-  -- new is old with each weight counted for its item, in turn, and stands for the history with these updates
-  pub record WeighsEach (old : CountState) (items : List I) (weights : List W) (new : CountState) : Type 0 where
-    pub each : InTurn (λ s (pair : I × W) t. Weighs s (bytes_of pair.0) (number pair.1) t) old (zip items weights) new
-    pub stands : Extends old new (λ h. each_updated h (zip items weights))
+-- new is old with each weight counted for its item, in order, and stands for the history with these updates
+pub record WeighsEach
+    {I W : Type 0} (bytes_of : I → List ℕ) (number : W → ℤ) (old : CountState) (items : List I) (weights : List W) (new : CountState)
+    : Type 0 where
+  pub counted : CountsEach old (zip (map bytes_of items) (map number weights)) new
+  pub stands : Extends old new (λ h. each_updated h (zip (map bytes_of items) (map number weights)))
 
 -- new is old with the other's cells and total added, and stands for the merge of both histories
 pub record Merges (old other new : CountState) : Type 0 where

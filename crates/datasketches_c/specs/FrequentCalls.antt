@@ -1,5 +1,5 @@
 -- Results and effects of calls on frequent items sketches, for any item type. Items are compared by `eq` alone.
-use Rattle.std.specs.Prelude.{◌≡◌, ℕ, ℤ, ◌+◌, ◌<◌, Bool, false, List, length, None}
+use Rattle.std.specs.Prelude.{◌≡◌, ℕ, ℤ, ◌+◌, ◌<◌, Bool, false, List, length, None, sum}
 use Rattle.sketch_base.specs.Errors.{ErrorValue}
 use Rattle.sketch_base.specs.declared.fault.Fault.TheVariants.{BadSampleSize, NoMemory, WeightOverflow}
 use Rattle.counter_table.specs.Tables.{count_of}
@@ -10,6 +10,7 @@ use Rattle.sketch_frequencies.specs.Sizes.{sample_fault}
 use Rattle.sketch_frequencies.specs.Stands.{Extends, ExtendsBudget, ExtendsBoth, ExtendsBothBudgets, KeepsTailBudget, IsLowerBound, IsUpperBound, IsExactOfFew}
 use Rattle.sketch_frequencies.specs.State.{FrequentState, Overflows, TotalHasRoom, capacity, empty_state, estimate_of, must_double}
 use Rattle.sketch_frequencies.specs.Steps.{Steps, JoinsEqual}
+use Rattle.sketch_frequencies.specs.WeightedBatches.{weighed, UpdatesWeighed, StopsAtDoubling}
 use Rattle.datasketches_c.specs.Numbers.{OnDone, OnRefused, ok, refusal_number}
 use Rattle.datasketches_c.specs.declared.frequent.FrequentBounds.{FrequentBounds}
 use Rattle.datasketches_c.specs.declared.frequent.FrequentStatus.{FrequentStatus}
@@ -74,6 +75,14 @@ module _ {T : Type 0} (eq : T → T → Bool) where
   pub record UpdatesMany (old : FrequentState T) (items : List T) (new : FrequentState T) (result : ℤ) : Type 0 where
     pub done : OnDone result ((result ≡ ok) × UpdatesAll eq old items new)
     pub stopped : OnRefused result (StopsShort old items new result)
+
+  -- the result and effect of a batch of updates, each with a weight. If the total has no room for all, nothing is added. Otherwise
+  -- the batch stops only at an item before which the table must double
+  pub record WeighsMany (old : FrequentState T) (items : List T) (weights : List ℕ) (new : FrequentState T) (result : ℤ) : Type 0 where
+    pub done : OnDone result ((result ≡ ok) × UpdatesWeighed eq old (weighed items weights) new)
+    pub overflow : Overflows old (sum weights) → (result ≡ refusal_number WeightOverflow) × (new ≡ old)
+    pub memory : TotalHasRoom old (sum weights) → OnRefused result (result ≡ refusal_number NoMemory)
+    pub stopped : TotalHasRoom old (sum weights) → OnRefused result (StopsAtDoubling eq old (weighed items weights) new)
 
   -- the result and effect of changing the sample size. The sketch then stands for its history merged into a new sketch
   pub record Resamples (old : FrequentState T) (n : ℕ) (new : FrequentState T) (result : ℤ) : Type 0 where

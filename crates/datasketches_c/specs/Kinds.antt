@@ -7,7 +7,7 @@ use Rattle.sketch_countmin.specs.State.{CountState}
 use Rattle.sketch_frequencies.specs.State.{FrequentState}
 use Rattle.datasketches_c.specs.Numbers.{OnRefused, ok, no_room, no_sketch, wrong_kind}
 use Rattle.datasketches_c.specs.declared.any_sketch.AnySketch.{AnySketch}
-use Rattle.datasketches_c.specs.declared.any_sketch.AnySketch.TheVariants.{Filter, CountI64, CountU64, FrequentI64, FrequentTexts, FrequentU64}
+use Rattle.datasketches_c.specs.declared.any_sketch.AnySketch.TheVariants.{Filter, CountI64, CountU64, FrequentI64, FrequentStrings, FrequentU64}
 
 module _ {S : Type 0} (part : AnySketch → Option S) where
   -- the statement holds of the sketch of this kind. If there is none, the result is `wrong_kind` and the handle is unchanged.
@@ -73,9 +73,9 @@ frequent_u64_of (FrequentU64 s) = Some s
 frequent_u64_of held = None
 
 -- the frequent items sketch of strings, if the sketch is one
-abbrev pub frequent_texts_of : AnySketch → Option (FrequentState (String Global))
-frequent_texts_of (FrequentTexts s) = Some s
-frequent_texts_of held = None
+abbrev pub frequent_strings_of : AnySketch → Option (FrequentState (String Global))
+frequent_strings_of (FrequentStrings s) = Some s
+frequent_strings_of held = None
 
 -- `OnKind` for filters; below, for the other kinds
 abbrev pub OnFilter : (old new : Option AnySketch) → ℤ → (FilterState → Type 0) → Type 0
@@ -93,8 +93,8 @@ OnFrequentI64 = OnKind frequent_i64_of
 abbrev pub OnFrequentU64 : (old new : Option AnySketch) → ℤ → (FrequentState ℕ → Type 0) → Type 0
 OnFrequentU64 = OnKind frequent_u64_of
 
-abbrev pub OnFrequentTexts : (old new : Option AnySketch) → ℤ → (FrequentState (String Global) → Type 0) → Type 0
-OnFrequentTexts = OnKind frequent_texts_of
+abbrev pub OnFrequentStrings : (old new : Option AnySketch) → ℤ → (FrequentState (String Global) → Type 0) → Type 0
+OnFrequentStrings = OnKind frequent_strings_of
 
 -- `HoldsKind` for filters; below, for the other kinds
 abbrev pub HoldsFilter : Option AnySketch → (FilterState → Type 0) → Type 0
@@ -112,5 +112,5 @@ HoldsFrequentI64 = HoldsKind frequent_i64_of
 abbrev pub HoldsFrequentU64 : Option AnySketch → (FrequentState ℕ → Type 0) → Type 0
 HoldsFrequentU64 = HoldsKind frequent_u64_of
 
-abbrev pub HoldsFrequentTexts : Option AnySketch → (FrequentState (String Global) → Type 0) → Type 0
-HoldsFrequentTexts = HoldsKind frequent_texts_of
+abbrev pub HoldsFrequentStrings : Option AnySketch → (FrequentState (String Global) → Type 0) → Type 0
+HoldsFrequentStrings = HoldsKind frequent_strings_of

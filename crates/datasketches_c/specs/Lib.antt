@@ -5,14 +5,15 @@ pub mod CountJoins
 pub mod CountSteps
 pub mod Equality
 pub mod Estimates
+pub mod FilterCalls
 pub mod FilterImages
 pub mod FrequentBatches
 pub mod FrequentCalls
 pub mod FrequentImages
 pub mod FrequentRows
-pub mod FrequentTextImages
-pub mod FrequentTextRows
-pub mod FrequentTexts
+pub mod FrequentStringImages
+pub mod FrequentStringRows
+pub mod FrequentStrings
 pub mod Holding
 pub mod Images
 pub mod InTurn
@@ -20,5 +21,5 @@ pub mod Joining
 pub mod Kinds
 pub mod MemoryBytes
 pub mod Numbers
-pub mod Texts
+pub mod Strings
 pub mod Weights

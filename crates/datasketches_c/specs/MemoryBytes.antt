@@ -6,10 +6,10 @@ use Rattle.sketch_countmin.specs.Shapes.{grid_bytes}
 use Rattle.sketch_frequencies.specs.Items.{i64_codec, text_codec, u64_codec}
 use Rattle.sketch_frequencies.specs.Memory.{memory_bytes, owned_by}
 use Rattle.datasketches_c.specs.FrequentImages.{i64_row, u64_row}
-use Rattle.datasketches_c.specs.FrequentTextImages.{text_row}
+use Rattle.datasketches_c.specs.FrequentStringImages.{string_row}
 use Rattle.datasketches_c.specs.Numbers.{no_sketch, ok}
 use Rattle.datasketches_c.specs.declared.any_sketch.AnySketch.{AnySketch}
-use Rattle.datasketches_c.specs.declared.any_sketch.AnySketch.TheVariants.{Filter, CountI64, CountU64, FrequentI64, FrequentTexts, FrequentU64}
+use Rattle.datasketches_c.specs.declared.any_sketch.AnySketch.TheVariants.{Filter, CountI64, CountU64, FrequentI64, FrequentStrings, FrequentU64}
 
 -- 8 for each word of a filter, and for each cell and each row of a Count-Min sketch. For frequent items, the bytes of the table
 -- and those that the items own
@@ -19,8 +19,8 @@ bytes_of (CountI64 s) = grid_bytes 8 s.hashes s.buckets
 bytes_of (CountU64 s) = grid_bytes 8 s.hashes s.buckets
 bytes_of (FrequentI64 s) = memory_bytes (table_bytes i64_row s.size) (owned_by i64_codec (λ n. n) s.counters)
 bytes_of (FrequentU64 s) = memory_bytes (table_bytes u64_row s.size) (owned_by u64_codec (λ n. n) s.counters)
-bytes_of (FrequentTexts s) =
-    memory_bytes (table_bytes text_row s.size) (owned_by text_codec (λ text. string_bytes text) s.counters)
+bytes_of (FrequentStrings s) =
+    memory_bytes (table_bytes string_row s.size) (owned_by text_codec (λ item. string_bytes item) s.counters)
 
 -- the call wrote the number of bytes that the handle's sketch takes, or the result is `no_sketch` and nothing was written
 abbrev pub Measures : Option AnySketch → ℤ → (bytes_old bytes_new : ℕ) → Type 0

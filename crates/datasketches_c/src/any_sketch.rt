@@ -6,7 +6,7 @@ use sketch_frequencies::FrequentItemsSketch;
 /// A sketch of one of the kinds that calls from C use.
 #[derive(Drop)]
 pub enum AnySketch {
-    FrequentTexts(FrequentItemsSketch<String>),
+    FrequentStrings(FrequentItemsSketch<String>),
     FrequentI64(FrequentItemsSketch<i64>),
     FrequentU64(FrequentItemsSketch<u64>),
     CountI64(CountMinSketch<i64>),

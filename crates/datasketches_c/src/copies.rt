@@ -24,7 +24,7 @@ fn copy_of(sketch: &AnySketch) -> Option<AnySketch>
     ensures { IfSome result (λ copy. HoldsCopy sketch.now (Some copy)) }
 {
     match sketch {
-        AnySketch::FrequentTexts(sketch) => as_any(sketch.try_clone()),
+        AnySketch::FrequentStrings(sketch) => as_any(sketch.try_clone()),
         AnySketch::FrequentI64(sketch) => as_any(sketch.try_clone()),
         AnySketch::FrequentU64(sketch) => as_any(sketch.try_clone()),
         AnySketch::CountI64(sketch) => as_any(sketch.try_clone()),

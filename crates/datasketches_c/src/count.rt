@@ -8,15 +8,14 @@ ghost use Rattle.datasketches_c.specs.CountSteps.{Weighs, WeighsAll};
 ghost use Rattle.datasketches_c.specs.Estimates.{AreEstimates, IsEstimate};
 ghost use Rattle.datasketches_c.specs.Kinds.{WritesDown, WritesDownEach};
 ghost use Rattle.datasketches_c.specs.Numbers.{OnRefused, ok, no_room, refusal_number};
-ghost use Rattle.datasketches_c.specs.Texts.{AreTexts, RefusesTexts, RefusesTextsIn, texts_of};
 
-use crate::count_texts::{count_texts, estimate_texts};
-use crate::count_weighted::{count_weighted, count_weighted_texts};
+use crate::count_strings::{count_strings, estimate_strings};
+use crate::count_weighted::{count_weighted, count_weighted_strings};
 use crate::handle::SketchHandle;
 use crate::join::{Joins, join};
 use crate::kind::{Kind, on_kind};
 use crate::status_code::{NO_ROOM, OK, refusal_number};
-use crate::texts::{refusal_of_texts, refusal_of_texts_in};
+use crate::strings::Strings;
 use sketch_base::Fault;
 use sketch_countmin::laws::min_cell_bounds;
 use sketch_countmin::{CountMinSketch, CountMinValue};
@@ -98,7 +97,7 @@ where
 
 /// Adds a weight to each item's, in order.
 #[inline]
-pub(crate) fn update_all_weighted<V: CountMinValue, I: Hash + Copy>(
+pub(crate) fn update_all_weighted<V: CountMinValue, I: Hash>(
     alloc: Global,
     handle: &mut SketchHandle,
     items: &[I],
@@ -196,71 +195,53 @@ where
 }
 
 /// Adds 1 to the weight of each string, in order, until the total is full.
-pub(crate) fn update_all_text<V: CountMinValue>(
+pub(crate) fn update_all_strings<V: CountMinValue, S: Strings>(
     alloc: Global,
     handle: &mut SketchHandle,
-    bytes: &[u8],
-    offsets: &[u64],
+    strings: &S,
 ) -> i32
 where
     CountMinSketch<V>: Kind,
-    ensures texts { AreTexts bytes.now offsets.now
-        → AddsEach (⟦<CountMinSketch<V> as Kind>⟧.part) V.greatest handle.old.value handle.new.value result (fed_bytes fed.str) (texts_of bytes.now offsets.now) }
-    ensures no_texts { RefusesTexts bytes.now offsets.now result }
-    ensures refused { ¬ AreTexts bytes.now offsets.now → handle.new.value ≡ handle.old.value }
+    ensures { AddsEach (⟦<CountMinSketch<V> as Kind>⟧.part) V.greatest handle.old.value handle.new.value result (fed_bytes fed.str) (S.list strings.now) }
 {
-    if let Some(refusal) = refusal_of_texts(bytes, offsets) {
-        return refusal;
-    }
-    on_kind!(alloc, handle, CountMinSketch<V>, sketch => count_texts(sketch, bytes, offsets))
+    on_kind!(alloc, handle, CountMinSketch<V>, sketch => count_strings(sketch, strings))
 }
 
-/// Writes the estimate of each string's weight. Returns `NO_ROOM` if the number of strings is not the length of
-/// `estimates`.
-pub(crate) fn estimate_all_text<V: CountMinValue>(
+/// Writes the estimate of each string's weight.
+pub(crate) fn estimate_all_strings<V: CountMinValue, S: Strings>(
     alloc: Global,
     handle: &mut SketchHandle,
-    bytes: &[u8],
-    offsets: &[u64],
+    strings: &S,
     estimates: &mut [V],
 ) -> i32
 where
     CountMinSketch<V>: Kind,
+    requires { length estimates.old ≡ length (S.list strings.now) }
     ensures kept { handle.new.value ≡ handle.old.value }
     ensures length { length estimates.new ≡ length estimates.old }
-    ensures no_texts { RefusesTextsIn (length estimates.old) bytes.now offsets.now result }
-    ensures estimates { AreTexts bytes.now offsets.now → length estimates.old + 1 ≡ length offsets.now
-        → EstimatesAll (⟦<CountMinSketch<V> as Kind>⟧.part) handle.old.value handle.new.value result (fed_bytes fed.str) (texts_of bytes.now offsets.now) (map V.number estimates.new) }
+    ensures estimates { EstimatesAll (⟦<CountMinSketch<V> as Kind>⟧.part) handle.old.value handle.new.value result (fed_bytes fed.str) (S.list strings.now) (map V.number estimates.new) }
     ensures untouched { OnRefused result (estimates.new ≡ estimates.old) }
 {
-    if let Some(refusal) = refusal_of_texts_in(estimates.len(), bytes, offsets) {
-        return refusal;
-    }
     on_kind!(alloc, handle, CountMinSketch<V>, sketch => {
-        estimate_texts(sketch, bytes, offsets, estimates);
+        estimate_strings(sketch, strings, estimates);
         OK
     })
 }
 
 /// Adds a weight to each string's, in order.
-pub(crate) fn update_all_weighted_text<V: CountMinValue>(
+pub(crate) fn update_all_weighted_strings<V: CountMinValue, S: Strings>(
     alloc: Global,
     handle: &mut SketchHandle,
-    bytes: &[u8],
-    offsets: &[u64],
+    strings: &S,
     weights: &[V],
 ) -> i32
 where
     CountMinSketch<V>: Kind,
-    ensures no_texts { RefusesTextsIn (length weights.now) bytes.now offsets.now result }
-    ensures call { AreTexts bytes.now offsets.now → length weights.now + 1 ≡ length offsets.now
-        → AddsWeights (⟦<CountMinSketch<V> as Kind>⟧.part) V.greatest handle.old.value handle.new.value result (fed_bytes fed.str) V.number (texts_of bytes.now offsets.now) weights.now (sum_by (λ weight. unsigned_abs (V.number weight)) weights.now) }
+    requires { length weights.now ≡ length (S.list strings.now) }
+    ensures call { AddsWeights (⟦<CountMinSketch<V> as Kind>⟧.part) V.greatest handle.old.value handle.new.value result (fed_bytes fed.str) V.number (S.list strings.now) weights.now (sum_by (λ weight. unsigned_abs (V.number weight)) weights.now) }
     ensures refused { OnRefused result (handle.new.value ≡ handle.old.value) }
 {
-    if let Some(refusal) = refusal_of_texts_in(weights.len(), bytes, offsets) {
-        return refusal;
-    }
-    on_kind!(alloc, handle, CountMinSketch<V>, sketch => count_weighted_texts(sketch, bytes, offsets, weights))
+    on_kind!(alloc, handle, CountMinSketch<V>, sketch => count_weighted_strings(sketch, strings, weights))
 }
 
 impl<V: CountMinValue> Joins<()> for CountMinSketch<V>

@@ -1,5 +1,5 @@
 //! Calls that read weights from Count-Min sketches, for one item or for many numbers. The calls for many strings are in
-//! `many_texts`.
+//! `many_strings`.
 ghost use Rattle.std.specs.Hash as fed;
 ghost use Rattle.std.specs.Prelude.{length, map, pos, ◌≡◌, ◌≢◌};
 ghost use Rattle.std.specs.Str.{IsUtf8};
@@ -10,7 +10,7 @@ ghost use Rattle.datasketches_c.specs.Numbers.{OnRefused, max_i64, max_u64, no_r
 
 use crate::count;
 use crate::handle::SketchHandle;
-use crate::texts::on_text;
+use crate::strings::on_string;
 use sketch_base::Fault;
 use std::alloc::Global;
 
@@ -64,12 +64,12 @@ pub extern "C" fn ds_count_min_u64_estimate_string(
     estimate: &mut u64,
 ) -> i32
     ensures kept { handle.new.value ≡ handle.old.value }
-    ensures text { IsUtf8 item.now
+    ensures utf8 { IsUtf8 item.now
         → Estimates count_u64_of handle.old.value handle.new.value result (fed_bytes fed.str item.now) (pos estimate.new) }
-    ensures no_text { ¬ (IsUtf8 item.now) → result ≡ refusal_number Fault.InvalidUtf8 }
+    ensures invalid_utf8 { ¬ (IsUtf8 item.now) → result ≡ refusal_number Fault.InvalidUtf8 }
     ensures untouched { OnRefused result (estimate.new ≡ estimate.old) }
 {
-    on_text!(item => count::estimate(alloc, handle, item, estimate))
+    on_string!(item => count::estimate(alloc, handle, item, estimate))
 }
 
 /// Writes the estimate of a number's weight: the minimum of its cells.
@@ -122,12 +122,12 @@ pub extern "C" fn ds_count_min_i64_estimate_string(
     estimate: &mut i64,
 ) -> i32
     ensures kept { handle.new.value ≡ handle.old.value }
-    ensures text { IsUtf8 item.now
+    ensures utf8 { IsUtf8 item.now
         → Estimates count_i64_of handle.old.value handle.new.value result (fed_bytes fed.str item.now) estimate.new }
-    ensures no_text { ¬ (IsUtf8 item.now) → result ≡ refusal_number Fault.InvalidUtf8 }
+    ensures invalid_utf8 { ¬ (IsUtf8 item.now) → result ≡ refusal_number Fault.InvalidUtf8 }
     ensures untouched { OnRefused result (estimate.new ≡ estimate.old) }
 {
-    on_text!(item => count::estimate(alloc, handle, item, estimate))
+    on_string!(item => count::estimate(alloc, handle, item, estimate))
 }
 
 /// Writes the estimate of each number's weight.
@@ -279,12 +279,12 @@ pub extern "C" fn ds_count_min_u64_upper_bound_string(
     bound: &mut u64,
 ) -> i32
     ensures kept { handle.new.value ≡ handle.old.value }
-    ensures text { IsUtf8 item.now
+    ensures utf8 { IsUtf8 item.now
         → Bounds count_u64_of max_u64 handle.old.value handle.new.value result (fed_bytes fed.str item.now) (pos bound.new) }
-    ensures no_text { ¬ (IsUtf8 item.now) → result ≡ refusal_number Fault.InvalidUtf8 }
+    ensures invalid_utf8 { ¬ (IsUtf8 item.now) → result ≡ refusal_number Fault.InvalidUtf8 }
     ensures untouched { OnRefused result (bound.new ≡ bound.old) }
 {
-    on_text!(item => count::upper_bound(alloc, handle, item, bound))
+    on_string!(item => count::upper_bound(alloc, handle, item, bound))
 }
 
 /// Writes the estimate of a number's weight plus a margin, or 2^63 - 1 if the sum exceeds it. The margin is e times the
@@ -340,10 +340,10 @@ pub extern "C" fn ds_count_min_i64_upper_bound_string(
     bound: &mut i64,
 ) -> i32
     ensures kept { handle.new.value ≡ handle.old.value }
-    ensures text { IsUtf8 item.now
+    ensures utf8 { IsUtf8 item.now
         → Bounds count_i64_of max_i64 handle.old.value handle.new.value result (fed_bytes fed.str item.now) bound.new }
-    ensures no_text { ¬ (IsUtf8 item.now) → result ≡ refusal_number Fault.InvalidUtf8 }
+    ensures invalid_utf8 { ¬ (IsUtf8 item.now) → result ≡ refusal_number Fault.InvalidUtf8 }
     ensures untouched { OnRefused result (bound.new ≡ bound.old) }
 {
-    on_text!(item => count::upper_bound(alloc, handle, item, bound))
+    on_string!(item => count::upper_bound(alloc, handle, item, bound))
 }

@@ -1,5 +1,5 @@
 //! Calls that add weights to Count-Min sketches, for one item or for many. The calls that add 1 for each of many
-//! strings are in `many_texts`.
+//! strings are in `many_strings`.
 ghost use Rattle.std.specs.Hash as fed;
 ghost use Rattle.std.specs.Prelude.{All, length, pos, sum, sum_by, unsigned_abs, ◌+◌, ◌≡◌, ◌≢◌};
 ghost use Rattle.std.specs.Str.{IsUtf8};
@@ -7,11 +7,12 @@ ghost use Rattle.sketch_base.specs.Hashes.{fed_bytes};
 ghost use Rattle.datasketches_c.specs.CountCalls.{AddsEach, AddsWeight, AddsWeights};
 ghost use Rattle.datasketches_c.specs.Kinds.{count_i64_of, count_u64_of};
 ghost use Rattle.datasketches_c.specs.Numbers.{OnRefused, bad_offsets, max_i64, max_u64, no_room, refusal_number};
-ghost use Rattle.datasketches_c.specs.Texts.{AreOffsets, AreTexts, texts_of};
+ghost use Rattle.datasketches_c.specs.Strings.{AreOffsets, AreStrings, strings_of};
 
 use crate::count;
 use crate::handle::SketchHandle;
-use crate::texts::on_text;
+use crate::offset_strings::OffsetStrings;
+use crate::strings::{on_string, on_strings};
 use sketch_base::Fault;
 use std::alloc::Global;
 
@@ -67,12 +68,12 @@ pub extern "C" fn ds_count_min_u64_update_string(
     item: &[u8],
     weight: u64,
 ) -> i32
-    ensures text { IsUtf8 item.now
+    ensures utf8 { IsUtf8 item.now
         → AddsWeight count_u64_of max_u64 handle.old.value handle.new.value result (fed_bytes fed.str item.now) (pos weight) }
-    ensures no_text { ¬ (IsUtf8 item.now) → result ≡ refusal_number Fault.InvalidUtf8 }
+    ensures invalid_utf8 { ¬ (IsUtf8 item.now) → result ≡ refusal_number Fault.InvalidUtf8 }
     ensures refused { OnRefused result (handle.new.value ≡ handle.old.value) }
 {
-    on_text!(item => count::update(alloc, handle, item, weight))
+    on_string!(item => count::update(alloc, handle, item, weight))
 }
 
 /// Adds a weight to a number's, and the weight's distance from 0 to the total.
@@ -127,12 +128,12 @@ pub extern "C" fn ds_count_min_i64_update_string(
     item: &[u8],
     weight: i64,
 ) -> i32
-    ensures text { IsUtf8 item.now
+    ensures utf8 { IsUtf8 item.now
         → AddsWeight count_i64_of max_i64 handle.old.value handle.new.value result (fed_bytes fed.str item.now) weight }
-    ensures no_text { ¬ (IsUtf8 item.now) → result ≡ refusal_number Fault.InvalidUtf8 }
+    ensures invalid_utf8 { ¬ (IsUtf8 item.now) → result ≡ refusal_number Fault.InvalidUtf8 }
     ensures refused { OnRefused result (handle.new.value ≡ handle.old.value) }
 {
-    on_text!(item => count::update(alloc, handle, item, weight))
+    on_string!(item => count::update(alloc, handle, item, weight))
 }
 
 /// Adds 1 to the weight of each number, in order.
@@ -272,13 +273,15 @@ pub extern "C" fn ds_count_min_u64_update_all_weighted_string(
 ) -> i32
     ensures bad_offsets { ¬ AreOffsets bytes.now offsets.now → result ≡ bad_offsets }
     ensures no_room { AreOffsets bytes.now offsets.now → length weights.now + 1 ≢ length offsets.now → result ≡ no_room }
-    ensures no_text { AreOffsets bytes.now offsets.now → length weights.now + 1 ≡ length offsets.now
-        → ¬ All IsUtf8 (texts_of bytes.now offsets.now) → result ≡ refusal_number Fault.InvalidUtf8 }
-    ensures call { AreTexts bytes.now offsets.now → length weights.now + 1 ≡ length offsets.now
-        → AddsWeights count_u64_of max_u64 handle.old.value handle.new.value result (fed_bytes fed.str) pos (texts_of bytes.now offsets.now) weights.now (sum weights.now) }
+    ensures invalid_utf8 { AreOffsets bytes.now offsets.now → length weights.now + 1 ≡ length offsets.now
+        → ¬ All IsUtf8 (strings_of bytes.now offsets.now) → result ≡ refusal_number Fault.InvalidUtf8 }
+    ensures call { AreStrings bytes.now offsets.now → length weights.now + 1 ≡ length offsets.now
+        → AddsWeights count_u64_of max_u64 handle.old.value handle.new.value result (fed_bytes fed.str) pos (strings_of bytes.now offsets.now) weights.now (sum weights.now) }
     ensures refused { OnRefused result (handle.new.value ≡ handle.old.value) }
 {
-    count::update_all_weighted_text(alloc, handle, bytes, offsets, weights)
+    on_strings!(OffsetStrings::for_places(weights.len(), bytes, offsets), strings => {
+        count::update_all_weighted_strings(alloc, handle, &strings, weights)
+    })
 }
 
 /// Adds a weight to each number's, in order. The total grows by each weight's distance from 0.
@@ -346,11 +349,13 @@ pub extern "C" fn ds_count_min_i64_update_all_weighted_string(
 ) -> i32
     ensures bad_offsets { ¬ AreOffsets bytes.now offsets.now → result ≡ bad_offsets }
     ensures no_room { AreOffsets bytes.now offsets.now → length weights.now + 1 ≢ length offsets.now → result ≡ no_room }
-    ensures no_text { AreOffsets bytes.now offsets.now → length weights.now + 1 ≡ length offsets.now
-        → ¬ All IsUtf8 (texts_of bytes.now offsets.now) → result ≡ refusal_number Fault.InvalidUtf8 }
-    ensures call { AreTexts bytes.now offsets.now → length weights.now + 1 ≡ length offsets.now
-        → AddsWeights count_i64_of max_i64 handle.old.value handle.new.value result (fed_bytes fed.str) (λ weight. weight) (texts_of bytes.now offsets.now) weights.now (sum_by unsigned_abs weights.now) }
+    ensures invalid_utf8 { AreOffsets bytes.now offsets.now → length weights.now + 1 ≡ length offsets.now
+        → ¬ All IsUtf8 (strings_of bytes.now offsets.now) → result ≡ refusal_number Fault.InvalidUtf8 }
+    ensures call { AreStrings bytes.now offsets.now → length weights.now + 1 ≡ length offsets.now
+        → AddsWeights count_i64_of max_i64 handle.old.value handle.new.value result (fed_bytes fed.str) (λ weight. weight) (strings_of bytes.now offsets.now) weights.now (sum_by unsigned_abs weights.now) }
     ensures refused { OnRefused result (handle.new.value ≡ handle.old.value) }
 {
-    count::update_all_weighted_text(alloc, handle, bytes, offsets, weights)
+    on_strings!(OffsetStrings::for_places(weights.len(), bytes, offsets), strings => {
+        count::update_all_weighted_strings(alloc, handle, &strings, weights)
+    })
 }

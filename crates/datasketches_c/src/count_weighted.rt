@@ -4,10 +4,9 @@ ghost use Rattle.std.specs.Hash as fed;
 ghost use Rattle.sketch_base.specs.Hashes.{fed_bytes};
 ghost use Rattle.datasketches_c.specs.CountSteps.{WeighsEach};
 ghost use Rattle.datasketches_c.specs.Numbers.{OnRefused, ok, refusal_number};
-ghost use Rattle.datasketches_c.specs.Texts.{AreTextsIn, texts_of};
 
 use crate::status_code::{OK, refusal_number};
-use crate::texts::{num_texts, text_at};
+use crate::strings::Strings;
 use sketch_base::Fault;
 use sketch_countmin::{CountMinSketch, CountMinValue};
 use std::hash::Hash;
@@ -44,9 +43,8 @@ fn weights_fit<T: CountMinValue>(sketch: &CountMinSketch<T>, weights: &[T]) -> b
     true
 }
 
-/// Adds a weight to each item's, in order. Returns `WeightOverflow` if the total has no room for all weights. Then none
-/// is added.
-pub(crate) fn count_weighted<T: CountMinValue, I: Hash + Copy>(
+/// Adds a weight to each item's, in order. Returns the result's number.
+pub(crate) fn count_weighted<T: CountMinValue, I: Hash>(
     sketch: &mut CountMinSketch<T>,
     items: &[I],
     weights: &[T],
@@ -58,26 +56,22 @@ pub(crate) fn count_weighted<T: CountMinValue, I: Hash + Copy>(
         → result ≡ refusal_number Fault.WeightOverflow }
     ensures refused { OnRefused result (sketch.new ≡ sketch.old) }
 {
-    if !weights_fit(sketch, weights) {
-        return refusal_number(Fault::WeightOverflow);
+    match sketch.update_all_weighted(items, weights) {
+        Ok(()) => OK,
+        Err(error) => refusal_number(error.fault()),
     }
-    'each: for i in 0..items.len() {
-        let _ = sketch.update_with_weight(items[i], weights[i]);
-    }
-    OK
 }
 
-/// Adds a weight to each string's, in order, for the strings of a buffer. Returns `WeightOverflow` if the total has no
+/// Adds a weight to each string's, in order. Returns `WeightOverflow` if the total has no
 /// room for all weights. Then none is added.
-pub(crate) fn count_weighted_texts<T: CountMinValue>(
+pub(crate) fn count_weighted_strings<T: CountMinValue, S: Strings>(
     sketch: &mut CountMinSketch<T>,
-    bytes: &[u8],
-    offsets: &[u64],
+    strings: &S,
     weights: &[T],
 ) -> i32
-    requires { AreTextsIn (length weights.now) bytes.now offsets.now }
+    requires { length weights.now ≡ length (S.list strings.now) }
     ensures counted { sketch.old.total + sum_by (λ weight. unsigned_abs (T.number weight)) weights.now ≤ T.greatest
-        → (result ≡ ok) × WeighsEach (fed_bytes fed.str) T.number sketch.old (texts_of bytes.now offsets.now) weights.now
+        → (result ≡ ok) × WeighsEach (fed_bytes fed.str) T.number sketch.old (S.list strings.now) weights.now
         sketch.new }
     ensures overflow { T.greatest < sketch.old.total + sum_by (λ weight. unsigned_abs (T.number weight)) weights.now
         → result ≡ refusal_number Fault.WeightOverflow }
@@ -86,9 +80,9 @@ pub(crate) fn count_weighted_texts<T: CountMinValue>(
     if !weights_fit(sketch, weights) {
         return refusal_number(Fault::WeightOverflow);
     }
-    let count = num_texts(bytes, offsets);
+    let count = strings.count();
     'each: for i in 0..count {
-        let _ = sketch.update_with_weight(text_at(bytes, offsets, i), weights[i]);
+        let _ = sketch.update_with_weight(strings.at(i), weights[i]);
     }
     OK
 }

@@ -24,7 +24,7 @@ use crate::join::{Joins, join};
 use crate::kind::on_kind;
 use crate::making::put_made;
 use crate::status_code::{NO, NO_ROOM, OK, YES, refusal_number};
-use crate::texts::on_text;
+use crate::strings::on_string;
 use sketch_base::Fault;
 use sketch_bloom::{BloomFilter, BloomFilterBuilder};
 use std::alloc::Global;
@@ -110,13 +110,13 @@ pub extern "C" fn ds_bloom_insert_string(
     handle: &mut SketchHandle,
     item: &[u8],
 ) -> i32
-    ensures text { IsUtf8 item.now → OnFilter handle.old.value handle.new.value result (λ s.
+    ensures utf8 { IsUtf8 item.now → OnFilter handle.old.value handle.new.value result (λ s.
         (result ≡ ok) × (handle.new.value ≡ Some (Filter (inserted s (fed_bytes fed.str item.now))))
         × Extends s (inserted s (fed_bytes fed.str item.now)) (λ h. Insert h (fed_bytes fed.str item.now))) }
-    ensures no_text { ¬ (IsUtf8 item.now) → (result ≡ refusal_number Fault.InvalidUtf8)
+    ensures invalid_utf8 { ¬ (IsUtf8 item.now) → (result ≡ refusal_number Fault.InvalidUtf8)
         × (handle.new.value ≡ handle.old.value) }
 {
-    on_text!(item => insert(alloc, handle, item))
+    on_string!(item => insert(alloc, handle, item))
 }
 
 /// Inserts many items, for the calls below.
@@ -218,11 +218,11 @@ pub extern "C" fn ds_bloom_contains_string(
     item: &[u8],
 ) -> i32
     ensures kept { handle.new.value ≡ handle.old.value }
-    ensures text { IsUtf8 item.now → OnFilter handle.old.value handle.new.value result (λ s.
+    ensures utf8 { IsUtf8 item.now → OnFilter handle.old.value handle.new.value result (λ s.
         result ≡ (if contains_item s (fed_bytes fed.str item.now) then yes else no)) }
-    ensures no_text { ¬ (IsUtf8 item.now) → result ≡ refusal_number Fault.InvalidUtf8 }
+    ensures invalid_utf8 { ¬ (IsUtf8 item.now) → result ≡ refusal_number Fault.InvalidUtf8 }
 {
-    on_text!(item => contains(alloc, handle, &item))
+    on_string!(item => contains(alloc, handle, &item))
 }
 
 /// Writes for each item whether the filter contains it, for the calls below. Returns `NO_ROOM` if `items` and `answers`

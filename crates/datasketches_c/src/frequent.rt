@@ -3,17 +3,15 @@ ghost use Rattle.std.specs.Ordering.{int_eq};
 ghost use Rattle.std.specs.Prelude.{◌≡◌, ◌≢◌, IsTrue, length, nat_eq};
 ghost use Rattle.sketch_frequencies.specs.Items.{i64_codec, u64_codec};
 ghost use Rattle.datasketches_c.specs.FrequentBatches.{AreBoundsOfAll};
-ghost use Rattle.datasketches_c.specs.FrequentCalls.{Updates, UpdatesMany, MergesInto, Empties, Resamples, AreBounds, AreNumbers};
+ghost use Rattle.datasketches_c.specs.FrequentCalls.{Updates, UpdatesMany, WeighsMany, MergesInto, Empties, Resamples, AreBounds, AreNumbers};
 ghost use Rattle.datasketches_c.specs.FrequentImages.{WritesFrequent};
 ghost use Rattle.datasketches_c.specs.FrequentRows.{LeavesRows, WritesRows, error_type};
-ghost use Rattle.datasketches_c.specs.FrequentTextImages.{WritesFrequentTexts};
-ghost use Rattle.datasketches_c.specs.FrequentTexts.{text_eq};
+ghost use Rattle.datasketches_c.specs.FrequentStringImages.{WritesFrequentStrings};
+ghost use Rattle.datasketches_c.specs.FrequentStrings.{strings_eq};
 ghost use Rattle.datasketches_c.specs.Kinds.{OnKind, HoldsKind, WritesDown, WritesDownEach};
 ghost use Rattle.datasketches_c.specs.Numbers.{OnRefused, ok, no_room, refusal_number};
-ghost use Rattle.datasketches_c.specs.Weights.{AddsWeights};
 
 use crate::frequent_rows::write_rows;
-use crate::frequent_weighted::add_weighted;
 use crate::handle::SketchHandle;
 use crate::images::{HasImage, copy_out};
 use crate::join::Joins;
@@ -47,11 +45,7 @@ pub struct FrequentStatus {
 }
 
 /// Adds a weight to an item's in a sketch. Returns the result's number.
-pub(crate) fn add<T: Eq + Hash + Drop>(
-    sketch: &mut FrequentItemsSketch<T>,
-    item: T,
-    weight: u64,
-) -> i32
+fn add<T: Eq + Hash + Drop>(sketch: &mut FrequentItemsSketch<T>, item: T, weight: u64) -> i32
     ensures updates { Updates T.eq sketch.old item weight sketch.new result }
     ensures refused { OnRefused result (sketch.new ≡ sketch.old) }
 {
@@ -103,6 +97,21 @@ where
     on_kind!(alloc, handle, FrequentItemsSketch<T>, sketch => add_all(sketch, items))
 }
 
+/// Adds a weight to each item's in a sketch, in order. Returns the result's number.
+fn add_all_weighted<T: Eq + Hash + Copy + Drop>(
+    sketch: &mut FrequentItemsSketch<T>,
+    items: &[T],
+    weights: &[u64],
+) -> i32
+    requires { length weights.now ≡ length items.now }
+    ensures { WeighsMany T.eq sketch.old items.now weights.now sketch.new result }
+{
+    match sketch.update_all_weighted_copied(items, weights) {
+        Ok(()) => OK,
+        Err(error) => refusal_number(error.fault()),
+    }
+}
+
 /// Adds a weight to each item's, in order. Returns `NO_ROOM` if `items` and `weights` differ in length.
 pub(crate) fn update_all_weighted<T: Eq + Hash + Copy + Drop>(
     alloc: Global,
@@ -116,25 +125,26 @@ where
         → (result ≡ no_room) × (handle.new.value ≡ handle.old.value) }
     ensures call { length weights.now ≡ length items.now
         → OnKind (⟦<FrequentItemsSketch<T> as Kind>⟧.part) handle.old.value handle.new.value result (λ s.
-        HoldsKind (⟦<FrequentItemsSketch<T> as Kind>⟧.part) handle.new.value (λ t. AddsWeights (Updates T.eq) s items.now weights.now t result)) }
+        HoldsKind (⟦<FrequentItemsSketch<T> as Kind>⟧.part) handle.new.value (λ t. WeighsMany T.eq s items.now weights.now t result)) }
 {
     if weights.len() != items.len() {
         return NO_ROOM;
     }
-    on_kind!(alloc, handle, FrequentItemsSketch<T>, sketch => add_weighted(sketch, items, weights))
+    on_kind!(alloc, handle, FrequentItemsSketch<T>, sketch => add_all_weighted(sketch, items, weights))
 }
 
-/// Returns the bounds and the estimate of an item's weight.
+/// Returns the bounds and the estimate of an item's weight, with one look-up.
 pub(crate) fn bounds_of<T: Eq + Hash + Drop>(
     sketch: &FrequentItemsSketch<T>,
     item: &T,
 ) -> FrequentBounds
     ensures { AreBounds T.eq sketch.now item.now result }
 {
+    let bounds = sketch.bounds_by_key(item);
     FrequentBounds {
-        lower_bound: sketch.lower_bound(item),
-        estimate: sketch.estimate(item),
-        upper_bound: sketch.upper_bound(item),
+        lower_bound: bounds.lower_bound,
+        estimate: bounds.estimate,
+        upper_bound: bounds.upper_bound,
     }
 }
 
@@ -225,7 +235,7 @@ impl Joins<()> for FrequentItemsSketch<u64> {
 }
 
 impl Joins<()> for FrequentItemsSketch<String> {
-    ghost joins = { λ _. MergesInto text_eq };
+    ghost joins = { λ _. MergesInto strings_eq };
 
     fn join_with(&mut self, other: &FrequentItemsSketch<String>, _way: ()) -> i32 {
         merge(self, other)
@@ -362,7 +372,7 @@ impl HasImage for FrequentItemsSketch<u64> {
 }
 
 impl HasImage for FrequentItemsSketch<String> {
-    ghost writes = { WritesFrequentTexts };
+    ghost writes = { WritesFrequentStrings };
 
     fn write_to(&self, out: &mut [u8], written: &mut usize) -> i32 {
         match self.serialize() {

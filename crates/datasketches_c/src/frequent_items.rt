@@ -2,22 +2,23 @@
 ghost use Rattle.std.specs.Ordering.{int_eq};
 ghost use Rattle.std.specs.Prelude.{All, length, nat_eq, ◌+◌, ◌≡◌, ◌≢◌};
 ghost use Rattle.std.specs.Str.{IsUtf8};
-ghost use Rattle.datasketches_c.specs.FrequentBatches.{AreBoundsOfAll, AreBoundsOfText};
-ghost use Rattle.datasketches_c.specs.FrequentCalls.{AreBounds, Updates, UpdatesMany};
+ghost use Rattle.datasketches_c.specs.FrequentBatches.{AreBoundsOfAll, AreBoundsOfString};
+ghost use Rattle.datasketches_c.specs.FrequentCalls.{AreBounds, Updates, UpdatesMany, WeighsMany};
 ghost use Rattle.datasketches_c.specs.FrequentRows.{WritesRows, error_type};
-ghost use Rattle.datasketches_c.specs.FrequentTextRows.{WritesTextRows};
-ghost use Rattle.datasketches_c.specs.FrequentTexts.{UpdatesText, UpdatesWords};
-ghost use Rattle.datasketches_c.specs.Kinds.{HoldsFrequentI64, HoldsFrequentTexts, HoldsFrequentU64, OnFrequentI64, OnFrequentTexts, OnFrequentU64};
+ghost use Rattle.datasketches_c.specs.FrequentStringRows.{WritesStringRows};
+ghost use Rattle.datasketches_c.specs.FrequentStrings.{UpdatesString};
+ghost use Rattle.datasketches_c.specs.Kinds.{HoldsFrequentI64, HoldsFrequentStrings, HoldsFrequentU64, OnFrequentI64, OnFrequentStrings, OnFrequentU64};
 ghost use Rattle.datasketches_c.specs.Numbers.{OnRefused, bad_offsets, no_room, ok, refusal_number};
-ghost use Rattle.datasketches_c.specs.Texts.{AreOffsets, AreTexts, texts_of};
+ghost use Rattle.datasketches_c.specs.Strings.{AreOffsets, AreStrings, strings_of};
 ghost use Rattle.datasketches_c.specs.Weights.{AddsWeights};
 
 use crate::frequent::{self, FrequentBounds};
-use crate::frequent_text::{bounds_of_text, update_text, update_words, write_rows};
-use crate::frequent_weighted::add_weighted_texts;
+use crate::frequent_string::{bounds_of_string, update_string, write_rows};
+use crate::frequent_weighted::update_all_weighted_strings;
 use crate::handle::SketchHandle;
 use crate::kind::on_kind;
-use crate::texts::{on_text, refusal_of_texts_in};
+use crate::offset_strings::OffsetStrings;
+use crate::strings::{on_string, on_strings};
 use sketch_base::Fault;
 use sketch_frequencies::FrequentItemsSketch;
 use std::alloc::Global;
@@ -37,13 +38,13 @@ pub extern "C" fn ds_frequent_items_string_update(
     item: &[u8],
     weight: u64,
 ) -> i32
-    ensures text { IsUtf8 item.now → OnFrequentTexts handle.old.value handle.new.value result (λ s.
-        HoldsFrequentTexts handle.new.value (λ t. UpdatesText s item.now weight t result)) }
-    ensures no_text { ¬ (IsUtf8 item.now) → result ≡ refusal_number Fault.InvalidUtf8 }
+    ensures utf8 { IsUtf8 item.now → OnFrequentStrings handle.old.value handle.new.value result (λ s.
+        HoldsFrequentStrings handle.new.value (λ t. UpdatesString s item.now weight t result)) }
+    ensures invalid_utf8 { ¬ (IsUtf8 item.now) → result ≡ refusal_number Fault.InvalidUtf8 }
     ensures refused { OnRefused result (handle.new.value ≡ handle.old.value) }
 {
-    on_text!(item => {
-        on_kind!(alloc, handle, FrequentItemsSketch<String>, sketch => update_text(alloc, sketch, item, weight))
+    on_string!(item => {
+        on_kind!(alloc, handle, FrequentItemsSketch<String>, sketch => update_string(alloc, sketch, item, weight))
     })
 }
 
@@ -127,32 +128,6 @@ pub extern "C" fn ds_frequent_items_i64_update_all(
     frequent::update_all(alloc, handle, items)
 }
 
-/// Adds 1 to the weight of each word of a string, in order. A word is a longest run of bytes that are not ASCII white
-/// space: space, tab, line feed, form feed or carriage return.
-///
-/// Returns the first of these errors, and then changes nothing:
-///
-/// - `InvalidUtf8` if the bytes are not UTF-8.
-/// - `NO_SKETCH` if the handle has no sketch, and `WRONG_KIND` if its sketch is of another kind.
-///
-/// Returns the error of the first word for which `ds_frequent_items_string_update` returns one. Then the words before
-/// it are added, and no others.
-#[unsafe(no_mangle)]
-pub extern "C" fn ds_frequent_items_string_update_words(
-    alloc: Global,
-    handle: &mut SketchHandle,
-    text: &[u8],
-) -> i32
-    ensures text { IsUtf8 text.now → OnFrequentTexts handle.old.value handle.new.value result (λ s.
-        HoldsFrequentTexts handle.new.value (λ t. UpdatesWords s text.now t result)) }
-    ensures no_text { ¬ (IsUtf8 text.now)
-        → (result ≡ refusal_number Fault.InvalidUtf8) × (handle.new.value ≡ handle.old.value) }
-{
-    on_text!(text => {
-        on_kind!(alloc, handle, FrequentItemsSketch<String>, sketch => update_words(sketch, text))
-    })
-}
-
 /// Adds a weight to each string's, in order. A weight of 0 changes nothing. The strings are the bytes between each
 /// offset and the next, so n strings have n + 1 offsets.
 ///
@@ -179,17 +154,16 @@ pub extern "C" fn ds_frequent_items_string_update_all_weighted(
         → (result ≡ bad_offsets) × (handle.new.value ≡ handle.old.value) }
     ensures no_room { AreOffsets bytes.now offsets.now → length weights.now + 1 ≢ length offsets.now
         → (result ≡ no_room) × (handle.new.value ≡ handle.old.value) }
-    ensures no_text { AreOffsets bytes.now offsets.now → length weights.now + 1 ≡ length offsets.now
-        → ¬ All IsUtf8 (texts_of bytes.now offsets.now)
+    ensures invalid_utf8 { AreOffsets bytes.now offsets.now → length weights.now + 1 ≡ length offsets.now
+        → ¬ All IsUtf8 (strings_of bytes.now offsets.now)
         → (result ≡ refusal_number Fault.InvalidUtf8) × (handle.new.value ≡ handle.old.value) }
-    ensures call { AreTexts bytes.now offsets.now → length weights.now + 1 ≡ length offsets.now
-        → OnFrequentTexts handle.old.value handle.new.value result (λ s. HoldsFrequentTexts handle.new.value (λ t.
-        AddsWeights UpdatesText s (texts_of bytes.now offsets.now) weights.now t result)) }
+    ensures call { AreStrings bytes.now offsets.now → length weights.now + 1 ≡ length offsets.now
+        → OnFrequentStrings handle.old.value handle.new.value result (λ s. HoldsFrequentStrings handle.new.value (λ t.
+        AddsWeights UpdatesString s (strings_of bytes.now offsets.now) weights.now t result)) }
 {
-    if let Some(refusal) = refusal_of_texts_in(weights.len(), bytes, offsets) {
-        return refusal;
-    }
-    on_kind!(alloc, handle, FrequentItemsSketch<String>, sketch => add_weighted_texts(alloc, sketch, bytes, offsets, weights))
+    on_strings!(OffsetStrings::for_places(weights.len(), bytes, offsets), strings => {
+        update_all_weighted_strings(alloc, handle, &strings, weights)
+    })
 }
 
 /// Adds a weight to each number's, in order. A weight of 0 changes nothing.
@@ -213,7 +187,7 @@ pub extern "C" fn ds_frequent_items_u64_update_all_weighted(
         → (result ≡ no_room) × (handle.new.value ≡ handle.old.value) }
     ensures call { length weights.now ≡ length items.now
         → OnFrequentU64 handle.old.value handle.new.value result (λ s. HoldsFrequentU64 handle.new.value (λ t.
-        AddsWeights (Updates nat_eq) s items.now weights.now t result)) }
+        WeighsMany nat_eq s items.now weights.now t result)) }
 {
     frequent::update_all_weighted(alloc, handle, items, weights)
 }
@@ -239,7 +213,7 @@ pub extern "C" fn ds_frequent_items_i64_update_all_weighted(
         → (result ≡ no_room) × (handle.new.value ≡ handle.old.value) }
     ensures call { length weights.now ≡ length items.now
         → OnFrequentI64 handle.old.value handle.new.value result (λ s. HoldsFrequentI64 handle.new.value (λ t.
-        AddsWeights (Updates int_eq) s items.now weights.now t result)) }
+        WeighsMany int_eq s items.now weights.now t result)) }
 {
     frequent::update_all_weighted(alloc, handle, items, weights)
 }
@@ -258,13 +232,13 @@ pub extern "C" fn ds_frequent_items_string_bounds(
     bounds: &mut FrequentBounds,
 ) -> i32
     ensures kept { handle.new.value ≡ handle.old.value }
-    ensures text { IsUtf8 item.now → OnFrequentTexts handle.old.value handle.new.value result (λ s.
-        (result ≡ ok) × AreBoundsOfText s item.now bounds.new) }
-    ensures no_text { ¬ (IsUtf8 item.now) → result ≡ refusal_number Fault.InvalidUtf8 }
+    ensures utf8 { IsUtf8 item.now → OnFrequentStrings handle.old.value handle.new.value result (λ s.
+        (result ≡ ok) × AreBoundsOfString s item.now bounds.new) }
+    ensures invalid_utf8 { ¬ (IsUtf8 item.now) → result ≡ refusal_number Fault.InvalidUtf8 }
     ensures untouched { OnRefused result (bounds.new ≡ bounds.old) }
 {
-    on_text!(item => {
-        on_kind!(alloc, handle, FrequentItemsSketch<String>, sketch => bounds_of_text(alloc, sketch, item, bounds))
+    on_string!(item => {
+        on_kind!(alloc, handle, FrequentItemsSketch<String>, sketch => bounds_of_string(alloc, sketch, item, bounds))
     })
 }
 
@@ -384,8 +358,8 @@ pub extern "C" fn ds_frequent_items_string_rows(
         ((bytes.new ≡ bytes.old) × (offsets.new ≡ offsets.old) × (bounds.new ≡ bounds.old)) }
     ensures uncounted { result ≢ ok → result ≢ no_room
         → (count.new ≡ count.old) × (num_bytes.new ≡ num_bytes.old) }
-    ensures rows { OnFrequentTexts handle.old.value handle.new.value result (λ s.
-        WritesTextRows (error_type no_false_negatives) threshold s
+    ensures rows { OnFrequentStrings handle.old.value handle.new.value result (λ s.
+        WritesStringRows (error_type no_false_negatives) threshold s
         (record { bytes = bytes.old; offsets = offsets.old; bounds = bounds.old })
         (record { bytes = bytes.new; offsets = offsets.new; bounds = bounds.new }) count.new num_bytes.new result) }
 {

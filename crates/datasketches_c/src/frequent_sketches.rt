@@ -11,12 +11,12 @@ ghost use Rattle.sketch_frequencies.specs.Stands.{KeepsTailBudget, StandsFor};
 ghost use Rattle.sketch_frequencies.specs.State.{empty_state};
 ghost use Rattle.datasketches_c.specs.FrequentCalls.{AreNumbers, Empties, MergesInto, Resamples};
 ghost use Rattle.datasketches_c.specs.FrequentImages.{IsRestored, WritesFrequent, i64_row, u64_row};
-ghost use Rattle.datasketches_c.specs.FrequentTextImages.{WritesFrequentTexts, text_row};
-ghost use Rattle.datasketches_c.specs.FrequentTexts.{text_eq};
+ghost use Rattle.datasketches_c.specs.FrequentStringImages.{WritesFrequentStrings, string_row};
+ghost use Rattle.datasketches_c.specs.FrequentStrings.{strings_eq};
 ghost use Rattle.datasketches_c.specs.Images.{IsRefusedImage};
-ghost use Rattle.datasketches_c.specs.Kinds.{HoldsFrequentI64, HoldsFrequentTexts, HoldsFrequentU64, OnFrequentI64, OnFrequentTexts, OnFrequentU64};
+ghost use Rattle.datasketches_c.specs.Kinds.{HoldsFrequentI64, HoldsFrequentStrings, HoldsFrequentU64, OnFrequentI64, OnFrequentStrings, OnFrequentU64};
 ghost use Rattle.datasketches_c.specs.Numbers.{OnDone, OnRefused, no_room, ok, refusal_number};
-ghost use Rattle.datasketches_c.specs.declared.any_sketch.AnySketch.TheVariants.{FrequentI64, FrequentTexts, FrequentU64};
+ghost use Rattle.datasketches_c.specs.declared.any_sketch.AnySketch.TheVariants.{FrequentI64, FrequentStrings, FrequentU64};
 
 use crate::frequent::{self, FrequentStatus};
 use crate::handle::SketchHandle;
@@ -44,9 +44,9 @@ pub extern "C" fn ds_frequent_items_string_new(
     sample_size: usize,
 ) -> i32
     ensures done { OnDone result ((result ≡ ok)
-        × (handle.new.value ≡ Some (FrequentTexts (empty_state max_map_size sample_size)))) }
-    ensures stands { OnDone result (StandsFor text_eq (empty_state max_map_size sample_size) (New max_map_size sample_size)) }
-    ensures budget { OnDone result (KeepsTailBudget text_eq (empty_state max_map_size sample_size) (New max_map_size sample_size)) }
+        × (handle.new.value ≡ Some (FrequentStrings (empty_state max_map_size sample_size)))) }
+    ensures stands { OnDone result (StandsFor strings_eq (empty_state max_map_size sample_size) (New max_map_size sample_size)) }
+    ensures budget { OnDone result (KeepsTailBudget strings_eq (empty_state max_map_size sample_size) (New max_map_size sample_size)) }
     ensures accepted { OnDone result (sizes_fault max_map_size sample_size ≡ None) }
     ensures refused { OnRefused result ((handle.new.value ≡ handle.old.value)
         × (result ≡ refusal_number (refusal_of (sizes_fault max_map_size sample_size)).fault)) }
@@ -130,9 +130,9 @@ pub extern "C" fn ds_frequent_items_string_merge(
 ) -> i32
     ensures other { other.new.value ≡ other.old.value }
     ensures refused { OnRefused result (handle.new.value ≡ handle.old.value) }
-    ensures call { OnFrequentTexts handle.old.value handle.new.value result (λ a.
-        OnFrequentTexts other.old.value other.new.value result (λ b.
-        HoldsFrequentTexts handle.new.value (λ t. MergesInto text_eq a b t result))) }
+    ensures call { OnFrequentStrings handle.old.value handle.new.value result (λ a.
+        OnFrequentStrings other.old.value other.new.value result (λ b.
+        HoldsFrequentStrings handle.new.value (λ t. MergesInto strings_eq a b t result))) }
 {
     join::<FrequentItemsSketch<String>, ()>(alloc, handle, other, ())
 }
@@ -191,8 +191,8 @@ pub extern "C" fn ds_frequent_items_i64_merge(
 /// changes.
 #[unsafe(no_mangle)]
 pub extern "C" fn ds_frequent_items_string_reset(alloc: Global, handle: &mut SketchHandle) -> i32
-    ensures { OnFrequentTexts handle.old.value handle.new.value result (λ s.
-        (result ≡ ok) × HoldsFrequentTexts handle.new.value (Empties text_eq s)) }
+    ensures { OnFrequentStrings handle.old.value handle.new.value result (λ s.
+        (result ≡ ok) × HoldsFrequentStrings handle.new.value (Empties strings_eq s)) }
 {
     frequent::reset::<String>(alloc, handle)
 }
@@ -233,8 +233,8 @@ pub extern "C" fn ds_frequent_items_string_set_sample_size(
     handle: &mut SketchHandle,
     sample_size: usize,
 ) -> i32
-    ensures call { OnFrequentTexts handle.old.value handle.new.value result (λ s.
-        HoldsFrequentTexts handle.new.value (λ t. Resamples text_eq s sample_size t result)) }
+    ensures call { OnFrequentStrings handle.old.value handle.new.value result (λ s.
+        HoldsFrequentStrings handle.new.value (λ t. Resamples strings_eq s sample_size t result)) }
     ensures refused { OnRefused result (handle.new.value ≡ handle.old.value) }
 {
     frequent::set_sample_size::<String>(alloc, handle, sample_size)
@@ -289,7 +289,7 @@ pub extern "C" fn ds_frequent_items_string_get_status(
     status: &mut FrequentStatus,
 ) -> i32
     ensures kept { handle.new.value ≡ handle.old.value }
-    ensures numbers { OnFrequentTexts handle.old.value handle.new.value result (λ s.
+    ensures numbers { OnFrequentStrings handle.old.value handle.new.value result (λ s.
         (result ≡ ok) × AreNumbers s status.new) }
     ensures untouched { OnRefused result (status.new ≡ status.old) }
 {
@@ -351,8 +351,8 @@ pub extern "C" fn ds_frequent_items_string_serialize(
     ensures kept { handle.new.value ≡ handle.old.value }
     ensures untouched { OnRefused result (out.new ≡ out.old) }
     ensures uncounted { result ≢ ok → result ≢ no_room → written.new ≡ written.old }
-    ensures image { OnFrequentTexts handle.old.value handle.new.value result (λ s.
-        WritesFrequentTexts s out.old out.new written.new result) }
+    ensures image { OnFrequentStrings handle.old.value handle.new.value result (λ s.
+        WritesFrequentStrings s out.old out.new written.new result) }
 {
     to_bytes::<FrequentItemsSketch<String>>(alloc, handle, out, written)
 }
@@ -424,11 +424,11 @@ pub extern "C" fn ds_frequent_items_string_deserialize(
     image: &[u8],
     max_bytes: usize,
 ) -> i32
-    ensures done { OnDone result ((result ≡ ok) × HoldsFrequentTexts handle.new.value
-        (IsRestored text_row text_eq text_codec (λ text. string_bytes text) image.now max_bytes)) }
+    ensures done { OnDone result ((result ≡ ok) × HoldsFrequentStrings handle.new.value
+        (IsRestored string_row strings_eq text_codec (λ item. string_bytes item) image.now max_bytes)) }
     ensures refused { OnRefused result ((handle.new.value ≡ handle.old.value) × IsRefusedImage
-        (early_fault_within text_row max_bytes text_codec image.now)
-        (first_fault_within text_row max_bytes text_codec image.now) result) }
+        (early_fault_within string_row max_bytes text_codec image.now)
+        (first_fault_within string_row max_bytes text_codec image.now) result) }
 {
     let read = FrequentItemsSketch::<String>::deserialize_with_limit(alloc, image, max_bytes);
     put_made(alloc, handle, read)

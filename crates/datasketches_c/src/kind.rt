@@ -1,10 +1,10 @@
 //! The kinds of sketches, each as its library's type.
 ghost use Rattle.std.specs.Prelude.{◌≡◌, Option, Some, None, MatchOption, refl};
 ghost use Rattle.std.specs.Borrow.{sem, LendsIf};
-ghost use Rattle.datasketches_c.specs.Kinds.{filter_of, count_i64_of, count_u64_of, frequent_i64_of, frequent_u64_of, frequent_texts_of};
+ghost use Rattle.datasketches_c.specs.Kinds.{filter_of, count_i64_of, count_u64_of, frequent_i64_of, frequent_u64_of, frequent_strings_of};
 ghost use Rattle.datasketches_c.specs.contracts.any_sketch.AnySketch as any_sketch;
 ghost use Rattle.datasketches_c.specs.declared.any_sketch.AnySketch.{AnySketch as OfAnyKind};
-ghost use Rattle.datasketches_c.specs.declared.any_sketch.AnySketch.TheVariants.{Filter, CountI64, CountU64, FrequentI64, FrequentU64, FrequentTexts};
+ghost use Rattle.datasketches_c.specs.declared.any_sketch.AnySketch.TheVariants.{Filter, CountI64, CountU64, FrequentI64, FrequentU64, FrequentStrings};
 
 use crate::any_sketch::AnySketch;
 use sketch_bloom::BloomFilter;
@@ -136,13 +136,13 @@ impl Kind for FrequentItemsSketch<u64> {
 }
 
 impl Kind for FrequentItemsSketch<String> {
-    ghost part = { frequent_texts_of };
+    ghost part = { frequent_strings_of };
 
-    ghost whole = { FrequentTexts };
+    ghost whole = { FrequentStrings };
 
     #[inline(always)]
     fn part_of(any: &mut AnySketch) -> Option<&mut FrequentItemsSketch<String>> {
-        if let AnySketch::FrequentTexts(sketch) = any {
+        if let AnySketch::FrequentStrings(sketch) = any {
             Some(sketch)
         } else {
             None
@@ -150,7 +150,7 @@ impl Kind for FrequentItemsSketch<String> {
     }
 
     fn into_any(self) -> AnySketch {
-        AnySketch::FrequentTexts(self)
+        AnySketch::FrequentStrings(self)
     }
 
     ghost back = { λ s. refl };

@@ -12,7 +12,7 @@ fn bytes_of(sketch: &AnySketch) -> usize
     ensures { result ≡ bytes_of sketch.now }
 {
     match sketch {
-        AnySketch::FrequentTexts(sketch) => sketch.memory_bytes(),
+        AnySketch::FrequentStrings(sketch) => sketch.memory_bytes(),
         AnySketch::FrequentI64(sketch) => sketch.memory_bytes(),
         AnySketch::FrequentU64(sketch) => sketch.memory_bytes(),
         AnySketch::CountI64(sketch) => sketch.estimated_size(),

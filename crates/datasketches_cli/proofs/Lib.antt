@@ -6,7 +6,6 @@ pub mod Lines
 pub mod Numbers
 pub mod Places
 pub mod Printed
-pub mod Searching
 pub mod Shapes
 pub mod Transcripts
 pub mod Verbs

@@ -1,11 +1,12 @@
 -- The words of a line, and the actions that they spell.
-use Rattle.std.specs.Prelude.{◌≡◌, ℕ, ◌+◌, ◌^◌, nat_lt, ◌==◌, ◌&&◌, List, [], ◌∷◌, length, filter, drop, slice_index, Option, Some, None, option_map, if◌then◌else◌, codes, ℤ, pos, neg_ℤ}
-use Rattle.std.specs.List.{slice_split}
+use Rattle.std.specs.Prelude.{◌≡◌, ℕ, ◌+◌, ◌^◌, nat_lt, ◌==◌, ◌&&◌, List, [], ◌∷◌, length, drop, slice_index, Option, Some, None, option_map, if◌then◌else◌, codes, ℤ, pos, neg_ℤ}
 use Rattle.std.specs.Result.{result_ok}
 use Rattle.std.specs.Str.{IsUtf8, all_ascii_digits, bytes_eq}
 use Rattle.std.specs.Str.Parse.{digits_value}
 use Rattle.std.specs.String.{string_bytes}
 use Rattle.hex.specs.Hex.{decode_of}
+use Rattle.sketch_base.specs.Split.{words_by}
+use Rattle.sketch_base.specs.declared.separator.Separator.TheVariants.{Space}
 use Rattle.datasketches.specs.ErrorType.{ErrorType}
 use Rattle.datasketches.specs.ErrorType.TheVariants.{NoFalseNegatives, NoFalsePositives}
 use Rattle.datasketches.specs.declared.action.Action.{Action}
@@ -22,7 +23,7 @@ use Rattle.datasketches_cli.specs.Texts.{Text}
 
 -- the words of a line: the nonempty parts between its spaces
 abbrev pub split_words : List ℕ → List (List ℕ)
-split_words line = filter (λ word. nat_lt 0 (length word)) (slice_split (λ byte. byte == 32) line)
+split_words line = words_by Space line
 
 -- the number that the digits of a word spell, if it is below the limit
 abbrev pub number_below : ℕ → List ℕ → Option ℕ

@@ -20,11 +20,6 @@ use Rattle.datasketches_cli.specs.Grammar.{bytes_of_digits, number_below, report
 abbrev pub texts_of : List (Bor (List ℕ)) → List (List ℕ)
 texts_of words = map (λ word. word.now) words
 
--- a word and those after it, or no words if it is empty
-abbrev pub with_word : List ℕ → List (List ℕ) → List (List ℕ)
-with_word [] words = []
-with_word (x ∷ xs) words = (x ∷ xs) ∷ words
-
 -- the kind of report that the word spells, or none if it spells none
 abbrev pub IsReportOf : List ℕ → Option ErrorType → Type 0
 IsReportOf word found =

@@ -7,7 +7,7 @@ ghost use Rattle.datasketches_cli.specs.Counts.{one_more};
 ghost use Rattle.datasketches_cli.specs.Reading.{Fills, TakesFront, TakesLine};
 
 use crate::counted::Counted;
-use crate::search::find_byte;
+use sketch_base::{Separator, first_separator};
 use std::alloc::Global;
 use std::io::{Error, ErrorKind, Read, Result};
 use std::marker::Model;
@@ -151,5 +151,5 @@ fn first_feed(bytes: &[u8], start: usize, end: usize) -> usize
     requires within { end ≤ length bytes.now }
     ensures { result ≡ start + position_or_len (λ byte. byte == 10) (slice_range bytes.now start end) }
 {
-    start + find_byte(b'\n', &bytes[start..end])
+    start + first_separator(&bytes[start..end], Separator::LineFeed)
 }

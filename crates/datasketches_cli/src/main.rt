@@ -16,7 +16,6 @@ mod parse;
 mod reply;
 mod request;
 mod responder;
-mod search;
 mod serve;
 mod state;
 mod stopped;

@@ -1,7 +1,7 @@
 //! Examples of bytes that are hashed, written and read.
 use sketch_base::{
     Divisor, Error, ErrorKind, Family, Fault, MurmurHash3X64128, RehashableItem, SketchBytes,
-    SketchSlice, XxHash64,
+    SketchSlice, XxHash64, murmur3_of_str, xxh64_of_str,
 };
 use std::alloc::Global;
 use std::hash::{Hash, Hasher};
@@ -35,6 +35,16 @@ pub fn halves_of<T: Hash>(item: &T) -> (u64, u64) {
     let mut hasher = MurmurHash3X64128::default();
     item.hash(&mut hasher);
     hasher.finish128()
+}
+
+/// Returns the shard of a user, of 100 shards.
+pub fn shard_of(user: &str) -> u64 {
+    murmur3_of_str(user, 9001).0 % 100
+}
+
+/// Returns the checksum of a line.
+pub fn checksum_of(line: &str) -> u64 {
+    xxh64_of_str(line, 0)
 }
 
 /// Returns the hashes of a user under the seeds of two rows.

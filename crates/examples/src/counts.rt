@@ -60,6 +60,24 @@ pub fn count_batch(visits: &mut CountMinSketch<u32>, users: &[u64]) -> Result<()
     visits.update_all(users)
 }
 
+/// Counts the bytes that two hosts sent.
+pub fn count_bytes(
+    traffic: &mut CountMinSketch<u64>,
+    hosts: [u32; 2],
+    bytes: [u64; 2],
+) -> Result<(), Error> {
+    traffic.update_all_weighted(&hosts, &bytes)
+}
+
+/// Adds the traffic of both days of a weekend to that of the week.
+pub fn add_weekend(
+    week: &mut CountMinSketch<u64>,
+    saturday: &CountMinSketch<u64>,
+    sunday: &CountMinSketch<u64>,
+) -> Result<(), Error> {
+    week.merge_all(&[saturday, sunday])
+}
+
 /// Returns the visits of two users.
 pub fn visits_of(visits: &CountMinSketch<u32>, users: [u64; 2]) -> [u32; 2] {
     let mut estimates = [0; 2];
@@ -70,4 +88,14 @@ pub fn visits_of(visits: &CountMinSketch<u32>, users: [u64; 2]) -> [u32; 2] {
 /// Halves each weight, for any type of weights without numbers below zero.
 pub fn halve<T: UnsignedCountMinValue>(counts: &mut CountMinSketch<T>) {
     counts.halve();
+}
+
+/// Counts the words of a text.
+pub fn count_text(counts: &mut CountMinSketch<u64>, text: &str) -> Result<(), Error> {
+    counts.update_words(text)
+}
+
+/// Counts the lines of a log.
+pub fn count_queries(counts: &mut CountMinSketch<u64>, log: &str) -> Result<(), Error> {
+    counts.update_lines(log)
 }

@@ -69,3 +69,41 @@ pub fn known_of_four(seen: &BloomFilter, visitors: &[u64; 4]) -> [bool; 4] {
     seen.contains_all(visitors, &mut known);
     known
 }
+
+/// Inserts four visitors, and returns which of them were seen before.
+pub fn repeated_of_four(seen: &mut BloomFilter, visitors: &[u64; 4]) -> [bool; 4] {
+    let mut repeated = [false; 4];
+    seen.contains_and_insert_all(visitors, &mut repeated);
+    repeated
+}
+
+/// Adds the visitors of both days of a weekend to those of the week.
+pub fn add_visitors_of_weekend(
+    week: &mut BloomFilter,
+    saturday: &BloomFilter,
+    sunday: &BloomFilter,
+) -> Result<(), Error> {
+    week.union_all(&[saturday, sunday])
+}
+
+/// Inserts the words of a text, and returns whether a word is among them.
+pub fn vocabulary_has(vocabulary: &mut BloomFilter, text: &str, word: &str) -> bool {
+    vocabulary.insert_words(text);
+    vocabulary.contains(&word)
+}
+
+/// Inserts the lines of a list, and returns whether a name is among them.
+pub fn block_list_has(blocked: &mut BloomFilter, list: &str, name: &str) -> bool {
+    blocked.insert_lines(list);
+    blocked.contains(&name)
+}
+
+/// Returns whether a name is blocked.
+pub fn is_blocked(blocked: &BloomFilter, name: &str) -> bool {
+    blocked.contains_str(name)
+}
+
+/// Blocks a name.
+pub fn block(blocked: &mut BloomFilter, name: &str) {
+    blocked.insert_str(name);
+}

@@ -2,7 +2,7 @@
 use counter_table::{ReversePurgeItemHashMap, Slot};
 use sketch_base::SketchBytes;
 use sketch_frequencies::{
-    Error, ErrorType, FrequentItemValue, FrequentItemsSketch, Row, suggest_max_map_size,
+    Error, ErrorType, FrequentItemValue, FrequentItemsSketch, ItemBounds, Row, suggest_max_map_size,
 };
 use std::alloc::Global;
 
@@ -26,6 +26,34 @@ pub fn sketch_of_visitors(
     Ok(sketch)
 }
 
+/// Adds the bytes of three pages in one call.
+pub fn add_bytes(
+    bytes: &mut FrequentItemsSketch<u64>,
+    pages: &[u64; 3],
+    sizes: &[u64; 3],
+) -> Result<(), Error> {
+    bytes.update_all_weighted(pages, sizes)
+}
+
+/// Adds the visits of three pages in one call.
+pub fn add_visits(
+    visits: &mut FrequentItemsSketch<u64>,
+    pages: &[u64; 3],
+    counts: &[u64; 3],
+) -> Result<(), Error> {
+    visits.update_all_weighted_copied(pages, counts)
+}
+
+/// Adds three words in one call.
+pub fn add_fruit(words: &mut FrequentItemsSketch<String>) -> Result<(), Error> {
+    words.update_all_by_key(&["apple", "pear", "apple"])
+}
+
+/// Adds the prices of two fruits in one call.
+pub fn add_prices(prices: &mut FrequentItemsSketch<String>) -> Result<(), Error> {
+    prices.update_all_weighted_by_key(&["apple", "pear"], &[30, 45])
+}
+
 /// Creates a sketch whose error is at most a hundredth of all visits.
 pub fn visits_within_a_percent(alloc: Global) -> Result<FrequentItemsSketch<u64>, Error> {
     FrequentItemsSketch::new(alloc, suggest_max_map_size(100)?)
@@ -38,10 +66,31 @@ pub fn weights_of_four(visits: &FrequentItemsSketch<u64>, pages: &[u64; 4]) -> [
     weights
 }
 
+/// Writes the bounds of four pages in one call.
+pub fn bounds_of_pages(
+    visits: &FrequentItemsSketch<u64>,
+    pages: &[u64; 4],
+    bounds: &mut [ItemBounds; 4],
+) {
+    visits.bounds_all(pages, bounds);
+}
+
+/// Writes the bounds of two words in one call.
+pub fn bounds_of_fruit(words: &FrequentItemsSketch<String>, bounds: &mut [ItemBounds; 2]) {
+    words.bounds_all_by_key(&["apple", "pear"], bounds);
+}
+
 /// Creates a sketch of the words of a line.
 pub fn words_of_line(alloc: Global, line: &str) -> Result<FrequentItemsSketch<String>, Error> {
     let mut sketch = FrequentItemsSketch::new(alloc, 1024)?;
     sketch.update_words(line)?;
+    Ok(sketch)
+}
+
+/// Creates a sketch of the lines of a log.
+pub fn lines_of_log(alloc: Global, log: &str) -> Result<FrequentItemsSketch<String>, Error> {
+    let mut sketch = FrequentItemsSketch::new(alloc, 1024)?;
+    sketch.update_lines(log)?;
     Ok(sketch)
 }
 
@@ -69,6 +118,14 @@ pub fn apples_of_both_shops(alloc: Global) -> Result<(u64, u64), Error> {
     let mut both = shop(alloc, 30)?;
     both.merge(&shop(alloc, 12)?)?;
     Ok((both.lower_bound(&"apple"), both.upper_bound(&"apple")))
+}
+
+/// Merges the visits of each day into those of the week, with one copy of the week.
+pub fn visits_of_the_week(
+    week: &mut FrequentItemsSketch<u64>,
+    days: &[&FrequentItemsSketch<u64>],
+) -> Result<(), Error> {
+    week.merge_all(days)
 }
 
 /// Returns the number of pages that surely weigh more than the threshold, and the number that may.

@@ -18,6 +18,8 @@ mod images;
 #[cfg(test)]
 mod session;
 #[cfg(test)]
+mod strings;
+#[cfg(test)]
 mod tests;
 #[cfg(test)]
 mod windows;

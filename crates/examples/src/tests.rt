@@ -1,20 +1,22 @@
 //! Tests of what the examples return.
 use crate::bytes::{
-    bucket, halves_of, hash_of_both, hashes_of_both_rows, is_cut_short, is_of_a_filter, kept_bytes,
-    reason, there_and_back, version_and_seed,
+    bucket, checksum_of, halves_of, hash_of_both, hashes_of_both_rows, is_cut_short,
+    is_of_a_filter, kept_bytes, reason, shard_of, there_and_back, version_and_seed,
 };
 use crate::callers::{aged_estimate, is_in_union, surely_weighs};
 use crate::counts::{
-    age, apples_in_store, apples_of_both_days, bytes_of_apple, bytes_within_a_thousandth,
-    count_batch, halve, sent_counts, visits_of, weight_of_all,
+    add_weekend, age, apples_in_store, apples_of_both_days, bytes_of_apple,
+    bytes_within_a_thousandth, count_batch, count_bytes, count_queries, count_text, halve,
+    sent_counts, visits_of, weight_of_all,
 };
 use crate::filters::{
-    filter_for, filter_of_visitors, is_first_visit, known_of_four, orders_to_join, seen_by_both,
-    still_refused,
+    add_visitors_of_weekend, block, block_list_has, filter_for, filter_of_visitors, is_blocked,
+    is_first_visit, known_of_four, orders_to_join, repeated_of_four, seen_by_both, still_refused,
+    vocabulary_has,
 };
 use crate::frequent_items::{
     add_word, apples_of_both_shops, bytes_of, counts_visit, heavier_pages, heaviest,
-    kind_of_report, largest_weight_of_the, longest_look_up, most_visited, sent_pages,
+    kind_of_report, largest_weight_of_the, lines_of_log, longest_look_up, most_visited, sent_pages,
     sketch_of_visitors, surely_weighs_more, takes_too_much, visits_of_four,
     visits_within_a_percent, weights_of_four, words_of_line,
 };
@@ -23,6 +25,7 @@ use crate::session::{
     has_seen_seven, insertion, made_shape, max_slots, recycles, refusal_of_an_unknown_name,
     takes_filter, union, visits_by_seven, word_for,
 };
+use crate::strings::{complete_lines, complete_words, first_field, first_two, number_of_lines};
 use crate::windows::{load_of_a_customer, weight_of_the_first};
 use counter_table::ReversePurgeItemHashMap;
 use datasketches::bloom::BloomFilterBuilder;
@@ -66,9 +69,20 @@ fn bytes_are_as_the_docs_say(rt: HostRuntime) {
 }
 
 #[test]
+fn words_and_lines_are_as_the_docs_say(rt: HostRuntime) {
+    assert!(rt; first_field(b"add apple 5") == b"add".as_slice());
+    assert!(rt; first_two("  one\t\ntwo three") == ("one", "two"));
+    assert!(rt; number_of_lines("one\r\n\ntwo") == 3);
+    assert!(rt; complete_words(b"one two thr") == b"one two ".as_slice());
+    assert!(rt; complete_lines(b"one\ntwo\nthr") == b"one\ntwo\n".as_slice());
+}
+
+#[test]
 fn hashes_are_as_the_docs_say(rt: HostRuntime) {
     assert!(rt; hash_of_both(b"app", b"le") == hash_of_both(b"", b"apple"));
     assert!(rt; halves_of(&7u64) == halves_of(&7u64));
+    assert!(rt; shard_of("abc") == 72);
+    assert!(rt; checksum_of("abc") == 0xC6C5_FFC1_3103_D60D);
     assert!(rt; bucket(300) == 44);
     assert!(rt; kept_bytes(7) == Some(8));
     assert!(rt; hashes_of_both_rows(7, (9001, 9001)).1 == 0xF987_0733_D517_E9C1);
@@ -102,6 +116,59 @@ fn batch_of_visits(alloc: Global) -> Result<[u32; 2], Error> {
     let mut visits = CountMinSketch::new(alloc, 4, 128)?;
     count_batch(&mut visits, &[7, 9, 7])?;
     Ok(visits_of(&visits, [7, 9]))
+}
+
+/// Returns which of four visits of a Saturday were repeated, and which of four visitors are known in a week with it.
+fn visits_of_week(alloc: Global) -> Result<([bool; 4], [bool; 4]), Error> {
+    let mut saturday = filter_of_visitors(alloc)?;
+    let repeated = repeated_of_four(&mut saturday, &[7, 8, 7, 9]);
+    let mut week = filter_of_visitors(alloc)?;
+    add_visitors_of_weekend(&mut week, &saturday, &saturday)?;
+    Ok((repeated, known_of_four(&week, &[7, 8, 9, 10])))
+}
+
+/// Returns whether a filter has a word of a text, a line of a list, a name, and a part of a line.
+fn strings_of_a_filter(alloc: Global) -> Result<(bool, bool, bool, bool), Error> {
+    let mut names = filter_of_visitors(alloc)?;
+    let word = vocabulary_has(&mut names, "to be", "be");
+    let line = block_list_has(&mut names, "ann\r\nbob lee\n", "bob lee");
+    block(&mut names, "eve");
+    Ok((
+        word,
+        line,
+        is_blocked(&names, "eve"),
+        is_blocked(&names, "lee"),
+    ))
+}
+
+/// Returns the estimates of a word and of a line after a text and a log.
+fn strings_of_counts(alloc: Global) -> Result<(u64, u64), Error> {
+    let mut counts = CountMinSketch::new(alloc, 4, 128)?;
+    count_text(&mut counts, "be or be")?;
+    count_queries(&mut counts, "be\nor not\n")?;
+    Ok((counts.estimate("be"), counts.estimate("or not")))
+}
+
+#[test]
+fn strings_are_as_the_docs_say(rt: HostRuntime) {
+    assert!(rt; strings_of_a_filter(rt.alloc()) == Ok((true, true, true, false)));
+    assert!(rt; strings_of_counts(rt.alloc()) == Ok((3, 1)));
+}
+
+/// Returns the bytes of two hosts in a week of three equal days.
+fn bytes_of_week(alloc: Global) -> Result<(u64, u64), Error> {
+    let mut week = CountMinSketch::new(alloc, 4, 128)?;
+    count_bytes(&mut week, [7, 9], [5, 6])?;
+    let saturday = week.try_clone()?;
+    add_weekend(&mut week, &saturday, &saturday)?;
+    Ok((week.estimate(7u32), week.estimate(9u32)))
+}
+
+#[test]
+fn batches_are_as_the_docs_say(rt: HostRuntime) {
+    let repeated = [false, false, true, false];
+    assert!(rt; visits_of_week(rt.alloc()) == Ok((repeated, [true, true, true, false])));
+    assert!(rt; bytes_of_week(rt.alloc()) == Ok((15, 18)));
 }
 
 #[test]
@@ -143,6 +210,12 @@ fn num_words(alloc: Global, line: &str, word: &str) -> Result<(u64, usize), Erro
     let mut words = words_of_line(alloc, line)?;
     add_word(&mut words, word)?;
     Ok((words.total_weight(), words.num_active_items()))
+}
+
+/// Returns the number of lines of a log, and how many of them are distinct.
+fn num_lines(alloc: Global, log: &str) -> Result<(u64, usize), Error> {
+    let lines = lines_of_log(alloc, log)?;
+    Ok((lines.total_weight(), lines.num_active_items()))
 }
 
 /// Creates a sketch of two pages.
@@ -210,6 +283,7 @@ fn frequent_items_and_tables_are_as_the_docs_say(rt: HostRuntime) {
 fn calls_answer_as_the_readme_of_each_crate_says(rt: HostRuntime) {
     assert!(rt; apples_of_both_shops(rt.alloc()) == Ok((42, 42)));
     assert!(rt; num_words(rt.alloc(), "to be\tor not  to be\n", "be") == Ok((7, 4)));
+    assert!(rt; num_lines(rt.alloc(), "GET /\r\nGET /\n\nPUT /") == Ok((4, 3)));
     assert!(rt; largest_weight_of_the(rt.alloc(), "the cat and the dog") == Ok(2));
     assert!(rt; still_refused(rt.alloc()) == Ok((true, false)));
     assert!(rt; apples_in_store(rt.alloc()) == Ok(70));

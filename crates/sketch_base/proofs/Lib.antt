@@ -2,9 +2,17 @@ pub mod BothEnds
 pub mod Blocks
 pub mod DirectRemainder
 pub mod KeptBytes
+pub mod LittleEndian
 pub mod Murmur3Pieces
 pub mod Rotation
+pub mod Searching
+pub mod Separators
 pub mod Series
+pub mod SplitEnds
+pub mod SplitLines
+pub mod SplitWords
+pub mod StringEnd
 mod Vectors
 pub mod Writing
 pub mod Xxh64Pieces
+pub mod Xxh64String

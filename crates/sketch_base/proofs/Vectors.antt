@@ -2,18 +2,18 @@
 use Rattle.std.specs.Prelude.{◌≡◌, [], refl, codes}
 use Rattle.std.specs.Hash.{le_bytes}
 use Rattle.sketch_base.specs.Hashes.{seed_hash}
-use Rattle.sketch_base.specs.Murmur3.{murmur3_x64_128, block, body, finalization, mix_k1, mix_k2, fmix64}
+use Rattle.sketch_base.specs.Murmur3.{murmur3_x64_128, block_of_words, block, body, finish_words, finalization, mix_k1, mix_k2, fmix64}
 use Rattle.sketch_base.specs.Xxh64 as xxh
 use Rattle.sketch_base.specs.Xxh64.{xxh64, round, initial_accumulators, stripe, stripes, merge_accumulator, convergence, consume_word, consume_half_word, consume_byte, consume_words, consume_bytes, avalanche}
 
 -- Murmur3 of no bytes
 murmur3_empty : murmur3_x64_128 [] 0 ≡ (0, 0)
-unfolding murmur3_x64_128 body finalization mix_k1 mix_k2 fmix64
+unfolding murmur3_x64_128 body finish_words finalization mix_k1 mix_k2 fmix64
 murmur3_empty = refl
 
 -- Murmur3 of 43 bytes
 murmur3_fox : murmur3_x64_128 (codes "The quick brown fox jumps over the lazy dog") 0 ≡ (0xE34BBC7BBC071B6C, 0x7A433CA9C49A9347)
-unfolding murmur3_x64_128 block body finalization mix_k1 mix_k2 fmix64
+unfolding murmur3_x64_128 block_of_words block body finish_words finalization mix_k1 mix_k2 fmix64
 murmur3_fox = refl
 
 -- XXH64 of no bytes
@@ -33,5 +33,5 @@ xxh64_long = refl
 
 -- the hash of the usual seed
 seed_hash_default : seed_hash 9001 ≡ 0x93CC
-unfolding seed_hash le_bytes murmur3_x64_128 body finalization mix_k1 mix_k2 fmix64
+unfolding seed_hash le_bytes murmur3_x64_128 body finish_words finalization mix_k1 mix_k2 fmix64
 seed_hash_default = refl

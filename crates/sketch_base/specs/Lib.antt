@@ -11,5 +11,6 @@ pub mod Murmur3State
 pub mod PowersOfTwo
 pub mod Reciprocal
 pub mod ShortBytes
+pub mod Split
 pub mod Xxh64
 pub mod Xxh64State

@@ -20,3 +20,8 @@ word_at bytes i = from_le_bytes w64
 abbrev pub half_word_at : List ℕ → ℕ → ℕ
 half_word_at bytes i = from_le_bytes w32
     (slice_index bytes i ∷ slice_index bytes (i + 1) ∷ slice_index bytes (i + 2) ∷ slice_index bytes (i + 3) ∷ [])
+
+-- the number whose bytes these are, the lowest first
+abbrev pub le_number : List ℕ → ℕ
+le_number [] = 0
+le_number (byte ∷ bytes) = byte + 256 * le_number bytes

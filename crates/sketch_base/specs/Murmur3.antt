@@ -17,14 +17,16 @@ mix_k1 k = wrapping_mul (rotate_left w64 (wrapping_mul k c1) 31) c2
 unfoldable pub mix_k2 : ℕ → ℕ
 mix_k2 k = wrapping_mul (rotate_left w64 (wrapping_mul k c2) 33) c1
 
+-- the two halves after one block, from its two words
+unfoldable pub block_of_words : ℕ × ℕ → ℕ → ℕ → ℕ × ℕ
+block_of_words h k1 k2 =
+    let h1 = wrapping_add (wrapping_mul (wrapping_add (rotate_left w64 (bit_xor h.0 (mix_k1 k1)) 27) h.1) 5) 0x52DCE729 in
+    let h2 = wrapping_add (wrapping_mul (wrapping_add (rotate_left w64 (bit_xor h.1 (mix_k2 k2)) 31) h1) 5) 0x38495AB5 in
+    (h1, h2)
+
 -- the two halves after one block of 16 bytes
 unfoldable pub block : ℕ × ℕ → List ℕ → ℕ × ℕ
-block h bytes =
-    let k1 = mix_k1 (word_at bytes 0) in
-    let k2 = mix_k2 (word_at bytes 8) in
-    let h1 = wrapping_add (wrapping_mul (wrapping_add (rotate_left w64 (bit_xor h.0 k1) 27) h.1) 5) 0x52DCE729 in
-    let h2 = wrapping_add (wrapping_mul (wrapping_add (rotate_left w64 (bit_xor h.1 k2) 31) h1) 5) 0x38495AB5 in
-    (h1, h2)
+block h bytes = block_of_words h (word_at bytes 0) (word_at bytes 8)
 
 -- the halves after the first n blocks
 unfoldable pub body : ℕ → ℕ × ℕ → List ℕ → ℕ × ℕ
@@ -42,15 +44,19 @@ fmix64 k =
 abbrev pub padded : List ℕ → List ℕ
 padded rest = rest ++ replicate (16 - length rest) 0
 
--- tail and finalization: both halves of the hash, from the halves after all whole blocks, the padded rest and the
--- length
-unfoldable pub finalization : ℕ × ℕ → List ℕ → ℕ → ℕ × ℕ
-finalization h rest len =
-    let h1 = bit_xor (bit_xor h.0 (mix_k1 (word_at rest 0))) len in
-    let h2 = bit_xor (bit_xor h.1 (mix_k2 (word_at rest 8))) len in
+-- tail and finalization: both halves of the hash, from the halves after all whole blocks, the two words of the padded
+-- rest and the length
+unfoldable pub finish_words : ℕ × ℕ → ℕ → ℕ → ℕ → ℕ × ℕ
+finish_words h k1 k2 len =
+    let h1 = bit_xor (bit_xor h.0 (mix_k1 k1)) len in
+    let h2 = bit_xor (bit_xor h.1 (mix_k2 k2)) len in
     let a = fmix64 (wrapping_add h1 h2) in
     let b = fmix64 (wrapping_add h2 (wrapping_add h1 h2)) in
     (wrapping_add a b, wrapping_add b (wrapping_add a b))
+
+-- the same, from the padded rest
+unfoldable pub finalization : ℕ × ℕ → List ℕ → ℕ → ℕ × ℕ
+finalization h rest len = finish_words h (word_at rest 0) (word_at rest 8) len
 
 -- both halves of the hash of a whole list under a seed
 unfoldable pub murmur3_x64_128 : List ℕ → ℕ → ℕ × ℕ

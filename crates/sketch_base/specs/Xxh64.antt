@@ -34,14 +34,13 @@ initial_accumulators seed =
     let first = wrapping_add seed (wrapping_add prime64_1 prime64_2) in
     (first, wrapping_add seed prime64_2, seed, wrapping_add seed (2 ^ 64 - prime64_1))
 
+-- the accumulators after one stripe, from its four words
+abbrev pub stripe_of_words : Accumulators → Accumulators → Accumulators
+stripe_of_words acc lanes = (round acc.0 lanes.0, round acc.1 lanes.1, round acc.2 lanes.2, round acc.3 lanes.3)
+
 -- the accumulators after one stripe of 32 bytes
 unfoldable pub stripe : Accumulators → List ℕ → Accumulators
-stripe acc bytes = (
-  round acc.0 (word_at bytes 0),
-  round acc.1 (word_at bytes 8),
-  round acc.2 (word_at bytes 16),
-  round acc.3 (word_at bytes 24),
-)
+stripe acc bytes = stripe_of_words acc (word_at bytes 0, word_at bytes 8, word_at bytes 16, word_at bytes 24)
 
 -- process stripes: the accumulators after the first n of them
 unfoldable pub stripes : ℕ → Accumulators → List ℕ → Accumulators

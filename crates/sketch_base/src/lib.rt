@@ -1,8 +1,10 @@
-//! The layer below the sketches: hash functions, byte cursors, fields of images, families, errors and remainders.
+//! The layer below the sketches: hash functions, byte cursors, fields of images, families, errors, remainders, words
+//! and lines.
 //!
 //! - [`XxHash64`] and [`MurmurHash3X64128`] hash bytes that arrive in pieces. Contracts see each result as the hash of
 //!   the whole list of bytes.
-//! - [`xxh64_of`], [`murmur3_of`] and [`murmur3_of_u64`] hash a whole item or number.
+//! - [`xxh64_of`], [`murmur3_of`] and [`murmur3_of_u64`] hash a whole item or number. [`xxh64_of_str`] and
+//!   [`murmur3_of_str`] hash a string without a buffer.
 //! - [`RehashableItem`] hashes one item under several seeds. It feeds an item of few bytes once, and keeps them as
 //!   [`ShortBytes`].
 //! - [`compute_seed_hash`] hashes a seed, and [`check_seed_hash`] compares two such hashes.
@@ -12,6 +14,8 @@
 //! - [`Family`] names a kind of sketch in an image. An [`Error`] has a kind and a [`Fault`], its cause.
 //! - [`laws`] states the values of the constants.
 //! - [`Divisor`] computes remainders by a precomputed number without a division.
+//! - [`next_word`] and [`next_line`] split strings. [`finished_words`] and [`finished_lines`] tell where a chunk of a
+//!   stream can be split.
 #![tactic(auto)]
 
 mod divisor;
@@ -24,10 +28,13 @@ pub mod laws;
 mod murmurhash;
 mod rehashable_item;
 mod seed_hash;
+mod separator;
 mod short_bytes;
 mod short_copy;
 mod sketch_bytes;
 mod sketch_slice;
+mod split;
+mod str_hash;
 mod words;
 mod xxhash;
 
@@ -39,7 +46,10 @@ pub use item_hash::{murmur3_of, murmur3_of_u64, xxh64_of};
 pub use murmurhash::{DEFAULT_UPDATE_SEED, MurmurHash3X64128};
 pub use rehashable_item::RehashableItem;
 pub use seed_hash::{check_seed_hash, compute_seed_hash};
+pub use separator::{Separator, first_separator};
 pub use short_bytes::ShortBytes;
 pub use sketch_bytes::SketchBytes;
 pub use sketch_slice::SketchSlice;
+pub use split::{finished_lines, finished_words, next_line, next_word};
+pub use str_hash::{murmur3_of_str, xxh64_of_str};
 pub use xxhash::XxHash64;

@@ -31,18 +31,17 @@ fn mix_k2(k: u64) -> u64
     rotate_left(k.wrapping_mul(C2), 33).wrapping_mul(C1)
 }
 
-#[tactic(auto, unfolding(crate::specs::Murmur3::block))]
+#[tactic(auto, unfolding(crate::specs::Murmur3::block_of_words))]
 #[inline(always)]
-fn block(h: (u64, u64), bytes: &[u8]) -> (u64, u64)
-    requires { length bytes.now ≡ 16 }
-    ensures { result ≡ spec.block h bytes.now }
+pub(crate) fn block_of_words(h: (u64, u64), k1: u64, k2: u64) -> (u64, u64)
+    ensures { result ≡ spec.block_of_words h k1 k2 }
 {
-    let h1 = (h.0 ^ mix_k1(word_at(bytes, 0)))
+    let h1 = (h.0 ^ mix_k1(k1))
         .rotate_left(27)
         .wrapping_add(h.1)
         .wrapping_mul(5)
         .wrapping_add(0x52DC_E729);
-    let h2 = (h.1 ^ mix_k2(word_at(bytes, 8)))
+    let h2 = (h.1 ^ mix_k2(k2))
         .rotate_left(31)
         .wrapping_add(h1)
         .wrapping_mul(5)
@@ -50,9 +49,18 @@ fn block(h: (u64, u64), bytes: &[u8]) -> (u64, u64)
     (h1, h2)
 }
 
+#[tactic(auto, unfolding(crate::specs::Murmur3::block))]
+#[inline(always)]
+fn block(h: (u64, u64), bytes: &[u8]) -> (u64, u64)
+    requires { length bytes.now ≡ 16 }
+    ensures { result ≡ spec.block h bytes.now }
+{
+    block_of_words(h, word_at(bytes, 0), word_at(bytes, 8))
+}
+
 // Hashes all whole blocks of `bytes`.
 #[inline]
-fn body(start: (u64, u64), bytes: &[u8]) -> (u64, u64)
+pub(crate) fn body(start: (u64, u64), bytes: &[u8]) -> (u64, u64)
     ensures { result ≡ spec.body (length bytes.now / 16) start bytes.now }
 {
     let mut h = start;
@@ -74,19 +82,27 @@ fn fmix64(k: u64) -> u64
     b ^ b >> 33
 }
 
+#[tactic(auto, unfolding(crate::specs::Murmur3::finish_words))]
+#[inline(always)]
+pub(crate) fn finish_words(h: (u64, u64), k1: u64, k2: u64, len: u64) -> (u64, u64)
+    ensures { result ≡ spec.finish_words h k1 k2 len }
+{
+    let h1 = h.0 ^ mix_k1(k1) ^ len;
+    let h2 = h.1 ^ mix_k2(k2) ^ len;
+    let sum = h1.wrapping_add(h2);
+    let a = fmix64(sum);
+    let b = fmix64(h2.wrapping_add(sum));
+    let first = a.wrapping_add(b);
+    (first, b.wrapping_add(first))
+}
+
 #[tactic(auto, unfolding(crate::specs::Murmur3::finalization))]
 #[inline(always)]
 pub(crate) fn finalization(h: (u64, u64), rest: &[u8], len: u64) -> (u64, u64)
     requires { length rest.now ≡ 16 }
     ensures { result ≡ spec.finalization h rest.now len }
 {
-    let h1 = h.0 ^ mix_k1(word_at(rest, 0)) ^ len;
-    let h2 = h.1 ^ mix_k2(word_at(rest, 8)) ^ len;
-    let sum = h1.wrapping_add(h2);
-    let a = fmix64(sum);
-    let b = fmix64(h2.wrapping_add(sum));
-    let first = a.wrapping_add(b);
-    (first, b.wrapping_add(first))
+    finish_words(h, word_at(rest, 0), word_at(rest, 8), len)
 }
 
 /// A hasher for MurmurHash3 x64 128 with a seed of 64 bits.

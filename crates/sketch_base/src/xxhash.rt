@@ -19,9 +19,9 @@ const PRIME64_3: u64 = 0x1656_67B1_9E37_79F9;
 
 const PRIME64_4: u64 = 0x85EB_CA77_C2B2_AE63;
 
-const PRIME64_5: u64 = 0x27D4_EB2F_1656_67C5;
+pub(crate) const PRIME64_5: u64 = 0x27D4_EB2F_1656_67C5;
 
-type Accumulators = (u64, u64, u64, u64);
+pub(crate) type Accumulators = (u64, u64, u64, u64);
 
 #[tactic(auto, unfolding(crate::specs::Xxh64::round))]
 #[inline(always)]
@@ -33,7 +33,7 @@ fn round(acc: u64, lane: u64) -> u64
 
 #[tactic(auto, unfolding(crate::specs::Xxh64::initial_accumulators))]
 #[inline(always)]
-fn initial_accumulators(seed: u64) -> Accumulators
+pub(crate) fn initial_accumulators(seed: u64) -> Accumulators
     ensures { result ≡ spec.initial_accumulators seed }
 {
     (
@@ -44,23 +44,38 @@ fn initial_accumulators(seed: u64) -> Accumulators
     )
 }
 
+#[inline(always)]
+pub(crate) fn stripe_of_words(acc: Accumulators, lanes: Accumulators) -> Accumulators
+    ensures { result ≡ spec.stripe_of_words acc lanes }
+{
+    (
+        round(acc.0, lanes.0),
+        round(acc.1, lanes.1),
+        round(acc.2, lanes.2),
+        round(acc.3, lanes.3),
+    )
+}
+
 #[tactic(auto, unfolding(crate::specs::Xxh64::stripe))]
 #[inline(always)]
 fn stripe(acc: Accumulators, bytes: &[u8]) -> Accumulators
     requires { length bytes.now ≡ 32 }
     ensures { result ≡ spec.stripe acc bytes.now }
 {
-    (
-        round(acc.0, word_at(bytes, 0)),
-        round(acc.1, word_at(bytes, 8)),
-        round(acc.2, word_at(bytes, 16)),
-        round(acc.3, word_at(bytes, 24)),
+    stripe_of_words(
+        acc,
+        (
+            word_at(bytes, 0),
+            word_at(bytes, 8),
+            word_at(bytes, 16),
+            word_at(bytes, 24),
+        ),
     )
 }
 
 // Hashes all whole stripes of `bytes`.
 #[inline]
-fn stripes(start: Accumulators, bytes: &[u8]) -> Accumulators
+pub(crate) fn stripes(start: Accumulators, bytes: &[u8]) -> Accumulators
     ensures { result ≡ spec.stripes (length bytes.now / 32) start bytes.now }
 {
     let mut acc = start;
@@ -84,7 +99,7 @@ fn merge_accumulator(h: u64, acc: u64) -> u64
 
 #[tactic(auto, unfolding(crate::specs::Xxh64::convergence))]
 #[inline(always)]
-fn convergence(acc: Accumulators) -> u64
+pub(crate) fn convergence(acc: Accumulators) -> u64
     ensures { result ≡ spec.convergence acc }
 {
     let sum = acc
@@ -107,7 +122,7 @@ fn mixed(h: u64, part: u64, turn: u32, factor: u64) -> u64
 
 #[tactic(auto, unfolding(crate::specs::Xxh64::consume_word))]
 #[inline(always)]
-fn consume_word(h: u64, lane: u64) -> u64
+pub(crate) fn consume_word(h: u64, lane: u64) -> u64
     ensures { result ≡ spec.consume_word h lane }
 {
     mixed(h, round(0, lane), 27, PRIME64_1).wrapping_add(PRIME64_4)
@@ -115,7 +130,7 @@ fn consume_word(h: u64, lane: u64) -> u64
 
 #[tactic(auto, unfolding(crate::specs::Xxh64::consume_half_word))]
 #[inline(always)]
-fn consume_half_word(h: u64, lane: u64) -> u64
+pub(crate) fn consume_half_word(h: u64, lane: u64) -> u64
     ensures { result ≡ spec.consume_half_word h lane }
 {
     mixed(h, lane.wrapping_mul(PRIME64_1), 23, PRIME64_2).wrapping_add(PRIME64_3)
@@ -123,7 +138,7 @@ fn consume_half_word(h: u64, lane: u64) -> u64
 
 #[tactic(auto, unfolding(crate::specs::Xxh64::consume_byte))]
 #[inline(always)]
-fn consume_byte(h: u64, lane: u8) -> u64
+pub(crate) fn consume_byte(h: u64, lane: u8) -> u64
     ensures { result ≡ spec.consume_byte h lane }
 {
     mixed(h, (lane as u64).wrapping_mul(PRIME64_5), 11, PRIME64_1)
@@ -153,7 +168,7 @@ fn consume_bytes(h: u64, rest: &[u8]) -> u64
 }
 
 #[inline(always)]
-fn consume_words(h: u64, rest: &[u8]) -> u64
+pub(crate) fn consume_words(h: u64, rest: &[u8]) -> u64
     ensures { result ≡ spec.consume_words (length rest.now / 8) h rest.now }
 {
     let mut h = h;
@@ -167,7 +182,7 @@ fn consume_words(h: u64, rest: &[u8]) -> u64
 
 #[tactic(auto, unfolding(crate::specs::Xxh64::avalanche))]
 #[inline(always)]
-fn avalanche(h: u64) -> u64
+pub(crate) fn avalanche(h: u64) -> u64
     ensures { result ≡ spec.avalanche h }
 {
     let a = (h ^ h >> 33).wrapping_mul(PRIME64_2);

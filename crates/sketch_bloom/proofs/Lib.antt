@@ -9,8 +9,10 @@ pub mod SetAlgebra
 pub mod RoundTrips
 pub mod Spellings
 pub mod States
+pub mod Answering
 pub mod Batches
 pub mod Inserting
+pub mod Unions
 pub mod Pairs
 pub mod SeriesOfLn2
 pub mod SuggestedHashes

@@ -19,6 +19,10 @@ pub data BloomHistory : Type 0 where
 abbrev pub all_inserted_after : BloomHistory → List (List ℕ) → BloomHistory
 all_inserted_after h items = fold Insert h items
 
+-- the unions with others, one after another
+abbrev pub all_united_after : BloomHistory → List BloomHistory → BloomHistory
+all_united_after h others = fold Union h others
+
 -- a function of the shape and the seed of the first filter; a combination has those of the filter that it changes
 abbrev pub of_first : (ℕ → ℕ → ℕ → ℕ) → BloomHistory → ℕ
 of_first f (New num_words num_hashes seed) = f num_words num_hashes seed

@@ -1,5 +1,5 @@
 -- The state of a filter, as callers see it: its shape, its seed and a set of positions.
-use Rattle.std.specs.Prelude.{◌≡◌, ℕ, ◌*◌, ◌<◌, ◌≤◌, ◌==◌, Bool, true, ◌&&◌, List, fold, refl}
+use Rattle.std.specs.Prelude.{◌≡◌, ℕ, ◌*◌, ◌<◌, ◌≤◌, ◌==◌, Bool, true, ◌&&◌, List, [], ◌∷◌, fold, refl}
 use Rattle.std.specs.Coded.{Coded, code_by, coded×, coded_ℕ}
 use Rattle.std.specs.FinSet as set
 use Rattle.sketch_bloom.specs.BitSet.{Numbers, same_set}
@@ -64,6 +64,11 @@ inserted s bytes = record s { set = set.union s.set (item_positions s bytes) }
 abbrev pub all_inserted : FilterState → List (List ℕ) → FilterState
 all_inserted s items = fold inserted s items
 
+-- for each item, in turn, whether the filter contains it before it is inserted
+abbrev pub answers_in_turn : FilterState → List (List ℕ) → List Bool
+answers_in_turn s [] = []
+answers_in_turn s (bytes ∷ rest) = contains_item s bytes ∷ answers_in_turn (inserted s bytes) rest
+
 -- a filter with an empty set
 abbrev pub cleared : FilterState → FilterState
 cleared s = record s { set = set.empty }
@@ -71,6 +76,10 @@ cleared s = record s { set = set.empty }
 -- a filter with the union of both sets
 abbrev pub united : FilterState → FilterState → FilterState
 united a b = record a { set = set.union a.set b.set }
+
+-- a filter with the sets of others united into its own, one after another
+abbrev pub all_united : FilterState → List FilterState → FilterState
+all_united s others = fold united s others
 
 -- a filter with the intersection of both sets
 abbrev pub intersected : FilterState → FilterState → FilterState

@@ -9,7 +9,7 @@ ghost use Rattle.std.specs.Simd.Lanes.{zip2, chunk, put_chunk};
 ghost use Rattle.sketch_bloom.specs.BitSet.{set_of};
 ghost use Rattle.sketch_bloom.specs.Operations.{on_sets, on_words};
 ghost use Rattle.sketch_bloom.specs.Positions.{position, positions};
-ghost use Rattle.sketch_bloom.specs.Pairs.{contains_pair, with_pair};
+ghost use Rattle.sketch_bloom.specs.Pairs.{contains_pair, with_pair, pairs_contained};
 
 use crate::limits::MAX_NUM_WORDS;
 use crate::set_operation::SetOperation;
@@ -140,6 +140,33 @@ pub fn insert_pairs(
     // The label is for the prover.
     'pairs: for i in 0..pairs.len() {
         added += insert_positions(words, capacity, num_hashes, pairs[i].0, pairs[i].1);
+    }
+    added
+}
+
+/// Inserts all positions of the pairs of hashes, and writes for each pair, in turn, whether all were in the set before.
+/// Returns the number of new positions.
+#[inline(always)]
+pub fn contains_and_insert_pairs(
+    words: &mut [u64],
+    capacity: Divisor,
+    num_hashes: u16,
+    pairs: &[(u64, u64)],
+    answers: &mut [bool],
+) -> u64
+    requires capacity { capacity ≡ 64 * length words.old }
+    requires few { length words.old ≤ MAX_NUM_WORDS }
+    requires same { length answers.old ≡ length pairs.now }
+    ensures answers { answers.new ≡ pairs_contained capacity num_hashes (set_of words.old) pairs.now }
+    ensures union { set_of words.new ≡ fold (with_pair capacity num_hashes) (set_of words.old) pairs.now }
+    ensures added { set.len (set_of words.new) ≡ set.len (set_of words.old) + result }
+{
+    let mut added = 0;
+    // The label is for the prover.
+    'pairs: for i in 0..pairs.len() {
+        let new = insert_positions(words, capacity, num_hashes, pairs[i].0, pairs[i].1);
+        answers[i] = new == 0;
+        added += new;
     }
     added
 }

@@ -1,18 +1,23 @@
 //! The Bloom filter.
-ghost use Rattle.std.specs.Prelude.{◌≡◌, ℕ, ◌*◌, ◌≤◌, ◌↔◌, map, length, IfOk, IfErr, IsOk, IsTrue, OnOk, OnErr};
+ghost use Rattle.std.specs.Prelude.{◌≡◌, ℕ, List, ◌*◌, ◌≤◌, ◌↔◌, length, IfOk, IfErr, IsOk, IsTrue, OnOk, OnErr};
 ghost use Rattle.std.specs.FinSet as set;
+ghost use Rattle.std.specs.Hash as fed;
 ghost use Rattle.sketch_base.specs.Checks.{IsImageRefusal};
 ghost use Rattle.sketch_base.specs.Errors.{invalid_argument, no_memory};
 ghost use Rattle.sketch_base.specs.Hashes.{fed_bytes};
-ghost use Rattle.sketch_bloom.specs.History.{BloomHistory, all_inserted_after};
+ghost use Rattle.sketch_base.specs.Xxh64.{xxh64};
+ghost use Rattle.sketch_bloom.specs.History.{BloomHistory};
 ghost use Rattle.sketch_bloom.specs.History.BloomHistory.{Insert, Union, Intersection, Difference, Reset};
 ghost use Rattle.sketch_bloom.specs.Image.{IsImage, IsSpelled, Restores, early_fault, first_fault, early_fault_within, first_fault_within};
 ghost use Rattle.sketch_bloom.specs.Operations.{on_sets};
 ghost use Rattle.sketch_bloom.specs.Stands.{Extends, ExtendsBoth};
-ghost use Rattle.sketch_bloom.specs.State.{IsFilterState, IsCompatible, capacity_of, empty_state, contains_item, inserted, all_inserted, cleared, united, intersected, subtracted};
+ghost use Rattle.sketch_bloom.specs.State.{IsFilterState, IsCompatible, capacity_of, empty_state, contains_item, inserted, cleared, united, intersected, subtracted};
+
+mod batches;
+mod words_and_lines;
 
 use crate::bit_set;
-use crate::hashes::{contains_items, hashes_of, insert_items};
+use crate::hashes::{hashes_of, hashes_of_str};
 use crate::image::{
     EMPTY_FLAG_MASK, PREAMBLE_LONGS_EMPTY, PREAMBLE_LONGS_NONEMPTY, UNCOUNTED, begin_image,
     read_preamble, read_words, write_words,
@@ -141,6 +146,18 @@ impl BloomFilter {
         ensures stands { Extends self.old self.new (λ h. Insert h (fed_bytes T.hash_input item.now)) }
     {
         let (h0, h1) = hashes_of(item, self.seed);
+        self.insert_hashed(h0, h1)
+    }
+
+    /// Inserts the positions of an item with these hashes, and returns whether all of them were in the set before.
+    #[inline(always)]
+    fn insert_hashed(&mut self, h0: u64, h1: u64) -> bool
+        ensures answer { (bytes : List ℕ) → h0 ≡ xxh64 bytes self.old.seed → h1 ≡ xxh64 bytes h0
+            → result ≡ contains_item self.old bytes }
+        ensures insertion { (bytes : List ℕ) → h0 ≡ xxh64 bytes self.old.seed → h1 ≡ xxh64 bytes h0
+            → self.new ≡ inserted self.old bytes }
+        ensures state { IsFilterState self.new }
+    {
         let added = bit_set::insert_positions(
             &mut self.words,
             self.capacity,
@@ -162,52 +179,44 @@ impl BloomFilter {
         self.contains_and_insert(&item);
     }
 
-    /// Inserts the positions of all items, as [`insert`](Self::insert) does one after another. Does not allocate.
-    ///
-    /// It is faster than a call for each item: the hashes of several items are computed before their words are needed.
-    pub fn insert_all<T: Hash>(&mut self, items: &[T])
-        ensures insertions { self.new ≡ all_inserted self.old (map (fed_bytes T.hash_input) items.now) }
-        ensures state { IsFilterState self.new }
-        ensures stands { Extends self.old self.new (λ h. all_inserted_after h (map (fed_bytes T.hash_input) items.now)) }
-    {
-        let added = insert_items(
-            &mut self.words,
-            self.capacity,
-            self.num_hashes,
-            self.seed,
-            items,
-        );
-        self.bits_used += added;
-    }
-
-    /// Writes for each item to `answers` whether all its positions are in the set, as [`contains`](Self::contains)
-    /// returns it. `answers` is as long as `items`. Does not allocate.
-    ///
-    /// It is faster than a call for each item: the hashes of several items are computed before their words are needed.
+    /// Returns whether all positions of the string are in the set, as [`contains`](Self::contains) does, in less time.
     ///
     /// # Examples
     ///
     /// ```
     /// use sketch_bloom::BloomFilter;
     ///
-    /// fn known_of_four(seen: &BloomFilter, visitors: &[u64; 4]) -> [bool; 4] {
-    ///     let mut known = [false; 4];
-    ///     seen.contains_all(visitors, &mut known);
-    ///     known
+    /// fn is_blocked(blocked: &BloomFilter, name: &str) -> bool {
+    ///     blocked.contains_str(name)
     /// }
     /// ```
-    pub fn contains_all<T: Hash>(&self, items: &[T], answers: &mut [bool])
-        requires { length answers.old ≡ length items.now }
-        ensures { answers.new ≡ map (λ item. contains_item self.now (fed_bytes T.hash_input item)) items.now }
+    #[inline]
+    pub fn contains_str(&self, item: &str) -> bool
+        ensures { result ≡ contains_item self.now (fed_bytes fed.str item.now) }
     {
-        contains_items(
-            &self.words,
-            self.capacity,
-            self.num_hashes,
-            self.seed,
-            items,
-            answers,
-        );
+        let (h0, h1) = hashes_of_str(item, self.seed);
+        bit_set::contains_positions(&self.words, self.capacity, self.num_hashes, h0, h1)
+    }
+
+    /// Inserts the string's positions, as [`insert`](Self::insert) does, in less time. Does not allocate.
+    ///
+    /// # Examples
+    ///
+    /// ```
+    /// use sketch_bloom::BloomFilter;
+    ///
+    /// fn block(blocked: &mut BloomFilter, name: &str) {
+    ///     blocked.insert_str(name);
+    /// }
+    /// ```
+    #[inline]
+    pub fn insert_str(&mut self, item: &str)
+        ensures insertion { self.new ≡ inserted self.old (fed_bytes fed.str item.now) }
+        ensures state { IsFilterState self.new }
+        ensures stands { Extends self.old self.new (λ h. Insert h (fed_bytes fed.str item.now)) }
+    {
+        let (h0, h1) = hashes_of_str(item, self.seed);
+        self.insert_hashed(h0, h1);
     }
 
     /// Removes all positions from the set. Shape, seed and memory are kept.

@@ -1,3 +1,4 @@
+mod PartUpdates
 pub mod Places
 pub mod Numbers
 pub mod Reading
@@ -15,6 +16,8 @@ pub mod Merges
 pub mod Decays
 pub mod Estimates
 pub mod Standing
+pub mod Weights
+pub mod Chains
 pub mod Fractions
 pub mod Histories
 pub mod States

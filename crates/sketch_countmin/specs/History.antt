@@ -1,5 +1,5 @@
 -- The history of a Count-Min sketch, and the values that it gives to items and cells.
-use Rattle.std.specs.Prelude.{ℕ, ◌+◌, ◌*◌, ◌/◌, ◌==◌, ◌&&◌, not, Bool, if◌then◌else◌, List, [], ◌∷◌, ℤ, pos, ◌+ℤ◌, ◌≤ℤ◌, unsigned_abs}
+use Rattle.std.specs.Prelude.{ℕ, ◌+◌, ◌*◌, ◌/◌, ◌==◌, ◌&&◌, not, Bool, if◌then◌else◌, List, [], ◌∷◌, fold, ℤ, pos, ◌+ℤ◌, ◌≤ℤ◌, unsigned_abs}
 use Rattle.std.specs.Str.{bytes_eq}
 use Rattle.sketch_countmin.specs.Values.{scaled, halved}
 use Rattle.sketch_countmin.specs.Buckets.{bucket_of}
@@ -17,6 +17,15 @@ pub data CountHistory : Type 0 where
 abbrev pub all_updated : CountHistory → List (List ℕ) → CountHistory
 all_updated h [] = h
 all_updated h (bytes ∷ rest) = all_updated (Update h bytes (pos 1)) rest
+
+-- each byte list counted with its weight, one after another
+abbrev pub each_updated : CountHistory → List (List ℕ × ℤ) → CountHistory
+each_updated h [] = h
+each_updated h (pair ∷ rest) = each_updated (Update h pair.0 pair.1) rest
+
+-- others merged into the first, one after another
+abbrev pub all_merged : CountHistory → List CountHistory → CountHistory
+all_merged h others = fold Merge h others
 
 -- the sum of the weights of the byte lists that pass a test, halved and decayed as the cells were
 abbrev pub value_over : CountHistory → (List ℕ → Bool) → ℤ

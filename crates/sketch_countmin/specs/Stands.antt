@@ -1,5 +1,6 @@
 -- The relation of a sketch to its history.
-use Rattle.std.specs.Prelude.{◌≡◌, ℕ, ◌<◌}
+use Rattle.std.specs.Prelude.{◌≡◌, ℕ, ◌<◌, List}
+use Rattle.std.specs.List.{AllZip}
 use Rattle.sketch_countmin.specs.Rows.{cell_at}
 use Rattle.sketch_countmin.specs.State.{CountState}
 use Rattle.sketch_countmin.specs.History.{CountHistory, hashes_of, buckets_of, seed_of, absolute_weight, cell_share}
@@ -20,3 +21,10 @@ Extends old new f = (h : CountHistory) → StandsFor old h → StandsFor new (f 
 -- if a sketch and another stand for two histories, the new sketch stands for the history that the call makes of both
 abbrev pub ExtendsBoth : CountState → CountState → CountState → (CountHistory → CountHistory → CountHistory) → Type 0
 ExtendsBoth old other new f = (g h : CountHistory) → StandsFor old g → StandsFor other h → StandsFor new (f g h)
+
+-- if a sketch stands for a history, and each of others for its own, the new sketch stands for the history that the call
+-- makes of all of them
+abbrev pub ExtendsByAll :
+    CountState → List CountState → CountState → (CountHistory → List CountHistory → CountHistory) → Type 0
+ExtendsByAll old others new f =
+    (g : CountHistory) (hs : List CountHistory) → StandsFor old g → AllZip StandsFor others hs → StandsFor new (f g hs)

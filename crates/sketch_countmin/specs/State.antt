@@ -1,5 +1,5 @@
 -- The state of a Count-Min sketch (Cormode & Muthukrishnan 2005), and what each call does to it.
-use Rattle.std.specs.Prelude.{◌≡◌, ◌≢◌, ℕ, ◌+◌, ◌*◌, ◌/◌, ◌^◌, ◌<◌, ◌≤◌, ◌==◌, if◌then◌else◌, List, length, map, replicate, count_by, All, ℤ, pos, ◌+ℤ◌, ◌≤ℤ◌, unsigned_abs}
+use Rattle.std.specs.Prelude.{◌≡◌, ◌≢◌, ℕ, ◌+◌, ◌*◌, ◌/◌, ◌^◌, ◌<◌, ◌≤◌, ◌==◌, if◌then◌else◌, List, [], ◌∷◌, length, map, replicate, count_by, All, ℤ, pos, ◌+ℤ◌, ◌≤ℤ◌, unsigned_abs}
 use Rattle.std.specs.Int.{int_min}
 use Rattle.sketch_base.specs.Hashes.{seed_hash}
 use Rattle.sketch_countmin.specs.Values.{scaled, halved}
@@ -60,6 +60,11 @@ pub record CountsAll (old : CountState) (items : List (List ℕ)) (new : CountSt
       → cell_at new.rows r b
       ≡ cell_at old.rows r b +ℤ pos (count_by (λ bytes. bucket_of old.buckets old.seed r bytes == b) items)
 
+-- new is old after each byte list was counted with its weight, one after another
+abbrev pub CountsEach : CountState → List (List ℕ × ℤ) → CountState → Type 0
+CountsEach old [] new = new ≡ old
+CountsEach old (pair ∷ rest) new = (mid : CountState) × Counts old pair.0 pair.1 mid × CountsEach mid rest new
+
 -- new is old with each cell and the total of another sketch of its shape added
 pub record Joins (old other new : CountState) : Type 0 where
   pub same : SameShape old other
@@ -67,6 +72,11 @@ pub record Joins (old other new : CountState) : Type 0 where
   pub total : new.total ≡ old.total + other.total
   pub cells : (r : ℕ) → r < old.hashes → (b : ℕ) → b < old.buckets
       → cell_at new.rows r b ≡ cell_at old.rows r b +ℤ cell_at other.rows r b
+
+-- new is old with the cells and totals of other sketches added, one after another
+abbrev pub JoinsEach : CountState → List CountState → CountState → Type 0
+JoinsEach old [] new = new ≡ old
+JoinsEach old (other ∷ rest) new = (mid : CountState) × Joins old other mid × JoinsEach mid rest new
 
 -- each cell and the total halved, rounded down
 abbrev pub halved_state : CountState → CountState

@@ -1,19 +1,19 @@
 //! The Count-Min sketch.
-ghost use Rattle.std.specs.Prelude.{◌≡◌, ◌≢◌, ℕ, ◌+◌, ◌*◌, ◌<◌, ◌≤◌, ◌↔◌, None, false, ℤ, pos, ◌≤ℤ◌, ◌-ℤ◌, unsigned_abs, ◌-◌, [], length, map, take, slice_index_or, OnOk, OnErr, IfOk, IfErr, IsOk, IsTrue, IsErrOf};
+ghost use Rattle.std.specs.Prelude.{◌≡◌, ◌≢◌, ℕ, ◌+◌, ◌*◌, ◌<◌, ◌≤◌, ◌↔◌, None, false, ℤ, pos, ◌≤ℤ◌, ◌-ℤ◌, unsigned_abs, OnOk, OnErr, IfOk, IfErr, IsOk, IsTrue, IsErrOf};
 ghost use Rattle.sketch_base.specs.Errors.{invalid_argument, no_memory, refusal_of};
 ghost use Rattle.sketch_base.specs.Hashes.{fed_bytes, seed_hash};
-ghost use Rattle.sketch_countmin.specs.History.{CountHistory, all_updated, IsNonnegative, IsExact, own_value, others_share};
+ghost use Rattle.sketch_countmin.specs.History.{CountHistory, IsNonnegative, IsExact, own_value, others_share};
 ghost use Rattle.sketch_countmin.specs.History.CountHistory.{New, Update, Merge, Halve, Decay};
 ghost use Rattle.sketch_countmin.specs.Rows.{cell_at};
 ghost use Rattle.sketch_countmin.specs.Shapes.{shape_fault};
 ghost use Rattle.sketch_countmin.specs.Stands.{StandsFor, Extends, ExtendsBoth};
-ghost use Rattle.sketch_countmin.specs.State.{IsCountState, SameShape, Counts, CountsAll, Joins, IsMin, IsMinCell, empty_state, halved_state, decayed_state, upper_bound_of};
+ghost use Rattle.sketch_countmin.specs.State.{IsCountState, SameShape, Counts, Joins, IsMin, IsMinCell, empty_state, halved_state, decayed_state, upper_bound_of};
 
+mod batches;
 mod images;
+mod words_and_lines;
 
-use crate::cells::{
-    add_all, count_in_rows, halve_all, min_cells, row_seeds, same_cells, scale_all, zeros,
-};
+use crate::cells::{add_all, halve_all, row_seeds, same_cells, scale_all, zeros};
 use crate::count_min_value::CountMinValue;
 use crate::limits::{MAX_TABLE_ENTRIES, MIN_NUM_BUCKETS};
 use crate::rows::{add_to_rows, min_cell};
@@ -240,64 +240,6 @@ impl<T: CountMinValue> CountMinSketch<T> {
         Ok(())
     }
 
-    /// Counts each item of a slice with weight 1, as [`update`](Self::update) does one after another. Does not
-    /// allocate.
-    ///
-    /// It passes over the slice once for each row. This is faster than an update for each item if the slice stays in a
-    /// cache: pass some thousands of items at a time.
-    ///
-    /// # Errors
-    ///
-    /// `WeightOverflow` if the total would exceed the maximum of `T`. The items before the first that does not fit are
-    /// then counted, and no others.
-    ///
-    /// # Examples
-    ///
-    /// ```
-    /// use sketch_base::Error;
-    /// use sketch_countmin::CountMinSketch;
-    ///
-    /// fn count_batch(visits: &mut CountMinSketch<u32>, users: &[u64]) -> Result<(), Error> {
-    ///     visits.update_all(users)
-    /// }
-    /// ```
-    pub fn update_all<I: Hash>(&mut self, items: &[I]) -> Result<(), Error>
-        ensures counted { CountsAll self.old
-            (take (T.greatest - self.old.total) (map (fed_bytes I.hash_input) items.now)) self.new }
-        ensures state { IsCountState T.greatest self.new }
-        ensures stands { Extends self.old self.new (λ h. all_updated h
-            (take (T.greatest - self.old.total) (map (fed_bytes I.hash_input) items.now))) }
-
-        // The error comes exactly if there are more items than the total has room for.
-        ensures overflow { T.greatest < self.old.total + length items.now
-            → IsErrOf result (invalid_argument Fault.WeightOverflow) }
-        ensures succeeds { self.old.total + length items.now ≤ T.greatest → IsOk result }
-    {
-        let fitting = self.room().min(items.len());
-        self.count_fitting(&items[..fitting]);
-        if fitting < items.len() {
-            return Err(Error::invalid_argument(Fault::WeightOverflow));
-        }
-        Ok(())
-    }
-
-    /// Returns the room of the total: the maximum minus the total.
-    fn room(&self) -> usize
-        ensures { self.now.total + result ≡ T.greatest }
-    {
-        (T::MAX.to_number() - self.total.to_number()) as usize
-    }
-
-    /// Counts each item with weight 1. The total has room for all.
-    fn count_fitting<I: Hash>(&mut self, items: &[I])
-        requires { self.old.total + length items.now ≤ T.greatest }
-        ensures counted { CountsAll self.old (map (fed_bytes I.hash_input) items.now) self.new }
-        ensures state { IsCountState T.greatest self.new }
-    {
-        count_in_rows(&mut self.counts, self.buckets, &self.row_seeds, items);
-        self.total = T::from_number_in_range(self.total.to_number() + items.len() as i128);
-    }
-
     /// Returns the total plus the absolute value of a weight, or `WeightOverflow` if it exceeds the maximum.
     #[inline(always)]
     fn total_with(&self, weight: T) -> Result<T, Error>
@@ -343,38 +285,6 @@ impl<T: CountMinValue> CountMinSketch<T> {
             (T.number result -ℤ own_value h bytes) }
     {
         min_cell(&self.counts, self.buckets, &self.row_seeds, &item)
-    }
-
-    /// Writes the estimate of each item to `estimates`, as [`estimate`](Self::estimate) returns it. Does not allocate.
-    ///
-    /// `estimates` is as long as `items`. It passes over the items once for each row, as
-    /// [`update_all`](Self::update_all) does.
-    ///
-    /// # Examples
-    ///
-    /// ```
-    /// use sketch_countmin::CountMinSketch;
-    ///
-    /// fn visits_of(visits: &CountMinSketch<u32>, users: [u64; 2]) -> [u32; 2] {
-    ///     let mut estimates = [0; 2];
-    ///     visits.estimate_all(&users, &mut estimates);
-    ///     estimates
-    /// }
-    /// ```
-    pub fn estimate_all<I: Hash>(&self, items: &[I], estimates: &mut [T])
-        requires same_length { length items.now ≡ length estimates.old }
-        ensures length { length estimates.new ≡ length items.now }
-        ensures least { (i : ℕ) → i < length items.now → IsMinCell self.now
-            (slice_index_or (map (fed_bytes I.hash_input) items.now) i [])
-            (slice_index_or (map T.number estimates.new) i (pos 0)) }
-    {
-        min_cells(
-            &self.counts,
-            self.buckets,
-            &self.row_seeds,
-            items,
-            estimates,
-        );
     }
 
     /// Returns the estimate. It is no lower bound of the item's true weight: collisions can raise it above that.

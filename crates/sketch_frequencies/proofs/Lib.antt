@@ -13,6 +13,8 @@ pub mod ImageWeights
 pub mod Images
 pub mod Joins
 pub mod Lookups
+pub mod ManyBounds
+pub mod ManyMerges
 pub mod Merges
 pub mod OwnedBytes
 pub mod Permutations
@@ -31,10 +33,10 @@ pub mod SampleSizes
 pub mod SlotEntries
 pub mod Spellings
 pub mod StepsByKey
+pub mod StringUpdates
 pub mod SuggestedSizes
 pub mod Tail
-pub mod TextUpdates
-pub mod TextWords
 pub mod Texts
 pub mod UpdateParts
 pub mod UpdateStates
+pub mod WeightedBatches

@@ -1,11 +1,14 @@
 pub mod Above
 pub mod Batches
+pub mod Bounds
 pub mod Growth
 pub mod History
 pub mod Image
 pub mod ItemLaws
 pub mod Items
+pub mod KeyedBatches
 pub mod Laws
+pub mod ManyMerges
 pub mod Memory
 pub mod Reading
 pub mod RowValue
@@ -14,6 +17,7 @@ pub mod Sizes
 pub mod Stands
 pub mod State
 pub mod Steps
+pub mod Strings
 pub mod SuggestedSizes
-pub mod Words
+pub mod WeightedBatches
 pub mod Writing

@@ -9,11 +9,12 @@ ghost use Rattle.sketch_frequencies.specs.Stands.{StandsFor, KeepsTailBudget, Ex
 ghost use Rattle.sketch_frequencies.specs.State.{IsState, capacity, max_sample_size, empty_state};
 ghost use Rattle.sketch_frequencies.specs.Steps.{IsSameState};
 
+mod batches;
 mod images;
 mod merging;
 mod reports;
-mod text_updates;
 mod updates;
+mod words_and_lines;
 
 use crate::sizes::{MIN_MAP_SIZE, check_map_size, check_sample_size, max_sample_of};
 use counter_table::{ReversePurgeItemHashMap, capacity_of, lg_of};

@@ -24,7 +24,6 @@ mod item_bounds;
 pub mod laws;
 mod row;
 mod sizes;
-mod words;
 
 pub use counter_table::{ItemKey, OwnedKey, ReversePurgeItemHashMap, ReversePurgeItemIter};
 pub use error_type::ErrorType;

@@ -1,11 +1,11 @@
 //! Splits a line into words, and parses words that are no numbers.
 ghost use Rattle.std.specs.Prelude.{◌≡◌, ◌≤◌, IfOk, length, string_bytes, take};
 ghost use Rattle.datasketches_cli.specs.Grammar.{split_words};
-ghost use Rattle.datasketches_cli.specs.Parsing.{IsReportOf, IsThresholdOf, texts_of, with_word};
+ghost use Rattle.datasketches_cli.specs.Parsing.{IsReportOf, IsThresholdOf, texts_of};
 
 use super::number::number_of;
-use crate::search::find_byte;
 use datasketches::frequencies::ErrorType;
+use sketch_base::{Separator, next_word};
 use std::alloc::{AllocError, Global};
 
 /// The number of words of a line that are split off: one more than the longest command has.
@@ -19,7 +19,7 @@ pub fn first_words<'a>(text: &'a str, words: &mut [&'a str; MAX_WORDS]) -> usize
     let mut count = 0;
     let mut rest = text;
     while count < MAX_WORDS {
-        let (word, after) = next_word(rest);
+        let (word, after) = next_word(rest, Separator::Space);
         if word.is_empty() {
             return count;
         }
@@ -28,19 +28,6 @@ pub fn first_words<'a>(text: &'a str, words: &mut [&'a str; MAX_WORDS]) -> usize
         rest = after;
     }
     count
-}
-
-/// Splits off the first word of a string, which is empty if there is none. Returns it and the rest.
-fn next_word(text: &str) -> (&str, &str)
-    ensures { split_words text.now ≡ with_word result.0.now (split_words result.1.now) }
-{
-    let bytes = text.as_bytes();
-    let mut start = 0;
-    while start < bytes.len() && bytes[start] == b' ' {
-        start += 1;
-    }
-    let (_, text) = text.split_at(start);
-    text.split_at(find_byte(b' ', text.as_bytes()))
 }
 
 /// Copies a string into recycled memory, if any. `AllocError` if it cannot be allocated.

@@ -2,6 +2,7 @@
 ghost use Rattle.std.specs.Prelude.{◌≡◌, ◌+◌, ◌*◌, ◌<◌, ◌≤◌, ◌^◌, length, map, All, IfOk, IfErr, IsTrue};
 ghost use Rattle.std.specs.List.{AllZip};
 ghost use Rattle.sketch_base.specs.Errors.{no_memory};
+ghost use Rattle.sketch_frequencies.specs.Bounds.{bounds_by_key, bounds_of, BoundWeight};
 ghost use Rattle.sketch_frequencies.specs.History.{FrequentHistory, min_size, min_sample, total_weight, HasUsualSamples};
 ghost use Rattle.sketch_frequencies.specs.Rows.{ShowsExactly, Descends, MissesNone, ShowsNoneBelow};
 ghost use Rattle.sketch_frequencies.specs.Stands.{Encloses, KeepsTailBudget, IsLowerBound, IsUpperBound, IsExactOfFew};
@@ -140,6 +141,62 @@ impl<T: Eq + Hash + Drop> FrequentItemsSketch<T> {
                 estimate: 0,
                 upper_bound: self.error,
             },
+        }
+    }
+
+    /// Writes the bounds and the estimate of each item's weight to `bounds`, with one look-up for each item.
+    ///
+    /// They are those of [`lower_bound`](Self::lower_bound), [`estimate`](Self::estimate) and
+    /// [`upper_bound`](Self::upper_bound). Both slices have the same length. It does not allocate.
+    ///
+    /// # Examples
+    ///
+    /// ```
+    /// use sketch_frequencies::{FrequentItemsSketch, ItemBounds};
+    ///
+    /// fn bounds_of_pages(
+    ///     visits: &FrequentItemsSketch<u64>,
+    ///     pages: &[u64; 4],
+    ///     bounds: &mut [ItemBounds; 4],
+    /// ) {
+    ///     visits.bounds_all(pages, bounds);
+    /// }
+    /// ```
+    #[inline(never)]
+    pub fn bounds_all(&self, items: &[T], bounds: &mut [ItemBounds])
+        requires { length bounds.old ≡ length items.now }
+        ensures value { bounds.new ≡ map (bounds_of T.eq self.now) items.now }
+        ensures bound { AllZip (BoundWeight T.eq self.now) items.now bounds.new }
+    {
+        // The label names the loop for its proof.
+        'each: for i in 0..items.len() {
+            bounds[i] = self.bounds_by_key(&items[i]);
+        }
+    }
+
+    /// Writes the bounds and the estimate of the weight of the item that each key names to `bounds`.
+    ///
+    /// They are those of [`bounds_by_key`](Self::bounds_by_key), with one look-up for each key. Both slices have the same
+    /// length. It does not allocate.
+    ///
+    /// # Examples
+    ///
+    /// ```
+    /// use sketch_frequencies::{FrequentItemsSketch, ItemBounds};
+    ///
+    /// fn bounds_of_fruit(words: &FrequentItemsSketch<String>, bounds: &mut [ItemBounds; 2]) {
+    ///     words.bounds_all_by_key(&["apple", "pear"], bounds);
+    /// }
+    /// ```
+    pub fn bounds_all_by_key<K: ItemKey<T>>(&self, keys: &[K], bounds: &mut [ItemBounds])
+        requires { length bounds.old ≡ length keys.now }
+        ensures value { bounds.new ≡ map (λ key. bounds_by_key (K.names key) self.now) keys.now }
+        ensures bound { AllZip (λ key answer. (x : T) → IsTrue (K.names key x) → BoundWeight T.eq self.now x answer)
+            keys.now bounds.new }
+    {
+        // The label names the loop for its proof.
+        'each: for i in 0..keys.len() {
+            bounds[i] = self.bounds_by_key(keys[i]);
         }
     }
 

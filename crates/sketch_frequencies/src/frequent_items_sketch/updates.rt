@@ -1,7 +1,6 @@
-//! Updates: how items are added.
+//! Updates of one item: how it is added.
 ghost use Rattle.std.specs.Prelude.{◌≡◌, ◌+◌, ◌*◌, ◌<◌, true, false, length, IfErr, IsOk, IsTrue, OnOk, OnErr, IsErrOf};
 ghost use Rattle.sketch_base.specs.Errors.{invalid_argument, no_memory};
-ghost use Rattle.sketch_frequencies.specs.Batches.{UpdatesAll, StopsAt};
 ghost use Rattle.sketch_frequencies.specs.Growth.{MakesRoom, Adds};
 ghost use Rattle.sketch_frequencies.specs.History.FrequentHistory.{Update};
 ghost use Rattle.sketch_frequencies.specs.Stands.{Extends, ExtendsBudget};
@@ -209,44 +208,6 @@ impl<T: Eq + Hash + Drop> FrequentItemsSketch<T> {
         }
         let item = key.to_item(self.map.allocator())?;
         self.track(item, count)?;
-        Ok(())
-    }
-
-    /// Adds 1 to the weight of an item equal to each of these, in order, as [`update_ref`](Self::update_ref) does.
-    ///
-    /// # Errors
-    ///
-    /// Stops at the first item whose update fails, and returns that error of `update_ref`. The items before it stay added. That
-    /// item and the items after it are not added.
-    ///
-    /// # Examples
-    ///
-    /// ```
-    /// use sketch_frequencies::{Error, FrequentItemsSketch};
-    /// use std::alloc::Global;
-    ///
-    /// fn sketch_of_visitors(
-    ///     alloc: Global,
-    ///     visitors: &[u64],
-    /// ) -> Result<FrequentItemsSketch<u64>, Error> {
-    ///     let mut sketch = FrequentItemsSketch::new(alloc, 1024)?;
-    ///     sketch.update_all(visitors)?;
-    ///     Ok(sketch)
-    /// }
-    /// ```
-    pub fn update_all(&mut self, items: &[T]) -> Result<(), Error>
-    where
-        T: Clone,
-        requires clones { (x y : T) → T.is_clone x y → IsTrue (T.eq x y) }
-        ensures updates { OnOk result (UpdatesAll T.eq self.old items.now self.new) }
-        ensures state { IsState T.eq self.new }
-        ensures err { IfErr result (λ e. StopsAt T.eq self.old items.now e self.new) }
-    {
-        // Borrows a field, which brings the invariant of the sketch into the proof.
-        let _ = &self.map;
-        for item in items {
-            self.update_ref(item)?;
-        }
         Ok(())
     }
 

@@ -5,7 +5,7 @@ ghost use Rattle.std.specs.Prelude.{◌<◌};
 
 use sketch_base::{
     Divisor, Error, MurmurHash3X64128, RehashableItem, SketchBytes, SketchSlice, XxHash64,
-    murmur3_of, murmur3_of_u64, xxh64_of,
+    murmur3_of, murmur3_of_str, murmur3_of_u64, xxh64_of, xxh64_of_str,
 };
 use std::alloc::{AllocError, Global};
 use std::hash::Hasher;
@@ -119,6 +119,23 @@ fn hashes_items(rt: HostRuntime) -> Result<(), Fail> {
         murmur3_of(&long, 9001),
     ];
     assert!(rt; hashes_under_seeds(&long) == wanted);
+    Ok(())
+}
+
+/// Returns whether both hashes of a string, straight from its bytes, are those that its `Hash` leads to.
+fn is_hashed_alike(text: &String) -> bool {
+    murmur3_of_str(text.as_str(), 9001) == murmur3_of(text, 9001)
+        && xxh64_of_str(text.as_str(), 9001) == xxh64_of(text, 9001)
+}
+
+#[test]
+fn hashes_strings_of_each_length(rt: HostRuntime) -> Result<(), Fail> {
+    let mut text = String::new(rt.alloc());
+    for letter in "The quick brown fox jumps over the lazy dog, and the dog sleeps on.".chars() {
+        assert!(rt; is_hashed_alike(&text));
+        text.push(letter)?;
+    }
+    assert!(rt; is_hashed_alike(&text));
     Ok(())
 }
 

@@ -7,7 +7,7 @@ use Rattle.counter_table.proofs.LookupProbes.{IsCountAt-found, IsCountAt-other}
 use Rattle.counter_table.proofs.fingerprints.count_at.Goals as goal
 
 pub returns-then-seen-fingerprint : goal.returns-then-seen-fingerprint
-returns-then-seen-fingerprint g c = IsCountAt-other _ _ _ (seen_other c.requires.fingerprints (g.met.K.ItemKey.respects_hash c.args.key) c.args.hash c.args.index c.args.seen c.fingerprint.result c.requires.hash c.fingerprint.ensures c.requires.seen c.if-seen-fingerprint.true)
+returns-then-seen-fingerprint g c = IsCountAt-other _ _ _ (seen_other g.T.Hash.hash_input c.args.slots.now (g.met.K.ItemKey.respects_hash c.args.key) c.args.hash c.args.index c.args.seen c.fingerprint.result c.requires.hash c.fingerprint.ensures c.requires.seen c.if-seen-fingerprint.true)
 
 pub returns-then-names : goal.returns-then-names
 returns-then-names g c =

@@ -1,6 +1,5 @@
 use Rattle.std.proofs.Common.{ℤ, Some, sym, ap, ◌∙◌}
-use Rattle.datasketches_c.specs.FrequentCalls.{Updates}
-use Rattle.datasketches_c.specs.Weights.{AddsWeights}
+use Rattle.datasketches_c.specs.FrequentCalls.{WeighsMany}
 use Rattle.datasketches_c.specs.Kinds.{OnKind, HoldsKind}
 use Rattle.datasketches_c.proofs.AnswerLemmas.{handed_on}
 use Rattle.datasketches_c.proofs.KindLemmas.{changed}
@@ -9,6 +8,6 @@ use Rattle.datasketches_c.proofs.frequent.update_all_weighted.Goals as goal
 -- the sketch was changed, and the handle has it again
 pub returns-in-Some-part_of-clause-call : goal.returns-in-Some-part_of-clause-call
 returns-in-Some-part_of-clause-call g c =
-    let call : ℤ → Type 0 = λ z. OnKind g.bound-5.part c.args.handle.now.value c.give.new.self.value z (λ s. HoldsKind g.bound-5.part c.give.new.self.value (λ t. AddsWeights (Updates g.T.PartialEq.eq) s c.args.items.now c.args.weights.now t z)) in
-    λ same. handed_on call c.add_weighted-answer.result c.add_weighted-answer.type_inv (changed g.bound-5.part (λ s t. AddsWeights (Updates g.T.PartialEq.eq) s c.args.items.now c.args.weights.now t c.add_weighted-answer.result) c.args.handle.now.value c.give.new.self.value c.deref_mut.result.now (g.bound-5.whole c.add_weighted-answer.new.sketch) c.in-Some-part_of.sketch.now c.add_weighted-answer.new.sketch c.add_weighted-answer.result
-    (c.in-Some.ensures.sketch ∙ ap Some (sym c.deref_mut.ensures.value)) c.in-Some-part_of.ensures.which.0 c.give.ensures (g.bound-5-met.back c.add_weighted-answer.new.sketch) c.add_weighted-answer.ensures)
+    let call : ℤ → Type 0 = λ z. OnKind g.bound-5.part c.args.handle.now.value c.give.new.self.value z (λ s. HoldsKind g.bound-5.part c.give.new.self.value (λ t. WeighsMany g.T.PartialEq.eq s c.args.items.now c.args.weights.now t z)) in
+    λ same. handed_on call c.add_all_weighted-answer.result c.add_all_weighted-answer.type_inv (changed g.bound-5.part (λ s t. WeighsMany g.T.PartialEq.eq s c.args.items.now c.args.weights.now t c.add_all_weighted-answer.result) c.args.handle.now.value c.give.new.self.value c.deref_mut.result.now (g.bound-5.whole c.add_all_weighted-answer.new.sketch) c.in-Some-part_of.sketch.now c.add_all_weighted-answer.new.sketch c.add_all_weighted-answer.result
+    (c.in-Some.ensures.sketch ∙ ap Some (sym c.deref_mut.ensures.value)) c.in-Some-part_of.ensures.which.0 c.give.ensures (g.bound-5-met.back c.add_all_weighted-answer.new.sketch) c.add_all_weighted-answer.ensures)

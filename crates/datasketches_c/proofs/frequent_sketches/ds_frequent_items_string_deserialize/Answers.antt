@@ -2,7 +2,7 @@ use Rattle.std.proofs.Common.{rules}
 use Rattle.std.specs.String.{string_bytes}
 use Rattle.counter_table.specs.Bytes.{table_bytes}
 use Rattle.sketch_frequencies.specs.Items.{text_codec}
-use Rattle.datasketches_c.specs.FrequentTextImages.{text_row}
+use Rattle.datasketches_c.specs.FrequentStringImages.{string_row}
 use Rattle.datasketches_c.proofs.Reading.{items_not_read}
 use Rattle.datasketches_c.proofs.frequent_sketches.ds_frequent_items_string_deserialize.Goals as goal
 
@@ -10,4 +10,4 @@ use Rattle.datasketches_c.proofs.frequent_sketches.ds_frequent_items_string_dese
 pub returns : goal.returns
 unfolding table_bytes
 returns c =
-    record { done = search rules; refused = search (rules, items_not_read text_row text_codec (λ text. string_bytes text) c.args.max_bytes c.args.image.now c.deserialize_with_limit-read.result c.put_made.result _ c.deserialize_with_limit-read.ensures.image c.deserialize_with_limit-read.ensures.accepted c.deserialize_with_limit-read.ensures.err c.put_made.ensures.refused) }
+    record { done = search rules; refused = search (rules, items_not_read string_row text_codec (λ item. string_bytes item) c.args.max_bytes c.args.image.now c.deserialize_with_limit-read.result c.put_made.result _ c.deserialize_with_limit-read.ensures.image c.deserialize_with_limit-read.ensures.accepted c.deserialize_with_limit-read.ensures.err c.put_made.ensures.refused) }

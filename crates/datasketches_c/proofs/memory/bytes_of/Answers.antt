@@ -3,9 +3,9 @@ use Rattle.counter_table.specs.Bytes.{table_bytes}
 use Rattle.datasketches_c.proofs.memory.bytes_of.Goals as goal
 
 -- the bytes of a slot are those of the type
-pub returns-in-FrequentTexts : goal.returns-in-FrequentTexts
+pub returns-in-FrequentStrings : goal.returns-in-FrequentStrings
 unfolding table_bytes
-returns-in-FrequentTexts c = search rules
+returns-in-FrequentStrings c = search rules
 
 pub returns-in-FrequentI64 : goal.returns-in-FrequentI64
 unfolding table_bytes

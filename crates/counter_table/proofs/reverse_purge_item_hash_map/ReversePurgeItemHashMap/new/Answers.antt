@@ -1,15 +1,13 @@
 use Rattle.std.proofs.Common.{ap, sym, length}
 use Rattle.counter_table.proofs.InsertionCounts.{table_is}
 use Rattle.counter_table.proofs.GrowthMoves.{IsSlots-made, made_free}
-use Rattle.counter_table.proofs.LookupFingerprints.{fingerprints_free}
 use Rattle.counter_table.proofs.reverse_purge_item_hash_map.ReversePurgeItemHashMap.new.Goals as goal
 
 pub invariant_of-result : goal.invariant_of-result
 invariant_of-result g c = record {
-  slots_ok = IsSlots-made g.T.PartialEq.eq g.T.Hash.hash_input _ _ c.in_ok-slots.ensures.ok (record { power = c.requires.power; limit = c.requires.limit });
-  fingerprints_ok = let free = made_free _ _ c.in_ok-slots.ensures.ok in fingerprints_free g.T.Hash.hash_input _ _ c.args.map_size free.0 free.1 c.in_ok-fingerprints.ensures.ok;
-  active_is = sym (ap length (made_free _ _ c.in_ok-slots.ensures.ok).0);
+  slots_ok = IsSlots-made g.T.PartialEq.eq g.T.Hash.hash_input _ _ c.in_ok-table.ensures.ok (record { power = c.requires.power; limit = c.requires.limit });
+  active_is = sym (ap length (made_free _ _ c.in_ok-table.ensures.ok).0);
 }
 
 pub returns-clause-ok : goal.returns-clause-ok
-returns-clause-ok g c = let free = made_free _ _ c.in_ok-slots.ensures.ok in table_is _ _ free.0 free.1
+returns-clause-ok g c = let free = made_free _ _ c.in_ok-table.ensures.ok in table_is _ _ free.0 free.1

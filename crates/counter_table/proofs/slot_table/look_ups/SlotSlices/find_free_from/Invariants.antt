@@ -1,0 +1,17 @@
+use Rattle.std.proofs.Common.{◌≡◌, ℕ, ◌<◌, ◌-◌, length, true}
+use Rattle.counter_table.specs.Homes.{home_in, ahead}
+use Rattle.counter_table.specs.Slots.{is_taken}
+use Rattle.counter_table.proofs.LookupHomes.{Stands}
+use Rattle.counter_table.proofs.slot_table.look_ups.SlotSlices.find_free_from.Given as goal
+
+-- the indices so far are taken
+abbrev pub invariant-probe : goal.invariant-probe
+invariant-probe g l =
+    let h = home_in g.T.Hash.hash_input (length l.self) l._item in
+    record {
+      stands : Stands g.T.Hash.hash_input l._item (length l.self) l.index l.probed;
+      taken : (j : ℕ) → j < l.probed → is_taken l.self (ahead (length l.self) h j) ≡ true;
+    }
+
+abbrev pub decreases-probe : goal.decreases-probe
+decreases-probe g l = length l.self - l.probed

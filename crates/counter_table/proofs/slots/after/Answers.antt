@@ -1,5 +1,0 @@
-use Rattle.counter_table.proofs.LookupHomes.{after_masked}
-use Rattle.counter_table.proofs.slots.after.Goals as goal
-
-pub returns : goal.returns
-returns c = after_masked _ _ _ c.requires.size

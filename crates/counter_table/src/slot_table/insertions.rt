@@ -1,0 +1,193 @@
+//! Insertions, and additions to counts.
+ghost use Rattle.std.specs.Prelude.{◌≡◌, ◌+◌, ◌<◌, ◌^◌, true, false, not, length, IfOk, IfErr, OnOk, OnErr, IsOk, IsTrue, IsPermutation};
+ghost use Rattle.sketch_base.specs.Errors.{no_memory};
+ghost use Rattle.counter_table.specs.Fingerprints.{hash_in};
+ghost use Rattle.counter_table.specs.Homes.{home_in};
+ghost use Rattle.counter_table.specs.Probes.{IsFreeSlot};
+ghost use Rattle.counter_table.specs.Slots.{IsSlots, CountHasRoom, AddsAt, entries_of};
+ghost use Rattle.counter_table.specs.Tables.{count_by_key, count_of, is_tracked_by_key, is_tracked, put, PutsByKey};
+
+use crate::fingerprints::{fingerprint, hash_of};
+use crate::item_key::{ItemKey, OwnedKey};
+use crate::slot::Slot;
+use crate::slot_table::SlotTable;
+use sketch_base::Error;
+use std::hash::Hash;
+
+impl<T: Eq + Hash + Drop> SlotTable<T> {
+    /// Adds to the count of the item that the key names if it has one, and returns whether it has.
+    #[inline(always)]
+    pub(crate) fn adjust<K: ItemKey<T>>(&mut self, key: K, amount: u64) -> bool
+        requires slots { IsSlots T.eq T.hash_input self.old }
+        requires fits { is_tracked_by_key (K.names key) (entries_of self.old) ≡ true
+            → count_by_key (K.names key) (entries_of self.old) + amount < 2 ^ 64 }
+        ensures tracked { result ≡ is_tracked_by_key (K.names key) (entries_of self.old) }
+        ensures slots { IsSlots T.eq T.hash_input self.new }
+        ensures present { result ≡ true → (x : T) → IsTrue (K.names key x)
+            → IsPermutation (put T.eq (entries_of self.old) x amount) (entries_of self.new) }
+        ensures absent { result ≡ false → self.new ≡ self.old }
+        ensures size { length self.new ≡ length self.old }
+    {
+        let hash = hash_of::<T, K>(key);
+        let probe = self.as_slices().find_from(key, hash);
+        match probe.found {
+            Some(_) => {
+                self.add_at(probe.index, amount);
+                true
+            }
+            None => false,
+        }
+    }
+
+    /// Inserts an item that is absent into the first free slot from its home on.
+    #[inline(always)]
+    pub(crate) fn insert(&mut self, item: T, amount: u64)
+        requires slots { IsSlots T.eq T.hash_input self.old }
+        requires absent { is_tracked T.eq (entries_of self.old) item ≡ false }
+        requires room { length (entries_of self.old) + 1 < length self.old }
+        ensures slots { IsSlots T.eq T.hash_input self.new }
+        ensures entries { IsPermutation (put T.eq (entries_of self.old) item amount) (entries_of self.new) }
+        ensures size { length self.new ≡ length self.old }
+    {
+        let hash = hash_of::<T, &T>(&item);
+        let free_slot = self.as_slices().find_free(&item, hash);
+        self.fill(free_slot.index, free_slot.probed, item, amount, hash);
+    }
+
+    /// Adds to the item's count, or puts the item into the free slot where its look-up ended. Returns whether it was put.
+    #[inline(always)]
+    pub(crate) fn put(&mut self, item: T, amount: u64) -> bool
+        requires slots { IsSlots T.eq T.hash_input self.old }
+        requires room { is_tracked T.eq (entries_of self.old) item ≡ false
+            → length (entries_of self.old) + 1 < length self.old }
+        requires fits { is_tracked T.eq (entries_of self.old) item ≡ true
+            → count_of T.eq (entries_of self.old) item + amount < 2 ^ 64 }
+        ensures tracked { is_tracked T.eq (entries_of self.old) item ≡ not result }
+        ensures slots { IsSlots T.eq T.hash_input self.new }
+        ensures entries { IsPermutation (put T.eq (entries_of self.old) item amount) (entries_of self.new) }
+        ensures size { length self.new ≡ length self.old }
+    {
+        let hash = hash_of::<T, &T>(&item);
+        let probe = self.as_slices().find_from(&item, hash);
+        match probe.found {
+            Some(_) => {
+                self.add_at(probe.index, amount);
+                false
+            }
+            None => {
+                self.fill(probe.index, probe.probed, item, amount, hash);
+                true
+            }
+        }
+    }
+
+    /// Adds to the item's count, or puts a clone of the item into the free slot where its look-up ended.
+    ///
+    /// Returns whether the clone was put. Clones the item only then. Clones have to equal their originals.
+    ///
+    /// # Errors
+    ///
+    /// Returns `NoMemory` if the clone cannot be allocated. The table is then unchanged.
+    #[inline(always)]
+    pub(crate) fn put_clone(&mut self, item: &T, amount: u64) -> Result<bool, Error>
+    where
+        T: Clone,
+        requires clones { (x y : T) → T.is_clone x y → IsTrue (T.eq x y) }
+        requires slots { IsSlots T.eq T.hash_input self.old }
+        requires room { is_tracked T.eq (entries_of self.old) item.now ≡ false
+            → length (entries_of self.old) + 1 < length self.old }
+        requires fits { is_tracked T.eq (entries_of self.old) item.now ≡ true
+            → count_of T.eq (entries_of self.old) item.now + amount < 2 ^ 64 }
+        ensures tracked { IfOk result (λ put. is_tracked T.eq (entries_of self.old) item.now ≡ not put) }
+        ensures slots { IsSlots T.eq T.hash_input self.new }
+        ensures entries { OnOk result (PutsByKey T.eq (T.eq item.now) (entries_of self.old) amount (entries_of self.new)) }
+        ensures size { length self.new ≡ length self.old }
+        ensures err { OnErr result (self.new ≡ self.old) }
+        ensures memory { IfErr result (λ e. e ≡ no_memory) }
+        ensures succeeds { is_tracked T.eq (entries_of self.old) item.now ≡ true → IsOk result }
+    {
+        let hash = hash_of::<T, &T>(item);
+        let probe = self.as_slices().find_from(item, hash);
+        match probe.found {
+            Some(_) => {
+                self.add_at(probe.index, amount);
+                Ok(false)
+            }
+            None => {
+                let item = item.clone()?;
+                self.fill(probe.index, probe.probed, item, amount, hash);
+                Ok(true)
+            }
+        }
+    }
+
+    /// Adds to the count of the item that the key names, or puts the item into the free slot where its look-up ended.
+    ///
+    /// Returns whether the item was put. Creates and allocates it only then.
+    ///
+    /// # Errors
+    ///
+    /// Returns `NoMemory` if the item cannot be allocated. The table is then unchanged.
+    #[inline(always)]
+    pub(crate) fn put_by_key<K: OwnedKey<T>>(&mut self, key: K, amount: u64) -> Result<bool, Error>
+        requires slots { IsSlots T.eq T.hash_input self.old }
+        requires room { is_tracked_by_key (K.names key) (entries_of self.old) ≡ false
+            → length (entries_of self.old) + 1 < length self.old }
+        requires fits { is_tracked_by_key (K.names key) (entries_of self.old) ≡ true
+            → count_by_key (K.names key) (entries_of self.old) + amount < 2 ^ 64 }
+        ensures tracked { IfOk result (λ put. is_tracked_by_key (K.names key) (entries_of self.old) ≡ not put) }
+        ensures slots { IsSlots T.eq T.hash_input self.new }
+        ensures entries { OnOk result (PutsByKey T.eq (K.names key) (entries_of self.old) amount (entries_of self.new)) }
+        ensures size { length self.new ≡ length self.old }
+        ensures err { OnErr result (self.new ≡ self.old) }
+        ensures memory { IfErr result (λ e. e ≡ no_memory) }
+        ensures succeeds { is_tracked_by_key (K.names key) (entries_of self.old) ≡ true → IsOk result }
+    {
+        let hash = hash_of::<T, K>(key);
+        let probe = self.as_slices().find_from(key, hash);
+        match probe.found {
+            Some(_) => {
+                self.add_at(probe.index, amount);
+                Ok(false)
+            }
+            None => {
+                let item = key.to_item(self.allocator())?;
+                self.fill(probe.index, probe.probed, item, amount, hash);
+                Ok(true)
+            }
+        }
+    }
+
+    /// Adds to the count in a slot.
+    #[inline(always)]
+    fn add_at(&mut self, index: usize, amount: u64)
+        requires index { index < length self.old }
+        requires fits { CountHasRoom self.old index amount }
+        ensures adds { AddsAt self.old index amount self.new }
+        ensures size { length self.new ≡ length self.old }
+    {
+        if let Slot::Taken { count, .. } = &mut self.slots[index] {
+            *count += amount;
+        }
+    }
+
+    /// Writes an item that is absent, its count and its fingerprint to the first free slot from its home on.
+    #[inline(always)]
+    fn fill(&mut self, index: usize, probed: usize, item: T, amount: u64, hash: u64)
+        requires slots { IsSlots T.eq T.hash_input self.old }
+        requires absent { is_tracked T.eq (entries_of self.old) item ≡ false }
+        requires room { length (entries_of self.old) + 1 < length self.old }
+        requires free { IsFreeSlot (home_in T.hash_input (length self.old) item) self.old index probed }
+        requires hash { hash ≡ hash_in T.hash_input item }
+        ensures slots { IsSlots T.eq T.hash_input self.new }
+        ensures entries { IsPermutation (put T.eq (entries_of self.old) item amount) (entries_of self.new) }
+        ensures size { length self.new ≡ length self.old }
+    {
+        self.slots[index] = Slot::Taken {
+            drift: probed as u32,
+            count: amount,
+            item,
+        };
+        self.fingerprints[index] = fingerprint(hash);
+    }
+}

@@ -1,0 +1,183 @@
+//! Look-ups: linear probing from an item's home on, wrapping around at the end.
+//!
+//! Every index from an entry's home to its slot is taken, so a look-up may end at the first free slot.
+ghost use Rattle.std.specs.Prelude.{◌≡◌, ◌<◌, false, length, map, not};
+ghost use Rattle.counter_table.specs.Fingerprints.{hash_in};
+ghost use Rattle.counter_table.specs.Homes.{home_in};
+ghost use Rattle.counter_table.specs.Probes.{IsProbe, IsFreeSlot};
+ghost use Rattle.counter_table.specs.Slots.{IsTableSize, IsSlots, entries_of, is_taken};
+ghost use Rattle.counter_table.specs.Tables.{count_of};
+
+use crate::fingerprints::{FREE, count_at, hash_of, home, probe_at};
+use crate::indices::next;
+use crate::item_key::ItemKey;
+use crate::slot::Slot;
+use crate::slot_table::SlotTable;
+use std::hash::Hash;
+use std::marker::Model;
+
+/// The end of a look-up: the item's slot, with its count, or the free slot where the item goes.
+#[derive(Drop)]
+pub(crate) struct Probe {
+    pub(crate) index: usize,
+    pub(crate) found: Option<u64>,
+    pub(crate) probed: usize,
+}
+
+/// The first free slot from an item's home on, and the number of slots that were probed to find it.
+#[derive(Drop)]
+pub(crate) struct FreeSlot {
+    pub(crate) index: usize,
+    pub(crate) probed: usize,
+}
+
+/// The slots of a table and their fingerprints, borrowed for look-ups.
+///
+/// Contracts see the list of the slots. A loop of look-ups holds both slices, and does not read them from the table each time.
+#[derive(Drop)]
+pub(crate) struct SlotSlices<'a, T: Eq + Hash> {
+    pub(crate) slots: &'a [Slot<T>],
+    pub(crate) fingerprints: &'a [u8],
+}
+
+impl<'a, T: Eq + Hash> Model for SlotSlices<'a, T> {
+    ghost use Rattle.std.specs.Prelude.{List};
+    ghost use Rattle.counter_table.specs.declared.slot.Slot.{Slot};
+
+    ghost Value = { List (Slot T) };
+
+    ghost use Rattle.counter_table.specs.Fingerprints.{AreFingerprints};
+
+    ghost view = { λ a. a.slots.now };
+
+    ghost invariant = { λ a. AreFingerprints T.hash_input a.slots.now a.fingerprints.now };
+}
+
+impl<'a, T: Eq + Hash> SlotSlices<'a, T> {
+    /// Looks up the item that the key names, from its home slot on.
+    #[inline(always)]
+    pub(crate) fn find<K: ItemKey<T>>(&self, key: K) -> Probe
+        requires { IsSlots T.eq T.hash_input self.now }
+        ensures { IsProbe (K.names key) (home_in K.hash_input (length self.now) key) self.now
+            result.index result.found result.probed }
+    {
+        self.find_from(key, hash_of::<T, K>(key))
+    }
+
+    /// Looks up the item that the key names, from its home slot on, with the key's hash.
+    #[inline(always)]
+    pub(crate) fn find_from<K: ItemKey<T>>(&self, key: K, hash: u64) -> Probe
+        requires slots { IsSlots T.eq T.hash_input self.now }
+        requires hash { hash ≡ hash_in K.hash_input key }
+        ensures { IsProbe (K.names key) (home_in K.hash_input (length self.now) key) self.now
+            result.index result.found result.probed }
+    {
+        let slots = self.slots;
+        let fingerprints = self.fingerprints;
+        let size = slots.len();
+        let mut index = home(hash, size);
+        let mut probed = 0;
+        'probe: loop {
+            let seen = probe_at(fingerprints, index, &mut probed);
+            if seen == FREE {
+                return Probe {
+                    index,
+                    found: None,
+                    probed,
+                };
+            }
+            let found = count_at(slots, key, hash, index, seen);
+            if found.is_some() {
+                return Probe {
+                    index,
+                    found,
+                    probed,
+                };
+            }
+            index = next(index, size);
+        }
+    }
+
+    /// Finds the first free slot from the home of an item with this hash on.
+    #[inline(always)]
+    pub(crate) fn find_free(&self, item: &T, hash: u64) -> FreeSlot
+        requires size { IsTableSize (length self.now) }
+        requires room { length (entries_of self.now) < length self.now }
+        requires hash { hash ≡ hash_in T.hash_input item.now }
+        ensures { IsFreeSlot (home_in T.hash_input (length self.now) item.now) self.now result.index result.probed }
+    {
+        self.find_free_from(item, home(hash, self.slots.len()))
+    }
+
+    /// Finds the first free slot from the home of an item on.
+    #[inline(always)]
+    pub(crate) fn find_free_from(&self, _item: &T, home: usize) -> FreeSlot
+        requires size { IsTableSize (length self.now) }
+        requires room { length (entries_of self.now) < length self.now }
+        requires home { home ≡ home_in T.hash_input (length self.now) _item.now }
+        ensures { IsFreeSlot (home_in T.hash_input (length self.now) _item.now) self.now result.index result.probed }
+    {
+        let fingerprints = self.fingerprints;
+        let size = self.slots.len();
+        let mut index = home;
+        let mut probed = 0;
+        'probe: loop {
+            if probe_at(fingerprints, index, &mut probed) == FREE {
+                return FreeSlot { index, probed };
+            }
+            index = next(index, size);
+        }
+    }
+
+    /// Returns the count of an item, 0 if it is absent.
+    #[inline(always)]
+    fn count(&self, item: &T) -> u64
+        requires { IsSlots T.eq T.hash_input self.now }
+        ensures { result ≡ count_of T.eq (entries_of self.now) item.now }
+    {
+        self.find(item).found.unwrap_or(0)
+    }
+}
+
+impl<T: Eq + Hash + Drop> SlotTable<T> {
+    /// Writes the count of each item to `counts`, 0 if it is absent.
+    ///
+    /// It is not inlined, so that its loops have the processor's registers to themselves.
+    #[inline(never)]
+    pub(crate) fn counts_of(&self, items: &[T], counts: &mut [u64])
+        requires slots { IsSlots T.eq T.hash_input self.now }
+        requires same { length counts.old ≡ length items.now }
+        ensures { counts.new ≡ map (count_of T.eq (entries_of self.now)) items.now }
+    {
+        let slices = self.as_slices();
+        // The label names the loop for its proof.
+        'each: for i in 0..items.len() {
+            counts[i] = slices.count(&items[i]);
+        }
+    }
+}
+
+/// Returns whether a slot is free.
+#[inline(always)]
+pub(crate) fn is_free<T>(slots: &[Slot<T>], index: usize) -> bool
+    requires { index < length slots.now }
+    ensures { result ≡ not (is_taken slots.now index) }
+{
+    match &slots[index] {
+        Slot::Taken { .. } => false,
+        Slot::Free => true,
+    }
+}
+
+/// Returns the index of the last free slot.
+pub(crate) fn last_free<T>(slots: &[Slot<T>]) -> usize
+    requires { length (entries_of slots.now) < length slots.now }
+    ensures below { result < length slots.now }
+    ensures free { is_taken slots.now result ≡ false }
+{
+    let mut index = slots.len() - 1;
+    while !is_free(slots, index) {
+        index -= 1;
+    }
+    index
+}

@@ -1,0 +1,158 @@
+//! Purges: a middle count of a sample, and one sweep that subtracts it from every count.
+//!
+//! The sweep shifts each entry that stays back to the first free slot from its home on. Deletions by backward shift, one by one
+//! from the highest index down, would move it to the same slot.
+ghost use Rattle.std.specs.Prelude.{◌≡◌, ◌+◌, ◌<◌, ◌≤◌, false, not, length, map, take, IsPermutation};
+ghost use Rattle.counter_table.specs.Fingerprints.{AreFingerprints};
+ghost use Rattle.counter_table.specs.Homes.{home_in};
+ghost use Rattle.counter_table.specs.Settled.{HasDrift, Settles};
+ghost use Rattle.counter_table.specs.Slots.{IsTableSize, IsSlots, entries_of};
+ghost use Rattle.counter_table.specs.Tables.{purged, IsSampleMiddle};
+
+use crate::fingerprints::FREE;
+use crate::indices::{after, before};
+use crate::sizes::MAX_SAMPLE_SIZE;
+use crate::slot::Slot;
+use crate::slot_table::SlotTable;
+use crate::slot_table::look_ups::{FreeSlot, SlotSlices, last_free};
+use std::hash::Hash;
+use std::mem;
+
+/// The maximum number of counts of a small sample.
+const SMALL_SAMPLE_SIZE: usize = 64;
+
+impl<T: Eq + Hash + Drop> SlotTable<T> {
+    /// Returns a middle count of the first `size` entries.
+    ///
+    /// The buffer of a sample is cleared before it is filled, and a small sketch is purged often. So a small sample has a smaller
+    /// buffer.
+    pub(crate) fn middle_of(&self, size: usize) -> u64
+        requires some { 0 < size }
+        requires few { size ≤ 1024 }
+        requires active { size ≤ length (entries_of self.now) }
+        ensures { IsSampleMiddle size (entries_of self.now) result }
+    {
+        if size <= SMALL_SAMPLE_SIZE {
+            middle_in::<T, SMALL_SAMPLE_SIZE>(&self.slots, size)
+        } else {
+            middle_in::<T, MAX_SAMPLE_SIZE>(&self.slots, size)
+        }
+    }
+
+    /// Subtracts `amount` from each count, removes the entries at or below it, and returns the number of removed entries.
+    #[inline(always)]
+    pub(crate) fn lower(&mut self, amount: u64) -> usize
+        requires slots { IsSlots T.eq T.hash_input self.old }
+        ensures slots { IsSlots T.eq T.hash_input self.new }
+        ensures entries { IsPermutation (purged amount (entries_of self.old)) (entries_of self.new) }
+        ensures removed { result + length (entries_of self.new) ≡ length (entries_of self.old) }
+        ensures size { length self.new ≡ length self.old }
+    {
+        sweep(&mut self.slots, &mut self.fingerprints, amount)
+    }
+}
+
+/// Subtracts `amount` from each count, removes the entries at or below it, and returns the number of removed entries.
+///
+/// The sweep goes up from the index after a free slot, and wraps around. An entry after that slot also has its home after it.
+/// So all indices from an entry's home to its slot are settled before the entry is. The entries that stay get the slots that
+/// they would get if they were inserted into an empty table in this order.
+fn sweep<T: Eq + Hash + Drop>(slots: &mut [Slot<T>], fingerprints: &mut [u8], amount: u64) -> usize
+    requires slots { IsSlots T.eq T.hash_input slots.old }
+    requires fingerprints { AreFingerprints T.hash_input slots.old fingerprints.old }
+    ensures slots { IsSlots T.eq T.hash_input slots.new }
+    ensures entries { IsPermutation (purged amount (entries_of slots.old)) (entries_of slots.new) }
+    ensures removed { result + length (entries_of slots.new) ≡ length (entries_of slots.old) }
+    ensures fingerprints { AreFingerprints T.hash_input slots.new fingerprints.new }
+{
+    let size = slots.len();
+    let free = last_free(slots);
+    let mut removed = 0;
+    for on in 1..size {
+        let index = after(free, on, size);
+        if settle(slots, fingerprints, index, amount) {
+            removed += 1;
+        }
+    }
+    removed
+}
+
+/// Subtracts `amount` from the count in a slot, if the count is greater, and moves the entry to the first free slot from its
+/// home on. Its own slot is the last possible one. Otherwise frees the slot. Returns whether an entry was dropped.
+#[inline(always)]
+fn settle<T: Eq + Hash + Drop>(
+    slots: &mut [Slot<T>],
+    fingerprints: &mut [u8],
+    index: usize,
+    amount: u64,
+) -> bool
+    requires size { IsTableSize (length slots.old) }
+    requires fingerprints { AreFingerprints T.hash_input slots.old fingerprints.old }
+    requires index { index < length slots.old }
+    requires drift { HasDrift (home_in T.hash_input (length slots.old)) slots.old index }
+    ensures slots { Settles (home_in T.hash_input (length slots.old)) slots.old index amount result slots.new }
+    ensures fingerprints { AreFingerprints T.hash_input slots.new fingerprints.new }
+{
+    let size = slots.len();
+    let moving = fingerprints[index];
+    fingerprints[index] = FREE;
+    match mem::replace(&mut slots[index], Slot::Free) {
+        Slot::Free => false,
+        Slot::Taken { drift, count, item } => {
+            if count <= amount {
+                return true;
+            }
+            let home = before(index, drift as usize - 1, size);
+            let slices = SlotSlices {
+                slots,
+                fingerprints,
+            };
+            let FreeSlot { index: to, probed } = slices.find_free_from(&item, home);
+            slots[to] = Slot::Taken {
+                drift: probed as u32,
+                count: count - amount,
+                item,
+            };
+            fingerprints[to] = moving;
+            false
+        }
+    }
+}
+
+/// Returns a middle count of the first `size` entries, with a buffer of `N` counts.
+fn middle_in<T, const N: usize>(slots: &[Slot<T>], size: usize) -> u64
+    requires some { 0 < size }
+    requires few { size ≤ N }
+    requires room { N ≤ 1024 }
+    requires active { size ≤ length (entries_of slots.now) }
+    ensures { IsSampleMiddle size (entries_of slots.now) result }
+{
+    let mut room = [0; N];
+    let sample = &mut room[..size];
+    gather_counts(slots, &0, sample);
+    let (_, middle, _) = sample.select_nth_unstable(size / 2);
+    *middle
+}
+
+/// Copies the counts of the first entries to `counts`, until it is full.
+///
+/// A free slot writes `none`, which the next count overwrites, so that no branch depends on the slot. The compiler might add a
+/// branch if `none` were a number of its own. So it is a reference, and the function is not inlined.
+#[inline(never)]
+fn gather_counts<T>(slots: &[Slot<T>], none: &u64, counts: &mut [u64])
+    requires { length counts.old ≤ length (entries_of slots.now) }
+    ensures { counts.new ≡ map (λ e. e.1) (take (length counts.old) (entries_of slots.now)) }
+{
+    let mut gathered = 0;
+    for slot in slots {
+        if gathered >= counts.len() {
+            break;
+        }
+        let (count, taken) = match slot {
+            Slot::Taken { count, .. } => (count, 1),
+            Slot::Free => (none, 0),
+        };
+        counts[gathered] = *count;
+        gathered += taken;
+    }
+}

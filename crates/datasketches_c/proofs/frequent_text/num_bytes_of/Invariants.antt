@@ -1,8 +1,0 @@
-use Rattle.std.proofs.Common.{◌≡◌, length, take}
-use Rattle.std.specs.List.{concat}
-use Rattle.datasketches_c.specs.FrequentTextRows.{row_texts}
-use Rattle.datasketches_c.proofs.frequent_text.num_bytes_of.Given as goal
-
--- the bytes of the texts so far
-abbrev pub invariant-each : goal.invariant-each
-invariant-each l = l.total ≡ length (concat (take l.i (row_texts l.rows)))

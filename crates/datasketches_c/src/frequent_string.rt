@@ -1,0 +1,222 @@
+//! Sketches of frequent strings: updates and bounds of one string or many, and reports.
+ghost use Rattle.std.specs.List.{concat};
+ghost use Rattle.std.specs.Prelude.{◌≡◌, ◌≢◌, ◌+◌, length, ◌≤◌, ◌^◌, MatchOption};
+ghost use Rattle.datasketches_c.specs.FrequentBatches.{AreBoundsOfString, AreBoundsOfStrings};
+ghost use Rattle.datasketches_c.specs.FrequentRows.{error_type};
+ghost use Rattle.datasketches_c.specs.FrequentStringRows.{LeavesStringRows, ReportsStrings, WritesStringRows, row_strings};
+ghost use Rattle.datasketches_c.specs.FrequentStrings.{UpdatesString};
+ghost use Rattle.datasketches_c.specs.InTurn.{CallsInTurn};
+ghost use Rattle.datasketches_c.specs.Kinds.{HoldsFrequentStrings, OnFrequentStrings};
+ghost use Rattle.datasketches_c.specs.Numbers.{OnDone, OnRefused, ok, no_room, refusal_number};
+ghost use Rattle.datasketches_c.specs.Strings.{offsets_from};
+
+use crate::frequent::FrequentBounds;
+use crate::frequent_rows::{copy_bounds, error_type_of};
+use crate::handle::SketchHandle;
+use crate::kind::on_kind;
+use crate::status_code::{NO_ROOM, OK, refusal_number};
+use crate::strings::Strings;
+use sketch_base::Fault;
+use sketch_frequencies::{FrequentItemsSketch, Row};
+use std::alloc::Global;
+
+/// Adds a weight to a string's. Returns the result's number. Allocates only if the string is not tracked.
+pub(crate) fn update_string(
+    alloc: Global,
+    sketch: &mut FrequentItemsSketch<String>,
+    item: &str,
+    weight: u64,
+) -> i32
+    ensures updates { UpdatesString sketch.old item.now weight sketch.new result }
+    ensures done { OnDone result (result ≡ ok) }
+    ensures refused { OnRefused result (sketch.new ≡ sketch.old) }
+{
+    match sketch.update_with_count_by_key(item, weight) {
+        Ok(()) => OK,
+        Err(error) => refusal_number(error.fault()),
+    }
+}
+
+/// Returns the bounds of a string's weight, with one look-up. It does not allocate: the allocator is for its proof alone.
+fn bounds_by_key(
+    _alloc: Global,
+    sketch: &FrequentItemsSketch<String>,
+    string: &str,
+) -> FrequentBounds
+    ensures { AreBoundsOfString sketch.now string.now result }
+{
+    let bounds = sketch.bounds_by_key(string);
+    FrequentBounds {
+        lower_bound: bounds.lower_bound,
+        estimate: bounds.estimate,
+        upper_bound: bounds.upper_bound,
+    }
+}
+
+/// Writes the bounds and the estimate of a string's weight. Does not allocate.
+pub(crate) fn bounds_of_string(
+    alloc: Global,
+    sketch: &FrequentItemsSketch<String>,
+    item: &str,
+    bounds: &mut FrequentBounds,
+) -> i32
+    ensures { (result ≡ ok) × AreBoundsOfString sketch.now item.now bounds.new }
+{
+    *bounds = bounds_by_key(alloc, sketch, item);
+    OK
+}
+
+/// Adds 1 to the weight of each string, in order. Returns the first error. Then the strings before it are
+/// added, and no others.
+pub(crate) fn update_strings<S: Strings>(
+    alloc: Global,
+    sketch: &mut FrequentItemsSketch<String>,
+    strings: &S,
+) -> i32
+    ensures { CallsInTurn (λ s string t answer. UpdatesString s string 1 t answer) sketch.old (S.list strings.now) sketch.new result }
+{
+    let count = strings.count();
+    'each: for i in 0..count {
+        let answer = update_string(alloc, sketch, strings.at(i), 1);
+        if answer != OK {
+            return answer;
+        }
+    }
+    OK
+}
+
+/// Writes the bounds and the estimate of each string's weight. Does not allocate.
+pub(crate) fn bounds_of_strings<S: Strings>(
+    alloc: Global,
+    sketch: &FrequentItemsSketch<String>,
+    strings: &S,
+    bounds: &mut [FrequentBounds],
+) -> i32
+    requires { length bounds.old ≡ length (S.list strings.now) }
+    ensures { (result ≡ ok) × AreBoundsOfStrings sketch.now (S.list strings.now) bounds.new }
+{
+    let count = strings.count();
+    'each: for i in 0..count {
+        bounds[i] = bounds_by_key(alloc, sketch, strings.at(i));
+    }
+    OK
+}
+
+/// Adds 1 to the weight of each string in the sketch of a handle, in order.
+pub(crate) fn update_all_strings<S: Strings>(
+    alloc: Global,
+    handle: &mut SketchHandle,
+    strings: &S,
+) -> i32
+    ensures { OnFrequentStrings handle.old.value handle.new.value result (λ s.
+        HoldsFrequentStrings handle.new.value (λ t.
+        CallsInTurn (λ s string t answer. UpdatesString s string 1 t answer) s (S.list strings.now) t result)) }
+{
+    on_kind!(alloc, handle, FrequentItemsSketch<String>, sketch => update_strings(alloc, sketch, strings))
+}
+
+/// Writes the bounds and the estimate of each string's weight in the sketch of a handle. Does not allocate.
+pub(crate) fn bounds_all_strings<S: Strings>(
+    alloc: Global,
+    handle: &mut SketchHandle,
+    strings: &S,
+    bounds: &mut [FrequentBounds],
+) -> i32
+    requires { length bounds.old ≡ length (S.list strings.now) }
+    ensures kept { handle.new.value ≡ handle.old.value }
+    ensures bounds { OnFrequentStrings handle.old.value handle.new.value result (λ s.
+        (result ≡ ok) × AreBoundsOfStrings s (S.list strings.now) bounds.new) }
+    ensures untouched { result ≢ ok → bounds.new ≡ bounds.old }
+{
+    on_kind!(alloc, handle, FrequentItemsSketch<String>, sketch => bounds_of_strings(alloc, sketch, strings, bounds))
+}
+
+/// Returns the number of bytes of all strings of rows, or `None` if it is 2^64 or more.
+fn num_bytes_of(rows: &[Row<String>]) -> Option<usize>
+    ensures { MatchOption result (2 ^ 64 ≤ length (concat (row_strings rows.now))) (λ n. n ≡ length (concat (row_strings rows.now))) }
+{
+    let mut total: usize = 0;
+    'each: for i in 0..rows.len() {
+        let length = rows[i].item().as_bytes().len();
+        if length > usize::MAX - total {
+            return None;
+        }
+        total += length;
+    }
+    Some(total)
+}
+
+/// Writes the strings of rows one after another, and their offsets: where each string begins, and where the last one
+/// ends.
+fn copy_strings(rows: &[Row<String>], bytes: &mut [u8], offsets: &mut [u64])
+    requires bytes { length bytes.old ≡ length (concat (row_strings rows.now)) }
+    requires offsets { length offsets.old ≡ length rows.now + 1 }
+    ensures bytes { bytes.new ≡ concat (row_strings rows.now) }
+    ensures offsets { offsets.new ≡ offsets_from 0 (row_strings rows.now) }
+{
+    let mut end: usize = 0;
+    offsets[0] = 0;
+    'each: for i in 0..rows.len() {
+        let string = rows[i].item().as_bytes();
+        let next = end + string.len();
+        bytes[end..next].copy_from_slice(string);
+        offsets[i + 1] = next as u64;
+        end = next;
+    }
+}
+
+/// Copies rows, whose strings have `num_bytes` bytes, to the front of the buffers. Returns `NO_ROOM` if a buffer is too
+/// short. Then the buffers are unchanged.
+fn copy_rows(
+    rows: &[Row<String>],
+    num_bytes: usize,
+    bytes: &mut [u8],
+    offsets: &mut [u64],
+    bounds: &mut [FrequentBounds],
+) -> i32
+    requires { num_bytes ≡ length (concat (row_strings rows.now)) }
+    ensures report { ReportsStrings rows.now (record { bytes = bytes.old; offsets = offsets.old; bounds = bounds.old })
+        (record { bytes = bytes.new; offsets = offsets.new; bounds = bounds.new }) (length rows.now) num_bytes result }
+    ensures no_room { OnRefused result (result ≡ no_room) }
+    ensures done { OnDone result (result ≡ ok) }
+    ensures untouched { OnRefused result ((bytes.new ≡ bytes.old) × (offsets.new ≡ offsets.old) × (bounds.new ≡ bounds.old)) }
+{
+    let needed = rows.len();
+    if bytes.len() < num_bytes || offsets.len() <= needed || bounds.len() < needed {
+        return NO_ROOM;
+    }
+    copy_strings(rows, &mut bytes[..num_bytes], &mut offsets[..needed + 1]);
+    copy_bounds(rows, &mut bounds[..needed]);
+    OK
+}
+
+/// Writes a report's rows to the front of the buffers, the number of rows to `count`, and the number of bytes to
+/// `num_bytes`. If a buffer is too short, only both numbers are written.
+pub(crate) fn write_rows(
+    sketch: &FrequentItemsSketch<String>,
+    no_false_negatives: bool,
+    threshold: u64,
+    bytes: &mut [u8],
+    offsets: &mut [u64],
+    bounds: &mut [FrequentBounds],
+    count: &mut usize,
+    num_bytes: &mut usize,
+) -> i32
+    ensures rows { WritesStringRows (error_type no_false_negatives) threshold sketch.now
+        (record { bytes = bytes.old; offsets = offsets.old; bounds = bounds.old })
+        (record { bytes = bytes.new; offsets = offsets.new; bounds = bounds.new }) count.new num_bytes.new result }
+    ensures left { LeavesStringRows (record { bytes = bytes.old; offsets = offsets.old; bounds = bounds.old })
+        (record { bytes = bytes.new; offsets = offsets.new; bounds = bounds.new }) count.old count.new num_bytes.old num_bytes.new result }
+{
+    match sketch.frequent_items_with_threshold(error_type_of(no_false_negatives), threshold) {
+        Ok(rows) => {
+            let Some(length) = num_bytes_of(&rows) else {
+                return refusal_number(Fault::NoMemory);
+            };
+            *count = rows.len();
+            *num_bytes = length;
+            copy_rows(&rows, length, bytes, offsets, bounds)
+        }
+        Err(error) => refusal_number(error.fault()),
+    }
+}

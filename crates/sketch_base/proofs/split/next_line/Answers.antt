@@ -1,0 +1,26 @@
+use Rattle.std.proofs.Common.{◌<◌, ◌∙◌, length, sym}
+use Rattle.std.proofs.lemmas.Bool.{eqb-true}
+use Rattle.sketch_base.specs.declared.separator.Separator.TheVariants.{LineFeed}
+use Rattle.sketch_base.proofs.SplitWords.{first_boundary}
+use Rattle.sketch_base.proofs.SplitLines.{last_line, first_line, behind_feed, positive}
+use Rattle.sketch_base.proofs.split.next_line.Goals as goal
+
+pub split_at-requires : goal.split_at-requires
+split_at-requires c =
+    first_boundary LineFeed c.args.text.now c.first_separator.result (rw c.as_bytes.ensures.value at c.first_separator.ensures.value) (rw c.as_bytes.ensures.value at c.first_separator.ensures.bound)
+
+pub returns-then-is_empty-2 : goal.returns-then-is_empty-2
+returns-then-is_empty-2 c =
+    let some : 0 < length c.args.text.now = positive _ (sym c.is_empty.ensures ∙ c.if-is_empty.false) in
+    last_line c.args.text.now c.split_at.result.0.now c.split_at.result.1.now c.first_separator.result (rw c.as_bytes.ensures.value at c.first_separator.ensures.value) c.split_at.ensures.front c.split_at.ensures.back
+    some (eqb-true _ 0 (sym c.is_empty-2.ensures ∙ c.if-is_empty-2.true))
+
+pub split_at-requires-2 : goal.split_at-requires-2
+split_at-requires-2 c =
+    behind_feed c.args.text.now c.split_at.result.0.now c.split_at.result.1.now c.first_separator.result (rw c.as_bytes.ensures.value at c.first_separator.ensures.value) c.split_at.ensures.front c.split_at.ensures.back
+    (positive _ (sym c.is_empty-2.ensures ∙ c.if-is_empty-2.false)) c.utf8.text
+
+pub returns : goal.returns
+returns c =
+    first_line c.args.text.now c.split_at.result.0.now c.split_at.result.1.now c.first_separator.result (rw c.as_bytes.ensures.value at c.first_separator.ensures.value) c.split_at.ensures.front c.split_at.ensures.back
+    (positive _ (sym c.is_empty-2.ensures ∙ c.if-is_empty-2.false)) c.without_carriage_return.result.now c.split_at-2.result.1.now c.without_carriage_return.ensures c.split_at-2.ensures.back

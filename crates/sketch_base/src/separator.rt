@@ -1,0 +1,104 @@
+//! The bytes that separate words, and the search for the first of them.
+ghost use Rattle.std.specs.Prelude.{◌≡◌, ◌+◌, ◌≤◌, length, map};
+ghost use Rattle.std.specs.List.{position_or_len, slice_range};
+ghost use Rattle.std.specs.Simd.Lanes.{mask_l};
+ghost use Rattle.sketch_base.specs.Split.{separates};
+
+use std::simd::prelude::*;
+
+/// The bytes between words.
+#[derive(Clone, Copy, Debug, PartialEq, Eq, Drop)]
+pub enum Separator {
+    /// The space.
+    Space,
+    /// The line feed.
+    LineFeed,
+    /// ASCII white space: the space, the tab, the line feed, the form feed and the carriage return.
+    AsciiWhitespace,
+}
+
+impl Separator {
+    /// Returns whether a byte stands between words.
+    #[inline(always)]
+    pub(crate) fn separates(self, byte: u8) -> bool
+        ensures { result ≡ separates self byte }
+    {
+        match self {
+            Separator::Space => byte == b' ',
+            Separator::LineFeed => byte == b'\n',
+            Separator::AsciiWhitespace => byte.is_ascii_whitespace(),
+        }
+    }
+
+    /// Returns a number whose bit `i` is set exactly if lane `i` stands between words.
+    #[inline(always)]
+    fn marks<const N: usize>(self, lanes: Simd<u8, N>) -> u64
+        requires lanes { N ≤ 64 }
+        requires long { length lanes ≡ N }
+        ensures { result ≡ mask_l (map (separates self) lanes.entry) }
+    {
+        match self {
+            Separator::Space => lanes.simd_eq(Simd::splat(b' ')).to_bitmask(),
+            Separator::LineFeed => lanes.simd_eq(Simd::splat(b'\n')).to_bitmask(),
+            Separator::AsciiWhitespace => {
+                let after_line = lanes.simd_eq(Simd::splat(b'\t'))
+                    | lanes.simd_eq(Simd::splat(b'\n'));
+                let after_page = lanes.simd_eq(Simd::splat(b'\x0C'))
+                    | lanes.simd_eq(Simd::splat(b'\r'));
+                (after_line | after_page | lanes.simd_eq(Simd::splat(b' '))).to_bitmask()
+            }
+        }
+    }
+}
+
+/// Returns the first index of a byte that stands between words, or the number of bytes if there is none.
+///
+/// # Examples
+///
+/// ```
+/// use sketch_base::{Separator, first_separator};
+///
+/// fn first_field(line: &[u8]) -> &[u8] {
+///     &line[..first_separator(line, Separator::Space)]
+/// }
+/// ```
+#[inline(always)]
+pub fn first_separator(bytes: &[u8], separator: Separator) -> usize
+    ensures value { result ≡ position_or_len (separates separator) bytes.now }
+    ensures bound { result ≤ length bytes.now }
+{
+    let mut at = 0;
+    while bytes.len() - at >= 16 {
+        let found = first_separator_in::<16>(bytes, at, separator);
+        if found < 16 {
+            return at + found;
+        }
+        at += 16;
+    }
+    if bytes.len() - at >= 8 {
+        let found = first_separator_in::<8>(bytes, at, separator);
+        if found < 8 {
+            return at + found;
+        }
+        at += 8;
+    }
+    while at < bytes.len() && !separator.separates(bytes[at]) {
+        at += 1;
+    }
+    at
+}
+
+/// Returns the same for the `N` bytes from index `at`, as an index from `at`.
+#[inline(always)]
+fn first_separator_in<const N: usize>(bytes: &[u8], at: usize, separator: Separator) -> usize
+    requires lanes { N ≤ 64 }
+    requires room { at + N ≤ length bytes.now }
+    ensures { result ≡ position_or_len (separates separator) (slice_range bytes.now at (at + N)) }
+{
+    let marks = separator.marks(Simd::<u8, N>::from_slice(&bytes[at..]));
+    if marks == 0 {
+        N
+    } else {
+        marks.trailing_zeros() as usize
+    }
+}

@@ -1,0 +1,135 @@
+//! Splits strings into words and lines.
+ghost use Rattle.std.specs.Prelude.{◌≡◌, ◌+◌, ◌≤◌, length};
+ghost use Rattle.std.specs.Str.Lines.{lines, strip_carriage_return};
+ghost use Rattle.sketch_base.specs.Split.{CutsUtf8, IsBehindLast, SplitsAt, TakesLine, separates, with_word, words_by};
+ghost use Rattle.sketch_base.specs.declared.separator.Separator.TheVariants.{LineFeed};
+
+use crate::separator::{Separator, first_separator};
+
+/// Returns the first word of a string and the string after it. The word is empty if there is none.
+///
+/// # Examples
+///
+/// ```
+/// use sketch_base::{Separator, next_word};
+///
+/// fn first_two(text: &str) -> (&str, &str) {
+///     let (first, rest) = next_word(text, Separator::AsciiWhitespace);
+///     let (second, _) = next_word(rest, Separator::AsciiWhitespace);
+///     (first, second)
+/// }
+/// ```
+#[inline(always)]
+pub fn next_word(text: &str, separator: Separator) -> (&str, &str)
+    ensures words { words_by separator text.now ≡ with_word result.0.now (words_by separator result.1.now) }
+    ensures shorter { length result.0.now + length result.1.now ≤ length text.now }
+{
+    let bytes = text.as_bytes();
+    let mut start = 0;
+    while start < bytes.len() && separator.separates(bytes[start]) {
+        start += 1;
+    }
+    let (_, text) = text.split_at(start);
+    text.split_at(first_separator(text.as_bytes(), separator))
+}
+
+/// Returns the first line of a string and the string after its end, or `None` if the string is empty.
+///
+/// A line ends at a line feed or at the end of the string. It has neither the line feed nor a carriage return before
+/// it.
+///
+/// # Examples
+///
+/// ```
+/// use sketch_base::next_line;
+///
+/// fn number_of_lines(text: &str) -> u64 {
+///     let mut count: u64 = 0;
+///     let mut rest = text;
+///     while let Some((_, after)) = next_line(rest) {
+///         count = count.saturating_add(1);
+///         rest = after;
+///     }
+///     count
+/// }
+/// ```
+#[inline(always)]
+pub fn next_line(text: &str) -> Option<(&str, &str)>
+    ensures { TakesLine text.now result }
+{
+    if text.is_empty() {
+        return None;
+    }
+    let (line, after) = text.split_at(first_separator(text.as_bytes(), Separator::LineFeed));
+    if after.is_empty() {
+        return Some((line, after));
+    }
+    let (_, rest) = after.split_at(1);
+    Some((without_carriage_return(line), rest))
+}
+
+/// Returns a string without the carriage return at its end, if there is one.
+#[inline(always)]
+fn without_carriage_return(line: &str) -> &str
+    ensures { result.now ≡ strip_carriage_return line.now }
+{
+    let bytes = line.as_bytes();
+    let len = bytes.len();
+    if len == 0 || bytes[len - 1] != b'\r' {
+        return line;
+    }
+    let (front, _) = line.split_at(len - 1);
+    front
+}
+
+/// Returns the number of bytes through the last separator, or 0 if there is none.
+///
+/// The words of these bytes are complete, so a stream can be split at this index. The bytes after it may begin a word
+/// that is continued.
+///
+/// # Examples
+///
+/// ```
+/// use sketch_base::{Separator, finished_words};
+///
+/// fn complete_words(chunk: &[u8]) -> &[u8] {
+///     &chunk[..finished_words(chunk, Separator::AsciiWhitespace)]
+/// }
+/// ```
+#[inline]
+pub fn finished_words(bytes: &[u8], separator: Separator) -> usize
+    ensures bound { result ≤ length bytes.now }
+    ensures last { IsBehindLast (separates separator) bytes.now result }
+    ensures words { SplitsAt (words_by separator) bytes.now result }
+    ensures utf8 { CutsUtf8 bytes.now result }
+{
+    let mut end = bytes.len();
+    while end > 0 && !separator.separates(bytes[end - 1]) {
+        end -= 1;
+    }
+    end
+}
+
+/// Returns the number of bytes through the last line feed, or 0 if there is none.
+///
+/// The lines of these bytes are complete, so a stream can be split at this index. The bytes after it may begin a line
+/// that is continued.
+///
+/// # Examples
+///
+/// ```
+/// use sketch_base::finished_lines;
+///
+/// fn complete_lines(chunk: &[u8]) -> &[u8] {
+///     &chunk[..finished_lines(chunk)]
+/// }
+/// ```
+#[inline]
+pub fn finished_lines(bytes: &[u8]) -> usize
+    ensures bound { result ≤ length bytes.now }
+    ensures last { IsBehindLast (separates LineFeed) bytes.now result }
+    ensures lines { SplitsAt lines bytes.now result }
+    ensures utf8 { CutsUtf8 bytes.now result }
+{
+    finished_words(bytes, Separator::LineFeed)
+}
