@@ -195,7 +195,8 @@ pub fn rows(t: &Table) {
         let each = |what: &str| name(&format!("{what}, a counter"));
         row!(t, &name("update, Zipf"), 1, len; rattle_frequent_update, update; shape, zipf, []);
         row!(t, &name("update, distinct"), 1, len; rattle_frequent_update, update; shape, distinct, []);
-        row!(t, &name("update by texts, Zipf"), 1, len; rattle_frequent_update_texts, update_texts; shape, zipf, []);
+        row!(t, &name("update by strings, Zipf"), 1, len; rattle_frequent_update_texts, update_texts; shape, zipf, []);
+        row!(t, &name("update by &str, Zipf"), 1, len; rattle_frequent_update_strs, update_texts; shape, zipf, []);
         row!(t, &name("estimate, hit"), 4, asked; rattle_frequent_estimate, estimate; shape, mine, hits);
         row!(t, &name("estimate, miss"), 4, asked; rattle_frequent_estimate, estimate; shape, mine, misses);
         row!(t, &name("update_all, Zipf"), 1, len; rattle_frequent_update_all, update; shape, zipf, []);
@@ -207,8 +208,8 @@ pub fn rows(t: &Table) {
         row!(t, &each("report"), turns / 8, full; rattle_frequent_report, report; shape, mine, []);
         row!(t, &each("write an image"), turns, full; rattle_frequent_write, write; shape, mine, []);
         row!(t, &each("read an image"), turns, full; rattle_frequent_read, read; shape, mine, []);
-        row!(t, &each("write an image of texts"), turns, full; rattle_frequent_write_texts, write_texts; shape, [], []);
-        row!(t, &each("read an image of texts"), turns / 4, full; rattle_frequent_read_texts, read_texts;
+        row!(t, &each("write an image of strings"), turns, full; rattle_frequent_write_texts, write_texts; shape, [], []);
+        row!(t, &each("read an image of strings"), turns / 4, full; rattle_frequent_read_texts, read_texts;
             shape, [], []);
     }
     for sample_size in [2, 64, 1024] {

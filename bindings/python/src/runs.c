@@ -249,33 +249,9 @@ static bool is_ascii(const uint8_t *bytes, size_t length)
     return (all & 0x8080808080808080) == 0 && last < 0x80;
 }
 
-/* Returns the number of bytes of the character at the front, or 0 if it is malformed. */
-static size_t character_length(const uint8_t *bytes, size_t length)
-{
-    uint8_t lead = bytes[0];
-    size_t more = lead < 0x80 ? 0 : lead < 0xC2 ? SIZE_MAX : lead < 0xE0 ? 1 : lead < 0xF0 ? 2 : lead < 0xF5 ? 3 : SIZE_MAX;
-    if (more == 0)
-        return 1;
-    if (more >= length)
-        return 0;
-    for (size_t i = 1; i <= more; i++)
-        if (bytes[i] >> 6 != 2)
-            return 0;
-    bool wrong = (lead == 0xE0 && bytes[1] < 0xA0) || (lead == 0xED && bytes[1] > 0x9F) || (lead == 0xF0 && bytes[1] < 0x90) ||
-                 (lead == 0xF4 && bytes[1] > 0x8F);
-    return wrong ? 0 : more + 1;
-}
-
 static bool is_utf8(const ds_string *string)
 {
-    if (is_ascii(string->bytes, string->length))
-        return true;
-    for (size_t i = 0, used; i < string->length; i += used) {
-        used = character_length(string->bytes + i, string->length - i);
-        if (used == 0)
-            return false;
-    }
-    return true;
+    return is_ascii(string->bytes, string->length) || ds_valid_utf8(string->bytes, string->length) == string->length;
 }
 
 /* Sets the error for a string that is not Unicode: that of Python's own conversion. */

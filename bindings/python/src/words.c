@@ -147,20 +147,7 @@ static int32_t take_piece(Sketch *self, Text *text, bool of_lines, size_t from, 
 static void refuse_utf8(const Text *text, size_t from, size_t end)
 {
     const uint8_t *piece = text->may_change ? text->copy : text->bytes + from;
-    Py_ssize_t start = 0;
-    PyObject *type, *error, *trace;
-    Py_XDECREF(PyUnicode_DecodeUTF8((const char *)piece, (Py_ssize_t)(end - from), NULL));
-    if (!PyErr_Occurred())
-        refuse(DS_INVALID_UTF8);
-    if (!PyErr_ExceptionMatches(PyExc_UnicodeDecodeError))
-        return;
-    PyErr_Fetch(&type, &error, &trace);
-    PyErr_NormalizeException(&type, &error, &trace);
-    PyUnicodeDecodeError_GetStart(error, &start);
-    Py_XDECREF(type);
-    Py_XDECREF(error);
-    Py_XDECREF(trace);
-    refuse_at(DS_INVALID_UTF8, from + (size_t)start);
+    refuse_at(DS_INVALID_UTF8, from + ds_valid_utf8(piece, end - from));
 }
 
 /* Sets the error of a piece that was rejected, with the number of words or lines that were counted before. */

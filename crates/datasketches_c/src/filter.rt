@@ -72,6 +72,19 @@ fn insert<I: Hash + Drop>(alloc: Global, handle: &mut SketchHandle, item: I) -> 
     })
 }
 
+/// Inserts a string into the filter of a handle.
+#[inline]
+fn insert_str(alloc: Global, handle: &mut SketchHandle, item: &str) -> i32
+    ensures { OnFilter handle.old.value handle.new.value result (λ s.
+        (result ≡ ok) × (handle.new.value ≡ Some (Filter (inserted s (fed_bytes fed.str item.now))))
+        × Extends s (inserted s (fed_bytes fed.str item.now)) (λ h. Insert h (fed_bytes fed.str item.now))) }
+{
+    on_kind!(alloc, handle, BloomFilter, filter => {
+        filter.insert_str(item);
+        OK
+    })
+}
+
 /// Inserts a number.
 ///
 /// Returns `NO_SKETCH` if the handle has no sketch, and `WRONG_KIND` if its sketch is of another kind. Then nothing
@@ -116,7 +129,7 @@ pub extern "C" fn ds_bloom_insert_string(
     ensures invalid_utf8 { ¬ (IsUtf8 item.now) → (result ≡ refusal_number Fault.InvalidUtf8)
         × (handle.new.value ≡ handle.old.value) }
 {
-    on_string!(item => insert(alloc, handle, item))
+    on_string!(item => insert_str(alloc, handle, item))
 }
 
 /// Inserts many items, for the calls below.
@@ -179,6 +192,16 @@ fn contains<I: Hash>(alloc: Global, handle: &mut SketchHandle, item: &I) -> i32
     on_kind!(alloc, handle, BloomFilter, filter => { if filter.contains(item) { YES } else { NO } })
 }
 
+/// Returns whether the filter of a handle contains a string, as `YES` or `NO`.
+#[inline]
+fn contains_str(alloc: Global, handle: &mut SketchHandle, item: &str) -> i32
+    ensures kept { handle.new.value ≡ handle.old.value }
+    ensures answer { OnFilter handle.old.value handle.new.value result (λ s.
+        result ≡ (if contains_item s (fed_bytes fed.str item.now) then yes else no)) }
+{
+    on_kind!(alloc, handle, BloomFilter, filter => { if filter.contains_str(item) { YES } else { NO } })
+}
+
 /// Returns `YES` if the filter contains a number, and `NO` otherwise.
 ///
 /// Returns `NO_SKETCH` if the handle has no sketch, and `WRONG_KIND` if its sketch is of another kind. Then nothing
@@ -222,7 +245,7 @@ pub extern "C" fn ds_bloom_contains_string(
         result ≡ (if contains_item s (fed_bytes fed.str item.now) then yes else no)) }
     ensures invalid_utf8 { ¬ (IsUtf8 item.now) → result ≡ refusal_number Fault.InvalidUtf8 }
 {
-    on_string!(item => contains(alloc, handle, &item))
+    on_string!(item => contains_str(alloc, handle, item))
 }
 
 /// Writes for each item whether the filter contains it, for the calls below. Returns `NO_ROOM` if `items` and `answers`
