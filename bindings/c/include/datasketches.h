@@ -965,6 +965,26 @@ size_t ds_finished_lines(const uint8_t *text, size_t length);
 /* Returns the number of bytes before the first that is not part of valid UTF-8, or `length` if all are UTF-8. */
 size_t ds_valid_utf8(const uint8_t *text, size_t length);
 
+/* These checks return 0 at null, whatever the length. */
+static inline size_t ds_finished_words_checked(const uint8_t *text, size_t length)
+{
+    return text ? (ds_finished_words)(text, length) : 0;
+}
+
+static inline size_t ds_finished_lines_checked(const uint8_t *text, size_t length)
+{
+    return text ? (ds_finished_lines)(text, length) : 0;
+}
+
+static inline size_t ds_valid_utf8_checked(const uint8_t *text, size_t length)
+{
+    return text ? (ds_valid_utf8)(text, length) : 0;
+}
+
+#define ds_finished_words(text, length) ds_finished_words_checked(text, length)
+#define ds_finished_lines(text, length) ds_finished_lines_checked(text, length)
+#define ds_valid_utf8(text, length) ds_valid_utf8_checked(text, length)
+
 /* --- Sizes from error targets. Each call writes a size if it returns DS_OK, and leaves it as it was otherwise. --- */
 
 /* Writes the smallest `max_map_size` whose guarantee is an error of at most the total over `parts`, for every stream, at the

@@ -209,6 +209,7 @@ static void errors(void)
     CHECK(ds_count_min_i64_update_words(&filter, NULL, 1) == DS_BAD_ARGUMENT);
     CHECK(ds_frequent_items_string_update_lines(&filter, NULL, 1) == DS_BAD_ARGUMENT);
     CHECK(ds_finished_words(text, 0) == 0 && ds_finished_lines(text, 1) == 0);
+    CHECK(ds_finished_words(NULL, 0) == 0 && ds_finished_lines(NULL, 2) == 0 && ds_valid_utf8(NULL, 0) == 0);
     ds_free(&filter);
 }
 
