@@ -12,5 +12,6 @@ pub mod PowersOfTwo
 pub mod Reciprocal
 pub mod ShortBytes
 pub mod Split
+pub mod Strings
 pub mod Xxh64
 pub mod Xxh64State

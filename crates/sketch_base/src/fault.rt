@@ -85,6 +85,8 @@ pub enum Fault {
     BadSampleSize,
     /// The number of windows is out of range.
     BadWindows,
+    /// There is no offset, an offset is below the one before it, or an offset exceeds the number of bytes.
+    BadOffsets,
 }
 
 impl Fault {
@@ -113,7 +115,7 @@ impl Fault {
 }
 
 /// The name and the message of each fault, in the order of the variants.
-static WORDS: [(&str, &str); 34] = [
+static WORDS: [(&str, &str); 35] = [
     ("BadNumBits", "num_bits out of range"),
     ("BadNumHashes", "num_hashes out of range"),
     ("BadNumBuckets", "num_buckets below 3"),
@@ -148,6 +150,7 @@ static WORDS: [(&str, &str); 34] = [
     ("NoMemory", "out of memory"),
     ("BadSampleSize", "sample size out of range"),
     ("BadWindows", "windows out of range"),
+    ("BadOffsets", "offsets missing, descending or out of range"),
 ];
 
 /// Writes the message of the fault.

@@ -6,7 +6,8 @@
 //! - [`xxh64_of`], [`murmur3_of`] and [`murmur3_of_u64`] hash a whole item or number. [`xxh64_of_str`] and
 //!   [`murmur3_of_str`] hash a string without a buffer.
 //! - [`RehashableItem`] hashes one item under several seeds. It feeds an item of few bytes once, and keeps them as
-//!   [`ShortBytes`].
+//!   [`ShortBytes`]. [`RehashableStr`] does so for a string. Both kinds of bytes are [`Rehashable`].
+//! - [`Strings`] are many strings in order: `&[&str]`, [`OffsetStrings`] of one buffer, or [`ByteStrings`].
 //! - [`compute_seed_hash`] hashes a seed, and [`check_seed_hash`] compares two such hashes.
 //! - [`SketchSlice`] reads numbers from bytes, and [`SketchBytes`] writes them. Contracts see the bytes that are
 //!   unread, and those that are written.
@@ -18,6 +19,7 @@
 //!   stream can be split.
 #![tactic(auto)]
 
+mod byte_strings;
 mod divisor;
 mod error;
 mod family;
@@ -26,7 +28,9 @@ pub mod image;
 mod item_hash;
 pub mod laws;
 mod murmurhash;
+mod offset_strings;
 mod rehashable_item;
+mod rehashable_str;
 mod seed_hash;
 mod separator;
 mod short_bytes;
@@ -35,16 +39,20 @@ mod sketch_bytes;
 mod sketch_slice;
 mod split;
 mod str_hash;
+mod strings;
 mod words;
 mod xxhash;
 
+pub use byte_strings::ByteStrings;
 pub use divisor::Divisor;
 pub use error::{Error, ErrorKind};
 pub use family::Family;
 pub use fault::Fault;
 pub use item_hash::{murmur3_of, murmur3_of_u64, xxh64_of};
 pub use murmurhash::{DEFAULT_UPDATE_SEED, MurmurHash3X64128};
-pub use rehashable_item::RehashableItem;
+pub use offset_strings::{OffsetStrings, are_offsets};
+pub use rehashable_item::{Rehashable, RehashableItem};
+pub use rehashable_str::RehashableStr;
 pub use seed_hash::{check_seed_hash, compute_seed_hash};
 pub use separator::{Separator, first_separator};
 pub use short_bytes::ShortBytes;
@@ -52,4 +60,5 @@ pub use sketch_bytes::SketchBytes;
 pub use sketch_slice::SketchSlice;
 pub use split::{finished_lines, finished_words, next_line, next_word};
 pub use str_hash::{murmur3_of_str, xxh64_of_str};
+pub use strings::Strings;
 pub use xxhash::XxHash64;

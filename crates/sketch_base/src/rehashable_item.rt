@@ -1,5 +1,5 @@
-//! An item that is hashed under several seeds.
-ghost use Rattle.std.specs.Prelude.{◌≡◌, ◌<◌, ◌≤◌, IfSome, IfNone, length};
+//! Items that are hashed under several seeds.
+ghost use Rattle.std.specs.Prelude.{◌≡◌, ◌<◌, ◌≤◌, ℕ, List, IfSome, IfNone, length};
 ghost use Rattle.sketch_base.specs.Hashes.{fed_bytes};
 ghost use Rattle.sketch_base.specs.Murmur3.{murmur3_x64_128};
 
@@ -7,6 +7,43 @@ use crate::item_hash::murmur3_of;
 use crate::short_bytes::ShortBytes;
 use std::hash::Hash;
 use std::marker::Model;
+
+/// Bytes that are hashed under several seeds: [`ShortBytes`] of fewer than 16 bytes, or a
+/// [`RehashableStr`](crate::RehashableStr).
+///
+/// # Examples
+///
+/// ```
+/// use sketch_base::{Rehashable, RehashableStr};
+///
+/// fn shard_of(user: &str) -> u64 {
+///     let user = RehashableStr::new(user);
+///     user.murmur3(9001).0 % 100
+/// }
+/// ```
+pub trait Rehashable {
+    // The bytes.
+    ghost bytes: { Self → List ℕ };
+
+    // What a hash requires.
+    ghost can_hash: { Self → Type 0 };
+
+    /// Returns both halves of MurmurHash3 x64 128 of the bytes, under a seed. Does not allocate.
+    fn murmur3(&self, seed: u64) -> (u64, u64)
+        requires { can_hash self.now }
+        ensures { result ≡ murmur3_x64_128 (bytes self.now) seed };
+}
+
+impl Rehashable for ShortBytes {
+    ghost bytes = { λ s. s };
+
+    ghost can_hash = { λ s. length s < 16 };
+
+    #[inline(always)]
+    fn murmur3(&self, seed: u64) -> (u64, u64) {
+        ShortBytes::murmur3(self, seed)
+    }
+}
 
 /// An item that is hashed under several seeds, and fed only once if it has few bytes.
 ///

@@ -87,7 +87,7 @@ fn last_block_end(bytes: &[u8]) -> u128
 
 /// Returns the number of the bytes after the last block of 16 and the byte 255, the lowest first.
 #[inline(always)]
-fn block_end(bytes: &[u8]) -> u128
+pub(crate) fn block_end(bytes: &[u8]) -> u128
     ensures { result ≡ le_number (drop (16 * (length bytes.now / 16)) bytes.now ++ 255 ∷ []) }
 {
     let n = bytes.len();
@@ -119,8 +119,17 @@ pub fn murmur3_of_str(text: &str, seed: u64) -> (u64, u64)
     ensures { result ≡ murmur3_x64_128 (fed_bytes fed.str text.now) seed }
 {
     let bytes = text.as_bytes();
+    murmur3_with_end(bytes, block_end(bytes), seed)
+}
+
+/// Returns both halves of MurmurHash3 x64 128 of bytes and the byte 255, under a seed. `end` is the number of the bytes
+/// after the last block of 16 and the byte 255, the lowest first.
+#[inline(always)]
+pub(crate) fn murmur3_with_end(bytes: &[u8], end: u128, seed: u64) -> (u64, u64)
+    requires { end ≡ le_number (drop (16 * (length bytes.now / 16)) bytes.now ++ 255 ∷ []) }
+    ensures { result ≡ murmur3_x64_128 (fed_bytes fed.str bytes.now) seed }
+{
     let h = body((seed, seed), bytes);
-    let end = block_end(bytes);
     let k1 = (end & 0xFFFF_FFFF_FFFF_FFFF) as u64;
     let k2 = (end >> 64) as u64;
     let len = (bytes.len() as u64).wrapping_add(1);

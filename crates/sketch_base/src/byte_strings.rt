@@ -1,0 +1,85 @@
+//! Many strings as slices of bytes.
+ghost use Rattle.std.specs.Prelude.{◌≡◌, ◌↔◌, All, IfOk, IsErrOf, IsOk, IsTrue};
+ghost use Rattle.std.specs.Str.{IsUtf8};
+ghost use Rattle.sketch_base.specs.Errors.{invalid_argument};
+ghost use Rattle.sketch_base.specs.Strings.{strings_at};
+
+use crate::error::Error;
+use crate::fault::Fault;
+use crate::strings::Strings;
+use std::marker::Model;
+
+/// Returns whether each slice is UTF-8.
+fn are_utf8(items: &[&[u8]]) -> bool
+    ensures { IsTrue result ↔ All IsUtf8 (strings_at items.now) }
+{
+    'each: for i in 0..items.len() {
+        let Ok(_) = str::from_utf8(items[i]) else {
+            return false;
+        };
+    }
+    true
+}
+
+/// The strings of slices of bytes, each of which is UTF-8. [`new`](Self::new) checks this, and copies nothing.
+#[derive(Drop)]
+pub struct ByteStrings<'a> {
+    items: &'a [&'a [u8]],
+}
+
+impl<'a> Model for ByteStrings<'a> {
+    ghost use Rattle.std.specs.Prelude.{List, ℕ, All};
+    ghost use Rattle.std.specs.Str.{IsUtf8};
+    ghost use Rattle.sketch_base.specs.Strings.{strings_at};
+
+    ghost Value = { List (List ℕ) };
+
+    ghost view = { λ s. strings_at s.items.now };
+
+    ghost invariant = { λ s. All IsUtf8 (strings_at s.items.now) };
+}
+
+impl<'a> ByteStrings<'a> {
+    /// Creates the strings of slices. Does not allocate.
+    ///
+    /// # Errors
+    ///
+    /// `InvalidUtf8` if a slice is not UTF-8.
+    ///
+    /// # Examples
+    ///
+    /// ```
+    /// use sketch_base::{ByteStrings, Error, Strings};
+    ///
+    /// fn number_of_names(names: &[&[u8]]) -> Result<usize, Error> {
+    ///     let names = ByteStrings::new(names)?;
+    ///     Ok(names.count())
+    /// }
+    /// ```
+    pub fn new(items: &'a [&'a [u8]]) -> Result<Self, Error>
+        ensures ok { IfOk result (λ strings. strings ≡ strings_at items.now) }
+
+        // The error comes exactly if a slice is not UTF-8.
+        ensures succeeds { All IsUtf8 (strings_at items.now) → IsOk result }
+        ensures invalid_utf8 { ¬ All IsUtf8 (strings_at items.now) → IsErrOf result (invalid_argument Fault.InvalidUtf8) }
+    {
+        if !are_utf8(items) {
+            return Err(Error::invalid_argument(Fault::InvalidUtf8));
+        }
+        Ok(ByteStrings { items })
+    }
+}
+
+impl<'a> Strings for ByteStrings<'a> {
+    ghost list = { λ s. s };
+
+    #[inline(always)]
+    fn count(&self) -> usize {
+        self.items.len()
+    }
+
+    #[inline(always)]
+    fn at(&self, i: usize) -> &str {
+        unsafe { str::from_utf8_unchecked(self.items[i]) }
+    }
+}
