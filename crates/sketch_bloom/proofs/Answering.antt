@@ -55,7 +55,7 @@ module _ (capacity num_hashes : ℕ) where
       ∙ ap (pairs_contained capacity num_hashes s) (sym (map-append f (take from xs) block) ∙ ap (map f) (sym (block_more xs from to next l m ends))))))
 
 -- what a filter answers of items is what its set does of their pairs
-pub answers_are : {A : Type 0} (fed : A → List ℕ) (s : FilterState) (items : List A)
-    → pairs_contained (capacity_of s) s.num_hashes s.set (map (λ item. pair_of s.seed (fed item)) items) ≡ answers_in_turn s (map fed items)
-answers_are fed s [] = refl
-answers_are fed s (x ∷ xs) = ap (λ bs. contains_item s (fed x) ∷ bs) (answers_are fed (inserted s (fed x)) xs)
+pub answers_are : (s : FilterState) (inputs : List (List ℕ))
+    → pairs_contained (capacity_of s) s.num_hashes s.set (map (pair_of s.seed) inputs) ≡ answers_in_turn s inputs
+answers_are s [] = refl
+answers_are s (x ∷ xs) = ap (λ bs. contains_item s x ∷ bs) (answers_are (inserted s x) xs)

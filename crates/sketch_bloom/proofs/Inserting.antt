@@ -16,22 +16,22 @@ use Rattle.sketch_bloom.specs.State.{FilterState, capacity_of, contains_item, in
 use Rattle.sketch_bloom.proofs.States.{state_of}
 
 -- the set after many insertions, by the pairs of hashes
-pub all_inserted_is : {A : Type 0} (fed : A → List ℕ) (s : FilterState) (items : List A)
-    → all_inserted s (map fed items) ≡ record s { set = fold (with_pair (capacity_of s) s.num_hashes) s.set (map (λ item. pair_of s.seed (fed item)) items) }
-all_inserted_is fed s [] = refl
-all_inserted_is fed s (x ∷ xs) = all_inserted_is fed (inserted s (fed x)) xs
+pub all_inserted_is : (s : FilterState) (inputs : List (List ℕ))
+    → all_inserted s inputs ≡ record s { set = fold (with_pair (capacity_of s) s.num_hashes) s.set (map (pair_of s.seed) inputs) }
+all_inserted_is s [] = refl
+all_inserted_is s (x ∷ xs) = all_inserted_is (inserted s x) xs
 
 -- the state of a filter whose words were written over so
-pub inserted_state : {A : Type 0} (fed : A → List ℕ) (v : Vec ℕ) (new : List ℕ) (capacity num_hashes seed : ℕ) (items : List A)
+pub inserted_state : (v : Vec ℕ) (new : List ℕ) (capacity num_hashes seed : ℕ) (inputs : List (List ℕ))
     → length new ≡ length v.items → capacity ≡ 64 * length v.items
-    → set_of new ≡ fold (with_pair capacity num_hashes) (set_of v.items) (map (λ item. pair_of seed (fed item)) items)
-    → state_of (with_items v new).items num_hashes seed ≡ all_inserted (state_of v.items num_hashes seed) (map fed items)
-inserted_state fed v new capacity num_hashes seed items len cap union =
+    → set_of new ≡ fold (with_pair capacity num_hashes) (set_of v.items) (map (pair_of seed) inputs)
+    → state_of (with_items v new).items num_hashes seed ≡ all_inserted (state_of v.items num_hashes seed) inputs
+inserted_state v new capacity num_hashes seed inputs len cap union =
     let is : (with_items v new).items ≡ new = with_items_is v new (len ∙ sym v.ok.0) in
-    let sets = union ∙ ap (λ c. fold (with_pair c num_hashes) (set_of v.items) (map (λ item. pair_of seed (fed item)) items)) cap in
+    let sets = union ∙ ap (λ c. fold (with_pair c num_hashes) (set_of v.items) (map (pair_of seed) inputs)) cap in
     ap (λ (ws : List ℕ). state_of ws num_hashes seed) is
     ∙ (λ i. record { num_words = len i; num_hashes = num_hashes; seed = seed; set = sets i })
-    ∙ sym (all_inserted_is fed (state_of v.items num_hashes seed) items)
+    ∙ sym (all_inserted_is (state_of v.items num_hashes seed) inputs)
 
 -- the same where one item was inserted
 pub item_inserted_state : (v : Vec ℕ) (old new : List ℕ) (capacity num_hashes seed h0 h1 : ℕ) (bytes : List ℕ) → old ≡ v.items → length new ≡ length v.items → capacity ≡ 64 * length v.items
@@ -40,7 +40,7 @@ pub item_inserted_state : (v : Vec ℕ) (old new : List ℕ) (capacity num_hashe
 item_inserted_state v old new capacity num_hashes seed h0 h1 bytes old_is len cap first second union =
     let then_second : h1 ≡ xxh64 bytes (xxh64 bytes seed) = second ∙ ap (xxh64 bytes) first in
     let sets = union ∙ (λ i. set.union (set_of (old_is i)) (positions capacity num_hashes (first i) (then_second i))) in
-    inserted_state (λ (b : List ℕ). b) v new capacity num_hashes seed (bytes ∷ []) len cap sets
+    inserted_state v new capacity num_hashes seed (bytes ∷ []) len cap sets
 
 -- and what the words answered before
 pub item_contained : (words old : List ℕ) (capacity num_hashes seed h0 h1 : ℕ) (bytes : List ℕ) (answer : Bool) → old ≡ words → capacity ≡ 64 * length words
@@ -65,7 +65,7 @@ all_inserted_stands s h [] e = e
 all_inserted_stands s h (x ∷ xs) e = all_inserted_stands (inserted s x) (Insert h x) xs (inserted_stands s h x e)
 
 -- what the words of a filter answer is what its state does
-pub contains_state : {A : Type 0} (fed : A → List ℕ) (words : List ℕ) (capacity num_hashes seed : ℕ) (items : List A) → capacity ≡ 64 * length words
-    → map (λ item. contains_pair capacity num_hashes (set_of words) (pair_of seed (fed item))) items ≡ map (λ item. contains_item (state_of words num_hashes seed) (fed item)) items
-contains_state fed words capacity num_hashes seed items cap =
-    ap (λ c. map (λ item. contains_pair c num_hashes (set_of words) (pair_of seed (fed item))) items) cap
+pub contains_state : (words : List ℕ) (capacity num_hashes seed : ℕ) (inputs : List (List ℕ)) → capacity ≡ 64 * length words
+    → map (λ input. contains_pair capacity num_hashes (set_of words) (pair_of seed input)) inputs ≡ map (contains_item (state_of words num_hashes seed)) inputs
+contains_state words capacity num_hashes seed inputs cap =
+    ap (λ c. map (λ input. contains_pair c num_hashes (set_of words) (pair_of seed input)) inputs) cap

@@ -14,6 +14,7 @@ ghost use Rattle.sketch_bloom.specs.Stands.{Extends, ExtendsBoth};
 ghost use Rattle.sketch_bloom.specs.State.{IsFilterState, IsCompatible, capacity_of, empty_state, contains_item, inserted, cleared, united, intersected, subtracted};
 
 mod batches;
+mod strings;
 mod words_and_lines;
 
 use crate::bit_set;

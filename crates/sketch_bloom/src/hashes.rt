@@ -2,7 +2,7 @@
 //!
 //! The hashes of one item do not depend on those of another. So a processor computes several at once, and then loads
 //! the words of several at once.
-ghost use Rattle.std.specs.Prelude.{◌≡◌, ◌+◌, ◌*◌, ◌≤◌, map, fold, length};
+ghost use Rattle.std.specs.Prelude.{◌≡◌, ◌+◌, ◌*◌, ◌^◌, ◌<◌, ◌≤◌, [], ℕ, List, map, take, drop, fold, length, slice_index_or};
 ghost use Rattle.std.specs.FinSet as set;
 ghost use Rattle.std.specs.Hash as fed;
 ghost use Rattle.sketch_base.specs.Hashes.{fed_bytes};
@@ -12,7 +12,7 @@ ghost use Rattle.sketch_bloom.specs.Pairs.{pair_of, contains_pair, with_pair, pa
 
 use crate::bit_set;
 use crate::limits::MAX_NUM_WORDS;
-use sketch_base::{Divisor, xxh64_of, xxh64_of_str};
+use sketch_base::{Divisor, Strings, xxh64_of, xxh64_of_str};
 use std::hash::Hash;
 
 /// The number of items that are hashed before the first of them is looked up or inserted.
@@ -38,42 +38,99 @@ pub fn hashes_of_str(item: &str, seed: u64) -> (u64, u64)
     (h0, xxh64_of_str(item, h0))
 }
 
-/// Writes the two hashes of each item.
+/// The items of a batch.
+pub trait Batch {
+    // The bytes that each item's `Hash` feeds.
+    ghost inputs: { Self → List (List ℕ) };
+
+    /// Returns the number of items.
+    fn count(&self) -> usize
+        ensures { result ≡ length (inputs self.now) };
+
+    /// Returns the two hashes of item `i`: under the seed, and under the first hash.
+    fn hashes(&self, i: usize, seed: u64) -> (u64, u64)
+        requires { i < length (inputs self.now) }
+        ensures { result ≡ pair_of seed (slice_index_or (inputs self.now) i []) };
+}
+
+/// The items of a slice as a batch.
+#[derive(Drop)]
+pub struct ItemBatch<'a, T: Hash> {
+    pub items: &'a [T],
+}
+
+impl<'a, T: Hash> Batch for ItemBatch<'a, T> {
+    ghost inputs = { λ batch. map (fed_bytes T.hash_input) batch.items.now };
+
+    #[inline(always)]
+    fn count(&self) -> usize {
+        self.items.len()
+    }
+
+    #[inline(always)]
+    fn hashes(&self, i: usize, seed: u64) -> (u64, u64) {
+        hashes_of(&self.items[i], seed)
+    }
+}
+
+/// Strings as a batch.
+#[derive(Drop)]
+pub struct StringBatch<'a, S: Strings> {
+    pub strings: &'a S,
+}
+
+impl<'a, S: Strings> Batch for StringBatch<'a, S> {
+    ghost inputs = { λ batch. map (fed_bytes fed.str) (S.list batch.strings.now) };
+
+    #[inline(always)]
+    fn count(&self) -> usize {
+        self.strings.count()
+    }
+
+    #[inline(always)]
+    fn hashes(&self, i: usize, seed: u64) -> (u64, u64) {
+        hashes_of_str(self.strings.at(i), seed)
+    }
+}
+
+/// Writes the two hashes of each item of a block, which begins at item `from`.
 #[inline(always)]
-fn hash_block<T: Hash>(items: &[T], seed: u64, pairs: &mut [(u64, u64)])
-    requires { length pairs.old ≡ length items.now }
-    ensures { pairs.new ≡ map (λ item. pair_of seed (fed_bytes T.hash_input item)) items.now }
+fn hash_block<B: Batch>(batch: &B, from: usize, seed: u64, pairs: &mut [(u64, u64)])
+    requires inside { from + length pairs.old ≤ length (B.inputs batch.now) }
+    requires fits { from + length pairs.old < 2 ^ 64 }
+    ensures { pairs.new ≡ map (pair_of seed) (take (length pairs.old) (drop from (B.inputs batch.now))) }
 {
     // The label is for the prover.
-    'hashes: for i in 0..items.len() {
-        pairs[i] = hashes_of(&items[i], seed);
+    'each: for i in 0..pairs.len() {
+        pairs[i] = batch.hashes(from + i, seed);
     }
 }
 
 /// Inserts the positions of all items. Returns the number of new positions.
 #[inline(always)]
-pub fn insert_items<T: Hash>(
+pub fn insert_items<B: Batch>(
     words: &mut [u64],
     capacity: Divisor,
     num_hashes: u16,
     seed: u64,
-    items: &[T],
+    batch: &B,
 ) -> u64
     requires capacity { capacity ≡ 64 * length words.old }
     requires few { length words.old ≤ MAX_NUM_WORDS }
     ensures union { set_of words.new
-        ≡ fold (with_pair capacity num_hashes) (set_of words.old) (map (λ item. pair_of seed (fed_bytes T.hash_input item)) items.now) }
+        ≡ fold (with_pair capacity num_hashes) (set_of words.old) (map (pair_of seed) (B.inputs batch.now)) }
     ensures added { set.len (set_of words.new) ≡ set.len (set_of words.old) + result }
 {
     let mut added = 0;
-    let blocks = items.len().div_ceil(BLOCK);
+    let count = batch.count();
+    let blocks = count.div_ceil(BLOCK);
     let mut pairs = [(0, 0); BLOCK];
     // The label is for the prover.
     'each: for b in 0..blocks {
         let from = BLOCK * b;
-        let to = from + BLOCK.min(items.len() - from);
+        let to = from + BLOCK.min(count - from);
         let block = &mut pairs[..to - from];
-        hash_block(&items[from..to], seed, block);
+        hash_block(batch, from, seed, block);
         added += bit_set::insert_pairs(words, capacity, num_hashes, block);
     }
     added
@@ -82,32 +139,33 @@ pub fn insert_items<T: Hash>(
 /// Inserts the positions of all items, and writes for each item, in turn, whether all its positions were in the set
 /// before. Returns the number of new positions.
 #[inline(always)]
-pub fn contains_and_insert_items<T: Hash>(
+pub fn contains_and_insert_items<B: Batch>(
     words: &mut [u64],
     capacity: Divisor,
     num_hashes: u16,
     seed: u64,
-    items: &[T],
+    batch: &B,
     answers: &mut [bool],
 ) -> u64
     requires capacity { capacity ≡ 64 * length words.old }
     requires few { length words.old ≤ MAX_NUM_WORDS }
-    requires same { length answers.old ≡ length items.now }
+    requires same { length answers.old ≡ length (B.inputs batch.now) }
     ensures answers { answers.new
-        ≡ pairs_contained capacity num_hashes (set_of words.old) (map (λ item. pair_of seed (fed_bytes T.hash_input item)) items.now) }
+        ≡ pairs_contained capacity num_hashes (set_of words.old) (map (pair_of seed) (B.inputs batch.now)) }
     ensures union { set_of words.new
-        ≡ fold (with_pair capacity num_hashes) (set_of words.old) (map (λ item. pair_of seed (fed_bytes T.hash_input item)) items.now) }
+        ≡ fold (with_pair capacity num_hashes) (set_of words.old) (map (pair_of seed) (B.inputs batch.now)) }
     ensures added { set.len (set_of words.new) ≡ set.len (set_of words.old) + result }
 {
     let mut added = 0;
-    let blocks = items.len().div_ceil(BLOCK);
+    let count = batch.count();
+    let blocks = count.div_ceil(BLOCK);
     let mut pairs = [(0, 0); BLOCK];
     // The label is for the prover.
     'each: for b in 0..blocks {
         let from = BLOCK * b;
-        let to = from + BLOCK.min(items.len() - from);
+        let to = from + BLOCK.min(count - from);
         let block = &mut pairs[..to - from];
-        hash_block(&items[from..to], seed, block);
+        hash_block(batch, from, seed, block);
         let answers = &mut answers[from..to];
         added += bit_set::contains_and_insert_pairs(words, capacity, num_hashes, block, answers);
     }
@@ -116,28 +174,29 @@ pub fn contains_and_insert_items<T: Hash>(
 
 /// Writes for each item whether all its positions are in the set.
 #[inline(always)]
-pub fn contains_items<T: Hash>(
+pub fn contains_items<B: Batch>(
     words: &[u64],
     capacity: Divisor,
     num_hashes: u16,
     seed: u64,
-    items: &[T],
+    batch: &B,
     answers: &mut [bool],
 )
     requires capacity { capacity ≡ 64 * length words.now }
     requires some_hashes { 1 ≤ num_hashes }
-    requires same { length answers.old ≡ length items.now }
+    requires same { length answers.old ≡ length (B.inputs batch.now) }
     ensures { answers.new
-        ≡ map (λ item. contains_pair capacity num_hashes (set_of words.now) (pair_of seed (fed_bytes T.hash_input item))) items.now }
+        ≡ map (λ input. contains_pair capacity num_hashes (set_of words.now) (pair_of seed input)) (B.inputs batch.now) }
 {
-    let blocks = items.len().div_ceil(BLOCK);
+    let count = batch.count();
+    let blocks = count.div_ceil(BLOCK);
     let mut pairs = [(0, 0); BLOCK];
     // The label is for the prover.
     'each: for b in 0..blocks {
         let from = BLOCK * b;
-        let to = from + BLOCK.min(items.len() - from);
+        let to = from + BLOCK.min(count - from);
         let block = &mut pairs[..to - from];
-        hash_block(&items[from..to], seed, block);
+        hash_block(batch, from, seed, block);
         bit_set::contains_pairs(words, capacity, num_hashes, block, &mut answers[from..to]);
     }
 }

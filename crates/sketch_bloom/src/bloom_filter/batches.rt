@@ -7,7 +7,7 @@ ghost use Rattle.sketch_bloom.specs.Stands.{Extends, ExtendsByAll};
 ghost use Rattle.sketch_bloom.specs.State.{IsFilterState, IsCompatible, contains_item, answers_in_turn, all_inserted, all_united};
 
 use crate::bloom_filter::BloomFilter;
-use crate::hashes::{contains_and_insert_items, contains_items, insert_items};
+use crate::hashes::{Batch, ItemBatch, contains_and_insert_items, contains_items, insert_items};
 use crate::set_operation::SetOperation;
 use sketch_base::{Error, Fault};
 use std::hash::Hash;
@@ -21,14 +21,7 @@ impl BloomFilter {
         ensures state { IsFilterState self.new }
         ensures stands { Extends self.old self.new (λ h. all_inserted_after h (map (fed_bytes T.hash_input) items.now)) }
     {
-        let added = insert_items(
-            &mut self.words,
-            self.capacity,
-            self.num_hashes,
-            self.seed,
-            items,
-        );
-        self.bits_used += added;
+        self.insert_batch(&ItemBatch { items });
     }
 
     /// Writes for each item to `answers` whether all its positions are in the set, as [`contains`](Self::contains)
@@ -51,14 +44,7 @@ impl BloomFilter {
         requires { length answers.old ≡ length items.now }
         ensures { answers.new ≡ map (λ item. contains_item self.now (fed_bytes T.hash_input item)) items.now }
     {
-        contains_items(
-            &self.words,
-            self.capacity,
-            self.num_hashes,
-            self.seed,
-            items,
-            answers,
-        );
+        self.contains_batch(&ItemBatch { items }, answers);
     }
 
     /// Inserts the positions of all items, and writes for each item to `answers` whether it was contained before, as
@@ -86,12 +72,57 @@ impl BloomFilter {
         ensures state { IsFilterState self.new }
         ensures stands { Extends self.old self.new (λ h. all_inserted_after h (map (fed_bytes T.hash_input) items.now)) }
     {
+        self.contains_and_insert_batch(&ItemBatch { items }, answers);
+    }
+
+    /// Inserts the positions of all items of a batch.
+    #[inline(always)]
+    pub(super) fn insert_batch<B: Batch>(&mut self, batch: &B)
+        ensures insertions { self.new ≡ all_inserted self.old (B.inputs batch.now) }
+        ensures state { IsFilterState self.new }
+        ensures stands { Extends self.old self.new (λ h. all_inserted_after h (B.inputs batch.now)) }
+    {
+        let added = insert_items(
+            &mut self.words,
+            self.capacity,
+            self.num_hashes,
+            self.seed,
+            batch,
+        );
+        self.bits_used += added;
+    }
+
+    /// Writes for each item of a batch whether all its positions are in the set.
+    #[inline(always)]
+    pub(super) fn contains_batch<B: Batch>(&self, batch: &B, answers: &mut [bool])
+        requires { length answers.old ≡ length (B.inputs batch.now) }
+        ensures { answers.new ≡ map (contains_item self.now) (B.inputs batch.now) }
+    {
+        contains_items(
+            &self.words,
+            self.capacity,
+            self.num_hashes,
+            self.seed,
+            batch,
+            answers,
+        );
+    }
+
+    /// Inserts the positions of all items of a batch, and writes for each item whether it was contained before.
+    #[inline(always)]
+    pub(super) fn contains_and_insert_batch<B: Batch>(&mut self, batch: &B, answers: &mut [bool])
+        requires { length answers.old ≡ length (B.inputs batch.now) }
+        ensures answers { answers.new ≡ answers_in_turn self.old (B.inputs batch.now) }
+        ensures insertions { self.new ≡ all_inserted self.old (B.inputs batch.now) }
+        ensures state { IsFilterState self.new }
+        ensures stands { Extends self.old self.new (λ h. all_inserted_after h (B.inputs batch.now)) }
+    {
         let added = contains_and_insert_items(
             &mut self.words,
             self.capacity,
             self.num_hashes,
             self.seed,
-            items,
+            batch,
             answers,
         );
         self.bits_used += added;

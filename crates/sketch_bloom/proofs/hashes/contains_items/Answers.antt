@@ -1,9 +1,9 @@
-use Rattle.std.proofs.Common.{◌+◌, ◌-◌, ◌*◌, ℕ, map, take, drop, refl, ap, ◌∙◌, arith}
+use Rattle.std.proofs.Common.{List, ◌≡◌, ◌+◌, ◌-◌, ◌*◌, ℕ, map, take, drop, refl, ap, ◌∙◌, arith}
 use Rattle.std.proofs.lemmas.Simd.{map-map}
 use Rattle.sketch_base.specs.Batches.{written_block, written_all}
-use Rattle.sketch_base.specs.Hashes.{fed_bytes}
 use Rattle.sketch_bloom.specs.BitSet.{set_of}
 use Rattle.sketch_bloom.specs.Pairs.{pair_of, contains_pair}
+use Rattle.sketch_bloom.proofs.Batches.{block_hashed}
 use Rattle.sketch_bloom.proofs.hashes.contains_items.Goals as goal
 
 pub each-init : goal.each-init
@@ -13,14 +13,17 @@ pub each-preserved : goal.each-preserved
 each-preserved g c =
     let from : ℕ = 16 * c.each.b in
     let to : ℕ = from + c.min.result in
-    let answer = λ (item : g.row.T.Denot). contains_pair c.args.capacity c.args.num_hashes (set_of c.args.words.now) (pair_of c.args.seed (fed_bytes g.T.Hash.hash_input item)) in
-    let block = take (to - from) (drop from c.args.items.now) in
-    written_block answer c.args.items.now c.each.answers c.contains_pairs.new.answers from to (16 * (c.each.b + 1)) (to - from)
+    let answer = λ (input : List ℕ). contains_pair c.args.capacity c.args.num_hashes (set_of c.args.words.now) (pair_of c.args.seed input) in
+    let inputs = g.B.Batch.inputs c.args.batch.now in
+    let block = take (to - from) (drop from inputs) in
+    let hashed : c.hash_block.new.pairs ≡ map (pair_of c.args.seed) block = block_hashed (pair_of c.args.seed) inputs c.each.pairs c.hash_block.new.pairs from (to - from) (omega arith) c.hash_block.ensures in
+    written_block answer inputs c.each.answers c.contains_pairs.new.answers from to (16 * (c.each.b + 1)) (to - from)
     (omega arith) (omega arith) (λ l. omega arith) (omega arith) (omega arith) refl
-    (c.contains_pairs.ensures ∙ (ap (map (contains_pair c.args.capacity c.args.num_hashes (set_of c.args.words.now))) c.hash_block.ensures ∙ map-map _ _ block))
+    (c.contains_pairs.ensures ∙ (ap (map (contains_pair c.args.capacity c.args.num_hashes (set_of c.args.words.now))) hashed ∙ map-map _ _ block))
     c.each.invariant
 
 pub returns : goal.returns
 returns g c =
-    let answer = λ (item : g.row.T.Denot). contains_pair c.args.capacity c.args.num_hashes (set_of c.args.words.now) (pair_of c.args.seed (fed_bytes g.T.Hash.hash_input item)) in
-    written_all answer c.args.items.now c.each.answers (16 * c.each.b) (omega arith) (omega arith) c.each.invariant
+    let answer = λ (input : List ℕ). contains_pair c.args.capacity c.args.num_hashes (set_of c.args.words.now) (pair_of c.args.seed input) in
+    let inputs = g.B.Batch.inputs c.args.batch.now in
+    written_all answer inputs c.each.answers (16 * c.each.b) (omega arith) (omega arith) c.each.invariant

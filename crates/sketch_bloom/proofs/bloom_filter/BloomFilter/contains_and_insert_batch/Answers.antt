@@ -1,6 +1,5 @@
 use Rattle.std.proofs.Common.{ℕ, List, map, sym, ap, ◌∙◌, subst, arith}
 use Rattle.std.specs.List.{fold}
-use Rattle.sketch_base.specs.Hashes.{fed_bytes}
 use Rattle.sketch_bloom.specs.BitSet.{set_of}
 use Rattle.sketch_bloom.specs.History.{all_inserted_after}
 use Rattle.sketch_bloom.specs.Pairs.{pair_of, with_pair, pairs_contained}
@@ -10,7 +9,7 @@ use Rattle.sketch_bloom.proofs.Answering.{answers_are}
 use Rattle.sketch_bloom.proofs.Counting.{count_fits}
 use Rattle.sketch_bloom.proofs.Inserting.{inserted_state, all_inserted_stands}
 use Rattle.sketch_bloom.proofs.States.{state_of, added_filter, written_state}
-use Rattle.sketch_bloom.proofs.bloom_filter.BloomFilter.contains_and_insert_all.Goals as goal
+use Rattle.sketch_bloom.proofs.bloom_filter.BloomFilter.contains_and_insert_batch.Goals as goal
 
 pub overflow_add-self : goal.overflow_add-self
 overflow_add-self g c = record { fits = count_fits _ _ c.self.invariant c.deref_mut.ensures.value c.contains_and_insert_items-added.auto.words c.contains_and_insert_items-added.ensures.added }
@@ -20,27 +19,27 @@ invariant_of-self g c = added_filter c.self.inside.words c.deref_mut.result.now 
 
 pub returns-clause-insertions : goal.returns-clause-insertions
 returns-clause-insertions g c =
-    let fed = fed_bytes g.T.Hash.hash_input in
+    let inputs = g.B.Batch.inputs c.args.batch.now in
     let inside = c.self.inside in
-    inserted_state fed inside.words c.contains_and_insert_items-added.new.words inside.capacity inside.num_hashes inside.seed c.args.items.now (omega arith) c.self.invariant.capacity_is
-    (c.contains_and_insert_items-added.ensures.union ∙ ap (λ (ws : List ℕ). fold (with_pair inside.capacity inside.num_hashes) (set_of ws) (map (λ item. pair_of inside.seed (fed item)) c.args.items.now)) c.deref_mut.ensures.value)
-    ∙ ap (λ (s : FilterState). all_inserted s (map fed c.args.items.now)) c.self.view_is
+    inserted_state inside.words c.contains_and_insert_items-added.new.words inside.capacity inside.num_hashes inside.seed inputs (omega arith) c.self.invariant.capacity_is
+    (c.contains_and_insert_items-added.ensures.union ∙ ap (λ (ws : List ℕ). fold (with_pair inside.capacity inside.num_hashes) (set_of ws) (map (pair_of inside.seed) inputs)) c.deref_mut.ensures.value)
+    ∙ ap (λ (s : FilterState). all_inserted s inputs) c.self.view_is
 
 pub returns-clause-state : goal.returns-clause-state
 returns-clause-state g c = written_state c.self.inside.words c.contains_and_insert_items-added.new.words c.self.inside.capacity c.self.inside.num_hashes c.self.inside.bits_used c.self.inside.seed c.self.invariant (omega arith)
 
 pub returns-clause-stands : goal.returns-clause-stands
 returns-clause-stands g c = λ h e.
-    let items = map (fed_bytes g.T.Hash.hash_input) c.args.items.now in
-    subst (λ (s : FilterState). StandsFor s (all_inserted_after h items)) (sym (returns-clause-insertions g c)) (all_inserted_stands c.args.self.now h items e)
+    let inputs = g.B.Batch.inputs c.args.batch.now in
+    subst (λ (s : FilterState). StandsFor s (all_inserted_after h inputs)) (sym (returns-clause-insertions g c)) (all_inserted_stands c.args.self.now h inputs e)
 
 pub returns-clause-answers : goal.returns-clause-answers
 returns-clause-answers g c =
-    let fed = fed_bytes g.T.Hash.hash_input in
+    let inputs = g.B.Batch.inputs c.args.batch.now in
     let inside = c.self.inside in
-    let pairs = map (λ item. pair_of inside.seed (fed item)) c.args.items.now in
+    let pairs = map (pair_of inside.seed) inputs in
     c.contains_and_insert_items-added.ensures.answers
     ∙ (ap (λ (ws : List ℕ). pairs_contained inside.capacity inside.num_hashes (set_of ws) pairs) c.deref_mut.ensures.value
     ∙ (ap (λ (capacity : ℕ). pairs_contained capacity inside.num_hashes (set_of inside.words.items) pairs) c.self.invariant.capacity_is
-    ∙ (answers_are fed (state_of inside.words.items inside.num_hashes inside.seed) c.args.items.now
-    ∙ ap (λ (s : FilterState). answers_in_turn s (map fed c.args.items.now)) c.self.view_is)))
+    ∙ (answers_are (state_of inside.words.items inside.num_hashes inside.seed) inputs
+    ∙ ap (λ (s : FilterState). answers_in_turn s inputs) c.self.view_is)))
