@@ -1,12 +1,11 @@
 -- The updates by several strings, one after another.
-use Rattle.std.proofs.Common.{◌≡◌, ℕ, ◌<◌, Bool, true, false, eqb, List, [], ◌∷◌, ◌++◌, length, map, append_assoc, refl, sym, ◌∙◌, ap, subst, arith}
+use Rattle.std.proofs.Common.{◌≡◌, ℕ, ◌<◌, true, false, eqb, List, [], ◌∷◌, ◌++◌, length, map, append_assoc, refl, sym, ◌∙◌, ap, subst, arith}
 use Rattle.std.proofs.lemmas.Bool.{false≢true}
 use Rattle.std.proofs.lemmas.Bool.Decides.{nat_tests}
 use Rattle.std.specs.Cmp.{IsEquivalence, on_equiv}
 use Rattle.std.specs.Cmp.Lexicographic.{bytes_decides, nat_list_eq_equiv}
 use Rattle.std.specs.Global.{Global}
 use Rattle.std.specs.Prelude.{IsTrue}
-use Rattle.std.specs.Str.{bytes_eq}
 use Rattle.std.specs.String.{string_bytes, string_eq}
 use Rattle.std.specs.declared.string.String.{String}
 use Rattle.sketch_base.specs.Errors.{ErrorValue, invalid_argument, no_memory}
@@ -17,12 +16,8 @@ use Rattle.sketch_frequencies.specs.History.FrequentHistory.{Update}
 use Rattle.sketch_frequencies.specs.Stands.{Extends, ExtendsBudget}
 use Rattle.sketch_frequencies.specs.State.{FrequentState, Overflows, TotalHasRoom}
 use Rattle.sketch_frequencies.specs.Steps.{StepsByKey}
-use Rattle.sketch_frequencies.specs.Strings.{UpdatesStrings, StopsAtString}
+use Rattle.sketch_frequencies.specs.Strings.{names_string, UpdatesStrings, StopsAtString}
 use Rattle.sketch_frequencies.proofs.Batches.{updates_none, updates_more}
-
--- a text names the items of its bytes
-abbrev pub says : List ℕ → String Global → Bool
-says text item = bytes_eq text (string_bytes item)
 
 -- the strings before those that are left were added
 pub record HasAdded (old : FrequentState (String Global)) (strings left : List (List ℕ)) (new : FrequentState (String Global)) : Type 0 where
@@ -52,12 +47,12 @@ nothing_more : {A : Type 0} (xs : List A) → xs ++ [] ≡ xs
 nothing_more [] = refl
 nothing_more (x ∷ xs) = ap (λ l. x ∷ l) (nothing_more xs)
 
-string_laws : IsEquivalence (string_eq {Z = Global})
+pub string_laws : IsEquivalence (string_eq {Z = Global})
 string_laws = on_equiv (λ (x : String Global). string_bytes x) nat_list_eq_equiv
 
 -- one more string
 pub added_more : (old mid new : FrequentState (String Global)) (strings left later : List (List ℕ)) (bytes : List ℕ) → HasAdded old strings left mid → left ≡ bytes ∷ later →
-    StepsByKey string_eq mid (says bytes) 1 new → ((x : String Global) → IsTrue (says bytes x) → Extends string_eq mid new (λ h. Update h x 1)) → ((x : String Global) → IsTrue (says bytes x) → ExtendsBudget string_eq mid new (λ h. Update h x 1)) → HasAdded old strings later new
+    StepsByKey string_eq mid (names_string bytes) 1 new → ((x : String Global) → IsTrue (names_string bytes x) → Extends string_eq mid new (λ h. Update h x 1)) → ((x : String Global) → IsTrue (names_string bytes x) → ExtendsBudget string_eq mid new (λ h. Update h x 1)) → HasAdded old strings later new
 added_more old mid new strings left later bytes so next step stands budget =
     let same : string_bytes step.item ≡ bytes = sym ((bytes_decides bytes (string_bytes step.item)).0 step.named) in
     record {
@@ -78,7 +73,7 @@ added_all old new strings left so none =
 
 -- or one was refused
 pub added_until : (old new : FrequentState (String Global)) (strings left later : List (List ℕ)) (bytes : List ℕ) (e : ErrorValue) → HasAdded old strings left new → left ≡ bytes ∷ later →
-    (Overflows new 1 → e ≡ invalid_argument WeightOverflow) → (TotalHasRoom new 1 → (e ≡ no_memory) × (is_tracked_by_key (says bytes) new.counters ≡ false)) → StopsAtString old strings e new
+    (Overflows new 1 → e ≡ invalid_argument WeightOverflow) → (TotalHasRoom new 1 → (e ≡ no_memory) × (is_tracked_by_key (names_string bytes) new.counters ≡ false)) → StopsAtString old strings e new
 added_until old new strings left later bytes e so next overflow memory = record {
   before = so.before;
   refused = bytes;

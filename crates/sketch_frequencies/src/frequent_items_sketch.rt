@@ -13,6 +13,7 @@ mod batches;
 mod images;
 mod merging;
 mod reports;
+mod strings;
 mod updates;
 mod words_and_lines;
 

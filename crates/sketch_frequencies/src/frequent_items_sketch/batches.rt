@@ -230,7 +230,7 @@ impl<T: Eq + Hash + Drop> FrequentItemsSketch<T> {
 }
 
 /// Returns whether the total has room for all weights.
-fn weights_fit(total: u64, weights: &[u64]) -> bool
+pub(super) fn weights_fit(total: u64, weights: &[u64]) -> bool
     ensures { IsTrue result ↔ (total + sum weights.now < 2 ^ 64) }
 {
     let mut room = u64::MAX - total;
