@@ -22,5 +22,6 @@ pub mod Fractions
 pub mod Histories
 pub mod States
 pub mod SeriesOfE
+pub mod StringUpdates
 pub mod SuggestedBuckets
 pub mod SuggestedHashes

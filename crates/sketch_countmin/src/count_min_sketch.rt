@@ -11,12 +11,13 @@ ghost use Rattle.sketch_countmin.specs.State.{IsCountState, SameShape, Counts, J
 
 mod batches;
 mod images;
+mod strings;
 mod words_and_lines;
 
 use crate::cells::{add_all, halve_all, row_seeds, same_cells, scale_all, zeros};
 use crate::count_min_value::CountMinValue;
 use crate::limits::{MAX_TABLE_ENTRIES, MIN_NUM_BUCKETS};
-use crate::rows::{add_to_rows, min_cell};
+use crate::rows::{HashItem, RowItem};
 use crate::unsigned_count_min_value::UnsignedCountMinValue;
 use sketch_base::{DEFAULT_UPDATE_SEED, Divisor, Error, ErrorKind, Fault, compute_seed_hash};
 use std::alloc::{AllocError, Global};
@@ -200,7 +201,7 @@ impl<T: CountMinValue> CountMinSketch<T> {
         ensures overflow { T.greatest < self.old.total + 1 → IsErrOf result (invalid_argument Fault.WeightOverflow) }
         ensures succeeds { self.old.total + 1 ≤ T.greatest → IsOk result }
     {
-        self.update_with_weight(item, T::ONE)
+        self.add_one(&HashItem { item: &item })
     }
 
     /// Adds `weight` to the item's cell in each row, and its absolute value to the total. Does not allocate.
@@ -225,17 +226,39 @@ impl<T: CountMinValue> CountMinSketch<T> {
             → IsErrOf result (invalid_argument Fault.WeightOverflow) }
         ensures succeeds { self.old.total + unsigned_abs (T.number weight) ≤ T.greatest → IsOk result }
     {
+        self.add(&HashItem { item: &item }, weight)
+    }
+
+    /// Adds 1 to the item's cell in each row, and to the total.
+    #[inline(always)]
+    fn add_one<R: RowItem<T>>(&mut self, item: &R) -> Result<(), Error>
+        ensures counted { OnOk result (Counts self.old (R.input item.now) (pos 1) self.new) }
+        ensures state { IsCountState T.greatest self.new }
+        ensures stands { OnOk result (Extends self.old self.new (λ h. Update h (R.input item.now) (pos 1))) }
+        ensures err { OnErr result (self.new ≡ self.old) }
+        ensures overflow { T.greatest < self.old.total + 1 → IsErrOf result (invalid_argument Fault.WeightOverflow) }
+        ensures succeeds { self.old.total + 1 ≤ T.greatest → IsOk result }
+    {
+        self.add(item, T::ONE)
+    }
+
+    /// Adds `weight` to the item's cell in each row, and its absolute value to the total.
+    #[inline(always)]
+    fn add<R: RowItem<T>>(&mut self, item: &R, weight: T) -> Result<(), Error>
+        ensures zero { T.number weight ≡ pos 0 → IsOk result × (self.new ≡ self.old) }
+        ensures counted { OnOk result (Counts self.old (R.input item.now) (T.number weight) self.new) }
+        ensures state { IsCountState T.greatest self.new }
+        ensures stands { OnOk result (Extends self.old self.new (λ h. Update h (R.input item.now) (T.number weight))) }
+        ensures err { OnErr result (self.new ≡ self.old) }
+        ensures overflow { T.greatest < self.old.total + unsigned_abs (T.number weight)
+            → IsErrOf result (invalid_argument Fault.WeightOverflow) }
+        ensures succeeds { self.old.total + unsigned_abs (T.number weight) ≤ T.greatest → IsOk result }
+    {
         let total = self.total_with(weight)?;
         if weight.to_number() == 0 {
             return Ok(());
         }
-        add_to_rows(
-            &mut self.counts,
-            self.buckets,
-            &self.row_seeds,
-            &item,
-            weight,
-        );
+        item.add_to_rows(&mut self.counts, self.buckets, &self.row_seeds, weight);
         self.total = total;
         Ok(())
     }
@@ -284,7 +307,20 @@ impl<T: CountMinValue> CountMinSketch<T> {
             IsMin self.now.hashes (others_share self.now.buckets self.now.seed h bytes)
             (T.number result -ℤ own_value h bytes) }
     {
-        min_cell(&self.counts, self.buckets, &self.row_seeds, &item)
+        self.least(&HashItem { item: &item })
+    }
+
+    /// Returns the minimum of the item's cells.
+    #[inline(always)]
+    fn least<R: RowItem<T>>(&self, item: &R) -> T
+        ensures least { IsMinCell self.now (R.input item.now) (T.number result) }
+        ensures encloses { (h : CountHistory) → StandsFor self.now h → IsNonnegative h
+            → (own_value h (R.input item.now) ≤ℤ T.number result) × (T.number result ≤ℤ pos self.now.total) }
+        ensures raised { (h : CountHistory) → StandsFor self.now h → IsExact h
+            → IsMin self.now.hashes (others_share self.now.buckets self.now.seed h (R.input item.now))
+            (T.number result -ℤ own_value h (R.input item.now)) }
+    {
+        item.min_cell(&self.counts, self.buckets, &self.row_seeds)
     }
 
     /// Returns the estimate. It is no lower bound of the item's true weight: collisions can raise it above that.

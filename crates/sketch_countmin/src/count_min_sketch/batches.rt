@@ -115,7 +115,7 @@ impl<T: CountMinValue> CountMinSketch<T> {
     }
 
     /// Returns whether the total has room for the absolute values of all weights.
-    fn has_room_for_weights(&self, weights: &[T]) -> bool
+    pub(super) fn has_room_for_weights(&self, weights: &[T]) -> bool
         ensures fits { IsTrue result
             ↔ (self.now.total + sum_by (λ weight. unsigned_abs (T.number weight)) weights.now ≤ T.greatest) }
 

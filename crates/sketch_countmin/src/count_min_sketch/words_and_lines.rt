@@ -53,7 +53,7 @@ impl<T: CountMinValue> CountMinSketch<T> {
             if word.is_empty() {
                 return Ok(());
             }
-            let Ok(()) = self.update(word) else {
+            let Ok(()) = self.update_str(word) else {
                 return Err(Error::invalid_argument(Fault::WeightOverflow));
             };
             rest = after;
@@ -96,7 +96,7 @@ impl<T: CountMinValue> CountMinSketch<T> {
         let _total = self.total;
         let mut rest = text;
         'each: while let Some((line, after)) = next_line(rest) {
-            let Ok(()) = self.update(line) else {
+            let Ok(()) = self.update_str(line) else {
                 return Err(Error::invalid_argument(Fault::WeightOverflow));
             };
             rest = after;

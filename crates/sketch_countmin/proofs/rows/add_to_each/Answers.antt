@@ -13,14 +13,14 @@ add_at-requires-clause-bounds g c = within _ _ _ c.index_in-index.ensures.inside
 
 pub add_at-requires-clause-room : goal.add_at-requires-clause-room
 add_at-requires-clause-room g c =
-    room_behind _ _ _ (buckets_by c.args.buckets c.args.row_seeds.now c.args.bytes.now) c.loop-row.row c.index_in-index.result _ _ c.loop-row.invariant c.index_in-index.ensures.index c.requires.room
+    room_behind _ _ _ (buckets_by c.args.buckets c.args.row_seeds.now (g.R.Rehashable.bytes c.args.bytes.now)) c.loop-row.row c.index_in-index.result _ _ c.loop-row.invariant c.index_in-index.ensures.index c.requires.room
 
 pub loop-row-preserved : goal.loop-row-preserved
 loop-row-preserved g c =
-    row_added g.T.CountMinValue.number _ _ (buckets_by c.args.buckets c.args.row_seeds.now c.args.bytes.now) c.loop-row.row (c.loop-row.row + 1) _ _ _ c.loop-row.counts c.add_at.new.counts c.loop-row.invariant refl
+    row_added g.T.CountMinValue.number _ _ (buckets_by c.args.buckets c.args.row_seeds.now (g.R.Rehashable.bytes c.args.bytes.now)) c.loop-row.row (c.loop-row.row + 1) _ _ _ c.loop-row.counts c.add_at.new.counts c.loop-row.invariant refl
     c.index_in-index.ensures.bucket c.index_in-index.ensures.index c.index_in-index.ensures.inside (c.loop-row.auto.counts ∙ c.requires.shape) c.add_at.ensures
 
 pub returns : goal.returns
 returns g c =
     let all : c.loop-row.row ≡ length c.args.row_seeds.now = omega arith in
-    subst (λ (n : ℕ). RowsAdded c.args.buckets (g.T.CountMinValue.number c.args.weight) (buckets_by c.args.buckets c.args.row_seeds.now c.args.bytes.now) n (map g.T.CountMinValue.number c.args.counts.now) (map g.T.CountMinValue.number c.loop-row.counts)) all c.loop-row.invariant
+    subst (λ (n : ℕ). RowsAdded c.args.buckets (g.T.CountMinValue.number c.args.weight) (buckets_by c.args.buckets c.args.row_seeds.now (g.R.Rehashable.bytes c.args.bytes.now)) n (map g.T.CountMinValue.number c.args.counts.now) (map g.T.CountMinValue.number c.loop-row.counts)) all c.loop-row.invariant

@@ -17,7 +17,7 @@ add_at-requires-2-clause-bounds g c = within _ _ _ c.index_in-second.ensures.ins
 
 pub add_at-requires-2-clause-room : goal.add_at-requires-2-clause-room
 add_at-requires-2-clause-room g c =
-    room_stays _ _ _ _ (buckets_by c.args.buckets c.args.row_seeds.now c.args.bytes.now) 0 1 c.index_in-first.result c.index_in-second.result _ _ (omega arith) c.index_in-first.ensures.bucket c.index_in-first.ensures.index c.index_in-second.ensures.index c.add_at.ensures
+    room_stays _ _ _ _ (buckets_by c.args.buckets c.args.row_seeds.now (g.R.Rehashable.bytes c.args.bytes.now)) 0 1 c.index_in-first.result c.index_in-second.result _ _ (omega arith) c.index_in-first.ensures.bucket c.index_in-first.ensures.index c.index_in-second.ensures.index c.add_at.ensures
     (c.requires.room c.index_in-second.result)
 
 pub add_at-requires-3-clause-bounds : goal.add_at-requires-3-clause-bounds
@@ -25,8 +25,8 @@ add_at-requires-3-clause-bounds g c = within _ _ _ c.index_in-third.ensures.insi
 
 pub add_at-requires-3-clause-room : goal.add_at-requires-3-clause-room
 add_at-requires-3-clause-room g c =
-    room_stays _ _ _ _ (buckets_by c.args.buckets c.args.row_seeds.now c.args.bytes.now) 1 2 c.index_in-second.result c.index_in-third.result _ _ (omega arith) c.index_in-second.ensures.bucket c.index_in-second.ensures.index c.index_in-third.ensures.index c.add_at-2.ensures
-    (room_stays _ _ _ _ (buckets_by c.args.buckets c.args.row_seeds.now c.args.bytes.now) 0 2 c.index_in-first.result c.index_in-third.result _ _ (omega arith) c.index_in-first.ensures.bucket c.index_in-first.ensures.index c.index_in-third.ensures.index c.add_at.ensures
+    room_stays _ _ _ _ (buckets_by c.args.buckets c.args.row_seeds.now (g.R.Rehashable.bytes c.args.bytes.now)) 1 2 c.index_in-second.result c.index_in-third.result _ _ (omega arith) c.index_in-second.ensures.bucket c.index_in-second.ensures.index c.index_in-third.ensures.index c.add_at-2.ensures
+    (room_stays _ _ _ _ (buckets_by c.args.buckets c.args.row_seeds.now (g.R.Rehashable.bytes c.args.bytes.now)) 0 2 c.index_in-first.result c.index_in-third.result _ _ (omega arith) c.index_in-first.ensures.bucket c.index_in-first.ensures.index c.index_in-third.ensures.index c.add_at.ensures
     (c.requires.room c.index_in-third.result))
 
 pub add_at-requires-4-clause-bounds : goal.add_at-requires-4-clause-bounds
@@ -34,9 +34,9 @@ add_at-requires-4-clause-bounds g c = within _ _ _ c.index_in-fourth.ensures.ins
 
 pub add_at-requires-4-clause-room : goal.add_at-requires-4-clause-room
 add_at-requires-4-clause-room g c =
-    room_stays _ _ _ _ (buckets_by c.args.buckets c.args.row_seeds.now c.args.bytes.now) 2 3 c.index_in-third.result c.index_in-fourth.result _ _ (omega arith) c.index_in-third.ensures.bucket c.index_in-third.ensures.index c.index_in-fourth.ensures.index c.add_at-3.ensures
-    (room_stays _ _ _ _ (buckets_by c.args.buckets c.args.row_seeds.now c.args.bytes.now) 1 3 c.index_in-second.result c.index_in-fourth.result _ _ (omega arith) c.index_in-second.ensures.bucket c.index_in-second.ensures.index c.index_in-fourth.ensures.index c.add_at-2.ensures
-    (room_stays _ _ _ _ (buckets_by c.args.buckets c.args.row_seeds.now c.args.bytes.now) 0 3 c.index_in-first.result c.index_in-fourth.result _ _ (omega arith) c.index_in-first.ensures.bucket c.index_in-first.ensures.index c.index_in-fourth.ensures.index c.add_at.ensures
+    room_stays _ _ _ _ (buckets_by c.args.buckets c.args.row_seeds.now (g.R.Rehashable.bytes c.args.bytes.now)) 2 3 c.index_in-third.result c.index_in-fourth.result _ _ (omega arith) c.index_in-third.ensures.bucket c.index_in-third.ensures.index c.index_in-fourth.ensures.index c.add_at-3.ensures
+    (room_stays _ _ _ _ (buckets_by c.args.buckets c.args.row_seeds.now (g.R.Rehashable.bytes c.args.bytes.now)) 1 3 c.index_in-second.result c.index_in-fourth.result _ _ (omega arith) c.index_in-second.ensures.bucket c.index_in-second.ensures.index c.index_in-fourth.ensures.index c.add_at-2.ensures
+    (room_stays _ _ _ _ (buckets_by c.args.buckets c.args.row_seeds.now (g.R.Rehashable.bytes c.args.bytes.now)) 0 3 c.index_in-first.result c.index_in-fourth.result _ _ (omega arith) c.index_in-first.ensures.bucket c.index_in-first.ensures.index c.index_in-fourth.ensures.index c.add_at.ensures
     (c.requires.room c.index_in-fourth.result)))
 
 pub returns : goal.returns
@@ -44,7 +44,7 @@ returns g c =
     let num = g.T.CountMinValue.number in
     let d : ℕ = c.args.buckets in
     let w : ℤ = num c.args.weight in
-    let bucket = buckets_by d c.args.row_seeds.now c.args.bytes.now in
+    let bucket = buckets_by d c.args.row_seeds.now (g.R.Rehashable.bytes c.args.bytes.now) in
     let old : List ℤ = map num c.args.counts.now in
     let size : ℕ = length c.args.row_seeds.now * d in
     let long : length c.add_at.new.counts ≡ size = c.add_at.auto.counts ∙ c.requires.shape in

@@ -3,18 +3,18 @@ use Rattle.sketch_countmin.proofs.Places.{inside_wide}
 use Rattle.sketch_countmin.proofs.rows.index_in.Goals as goal
 
 pub overflow_mul-result : goal.overflow_mul-result
-overflow_mul-result c =
+overflow_mul-result g c =
     let cells = length c.args.row_seeds.now * c.args.buckets in
     let start : c.args.row * c.divisor.result + 0 < cells = inside_wide c.args.buckets (length c.args.row_seeds.now) c.args.row 0 cells c.divisor.result c.divisor.ensures.value refl c.requires.row (omega (arith, c.divisor.ensures.above_one, c.divisor.ensures.value)) in
     omega (arith, start, c.requires.fits)
 
 pub overflow_add-result : goal.overflow_add-result
-overflow_add-result c =
+overflow_add-result g c =
     let cells = length c.args.row_seeds.now * c.args.buckets in
     let index : c.args.row * c.divisor.result + c.bucket_in-bucket.result < cells = inside_wide c.args.buckets (length c.args.row_seeds.now) c.args.row c.bucket_in-bucket.result cells c.divisor.result c.divisor.ensures.value refl c.requires.row c.bucket_in-bucket.ensures.below in
     omega (arith, index, c.requires.fits)
 
 pub returns-clause-inside : goal.returns-clause-inside
-returns-clause-inside c =
+returns-clause-inside g c =
     let cells = length c.args.row_seeds.now * c.args.buckets in
     inside_wide c.args.buckets (length c.args.row_seeds.now) c.args.row c.bucket_in-bucket.result cells c.divisor.result c.divisor.ensures.value refl c.requires.row c.bucket_in-bucket.ensures.below

@@ -1,4 +1,4 @@
-use Rattle.std.proofs.Common.{ℕ, List, inl, inr, rules, ◌≡◌, ◌+◌, ◌-◌, ◌<◌, ◌≤◌, ◌∷◌, [], ap, length, map, take, subst, sym, ◌∙◌, arith}
+use Rattle.std.proofs.Common.{ℕ, List, inl, inr, rules, ◌≡◌, ◌+◌, ◌-◌, ◌<◌, ◌≤◌, [], ap, length, map, take, subst, sym, arith}
 use Rattle.std.specs.Hash as fed
 use Rattle.std.proofs.lemmas.Bool.{cases_lt, false≢true}
 use Rattle.std.proofs.lemmas.List.{length-map}
@@ -25,29 +25,29 @@ each-preserved g c =
     let f = fed_bytes fed.str in
     let next = ap (map f) (subst (λ r. TakesLine c.each.rest.now r) c.in-Some.is c.next_line.ensures).0 in (
       search rules,
-      counted_more c.args.self.now c.each.self c.update.new.self (map f (lines c.args.text.now)) (map f (lines c.each.rest.now)) (map f (lines c.in-Some.after.now)) (f c.in-Some.line.now) c.each.invariant.1 next c.in-Ok.ensures.counted,
-      c.update.ensures.state,
+      counted_more c.args.self.now c.each.self c.update_str.new.self (map f (lines c.args.text.now)) (map f (lines c.each.rest.now)) (map f (lines c.in-Some.after.now)) (f c.in-Some.line.now) c.each.invariant.1 next c.in-Ok.ensures.counted,
+      c.update_str.ensures.state,
     )
 
 -- the total has no room for the next one
-stopped : (g : given.Over) (c : After-invalid_argument g) → CountsAll c.args.self.now (take (g.T.CountMinValue.greatest - c.args.self.now.total) (map (fed_bytes fed.str) (lines c.args.text.now))) c.update.new.self × (g.T.CountMinValue.greatest < c.args.self.now.total + length (lines c.args.text.now))
+stopped : (g : given.Over) (c : After-invalid_argument g) → CountsAll c.args.self.now (take (g.T.CountMinValue.greatest - c.args.self.now.total) (map (fed_bytes fed.str) (lines c.args.text.now))) c.update_str.new.self × (g.T.CountMinValue.greatest < c.args.self.now.total + length (lines c.args.text.now))
 stopped g c =
     let f = fed_bytes fed.str in
     let over : g.T.CountMinValue.greatest < c.each.self.total + 1 =
-    elim (cases_lt g.T.CountMinValue.greatest (c.each.self.total + 1)) [ inl lt ↦ lt | inr le ↦ absurd (false≢true (c.in_default-update.ensures.succeeds le)) ] in
+    elim (cases_lt g.T.CountMinValue.greatest (c.each.self.total + 1)) [ inl lt ↦ lt | inr le ↦ absurd (false≢true (c.in_default-update_str.ensures.succeeds le)) ] in
     let next = ap (map f) (subst (λ r. TakesLine c.each.rest.now r) c.in-Some.is c.next_line.ensures).0 in
     let found = counted_stop c.args.self.now c.each.self (map f (lines c.args.text.now)) (map f (lines c.each.rest.now)) (map f (lines c.in-Some.after.now)) (f c.in-Some.line.now) g.T.CountMinValue.greatest c.each.invariant.1 next c.each.invariant.2.fits over in
     let long : length (map f (lines c.args.text.now)) ≡ length (lines c.args.text.now) = length-map (lines c.args.text.now) f in
-    (subst (λ (s : CountState). CountsAll c.args.self.now (take (g.T.CountMinValue.greatest - c.args.self.now.total) (map f (lines c.args.text.now))) s) (sym c.in_default-update.ensures.err) found.0, omega (arith, found.1, long))
+    (subst (λ (s : CountState). CountsAll c.args.self.now (take (g.T.CountMinValue.greatest - c.args.self.now.total) (map f (lines c.args.text.now))) s) (sym c.in_default-update_str.ensures.err) found.0, omega (arith, found.1, long))
 
-pub returns-in_default-update-clause-counted : goal.returns-in_default-update-clause-counted
-returns-in_default-update-clause-counted g c = (stopped g (goal.at.returns-in_default-update-clause-counted g c).After-invalid_argument).0
+pub returns-in_default-update_str-clause-counted : goal.returns-in_default-update_str-clause-counted
+returns-in_default-update_str-clause-counted g c = (stopped g (goal.at.returns-in_default-update_str-clause-counted g c).After-invalid_argument).0
 
-pub returns-in_default-update-clause-stands : goal.returns-in_default-update-clause-stands
-returns-in_default-update-clause-stands g c = λ h. stands_all _ _ _ h (stopped g (goal.at.returns-in_default-update-clause-stands g c).After-invalid_argument).0
+pub returns-in_default-update_str-clause-stands : goal.returns-in_default-update_str-clause-stands
+returns-in_default-update_str-clause-stands g c = λ h. stands_all _ _ _ h (stopped g (goal.at.returns-in_default-update_str-clause-stands g c).After-invalid_argument).0
 
-pub returns-in_default-update-clause-succeeds : goal.returns-in_default-update-clause-succeeds
-returns-in_default-update-clause-succeeds g c = let over = (stopped g (goal.at.returns-in_default-update-clause-succeeds g c).After-invalid_argument).1 in λ fits. absurd (omega (arith, over))
+pub returns-in_default-update_str-clause-succeeds : goal.returns-in_default-update_str-clause-succeeds
+returns-in_default-update_str-clause-succeeds g c = let over = (stopped g (goal.at.returns-in_default-update_str-clause-succeeds g c).After-invalid_argument).1 in λ fits. absurd (omega (arith, over))
 
 -- all lines are counted
 ended : (g : given.Over) (c : In_default g) → CountsAll c.args.self.now (take (g.T.CountMinValue.greatest - c.args.self.now.total) (map (fed_bytes fed.str) (lines c.args.text.now))) c.each.self × (c.args.self.now.total + length (lines c.args.text.now) ≤ g.T.CountMinValue.greatest)

@@ -1,4 +1,4 @@
-use Rattle.std.proofs.Common.{inl, inr, rules, ◌≡◌, ◌+◌, ◌-◌, ◌<◌, ◌≤◌, ◌∷◌, [], ap, length, map, take, subst, sym, ◌∙◌, arith}
+use Rattle.std.proofs.Common.{inl, inr, rules, ◌≡◌, ◌+◌, ◌-◌, ◌<◌, ◌≤◌, length, map, take, subst, sym, ◌∙◌, arith}
 use Rattle.std.specs.Hash as fed
 use Rattle.std.proofs.lemmas.Bool.{cases_lt, false≢true}
 use Rattle.std.proofs.lemmas.List.{length-map}
@@ -24,8 +24,8 @@ each-preserved g c =
     let f = fed_bytes fed.str in
     let next = next_word_is (words_of c.each.rest.now) (words_of c.next_word.result.1.now) c.next_word.result.0.now f c.next_word.ensures.words (sym c.is_empty.ensures ∙ c.if-is_empty.false) in (
       search rules,
-      counted_more c.args.self.now c.each.self c.update.new.self (map f (words_of c.args.text.now)) (map f (words_of c.each.rest.now)) (map f (words_of c.next_word.result.1.now)) (f c.next_word.result.0.now) c.each.invariant.1 next c.in-Ok.ensures.counted,
-      c.update.ensures.state,
+      counted_more c.args.self.now c.each.self c.update_str.new.self (map f (words_of c.args.text.now)) (map f (words_of c.each.rest.now)) (map f (words_of c.next_word.result.1.now)) (f c.next_word.result.0.now) c.each.invariant.1 next c.in-Ok.ensures.counted,
+      c.update_str.ensures.state,
     )
 
 -- all words are counted
@@ -47,7 +47,7 @@ pub returns-then-is_empty-clause-overflow : goal.returns-then-is_empty-clause-ov
 returns-then-is_empty-clause-overflow g c = let fits = (ended g (goal.at.returns-then-is_empty-clause-overflow g c).Then-is_empty).1 in λ over. absurd (omega (arith, fits))
 
 -- the total has no room for the next one
-stopped : (g : given.Over) (c : After-invalid_argument g) → CountsAll c.args.self.now (take (g.T.CountMinValue.greatest - c.args.self.now.total) (map (fed_bytes fed.str) (words_of c.args.text.now))) c.update.new.self × (g.T.CountMinValue.greatest < c.args.self.now.total + length (words_of c.args.text.now))
+stopped : (g : given.Over) (c : After-invalid_argument g) → CountsAll c.args.self.now (take (g.T.CountMinValue.greatest - c.args.self.now.total) (map (fed_bytes fed.str) (words_of c.args.text.now))) c.update_str.new.self × (g.T.CountMinValue.greatest < c.args.self.now.total + length (words_of c.args.text.now))
 stopped g c =
     let f = fed_bytes fed.str in
     let over : g.T.CountMinValue.greatest < c.each.self.total + 1 =

@@ -2,7 +2,7 @@ use Rattle.std.proofs.Common.{◌≡◌, ℕ, List, ℤ, length, map, sym, subst
 use Rattle.std.proofs.lemmas.Bool.{false≢true}
 use Rattle.sketch_countmin.specs.Buckets.{buckets_by}
 use Rattle.sketch_countmin.specs.Cells.{IsMinOf}
-use Rattle.sketch_countmin.proofs.rows.min_cell.Goals as goal
+use Rattle.sketch_countmin.proofs.rows.min_of_item.Goals as goal
 
 -- the bytes that were kept are those that the item feeds
 by_item : (d : ℕ) (cells : List ℤ) (seeds kept fed : List ℕ) (z : ℤ) → kept ≡ fed → IsMinOf d cells (buckets_by d seeds kept) (length seeds) z → IsMinOf d cells (buckets_by d seeds fed) (length seeds) z
@@ -21,13 +21,13 @@ pub returns-in-None : goal.returns-in-None
 returns-in-None g c = c.min_long.ensures
 
 pub min_of_each-requires : goal.min_of_each-requires
-min_of_each-requires g c = record { masked = λ masked. absurd (false≢true masked); short = c.in-Some.ensures.few; rows = c.requires.rows; shape = c.requires.shape }
+min_of_each-requires g c = record { masked = λ masked. absurd (false≢true masked); hashable = c.in-Some.ensures.few; rows = c.requires.rows; shape = c.requires.shape }
 
 pub min_of_each-requires-in-Some-3 : goal.min_of_each-requires-in-Some-3
-min_of_each-requires-in-Some-3 g c = record { masked = λ _. sym c.if-not-is_power_of_two.ensures; short = c.in-Some.ensures.few; rows = c.requires.rows; shape = c.requires.shape }
+min_of_each-requires-in-Some-3 g c = record { masked = λ _. sym c.if-not-is_power_of_two.ensures; hashable = c.in-Some.ensures.few; rows = c.requires.rows; shape = c.requires.shape }
 
 pub min_of_four-requires : goal.min_of_four-requires
-min_of_four-requires g c = record { power = sym c.if-not-is_power_of_two.ensures; short = c.in-Some.ensures.few; four = c.if-row_seeds-eq4.true; shape = c.requires.shape }
+min_of_four-requires g c = record { power = sym c.if-not-is_power_of_two.ensures; hashable = c.in-Some.ensures.few; four = c.if-row_seeds-eq4.true; shape = c.requires.shape }
 
 pub min_long-requires : goal.min_long-requires
 min_long-requires g c = record { shape = c.requires.shape; rows = c.requires.rows }

@@ -1,7 +1,6 @@
 use Rattle.std.proofs.Common.{arith, ap, subst, sym, refl, ◌∙◌, ◌≡◌, ℕ, ◌+◌, ◌≤◌, map, length, ℤ, pos, unsigned_abs, List, slice_index}
 use Rattle.std.proofs.lemmas.Int.{ints}
 use Rattle.std.proofs.lemmas.Result.{IfOk-from_err, err_from_is_err_and}
-use Rattle.sketch_base.specs.Hashes.{fed_bytes}
 use Rattle.sketch_countmin.specs.Buckets.{bucket_by}
 use Rattle.sketch_countmin.specs.Cells.{RowsAdded}
 use Rattle.sketch_countmin.specs.State.{CountState, Counts}
@@ -10,9 +9,9 @@ use Rattle.sketch_countmin.proofs.Places.{lent_shape}
 use Rattle.sketch_countmin.proofs.Tables.{is_state, state_shown}
 use Rattle.sketch_countmin.proofs.Updates.{written_back, rows_added_own, length_own, room_here, updated, counts_here, uncounted}
 use Rattle.sketch_countmin.proofs.Standing.{stands_counted}
-use Rattle.sketch_countmin.proofs.count_min_sketch.CountMinSketch.update_with_weight.Given as given
-use Rattle.sketch_countmin.proofs.count_min_sketch.CountMinSketch.update_with_weight.Goals as goal
-use Rattle.sketch_countmin.proofs.count_min_sketch.CountMinSketch.update_with_weight.Goals.{After-add_to_rows}
+use Rattle.sketch_countmin.proofs.count_min_sketch.CountMinSketch.add.Given as given
+use Rattle.sketch_countmin.proofs.count_min_sketch.CountMinSketch.add.Goals as goal
+use Rattle.sketch_countmin.proofs.count_min_sketch.CountMinSketch.add.Goals.{After-add_to_rows}
 
 -- the new total, by the old one of the parts
 total_sum : (s u : CountState) (w t : ℤ) → s ≡ u → t ≡ pos (u.total + unsigned_abs w) → t ≡ pos (s.total + unsigned_abs w)
@@ -20,10 +19,10 @@ total_sum s u w t e h = h ∙ ap (λ (v : CountState). pos (v.total + unsigned_a
 
 -- have the weight added in each row
 added : (g : given.Over) (c : After-add_to_rows g) → let i = c.self.inside in let number = g.T.CountMinValue.number in
-    RowsAdded i.buckets (number c.args.weight) (λ r. bucket_by i.buckets (slice_index i.row_seeds.items r) (fed_bytes g.I.Hash.hash_input c.args.item)) (length i.row_seeds.items) (map number i.counts.items) (map number c.add_to_rows.new.counts)
+    RowsAdded i.buckets (number c.args.weight) (λ r. bucket_by i.buckets (slice_index i.row_seeds.items r) (g.R.RowItem.input c.args.item.now)) (length i.row_seeds.items) (map number i.counts.items) (map number c.add_to_rows.new.counts)
 added g c =
     let i = c.self.inside in
-    rows_added_own g.T.CountMinValue.number i.buckets (g.T.CountMinValue.number c.args.weight) (fed_bytes g.I.Hash.hash_input c.args.item) i.row_seeds.items c.deref.result.now i.counts.items c.deref_mut.result.now c.add_to_rows.new.counts c.deref.ensures.value c.deref_mut.ensures.value c.add_to_rows.ensures
+    rows_added_own g.T.CountMinValue.number i.buckets (g.T.CountMinValue.number c.args.weight) (g.R.RowItem.input c.args.item.now) i.row_seeds.items c.deref.result.now i.counts.items c.deref_mut.result.now c.add_to_rows.new.counts c.deref.ensures.value c.deref_mut.ensures.value c.add_to_rows.ensures
 
 -- and so has the total
 sum : (g : given.Over) (c : After-add_to_rows g) → let number = g.T.CountMinValue.number in number c.in_ok-total.total ≡ pos (unsigned_abs (number c.self.inside.total) + unsigned_abs (number c.args.weight))
@@ -55,7 +54,7 @@ pub returns-clause-counted : goal.returns-clause-counted
 returns-clause-counted g c =
     let number = g.T.CountMinValue.number in
     let i = c.self.inside in
-    let bytes : List ℕ = fed_bytes g.I.Hash.hash_input c.args.item in
+    let bytes : List ℕ = g.R.RowItem.input c.args.item.now in
     let now = (goal.at.returns-clause-counted g c).After-add_to_rows in
     rw (written_back i.counts.len c.add_to_rows.new.counts i.counts.items (c.add_to_rows.auto.counts ∙ c.deref_mut.ensures.len))
     (subst (λ (s : CountState). Counts s bytes (number c.args.weight) (state_of i.row_seeds.items i.buckets i.seed (number c.in_ok-total.total) (map number c.add_to_rows.new.counts))) c.self.view_is
@@ -65,19 +64,19 @@ pub returns-clause-state : goal.returns-clause-state
 returns-clause-state g c = is_state _ _ _ _ _ _ (invariant_of-self g c)
 
 pub returns-clause-stands : goal.returns-clause-stands
-returns-clause-stands g c = λ h s. stands_counted _ _ (fed_bytes g.I.Hash.hash_input c.args.item) (g.T.CountMinValue.number c.args.weight) h (returns-clause-counted g c) s
+returns-clause-stands g c = λ h s. stands_counted _ _ (g.R.RowItem.input c.args.item.now) (g.T.CountMinValue.number c.args.weight) h (returns-clause-counted g c) s
 
 pub add_to_rows-requires-clause-shape : goal.add_to_rows-requires-clause-shape
 add_to_rows-requires-clause-shape g c = lent_shape g.T.CountMinValue.number c.self.inside.buckets c.self.inside.counts.items _ c.self.inside.row_seeds.items _ c.deref_mut.ensures.value c.deref.ensures.value c.self.invariant.size
 
 pub returns-then-to_number-eq0-clause-counted : goal.returns-then-to_number-eq0-clause-counted
-returns-then-to_number-eq0-clause-counted g c = uncounted _ (fed_bytes g.I.Hash.hash_input c.args.item) (g.T.CountMinValue.number c.args.weight) (omega (arith, ints, c.if-to_number-eq0.true, c.to_number.ensures.value, c.to_number.ensures.narrow))
+returns-then-to_number-eq0-clause-counted g c = uncounted _ (g.R.RowItem.input c.args.item.now) (g.T.CountMinValue.number c.args.weight) (omega (arith, ints, c.if-to_number-eq0.true, c.to_number.ensures.value, c.to_number.ensures.narrow))
 
 pub returns-then-to_number-eq0-clause-state : goal.returns-then-to_number-eq0-clause-state
 returns-then-to_number-eq0-clause-state g c = state_shown _ _ _ _ _ _ _ c.self.view_is c.self.invariant
 
 pub returns-then-to_number-eq0-clause-stands : goal.returns-then-to_number-eq0-clause-stands
-returns-then-to_number-eq0-clause-stands g c = λ h s. stands_counted _ _ (fed_bytes g.I.Hash.hash_input c.args.item) (g.T.CountMinValue.number c.args.weight) h (returns-then-to_number-eq0-clause-counted g c) s
+returns-then-to_number-eq0-clause-stands g c = λ h s. stands_counted _ _ (g.R.RowItem.input c.args.item.now) (g.T.CountMinValue.number c.args.weight) h (returns-then-to_number-eq0-clause-counted g c) s
 
 pub returns-in_err-total-clause-counted : goal.returns-in_err-total-clause-counted
 returns-in_err-total-clause-counted g c = IfOk-from_err c.from_residual.result _ c.from_residual.ensures.0

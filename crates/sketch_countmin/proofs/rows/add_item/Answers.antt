@@ -2,20 +2,20 @@ use Rattle.std.proofs.Common.{◌≡◌, ℕ, List, ℤ, length, map, sym, subst
 use Rattle.std.proofs.lemmas.Bool.{false≢true}
 use Rattle.sketch_countmin.specs.Buckets.{buckets_by}
 use Rattle.sketch_countmin.specs.Cells.{RowsAdded}
-use Rattle.sketch_countmin.proofs.rows.add_to_rows.Goals as goal
+use Rattle.sketch_countmin.proofs.rows.add_item.Goals as goal
 
 -- the bytes that were kept are those that the item feeds
 by_item : (d : ℕ) (w : ℤ) (seeds kept fed : List ℕ) (old new : List ℤ) → kept ≡ fed → RowsAdded d w (buckets_by d seeds kept) (length seeds) old new → RowsAdded d w (buckets_by d seeds fed) (length seeds) old new
 by_item d w seeds kept fed old new same h = subst (λ (bytes : List ℕ). RowsAdded d w (buckets_by d seeds bytes) (length seeds) old new) same h
 
-pub add_to_each-requires-clause-short : goal.add_to_each-requires-clause-short
-add_to_each-requires-clause-short g c = c.in-Some.ensures.few
+pub add_to_each-requires-clause-hashable : goal.add_to_each-requires-clause-hashable
+add_to_each-requires-clause-hashable g c = c.in-Some.ensures.few
 
-pub add_to_four-requires-clause-short : goal.add_to_four-requires-clause-short
-add_to_four-requires-clause-short g c = c.in-Some.ensures.few
+pub add_to_four-requires-clause-hashable : goal.add_to_four-requires-clause-hashable
+add_to_four-requires-clause-hashable g c = c.in-Some.ensures.few
 
-pub add_to_each-requires-in-Some-3-clause-short : goal.add_to_each-requires-in-Some-3-clause-short
-add_to_each-requires-in-Some-3-clause-short g c = c.in-Some.ensures.few
+pub add_to_each-requires-in-Some-3-clause-hashable : goal.add_to_each-requires-in-Some-3-clause-hashable
+add_to_each-requires-in-Some-3-clause-hashable g c = c.in-Some.ensures.few
 
 pub returns-in-Some : goal.returns-in-Some
 returns-in-Some g c = by_item c.args.buckets (g.T.CountMinValue.number c.args.weight) c.args.row_seeds.now c.in-Some.bytes.now _ (map g.T.CountMinValue.number c.args.counts.now) (map g.T.CountMinValue.number c.add_to_each.new.counts) (c.in-Some.ensures.bytes ∙ c.new-hashed.ensures) c.add_to_each.ensures

@@ -1,16 +1,15 @@
 use Rattle.std.proofs.Common.{arith, subst, ℕ, ◌<◌, List}
-use Rattle.sketch_base.specs.Hashes.{fed_bytes}
 use Rattle.sketch_countmin.specs.State.{CountState, IsMinCell}
 use Rattle.sketch_countmin.proofs.Estimates.{least_own, least_here}
 use Rattle.sketch_countmin.proofs.Places.{lent_shape}
 use Rattle.sketch_countmin.proofs.Histories.{enclosed, raised_by_others}
-use Rattle.sketch_countmin.proofs.count_min_sketch.CountMinSketch.estimate.Goals as goal
+use Rattle.sketch_countmin.proofs.count_min_sketch.CountMinSketch.least.Goals as goal
 
 pub returns-clause-least : goal.returns-clause-least
 returns-clause-least g c =
     let number = g.T.CountMinValue.number in
     let i = c.self.inside in
-    let bytes : List ℕ = fed_bytes g.I.Hash.hash_input c.args.item in
+    let bytes : List ℕ = g.R.RowItem.input c.args.item.now in
     subst (λ (s : CountState). IsMinCell s bytes (number c.min_cell.result)) c.self.view_is
     (least_here _ _ _ _ _ _ bytes (number c.min_cell.result) c.self.invariant
     (least_own number i.buckets bytes i.row_seeds.items c.deref-2.result.now i.counts.items c.deref.result.now (number c.min_cell.result) c.deref-2.ensures.value c.deref.ensures.value c.min_cell.ensures))
@@ -18,12 +17,12 @@ returns-clause-least g c =
 pub returns-clause-encloses : goal.returns-clause-encloses
 returns-clause-encloses g c =
     let buckets : 0 < c.args.self.now.buckets = subst (λ (s : CountState). 0 < s.buckets) c.self.view_is (omega (arith, c.self.invariant.some_buckets)) in
-    λ h stands nonnegative. enclosed c.args.self.now h (fed_bytes g.I.Hash.hash_input c.args.item) (g.T.CountMinValue.number c.min_cell.result) buckets (returns-clause-least g c) stands nonnegative
+    λ h stands nonnegative. enclosed c.args.self.now h (g.R.RowItem.input c.args.item.now) (g.T.CountMinValue.number c.min_cell.result) buckets (returns-clause-least g c) stands nonnegative
 
 pub returns-clause-raised : goal.returns-clause-raised
 returns-clause-raised g c =
     let buckets : 0 < c.args.self.now.buckets = subst (λ (s : CountState). 0 < s.buckets) c.self.view_is (omega (arith, c.self.invariant.some_buckets)) in
-    λ h stands exact. raised_by_others c.args.self.now h (fed_bytes g.I.Hash.hash_input c.args.item) (g.T.CountMinValue.number c.min_cell.result) buckets (returns-clause-least g c) stands exact
+    λ h stands exact. raised_by_others c.args.self.now h (g.R.RowItem.input c.args.item.now) (g.T.CountMinValue.number c.min_cell.result) buckets (returns-clause-least g c) stands exact
 
 pub min_cell-requires-clause-shape : goal.min_cell-requires-clause-shape
 min_cell-requires-clause-shape g c = lent_shape g.T.CountMinValue.number c.self.inside.buckets c.self.inside.counts.items _ c.self.inside.row_seeds.items _ c.deref.ensures.value c.deref-2.ensures.value c.self.invariant.size
