@@ -6,7 +6,7 @@ use mir.Syntax.{w32}
 use mir.Val.{of_z, to_z}
 use Rattle.sketch_base.specs.Batches.{written_more}
 use Rattle.datasketches_c.specs.Numbers.{OnRefused, ok, no_room}
-use Rattle.datasketches_c.proofs.InTurnLemmas.{same_answer}
+use Rattle.datasketches_c.proofs.Refusals.{same_answer}
 
 -- what is said of a call's number is said of that number handed on
 pub handed_on : (P : ℤ → Type 0) (answer : ℤ) → mag answer < 2147483648 → P answer → P (to_z w32 (of_z w32 answer))

@@ -1,5 +1,6 @@
 -- Calls on a handle's Count-Min sketch, from what they do to the sketch.
-use Rattle.std.proofs.Common.{◌≡◌, ℕ, ℤ, ◌+◌, ◌-◌, ◌<◌, ◌≤◌, List, Option, Some, length, map, take}
+use Rattle.std.proofs.Common.{◌≡◌, ℕ, ℤ, ◌+◌, ◌-◌, ◌<◌, ◌≤◌, List, Option, Some, length, map, take, subst}
+use Rattle.std.proofs.lemmas.List.{map-id}
 use Rattle.sketch_base.specs.declared.fault.Fault.TheVariants.{WeightOverflow}
 use Rattle.sketch_countmin.specs.State.{CountState}
 use Rattle.datasketches_c.specs.CountCalls.{AddsEach, AddsWeights, EstimatesAll}
@@ -41,3 +42,8 @@ module _ (part : AnySketch → Option CountState) (old new : Option AnySketch) (
         × (greatest < a.total + together → result ≡ refusal_number WeightOverflow) in
         on_kind_said part old new held s result Said is which
         ((λ room. ((counted room).0, holds_kind part new given t (WeighsEach bytes_of number s items weights) new_is which_new (counted room).1)), overflow)
+
+-- a number with a sign is its own number
+pub own_numbers : {I : Type 0} (part : AnySketch → Option CountState) (old new : Option AnySketch) (result : ℤ) (bytes_of : I → List ℕ) (items : List I) (estimates : List ℤ)
+    → EstimatesAll part old new result bytes_of items (map (λ (x : ℤ). x) estimates) → EstimatesAll part old new result bytes_of items estimates
+own_numbers part old new result bytes_of items estimates said = subst (λ (zs : List ℤ). EstimatesAll part old new result bytes_of items zs) (map-id estimates) said

@@ -2,13 +2,10 @@ pub mod AnswerLemmas
 pub mod BoundsLemmas
 pub mod CountCallLemmas
 pub mod CountJoinLemmas
-pub mod CountLemmas
 pub mod EqualityLemmas
 pub mod FilterLemmas
-pub mod FrequentLemmas
 pub mod GhostStrings
 pub mod Handles
-pub mod InTurnLemmas
 pub mod KindLemmas
 pub mod Reading
 pub mod ReadingCounts
@@ -17,5 +14,4 @@ pub mod Reports
 pub mod StringLemmas
 pub mod StringReports
 pub mod StringRows
-pub mod WeightLemmas
 pub mod Words

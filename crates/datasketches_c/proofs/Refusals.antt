@@ -1,13 +1,32 @@
--- The number of a refusal is that of no call that was done.
-use Rattle.std.proofs.Common.{◌≡◌, ◌<◌, ℤ, ◌∙◌, sym, subst}
+-- The numbers that calls hand on, and those of errors.
+use Rattle.std.proofs.Common.{◌≡◌, ◌<◌, ℤ, ap, sym, subst, ◌∙◌}
 use lib.Signed.{mag}
 use mir.Syntax.{w32}
 use mir.Val.{of_z, to_z}
+use Rattle.std.specs.Prelude.{Err, IsErrOf}
+use Rattle.std.proofs.lemmas.Int.{to_z-of_z}
+use Rattle.sketch_base.specs.Errors.{ErrorValue}
 use Rattle.sketch_base.specs.declared.fault.Fault.{Fault}
 use Rattle.sketch_base.specs.declared.fault.Fault.TheVariants as fault
 use Rattle.datasketches_c.specs.Numbers.{OnDone, refusal_number}
-use Rattle.datasketches_c.proofs.InTurnLemmas.{same_answer}
 
+-- an answer that was handed on
+pub same_answer : (answer : ℤ) → mag answer < 2147483648 → to_z w32 (of_z w32 answer) ≡ answer
+same_answer answer small = to_z-of_z w32 answer (record { sfits = small })
+
+-- the number of a refusal that is known
+pub refused_as : (error of : ErrorValue) (fault : Fault) (answer : ℤ) → mag answer < 2147483648 → fault ≡ error.fault → answer ≡ refusal_number fault → error ≡ of
+    → to_z w32 (of_z w32 answer) ≡ refusal_number of.fault
+refused_as error of fault answer small is number same = same_answer answer small ∙ (number ∙ ap refusal_number (is ∙ ap (λ (e : ErrorValue). e.fault) same))
+
+-- the same where it is said of the result
+pub refused_for : {V : Type 0} (error of : ErrorValue) (fault : Fault) (answer : ℤ) → mag answer < 2147483648 → fault ≡ error.fault
+    → answer ≡ refusal_number fault → IsErrOf {T = V} (Err error) of → to_z w32 (of_z w32 answer) ≡ refusal_number of.fault
+refused_for error of fault answer small is number for =
+    let same : error ≡ of = cc in
+    refused_as error of fault answer small is number same
+
+-- the number of a refusal is that of no call that was done
 below_zero : (of : Fault) (P : Type 0) → OnDone (refusal_number of) P
 below_zero fault.BadNumBits P = tt
 below_zero fault.BadNumHashes P = tt
@@ -43,6 +62,7 @@ below_zero fault.BadItem P = tt
 below_zero fault.NoMemory P = tt
 below_zero fault.BadSampleSize P = tt
 below_zero fault.BadWindows P = tt
+below_zero fault.BadOffsets P = tt
 
 -- so nothing has to hold where it is handed on
 pub refused_not_done : (of : Fault) (answer : ℤ) (P : Type 0) → mag answer < 2147483648 → answer ≡ refusal_number of → OnDone (to_z w32 (of_z w32 answer)) P

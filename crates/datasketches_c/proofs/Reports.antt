@@ -6,7 +6,7 @@ use Rattle.sketch_frequencies.specs.State.{FrequentState}
 use Rattle.sketch_frequencies.specs.declared.error_type.ErrorType.{ErrorType}
 use Rattle.datasketches_c.specs.FrequentRows.{AreRows, LeavesRows, Reports, StandAtFront, bounds_in}
 use Rattle.datasketches_c.specs.Numbers.{OnRefused, ok, no_room}
-use Rattle.datasketches_c.specs.declared.frequent.FrequentBounds.{FrequentBounds}
+use Rattle.sketch_frequencies.specs.declared.item_bounds.ItemBounds.{ItemBounds}
 
 -- what holds anyway is said of a call that is refused
 pub when_refused : (result : ℤ) (P : Type 0) → P → OnRefused result P
@@ -15,7 +15,7 @@ when_refused (negsuc n) P said = said
 
 -- rows that were found and copied are a report
 pub copied_rows : {T : Type 0} (eq : T → T → Bool) (kind : ErrorType) (threshold : ℕ) (s : FrequentState T) (rows : List (RowValue T)) (items_old items_new : List T)
-    (bounds_old bounds_new : List FrequentBounds) (count : ℕ) (result : ℤ) → AreRows eq kind threshold s rows → count ≡ length rows
+    (bounds_old bounds_new : List ItemBounds) (count : ℕ) (result : ℤ) → AreRows eq kind threshold s rows → count ≡ length rows
     → (length rows ≤ length items_old → length rows ≤ length bounds_old → (result ≡ ok) × StandAtFront rows items_old items_new bounds_old bounds_new)
     → (length items_old < length rows → result ≡ no_room) → (length bounds_old < length rows → result ≡ no_room)
     → Reports eq kind threshold s items_old items_new bounds_old bounds_new count result
@@ -29,7 +29,7 @@ copied_rows eq kind threshold s rows items_old items_new bounds_old bounds_new c
 }
 
 -- items and bounds that were written in front of what stood in the buffers stand there
-pub rows_stand : {T : Type 0} (rows : List (RowValue T)) (items_old items : List T) (bounds_old bounds : List FrequentBounds) → items ≡ map (λ row. row.item) rows → bounds ≡ map bounds_in rows
+pub rows_stand : {T : Type 0} (rows : List (RowValue T)) (items_old items : List T) (bounds_old bounds : List ItemBounds) → items ≡ map (λ row. row.item) rows → bounds ≡ map bounds_in rows
     → StandAtFront rows items_old (items ++ drop (length rows) items_old) bounds_old (bounds ++ drop (length rows) bounds_old)
 rows_stand {T} rows items_old items bounds_old bounds is_items is_bounds =
     let item : RowValue T → T = λ row. row.item in
@@ -43,5 +43,5 @@ rows_stand {T} rows items_old items bounds_old bounds is_items is_bounds =
     }
 
 -- a call that wrote nothing left all
-pub rows_left : {T : Type 0} (items : List T) (bounds : List FrequentBounds) (count : ℕ) (result : ℤ) → LeavesRows items items bounds bounds count count result
+pub rows_left : {T : Type 0} (items : List T) (bounds : List ItemBounds) (count : ℕ) (result : ℤ) → LeavesRows items items bounds bounds count count result
 rows_left items bounds count result = record { untouched = when_refused result ((items ≡ items) × (bounds ≡ bounds)) (refl, refl); uncounted = λ not other. refl }

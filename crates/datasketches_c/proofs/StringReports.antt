@@ -12,8 +12,9 @@ use Rattle.datasketches_c.specs.FrequentRows.{AreRows, bounds_in}
 use Rattle.datasketches_c.specs.FrequentStringRows.{LeavesStringRows, ReportsStrings, StringBuffers, StringsStandAtFront, WritesStringRows, row_strings}
 use Rattle.datasketches_c.specs.FrequentStrings.{strings_eq}
 use Rattle.datasketches_c.specs.Numbers.{OnDone, OnRefused, ok, no_room}
-use Rattle.datasketches_c.specs.Strings.{strings_of, offsets_from}
-use Rattle.datasketches_c.specs.declared.frequent.FrequentBounds.{FrequentBounds}
+use Rattle.sketch_base.specs.Strings.{strings_of}
+use Rattle.datasketches_c.specs.Strings.{offsets_from}
+use Rattle.sketch_frequencies.specs.declared.item_bounds.ItemBounds.{ItemBounds}
 use Rattle.datasketches_c.proofs.Reports.{when_refused}
 use Rattle.datasketches_c.proofs.StringRows.{length-offsets_from, read_front}
 
@@ -29,7 +30,7 @@ row_string_at rows i row there is =
     ap string is ∙ sym (get_or-map string rows i row [] there)
 
 -- what was written at the front of the buffers stands there
-pub strings_stand : (rows : List (RowValue (String Global))) (old : StringBuffers) (bytes offsets : List ℕ) (bounds : List FrequentBounds) (n : ℕ)
+pub strings_stand : (rows : List (RowValue (String Global))) (old : StringBuffers) (bytes offsets : List ℕ) (bounds : List ItemBounds) (n : ℕ)
     → n ≡ length (concat (row_strings rows)) → bytes ≡ concat (row_strings rows) → offsets ≡ offsets_from 0 (row_strings rows) → bounds ≡ map bounds_in rows
     → StringsStandAtFront rows old (record {
       bytes = bytes ++ drop n old.bytes;

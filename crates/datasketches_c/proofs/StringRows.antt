@@ -3,7 +3,8 @@ use Rattle.std.proofs.Common.{◌≡◌, ℕ, ◌+◌, ◌-◌, ◌<◌, ◌≤�
 use Rattle.std.specs.List.{concat, slice_range}
 use Rattle.std.proofs.lemmas.List.{drop_at, take_at, append-nil, take_more, take_more_set, take-append-drop, take_all}
 use Rattle.std.proofs.lemmas.List.Folds.{concat-append}
-use Rattle.datasketches_c.specs.Strings.{strings_of, offsets_from}
+use Rattle.sketch_base.specs.Strings.{strings_of}
+use Rattle.datasketches_c.specs.Strings.{offsets_from}
 
 -- the first string goes from the first offset to the second
 strings_of-cons : (bytes : List ℕ) (start end : ℕ) (offsets : List ℕ)

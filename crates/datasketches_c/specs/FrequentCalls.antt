@@ -12,7 +12,7 @@ use Rattle.sketch_frequencies.specs.State.{FrequentState, Overflows, TotalHasRoo
 use Rattle.sketch_frequencies.specs.Steps.{Steps, JoinsEqual}
 use Rattle.sketch_frequencies.specs.WeightedBatches.{weighed, UpdatesWeighed, StopsAtDoubling}
 use Rattle.datasketches_c.specs.Numbers.{OnDone, OnRefused, ok, refusal_number}
-use Rattle.datasketches_c.specs.declared.frequent.FrequentBounds.{FrequentBounds}
+use Rattle.sketch_frequencies.specs.declared.item_bounds.ItemBounds.{ItemBounds}
 use Rattle.datasketches_c.specs.declared.frequent.FrequentStatus.{FrequentStatus}
 
 -- the status holds the sketch's numbers
@@ -57,7 +57,7 @@ module _ {T : Type 0} (eq : T → T → Bool) where
     pub memory : TotalHasRoom old other.total → OnRefused result (result ≡ refusal_number NoMemory)
 
   -- the bounds are the sketch's numbers for the item, and hold for its weight in each history for which the sketch stands
-  pub record AreBounds (s : FrequentState T) (item : T) (bounds : FrequentBounds) : Type 0 where
+  pub record AreBounds (s : FrequentState T) (item : T) (bounds : ItemBounds) : Type 0 where
     pub lower : bounds.lower_bound ≡ count_of eq s.counters item
     pub estimate : bounds.estimate ≡ estimate_of eq s item
     pub upper : bounds.upper_bound ≡ count_of eq s.counters item + s.error

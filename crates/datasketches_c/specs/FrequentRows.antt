@@ -7,19 +7,19 @@ use Rattle.sketch_frequencies.specs.State.{FrequentState}
 use Rattle.sketch_frequencies.specs.declared.error_type.ErrorType.{ErrorType}
 use Rattle.sketch_frequencies.specs.declared.error_type.ErrorType.TheVariants.{NoFalseNegatives, NoFalsePositives}
 use Rattle.datasketches_c.specs.Numbers.{OnRefused, ok, no_room, refusal_number}
-use Rattle.datasketches_c.specs.declared.frequent.FrequentBounds.{FrequentBounds}
+use Rattle.sketch_frequencies.specs.declared.item_bounds.ItemBounds.{ItemBounds}
 
 -- the error type of the flag: `NoFalseNegatives` if it is true, `NoFalsePositives` otherwise
 abbrev pub error_type : Bool → ErrorType
 error_type no_false_negatives = if no_false_negatives then NoFalseNegatives else NoFalsePositives
 
 -- the estimate and the bounds of a row
-abbrev pub bounds_in : {T : Type 0} → RowValue T → FrequentBounds
+abbrev pub bounds_in : {T : Type 0} → RowValue T → ItemBounds
 bounds_in row = record { lower_bound = row.lower_bound; estimate = row.estimate; upper_bound = row.upper_bound }
 
 -- the rows are at the front of both buffers, and the rest of the buffers is unchanged
 pub record StandAtFront
-    {T : Type 0} (rows : List (RowValue T)) (items_old items_new : List T) (bounds_old bounds_new : List FrequentBounds)
+    {T : Type 0} (rows : List (RowValue T)) (items_old items_new : List T) (bounds_old bounds_new : List ItemBounds)
     : Type 0 where
   pub items : take (length rows) items_new ≡ map (λ row. row.item) rows
   pub behind_items : drop (length rows) items_new ≡ drop (length rows) items_old
@@ -28,7 +28,7 @@ pub record StandAtFront
 
 -- what a failed report leaves: unchanged buffers, and an unchanged count unless the result is `no_room`
 pub record LeavesRows
-    {T : Type 0} (items_old items_new : List T) (bounds_old bounds_new : List FrequentBounds) (count_old count_new : ℕ) (result : ℤ)
+    {T : Type 0} (items_old items_new : List T) (bounds_old bounds_new : List ItemBounds) (count_old count_new : ℕ) (result : ℤ)
     : Type 0 where
   pub untouched : OnRefused result ((items_new ≡ items_old) × (bounds_new ≡ bounds_old))
   pub uncounted : result ≢ ok → result ≢ no_room → count_new ≡ count_old
@@ -43,7 +43,7 @@ module _ {T : Type 0} (eq : T → T → Bool) (kind : ErrorType) (threshold : �
 
   -- the rows of the report were counted, and written if both buffers have room for them. Otherwise the result is `no_room`
   pub record Reports
-      (items_old items_new : List T) (bounds_old bounds_new : List FrequentBounds) (count : ℕ) (result : ℤ)
+      (items_old items_new : List T) (bounds_old bounds_new : List ItemBounds) (count : ℕ) (result : ℤ)
       : Type 0 where
     pub rows : List (RowValue T)
     pub are : AreRows rows
@@ -56,6 +56,6 @@ module _ {T : Type 0} (eq : T → T → Bool) (kind : ErrorType) (threshold : �
 
   -- the report was made, or the result is `NoMemory`
   abbrev pub WritesRows :
-      (items_old items_new : List T) (bounds_old bounds_new : List FrequentBounds) (count : ℕ) (result : ℤ) → Type 0
+      (items_old items_new : List T) (bounds_old bounds_new : List ItemBounds) (count : ℕ) (result : ℤ) → Type 0
   WritesRows items_old items_new bounds_old bounds_new count result =
       Reports items_old items_new bounds_old bounds_new count result ⊎ (result ≡ refusal_number NoMemory)

@@ -11,8 +11,9 @@ use Rattle.sketch_frequencies.specs.declared.error_type.ErrorType.{ErrorType}
 use Rattle.datasketches_c.specs.FrequentRows.{AreRows, bounds_in}
 use Rattle.datasketches_c.specs.FrequentStrings.{strings_eq}
 use Rattle.datasketches_c.specs.Numbers.{OnRefused, ok, no_room, refusal_number}
-use Rattle.datasketches_c.specs.Strings.{strings_of, offsets_from}
-use Rattle.datasketches_c.specs.declared.frequent.FrequentBounds.{FrequentBounds}
+use Rattle.sketch_base.specs.Strings.{strings_of}
+use Rattle.datasketches_c.specs.Strings.{offsets_from}
+use Rattle.sketch_frequencies.specs.declared.item_bounds.ItemBounds.{ItemBounds}
 
 -- the bytes of each row's string
 abbrev pub row_strings : List (RowValue (String Global)) → List (List ℕ)
@@ -22,7 +23,7 @@ row_strings rows = map (λ row. string_bytes row.item) rows
 pub record StringBuffers : Type 0 where
   pub bytes : List ℕ
   pub offsets : List ℕ
-  pub bounds : List FrequentBounds
+  pub bounds : List ItemBounds
 
 -- the rows are at the front of the buffers, their strings one after another from the first byte on. The rest of the buffers is
 -- unchanged

@@ -1,14 +1,14 @@
 -- Updates of frequent items sketches of strings. An update allocates only for a string that is not tracked.
-use Rattle.std.specs.Prelude.{◌≡◌, ◌⊎◌, ℕ, ℤ, Bool, false, List}
+use Rattle.std.specs.Prelude.{◌≡◌, ◌⊎◌, ℕ, ℤ, Bool, false, List, sum}
 use Rattle.std.specs.Global.{Global}
-use Rattle.std.specs.Str.{bytes_eq}
 use Rattle.std.specs.String.{string_bytes, string_eq}
 use Rattle.std.specs.declared.string.String.{String}
 use Rattle.sketch_base.specs.Errors.{ErrorValue}
-use Rattle.sketch_base.specs.declared.fault.Fault.TheVariants.{NoMemory}
+use Rattle.sketch_base.specs.declared.fault.Fault.TheVariants.{NoMemory, WeightOverflow}
 use Rattle.counter_table.specs.Tables.{is_tracked_by_key}
-use Rattle.sketch_frequencies.specs.State.{FrequentState, TotalHasRoom}
-use Rattle.sketch_frequencies.specs.Strings.{StopsAtString, UpdatesStrings}
+use Rattle.sketch_frequencies.specs.State.{FrequentState, Overflows, TotalHasRoom}
+use Rattle.sketch_frequencies.specs.Strings.{names_string, StopsAtString, StopsAtWeighedString, UpdatesStrings, UpdatesWeighedStrings}
+use Rattle.sketch_frequencies.specs.WeightedBatches.{weighed}
 use Rattle.datasketches_c.specs.FrequentCalls.{Updates}
 use Rattle.datasketches_c.specs.Numbers.{OnDone, OnRefused, ok, refusal_number}
 
@@ -21,7 +21,7 @@ pub record RunsOutOfMemory (old : FrequentState (String Global)) (string : List 
     (result : ℤ) : Type 0 where
   pub number : result ≡ refusal_number NoMemory
   pub unchanged : new ≡ old
-  pub untracked : is_tracked_by_key (λ item. bytes_eq string (string_bytes item)) old.counters ≡ false
+  pub untracked : is_tracked_by_key (names_string string) old.counters ≡ false
   pub room : TotalHasRoom old weight
 
 -- the update was done for an item of these bytes, or an allocation failed
@@ -42,3 +42,13 @@ pub record AddsStrings (old : FrequentState (String Global)) (strings : List (Li
     : Type 0 where
   pub done : OnDone result ((result ≡ ok) × UpdatesStrings old strings new)
   pub stopped : OnRefused result (StopsAtOne old strings new result)
+
+-- the result and effect of adding each of these weights to its string's. If the total has no room for all, nothing is added.
+-- Otherwise the call stops only at a string that is not tracked, for which an allocation fails
+pub record WeighsStrings
+    (old : FrequentState (String Global)) (strings : List (List ℕ)) (weights : List ℕ) (new : FrequentState (String Global)) (result : ℤ)
+    : Type 0 where
+  pub done : OnDone result ((result ≡ ok) × UpdatesWeighedStrings old (weighed strings weights) new)
+  pub overflow : Overflows old (sum weights) → (result ≡ refusal_number WeightOverflow) × (new ≡ old)
+  pub memory : TotalHasRoom old (sum weights) → OnRefused result (result ≡ refusal_number NoMemory)
+  pub stopped : TotalHasRoom old (sum weights) → OnRefused result (StopsAtWeighedString old (weighed strings weights) new)

@@ -16,10 +16,8 @@ pub mod FrequentStringRows
 pub mod FrequentStrings
 pub mod Holding
 pub mod Images
-pub mod InTurn
 pub mod Joining
 pub mod Kinds
 pub mod MemoryBytes
 pub mod Numbers
 pub mod Strings
-pub mod Weights

@@ -45,7 +45,7 @@ bad_fraction = negsuc 3
 abbrev pub bad_offsets : ℤ
 bad_offsets = negsuc 5
 
--- the result for a fault: -11 or below
+-- the result for a fault: -11 or below, or that of bad offsets
 abbrev pub refusal_number : Fault → ℤ
 refusal_number fault.BadNumBits = negsuc 10
 refusal_number fault.BadNumHashes = negsuc 11
@@ -81,6 +81,7 @@ refusal_number fault.BadItem = negsuc 40
 refusal_number fault.NoMemory = negsuc 41
 refusal_number fault.BadSampleSize = negsuc 42
 refusal_number fault.BadWindows = negsuc 43
+refusal_number fault.BadOffsets = bad_offsets
 
 -- the maximum of `i64`, and of `u64`
 abbrev pub max_i64 : ℕ

@@ -1,25 +1,10 @@
--- Many strings: as one buffer of bytes with offsets, where each string goes from one offset to the next, or as pairs.
-use Rattle.std.specs.Prelude.{◌≡◌, ◌≢◌, ℕ, ℤ, ◌+◌, ◌<◌, ◌≤◌, List, [], ◌∷◌, length, map, drop, slice_index, All, EachIndex}
-use Rattle.std.specs.List.{slice_range, zip}
+-- Results of calls for many strings that are not valid, and the offsets of strings that are written.
+use Rattle.std.specs.Prelude.{◌≡◌, ◌≢◌, ℕ, ℤ, ◌+◌, List, [], ◌∷◌, length, All}
 use Rattle.std.specs.Str.{IsUtf8}
 use Rattle.std.specs.Borrow.{Bor}
+use Rattle.sketch_base.specs.Strings.{AreOffsets, AreStrings, strings_at, strings_of}
 use Rattle.sketch_base.specs.declared.fault.Fault.TheVariants.{InvalidUtf8}
 use Rattle.datasketches_c.specs.Numbers.{bad_offsets, no_room, refusal_number}
-
--- the strings of a buffer: one fewer than its offsets
-unfoldable pub strings_of : (bytes offsets : List ℕ) → List (List ℕ)
-strings_of bytes offsets = map (λ ends. slice_range bytes ends.0 ends.1) (zip offsets (drop 1 offsets))
-
--- there is an offset, none is below the one before it, and none exceeds the length of the buffer
-pub record AreOffsets (bytes offsets : List ℕ) : Type 0 where
-  pub some : 0 < length offsets
-  pub ascending : (k : ℕ) → k + 1 < length offsets → slice_index offsets k ≤ slice_index offsets (k + 1)
-  pub within : EachIndex offsets (λ k. slice_index offsets k ≤ length bytes)
-
--- the offsets are valid, and the bytes between each offset and the next are UTF-8
-pub record AreStrings (bytes offsets : List ℕ) : Type 0 where
-  pub ends : AreOffsets bytes offsets
-  pub utf8 : All IsUtf8 (strings_of bytes offsets)
 
 -- the strings of the buffer are valid, and their number is `places`
 pub record AreStringsIn (places : ℕ) (bytes offsets : List ℕ) : Type 0 where
@@ -53,10 +38,6 @@ pub record AreRefusedIn (places : ℕ) (bytes offsets : List ℕ) (answer : ℤ)
 abbrev pub offsets_from : ℕ → List (List ℕ) → List ℕ
 offsets_from start [] = start ∷ []
 offsets_from start (string ∷ strings) = start ∷ offsets_from (start + length string) strings
-
--- the strings of pairs of a pointer and a length
-abbrev pub strings_at : List (Bor (List ℕ)) → List (List ℕ)
-strings_at items = map (λ item. item.now) items
 
 -- the bytes of each pair are UTF-8, and there are as many pairs as `places`
 pub record ArePairsIn (places : ℕ) (items : List (Bor (List ℕ))) : Type 0 where

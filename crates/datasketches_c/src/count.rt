@@ -9,14 +9,13 @@ ghost use Rattle.datasketches_c.specs.Estimates.{AreEstimates, IsEstimate};
 ghost use Rattle.datasketches_c.specs.Kinds.{WritesDown, WritesDownEach};
 ghost use Rattle.datasketches_c.specs.Numbers.{OnRefused, ok, no_room, refusal_number};
 
-use crate::count_strings::{count_strings, estimate_strings};
+use crate::count_item::CountItem;
 use crate::count_weighted::{count_weighted, count_weighted_strings};
 use crate::handle::SketchHandle;
 use crate::join::{Joins, join};
 use crate::kind::{Kind, on_kind};
 use crate::status_code::{NO_ROOM, OK, refusal_number};
-use crate::strings::Strings;
-use sketch_base::Fault;
+use sketch_base::{Fault, Strings};
 use sketch_countmin::laws::min_cell_bounds;
 use sketch_countmin::{CountMinSketch, CountMinValue};
 use std::alloc::Global;
@@ -32,28 +31,9 @@ pub struct CountStatus {
     pub num_hashes: u8,
 }
 
-/// Adds a weight to an item's in a sketch, and the weight's distance from 0 to the total. Returns the result's number.
-#[inline(always)]
-fn count<V: CountMinValue, I: Hash + Drop>(
-    sketch: &mut CountMinSketch<V>,
-    item: I,
-    weight: V,
-) -> i32
-    ensures counted { sketch.old.total + unsigned_abs (V.number weight) ≤ V.greatest
-        → (result ≡ ok) × Weighs sketch.old (fed_bytes I.hash_input item) (V.number weight) sketch.new }
-    ensures overflow { V.greatest < sketch.old.total + unsigned_abs (V.number weight)
-        → result ≡ refusal_number Fault.WeightOverflow }
-    ensures refused { OnRefused result (sketch.new ≡ sketch.old) }
-{
-    match sketch.update_with_weight(item, weight) {
-        Ok(()) => OK,
-        Err(error) => refusal_number(error.fault()),
-    }
-}
-
 /// Adds a weight to an item's.
 #[inline]
-pub(crate) fn update<V: CountMinValue, I: Hash + Drop>(
+pub(crate) fn update<V: CountMinValue, I: CountItem>(
     alloc: Global,
     handle: &mut SketchHandle,
     item: I,
@@ -61,10 +41,10 @@ pub(crate) fn update<V: CountMinValue, I: Hash + Drop>(
 ) -> i32
 where
     CountMinSketch<V>: Kind,
-    ensures call { AddsWeight (⟦<CountMinSketch<V> as Kind>⟧.part) V.greatest handle.old.value handle.new.value result (fed_bytes I.hash_input item) (V.number weight) }
+    ensures call { AddsWeight (⟦<CountMinSketch<V> as Kind>⟧.part) V.greatest handle.old.value handle.new.value result (I.bytes item) (V.number weight) }
     ensures refused { OnRefused result (handle.new.value ≡ handle.old.value) }
 {
-    on_kind!(alloc, handle, CountMinSketch<V>, sketch => count(sketch, item, weight))
+    on_kind!(alloc, handle, CountMinSketch<V>, sketch => item.add_to(sketch, weight))
 }
 
 /// Adds 1 to the weight of each item in a sketch, in order, until the total is full. Returns the result's number.
@@ -118,7 +98,7 @@ where
 
 /// Writes the estimate of an item's weight.
 #[inline]
-pub(crate) fn estimate<V: CountMinValue, I: Hash + Drop>(
+pub(crate) fn estimate<V: CountMinValue, I: CountItem>(
     alloc: Global,
     handle: &mut SketchHandle,
     item: I,
@@ -127,10 +107,10 @@ pub(crate) fn estimate<V: CountMinValue, I: Hash + Drop>(
 where
     CountMinSketch<V>: Kind,
     ensures { WritesDown (⟦<CountMinSketch<V> as Kind>⟧.part) handle.old.value handle.new.value result estimate.old estimate.new (λ s.
-        IsEstimate s (fed_bytes I.hash_input item) (V.number estimate.new)) }
+        IsEstimate s (I.bytes item) (V.number estimate.new)) }
 {
     on_kind!(alloc, handle, CountMinSketch<V>, sketch => {
-        *estimate = sketch.estimate(item);
+        *estimate = item.estimate_in(sketch);
         OK
     })
 }
@@ -192,6 +172,36 @@ where
         estimate_items(sketch, items, estimates);
         OK
     })
+}
+
+/// Adds 1 to the weight of each string in a sketch, in order, until the total is full. Returns the result's number.
+fn count_strings<V: CountMinValue, S: Strings>(sketch: &mut CountMinSketch<V>, strings: &S) -> i32
+    ensures counted { WeighsAll sketch.old
+        (take (V.greatest - sketch.old.total) (map (fed_bytes fed.str) (S.list strings.now))) sketch.new }
+    ensures done { sketch.old.total + length (S.list strings.now) ≤ V.greatest → result ≡ ok }
+    ensures overflow { V.greatest < sketch.old.total + length (S.list strings.now)
+        → result ≡ refusal_number Fault.WeightOverflow }
+{
+    match sketch.update_strings(strings) {
+        Ok(()) => OK,
+        Err(error) => refusal_number(error.fault()),
+    }
+}
+
+/// Writes a sketch's estimate of each string's weight.
+fn estimate_strings<V: CountMinValue, S: Strings>(
+    sketch: &CountMinSketch<V>,
+    strings: &S,
+    estimates: &mut [V],
+)
+    requires { length (S.list strings.now) ≡ length estimates.old }
+    ensures length { length estimates.new ≡ length (S.list strings.now) }
+    ensures each { AreEstimates sketch.now (fed_bytes fed.str) (S.list strings.now) (map V.number estimates.new) }
+{
+    // for the prover: the facts that hold of every sketch, and the bounds of a minimum cell
+    let _ = sketch.num_hashes();
+    min_cell_bounds();
+    sketch.estimate_strings(strings, estimates);
 }
 
 /// Adds 1 to the weight of each string, in order, until the total is full.

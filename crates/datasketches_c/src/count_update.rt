@@ -7,12 +7,11 @@ ghost use Rattle.sketch_base.specs.Hashes.{fed_bytes};
 ghost use Rattle.datasketches_c.specs.CountCalls.{AddsEach, AddsWeight, AddsWeights};
 ghost use Rattle.datasketches_c.specs.Kinds.{count_i64_of, count_u64_of};
 ghost use Rattle.datasketches_c.specs.Numbers.{OnRefused, bad_offsets, max_i64, max_u64, no_room, refusal_number};
-ghost use Rattle.datasketches_c.specs.Strings.{AreOffsets, AreStrings, strings_of};
+ghost use Rattle.sketch_base.specs.Strings.{AreOffsets, AreStrings, strings_of};
 
 use crate::count;
 use crate::handle::SketchHandle;
-use crate::offset_strings::OffsetStrings;
-use crate::strings::{on_string, on_strings};
+use crate::strings::{on_string, on_strings, strings_for};
 use sketch_base::Fault;
 use std::alloc::Global;
 
@@ -279,7 +278,7 @@ pub extern "C" fn ds_count_min_u64_update_all_weighted_string(
         → AddsWeights count_u64_of max_u64 handle.old.value handle.new.value result (fed_bytes fed.str) pos (strings_of bytes.now offsets.now) weights.now (sum weights.now) }
     ensures refused { OnRefused result (handle.new.value ≡ handle.old.value) }
 {
-    on_strings!(OffsetStrings::for_places(weights.len(), bytes, offsets), strings => {
+    on_strings!(strings_for(weights.len(), bytes, offsets), strings => {
         count::update_all_weighted_strings(alloc, handle, &strings, weights)
     })
 }
@@ -355,7 +354,7 @@ pub extern "C" fn ds_count_min_i64_update_all_weighted_string(
         → AddsWeights count_i64_of max_i64 handle.old.value handle.new.value result (fed_bytes fed.str) (λ weight. weight) (strings_of bytes.now offsets.now) weights.now (sum_by unsigned_abs weights.now) }
     ensures refused { OnRefused result (handle.new.value ≡ handle.old.value) }
 {
-    on_strings!(OffsetStrings::for_places(weights.len(), bytes, offsets), strings => {
+    on_strings!(strings_for(weights.len(), bytes, offsets), strings => {
         count::update_all_weighted_strings(alloc, handle, &strings, weights)
     })
 }

@@ -1,47 +1,14 @@
 //! Count-Min sketches and many items, each with a weight, for any type of weights.
-ghost use Rattle.std.specs.Prelude.{◌≡◌, ◌+◌, ◌<◌, ◌≤◌, ◌↔◌, length, sum_by, unsigned_abs, IsTrue};
+ghost use Rattle.std.specs.Prelude.{◌≡◌, ◌+◌, ◌<◌, ◌≤◌, length, sum_by, unsigned_abs};
 ghost use Rattle.std.specs.Hash as fed;
 ghost use Rattle.sketch_base.specs.Hashes.{fed_bytes};
 ghost use Rattle.datasketches_c.specs.CountSteps.{WeighsEach};
 ghost use Rattle.datasketches_c.specs.Numbers.{OnRefused, ok, refusal_number};
 
 use crate::status_code::{OK, refusal_number};
-use crate::strings::Strings;
-use sketch_base::Fault;
+use sketch_base::{Fault, Strings};
 use sketch_countmin::{CountMinSketch, CountMinValue};
 use std::hash::Hash;
-
-/// Returns the maximum of the weights' type minus the total.
-#[inline]
-fn room_of<T: CountMinValue>(sketch: &CountMinSketch<T>) -> u64
-    ensures { sketch.now.total + result ≡ T.greatest }
-{
-    T::MAX.to_number() as u64 - sketch.total_weight().to_number() as u64
-}
-
-/// Returns a weight's distance from 0.
-#[inline]
-fn size_of<T: CountMinValue>(weight: T) -> u64
-    ensures { result ≡ unsigned_abs (T.number weight) }
-{
-    weight.to_number().unsigned_abs() as u64
-}
-
-/// Returns whether the total has room for the distances of all weights from 0.
-fn weights_fit<T: CountMinValue>(sketch: &CountMinSketch<T>, weights: &[T]) -> bool
-    ensures { IsTrue result
-        ↔ (sketch.now.total + sum_by (λ weight. unsigned_abs (T.number weight)) weights.now ≤ T.greatest) }
-{
-    let mut room = room_of(sketch);
-    'each: for i in 0..weights.len() {
-        let size = size_of(weights[i]);
-        if size > room {
-            return false;
-        }
-        room -= size;
-    }
-    true
-}
 
 /// Adds a weight to each item's, in order. Returns the result's number.
 pub(crate) fn count_weighted<T: CountMinValue, I: Hash>(
@@ -62,8 +29,7 @@ pub(crate) fn count_weighted<T: CountMinValue, I: Hash>(
     }
 }
 
-/// Adds a weight to each string's, in order. Returns `WeightOverflow` if the total has no
-/// room for all weights. Then none is added.
+/// Adds a weight to each string's, in order. Returns the result's number.
 pub(crate) fn count_weighted_strings<T: CountMinValue, S: Strings>(
     sketch: &mut CountMinSketch<T>,
     strings: &S,
@@ -77,12 +43,8 @@ pub(crate) fn count_weighted_strings<T: CountMinValue, S: Strings>(
         → result ≡ refusal_number Fault.WeightOverflow }
     ensures refused { OnRefused result (sketch.new ≡ sketch.old) }
 {
-    if !weights_fit(sketch, weights) {
-        return refusal_number(Fault::WeightOverflow);
+    match sketch.update_strings_weighted(strings, weights) {
+        Ok(()) => OK,
+        Err(error) => refusal_number(error.fault()),
     }
-    let count = strings.count();
-    'each: for i in 0..count {
-        let _ = sketch.update_with_weight(strings.at(i), weights[i]);
-    }
-    OK
 }

@@ -18,18 +18,9 @@ use crate::join::Joins;
 use crate::kind::{Kind, on_kind};
 use crate::status_code::{NO_ROOM, OK, refusal_number};
 use sketch_base::Fault;
-use sketch_frequencies::{FrequentItemValue, FrequentItemsSketch};
+use sketch_frequencies::{FrequentItemValue, FrequentItemsSketch, ItemBounds};
 use std::alloc::Global;
 use std::hash::Hash;
-
-/// The estimate of an item's weight, and its bounds. The true weight lies between the bounds.
-#[repr(C)]
-#[derive(Clone, Copy)]
-pub struct FrequentBounds {
-    pub lower_bound: u64,
-    pub estimate: u64,
-    pub upper_bound: u64,
-}
 
 /// The numbers of a sketch of frequent items.
 #[repr(C)]
@@ -137,15 +128,10 @@ where
 pub(crate) fn bounds_of<T: Eq + Hash + Drop>(
     sketch: &FrequentItemsSketch<T>,
     item: &T,
-) -> FrequentBounds
+) -> ItemBounds
     ensures { AreBounds T.eq sketch.now item.now result }
 {
-    let bounds = sketch.bounds_by_key(item);
-    FrequentBounds {
-        lower_bound: bounds.lower_bound,
-        estimate: bounds.estimate,
-        upper_bound: bounds.upper_bound,
-    }
+    sketch.bounds_by_key(item)
 }
 
 /// Writes the bounds and the estimate of an item's weight.
@@ -153,7 +139,7 @@ pub(crate) fn bounds<T: Eq + Hash + Drop>(
     alloc: Global,
     handle: &mut SketchHandle,
     item: &T,
-    bounds: &mut FrequentBounds,
+    bounds: &mut ItemBounds,
 ) -> i32
 where
     FrequentItemsSketch<T>: Kind,
@@ -170,14 +156,12 @@ where
 fn bounds_of_all<T: Eq + Hash + Drop>(
     sketch: &FrequentItemsSketch<T>,
     items: &[T],
-    bounds: &mut [FrequentBounds],
+    bounds: &mut [ItemBounds],
 )
     requires same { length bounds.old ≡ length items.now }
     ensures { AreBoundsOfAll T.eq sketch.now items.now bounds.new }
 {
-    'each: for i in 0..items.len() {
-        bounds[i] = bounds_of(sketch, &items[i]);
-    }
+    sketch.bounds_all(items, bounds);
 }
 
 /// Writes the bounds and the estimate of each item's weight. Returns `NO_ROOM` if `items` and `bounds` differ in
@@ -186,7 +170,7 @@ pub(crate) fn bounds_all<T: Eq + Hash + Drop>(
     alloc: Global,
     handle: &mut SketchHandle,
     items: &[T],
-    bounds: &mut [FrequentBounds],
+    bounds: &mut [ItemBounds],
 ) -> i32
 where
     FrequentItemsSketch<T>: Kind,
@@ -250,7 +234,7 @@ pub(crate) fn rows<T: Eq + Hash + Clone + Copy + Drop>(
     no_false_negatives: bool,
     threshold: u64,
     items: &mut [T],
-    bounds: &mut [FrequentBounds],
+    bounds: &mut [ItemBounds],
     count: &mut usize,
 ) -> i32
 where

@@ -6,21 +6,20 @@ ghost use Rattle.datasketches_c.specs.FrequentBatches.{AreBoundsOfAll, AreBounds
 ghost use Rattle.datasketches_c.specs.FrequentCalls.{AreBounds, Updates, UpdatesMany, WeighsMany};
 ghost use Rattle.datasketches_c.specs.FrequentRows.{WritesRows, error_type};
 ghost use Rattle.datasketches_c.specs.FrequentStringRows.{WritesStringRows};
-ghost use Rattle.datasketches_c.specs.FrequentStrings.{UpdatesString};
+ghost use Rattle.datasketches_c.specs.FrequentStrings.{UpdatesString, WeighsStrings};
 ghost use Rattle.datasketches_c.specs.Kinds.{HoldsFrequentI64, HoldsFrequentStrings, HoldsFrequentU64, OnFrequentI64, OnFrequentStrings, OnFrequentU64};
 ghost use Rattle.datasketches_c.specs.Numbers.{OnRefused, bad_offsets, no_room, ok, refusal_number};
-ghost use Rattle.datasketches_c.specs.Strings.{AreOffsets, AreStrings, strings_of};
-ghost use Rattle.datasketches_c.specs.Weights.{AddsWeights};
+ghost use Rattle.sketch_base.specs.Strings.{AreOffsets, AreStrings, strings_of};
 
-use crate::frequent::{self, FrequentBounds};
-use crate::frequent_string::{bounds_of_string, update_string, write_rows};
-use crate::frequent_weighted::update_all_weighted_strings;
+use crate::frequent;
+use crate::frequent_string::{
+    bounds_of_string, update_all_weighted_strings, update_string, write_rows,
+};
 use crate::handle::SketchHandle;
 use crate::kind::on_kind;
-use crate::offset_strings::OffsetStrings;
-use crate::strings::{on_string, on_strings};
+use crate::strings::{on_string, on_strings, strings_for};
 use sketch_base::Fault;
-use sketch_frequencies::FrequentItemsSketch;
+use sketch_frequencies::{FrequentItemsSketch, ItemBounds};
 use std::alloc::Global;
 
 /// Adds a weight to a string's. A weight of 0 changes nothing.
@@ -159,9 +158,9 @@ pub extern "C" fn ds_frequent_items_string_update_all_weighted(
         → (result ≡ refusal_number Fault.InvalidUtf8) × (handle.new.value ≡ handle.old.value) }
     ensures call { AreStrings bytes.now offsets.now → length weights.now + 1 ≡ length offsets.now
         → OnFrequentStrings handle.old.value handle.new.value result (λ s. HoldsFrequentStrings handle.new.value (λ t.
-        AddsWeights UpdatesString s (strings_of bytes.now offsets.now) weights.now t result)) }
+        WeighsStrings s (strings_of bytes.now offsets.now) weights.now t result)) }
 {
-    on_strings!(OffsetStrings::for_places(weights.len(), bytes, offsets), strings => {
+    on_strings!(strings_for(weights.len(), bytes, offsets), strings => {
         update_all_weighted_strings(alloc, handle, &strings, weights)
     })
 }
@@ -229,7 +228,7 @@ pub extern "C" fn ds_frequent_items_string_bounds(
     alloc: Global,
     handle: &mut SketchHandle,
     item: &[u8],
-    bounds: &mut FrequentBounds,
+    bounds: &mut ItemBounds,
 ) -> i32
     ensures kept { handle.new.value ≡ handle.old.value }
     ensures utf8 { IsUtf8 item.now → OnFrequentStrings handle.old.value handle.new.value result (λ s.
@@ -238,7 +237,7 @@ pub extern "C" fn ds_frequent_items_string_bounds(
     ensures untouched { OnRefused result (bounds.new ≡ bounds.old) }
 {
     on_string!(item => {
-        on_kind!(alloc, handle, FrequentItemsSketch<String>, sketch => bounds_of_string(alloc, sketch, item, bounds))
+        on_kind!(alloc, handle, FrequentItemsSketch<String>, sketch => bounds_of_string(sketch, item, bounds))
     })
 }
 
@@ -251,7 +250,7 @@ pub extern "C" fn ds_frequent_items_u64_bounds(
     alloc: Global,
     handle: &mut SketchHandle,
     item: u64,
-    bounds: &mut FrequentBounds,
+    bounds: &mut ItemBounds,
 ) -> i32
     ensures kept { handle.new.value ≡ handle.old.value }
     ensures bounds { OnFrequentU64 handle.old.value handle.new.value result (λ s.
@@ -270,7 +269,7 @@ pub extern "C" fn ds_frequent_items_i64_bounds(
     alloc: Global,
     handle: &mut SketchHandle,
     item: i64,
-    bounds: &mut FrequentBounds,
+    bounds: &mut ItemBounds,
 ) -> i32
     ensures kept { handle.new.value ≡ handle.old.value }
     ensures bounds { OnFrequentI64 handle.old.value handle.new.value result (λ s.
@@ -291,7 +290,7 @@ pub extern "C" fn ds_frequent_items_u64_bounds_all(
     alloc: Global,
     handle: &mut SketchHandle,
     items: &[u64],
-    bounds: &mut [FrequentBounds],
+    bounds: &mut [ItemBounds],
 ) -> i32
     ensures kept { handle.new.value ≡ handle.old.value }
     ensures no_room { length bounds.old ≢ length items.now → result ≡ no_room }
@@ -314,7 +313,7 @@ pub extern "C" fn ds_frequent_items_i64_bounds_all(
     alloc: Global,
     handle: &mut SketchHandle,
     items: &[i64],
-    bounds: &mut [FrequentBounds],
+    bounds: &mut [ItemBounds],
 ) -> i32
     ensures kept { handle.new.value ≡ handle.old.value }
     ensures no_room { length bounds.old ≢ length items.now → result ≡ no_room }
@@ -349,7 +348,7 @@ pub extern "C" fn ds_frequent_items_string_rows(
     threshold: u64,
     bytes: &mut [u8],
     offsets: &mut [u64],
-    bounds: &mut [FrequentBounds],
+    bounds: &mut [ItemBounds],
     count: &mut usize,
     num_bytes: &mut usize,
 ) -> i32
@@ -386,7 +385,7 @@ pub extern "C" fn ds_frequent_items_u64_rows(
     no_false_negatives: bool,
     threshold: u64,
     items: &mut [u64],
-    bounds: &mut [FrequentBounds],
+    bounds: &mut [ItemBounds],
     count: &mut usize,
 ) -> i32
     ensures kept { handle.new.value ≡ handle.old.value }
@@ -427,7 +426,7 @@ pub extern "C" fn ds_frequent_items_i64_rows(
     no_false_negatives: bool,
     threshold: u64,
     items: &mut [i64],
-    bounds: &mut [FrequentBounds],
+    bounds: &mut [ItemBounds],
     count: &mut usize,
 ) -> i32
     ensures kept { handle.new.value ≡ handle.old.value }

@@ -3,9 +3,8 @@ ghost use Rattle.std.specs.Prelude.{◌≡◌, ◌<◌, ◌≤◌, IsTrue, lengt
 ghost use Rattle.datasketches_c.specs.FrequentRows.{LeavesRows, StandAtFront, WritesRows, bounds_in, error_type};
 ghost use Rattle.datasketches_c.specs.Numbers.{ok, no_room};
 
-use crate::frequent::FrequentBounds;
 use crate::status_code::{NO_ROOM, OK, refusal_number};
-use sketch_frequencies::{ErrorType, FrequentItemsSketch, Row};
+use sketch_frequencies::{ErrorType, FrequentItemsSketch, ItemBounds, Row};
 use std::hash::Hash;
 
 /// Writes a report's rows to the front of both buffers, and the number of rows to `count`. If a buffer is too short,
@@ -15,7 +14,7 @@ pub(crate) fn write_rows<T: Eq + Hash + Clone + Copy + Drop>(
     no_false_negatives: bool,
     threshold: u64,
     items: &mut [T],
-    bounds: &mut [FrequentBounds],
+    bounds: &mut [ItemBounds],
     count: &mut usize,
 ) -> i32
     requires clones { (x y : T) → T.is_clone x y → IsTrue (T.eq x y) }
@@ -45,7 +44,7 @@ pub(crate) fn error_type_of(no_false_negatives: bool) -> ErrorType
 fn copy_rows<T: Copy>(
     rows: &[Row<T>],
     items: &mut [T],
-    bounds: &mut [FrequentBounds],
+    bounds: &mut [ItemBounds],
     count: &mut usize,
 ) -> i32
     ensures counted { count.new ≡ length rows.now }
@@ -76,13 +75,13 @@ fn copy_items<T: Copy>(rows: &[Row<T>], items: &mut [T])
 }
 
 /// Writes the bounds of rows.
-pub(crate) fn copy_bounds<T>(rows: &[Row<T>], bounds: &mut [FrequentBounds])
+pub(crate) fn copy_bounds<T>(rows: &[Row<T>], bounds: &mut [ItemBounds])
     requires same { length bounds.old ≡ length rows.now }
     ensures { bounds.new ≡ map bounds_in rows.now }
 {
     'each: for i in 0..rows.len() {
         let row = &rows[i];
-        bounds[i] = FrequentBounds {
+        bounds[i] = ItemBounds {
             lower_bound: row.lower_bound(),
             estimate: row.estimate(),
             upper_bound: row.upper_bound(),

@@ -4,20 +4,17 @@ ghost use Rattle.std.specs.Prelude.{◌≡◌, ◌≢◌, ◌+◌, length, ◌�
 ghost use Rattle.datasketches_c.specs.FrequentBatches.{AreBoundsOfString, AreBoundsOfStrings};
 ghost use Rattle.datasketches_c.specs.FrequentRows.{error_type};
 ghost use Rattle.datasketches_c.specs.FrequentStringRows.{LeavesStringRows, ReportsStrings, WritesStringRows, row_strings};
-ghost use Rattle.datasketches_c.specs.FrequentStrings.{UpdatesString};
-ghost use Rattle.datasketches_c.specs.InTurn.{CallsInTurn};
+ghost use Rattle.datasketches_c.specs.FrequentStrings.{AddsStrings, UpdatesString, WeighsStrings};
 ghost use Rattle.datasketches_c.specs.Kinds.{HoldsFrequentStrings, OnFrequentStrings};
 ghost use Rattle.datasketches_c.specs.Numbers.{OnDone, OnRefused, ok, no_room, refusal_number};
 ghost use Rattle.datasketches_c.specs.Strings.{offsets_from};
 
-use crate::frequent::FrequentBounds;
 use crate::frequent_rows::{copy_bounds, error_type_of};
 use crate::handle::SketchHandle;
 use crate::kind::on_kind;
 use crate::status_code::{NO_ROOM, OK, refusal_number};
-use crate::strings::Strings;
-use sketch_base::Fault;
-use sketch_frequencies::{FrequentItemsSketch, Row};
+use sketch_base::{Fault, Strings};
+use sketch_frequencies::{FrequentItemsSketch, ItemBounds, Row};
 use std::alloc::Global;
 
 /// Adds a weight to a string's. Returns the result's number. Allocates only if the string is not tracked.
@@ -37,69 +34,53 @@ pub(crate) fn update_string(
     }
 }
 
-/// Returns the bounds of a string's weight, with one look-up. It does not allocate: the allocator is for its proof alone.
-fn bounds_by_key(
-    _alloc: Global,
-    sketch: &FrequentItemsSketch<String>,
-    string: &str,
-) -> FrequentBounds
-    ensures { AreBoundsOfString sketch.now string.now result }
-{
-    let bounds = sketch.bounds_by_key(string);
-    FrequentBounds {
-        lower_bound: bounds.lower_bound,
-        estimate: bounds.estimate,
-        upper_bound: bounds.upper_bound,
-    }
-}
-
 /// Writes the bounds and the estimate of a string's weight. Does not allocate.
 pub(crate) fn bounds_of_string(
-    alloc: Global,
     sketch: &FrequentItemsSketch<String>,
     item: &str,
-    bounds: &mut FrequentBounds,
+    bounds: &mut ItemBounds,
 ) -> i32
     ensures { (result ≡ ok) × AreBoundsOfString sketch.now item.now bounds.new }
 {
-    *bounds = bounds_by_key(alloc, sketch, item);
+    *bounds = sketch.bounds_by_key(item);
     OK
 }
 
-/// Adds 1 to the weight of each string, in order. Returns the first error. Then the strings before it are
-/// added, and no others.
-pub(crate) fn update_strings<S: Strings>(
-    alloc: Global,
+/// Adds 1 to the weight of each string, in order. Returns the result's number.
+fn update_strings<S: Strings>(sketch: &mut FrequentItemsSketch<String>, strings: &S) -> i32
+    ensures { AddsStrings sketch.old (S.list strings.now) sketch.new result }
+{
+    match sketch.update_strings(strings) {
+        Ok(()) => OK,
+        Err(error) => refusal_number(error.fault()),
+    }
+}
+
+/// Adds a weight to each string's, in order. Returns the result's number.
+fn update_strings_weighted<S: Strings>(
     sketch: &mut FrequentItemsSketch<String>,
     strings: &S,
+    weights: &[u64],
 ) -> i32
-    ensures { CallsInTurn (λ s string t answer. UpdatesString s string 1 t answer) sketch.old (S.list strings.now) sketch.new result }
+    requires { length weights.now ≡ length (S.list strings.now) }
+    ensures { WeighsStrings sketch.old (S.list strings.now) weights.now sketch.new result }
 {
-    let count = strings.count();
-    'each: for i in 0..count {
-        let answer = update_string(alloc, sketch, strings.at(i), 1);
-        if answer != OK {
-            return answer;
-        }
+    match sketch.update_strings_weighted(strings, weights) {
+        Ok(()) => OK,
+        Err(error) => refusal_number(error.fault()),
     }
-    OK
 }
 
 /// Writes the bounds and the estimate of each string's weight. Does not allocate.
-pub(crate) fn bounds_of_strings<S: Strings>(
-    alloc: Global,
+fn bounds_of_strings<S: Strings>(
     sketch: &FrequentItemsSketch<String>,
     strings: &S,
-    bounds: &mut [FrequentBounds],
-) -> i32
+    bounds: &mut [ItemBounds],
+)
     requires { length bounds.old ≡ length (S.list strings.now) }
-    ensures { (result ≡ ok) × AreBoundsOfStrings sketch.now (S.list strings.now) bounds.new }
+    ensures { AreBoundsOfStrings sketch.now (S.list strings.now) bounds.new }
 {
-    let count = strings.count();
-    'each: for i in 0..count {
-        bounds[i] = bounds_by_key(alloc, sketch, strings.at(i));
-    }
-    OK
+    sketch.bounds_strings(strings, bounds);
 }
 
 /// Adds 1 to the weight of each string in the sketch of a handle, in order.
@@ -110,9 +91,23 @@ pub(crate) fn update_all_strings<S: Strings>(
 ) -> i32
     ensures { OnFrequentStrings handle.old.value handle.new.value result (λ s.
         HoldsFrequentStrings handle.new.value (λ t.
-        CallsInTurn (λ s string t answer. UpdatesString s string 1 t answer) s (S.list strings.now) t result)) }
+        AddsStrings s (S.list strings.now) t result)) }
 {
-    on_kind!(alloc, handle, FrequentItemsSketch<String>, sketch => update_strings(alloc, sketch, strings))
+    on_kind!(alloc, handle, FrequentItemsSketch<String>, sketch => update_strings(sketch, strings))
+}
+
+/// Adds a weight to each string's in the sketch of a handle, in order.
+pub(crate) fn update_all_weighted_strings<S: Strings>(
+    alloc: Global,
+    handle: &mut SketchHandle,
+    strings: &S,
+    weights: &[u64],
+) -> i32
+    requires { length weights.now ≡ length (S.list strings.now) }
+    ensures { OnFrequentStrings handle.old.value handle.new.value result (λ s.
+        HoldsFrequentStrings handle.new.value (λ t. WeighsStrings s (S.list strings.now) weights.now t result)) }
+{
+    on_kind!(alloc, handle, FrequentItemsSketch<String>, sketch => update_strings_weighted(sketch, strings, weights))
 }
 
 /// Writes the bounds and the estimate of each string's weight in the sketch of a handle. Does not allocate.
@@ -120,7 +115,7 @@ pub(crate) fn bounds_all_strings<S: Strings>(
     alloc: Global,
     handle: &mut SketchHandle,
     strings: &S,
-    bounds: &mut [FrequentBounds],
+    bounds: &mut [ItemBounds],
 ) -> i32
     requires { length bounds.old ≡ length (S.list strings.now) }
     ensures kept { handle.new.value ≡ handle.old.value }
@@ -128,7 +123,10 @@ pub(crate) fn bounds_all_strings<S: Strings>(
         (result ≡ ok) × AreBoundsOfStrings s (S.list strings.now) bounds.new) }
     ensures untouched { result ≢ ok → bounds.new ≡ bounds.old }
 {
-    on_kind!(alloc, handle, FrequentItemsSketch<String>, sketch => bounds_of_strings(alloc, sketch, strings, bounds))
+    on_kind!(alloc, handle, FrequentItemsSketch<String>, sketch => {
+        bounds_of_strings(sketch, strings, bounds);
+        OK
+    })
 }
 
 /// Returns the number of bytes of all strings of rows, or `None` if it is 2^64 or more.
@@ -172,7 +170,7 @@ fn copy_rows(
     num_bytes: usize,
     bytes: &mut [u8],
     offsets: &mut [u64],
-    bounds: &mut [FrequentBounds],
+    bounds: &mut [ItemBounds],
 ) -> i32
     requires { num_bytes ≡ length (concat (row_strings rows.now)) }
     ensures report { ReportsStrings rows.now (record { bytes = bytes.old; offsets = offsets.old; bounds = bounds.old })
@@ -198,7 +196,7 @@ pub(crate) fn write_rows(
     threshold: u64,
     bytes: &mut [u8],
     offsets: &mut [u64],
-    bounds: &mut [FrequentBounds],
+    bounds: &mut [ItemBounds],
     count: &mut usize,
     num_bytes: &mut usize,
 ) -> i32

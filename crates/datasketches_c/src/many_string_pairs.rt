@@ -9,23 +9,19 @@ ghost use Rattle.sketch_bloom.specs.Stands.{Extends};
 ghost use Rattle.sketch_bloom.specs.State.{all_inserted, contains_item};
 ghost use Rattle.datasketches_c.specs.CountCalls.{AddsEach, AddsWeights, EstimatesAll};
 ghost use Rattle.datasketches_c.specs.FrequentBatches.{AreBoundsOfStrings};
-ghost use Rattle.datasketches_c.specs.FrequentStrings.{UpdatesString};
-ghost use Rattle.datasketches_c.specs.InTurn.{CallsInTurn};
+ghost use Rattle.datasketches_c.specs.FrequentStrings.{AddsStrings, WeighsStrings};
 ghost use Rattle.datasketches_c.specs.Kinds.{HoldsFrequentStrings, OnFilter, OnFrequentStrings, count_i64_of, count_u64_of};
 ghost use Rattle.datasketches_c.specs.Numbers.{OnRefused, max_i64, max_u64, no_room, ok, refusal_number};
-ghost use Rattle.datasketches_c.specs.Strings.{strings_at};
-ghost use Rattle.datasketches_c.specs.Weights.{AddsWeights as AddsFrequentWeights};
+ghost use Rattle.sketch_base.specs.Strings.{strings_at};
 ghost use Rattle.datasketches_c.specs.declared.any_sketch.AnySketch.TheVariants.{Filter};
 
 use crate::count;
 use crate::filter_strings::{contains_all_strings, insert_all_strings};
-use crate::frequent::FrequentBounds;
-use crate::frequent_string::{bounds_all_strings, update_all_strings};
-use crate::frequent_weighted::update_all_weighted_strings;
+use crate::frequent_string::{bounds_all_strings, update_all_strings, update_all_weighted_strings};
 use crate::handle::SketchHandle;
-use crate::pair_strings::PairStrings;
-use crate::strings::on_strings;
-use sketch_base::Fault;
+use crate::strings::{on_strings, strings_of_pairs, strings_of_pairs_for};
+use sketch_base::{ByteStrings, Fault};
+use sketch_frequencies::ItemBounds;
 use std::alloc::Global;
 
 /// Inserts many strings, as one after another. Each string is a pointer and a length.
@@ -47,7 +43,7 @@ pub extern "C" fn ds_bloom_insert_all_string_pairs(
     ensures invalid_utf8 { ¬ All IsUtf8 (strings_at items.now) → result ≡ refusal_number Fault.InvalidUtf8 }
     ensures refused { OnRefused result (handle.new.value ≡ handle.old.value) }
 {
-    on_strings!(PairStrings::new(items), strings => insert_all_strings(alloc, handle, &strings))
+    on_strings!(strings_of_pairs(items), strings => insert_all_strings(alloc, handle, &strings))
 }
 
 /// Writes for each string whether the filter contains it. Each string is a pointer and a length.
@@ -73,7 +69,7 @@ pub extern "C" fn ds_bloom_contains_all_string_pairs(
         × (answers.new ≡ map (λ string. contains_item s (fed_bytes fed.str string)) (strings_at items.now))) }
     ensures untouched { OnRefused result (answers.new ≡ answers.old) }
 {
-    on_strings!(PairStrings::for_places(answers.len(), items), strings => {
+    on_strings!(strings_of_pairs_for(answers.len(), items), strings => {
         contains_all_strings(alloc, handle, &strings, answers)
     })
 }
@@ -98,8 +94,8 @@ pub extern "C" fn ds_count_min_u64_update_all_string_pairs(
     ensures invalid_utf8 { ¬ All IsUtf8 (strings_at items.now)
         → (result ≡ refusal_number Fault.InvalidUtf8) × (handle.new.value ≡ handle.old.value) }
 {
-    on_strings!(PairStrings::new(items), strings => {
-        count::update_all_strings::<u64, PairStrings>(alloc, handle, &strings)
+    on_strings!(strings_of_pairs(items), strings => {
+        count::update_all_strings::<u64, ByteStrings>(alloc, handle, &strings)
     })
 }
 
@@ -125,7 +121,7 @@ pub extern "C" fn ds_count_min_u64_update_all_weighted_string_pairs(
         → AddsWeights count_u64_of max_u64 handle.old.value handle.new.value result (fed_bytes fed.str) pos (strings_at items.now) weights.now (sum weights.now) }
     ensures refused { OnRefused result (handle.new.value ≡ handle.old.value) }
 {
-    on_strings!(PairStrings::for_places(weights.len(), items), strings => {
+    on_strings!(strings_of_pairs_for(weights.len(), items), strings => {
         count::update_all_weighted_strings(alloc, handle, &strings, weights)
     })
 }
@@ -153,7 +149,7 @@ pub extern "C" fn ds_count_min_u64_estimate_all_string_pairs(
         → EstimatesAll count_u64_of handle.old.value handle.new.value result (fed_bytes fed.str) (strings_at items.now) (map pos estimates.new) }
     ensures untouched { OnRefused result (estimates.new ≡ estimates.old) }
 {
-    on_strings!(PairStrings::for_places(estimates.len(), items), strings => {
+    on_strings!(strings_of_pairs_for(estimates.len(), items), strings => {
         count::estimate_all_strings(alloc, handle, &strings, estimates)
     })
 }
@@ -178,8 +174,8 @@ pub extern "C" fn ds_count_min_i64_update_all_string_pairs(
     ensures invalid_utf8 { ¬ All IsUtf8 (strings_at items.now)
         → (result ≡ refusal_number Fault.InvalidUtf8) × (handle.new.value ≡ handle.old.value) }
 {
-    on_strings!(PairStrings::new(items), strings => {
-        count::update_all_strings::<i64, PairStrings>(alloc, handle, &strings)
+    on_strings!(strings_of_pairs(items), strings => {
+        count::update_all_strings::<i64, ByteStrings>(alloc, handle, &strings)
     })
 }
 
@@ -206,7 +202,7 @@ pub extern "C" fn ds_count_min_i64_update_all_weighted_string_pairs(
         → AddsWeights count_i64_of max_i64 handle.old.value handle.new.value result (fed_bytes fed.str) (λ weight. weight) (strings_at items.now) weights.now (sum_by unsigned_abs weights.now) }
     ensures refused { OnRefused result (handle.new.value ≡ handle.old.value) }
 {
-    on_strings!(PairStrings::for_places(weights.len(), items), strings => {
+    on_strings!(strings_of_pairs_for(weights.len(), items), strings => {
         count::update_all_weighted_strings(alloc, handle, &strings, weights)
     })
 }
@@ -234,7 +230,7 @@ pub extern "C" fn ds_count_min_i64_estimate_all_string_pairs(
         → EstimatesAll count_i64_of handle.old.value handle.new.value result (fed_bytes fed.str) (strings_at items.now) estimates.new }
     ensures untouched { OnRefused result (estimates.new ≡ estimates.old) }
 {
-    on_strings!(PairStrings::for_places(estimates.len(), items), strings => {
+    on_strings!(strings_of_pairs_for(estimates.len(), items), strings => {
         count::estimate_all_strings(alloc, handle, &strings, estimates)
     })
 }
@@ -256,11 +252,11 @@ pub extern "C" fn ds_frequent_items_string_update_all_pairs(
 ) -> i32
     ensures strings { All IsUtf8 (strings_at items.now) → OnFrequentStrings handle.old.value handle.new.value result (λ s.
         HoldsFrequentStrings handle.new.value (λ t.
-        CallsInTurn (λ s string t answer. UpdatesString s string 1 t answer) s (strings_at items.now) t result)) }
+        AddsStrings s (strings_at items.now) t result)) }
     ensures invalid_utf8 { ¬ All IsUtf8 (strings_at items.now)
         → (result ≡ refusal_number Fault.InvalidUtf8) × (handle.new.value ≡ handle.old.value) }
 {
-    on_strings!(PairStrings::new(items), strings => update_all_strings(alloc, handle, &strings))
+    on_strings!(strings_of_pairs(items), strings => update_all_strings(alloc, handle, &strings))
 }
 
 /// Adds a weight to each string's, in order. A weight of 0 changes nothing. Each string is a pointer and a length.
@@ -286,9 +282,9 @@ pub extern "C" fn ds_frequent_items_string_update_all_weighted_pairs(
         → (result ≡ refusal_number Fault.InvalidUtf8) × (handle.new.value ≡ handle.old.value) }
     ensures call { length weights.now ≡ length items.now → All IsUtf8 (strings_at items.now)
         → OnFrequentStrings handle.old.value handle.new.value result (λ s.
-        HoldsFrequentStrings handle.new.value (λ t. AddsFrequentWeights UpdatesString s (strings_at items.now) weights.now t result)) }
+        HoldsFrequentStrings handle.new.value (λ t. WeighsStrings s (strings_at items.now) weights.now t result)) }
 {
-    on_strings!(PairStrings::for_places(weights.len(), items), strings => {
+    on_strings!(strings_of_pairs_for(weights.len(), items), strings => {
         update_all_weighted_strings(alloc, handle, &strings, weights)
     })
 }
@@ -307,7 +303,7 @@ pub extern "C" fn ds_frequent_items_string_bounds_all_pairs(
     alloc: Global,
     handle: &mut SketchHandle,
     items: &[&[u8]],
-    bounds: &mut [FrequentBounds],
+    bounds: &mut [ItemBounds],
 ) -> i32
     ensures kept { handle.new.value ≡ handle.old.value }
     ensures no_room { length bounds.old ≢ length items.now → (result ≡ no_room) × (bounds.new ≡ bounds.old) }
@@ -318,7 +314,7 @@ pub extern "C" fn ds_frequent_items_string_bounds_all_pairs(
         (result ≡ ok) × AreBoundsOfStrings s (strings_at items.now) bounds.new) }
     ensures untouched { result ≢ ok → bounds.new ≡ bounds.old }
 {
-    on_strings!(PairStrings::for_places(bounds.len(), items), strings => {
+    on_strings!(strings_of_pairs_for(bounds.len(), items), strings => {
         bounds_all_strings(alloc, handle, &strings, bounds)
     })
 }

@@ -9,21 +9,19 @@ ghost use Rattle.sketch_bloom.specs.Stands.{Extends};
 ghost use Rattle.sketch_bloom.specs.State.{all_inserted, contains_item};
 ghost use Rattle.datasketches_c.specs.CountCalls.{AddsEach, EstimatesAll};
 ghost use Rattle.datasketches_c.specs.FrequentBatches.{AreBoundsOfStrings};
-ghost use Rattle.datasketches_c.specs.FrequentStrings.{UpdatesString};
-ghost use Rattle.datasketches_c.specs.InTurn.{CallsInTurn};
+ghost use Rattle.datasketches_c.specs.FrequentStrings.{AddsStrings};
 ghost use Rattle.datasketches_c.specs.Kinds.{HoldsFrequentStrings, OnFilter, OnFrequentStrings, count_i64_of, count_u64_of};
 ghost use Rattle.datasketches_c.specs.Numbers.{OnRefused, bad_offsets, max_i64, max_u64, no_room, ok, refusal_number};
-ghost use Rattle.datasketches_c.specs.Strings.{AreOffsets, AreStrings, strings_of};
+ghost use Rattle.sketch_base.specs.Strings.{AreOffsets, AreStrings, strings_of};
 ghost use Rattle.datasketches_c.specs.declared.any_sketch.AnySketch.TheVariants.{Filter};
 
 use crate::count;
 use crate::filter_strings::{contains_all_strings, insert_all_strings};
-use crate::frequent::FrequentBounds;
 use crate::frequent_string::{bounds_all_strings, update_all_strings};
 use crate::handle::SketchHandle;
-use crate::offset_strings::OffsetStrings;
-use crate::strings::on_strings;
-use sketch_base::Fault;
+use crate::strings::{on_strings, strings_for, strings_in};
+use sketch_base::{Fault, OffsetStrings};
+use sketch_frequencies::ItemBounds;
 use std::alloc::Global;
 
 /// Inserts many strings, as one after another. The strings are the bytes between each offset and the next, so n strings
@@ -52,7 +50,7 @@ pub extern "C" fn ds_bloom_insert_all_string(
         → result ≡ refusal_number Fault.InvalidUtf8 }
     ensures refused { OnRefused result (handle.new.value ≡ handle.old.value) }
 {
-    on_strings!(OffsetStrings::new(bytes, offsets), strings => insert_all_strings(alloc, handle, &strings))
+    on_strings!(strings_in(bytes, offsets), strings => insert_all_strings(alloc, handle, &strings))
 }
 
 /// Writes for each string whether the filter contains it. The strings are the bytes between each offset and the next,
@@ -83,7 +81,7 @@ pub extern "C" fn ds_bloom_contains_all_string(
         × (answers.new ≡ map (λ string. contains_item s (fed_bytes fed.str string)) (strings_of bytes.now offsets.now))) }
     ensures untouched { OnRefused result (answers.new ≡ answers.old) }
 {
-    on_strings!(OffsetStrings::for_places(answers.len(), bytes, offsets), strings => {
+    on_strings!(strings_for(answers.len(), bytes, offsets), strings => {
         contains_all_strings(alloc, handle, &strings, answers)
     })
 }
@@ -114,7 +112,7 @@ pub extern "C" fn ds_count_min_u64_update_all_string(
     ensures invalid_utf8 { AreOffsets bytes.now offsets.now → ¬ All IsUtf8 (strings_of bytes.now offsets.now)
         → (result ≡ refusal_number Fault.InvalidUtf8) × (handle.new.value ≡ handle.old.value) }
 {
-    on_strings!(OffsetStrings::new(bytes, offsets), strings => {
+    on_strings!(strings_in(bytes, offsets), strings => {
         count::update_all_strings::<u64, OffsetStrings>(alloc, handle, &strings)
     })
 }
@@ -145,7 +143,7 @@ pub extern "C" fn ds_count_min_i64_update_all_string(
     ensures invalid_utf8 { AreOffsets bytes.now offsets.now → ¬ All IsUtf8 (strings_of bytes.now offsets.now)
         → (result ≡ refusal_number Fault.InvalidUtf8) × (handle.new.value ≡ handle.old.value) }
 {
-    on_strings!(OffsetStrings::new(bytes, offsets), strings => {
+    on_strings!(strings_in(bytes, offsets), strings => {
         count::update_all_strings::<i64, OffsetStrings>(alloc, handle, &strings)
     })
 }
@@ -171,13 +169,13 @@ pub extern "C" fn ds_frequent_items_string_update_all(
 ) -> i32
     ensures strings { AreStrings bytes.now offsets.now → OnFrequentStrings handle.old.value handle.new.value result (λ s.
         HoldsFrequentStrings handle.new.value (λ t.
-        CallsInTurn (λ s string t answer. UpdatesString s string 1 t answer) s (strings_of bytes.now offsets.now) t result)) }
+        AddsStrings s (strings_of bytes.now offsets.now) t result)) }
     ensures bad_offsets { ¬ AreOffsets bytes.now offsets.now
         → (result ≡ bad_offsets) × (handle.new.value ≡ handle.old.value) }
     ensures invalid_utf8 { AreOffsets bytes.now offsets.now → ¬ All IsUtf8 (strings_of bytes.now offsets.now)
         → (result ≡ refusal_number Fault.InvalidUtf8) × (handle.new.value ≡ handle.old.value) }
 {
-    on_strings!(OffsetStrings::new(bytes, offsets), strings => update_all_strings(alloc, handle, &strings))
+    on_strings!(strings_in(bytes, offsets), strings => update_all_strings(alloc, handle, &strings))
 }
 
 /// Writes the estimate of each string's weight. The strings are the bytes between each offset and the next, so n
@@ -208,7 +206,7 @@ pub extern "C" fn ds_count_min_u64_estimate_all_string(
         → EstimatesAll count_u64_of handle.old.value handle.new.value result (fed_bytes fed.str) (strings_of bytes.now offsets.now) (map pos estimates.new) }
     ensures untouched { OnRefused result (estimates.new ≡ estimates.old) }
 {
-    on_strings!(OffsetStrings::for_places(estimates.len(), bytes, offsets), strings => {
+    on_strings!(strings_for(estimates.len(), bytes, offsets), strings => {
         count::estimate_all_strings(alloc, handle, &strings, estimates)
     })
 }
@@ -241,7 +239,7 @@ pub extern "C" fn ds_count_min_i64_estimate_all_string(
         → EstimatesAll count_i64_of handle.old.value handle.new.value result (fed_bytes fed.str) (strings_of bytes.now offsets.now) estimates.new }
     ensures untouched { OnRefused result (estimates.new ≡ estimates.old) }
 {
-    on_strings!(OffsetStrings::for_places(estimates.len(), bytes, offsets), strings => {
+    on_strings!(strings_for(estimates.len(), bytes, offsets), strings => {
         count::estimate_all_strings(alloc, handle, &strings, estimates)
     })
 }
@@ -264,7 +262,7 @@ pub extern "C" fn ds_frequent_items_string_bounds_all(
     handle: &mut SketchHandle,
     bytes: &[u8],
     offsets: &[u64],
-    bounds: &mut [FrequentBounds],
+    bounds: &mut [ItemBounds],
 ) -> i32
     ensures kept { handle.new.value ≡ handle.old.value }
     ensures bad_offsets { ¬ AreOffsets bytes.now offsets.now → (result ≡ bad_offsets) × (bounds.new ≡ bounds.old) }
@@ -278,7 +276,7 @@ pub extern "C" fn ds_frequent_items_string_bounds_all(
         (result ≡ ok) × AreBoundsOfStrings s (strings_of bytes.now offsets.now) bounds.new) }
     ensures untouched { result ≢ ok → bounds.new ≡ bounds.old }
 {
-    on_strings!(OffsetStrings::for_places(bounds.len(), bytes, offsets), strings => {
+    on_strings!(strings_for(bounds.len(), bytes, offsets), strings => {
         bounds_all_strings(alloc, handle, &strings, bounds)
     })
 }

@@ -29,7 +29,7 @@ pub const BAD_FRACTION: i32 = -4;
 /// used by the header for C.
 pub const BAD_OFFSETS: i32 = -6;
 
-/// Returns the number of a fault, -11 or less.
+/// Returns the number of a fault: -11 or less, or `BAD_OFFSETS`.
 pub(crate) fn refusal_number(fault: Fault) -> i32
     ensures { result ≡ refusal_number fault }
 {
@@ -68,5 +68,6 @@ pub(crate) fn refusal_number(fault: Fault) -> i32
         Fault::NoMemory => -42,
         Fault::BadSampleSize => -43,
         Fault::BadWindows => -44,
+        Fault::BadOffsets => BAD_OFFSETS,
     }
 }

@@ -1,19 +1,73 @@
 //! Strings as arguments of calls: one string as bytes, and the strings of a call, in whichever form they come.
-ghost use Rattle.std.specs.Prelude.{◌≡◌, ◌<◌, [], List, ℕ, length, slice_index_or};
+ghost use Rattle.std.specs.Prelude.{◌≡◌, length, All, MatchResult};
+ghost use Rattle.std.specs.Str.{IsUtf8};
+ghost use Rattle.sketch_base.specs.Strings.{AreStrings, strings_at, strings_of};
+ghost use Rattle.datasketches_c.specs.Numbers.{refusal_number};
+ghost use Rattle.datasketches_c.specs.Strings.{AreStringsIn, AreRefused, AreRefusedIn, ArePairsIn, RefusesPairsIn};
 
-/// The strings of a call, in order.
-pub(crate) trait Strings {
-    // The bytes of each string.
-    ghost list: { Self → List (List ℕ) };
+use crate::status_code::{BAD_OFFSETS, NO_ROOM, refusal_number};
+use sketch_base::{ByteStrings, Fault, OffsetStrings, are_offsets};
 
-    /// Returns the number of strings.
-    fn count(&self) -> usize
-        ensures { result ≡ length (list self.now) };
+/// Returns the strings of a buffer with offsets, or the number of the first error: `BAD_OFFSETS` or `InvalidUtf8`.
+pub(crate) fn strings_in<'a>(bytes: &'a [u8], offsets: &'a [u64]) -> Result<OffsetStrings<'a>, i32>
+    ensures { MatchResult result
+        (λ strings. AreStrings bytes.now offsets.now × (strings ≡ strings_of bytes.now offsets.now))
+        (AreRefused bytes.now offsets.now) }
+{
+    match OffsetStrings::new(bytes, offsets) {
+        Ok(strings) => Ok(strings),
+        Err(error) => Err(refusal_number(error.fault())),
+    }
+}
 
-    /// Returns string `i`.
-    fn at(&self, i: usize) -> &str
-        requires { i < length (list self.now) }
-        ensures { result.now ≡ slice_index_or (list self.now) i [] };
+/// Returns the strings of a buffer with offsets, one for each of `places`, or the number of the first error:
+/// `BAD_OFFSETS`, `NO_ROOM` or `InvalidUtf8`. It is `NO_ROOM` if the number of strings is not `places`.
+pub(crate) fn strings_for<'a>(
+    places: usize,
+    bytes: &'a [u8],
+    offsets: &'a [u64],
+) -> Result<OffsetStrings<'a>, i32>
+    ensures { MatchResult result
+        (λ strings. AreStringsIn places bytes.now offsets.now × (strings ≡ strings_of bytes.now offsets.now)
+        × (length strings ≡ places))
+        (AreRefusedIn places bytes.now offsets.now) }
+{
+    if offsets.is_empty() || offsets.len() - 1 != places {
+        return Err(if are_offsets(bytes, offsets) {
+            NO_ROOM
+        } else {
+            BAD_OFFSETS
+        });
+    }
+    strings_in(bytes, offsets)
+}
+
+/// Returns the strings of pairs of a pointer and a length, or the number of `InvalidUtf8` if one is not UTF-8.
+pub(crate) fn strings_of_pairs<'a>(items: &'a [&'a [u8]]) -> Result<ByteStrings<'a>, i32>
+    ensures { MatchResult result
+        (λ strings. All IsUtf8 (strings_at items.now) × (strings ≡ strings_at items.now))
+        (λ refusal. ¬ All IsUtf8 (strings_at items.now) × (refusal ≡ refusal_number Fault.InvalidUtf8)) }
+{
+    match ByteStrings::new(items) {
+        Ok(strings) => Ok(strings),
+        Err(error) => Err(refusal_number(error.fault())),
+    }
+}
+
+/// Returns the strings of pairs, one for each of `places`, or the number of the first error: `NO_ROOM` if the number of
+/// strings is not `places`, or `InvalidUtf8` if one is not UTF-8.
+pub(crate) fn strings_of_pairs_for<'a>(
+    places: usize,
+    items: &'a [&'a [u8]],
+) -> Result<ByteStrings<'a>, i32>
+    ensures { MatchResult result
+        (λ strings. ArePairsIn places items.now × (strings ≡ strings_at items.now))
+        (RefusesPairsIn places items.now) }
+{
+    if places != items.len() {
+        return Err(NO_ROOM);
+    }
+    strings_of_pairs(items)
 }
 
 /// Does `$work` on a string, and gives the result of `$work`. Returns from the function with `InvalidUtf8` if the bytes

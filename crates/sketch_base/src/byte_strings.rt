@@ -57,7 +57,7 @@ impl<'a> ByteStrings<'a> {
     /// }
     /// ```
     pub fn new(items: &'a [&'a [u8]]) -> Result<Self, Error>
-        ensures ok { IfOk result (λ strings. strings ≡ strings_at items.now) }
+        ensures ok { IfOk result (λ strings. All IsUtf8 (strings_at items.now) × (strings ≡ strings_at items.now)) }
 
         // The error comes exactly if a slice is not UTF-8.
         ensures succeeds { All IsUtf8 (strings_at items.now) → IsOk result }

@@ -124,7 +124,8 @@ impl<'a> OffsetStrings<'a> {
     /// }
     /// ```
     pub fn new(bytes: &'a [u8], offsets: &'a [u64]) -> Result<Self, Error>
-        ensures ok { IfOk result (λ strings. strings ≡ strings_of bytes.now offsets.now) }
+        ensures ok { IfOk result (λ strings. AreStrings bytes.now offsets.now
+            × (strings ≡ strings_of bytes.now offsets.now)) }
 
         // An error comes exactly if the offsets are not valid or a string is not UTF-8.
         ensures succeeds { AreStrings bytes.now offsets.now → IsOk result }

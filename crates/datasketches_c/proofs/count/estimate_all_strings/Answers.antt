@@ -15,4 +15,4 @@ pub returns-in-Some-part_of-clause-estimates : goal.returns-in-Some-part_of-clau
 returns-in-Some-part_of-clause-estimates g c =
     all_estimated g.bound-8.part c.args.handle.now.value c.give.new.self.value c.deref_mut.result.now c.in-Some-part_of.sketch.now ok
     (c.in-Some.ensures.sketch ∙ ap Some (sym c.deref_mut.ensures.value)) c.in-Some-part_of.ensures.which.0
-    (fed_bytes fed.str) (g.S.Strings.list c.args.strings.now) (map g.V.CountMinValue.number c.estimate_strings.new.estimates) refl c.estimate_strings.ensures.estimates
+    (fed_bytes fed.str) (g.S.Strings.list c.args.strings.now) (map g.V.CountMinValue.number c.estimate_strings.new.estimates) refl c.estimate_strings.ensures.each

@@ -1,5 +1,5 @@
 use Rattle.datasketches_c.proofs.CountJoinLemmas.{merges_joined}
-use Rattle.datasketches_c.proofs.InTurnLemmas.{same_answer}
+use Rattle.datasketches_c.proofs.Refusals.{same_answer}
 use Rattle.datasketches_c.proofs.count.merge.Goals as goal
 
 -- the other sketch was added

@@ -5,7 +5,7 @@ use Rattle.sketch_base.specs.Hashes.{fed_bytes}
 use Rattle.datasketches_c.specs.Numbers.{OnRefused}
 use Rattle.datasketches_c.proofs.AnswerLemmas.{handed_on}
 use Rattle.datasketches_c.proofs.CountCallLemmas.{weights_added}
-use Rattle.datasketches_c.proofs.InTurnLemmas.{same_answer}
+use Rattle.datasketches_c.proofs.Refusals.{same_answer}
 use Rattle.datasketches_c.proofs.KindLemmas.{kept_when_refused}
 use Rattle.datasketches_c.proofs.count.update_all_weighted_strings.Goals as goal
 

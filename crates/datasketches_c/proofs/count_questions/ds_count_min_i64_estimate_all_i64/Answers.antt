@@ -2,7 +2,7 @@ use Rattle.std.proofs.Common.{rules}
 use Rattle.std.specs.Hash as fed
 use Rattle.sketch_base.specs.Hashes.{fed_bytes}
 use Rattle.datasketches_c.specs.Kinds.{count_i64_of}
-use Rattle.datasketches_c.proofs.CountLemmas.{own_numbers}
+use Rattle.datasketches_c.proofs.CountCallLemmas.{own_numbers}
 use Rattle.datasketches_c.proofs.count_questions.ds_count_min_i64_estimate_all_i64.Goals as goal
 
 pub returns-clause-estimates : goal.returns-clause-estimates

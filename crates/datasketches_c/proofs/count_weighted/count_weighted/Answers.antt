@@ -1,6 +1,6 @@
 use Rattle.std.proofs.Common.{refl}
 use Rattle.std.proofs.lemmas.Bool.{false≢true}
-use Rattle.datasketches_c.proofs.InTurnLemmas.{refused_for}
+use Rattle.datasketches_c.proofs.Refusals.{refused_for}
 use Rattle.datasketches_c.proofs.count_weighted.count_weighted.Goals as goal
 
 pub returns-in-Ok-clause-counted : goal.returns-in-Ok-clause-counted

@@ -1,6 +1,6 @@
 use Rattle.std.proofs.Common.{refl}
 use Rattle.std.proofs.lemmas.Bool.{false≢true}
-use Rattle.datasketches_c.proofs.InTurnLemmas.{refused_for, refused_as}
+use Rattle.datasketches_c.proofs.Refusals.{refused_for, refused_as}
 use Rattle.datasketches_c.proofs.Refusals.{refused_not_done}
 use Rattle.datasketches_c.proofs.Reports.{when_refused}
 use Rattle.datasketches_c.proofs.frequent.merge.Goals as goal

@@ -3,7 +3,7 @@ use Rattle.sketch_frequencies.specs.Image.{IsSpelledFor}
 use Rattle.datasketches_c.specs.FrequentImages.{WritesFrequent}
 use Rattle.datasketches_c.specs.Numbers.{ok, no_room}
 use Rattle.datasketches_c.proofs.AnswerLemmas.{handed_on, not_copied}
-use Rattle.datasketches_c.proofs.InTurnLemmas.{same_answer}
+use Rattle.datasketches_c.proofs.Refusals.{same_answer}
 use Rattle.datasketches_c.proofs.Reading.{copied_image}
 use Rattle.datasketches_c.proofs.Reports.{when_refused}
 use Rattle.datasketches_c.proofs.frequent.write_numbers.Goals as goal

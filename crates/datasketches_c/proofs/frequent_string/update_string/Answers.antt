@@ -4,7 +4,7 @@ use Rattle.std.specs.Cmp.Lexicographic.{bytes_decides}
 use Rattle.std.specs.String.{string_bytes}
 use Rattle.datasketches_c.specs.FrequentStrings.{UpdatesString}
 use Rattle.datasketches_c.proofs.GhostStrings.{item_of_string}
-use Rattle.datasketches_c.proofs.InTurnLemmas.{refused_for, refused_as}
+use Rattle.datasketches_c.proofs.Refusals.{refused_for, refused_as}
 use Rattle.datasketches_c.proofs.Refusals.{refused_not_done}
 use Rattle.datasketches_c.proofs.Reports.{when_refused}
 use Rattle.datasketches_c.proofs.frequent_string.update_string.Goals as goal

@@ -4,7 +4,7 @@ use Rattle.datasketches_c.specs.FrequentRows.{AreRows, error_type}
 use Rattle.datasketches_c.specs.FrequentStringRows.{LeavesStringRows, StringBuffers, WritesStringRows}
 use Rattle.datasketches_c.specs.FrequentStrings.{strings_eq}
 use Rattle.datasketches_c.proofs.AnswerLemmas.{handed_on, number_handed_on}
-use Rattle.datasketches_c.proofs.InTurnLemmas.{refused_as}
+use Rattle.datasketches_c.proofs.Refusals.{refused_as}
 use Rattle.datasketches_c.proofs.StringReports.{string_rows_counted, string_rows_left, strings_reported}
 use Rattle.datasketches_c.proofs.frequent_string.write_rows.Goals as goal
 

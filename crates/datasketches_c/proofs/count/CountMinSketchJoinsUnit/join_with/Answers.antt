@@ -1,5 +1,5 @@
 use Rattle.std.proofs.lemmas.Bool.{false≢true}
-use Rattle.datasketches_c.proofs.InTurnLemmas.{refused_for}
+use Rattle.datasketches_c.proofs.Refusals.{refused_for}
 use Rattle.datasketches_c.proofs.Reports.{when_refused}
 use Rattle.datasketches_c.proofs.count.CountMinSketchJoinsUnit.join_with.Goals as goal
 

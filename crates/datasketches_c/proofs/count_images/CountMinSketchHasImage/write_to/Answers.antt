@@ -3,7 +3,7 @@ use Rattle.sketch_countmin.specs.Image.{IsSpelled}
 use Rattle.datasketches_c.specs.Images.{WritesImage}
 use Rattle.datasketches_c.specs.Numbers.{ok, no_room}
 use Rattle.datasketches_c.proofs.AnswerLemmas.{handed_on, not_copied}
-use Rattle.datasketches_c.proofs.InTurnLemmas.{refused_as}
+use Rattle.datasketches_c.proofs.Refusals.{refused_as}
 use Rattle.datasketches_c.proofs.Reading.{copied_image}
 use Rattle.datasketches_c.proofs.Reports.{when_refused}
 use Rattle.datasketches_c.proofs.count_images.CountMinSketchHasImage.write_to.Goals as goal
