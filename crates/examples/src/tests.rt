@@ -1,39 +1,117 @@
 //! Tests of what the examples return.
-use crate::bytes::{
-    bucket, checksum_of, halves_of, hash_of_both, hashes_of_both_rows, is_cut_short,
-    is_of_a_filter, kept_bytes, reason, shard_of, there_and_back, version_and_seed,
-};
-use crate::callers::{aged_estimate, is_in_union, surely_weighs};
-use crate::counts::{
-    add_weekend, age, apples_in_store, apples_of_both_days, bytes_of_apple,
-    bytes_within_a_thousandth, count_batch, count_bytes, count_queries, count_text, halve,
-    sent_counts, visits_of, weight_of_all,
-};
-use crate::filters::{
-    add_visitors_of_weekend, block, block_list_has, filter_for, filter_of_visitors, is_blocked,
-    is_first_visit, known_of_four, orders_to_join, repeated_of_four, seen_by_both, still_refused,
-    vocabulary_has,
-};
-use crate::frequent_items::{
-    add_word, apples_of_both_shops, bytes_of, counts_visit, heavier_pages, heaviest,
-    kind_of_report, largest_weight_of_the, lines_of_log, longest_look_up, most_visited, sent_pages,
-    sketch_of_visitors, surely_weighs_more, takes_too_much, visits_of_four,
-    visits_within_a_percent, weights_of_four, words_of_line,
-};
+use crate::bytes::bucket;
+use crate::bytes::checksum_of;
+use crate::bytes::halves_of;
+use crate::bytes::hash_of_both;
+use crate::bytes::hashes_of_both_rows;
+use crate::bytes::is_cut_short;
+use crate::bytes::is_of_a_filter;
+use crate::bytes::kept_bytes;
+use crate::bytes::reason;
+use crate::bytes::shard_of;
+use crate::bytes::there_and_back;
+use crate::bytes::version_and_seed;
+use crate::callers::aged_estimate;
+use crate::callers::is_in_union;
+use crate::callers::surely_weighs;
+use crate::counts::add_weekend;
+use crate::counts::age;
+use crate::counts::apples_in_store;
+use crate::counts::apples_of_both_days;
+use crate::counts::bytes_of_apple;
+use crate::counts::bytes_within_a_thousandth;
+use crate::counts::count_batch;
+use crate::counts::count_bytes;
+use crate::counts::count_queries;
+use crate::counts::count_text;
+use crate::counts::halve;
+use crate::counts::sent_counts;
+use crate::counts::visits_of;
+use crate::counts::weight_of_all;
+use crate::filters::add_visitors_of_weekend;
+use crate::filters::block;
+use crate::filters::block_list_has;
+use crate::filters::filter_for;
+use crate::filters::filter_of_visitors;
+use crate::filters::is_blocked;
+use crate::filters::is_first_visit;
+use crate::filters::known_of_four;
+use crate::filters::orders_to_join;
+use crate::filters::repeated_of_four;
+use crate::filters::seen_by_both;
+use crate::filters::still_refused;
+use crate::filters::vocabulary_has;
+use crate::frequent_items::add_word;
+use crate::frequent_items::apples_of_both_shops;
+use crate::frequent_items::bytes_of;
+use crate::frequent_items::counts_visit;
+use crate::frequent_items::heavier_pages;
+use crate::frequent_items::heaviest;
+use crate::frequent_items::kind_of_report;
+use crate::frequent_items::largest_weight_of_the;
+use crate::frequent_items::lines_of_log;
+use crate::frequent_items::longest_look_up;
+use crate::frequent_items::most_visited;
+use crate::frequent_items::sent_pages;
+use crate::frequent_items::sketch_of_visitors;
+use crate::frequent_items::surely_weighs_more;
+use crate::frequent_items::takes_too_much;
+use crate::frequent_items::visits_of_four;
+use crate::frequent_items::visits_within_a_percent;
+use crate::frequent_items::weights_of_four;
+use crate::frequent_items::words_of_line;
 use crate::images::sent;
-use crate::session::{
-    has_seen_seven, insertion, made_shape, max_slots, recycles, refusal_of_an_unknown_name,
-    takes_filter, union, visits_by_seven, word_for,
-};
-use crate::strings::{complete_lines, complete_words, first_field, first_two, number_of_lines};
-use crate::windows::{load_of_a_customer, weight_of_the_first};
+use crate::many_strings::add_fruit_prices;
+use crate::many_strings::add_names;
+use crate::many_strings::are_blocked;
+use crate::many_strings::are_repeated;
+use crate::many_strings::block_names;
+use crate::many_strings::bounds_of_two;
+use crate::many_strings::can_be_cut;
+use crate::many_strings::count_all_names;
+use crate::many_strings::count_host_bytes;
+use crate::many_strings::count_page;
+use crate::many_strings::first_and_count;
+use crate::many_strings::hashes_of_name;
+use crate::many_strings::number_of_fruit;
+use crate::many_strings::number_of_names;
+use crate::many_strings::sell;
+use crate::many_strings::shard_of_name;
+use crate::many_strings::visits_of_both;
+use crate::many_strings::visits_of_page;
+use crate::session::has_seen_seven;
+use crate::session::insertion;
+use crate::session::made_shape;
+use crate::session::max_slots;
+use crate::session::recycles;
+use crate::session::refusal_of_an_unknown_name;
+use crate::session::takes_filter;
+use crate::session::union;
+use crate::session::visits_by_seven;
+use crate::session::word_for;
+use crate::strings::complete_lines;
+use crate::strings::complete_words;
+use crate::strings::first_field;
+use crate::strings::first_two;
+use crate::strings::number_of_lines;
+use crate::windows::load_of_a_customer;
+use crate::windows::weight_of_the_first;
 use counter_table::ReversePurgeItemHashMap;
+use datasketches::Action;
+use datasketches::Command;
+use datasketches::Refusal;
+use datasketches::Reply;
+use datasketches::Session;
+use datasketches::Shape;
+use datasketches::Status;
 use datasketches::bloom::BloomFilterBuilder;
 use datasketches::error::Error;
-use datasketches::{Action, Command, Refusal, Reply, Session, Shape, Status};
 use sketch_base::Fault;
+use sketch_base::murmur3_of;
 use sketch_countmin::CountMinSketch;
-use sketch_frequencies::{ErrorType, FrequentItemsSketch};
+use sketch_frequencies::ErrorType;
+use sketch_frequencies::FrequentItemsSketch;
+use sketch_frequencies::ItemBounds;
 use std::alloc::Global;
 use std::test::Fail;
 
@@ -153,6 +231,84 @@ fn strings_of_counts(alloc: Global) -> Result<(u64, u64), Error> {
 fn strings_are_as_the_docs_say(rt: HostRuntime) {
     assert!(rt; strings_of_a_filter(rt.alloc()) == Ok((true, true, true, false)));
     assert!(rt; strings_of_counts(rt.alloc()) == Ok((3, 1)));
+}
+
+/// Returns whether names of a buffer are blocked, and which of four names were seen before.
+fn many_names_of_a_filter(alloc: Global) -> Result<([bool; 4], [bool; 4]), Error> {
+    let mut names = filter_of_visitors(alloc)?;
+    block_names(&mut names, b"annbob", &[0, 3, 6])?;
+    let blocked = are_blocked(&names, &["bob", "eve", "ann", "annbob"]);
+    Ok((
+        blocked,
+        are_repeated(&mut names, &["eve", "ann", "eve", "dan"]),
+    ))
+}
+
+/// Returns the visits of two pages after three calls, and a count that went below zero.
+fn many_names_of_counts(alloc: Global) -> Result<(u64, u64, i64), Error> {
+    let mut visits = CountMinSketch::new(alloc, 4, 128)?;
+    count_page(&mut visits, "ann")?;
+    count_all_names(&mut visits, b"annbob", &[0, 3, 6])?;
+    count_host_bytes(&mut visits, &["bob", "eve"])?;
+    let mut stock = CountMinSketch::new(alloc, 4, 128)?;
+    sell(&mut stock, "apple", -3)?;
+    Ok((
+        visits_of_page(&visits, "ann"),
+        visits_of_page(&visits, "bob"),
+        stock.estimate("apple"),
+    ))
+}
+
+/// Returns the estimates of two pages, one of which was counted.
+fn many_pages(alloc: Global) -> Result<[u32; 2], Error> {
+    let mut visits = CountMinSketch::new(alloc, 4, 128)?;
+    visits.update("home")?;
+    Ok(visits_of_both(&visits, &["home", "help"]))
+}
+
+/// Returns the lower bounds of two fruits after names and prices.
+fn many_fruits(alloc: Global) -> Result<(u64, u64), Error> {
+    let mut sketch = FrequentItemsSketch::new(alloc, 64)?;
+    add_names(&mut sketch, b"pearpear", &[0, 4, 8])?;
+    add_fruit_prices(&mut sketch)?;
+    let none = ItemBounds {
+        lower_bound: 0,
+        estimate: 0,
+        upper_bound: 0,
+    };
+    let mut bounds = [none; 2];
+    bounds_of_two(&sketch, &mut bounds);
+    let [apple, pear] = bounds;
+    Ok((apple.lower_bound, pear.upper_bound))
+}
+
+/// Returns whether strings in three forms are those that went in.
+fn strings_in_three_forms() -> bool {
+    let names: &[&str] = &["ann", "bob"];
+    let cut = can_be_cut(b"annbob", &[0, 3, 6]) && !can_be_cut(b"annbob", &[0, 7]);
+    cut && first_and_count(&names) == ("ann", 2)
+        && number_of_fruit() == Ok(2)
+        && number_of_names(&[b"ann", b"\xff"]).is_err()
+}
+
+/// Returns whether a string's hashes are those of the string as an item.
+fn hashes_of_a_string() -> bool {
+    shard_of_name("ann") == shard_of("ann")
+        && hashes_of_name("a string of more than 16 bytes", (1, 2)).1
+            == murmur3_of(&"a string of more than 16 bytes", 2).0
+}
+
+#[test]
+fn many_strings_are_as_the_docs_say(rt: HostRuntime) {
+    assert!(rt;
+        many_names_of_a_filter(rt.alloc())
+            == Ok(([true, false, true, false], [false, true, true, false]))
+    );
+    assert!(rt; many_names_of_counts(rt.alloc()) == Ok((2, 1501, -3)));
+    assert!(rt; many_pages(rt.alloc()) == Ok([1, 0]));
+    assert!(rt; many_fruits(rt.alloc()) == Ok((30, 47)));
+    assert!(rt; strings_in_three_forms());
+    assert!(rt; hashes_of_a_string());
 }
 
 /// Returns the bytes of two hosts in a week of three equal days.

@@ -16,7 +16,7 @@ use std::marker::Model;
 /// ```
 /// use sketch_base::{Rehashable, RehashableStr};
 ///
-/// fn shard_of(user: &str) -> u64 {
+/// fn shard_of_name(user: &str) -> u64 {
 ///     let user = RehashableStr::new(user);
 ///     user.murmur3(9001).0 % 100
 /// }

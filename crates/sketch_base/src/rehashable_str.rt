@@ -17,7 +17,7 @@ use std::marker::Model;
 /// ```
 /// use sketch_base::{Rehashable, RehashableStr};
 ///
-/// fn hashes_of_both_rows(user: &str, seeds: (u64, u64)) -> (u64, u64) {
+/// fn hashes_of_name(user: &str, seeds: (u64, u64)) -> (u64, u64) {
 ///     let user = RehashableStr::new(user);
 ///     (user.murmur3(seeds.0).0, user.murmur3(seeds.1).0)
 /// }

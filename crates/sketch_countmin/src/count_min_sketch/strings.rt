@@ -86,7 +86,7 @@ impl<T: CountMinValue> CountMinSketch<T> {
     /// ```
     /// use sketch_countmin::CountMinSketch;
     ///
-    /// fn visits_of(visits: &CountMinSketch<u64>, page: &str) -> u64 {
+    /// fn visits_of_page(visits: &CountMinSketch<u64>, page: &str) -> u64 {
     ///     visits.estimate_str(page)
     /// }
     /// ```
@@ -116,7 +116,7 @@ impl<T: CountMinValue> CountMinSketch<T> {
     /// use sketch_base::{Error, OffsetStrings};
     /// use sketch_countmin::CountMinSketch;
     ///
-    /// fn count_names(
+    /// fn count_all_names(
     ///     counts: &mut CountMinSketch<u64>,
     ///     names: &[u8],
     ///     offsets: &[u64],
@@ -163,7 +163,7 @@ impl<T: CountMinValue> CountMinSketch<T> {
     /// use sketch_base::Error;
     /// use sketch_countmin::CountMinSketch;
     ///
-    /// fn count_bytes(traffic: &mut CountMinSketch<u64>, hosts: &[&str; 2]) -> Result<(), Error> {
+    /// fn count_host_bytes(traffic: &mut CountMinSketch<u64>, hosts: &[&str; 2]) -> Result<(), Error> {
     ///     traffic.update_strings_weighted(&hosts.as_slice(), &[1500, 40])
     /// }
     /// ```

@@ -68,7 +68,7 @@ impl FrequentItemsSketch<String> {
     /// use sketch_base::Error;
     /// use sketch_frequencies::FrequentItemsSketch;
     ///
-    /// fn add_prices(prices: &mut FrequentItemsSketch<String>) -> Result<(), Error> {
+    /// fn add_fruit_prices(prices: &mut FrequentItemsSketch<String>) -> Result<(), Error> {
     ///     let fruit: &[&str] = &["apple", "pear"];
     ///     prices.update_strings_weighted(&fruit, &[30, 45])
     /// }
@@ -112,7 +112,7 @@ impl FrequentItemsSketch<String> {
     /// ```
     /// use sketch_frequencies::{FrequentItemsSketch, ItemBounds};
     ///
-    /// fn bounds_of_fruit(words: &FrequentItemsSketch<String>, bounds: &mut [ItemBounds; 2]) {
+    /// fn bounds_of_two(words: &FrequentItemsSketch<String>, bounds: &mut [ItemBounds; 2]) {
     ///     let fruit: &[&str] = &["apple", "pear"];
     ///     words.bounds_strings(&fruit, bounds);
     /// }
