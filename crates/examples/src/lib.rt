@@ -16,6 +16,8 @@ mod frequent_items;
 #[cfg(test)]
 mod images;
 #[cfg(test)]
+mod keys;
+#[cfg(test)]
 mod session;
 #[cfg(test)]
 mod strings;
