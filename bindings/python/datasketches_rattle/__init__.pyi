@@ -27,6 +27,8 @@ class SketchError(Exception):
     # The offset of the first bytes of words or lines that are not UTF-8.
     byte: int | None
 
+def keyed_hash(key: Bytes, item: Text, /) -> int: ...
+
 class BloomFilter:
     # The bytes that an unpickled sketch may take; a subclass may set others, and None is no limit.
     unpickle_max_bytes: ClassVar[int | None]

@@ -561,6 +561,11 @@ PyObject *frequent_suggest_max_map_size(PyObject *type, PyObject *args, PyObject
 #define CLASS_METHOD(name, function) \
     {name, (PyCFunction)(void (*)(void))function, METH_CLASS | METH_VARARGS | METH_KEYWORDS, function##_doc}
 
+/* --- keyed_hash.c --- */
+
+/* Adds the function `keyed_hash` to the module. */
+bool add_keyed_hash(PyObject *m);
+
 extern PyTypeObject filter_type;
 extern PyTypeObject count_type;
 extern PyTypeObject frequent_type;

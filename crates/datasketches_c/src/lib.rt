@@ -22,6 +22,7 @@ mod frequent_weighted;
 mod handle;
 mod images;
 mod join;
+mod keyed_hash;
 mod kind;
 pub mod laws;
 mod making;

@@ -142,7 +142,7 @@ pub(crate) fn finalization(v: State) -> u64
 
 /// Returns SipHash-1-3 of bytes under a key. Does not allocate.
 ///
-/// Whoever chooses the items of a sketch can choose items whose hashes collide. Insert this hash in place of such an
+/// A caller who chooses the items of a sketch can choose ones whose hashes collide. Insert this hash in place of such an
 /// item: without the key, no way is known to choose items that collide. Sketches that are merged need the same key.
 ///
 /// The hash function is that of Aumasson & Bernstein 2012, with one round for each word and three at the end.
