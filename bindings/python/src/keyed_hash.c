@@ -1,4 +1,4 @@
-/* The keyed hash of an item that others choose. */
+/* The keyed hash of items that others choose. */
 #include "sketches.h"
 
 #define KEY_BYTES 16
@@ -48,28 +48,83 @@ static PyObject *hash_of(const uint8_t *bytes, size_t length, const uint64_t wor
     return PyLong_FromUnsignedLongLong(hash);
 }
 
+/* Returns whether the object is many strings: an iterable that is no buffer, a column, or a numpy array of strings. */
+static bool is_many(PyObject *object)
+{
+    PyObject *dtype;
+    if (!PyObject_CheckBuffer(object))
+        return Py_TYPE(object)->tp_iter != NULL || is_arrow(object);
+    if (!is_numpy_array(object))
+        return false;
+    dtype = attribute(object, "dtype");
+    Py_UCS4 kind = dtype != NULL ? kind_of_array(dtype) : 0;
+    Py_XDECREF(dtype);
+    PyErr_Clear();
+    return kind == 'U' || kind == 'S' || kind == 'O' || kind == 'T';
+}
+
+static bool has_numbers(const Items *items)
+{
+    bool found = items->with_numbers || (items->count > 0 && !items->with_texts);
+    for (size_t i = 0; i < items->num_runs; i++)
+        for (size_t j = 0; j < items->runs[i].num_entries; j++)
+            found |= items->runs[i].entries[j].text == NULL && !items->runs[i].entries[j].missing;
+    return found;
+}
+
+static bool are_strings(const Sketch *Py_UNUSED(self), const Items *items)
+{
+    bool numbers = has_numbers(items);
+    if (numbers)
+        PyErr_SetString(PyExc_TypeError, "many items of keyed_hash are strings, not numbers");
+    return !numbers;
+}
+
+static int32_t hash_strings(Batch *batch, const ds_string *strings, size_t count, void *answers)
+{
+    const uint64_t *words = batch->context;
+    for (size_t i = 0; i < count; i++)
+        ((uint64_t *)answers)[i] = ds_keyed_hash(strings[i].bytes, strings[i].length, words[0], words[1]);
+    return DS_OK;
+}
+
+/* Is not called, since `are_strings` rejects numbers. */
+static int32_t hash_numbers(Batch *Py_UNUSED(batch), const uint64_t *Py_UNUSED(numbers), size_t Py_UNUSED(count),
+                            void *Py_UNUSED(answers))
+{
+    return DS_BAD_ARGUMENT;
+}
+
+static PyObject *hash_at(const Sketch *Py_UNUSED(self), const void *answers, size_t index)
+{
+    return PyLong_FromUnsignedLongLong(((const uint64_t *)answers)[index]);
+}
+
 PyDoc_STRVAR(keyed_hash_doc,
-"keyed_hash(key, item, /)\n--\n\n"
-"Return SipHash-1-3 of `item` under `key`, a number from 0 to 2**64 - 1.\n\n"
-"`key` is 16 bytes, and `item` a str, hashed as UTF-8, or bytes. A caller who chooses the items of a sketch can choose ones\n"
+"keyed_hash(key, items, /)\n--\n\n"
+"Return SipHash-1-3 of an item under `key`, a number from 0 to 2**64 - 1. Return a list of hashes for many strings, and an\n"
+"array for an array of numpy or pandas.\n\n"
+"`key` is 16 bytes, and an item a str, hashed as UTF-8, or bytes. A caller who chooses the items of a sketch can choose ones\n"
 "whose hashes collide. Insert this hash in place of such an item: without the key, no way is known to choose items that\n"
 "collide. Take the key from `secrets.token_bytes(16)`. Sketches that are merged need the same key. A `FrequentItemsSketch`\n"
 "of hashes has `item='u64'`.\n\n"
 ">>> import datasketches_rattle as ds\n"
 ">>> key = bytes(range(16))\n"
-">>> ds.keyed_hash(key, \"alice\")\n"
+">>> ds.keyed_hash(key, 'alice')\n"
 "14698423186941343306\n"
 ">>> seen = ds.BloomFilter(num_bits=1 << 20, num_hashes=7)\n"
-">>> seen.insert(ds.keyed_hash(key, user) for user in [\"alice\", \"bob\"])\n"
-">>> ds.keyed_hash(key, \"alice\") in seen\n"
-"True\n");
+">>> seen.insert(ds.keyed_hash(key, ['alice', 'bob']))\n"
+">>> seen.contains(ds.keyed_hash(key, ['alice', 'eve']))\n"
+"[True, False]\n");
 
 static PyObject *keyed_hash(PyObject *Py_UNUSED(module), PyObject *const *args, Py_ssize_t count)
 {
     uint64_t words[2] = {0, 0};
+    const Question many = {.call = "keyed_hash", .size = sizeof(uint64_t), .kind = "u8", .width = 1, .context = words,
+                           .object = hash_at, .check = are_strings, .strings = hash_strings, .numbers = hash_numbers};
     Image image = {0};
     if (count != 2)
-        return PyErr_Format(PyExc_TypeError, "keyed_hash() takes 2 arguments (%zd given)", count);
+        return PyErr_Format(PyExc_TypeError, "keyed_hash takes a key and items, not %zd arguments", count);
     if (!key_of(args[0], words))
         return NULL;
     if (PyUnicode_Check(args[1])) {
@@ -77,6 +132,8 @@ static PyObject *keyed_hash(PyObject *Py_UNUSED(module), PyObject *const *args, 
         const char *text = PyUnicode_AsUTF8AndSize(args[1], &length);
         return text != NULL ? hash_of((const uint8_t *)text, (size_t)length, words) : NULL;
     }
+    if (is_many(args[1]))
+        return ask_all(NULL, args[1], &many);
     if (!open_bytes(args[1], "an item", "a str or bytes", &image))
         return NULL;
     PyObject *hash = hash_of(image.bytes, image.length, words);

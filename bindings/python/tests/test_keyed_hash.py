@@ -8,7 +8,9 @@ import sys
 import threading
 import unittest
 
+import arrow
 import datasketches_rattle as ds
+from arrow import Chunked, Column, described
 
 try:
     import numpy
@@ -115,7 +117,7 @@ class KeyedHash(unittest.TestCase):
         for key in ("0123456789abcdef", 7, None, array.array("Q", KEY)):
             with self.assertRaisesRegex(TypeError, "the key is bytes, not "):
                 ds.keyed_hash(key, "a")
-        for item in (7, None, 1.5, ["a"], array.array("Q", KEY)):
+        for item in (7, None, 1.5, array.array("Q", KEY), *([numpy.arange(3)] if numpy else [])):
             with self.assertRaisesRegex(TypeError, "an item is a str or bytes, not "):
                 ds.keyed_hash(KEY, item)
         with self.assertRaises(UnicodeEncodeError):
@@ -126,9 +128,42 @@ class KeyedHash(unittest.TestCase):
             with self.assertRaises(TypeError):
                 ds.keyed_hash(*arguments)
 
+    def test_many_strings(self):
+        strings = ["", "a", "häßlich €", *(f"user{number}" * (number % 9) for number in range(9000))]
+        hashes = [ds.keyed_hash(KEY, string) for string in strings]
+        for many in (strings, tuple(strings), iter(strings)):
+            self.assertEqual(ds.keyed_hash(KEY, many), hashes)
+        self.assertEqual((ds.keyed_hash(KEY, []), ds.keyed_hash(KEY, {"a": 1}.keys())), ([], [hashes[1]]))
+        for many in [numpy.array(strings), numpy.array(strings, object), numpy.char.encode(strings, "utf-8")] if numpy else []:
+            found = ds.keyed_hash(KEY, many)
+            self.assertEqual((found.dtype, found.tolist()), (numpy.dtype("u8"), hashes))
+
+    def test_columns(self):
+        words = ["a", "häßlich €", "", "a"]
+        hashes = [ds.keyed_hash(KEY, word) for word in words]
+        codes = Column("c", [0, 1, 2, 0], dictionary=described("u", words))
+        for column in (Column("u", words), Column("U", words), codes, Chunked(described("u", words[:1]), described("u", words[1:]))):
+            self.assertEqual(ds.keyed_hash(KEY, column), hashes)
+        with self.assertRaisesRegex(ValueError, "1 of 2 are missing"):
+            ds.keyed_hash(KEY, Column("u", ["a", None]))
+        for numbers in (Column("l", [1, 2]), Column("c", [0, 0], dictionary=described("l", [7]))):
+            with self.assertRaisesRegex(TypeError, "strings, not numbers"):
+                ds.keyed_hash(KEY, numbers)
+        self.assertEqual((arrow.live, arrow.released_twice, arrow._structs), ({}, [], {}))
+
+    def test_many_of_other_kinds(self):
+        for many in ([1], ["a", 1], [None], [b"a"], (number for number in range(3)), {"a": 1}):
+            with self.assertRaises(TypeError):
+                ds.keyed_hash(KEY, many)
+        for many in [numpy.array(["a", 1], object), numpy.ma.masked_array(["a", "b"], [0, 1])] if numpy else []:
+            with self.assertRaises(TypeError):
+                ds.keyed_hash(KEY, many)
+        with self.assertRaises(UnicodeEncodeError):
+            ds.keyed_hash(KEY, ["a", "\ud800"])
+
     def test_in_place_of_items(self):
         users = [f"user{number}" for number in range(100)]
-        hashes = [ds.keyed_hash(KEY, user) for user in users]
+        hashes = ds.keyed_hash(KEY, users)
         seen, load = ds.BloomFilter(num_bits=1 << 16, num_hashes=7), ds.CountMinSketch(num_hashes=4, num_buckets=1 << 10)
         heavy = ds.FrequentItemsSketch(1024, item="u64")
         for sketch in (load, heavy):

@@ -118,7 +118,7 @@ class Package(unittest.TestCase):
         with open(os.path.join(FOLDER, "__init__.pyi"), encoding="utf-8") as file:
             stub = ast.parse(file.read())
         classes = {each.name: each for each in stub.body if isinstance(each, ast.ClassDef) and not each.name.startswith("_")}
-        functions = [each.name for each in stub.body if isinstance(each, ast.FunctionDef)]
+        functions = {each.name for each in stub.body if isinstance(each, ast.FunctionDef)}
         self.assertEqual(sorted([*classes, *functions]), sorted(ds.__all__))
         for name, tree in classes.items():
             told = {each.name for each in tree.body if isinstance(each, ast.FunctionDef)}
