@@ -985,6 +985,21 @@ static inline size_t ds_valid_utf8_checked(const uint8_t *text, size_t length)
 #define ds_finished_lines(text, length) ds_finished_lines_checked(text, length)
 #define ds_valid_utf8(text, length) ds_valid_utf8_checked(text, length)
 
+/* --- Items that others choose. This call takes no handle, and returns a hash, never an error. --- */
+
+/* Returns SipHash-1-3 of bytes under a key of two words. A caller who chooses the items of a sketch can choose ones whose hashes
+ * collide. Insert this hash in place of such an item, as a `uint64_t`: without the key, no way is known to choose items that
+ * collide. Choose both words at random and keep them secret. Sketches that are merged need the same key. */
+uint64_t ds_keyed_hash(const uint8_t *bytes, size_t length, uint64_t k0, uint64_t k1);
+
+/* Null means no bytes, whatever the length. */
+static inline uint64_t ds_keyed_hash_checked(const uint8_t *bytes, size_t length, uint64_t k0, uint64_t k1)
+{
+    return (ds_keyed_hash)(bytes ? bytes : (const uint8_t *)ds_no_values(), bytes ? length : 0, k0, k1);
+}
+
+#define ds_keyed_hash(bytes, length, k0, k1) ds_keyed_hash_checked(bytes, length, k0, k1)
+
 /* --- Sizes from error targets. Each call writes a size if it returns DS_OK, and leaves it as it was otherwise. --- */
 
 /* Writes the smallest `max_map_size` whose guarantee is an error of at most the total over `parts`, for every stream, at the

@@ -27,6 +27,11 @@ class SketchError(Exception):
     # The offset of the first bytes of words or lines that are not UTF-8.
     byte: int | None
 
+@overload
+def keyed_hash(key: Bytes, items: Text, /) -> int: ...
+@overload
+def keyed_hash(key: Bytes, items: Iterable[str] | _ArrowArray | _ArrowStream, /) -> Any: ...
+
 class BloomFilter:
     # The bytes that an unpickled sketch may take; a subclass may set others, and None is no limit.
     unpickle_max_bytes: ClassVar[int | None]

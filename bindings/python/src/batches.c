@@ -21,6 +21,8 @@ static uint64_t now(void)
 
 static bool batch_lock(Batch *batch)
 {
+    if (batch->self == NULL)
+        return true;
     batch->locked = sketch_lock(batch->self);
     if (batch->locked)
         batch->self->busy = true;
@@ -43,7 +45,7 @@ static bool batch_begin(Batch *batch, const Items *items)
     if (batch->turn == 0)
         batch->turn = time;
     bool keeps_lock = items->held != NULL && batch->took < QUICK && time - batch->turn < TURN;
-    if (keeps_lock ? !sketch_ready(batch->self) : !batch_lock(batch))
+    if (keeps_lock && batch->self != NULL ? !sketch_ready(batch->self) : !batch_lock(batch))
         return false;
     batch->began = items->held != NULL ? now() : 0;
     batch->due = 0;
@@ -367,7 +369,7 @@ static PyObject *ask_source(Batch *batch, const Source *source, const Question *
 
 PyObject *ask_all(Sketch *self, PyObject *given, const Question *question)
 {
-    Batch batch = {.self = self, .took = QUICK};
+    Batch batch = {.self = self, .context = question->context, .took = QUICK};
     Source source;
     PyObject *result = NULL;
     if (is_masked(given))

@@ -403,7 +403,8 @@ int32_t weights_fit(const Items *items, const Weights *weights, uint64_t room);
 
 /* A running call for many items. */
 typedef struct {
-    Sketch *self;
+    Sketch *self; /* NULL if the call uses no sketch */
+    const void *context; /* that of the question */
     const Items *items;
     PyThreadState *thread; /* while the interpreter's lock is released */
     bool locked; /* whether it has the sketch's lock */
@@ -442,6 +443,7 @@ typedef struct {
     size_t size;
     const char *kind;
     int width;
+    const void *context; /* what the functions below read besides the sketch */
     PyObject *(*object)(const Sketch *self, const void *answers, size_t index);
     items_check check;
     size_t (*longest)(const Sketch *self);
@@ -560,6 +562,11 @@ PyObject *frequent_suggest_max_map_size(PyObject *type, PyObject *args, PyObject
 /* A class method that takes keywords. */
 #define CLASS_METHOD(name, function) \
     {name, (PyCFunction)(void (*)(void))function, METH_CLASS | METH_VARARGS | METH_KEYWORDS, function##_doc}
+
+/* --- keyed_hash.c --- */
+
+/* Adds the function `keyed_hash` to the module. */
+bool add_keyed_hash(PyObject *m);
 
 extern PyTypeObject filter_type;
 extern PyTypeObject count_type;

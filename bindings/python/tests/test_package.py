@@ -118,7 +118,8 @@ class Package(unittest.TestCase):
         with open(os.path.join(FOLDER, "__init__.pyi"), encoding="utf-8") as file:
             stub = ast.parse(file.read())
         classes = {each.name: each for each in stub.body if isinstance(each, ast.ClassDef) and not each.name.startswith("_")}
-        self.assertEqual(sorted(classes), sorted(ds.__all__))
+        functions = {each.name for each in stub.body if isinstance(each, ast.FunctionDef)}
+        self.assertEqual(sorted([*classes, *functions]), sorted(ds.__all__))
         for name, tree in classes.items():
             told = {each.name for each in tree.body if isinstance(each, ast.FunctionDef)}
             told |= {each.target.id for each in tree.body if isinstance(each, ast.AnnAssign)}
@@ -133,7 +134,7 @@ class Package(unittest.TestCase):
             each = getattr(ds, name)
             self.assertIn(">>>", each.__doc__)
             self.assertEqual(each.__module__, "datasketches_rattle")
-            for call, value in vars(each).items():
+            for call, value in getattr(each, "__dict__", {}).items():
                 if not call.startswith("_") and callable(value) and call != "close":
                     self.assertIn(">>>", value.__doc__, f"{name}.{call}")
 

@@ -75,6 +75,7 @@ pub mod codec {
 /// Hash functions.
 pub mod hash {
     pub use sketch_base::{
-        DEFAULT_UPDATE_SEED, MurmurHash3X64128, XxHash64, check_seed_hash, compute_seed_hash,
+        DEFAULT_UPDATE_SEED, HashKey, MurmurHash3X64128, XxHash64, check_seed_hash,
+        compute_seed_hash, keyed_hash,
     };
 }

@@ -21,6 +21,7 @@ mod frequent_string;
 mod handle;
 mod images;
 mod join;
+mod keyed_hash;
 mod kind;
 pub mod laws;
 mod making;

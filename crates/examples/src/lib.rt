@@ -16,6 +16,8 @@ mod frequent_items;
 #[cfg(test)]
 mod images;
 #[cfg(test)]
+mod keys;
+#[cfg(test)]
 mod many_strings;
 #[cfg(test)]
 mod session;

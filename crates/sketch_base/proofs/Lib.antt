@@ -9,6 +9,7 @@ pub mod Rotation
 pub mod Searching
 pub mod Separators
 pub mod Series
+pub mod SipWords
 pub mod SplitEnds
 pub mod SplitLines
 pub mod SplitWords

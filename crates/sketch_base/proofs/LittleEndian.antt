@@ -41,7 +41,7 @@ are-filled (b ∷ bytes) n small (suc i) = are-filled bytes n (λ j. small (suc 
 one-more : (n : ℕ) → 256 ^ suc n ≡ 256 * 256 ^ n
 one-more n = pow-suc 256 n ∙ mul_comm (256 ^ n) 256
 
-pow256 : (n : ℕ) → 256 ^ n ≡ 2 ^ (8 * n)
+pub pow256 : (n : ℕ) → 256 ^ n ≡ 2 ^ (8 * n)
 pow256 zero = refl
 pow256 (suc n) = one-more n ∙ (ap (λ (p : ℕ). 256 * p) (pow256 n) ∙ (sym (pow-add 2 8 (8 * n)) ∙ ap (λ (k : ℕ). 2 ^ k) (omega arith)))
 

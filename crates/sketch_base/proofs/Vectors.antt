@@ -1,8 +1,10 @@
 -- The definitions give the published numbers.
-use Rattle.std.specs.Prelude.{◌≡◌, [], refl, codes}
+use Rattle.std.specs.Prelude.{◌≡◌, [], ◌∷◌, refl, codes}
 use Rattle.std.specs.Hash.{le_bytes}
 use Rattle.sketch_base.specs.Hashes.{seed_hash}
 use Rattle.sketch_base.specs.Murmur3.{murmur3_x64_128, block_of_words, block, body, finish_words, finalization, mix_k1, mix_k2, fmix64}
+use Rattle.sketch_base.specs.SipHash as sip
+use Rattle.sketch_base.specs.SipHash.{sip_hash, sip_hash_1_3, padded, words, compression, sip_round, sip_rounds}
 use Rattle.sketch_base.specs.Xxh64 as xxh
 use Rattle.sketch_base.specs.Xxh64.{xxh64, round, initial_accumulators, stripe, stripes, merge_accumulator, convergence, consume_word, consume_half_word, consume_byte, consume_words, consume_bytes, avalanche}
 
@@ -35,3 +37,12 @@ xxh64_long = refl
 seed_hash_default : seed_hash 9001 ≡ 0x93CC
 unfolding seed_hash le_bytes murmur3_x64_128 body finish_words finalization mix_k1 mix_k2 fmix64
 seed_hash_default = refl
+
+-- SipHash-2-4 and SipHash-1-3 of 15 bytes, under the key of the bytes 0 to 15
+sip_hash_2_4_vector : sip_hash 2 4 (0x0706050403020100, 0x0F0E0D0C0B0A0908) (0 ∷ 1 ∷ 2 ∷ 3 ∷ 4 ∷ 5 ∷ 6 ∷ 7 ∷ 8 ∷ 9 ∷ 10 ∷ 11 ∷ 12 ∷ 13 ∷ 14 ∷ []) ≡ 0xA129CA6149BE45E5
+unfolding sip_hash padded words sip.initialization compression sip.finalization sip_round sip_rounds
+sip_hash_2_4_vector = refl
+
+sip_hash_1_3_vector : sip_hash_1_3 (0x0706050403020100, 0x0F0E0D0C0B0A0908) (0 ∷ 1 ∷ 2 ∷ 3 ∷ 4 ∷ 5 ∷ 6 ∷ 7 ∷ 8 ∷ 9 ∷ 10 ∷ 11 ∷ 12 ∷ 13 ∷ 14 ∷ []) ≡ 0xD320D86D2A519956
+unfolding sip_hash padded words sip.initialization compression sip.finalization sip_round sip_rounds
+sip_hash_1_3_vector = refl

@@ -11,6 +11,7 @@ pub mod Murmur3State
 pub mod PowersOfTwo
 pub mod Reciprocal
 pub mod ShortBytes
+pub mod SipHash
 pub mod Split
 pub mod Strings
 pub mod Xxh64

@@ -5,6 +5,7 @@
 //!   the whole list of bytes.
 //! - [`xxh64_of`], [`murmur3_of`] and [`murmur3_of_u64`] hash a whole item or number. [`xxh64_of_str`] and
 //!   [`murmur3_of_str`] hash a string without a buffer.
+//! - [`keyed_hash`] hashes bytes under a secret [`HashKey`], for items that others choose.
 //! - [`RehashableItem`] hashes one item under several seeds. It feeds an item of few bytes once, and keeps them as
 //!   [`ShortBytes`]. [`RehashableStr`] does so for a string. Both kinds of bytes are [`Rehashable`].
 //! - [`Strings`] are many strings in order: `&[&str]`, [`OffsetStrings`] of one buffer, or [`ByteStrings`].
@@ -35,6 +36,7 @@ mod seed_hash;
 mod separator;
 mod short_bytes;
 mod short_copy;
+mod sip_hash;
 mod sketch_bytes;
 mod sketch_slice;
 mod split;
@@ -56,6 +58,7 @@ pub use rehashable_str::RehashableStr;
 pub use seed_hash::{check_seed_hash, compute_seed_hash};
 pub use separator::{Separator, first_separator};
 pub use short_bytes::ShortBytes;
+pub use sip_hash::{HashKey, keyed_hash};
 pub use sketch_bytes::SketchBytes;
 pub use sketch_slice::SketchSlice;
 pub use split::{finished_lines, finished_words, next_line, next_word};

@@ -63,7 +63,7 @@ fn last_word_end(bytes: &[u8]) -> u64
 
 /// Returns the number of the bytes after the last whole word and the byte 255, the lowest first.
 #[inline(always)]
-fn word_end(bytes: &[u8]) -> u64
+pub(crate) fn word_end(bytes: &[u8]) -> u64
     ensures { result ≡ le_number (drop (8 * (length bytes.now / 8)) bytes.now ++ 255 ∷ []) }
 {
     if bytes.len() >= 8 {

@@ -5,6 +5,7 @@ mod countmin;
 mod frequencies;
 mod runs;
 mod sessions;
+mod sip_hash;
 mod sizes;
 
 use std::alloc::Global;

@@ -1,0 +1,154 @@
+/* The keyed hash of items that others choose. */
+#include "sketches.h"
+
+#define KEY_BYTES 16
+
+/* Other Python threads run while this many bytes or more are hashed. */
+#define LONG_ITEM ((size_t)1 << 16)
+
+/* Opens an object as bytes. Sets an error, which says by `what` and `kinds` what it should be, if it is not. */
+static bool open_bytes(PyObject *object, const char *what, const char *kinds, Image *image)
+{
+    if (!PyObject_CheckBuffer(object)) {
+        PyErr_Format(PyExc_TypeError, "%s is %s, not %.200s", what, kinds, Py_TYPE(object)->tp_name);
+        return false;
+    }
+    if (PyObject_GetBuffer(object, &image->view, PyBUF_ND | PyBUF_FORMAT) < 0)
+        return false;
+    if (image->view.itemsize != 1)
+        PyErr_Format(PyExc_TypeError, "%s is %s, not a buffer of entries of %zd bytes", what, kinds, image->view.itemsize);
+    else if (image_take(image, SIZE_MAX))
+        return true;
+    PyBuffer_Release(&image->view);
+    return false;
+}
+
+/* Reads the two words of a key. */
+static bool key_of(PyObject *object, uint64_t words[2])
+{
+    Image image = {0};
+    if (!open_bytes(object, "the key", "bytes", &image))
+        return false;
+    bool fits = image.length == KEY_BYTES;
+    for (size_t i = 0; fits && i < KEY_BYTES; i++)
+        words[i / 8] |= (uint64_t)image.bytes[i] << 8 * (i % 8);
+    if (!fits)
+        PyErr_Format(PyExc_ValueError, "the key has %d bytes, not %zu", KEY_BYTES, image.length);
+    image_release(&image);
+    return fits;
+}
+
+static PyObject *hash_of(const uint8_t *bytes, size_t length, const uint64_t words[2])
+{
+    uint64_t hash;
+    PyThreadState *thread = length >= LONG_ITEM ? PyEval_SaveThread() : NULL;
+    hash = ds_keyed_hash(bytes, length, words[0], words[1]);
+    if (thread != NULL)
+        PyEval_RestoreThread(thread);
+    return PyLong_FromUnsignedLongLong(hash);
+}
+
+/* Returns whether the object is many strings: an iterable that is no buffer, a column, or a numpy array of strings. */
+static bool is_many(PyObject *object)
+{
+    PyObject *dtype;
+    if (!PyObject_CheckBuffer(object))
+        return Py_TYPE(object)->tp_iter != NULL || is_arrow(object);
+    if (!is_numpy_array(object))
+        return false;
+    dtype = attribute(object, "dtype");
+    Py_UCS4 kind = dtype != NULL ? kind_of_array(dtype) : 0;
+    Py_XDECREF(dtype);
+    PyErr_Clear();
+    return kind == 'U' || kind == 'S' || kind == 'O' || kind == 'T';
+}
+
+static bool has_numbers(const Items *items)
+{
+    bool found = items->with_numbers || (items->count > 0 && !items->with_texts);
+    for (size_t i = 0; i < items->num_runs; i++)
+        for (size_t j = 0; j < items->runs[i].num_entries; j++)
+            found |= items->runs[i].entries[j].text == NULL && !items->runs[i].entries[j].missing;
+    return found;
+}
+
+static bool are_strings(const Sketch *Py_UNUSED(self), const Items *items)
+{
+    bool numbers = has_numbers(items);
+    if (numbers)
+        PyErr_SetString(PyExc_TypeError, "many items of keyed_hash are strings, not numbers");
+    return !numbers;
+}
+
+static int32_t hash_strings(Batch *batch, const ds_string *strings, size_t count, void *answers)
+{
+    const uint64_t *words = batch->context;
+    for (size_t i = 0; i < count; i++)
+        ((uint64_t *)answers)[i] = ds_keyed_hash(strings[i].bytes, strings[i].length, words[0], words[1]);
+    return DS_OK;
+}
+
+/* Is not called, since `are_strings` rejects numbers. */
+static int32_t hash_numbers(Batch *Py_UNUSED(batch), const uint64_t *Py_UNUSED(numbers), size_t Py_UNUSED(count),
+                            void *Py_UNUSED(answers))
+{
+    return DS_BAD_ARGUMENT;
+}
+
+static PyObject *hash_at(const Sketch *Py_UNUSED(self), const void *answers, size_t index)
+{
+    return PyLong_FromUnsignedLongLong(((const uint64_t *)answers)[index]);
+}
+
+PyDoc_STRVAR(keyed_hash_doc,
+"keyed_hash(key, items, /)\n--\n\n"
+"Return SipHash-1-3 of an item under `key`, a number from 0 to 2**64 - 1. Return a list of hashes for many strings, and an\n"
+"array for an array of numpy or pandas.\n\n"
+"`key` is 16 bytes, and an item a str, hashed as UTF-8, or bytes. A caller who chooses the items of a sketch can choose ones\n"
+"whose hashes collide. Insert this hash in place of such an item: without the key, no way is known to choose items that\n"
+"collide. Take the key from `secrets.token_bytes(16)`. Sketches that are merged need the same key. A `FrequentItemsSketch`\n"
+"of hashes has `item='u64'`.\n\n"
+">>> import datasketches_rattle as ds\n"
+">>> key = bytes(range(16))\n"
+">>> ds.keyed_hash(key, 'alice')\n"
+"14698423186941343306\n"
+">>> seen = ds.BloomFilter(num_bits=1 << 20, num_hashes=7)\n"
+">>> seen.insert(ds.keyed_hash(key, ['alice', 'bob']))\n"
+">>> seen.contains(ds.keyed_hash(key, ['alice', 'eve']))\n"
+"[True, False]\n");
+
+static PyObject *keyed_hash(PyObject *Py_UNUSED(module), PyObject *const *args, Py_ssize_t count)
+{
+    uint64_t words[2] = {0, 0};
+    const Question many = {.call = "keyed_hash", .size = sizeof(uint64_t), .kind = "u8", .width = 1, .context = words,
+                           .object = hash_at, .check = are_strings, .strings = hash_strings, .numbers = hash_numbers};
+    Image image = {0};
+    if (count != 2)
+        return PyErr_Format(PyExc_TypeError, "keyed_hash takes a key and items, not %zd arguments", count);
+    if (!key_of(args[0], words))
+        return NULL;
+    if (PyUnicode_Check(args[1])) {
+        Py_ssize_t length;
+        const char *text = PyUnicode_AsUTF8AndSize(args[1], &length);
+        return text != NULL ? hash_of((const uint8_t *)text, (size_t)length, words) : NULL;
+    }
+    if (is_many(args[1]))
+        return ask_all(NULL, args[1], &many);
+    if (!open_bytes(args[1], "an item", "a str or bytes", &image))
+        return NULL;
+    PyObject *hash = hash_of(image.bytes, image.length, words);
+    image_release(&image);
+    return hash;
+}
+
+/* Adds the function under the name of the package, in which it is found. */
+bool add_keyed_hash(PyObject *m)
+{
+    static PyMethodDef method = {"keyed_hash", (PyCFunction)(void (*)(void))keyed_hash, METH_FASTCALL, keyed_hash_doc};
+    PyObject *package = PyUnicode_FromString("datasketches_rattle");
+    PyObject *function = package != NULL ? PyCFunction_NewEx(&method, NULL, package) : NULL;
+    bool added = function != NULL && PyModule_AddObjectRef(m, "keyed_hash", function) == 0;
+    Py_XDECREF(package);
+    Py_XDECREF(function);
+    return added;
+}
