@@ -10,6 +10,8 @@ pub mod GhostStrings
 pub mod Handles
 pub mod InTurnLemmas
 pub mod KindLemmas
+pub mod ManyHandleLemmas
+pub mod ManyJoinLemmas
 pub mod Reading
 pub mod ReadingCounts
 pub mod Refusals

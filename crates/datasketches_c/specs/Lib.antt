@@ -19,6 +19,8 @@ pub mod Images
 pub mod InTurn
 pub mod Joining
 pub mod Kinds
+pub mod ManyHandles
+pub mod ManyJoins
 pub mod MemoryBytes
 pub mod Numbers
 pub mod Strings
