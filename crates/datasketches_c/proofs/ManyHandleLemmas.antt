@@ -26,12 +26,13 @@ module _ {S : Type 0} (part : AnySketch → Option S) where
       on_kind_less part v v z (λ s. OnEachKind part rest z (λ ss. P (s ∷ ss))) (λ s. OnEachKind part rest z (λ ss. Q (s ∷ ss)))
       (λ s is. on_each_less rest z (λ ss. P (s ∷ ss)) (λ ss. Q (s ∷ ss)) (λ ss. less (s ∷ ss)) is) said
 
-  -- the same of many sketches
-  pub on_each_moved : (held : List (Option AnySketch)) (z : ℤ) (P Q : List S → Type 0) → ((ss : List S) → P ss → Q ss) → OnEachKind part held ok P → OnEachKind part held z Q
-  on_each_moved [] z P Q less said = less [] said
+  -- the same of many sketches, as many as handles
+  pub on_each_moved : (held : List (Option AnySketch)) (z : ℤ) (P Q : List S → Type 0) → ((ss : List S) → length ss ≡ length held → P ss → Q ss) → OnEachKind part held ok P
+      → OnEachKind part held z Q
+  on_each_moved [] z P Q less said = less [] refl said
   on_each_moved (v ∷ rest) z P Q less said =
       on_kind_moved v z (λ s. OnEachKind part rest ok (λ ss. P (s ∷ ss))) (λ s. OnEachKind part rest z (λ ss. Q (s ∷ ss)))
-      (λ s is. on_each_moved rest z (λ ss. P (s ∷ ss)) (λ ss. Q (s ∷ ss)) (λ ss. less (s ∷ ss)) is) said
+      (λ s is. on_each_moved rest z (λ ss. P (s ∷ ss)) (λ ss. Q (s ∷ ss)) (λ ss long. less (s ∷ ss) (ap suc long)) is) said
 
   -- a handle that has a sketch of the kind comes before handles of which something is said
   pub on_each_next : (v : Option AnySketch) (rest : List (Option AnySketch)) (z : ℤ) → OnKind part v v ok (λ s. ok ≡ ok) → OnEachKind part rest z (λ ss. z ≡ ok)
@@ -108,3 +109,7 @@ values_from value handles held i d there same =
     ∙ (drop_more (map value handles) i (value d) long
     ∙ (ap (λ x. x ∷ drop (i + 1) (map value handles)) (get_or-map value handles i d (value d) there)
     ∙ ap (λ vs. value (get_or handles i d) ∷ drop (i + 1) vs) same))
+
+-- lists as long as one that is not empty are not empty
+pub some_more : {H A S : Type 0} (value : H → A) (handles : List H) (ss : List S) → length ss ≡ length (map value handles) → 0 < length handles → 0 < length ss
+some_more value handles ss long some = subst (λ (n : ℕ). 0 < n) (sym (long ∙ length-map handles value)) some

@@ -25,7 +25,7 @@ pub record IsUnited (old : FilterState) (others : List FilterState) (new : Filte
 -- the same of the handle's filter and the other handles' filters. `NoMemory` may come in its place
 abbrev pub UnitesAll : (old new : Option AnySketch) → ℤ → (others : List (Option AnySketch)) → Type 0
 UnitesAll old new result others =
-    OnFilter old new result (λ a. OnEachKind filter_of others result (λ bs. OrNoMemory result (
+    OnFilter old new result (λ a. OnEachKind filter_of others result (λ bs. OrNoMemory result bs (
     (All (IsCompatible a) bs
     → (result ≡ ok) × (new ≡ Some (Filter (all_united a bs)))
     × filters_stand.ExtendsByAll a bs (all_united a bs) filters.all_united_after)
@@ -51,7 +51,7 @@ abbrev pub MergesCounts :
     (part : AnySketch → Option CountState) → (greatest : ℕ) → (old new : Option AnySketch) → ℤ →
     (others : List (Option AnySketch)) → Type 0
 MergesCounts part greatest old new result others =
-    OnKind part old new result (λ a. OnEachKind part others result (λ bs. OrNoMemory result (
+    OnKind part old new result (λ a. OnEachKind part others result (λ bs. OrNoMemory result bs (
     (All (SameShape a) bs → a.total + total_of_each bs ≤ greatest → (result ≡ ok) × HoldsKind part new (MergesEach a bs))
     × (All (SameShape a) bs → greatest < a.total + total_of_each bs → result ≡ refusal_number WeightOverflow)
     × (¬ All (SameShape a) bs → result ≡ refusal_number Mismatch))))
@@ -76,5 +76,5 @@ abbrev pub MergesFrequent :
     {T : Type 0} → (part : AnySketch → Option (FrequentState T)) → (T → T → Bool) → (old new : Option AnySketch) → ℤ →
     (others : List (Option AnySketch)) → Type 0
 MergesFrequent part eq old new result others =
-    OnKind part old new result (λ a. OnEachKind part others result (λ bs. OrNoMemory result (
+    OnKind part old new result (λ a. OnEachKind part others result (λ bs. OrNoMemory result bs (
     HoldsKind part new (λ t. MergesAllInto eq a bs t result))))

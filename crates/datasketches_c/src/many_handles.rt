@@ -1,6 +1,6 @@
 //! Arrays of handles, whose sketches a call takes out and gives back.
 ghost use Rattle.std.specs.Option.{option_map};
-ghost use Rattle.std.specs.Prelude.{◌≡◌, Some, IfOk, IsSome, OnErr, length, map};
+ghost use Rattle.std.specs.Prelude.{◌≡◌, ◌<◌, Some, IfOk, IsSome, OnErr, length, map};
 ghost use Rattle.datasketches_c.specs.Kinds.{OnKind};
 ghost use Rattle.datasketches_c.specs.ManyHandles.{OnEachKind, found_in};
 ghost use Rattle.datasketches_c.specs.Numbers.{ok};
@@ -41,6 +41,7 @@ pub(crate) fn take_all(
     ensures taken { IfOk result (λ taken.
         map (option_map (λ boxed. boxed.value)) taken.items ≡ map (λ handle. handle.value) handles.old) }
     ensures kept { OnErr result (handles.new ≡ handles.old) }
+    ensures some { OnErr result (0 < length handles.old) }
 {
     let mut taken = Vec::with_capacity(alloc, handles.len())?;
     'each: for i in 0..handles.len() {
@@ -84,8 +85,9 @@ pub(crate) fn taken_parts<K: Kind>(
     taken: &[Option<Box<AnySketch>>],
 ) -> Result<Vec<&K>, AllocError>
     requires { OnEachKind K.part (map (option_map (λ boxed. boxed.value)) taken.now) ok (λ ss. ok ≡ ok) }
-    ensures { IfOk result (λ parts. map (found_in K.part) (map (option_map (λ boxed. boxed.value)) taken.now)
+    ensures parts { IfOk result (λ parts. map (found_in K.part) (map (option_map (λ boxed. boxed.value)) taken.now)
         ≡ map Some (map (λ part. part.now) parts.items)) }
+    ensures some { OnErr result (0 < length taken.now) }
 {
     let mut parts = Vec::with_capacity(alloc, taken.len())?;
     'each: for i in 0..taken.len() {

@@ -34,7 +34,7 @@ pub(crate) trait JoinsMany: Kind {
 fn join_taken<K: JoinsMany>(alloc: Global, sketch: &mut K, taken: &[Option<Box<AnySketch>>]) -> i32
     requires { OnEachKind K.part (map (option_map (λ boxed. boxed.value)) taken.now) ok (λ bs. ok ≡ ok) }
     ensures call { OnEachKind K.part (map (option_map (λ boxed. boxed.value)) taken.now) result (λ bs.
-        OrNoMemory result (K.joins_many sketch.old bs sketch.new result)) }
+        OrNoMemory result bs (K.joins_many sketch.old bs sketch.new result)) }
     ensures refused { OnRefused result (sketch.new ≡ sketch.old) }
 {
     match taken_parts::<K>(alloc, taken) {
@@ -47,7 +47,7 @@ fn join_taken<K: JoinsMany>(alloc: Global, sketch: &mut K, taken: &[Option<Box<A
 fn join_many_into<K: JoinsMany>(alloc: Global, sketch: &mut K, handles: &mut [SketchHandle]) -> i32
     ensures kept { map (λ handle. handle.value) handles.new ≡ map (λ handle. handle.value) handles.old }
     ensures call { OnEachKind K.part (map (λ handle. handle.value) handles.old) result (λ bs.
-        OrNoMemory result (K.joins_many sketch.old bs sketch.new result)) }
+        OrNoMemory result bs (K.joins_many sketch.old bs sketch.new result)) }
     ensures refused { OnRefused result (sketch.new ≡ sketch.old) }
 {
     let refusal = refusal_of_handles::<K>(alloc, handles);
@@ -73,7 +73,7 @@ fn join_many<K: JoinsMany>(
     ensures refused { OnRefused result (handle.new.value ≡ handle.old.value) }
     ensures call { OnKind K.part handle.old.value handle.new.value result (λ a.
         OnEachKind K.part (map (λ other. other.value) others.old) result (λ bs.
-        OrNoMemory result (HoldsKind K.part handle.new.value (λ c. K.joins_many a bs c result)))) }
+        OrNoMemory result bs (HoldsKind K.part handle.new.value (λ c. K.joins_many a bs c result)))) }
 {
     on_kind!(alloc, handle, K, sketch => join_many_into(alloc, sketch, others))
 }
