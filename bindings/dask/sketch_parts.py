@@ -404,8 +404,8 @@ class Heavy:
     def add_text(self, sketch: ds.FrequentItemsSketch, text: bytes, words: bool) -> None:
         (sketch.update_words if words else sketch.update_lines)(text)
 
-    def join(self, sketch: ds.FrequentItemsSketch, other: ds.FrequentItemsSketch) -> None:
-        sketch += other
+    def join_all(self, sketch: ds.FrequentItemsSketch, others: list[ds.FrequentItemsSketch]) -> None:
+        sketch.merge_all(others)
 
 
 @dataclass(frozen=True)
@@ -436,8 +436,8 @@ class Traffic:
     def add_text(self, sketch: ds.CountMinSketch, text: bytes, words: bool) -> None:
         (sketch.update_words if words else sketch.update_lines)(text)
 
-    def join(self, sketch: ds.CountMinSketch, other: ds.CountMinSketch) -> None:
-        sketch += other
+    def join_all(self, sketch: ds.CountMinSketch, others: list[ds.CountMinSketch]) -> None:
+        sketch.merge_all(others)
 
 
 @dataclass(frozen=True)
@@ -460,8 +460,8 @@ class Seen:
     def add_text(self, sketch: ds.BloomFilter, text: bytes, words: bool) -> None:
         (sketch.insert_words if words else sketch.insert_lines)(text)
 
-    def join(self, sketch: ds.BloomFilter, other: ds.BloomFilter) -> None:
-        sketch |= other
+    def join_all(self, sketch: ds.BloomFilter, others: list[ds.BloomFilter]) -> None:
+        sketch.union_all(others)
 
 
 Shape = Heavy | Traffic | Seen
@@ -487,10 +487,9 @@ def sketch_part(shape: Shape, part: Part) -> bytes:
 
 
 def merge_images(shape: Shape, images: list[bytes]) -> bytes:
-    """Merges the sketches of some images, and returns the image. Raises the fault of a malformed image."""
-    sketch = shape.read(images[0])
-    for image in images[1:]:
-        shape.join(sketch, shape.read(image))
+    """Merges the sketches of some images in one call, and returns the image. Raises the fault of a malformed image."""
+    sketch, *others = [shape.read(image) for image in images]
+    shape.join_all(sketch, others)
     return bytes(sketch)
 
 

@@ -19,8 +19,9 @@
  *  2. Errors of arguments: DS_BAD_OFFSETS, DS_NO_ROOM if items and their weights or results differ in number,
  *     DS_INVALID_UTF8, DS_BAD_FRACTION.
  *  3. Errors of handles: DS_NO_SKETCH if the handle has no sketch, DS_WRONG_KIND if its sketch is of a kind without this call;
- *     of two handles, the first one's before the other one's. All calls return these but `ds_free`, those whose names end in
- *     `_new` or `_deserialize`, and the calls for sizes at the end. `ds_clone` and `ds_memory_bytes` take any kind.
+ *     of several handles, the first one's that has such an error, in the order of arguments and of an array. All calls return
+ *     these but `ds_free`, those whose names end in `_new` or `_deserialize`, and the calls for sizes at the end. `ds_clone` and
+ *     `ds_memory_bytes` take any kind.
  *  4. The errors in the call's comment, in their order there. DS_NO_MEMORY comes when an allocation fails, which may be earlier.
  *     DS_NO_ROOM of `serialize` and `rows` comes last.
  *
@@ -37,9 +38,9 @@
  *  5. The program has one `malloc`, `realloc` and `free`, which the library calls.
  *  6. A `bool` that the library reads is 0 or 1.
  *
- * This header checks parts of rule 2, at next to no cost. The same handle twice, a null pointer with a count above 0, or a null
- * pointer in a pair returns DS_BAD_ARGUMENT. A null pointer with the count 0 means no values. These checks are macros of the
- * calls' names: `(ds_bloom_union)(a, b)`, in brackets, is the call without them.
+ * This header checks parts of rule 2, at next to no cost. The same handle twice, a handle that is also in the array of others, a
+ * null pointer with a count above 0, or a null pointer in a pair returns DS_BAD_ARGUMENT. A null pointer with the count 0 means
+ * no values. These checks are macros of the calls' names: `(ds_bloom_union)(a, b)`, in brackets, is the call without them.
  */
 #ifndef DATASKETCHES_H
 #define DATASKETCHES_H
@@ -220,6 +221,10 @@ int32_t ds_bloom_union(ds_sketch *handle, ds_sketch *other);
 int32_t ds_bloom_intersect(ds_sketch *handle, ds_sketch *other);
 int32_t ds_bloom_difference(ds_sketch *handle, ds_sketch *other);
 
+/* Adds the positions of all other filters, of an array of handles, in one call. The others stay as they were. Returns
+ * DS_NO_MEMORY, for a list of two words a filter, and then DS_MISMATCH if bits, hashes or seeds of one differ. */
+int32_t ds_bloom_union_all(ds_sketch *handle, ds_sketch *others, size_t count);
+
 /* Returns DS_YES if both filters have the same bits, hashes, seed and positions, and DS_NO otherwise. Both stay as they were. */
 int32_t ds_bloom_equal(ds_sketch *handle, ds_sketch *other);
 
@@ -301,6 +306,11 @@ int32_t ds_count_min_u64_upper_bound_string(ds_sketch *handle, const uint8_t *it
  * differ, and DS_WEIGHT_OVERFLOW if the totals together exceed 2^64 - 1. */
 int32_t ds_count_min_u64_merge(ds_sketch *handle, ds_sketch *other);
 
+/* Adds the cells and totals of all other sketches, of an array of handles, in one call. The others stay as they were. Returns
+ * DS_NO_MEMORY, for a list of two words a sketch, then DS_MISMATCH if hashes, buckets or seeds of one differ, and then
+ * DS_WEIGHT_OVERFLOW if all totals together exceed 2^64 - 1. */
+int32_t ds_count_min_u64_merge_all(ds_sketch *handle, ds_sketch *others, size_t count);
+
 /* Returns DS_YES if both sketches have the same hashes, buckets, seed, total and cells, and DS_NO otherwise. Both stay as they
  * were. */
 int32_t ds_count_min_u64_equal(ds_sketch *handle, ds_sketch *other);
@@ -373,6 +383,11 @@ int32_t ds_count_min_i64_upper_bound_u64(ds_sketch *handle, uint64_t item, int64
 int32_t ds_count_min_i64_upper_bound_i64(ds_sketch *handle, int64_t item, int64_t *bound);
 int32_t ds_count_min_i64_upper_bound_string(ds_sketch *handle, const uint8_t *item, size_t length, int64_t *bound);
 int32_t ds_count_min_i64_merge(ds_sketch *handle, ds_sketch *other);
+
+/* Adds the cells and totals of all other sketches, of an array of handles, in one call. The others stay as they were. Returns
+ * DS_NO_MEMORY, for a list of two words a sketch, then DS_MISMATCH if hashes, buckets or seeds of one differ, and then
+ * DS_WEIGHT_OVERFLOW if all totals together exceed 2^63 - 1. */
+int32_t ds_count_min_i64_merge_all(ds_sketch *handle, ds_sketch *others, size_t count);
 int32_t ds_count_min_i64_equal(ds_sketch *handle, ds_sketch *other);
 int32_t ds_count_min_i64_get_status(ds_sketch *handle, ds_count_min_status *status);
 int32_t ds_count_min_i64_serialize(ds_sketch *handle, uint8_t *out, size_t capacity, size_t *written);
@@ -433,6 +448,13 @@ int32_t ds_frequent_items_string_bounds_all_pairs(ds_sketch *handle, const ds_st
 int32_t ds_frequent_items_u64_merge(ds_sketch *handle, ds_sketch *other);
 int32_t ds_frequent_items_i64_merge(ds_sketch *handle, ds_sketch *other);
 int32_t ds_frequent_items_string_merge(ds_sketch *handle, ds_sketch *other);
+
+/* Merges all other sketches, of an array of handles, into this one, in order and in one call. It copies this sketch once, where
+ * a merge for each copies it each time. The others stay as they were. Returns DS_NO_MEMORY, for a list of two words a sketch,
+ * then DS_WEIGHT_OVERFLOW if all totals together exceed 2^64 - 1, and then DS_NO_MEMORY. */
+int32_t ds_frequent_items_u64_merge_all(ds_sketch *handle, ds_sketch *others, size_t count);
+int32_t ds_frequent_items_i64_merge_all(ds_sketch *handle, ds_sketch *others, size_t count);
+int32_t ds_frequent_items_string_merge_all(ds_sketch *handle, ds_sketch *others, size_t count);
 
 /* Adds 1 to the weight of each item, in order. Returns the error of the first item whose own update returns one: then the items
  * before it are added, and no others. */
@@ -534,10 +556,23 @@ static inline bool ds_have_null(const ds_string *strings, size_t count)
     return found;
 }
 
+/* Returns whether there are handles at null, or the handle is one of them. */
+static inline bool ds_have_handle(const ds_sketch *others, size_t count, const ds_sketch *handle)
+{
+    if (!others) return count > 0;
+    return (uintptr_t)handle - (uintptr_t)others < count * sizeof *others;
+}
+
 #define DS_CHECK_HANDLES(call) \
     static inline int32_t call##_checked(ds_sketch *handle, ds_sketch *other) \
     { \
         return handle == other ? DS_BAD_ARGUMENT : call(handle, other); \
+    }
+#define DS_CHECK_MANY_HANDLES(call) \
+    static inline int32_t call##_checked(ds_sketch *handle, ds_sketch *others, size_t count) \
+    { \
+        if (ds_have_handle(others, count, handle)) return DS_BAD_ARGUMENT; \
+        return call(handle, others ? others : (ds_sketch *)ds_no_values(), count); \
     }
 #define DS_CHECK_ITEMS(call, type) \
     static inline int32_t call##_checked(ds_sketch *handle, const type *items, size_t count) \
@@ -635,6 +670,7 @@ DS_CHECK_ITEMS_AND_RESULTS(ds_bloom_contains_all_i64, int64_t, bool)
 DS_CHECK_STRINGS_AND_RESULTS(ds_bloom_contains_all_string, bool)
 DS_CHECK_PAIRS_AND_RESULTS(ds_bloom_contains_all_string_pairs, bool)
 DS_CHECK_HANDLES(ds_bloom_union)
+DS_CHECK_MANY_HANDLES(ds_bloom_union_all)
 DS_CHECK_HANDLES(ds_bloom_intersect)
 DS_CHECK_HANDLES(ds_bloom_difference)
 DS_CHECK_HANDLES(ds_bloom_equal)
@@ -656,6 +692,7 @@ DS_CHECK_STRINGS_AND_RESULTS(ds_count_min_u64_estimate_all_string, uint64_t)
 DS_CHECK_PAIRS_AND_RESULTS(ds_count_min_u64_estimate_all_string_pairs, uint64_t)
 DS_CHECK_ITEMS_AND(ds_count_min_u64_upper_bound_string, uint8_t, uint64_t *)
 DS_CHECK_HANDLES(ds_count_min_u64_merge)
+DS_CHECK_MANY_HANDLES(ds_count_min_u64_merge_all)
 DS_CHECK_HANDLES(ds_count_min_u64_equal)
 DS_CHECK_BUFFER(ds_count_min_u64_serialize)
 DS_CHECK_IMAGE_AND_SEED(ds_count_min_u64_deserialize)
@@ -675,6 +712,7 @@ DS_CHECK_STRINGS_AND_RESULTS(ds_count_min_i64_estimate_all_string, int64_t)
 DS_CHECK_PAIRS_AND_RESULTS(ds_count_min_i64_estimate_all_string_pairs, int64_t)
 DS_CHECK_ITEMS_AND(ds_count_min_i64_upper_bound_string, uint8_t, int64_t *)
 DS_CHECK_HANDLES(ds_count_min_i64_merge)
+DS_CHECK_MANY_HANDLES(ds_count_min_i64_merge_all)
 DS_CHECK_HANDLES(ds_count_min_i64_equal)
 DS_CHECK_BUFFER(ds_count_min_i64_serialize)
 DS_CHECK_IMAGE_AND_SEED(ds_count_min_i64_deserialize)
@@ -695,6 +733,9 @@ DS_CHECK_PAIRS_AND_RESULTS(ds_frequent_items_string_bounds_all_pairs, ds_frequen
 DS_CHECK_HANDLES(ds_frequent_items_u64_merge)
 DS_CHECK_HANDLES(ds_frequent_items_i64_merge)
 DS_CHECK_HANDLES(ds_frequent_items_string_merge)
+DS_CHECK_MANY_HANDLES(ds_frequent_items_u64_merge_all)
+DS_CHECK_MANY_HANDLES(ds_frequent_items_i64_merge_all)
+DS_CHECK_MANY_HANDLES(ds_frequent_items_string_merge_all)
 DS_CHECK_ITEMS(ds_frequent_items_u64_update_all, uint64_t)
 DS_CHECK_ITEMS(ds_frequent_items_i64_update_all, int64_t)
 DS_CHECK_STRINGS(ds_frequent_items_string_update_all)
@@ -730,6 +771,7 @@ DS_CHECK_STRING_ROWS(ds_frequent_items_string_rows)
 #define ds_bloom_contains_all_string_pairs(handle, strings, count, results, num_results) \
     ds_bloom_contains_all_string_pairs_checked(handle, strings, count, results, num_results)
 #define ds_bloom_union(handle, other) ds_bloom_union_checked(handle, other)
+#define ds_bloom_union_all(handle, others, count) ds_bloom_union_all_checked(handle, others, count)
 #define ds_bloom_intersect(handle, other) ds_bloom_intersect_checked(handle, other)
 #define ds_bloom_difference(handle, other) ds_bloom_difference_checked(handle, other)
 #define ds_bloom_equal(handle, other) ds_bloom_equal_checked(handle, other)
@@ -767,6 +809,7 @@ DS_CHECK_STRING_ROWS(ds_frequent_items_string_rows)
 #define ds_count_min_u64_upper_bound_string(handle, item, length, bound) \
     ds_count_min_u64_upper_bound_string_checked(handle, item, length, bound)
 #define ds_count_min_u64_merge(handle, other) ds_count_min_u64_merge_checked(handle, other)
+#define ds_count_min_u64_merge_all(handle, others, count) ds_count_min_u64_merge_all_checked(handle, others, count)
 #define ds_count_min_u64_equal(handle, other) ds_count_min_u64_equal_checked(handle, other)
 #define ds_count_min_u64_serialize(handle, out, capacity, written) \
     ds_count_min_u64_serialize_checked(handle, out, capacity, written)
@@ -803,6 +846,7 @@ DS_CHECK_STRING_ROWS(ds_frequent_items_string_rows)
 #define ds_count_min_i64_upper_bound_string(handle, item, length, bound) \
     ds_count_min_i64_upper_bound_string_checked(handle, item, length, bound)
 #define ds_count_min_i64_merge(handle, other) ds_count_min_i64_merge_checked(handle, other)
+#define ds_count_min_i64_merge_all(handle, others, count) ds_count_min_i64_merge_all_checked(handle, others, count)
 #define ds_count_min_i64_equal(handle, other) ds_count_min_i64_equal_checked(handle, other)
 #define ds_count_min_i64_serialize(handle, out, capacity, written) \
     ds_count_min_i64_serialize_checked(handle, out, capacity, written)
@@ -833,6 +877,10 @@ DS_CHECK_STRING_ROWS(ds_frequent_items_string_rows)
 #define ds_frequent_items_u64_merge(handle, other) ds_frequent_items_u64_merge_checked(handle, other)
 #define ds_frequent_items_i64_merge(handle, other) ds_frequent_items_i64_merge_checked(handle, other)
 #define ds_frequent_items_string_merge(handle, other) ds_frequent_items_string_merge_checked(handle, other)
+#define ds_frequent_items_u64_merge_all(handle, others, count) ds_frequent_items_u64_merge_all_checked(handle, others, count)
+#define ds_frequent_items_i64_merge_all(handle, others, count) ds_frequent_items_i64_merge_all_checked(handle, others, count)
+#define ds_frequent_items_string_merge_all(handle, others, count) \
+    ds_frequent_items_string_merge_all_checked(handle, others, count)
 #define ds_frequent_items_u64_update_all(handle, items, count) \
     ds_frequent_items_u64_update_all_checked(handle, items, count)
 #define ds_frequent_items_i64_update_all(handle, items, count) \

@@ -102,6 +102,42 @@ static int tells_of_strings(ds_sketch *handle)
     return 1;
 }
 
+/* Combines many sketches in one call each. If an allocation fails, the other sketches stay as they were, too. */
+static int combine_many(void)
+{
+    ds_sketch filter = DS_NONE, count = DS_NONE, frequent = DS_NONE, filters[3] = {DS_NONE}, counts[3] = {DS_NONE};
+    ds_sketch others[3] = {DS_NONE};
+    uint64_t estimate;
+    DONE(&filter, ds_bloom_new(&filter, 959, 7, 9001));
+    DONE(&count, ds_count_min_u64_new(&count, 4, 128, 9001));
+    DONE(&frequent, ds_frequent_items_string_new(&frequent, 64, 48));
+    for (uint64_t i = 0; i < 3; i++) {
+        DONE(&filters[i], ds_bloom_new(&filters[i], 959, 7, 9001));
+        DONE(&filters[i], ds_bloom_insert_u64(&filters[i], i));
+        DONE(&counts[i], ds_count_min_u64_new(&counts[i], 4, 128, 9001));
+        DONE(&counts[i], ds_count_min_u64_update_u64(&counts[i], 7, i + 1));
+        DONE(&others[i], ds_frequent_items_string_new(&others[i], 64, 48));
+        DONE(&others[i], ds_frequent_items_string_update(&others[i], letters + 2 * i, 4, i + 1));
+    }
+    keep(&filter);
+    DONE(&filter, ds_bloom_union_all(&filter, filters, 3));
+    DONE(&count, ds_count_min_u64_merge_all(&count, counts, 3));
+    DONE(&frequent, ds_frequent_items_string_merge_all(&frequent, others, 3));
+    if (ds_count_min_u64_estimate_u64(&count, 7, &estimate) != DS_OK || estimate != 6 || weight_of(&frequent) != 6) return 1;
+    for (uint64_t i = 0; i < 3; i++) {
+        if (ds_bloom_contains_u64(&filter, i) != DS_YES || ds_bloom_contains_u64(&filters[i], i) != DS_YES) return 1;
+        if (ds_count_min_u64_estimate_u64(&counts[i], 7, &estimate) != DS_OK || estimate != i + 1) return 1;
+        if (weight_of(&others[i]) != i + 1) return 1;
+        ds_free(&filters[i]);
+        ds_free(&counts[i]);
+        ds_free(&others[i]);
+    }
+    ds_free(&filter);
+    ds_free(&count);
+    ds_free(&frequent);
+    return 0;
+}
+
 int main(void)
 {
     ds_sketch filter = DS_NONE, other = DS_NONE, count = DS_NONE, second = DS_NONE;
@@ -152,6 +188,7 @@ int main(void)
         if (!adds_strings(&frequent, items)) return 1;
         if (!tells_of_strings(&frequent)) return 1;
     }
+    if (combine_many()) return 1;
     size_t rows = 0, num_bytes = 0;
     DONE(&frequent,
          ds_frequent_items_string_rows(&frequent, true, 0, shown, sizeof shown, starts, 65, bounds, 64, &rows, &num_bytes));

@@ -366,6 +366,48 @@ static void frequent_strings(void)
     ds_free(&pairs);
 }
 
+/* Combining many sketches allocates two lists: of the sketches, and of their addresses. A merge of frequent items also copies the
+ * slots and the fingerprints of the sketch that it changes, once. */
+static void many(void)
+{
+    ds_sketch filter = DS_NONE, count = DS_NONE, frequent = DS_NONE, none[1] = {DS_NONE};
+    ds_sketch filters[3] = {DS_NONE}, counts[3] = {DS_NONE}, others[3] = {DS_NONE};
+    DO(ds_bloom_new(&filter, 256, 3, 9001));
+    DO(ds_count_min_i64_new(&count, 3, 64, 9001));
+    DO(ds_frequent_items_u64_new(&frequent, 8, 6));
+    for (int i = 0; i < 3; i++) {
+        DO(ds_bloom_new(&filters[i], 256, 3, 9001));
+        DO(ds_count_min_i64_new(&counts[i], 3, 64, 9001));
+        DO(ds_frequent_items_u64_new(&others[i], 8, 6));
+    }
+    ROW(2, 2, DS_OK, ds_bloom_union_all(&filter, filters, 3));
+    FREE(DS_OK, ds_bloom_union_all(&filter, NULL, 0));
+    FREE(DS_NO_SKETCH, ds_bloom_union_all(&filter, none, 1));
+    FREE(DS_WRONG_KIND, ds_bloom_union_all(&filter, counts, 3));
+    DO(ds_bloom_new(&filters[2], 256, 3, 7));
+    ROW(2, 2, DS_MISMATCH, ds_bloom_union_all(&filter, filters, 3));
+    ROW(2, 2, DS_OK, ds_count_min_i64_merge_all(&count, counts, 3));
+    FREE(DS_NO_SKETCH, ds_count_min_i64_merge_all(&count, none, 1));
+    FREE(DS_WRONG_KIND, ds_count_min_u64_merge_all(&count, counts, 3));
+    FREE(DS_WRONG_KIND, ds_count_min_i64_merge_all(&count, filters, 3));
+    /* nothing is copied if the others are empty */
+    ROW(2, 2, DS_OK, ds_frequent_items_u64_merge_all(&frequent, others, 3));
+    for (int i = 0; i < 3; i++) DO(ds_frequent_items_u64_update(&others[i], ITEMS[i], 1));
+    ROW(4, 4, DS_OK, ds_frequent_items_u64_merge_all(&frequent, others, 3));
+    ROW(4, 4, DS_OK, ds_frequent_items_u64_merge_all(&frequent, others, 3));
+    FREE(DS_WRONG_KIND, ds_frequent_items_i64_merge_all(&frequent, others, 3));
+    DO(ds_frequent_items_u64_update(&others[2], 7, UINT64_MAX - 1));
+    ROW(2, 2, DS_WEIGHT_OVERFLOW, ds_frequent_items_u64_merge_all(&frequent, others, 3));
+    for (int i = 0; i < 3; i++) {
+        ds_free(&filters[i]);
+        ds_free(&counts[i]);
+        ds_free(&others[i]);
+    }
+    ds_free(&filter);
+    ds_free(&count);
+    ds_free(&frequent);
+}
+
 int main(void)
 {
     filters();
@@ -374,6 +416,7 @@ int main(void)
     frequent_numbers();
     full();
     frequent_strings();
+    many();
     printf("%d of %d rows hold\n", rows - failures, rows);
     return failures != 0;
 }

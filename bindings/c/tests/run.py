@@ -295,6 +295,7 @@ def main():
         tests.calls(f"{HERE}/pairs.c")
         tests.calls(f"{HERE}/words.c")
         tests.calls(f"{HERE}/keys.c")
+        tests.calls(f"{HERE}/many.c")
         tests.sizes()
         tests.requests_counted()
         requests = tests.refused_in_turn()

@@ -131,6 +131,33 @@ static PyObject *count_add(PyObject *first, PyObject *second)
     return merge != NULL ? sketch_joined((Sketch *)first, (Sketch *)second, merge) : NULL;
 }
 
+static bool can_merge(PyObject *self, PyObject *other)
+{
+    return merge_of(self, other) != NULL;
+}
+
+PyDoc_STRVAR(merge_all_doc,
+"merge_all($self, others, /)\n--\n\n"
+"Merge all sketches of an iterable into this one, as `+=` does for each. All are merged, or none. The sketch itself may be\n"
+"among them: it then counts as it was before the call.\n\n"
+">>> import datasketches_rattle as ds\n"
+">>> week = ds.CountMinSketch(num_hashes=4, num_buckets=128)\n"
+">>> days = [ds.CountMinSketch(num_hashes=4, num_buckets=128) for _ in range(2)]\n"
+">>> days[0].update(7, 30)\n"
+">>> days[1].update(7, 12)\n"
+">>> week.merge_all(days)\n"
+">>> week[7]\n"
+"42\n");
+
+static PyObject *count_merge_all(PyObject *self, PyObject *given)
+{
+    PyObject *others = joins_given(self, given, "merge_all", &count_type, can_merge);
+    if (others == NULL)
+        return NULL;
+    of_many merge_all = ((Sketch *)self)->with_sign ? (ds_count_min_i64_merge_all) : (ds_count_min_u64_merge_all);
+    return sketch_join_all(self, others, merge_all);
+}
+
 static PyObject *count_repr(PyObject *object)
 {
     Sketch *self = (Sketch *)object;
@@ -280,6 +307,7 @@ static PyMethodDef count_methods[] = {
     WITH_KEYWORDS("update_lines", count_update_lines),
     {"estimate", count_estimate, METH_O, count_estimate_doc},
     {"upper_bound", count_upper_bound, METH_O, count_upper_bound_doc},
+    {"merge_all", count_merge_all, METH_O, merge_all_doc},
     {"halve", count_halve, METH_NOARGS, halve_doc},
     {"decay", FAST(count_decay), METH_FASTCALL, decay_doc},
     {"serialize", count_serialize, METH_NOARGS, count_serialize_doc},

@@ -72,6 +72,28 @@ OPERATION(or, ds_bloom_union)
 OPERATION(and, ds_bloom_intersect)
 OPERATION(subtract, ds_bloom_difference)
 
+static bool can_unite(PyObject *self, PyObject *other)
+{
+    return sketch_ready((Sketch *)self) && sketch_ready((Sketch *)other);
+}
+
+PyDoc_STRVAR(union_all_doc,
+"union_all($self, others, /)\n--\n\n"
+"Add the bits of all filters of an iterable, as `|=` does for each. All are added, or none.\n\n"
+">>> import datasketches_rattle as ds\n"
+">>> week = ds.BloomFilter(num_bits=1024, num_hashes=5)\n"
+">>> days = [ds.BloomFilter(num_bits=1024, num_hashes=5) for _ in range(2)]\n"
+">>> days[0].insert('apple')\n"
+">>> week.union_all(days)\n"
+">>> 'apple' in week\n"
+"True\n");
+
+static PyObject *filter_union_all(PyObject *self, PyObject *given)
+{
+    PyObject *others = joins_given(self, given, "union_all", &filter_type, can_unite);
+    return others != NULL ? sketch_join_all(self, others, (ds_bloom_union_all)) : NULL;
+}
+
 PyDoc_STRVAR(serialize_doc,
 "serialize($self, /)\n--\n\n"
 "Return the filter's image, as `bytes(filter)` does.\n\n"
@@ -175,6 +197,7 @@ static PyMethodDef filter_methods[] = {
     WITH_KEYWORDS("insert_words", filter_insert_words),
     WITH_KEYWORDS("insert_lines", filter_insert_lines),
     {"contains", filter_contains, METH_O, filter_contains_doc},
+    {"union_all", filter_union_all, METH_O, union_all_doc},
     {"reset", filter_reset, METH_NOARGS, reset_doc},
     {"serialize", filter_serialize, METH_NOARGS, serialize_doc},
     {"deserialize", (PyCFunction)(void (*)(void))filter_deserialize, METH_CLASS | METH_VARARGS | METH_KEYWORDS, deserialize_doc},

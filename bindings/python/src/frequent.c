@@ -8,6 +8,7 @@ typedef struct {
     bool with_texts;
     int32_t (*make)(ds_sketch *, size_t, size_t);
     of_two merge;
+    of_many merge_all;
     int32_t (*reset)(ds_sketch *);
     int32_t (*set_sample_size)(ds_sketch *, size_t);
     int32_t (*status)(ds_sketch *, ds_frequent_items_status *);
@@ -17,8 +18,8 @@ typedef struct {
 
 #define KIND(name, with_sign, with_texts, call) \
     {name, with_sign, with_texts, ds_frequent_items_##call##_new, ds_frequent_items_##call##_merge, \
-     ds_frequent_items_##call##_reset, ds_frequent_items_##call##_set_sample_size, ds_frequent_items_##call##_get_status, \
-     ds_frequent_items_##call##_serialize, ds_frequent_items_##call##_deserialize}
+     ds_frequent_items_##call##_merge_all, ds_frequent_items_##call##_reset, ds_frequent_items_##call##_set_sample_size, \
+     ds_frequent_items_##call##_get_status, ds_frequent_items_##call##_serialize, ds_frequent_items_##call##_deserialize}
 
 static const Kind numbers_with_sign = KIND("i64", true, false, i64);
 static const Kind numbers_without_sign = KIND("u64", false, false, u64);
@@ -105,6 +106,30 @@ static PyObject *frequent_add(PyObject *first, PyObject *second)
         Py_RETURN_NOTIMPLEMENTED;
     of_two merge = merge_of(first, second);
     return merge != NULL ? sketch_joined((Sketch *)first, (Sketch *)second, merge) : NULL;
+}
+
+static bool can_merge(PyObject *self, PyObject *other)
+{
+    return merge_of(self, other) != NULL;
+}
+
+PyDoc_STRVAR(merge_all_doc,
+"merge_all($self, others, /)\n--\n\n"
+"Merge all sketches of an iterable into this one, in order. All are merged, or none. `+=` for each copies this sketch each\n"
+"time; this call copies it once. The sketch itself may be among them: it then counts as it was before the call.\n\n"
+">>> import datasketches_rattle as ds\n"
+">>> week = ds.FrequentItemsSketch(64, item=str)\n"
+">>> days = [ds.FrequentItemsSketch(64, item=str) for _ in range(2)]\n"
+">>> days[0].update('apple', 30)\n"
+">>> days[1].update('apple', 12)\n"
+">>> week.merge_all(days)\n"
+">>> week['apple']\n"
+"42\n");
+
+static PyObject *frequent_merge_all(PyObject *self, PyObject *given)
+{
+    PyObject *others = joins_given(self, given, "merge_all", &frequent_type, can_merge);
+    return others != NULL ? sketch_join_all(self, others, kind_of((Sketch *)self)->merge_all) : NULL;
 }
 
 /* Compares two sketches. A sketch is equal only to itself: the order of its items is open, and no call compares two. */
@@ -304,6 +329,7 @@ static PyMethodDef frequent_methods[] = {
     {"estimate", frequent_estimate, METH_O, frequent_estimate_doc},
     WITH_KEYWORDS("rows", frequent_rows),
     WITH_KEYWORDS("top", frequent_top),
+    {"merge_all", frequent_merge_all, METH_O, merge_all_doc},
     {"reset", frequent_reset, METH_NOARGS, reset_doc},
     {"serialize", frequent_serialize, METH_NOARGS, serialize_doc},
     {"deserialize", (PyCFunction)(void (*)(void))frequent_deserialize, METH_CLASS | METH_VARARGS | METH_KEYWORDS,

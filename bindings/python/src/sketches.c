@@ -94,6 +94,24 @@ void sketch_unlock_both(Sketch *self, Sketch *other)
         sketch_unlock(other);
 }
 
+/* All threads take locks in the order of addresses, so none waits forever. */
+bool sketch_lock_all(Sketch *const *sketches, size_t count)
+{
+    for (size_t i = 0; i < count; i++) {
+        if (!lock_if_open(sketches[i])) {
+            sketch_unlock_all(sketches, i);
+            return set_closed();
+        }
+    }
+    return true;
+}
+
+void sketch_unlock_all(Sketch *const *sketches, size_t count)
+{
+    for (size_t i = 0; i < count; i++)
+        sketch_unlock(sketches[i]);
+}
+
 static PyObject *refuse_as(int32_t answer, const char *kind)
 {
     if (answer == DS_NO_MEMORY)

@@ -47,6 +47,10 @@ void sketch_unlock(Sketch *self);
 bool sketch_lock_both(Sketch *self, Sketch *other);
 void sketch_unlock_both(Sketch *self, Sketch *other);
 
+/* Does the same for many different sketches, which are in the order of their addresses. */
+bool sketch_lock_all(Sketch *const *sketches, size_t count);
+void sketch_unlock_all(Sketch *const *sketches, size_t count);
+
 /* Begin and end a long call, with the lock held. */
 #define BATCH_BEGIN(self) \
     (self)->busy = true; \
@@ -93,6 +97,21 @@ extern const char sketch_close_doc[];
 PyObject *sketch_close(PyObject *self, PyObject *unused);
 PyObject *sketch_enter(PyObject *self, PyObject *unused);
 PyObject *sketch_exit(PyObject *self, PyObject *unused);
+
+/* --- joins.c --- */
+
+/* Returns whether a call can combine two sketches of one class. Sets an error if not. */
+typedef bool (*joins_check)(PyObject *self, PyObject *other);
+
+/* Returns the sketches of an iterable as a tuple. Returns NULL, with an error set, if the sketch is closed, or if another one is
+ * not of the class or fails the check. */
+PyObject *joins_given(PyObject *self, PyObject *given, const char *call, PyTypeObject *type, joins_check check);
+
+/* A call that reads many other sketches. */
+typedef int32_t (*of_many)(ds_sketch *, ds_sketch *, size_t);
+
+/* Combines the sketches of a tuple, whose reference this takes, into the sketch, which may be among them. */
+PyObject *sketch_join_all(PyObject *self, PyObject *others, of_many join);
 
 /* --- images.c --- */
 

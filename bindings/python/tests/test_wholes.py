@@ -112,7 +112,8 @@ class OthersRun(unittest.TestCase):
             read_shared=lambda: ds.BloomFilter.deserialize(shared), copy=lambda: copy.copy(a), deepcopy=lambda: copy.deepcopy(a),
             equal=lambda: a == twin, unequal=lambda: a != twin, union=lambda: a | b, intersection=lambda: a & b,
             difference=lambda: a - b, union_into=lambda: a.__ior__(b), intersection_into=lambda: twin.__iand__(a),
-            difference_into=lambda: twin.__isub__(b), with_itself=lambda: a.__iand__(a), reset=b.reset)
+            difference_into=lambda: twin.__isub__(b), with_itself=lambda: a.__iand__(a), union_all=lambda: a.union_all([b, twin]),
+            reset=b.reset)
 
     def test_counts(self):
         for signed in (False, True):
@@ -124,7 +125,7 @@ class OthersRun(unittest.TestCase):
                 read=lambda image=image, signed=signed: ds.CountMinSketch.deserialize(image, signed=signed),
                 read_shared=lambda shared=shared, signed=signed: ds.CountMinSketch.deserialize(shared, signed=signed),
                 copy=lambda a=a: copy.copy(a), equal=lambda a=a, twin=twin: a == twin, sum=lambda a=a, b=b: a + b,
-                sum_into=lambda twin=twin, b=b: twin.__iadd__(b))
+                sum_into=lambda twin=twin, b=b: twin.__iadd__(b), sum_of_all=lambda twin=twin, b=b: twin.merge_all([b, b]))
         load = counted()
         self.each(halve=load.halve, decay=lambda: load.decay(99, 100))
 
@@ -138,6 +139,7 @@ class OthersRun(unittest.TestCase):
                 read=lambda image=image, item=item: ds.FrequentItemsSketch.deserialize(image, item=item),
                 read_shared=lambda shared=shared, item=item: ds.FrequentItemsSketch.deserialize(shared, item=item),
                 sum=lambda heavy=heavy, few=few: heavy + few, sum_into=lambda heavy=heavy, few=few: heavy.__iadd__(few),
+                sum_of_all=lambda heavy=heavy, few=few: heavy.merge_all([few]),
                 no_rows=lambda heavy=heavy: heavy.rows(GREATEST), rows=lambda heavy=heavy: heavy.rows())
         self.each(size=lambda: sys.getsizeof(heavy))
 
@@ -249,6 +251,7 @@ class NoneWaitsForever(unittest.TestCase):
             for _ in range(3):
                 heavy.rows(), words.rows(), bytes(heavy), bytes(words), copy.copy(words), copy.deepcopy(Named(64, 1))
                 seen | seen, load + load, load == load, seen == seen, heavy + heavy, sys.getsizeof(words)
+                seen.union_all([seen]), load.merge_all([copy.copy(load)]), words.merge_all([]), heavy.merge_all([heavy, heavy])
                 for call in (lambda: load + counted(63), lambda: ds.BloomFilter.deserialize(b""), lambda: seen & filled(64)):
                     self.assertRaises(ds.SketchError, call)
 
@@ -522,7 +525,7 @@ class Closed(unittest.TestCase):
             whole.close()
             kind = type(whole)
             calls = {name: (lambda whole=whole, name=name: getattr(whole, name)) for name in FIELDS[kind]}
-            takes = {"decay": [1, 2], "top": [1]}
+            takes = {"decay": [1, 2], "top": [1], "merge_all": [[other]], "union_all": [[other]]}
             takes |= dict.fromkeys(("insert", "contains", "update", "estimate", "upper_bound", "bounds", "insert_words", "insert_lines",
                                     "update_words", "update_lines"), [item])
             names = {name for name in vars(kind) if not name.startswith("_")} - OF_A_CLASS
@@ -539,6 +542,8 @@ class Closed(unittest.TestCase):
                     calls[name] = lambda name=name: getattr(whole, f"__{name}__")(other)
                     calls[f"{name} of it"] = lambda name=name: getattr(other, f"__{name}__")(whole)
                     calls[f"{name} itself"] = lambda name=name: getattr(whole, f"__{name}__")(whole)
+            join_all = "union_all" if kind is ds.BloomFilter else "merge_all"
+            calls["all of it"] = lambda: getattr(other, join_all)([other, whole])
             if kind is ds.BloomFilter:
                 calls["in"] = lambda: item in whole
             else:

@@ -12,7 +12,7 @@ use Rattle.datasketches_c.specs.declared.filter.SetOperation.{SetOperation}
 use Rattle.datasketches_c.proofs.KindLemmas.{on_kind_less, of_held, holds_less}
 
 -- a handle that holds a filter has it
-holds_filter : (new : Option AnySketch) (s : FilterState) → HoldsKind filter_of new (λ c. c ≡ s) → new ≡ Some (Filter s)
+pub holds_filter : (new : Option AnySketch) (s : FilterState) → HoldsKind filter_of new (λ c. c ≡ s) → new ≡ Some (Filter s)
 holds_filter (Some (Filter c)) s is = ap (λ (t : FilterState). Some (Filter t)) is
 holds_filter (Some (CountI64 c)) s is = absurd is
 holds_filter (Some (CountU64 c)) s is = absurd is

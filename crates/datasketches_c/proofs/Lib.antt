@@ -7,6 +7,8 @@ pub mod FilterLemmas
 pub mod GhostStrings
 pub mod Handles
 pub mod KindLemmas
+pub mod ManyHandleLemmas
+pub mod ManyJoinLemmas
 pub mod Reading
 pub mod ReadingCounts
 pub mod Refusals

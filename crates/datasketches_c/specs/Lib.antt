@@ -18,6 +18,8 @@ pub mod Holding
 pub mod Images
 pub mod Joining
 pub mod Kinds
+pub mod ManyHandles
+pub mod ManyJoins
 pub mod MemoryBytes
 pub mod Numbers
 pub mod Strings

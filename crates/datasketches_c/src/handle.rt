@@ -1,6 +1,7 @@
 //! Handles, which hold sketches for C.
 ghost use Rattle.std.specs.Prelude.{◌≡◌, Option, None, Some, MatchOption};
 ghost use Rattle.std.specs.Coded.{coded_option};
+ghost use Rattle.std.specs.Option.{option_map};
 ghost use Rattle.datasketches_c.specs.Numbers.{OnDone, OnRefused, ok, refusal_number};
 ghost use Rattle.datasketches_c.specs.contracts.any_sketch.AnySketch as any_sketch;
 ghost use Rattle.datasketches_c.specs.declared.any_sketch.AnySketch as sketch;
@@ -95,6 +96,16 @@ impl SketchHandle {
         ensures { self.new.value ≡ Some sketch.value }
     {
         *self = SketchHandle::of(sketch);
+    }
+
+    /// Puts a sketch into the handle, if any. Otherwise the handle has none.
+    pub(crate) fn give_back(&mut self, alloc: Global, sketch: Option<Box<AnySketch>>)
+        ensures { self.new.value ≡ option_map (λ boxed. boxed.value) sketch }
+    {
+        *self = match sketch {
+            Some(boxed) => SketchHandle::of(boxed),
+            None => SketchHandle::none(alloc),
+        };
     }
 
     /// Puts a sketch into the handle, and frees what the handle had. Returns `NoMemory` if an allocation fails. Then

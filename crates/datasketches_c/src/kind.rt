@@ -23,6 +23,10 @@ pub(crate) trait Kind: Drop {
         ensures which { MatchOption result (part any.old ≡ None)
             (λ s. (part any.old ≡ Some s.now) × (any.old ≡ whole s.now)) };
 
+    /// Returns the sketch for reading if it is of this kind.
+    fn part_in(any: &AnySketch) -> Option<&Self>
+        ensures { MatchOption result (part any.now ≡ None) (λ s. part any.now ≡ Some s.now) };
+
     /// Returns the sketch as one of any kind.
     fn into_any(self) -> AnySketch
         ensures { result ≡ whole self };
@@ -37,6 +41,15 @@ impl Kind for BloomFilter {
 
     #[inline(always)]
     fn part_of(any: &mut AnySketch) -> Option<&mut BloomFilter> {
+        if let AnySketch::Filter(sketch) = any {
+            Some(sketch)
+        } else {
+            None
+        }
+    }
+
+    #[inline(always)]
+    fn part_in(any: &AnySketch) -> Option<&BloomFilter> {
         if let AnySketch::Filter(sketch) = any {
             Some(sketch)
         } else {
@@ -65,6 +78,15 @@ impl Kind for CountMinSketch<i64> {
         }
     }
 
+    #[inline(always)]
+    fn part_in(any: &AnySketch) -> Option<&CountMinSketch<i64>> {
+        if let AnySketch::CountI64(sketch) = any {
+            Some(sketch)
+        } else {
+            None
+        }
+    }
+
     fn into_any(self) -> AnySketch {
         AnySketch::CountI64(self)
     }
@@ -79,6 +101,15 @@ impl Kind for CountMinSketch<u64> {
 
     #[inline(always)]
     fn part_of(any: &mut AnySketch) -> Option<&mut CountMinSketch<u64>> {
+        if let AnySketch::CountU64(sketch) = any {
+            Some(sketch)
+        } else {
+            None
+        }
+    }
+
+    #[inline(always)]
+    fn part_in(any: &AnySketch) -> Option<&CountMinSketch<u64>> {
         if let AnySketch::CountU64(sketch) = any {
             Some(sketch)
         } else {
@@ -107,6 +138,15 @@ impl Kind for FrequentItemsSketch<i64> {
         }
     }
 
+    #[inline(always)]
+    fn part_in(any: &AnySketch) -> Option<&FrequentItemsSketch<i64>> {
+        if let AnySketch::FrequentI64(sketch) = any {
+            Some(sketch)
+        } else {
+            None
+        }
+    }
+
     fn into_any(self) -> AnySketch {
         AnySketch::FrequentI64(self)
     }
@@ -128,6 +168,15 @@ impl Kind for FrequentItemsSketch<u64> {
         }
     }
 
+    #[inline(always)]
+    fn part_in(any: &AnySketch) -> Option<&FrequentItemsSketch<u64>> {
+        if let AnySketch::FrequentU64(sketch) = any {
+            Some(sketch)
+        } else {
+            None
+        }
+    }
+
     fn into_any(self) -> AnySketch {
         AnySketch::FrequentU64(self)
     }
@@ -142,6 +191,15 @@ impl Kind for FrequentItemsSketch<String> {
 
     #[inline(always)]
     fn part_of(any: &mut AnySketch) -> Option<&mut FrequentItemsSketch<String>> {
+        if let AnySketch::FrequentStrings(sketch) = any {
+            Some(sketch)
+        } else {
+            None
+        }
+    }
+
+    #[inline(always)]
+    fn part_in(any: &AnySketch) -> Option<&FrequentItemsSketch<String>> {
         if let AnySketch::FrequentStrings(sketch) = any {
             Some(sketch)
         } else {

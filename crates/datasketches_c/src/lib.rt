@@ -25,6 +25,8 @@ mod keyed_hash;
 mod kind;
 pub mod laws;
 mod making;
+mod many_handles;
+mod many_joins;
 mod many_string_pairs;
 mod many_strings;
 mod memory;
