@@ -13,6 +13,7 @@ pub mod SipWords
 pub mod SplitEnds
 pub mod SplitLines
 pub mod SplitWords
+pub mod StringBoundaries
 pub mod StringEnd
 mod Vectors
 pub mod Writing

@@ -1,5 +1,5 @@
 -- The strings of a buffer or of slices, one by one.
-use Rattle.std.proofs.Common.{◌≡◌, ℕ, ◌+◌, ◌-◌, ◌<◌, [], List, length, map, drop, get_or, ap, ◌∙◌, arith, length-drop}
+use Rattle.std.proofs.Common.{◌≡◌, ℕ, ◌+◌, ◌-◌, ◌<◌, [], List, length, drop, get_or, ap, ◌∙◌, arith, length-drop}
 use Rattle.std.specs.Borrow.{Bor}
 use Rattle.std.specs.List.{slice_range, zip}
 use Rattle.std.proofs.lemmas.List.{length-map, get_or-drop, get_or-map}

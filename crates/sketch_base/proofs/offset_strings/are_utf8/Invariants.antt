@@ -1,9 +1,7 @@
-use Rattle.std.proofs.Common.{take}
-use Rattle.std.specs.List.{All}
-use Rattle.std.specs.Str.{IsUtf8}
-use Rattle.sketch_base.specs.Strings.{strings_of}
+use Rattle.std.proofs.Common.{ℕ, ◌-◌, ◌<◌, get_or}
+use Rattle.std.specs.Str.{IsCharBoundary}
 use Rattle.sketch_base.proofs.offset_strings.are_utf8.Given as goal
 
--- the strings so far are UTF-8
+-- the strings so far begin at a character
 abbrev pub invariant-each : goal.invariant-each
-invariant-each l = All IsUtf8 (take l.i (strings_of l.bytes l.offsets))
+invariant-each l = (k : ℕ) → k < l.i → IsCharBoundary l.text (get_or l.offsets k 0 - get_or l.offsets 0 0)
