@@ -35,7 +35,7 @@ def heaviest(words: argparse.Namespace) -> dict[str, Any]:
     shape = Heavy(words.size)
     shape.empty()
     parts = engine.cut_files(words.files, words.parts, words=words.words, **engine.items_of(words))
-    with engine.connect(words.workers, words.scheduler) as client:
+    with engine.connect(words.workers, words.scheduler, threads=words.column is None) as client:
         image = engine.answer(client, engine.merged(shape, engine.sketches(shape, parts), words.fan_in))
     sketch = shape.read(image)
     rows = sketch.rows(threshold=words.threshold)

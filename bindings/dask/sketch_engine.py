@@ -35,7 +35,8 @@ def add_engine_words(parser: argparse.ArgumentParser) -> None:
     """Adds the options for workers and for the output."""
     group = parser.add_argument_group("workers")
     group.add_argument("--workers", type=positive, default=min(4, os.cpu_count() or 1), metavar="N",
-                       help="start N workers on this machine, which take nothing but this command's tasks (%(default)s)")
+                       help="start N workers on this machine, which take nothing but this command's tasks: threads for lines "
+                            "and words, processes for columns (%(default)s)")
     group.add_argument("--scheduler", metavar="ADDRESS", help="use the workers of this Dask scheduler, as tcp://HOST:8786")
     group.add_argument("--parts", type=positive, metavar="N",
                        help="cut the files into about N parts, at least one a file (one for each 16 MiB); a compressed file is one")
@@ -130,11 +131,12 @@ def with_columns(file: Part, column: str, weight: str | None, no_header: bool, d
 
 
 @contextlib.contextmanager
-def connect(workers: int, scheduler: str | None) -> Iterator[distributed.Client]:
+def connect(workers: int, scheduler: str | None, threads: bool = False) -> Iterator[distributed.Client]:
     """Starts workers on this machine, or connects to those of a scheduler and sends them the file that they need.
 
-    Workers that are started listen on the loopback address. They accept only TLS connections with a certificate of this run, and
-    serve no pages.
+    Workers are threads of this process, if wanted, and listen nowhere. They suit work that the library does, without the
+    interpreter's lock, and start in a third of a second. Otherwise they are processes that listen on the loopback address. These
+    accept only TLS connections with a certificate of this run, and serve no pages.
     """
     logging.getLogger("asyncio").setLevel(logging.CRITICAL)  # no messages on tasks that run when a client ends
     if scheduler is not None:
@@ -151,6 +153,12 @@ def connect(workers: int, scheduler: str | None) -> Iterator[distributed.Client]
         folder = stack.enter_context(tempfile.TemporaryDirectory())
         stack.enter_context(dask.config.set({"distributed.comm.timeouts.connect": PATIENCE,
                                              "distributed.scheduler.http.routes": [], "distributed.worker.http.routes": []}))
+        if threads:
+            cluster = stack.enter_context(distributed.LocalCluster(
+                n_workers=1, threads_per_worker=workers, processes=False, dashboard_address=None, local_directory=folder,
+                silence_logs=logging.CRITICAL))
+            yield stack.enter_context(distributed.Client(cluster, timeout=PATIENCE))
+            return
         cluster = stack.enter_context(distributed.LocalCluster(
             n_workers=workers, threads_per_worker=1, processes=True, host="127.0.0.1", scheduler_port=0,
             security=distributed.Security.temporary(), dashboard_address="127.0.0.1:0", worker_dashboard_address="127.0.0.1:0",

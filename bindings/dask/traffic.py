@@ -45,7 +45,7 @@ def weigh(words: argparse.Namespace) -> dict[str, Any]:
         raise ValueError("no key is asked for: --ask KEY, or --ask-file FILE")
     empty.estimate(asked)  # raises if one is not UTF-8
     parts = engine.cut_files(words.files, words.parts, words=words.words, **engine.items_of(words))
-    with engine.connect(words.workers, words.scheduler) as client:
+    with engine.connect(words.workers, words.scheduler, threads=words.column is None) as client:
         image = engine.answer(client, engine.merged(shape, engine.sketches(shape, parts), words.fan_in))
     sketch = shape.read(image)
     margin = sketch.upper_bound(asked[0]) - sketch[asked[0]]

@@ -148,7 +148,7 @@ static inline const char *ds_result_message(int32_t result)
     case DS_NO_ROOM: return "the buffer has not the length that is needed";
     case DS_BAD_FRACTION: return "the fraction is not above 0 and at most 1";
     case DS_BAD_ARGUMENT: return "the same handle twice, or null with a count above 0 or in a pair";
-    case DS_BAD_OFFSETS: return "offsets are none, or descend, or pass the end of the bytes";
+    case DS_BAD_OFFSETS: return "offsets missing, descending or out of range";
     DS_SKETCH_ERRORS(DS_AS_MESSAGE)
     default: return result < 0 ? "unknown" : "ok";
     }

@@ -115,6 +115,26 @@ class Workers(unittest.TestCase):
         self.assertRegex(errors, "^heavy.py: .*127.0.0.1.*\n$")
 
 
+class Threads(unittest.TestCase):
+    def test_they_listen_nowhere(self):
+        before = set(map(tuple, listens_on(os.getpid())))
+        with engine.connect(2, None, threads=True) as client:
+            self.assertTrue(client.scheduler.address.startswith("inproc://"))
+            self.assertEqual(set(map(tuple, listens_on(os.getpid()))), before)
+            self.assertEqual(client.submit(os.getpid).result(), os.getpid())
+
+    def test_lines_and_words_are_counted_as_by_processes(self):
+        for words, weights in (([], collections.Counter(Path(STREAM).read_text("utf-8").splitlines())), (["--words"], WEIGHTS)):
+            status, out, errors = said(heavy.main, STREAM, *words, "--size", str(SIZE), "--parts", str(PARTS), "--workers", "3",
+                                       "--json")
+            self.assertEqual((status, errors), (0, ""))
+            found = json.loads(out)
+            self.assertEqual((found["total"], found["parts"]), (sum(weights.values()), PARTS))
+            for row in found["items"]:
+                self.assertLessEqual(row["lower"], weights[row["item"]])
+                self.assertLessEqual(weights[row["item"]], row["upper"])
+
+
 class Tests(unittest.TestCase):
     def here(self, command, *words):
         """Runs a command on the workers of all tests. Returns its exit status, its output and its error output."""
