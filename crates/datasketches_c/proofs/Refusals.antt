@@ -8,11 +8,15 @@ use Rattle.std.proofs.lemmas.Int.{to_z-of_z}
 use Rattle.sketch_base.specs.Errors.{ErrorValue}
 use Rattle.sketch_base.specs.declared.fault.Fault.{Fault}
 use Rattle.sketch_base.specs.declared.fault.Fault.TheVariants as fault
-use Rattle.datasketches_c.specs.Numbers.{OnDone, refusal_number}
+use Rattle.datasketches_c.specs.Numbers.{OnDone, ok, refusal_number}
 
 -- an answer that was handed on
 pub same_answer : (answer : ℤ) → mag answer < 2147483648 → to_z w32 (of_z w32 answer) ≡ answer
 same_answer answer small = to_z-of_z w32 answer (record { sfits = small })
+
+-- an answer whose bits are none is that of a call that was done
+pub is_done : (answer : ℤ) → mag answer < 2147483648 → of_z w32 answer ≡ 0 → answer ≡ ok
+is_done answer small bits = sym (same_answer answer small) ∙ ap (to_z w32) bits
 
 -- the number of a refusal that is known
 pub refused_as : (error of : ErrorValue) (fault : Fault) (answer : ℤ) → mag answer < 2147483648 → fault ≡ error.fault → answer ≡ refusal_number fault → error ≡ of

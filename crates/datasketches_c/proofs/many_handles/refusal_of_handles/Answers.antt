@@ -8,7 +8,7 @@ use Rattle.datasketches_c.specs.Numbers.{ok}
 use Rattle.datasketches_c.specs.declared.any_sketch.AnySketch.{AnySketch}
 use Rattle.datasketches_c.specs.declared.handle.SketchHandle.{SketchHandle}
 use Rattle.datasketches_c.proofs.AnswerLemmas.{handed_on}
-use Rattle.datasketches_c.proofs.InTurnLemmas.{is_done}
+use Rattle.datasketches_c.proofs.Refusals.{is_done}
 use Rattle.datasketches_c.proofs.ManyHandleLemmas.{on_each_next, on_each_stopped, values_from}
 use Rattle.datasketches_c.proofs.many_handles.refusal_of_handles.Goals as goal
 

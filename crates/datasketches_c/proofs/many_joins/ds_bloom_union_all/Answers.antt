@@ -1,7 +1,7 @@
 use Rattle.std.proofs.Common.{List, Option, map}
 use Rattle.datasketches_c.specs.declared.any_sketch.AnySketch.{AnySketch}
 use Rattle.datasketches_c.specs.declared.handle.SketchHandle.{SketchHandle}
-use Rattle.datasketches_c.proofs.InTurnLemmas.{same_answer}
+use Rattle.datasketches_c.proofs.Refusals.{same_answer}
 use Rattle.datasketches_c.proofs.ManyJoinLemmas.{all_were_united}
 use Rattle.datasketches_c.proofs.many_joins.ds_bloom_union_all.Goals as goal
 

@@ -3,7 +3,7 @@ use Rattle.datasketches_c.specs.Kinds.{count_u64_of}
 use Rattle.datasketches_c.specs.Numbers.{max_u64}
 use Rattle.datasketches_c.specs.declared.any_sketch.AnySketch.{AnySketch}
 use Rattle.datasketches_c.specs.declared.handle.SketchHandle.{SketchHandle}
-use Rattle.datasketches_c.proofs.InTurnLemmas.{same_answer}
+use Rattle.datasketches_c.proofs.Refusals.{same_answer}
 use Rattle.datasketches_c.proofs.ManyJoinLemmas.{all_were_merged}
 use Rattle.datasketches_c.proofs.many_joins.ds_count_min_u64_merge_all.Goals as goal
 

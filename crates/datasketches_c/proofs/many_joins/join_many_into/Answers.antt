@@ -8,7 +8,7 @@ use Rattle.datasketches_c.specs.Numbers.{ok}
 use Rattle.datasketches_c.specs.declared.any_sketch.AnySketch.{AnySketch}
 use Rattle.datasketches_c.specs.declared.handle.SketchHandle.{SketchHandle}
 use Rattle.datasketches_c.proofs.AnswerLemmas.{handed_on}
-use Rattle.datasketches_c.proofs.InTurnLemmas.{is_done}
+use Rattle.datasketches_c.proofs.Refusals.{is_done}
 use Rattle.datasketches_c.proofs.ManyHandleLemmas.{on_each_less, on_each_moved, some_more}
 use Rattle.datasketches_c.proofs.many_joins.join_many_into.Goals as goal
 

@@ -1,6 +1,6 @@
 use Rattle.std.proofs.Common.{◌+◌, ◌<◌, ◌≤◌, ℕ, subst}
 use Rattle.std.proofs.lemmas.Bool.{false≢true}
-use Rattle.datasketches_c.proofs.InTurnLemmas.{refused_for}
+use Rattle.datasketches_c.proofs.Refusals.{refused_for}
 use Rattle.datasketches_c.proofs.ManyJoinLemmas.{total_of_names}
 use Rattle.datasketches_c.proofs.many_joins.CountMinSketchJoinsMany.join_with_many.Goals as goal
 
