@@ -134,9 +134,9 @@ def with_columns(file: Part, column: str, weight: str | None, no_header: bool, d
 def connect(workers: int, scheduler: str | None, threads: bool = False) -> Iterator[distributed.Client]:
     """Starts workers on this machine, or connects to those of a scheduler and sends them the file that they need.
 
-    Workers are threads of this process, if wanted, and listen nowhere. They suit work that the library does, without the
-    interpreter's lock, and start in a third of a second. Otherwise they are processes that listen on the loopback address. These
-    accept only TLS connections with a certificate of this run, and serve no pages.
+    Workers are threads of this process, if wanted. They accept no connections, suit work that the library does without the
+    interpreter's lock, and start in a third of a second. Otherwise they are processes that listen on the loopback address, and
+    accept only TLS connections with a certificate of this run. Neither kind serves pages.
     """
     logging.getLogger("asyncio").setLevel(logging.CRITICAL)  # no messages on tasks that run when a client ends
     if scheduler is not None:
@@ -153,15 +153,11 @@ def connect(workers: int, scheduler: str | None, threads: bool = False) -> Itera
         folder = stack.enter_context(tempfile.TemporaryDirectory())
         stack.enter_context(dask.config.set({"distributed.comm.timeouts.connect": PATIENCE,
                                              "distributed.scheduler.http.routes": [], "distributed.worker.http.routes": []}))
-        if threads:
-            cluster = stack.enter_context(distributed.LocalCluster(
-                n_workers=1, threads_per_worker=workers, processes=False, dashboard_address=None, local_directory=folder,
-                silence_logs=logging.CRITICAL))
-            yield stack.enter_context(distributed.Client(cluster, timeout=PATIENCE))
-            return
-        cluster = stack.enter_context(distributed.LocalCluster(
+        kind = dict(n_workers=1, threads_per_worker=workers, processes=False) if threads else dict(
             n_workers=workers, threads_per_worker=1, processes=True, host="127.0.0.1", scheduler_port=0,
-            security=distributed.Security.temporary(), dashboard_address="127.0.0.1:0", worker_dashboard_address="127.0.0.1:0",
+            security=distributed.Security.temporary())
+        cluster = stack.enter_context(distributed.LocalCluster(
+            **kind, dashboard_address="127.0.0.1:0", worker_dashboard_address="127.0.0.1:0",
             scheduler_kwargs={"dashboard": False}, local_directory=folder, silence_logs=logging.CRITICAL))
         yield stack.enter_context(distributed.Client(cluster, timeout=PATIENCE))
 

@@ -83,6 +83,15 @@ def listens_on(process):
                     yield words[1].split(":")
 
 
+def serves_no_pages(test, port):
+    """Checks that a port of the loopback address serves none of Dask's pages."""
+    for page in ("/", "/health", "/metrics", "/info/main/workers.html", "/json/identity.json"):
+        pages = http.client.HTTPConnection("127.0.0.1", port)
+        pages.request("GET", page)
+        test.assertEqual(pages.getresponse().status, 404, page)
+        pages.close()
+
+
 class Workers(unittest.TestCase):
     def test_they_take_their_own_client_alone(self):
         context = ssl.SSLContext(ssl.PROTOCOL_TLS_CLIENT)
@@ -102,11 +111,7 @@ class Workers(unittest.TestCase):
                     stranger.recv(1)
                 self.assertIn("CERTIFICATE_REQUIRED", refused.exception.reason)
             else:
-                for page in ("/", "/health", "/metrics", "/info/main/workers.html", "/json/identity.json"):
-                    pages = http.client.HTTPConnection("127.0.0.1", port)
-                    pages.request("GET", page)
-                    self.assertEqual(pages.getresponse().status, 404, page)
-                    pages.close()
+                serves_no_pages(self, port)
         with self.assertRaises(OSError):
             distributed.Client(CLIENT.scheduler.address, security=distributed.Security.temporary(), timeout=PATIENCE)
         with mock.patch.object(engine, "PATIENCE", 2):
@@ -116,11 +121,13 @@ class Workers(unittest.TestCase):
 
 
 class Threads(unittest.TestCase):
-    def test_they_listen_nowhere(self):
+    def test_they_accept_no_connections(self):
         before = set(map(tuple, listens_on(os.getpid())))
         with engine.connect(2, None, threads=True) as client:
             self.assertTrue(client.scheduler.address.startswith("inproc://"))
-            self.assertEqual(set(map(tuple, listens_on(os.getpid()))), before)
+            for address, port in set(map(tuple, listens_on(os.getpid()))) - before:
+                self.assertEqual(address, "0100007F", "127.0.0.1, as x86-64 writes it")
+                serves_no_pages(self, int(port, 16))
             self.assertEqual(client.submit(os.getpid).result(), os.getpid())
 
     def test_lines_and_words_are_counted_as_by_processes(self):
@@ -489,7 +496,7 @@ class Ends(unittest.TestCase):
 
     def test_a_package_that_is_not_there(self):
         with mock.patch.dict(sys.modules, {"cryptography": None}):
-            status, out, errors = said(heavy.main, STREAM)
+            status, out, errors = said(heavy.main, STREAM, "--column", "1", "--no-header")
         self.assertEqual((status, out), (1, ""))
         self.assertRegex(errors, "^heavy.py: not installed here or on a worker: .*`cryptography`.*\n$")
 
