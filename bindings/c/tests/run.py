@@ -28,7 +28,7 @@ STRICT = ["-std=c11", "-Wall", "-Wextra", "-Wpedantic", "-Werror"]
 # The C type of each Rust type of an export. A slice is a pointer and a length, and an allocator is not passed.
 CROSSES = {"u8": "uint8_t", "u16": "uint16_t", "u32": "uint32_t", "u64": "uint64_t", "i32": "int32_t", "i64": "int64_t"}
 CROSSES |= {"usize": "size_t", "bool": "bool", "SketchHandle": "ds_sketch", "FilterStatus": "ds_bloom_status"}
-CROSSES |= {"CountStatus": "ds_count_min_status", "FrequentBounds": "ds_frequent_items_bounds"}
+CROSSES |= {"CountStatus": "ds_count_min_status", "ItemBounds": "ds_frequent_items_bounds"}
 CROSSES |= {"FrequentStatus": "ds_frequent_items_status"}
 
 
