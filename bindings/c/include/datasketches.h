@@ -76,8 +76,7 @@ enum {
     DS_WRONG_KIND = -2,    /* the sketch is of a kind without this call */
     DS_NO_ROOM = -3,       /* a buffer of the caller has not the length that the call needs */
     DS_BAD_FRACTION = -4,  /* a fraction is not above 0 and at most 1 */
-    DS_BAD_ARGUMENT = -5,  /* from this header alone: the same handle twice, null with a count above 0, or null in a pair */
-    DS_BAD_OFFSETS = -6    /* there is no offset, one is below the one before it, or one passes the end of the bytes */
+    DS_BAD_ARGUMENT = -5   /* from this header alone: the same handle twice, null with a count above 0, or null in a pair */
 };
 
 /* The errors of sketches: number, constant, name and message of each. */
@@ -115,7 +114,8 @@ enum {
     X(-41, DS_BAD_ITEM, "BadItem", "bad item") \
     X(-42, DS_NO_MEMORY, "NoMemory", "out of memory") \
     X(-43, DS_BAD_SAMPLE_SIZE, "BadSampleSize", "sample size out of range") \
-    X(-44, DS_BAD_WINDOWS, "BadWindows", "windows out of range")
+    X(-44, DS_BAD_WINDOWS, "BadWindows", "windows out of range") \
+    X(-6, DS_BAD_OFFSETS, "BadOffsets", "offsets missing, descending or out of range")
 
 #define DS_AS_CONSTANT(number, constant, name, message) constant = number,
 enum { DS_SKETCH_ERRORS(DS_AS_CONSTANT) DS_MIN_RESULT = -44 };
@@ -131,7 +131,6 @@ static inline const char *ds_result_name(int32_t result)
     case DS_NO_ROOM: return "NoRoom";
     case DS_BAD_FRACTION: return "BadFraction";
     case DS_BAD_ARGUMENT: return "BadArgument";
-    case DS_BAD_OFFSETS: return "BadOffsets";
     DS_SKETCH_ERRORS(DS_AS_NAME)
     default: return result < 0 ? "Unknown" : "Ok";
     }
@@ -148,7 +147,6 @@ static inline const char *ds_result_message(int32_t result)
     case DS_NO_ROOM: return "the buffer has not the length that is needed";
     case DS_BAD_FRACTION: return "the fraction is not above 0 and at most 1";
     case DS_BAD_ARGUMENT: return "the same handle twice, or null with a count above 0 or in a pair";
-    case DS_BAD_OFFSETS: return "offsets missing, descending or out of range";
     DS_SKETCH_ERRORS(DS_AS_MESSAGE)
     default: return result < 0 ? "unknown" : "ok";
     }

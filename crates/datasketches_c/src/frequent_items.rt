@@ -132,7 +132,7 @@ pub extern "C" fn ds_frequent_items_i64_update_all(
 ///
 /// Returns the first of these errors, and then changes nothing:
 ///
-/// - `BAD_OFFSETS` if there is no offset, an offset is below the one before it, or an offset exceeds the number of
+/// - `BadOffsets` if there is no offset, an offset is below the one before it, or an offset exceeds the number of
 ///   bytes.
 /// - `NO_ROOM` if the number of strings is not the length of `weights`.
 /// - `InvalidUtf8` if a string is not UTF-8.

@@ -29,7 +29,7 @@ use std::alloc::Global;
 ///
 /// Returns the first of these errors, and then changes nothing:
 ///
-/// - `BAD_OFFSETS` if there is no offset, an offset is below the one before it, or an offset exceeds the number of
+/// - `BadOffsets` if there is no offset, an offset is below the one before it, or an offset exceeds the number of
 ///   bytes.
 /// - `InvalidUtf8` if a string is not UTF-8.
 /// - `NO_SKETCH` if the handle has no sketch, and `WRONG_KIND` if its sketch is of another kind.
@@ -58,7 +58,7 @@ pub extern "C" fn ds_bloom_insert_all_string(
 ///
 /// Returns the first of these errors, and then changes nothing:
 ///
-/// - `BAD_OFFSETS` if there is no offset, an offset is below the one before it, or an offset exceeds the number of
+/// - `BadOffsets` if there is no offset, an offset is below the one before it, or an offset exceeds the number of
 ///   bytes.
 /// - `NO_ROOM` if the number of strings is not the length of `answers`.
 /// - `InvalidUtf8` if a string is not UTF-8.
@@ -91,7 +91,7 @@ pub extern "C" fn ds_bloom_contains_all_string(
 ///
 /// Returns the first of these errors, and then changes nothing:
 ///
-/// - `BAD_OFFSETS` if there is no offset, an offset is below the one before it, or an offset exceeds the number of
+/// - `BadOffsets` if there is no offset, an offset is below the one before it, or an offset exceeds the number of
 ///   bytes.
 /// - `InvalidUtf8` if a string is not UTF-8.
 /// - `NO_SKETCH` if the handle has no sketch, and `WRONG_KIND` if its sketch is of another kind.
@@ -122,7 +122,7 @@ pub extern "C" fn ds_count_min_u64_update_all_string(
 ///
 /// Returns the first of these errors, and then changes nothing:
 ///
-/// - `BAD_OFFSETS` if there is no offset, an offset is below the one before it, or an offset exceeds the number of
+/// - `BadOffsets` if there is no offset, an offset is below the one before it, or an offset exceeds the number of
 ///   bytes.
 /// - `InvalidUtf8` if a string is not UTF-8.
 /// - `NO_SKETCH` if the handle has no sketch, and `WRONG_KIND` if its sketch is of another kind.
@@ -153,7 +153,7 @@ pub extern "C" fn ds_count_min_i64_update_all_string(
 ///
 /// Returns the first of these errors, and then changes nothing:
 ///
-/// - `BAD_OFFSETS` if there is no offset, an offset is below the one before it, or an offset exceeds the number of
+/// - `BadOffsets` if there is no offset, an offset is below the one before it, or an offset exceeds the number of
 ///   bytes.
 /// - `InvalidUtf8` if a string is not UTF-8.
 /// - `NO_SKETCH` if the handle has no sketch, and `WRONG_KIND` if its sketch is of another kind.
@@ -183,7 +183,7 @@ pub extern "C" fn ds_frequent_items_string_update_all(
 ///
 /// Returns the first of these errors, and then changes nothing:
 ///
-/// - `BAD_OFFSETS` if there is no offset, an offset is below the one before it, or an offset exceeds the number of
+/// - `BadOffsets` if there is no offset, an offset is below the one before it, or an offset exceeds the number of
 ///   bytes.
 /// - `NO_ROOM` if the number of strings is not the length of `estimates`.
 /// - `InvalidUtf8` if a string is not UTF-8.
@@ -216,7 +216,7 @@ pub extern "C" fn ds_count_min_u64_estimate_all_string(
 ///
 /// Returns the first of these errors, and then changes nothing:
 ///
-/// - `BAD_OFFSETS` if there is no offset, an offset is below the one before it, or an offset exceeds the number of
+/// - `BadOffsets` if there is no offset, an offset is below the one before it, or an offset exceeds the number of
 ///   bytes.
 /// - `NO_ROOM` if the number of strings is not the length of `estimates`.
 /// - `InvalidUtf8` if a string is not UTF-8.
@@ -249,7 +249,7 @@ pub extern "C" fn ds_count_min_i64_estimate_all_string(
 ///
 /// Returns the first of these errors, and then changes nothing:
 ///
-/// - `BAD_OFFSETS` if there is no offset, an offset is below the one before it, or an offset exceeds the number of
+/// - `BadOffsets` if there is no offset, an offset is below the one before it, or an offset exceeds the number of
 ///   bytes.
 /// - `NO_ROOM` if the number of strings is not the length of `bounds`.
 /// - `InvalidUtf8` if a string is not UTF-8.

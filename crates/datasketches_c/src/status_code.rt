@@ -22,14 +22,10 @@ pub const WRONG_KIND: i32 = -2;
 /// A buffer of the caller does not have the length that the call needs.
 pub const NO_ROOM: i32 = -3;
 
-/// A fraction is not above 0 and at most 1.
+/// A fraction is not above 0 and at most 1. The header for C uses the number -5.
 pub const BAD_FRACTION: i32 = -4;
 
-/// There is no offset, an offset is below the one before it, or an offset exceeds the number of bytes. The number -5 is
-/// used by the header for C.
-pub const BAD_OFFSETS: i32 = -6;
-
-/// Returns the number of a fault: -11 or less, or `BAD_OFFSETS`.
+/// Returns the number of a fault: -11 or less, or -6 for `BadOffsets`.
 pub(crate) fn refusal_number(fault: Fault) -> i32
     ensures { result ≡ refusal_number fault }
 {
@@ -68,6 +64,6 @@ pub(crate) fn refusal_number(fault: Fault) -> i32
         Fault::NoMemory => -42,
         Fault::BadSampleSize => -43,
         Fault::BadWindows => -44,
-        Fault::BadOffsets => BAD_OFFSETS,
+        Fault::BadOffsets => -6,
     }
 }

@@ -5,10 +5,10 @@ ghost use Rattle.sketch_base.specs.Strings.{AreStrings, strings_at, strings_of};
 ghost use Rattle.datasketches_c.specs.Numbers.{refusal_number};
 ghost use Rattle.datasketches_c.specs.Strings.{AreStringsIn, AreRefused, AreRefusedIn, ArePairsIn, RefusesPairsIn};
 
-use crate::status_code::{BAD_OFFSETS, NO_ROOM, refusal_number};
+use crate::status_code::{NO_ROOM, refusal_number};
 use sketch_base::{ByteStrings, Fault, OffsetStrings, are_offsets};
 
-/// Returns the strings of a buffer with offsets, or the number of the first error: `BAD_OFFSETS` or `InvalidUtf8`.
+/// Returns the strings of a buffer with offsets, or the number of the first error: `BadOffsets` or `InvalidUtf8`.
 pub(crate) fn strings_in<'a>(bytes: &'a [u8], offsets: &'a [u64]) -> Result<OffsetStrings<'a>, i32>
     ensures { MatchResult result
         (λ strings. AreStrings bytes.now offsets.now × (strings ≡ strings_of bytes.now offsets.now))
@@ -21,7 +21,7 @@ pub(crate) fn strings_in<'a>(bytes: &'a [u8], offsets: &'a [u64]) -> Result<Offs
 }
 
 /// Returns the strings of a buffer with offsets, one for each of `places`, or the number of the first error:
-/// `BAD_OFFSETS`, `NO_ROOM` or `InvalidUtf8`. It is `NO_ROOM` if the number of strings is not `places`.
+/// `BadOffsets`, `NO_ROOM` or `InvalidUtf8`. It is `NO_ROOM` if the number of strings is not `places`.
 pub(crate) fn strings_for<'a>(
     places: usize,
     bytes: &'a [u8],
@@ -33,11 +33,10 @@ pub(crate) fn strings_for<'a>(
         (AreRefusedIn places bytes.now offsets.now) }
 {
     if offsets.is_empty() || offsets.len() - 1 != places {
-        return Err(if are_offsets(bytes, offsets) {
-            NO_ROOM
-        } else {
-            BAD_OFFSETS
-        });
+        if !are_offsets(bytes, offsets) {
+            return Err(refusal_number(Fault::BadOffsets));
+        }
+        return Err(NO_ROOM);
     }
     strings_in(bytes, offsets)
 }
