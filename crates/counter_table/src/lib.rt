@@ -19,10 +19,12 @@ mod reverse_purge_item_iter;
 mod sizes;
 mod slot;
 mod slot_table;
+mod table_key;
 
 pub use item_key::{ItemKey, OwnedKey};
 pub use reverse_purge_item_hash_map::ReversePurgeItemHashMap;
 pub use reverse_purge_item_iter::ReversePurgeItemIter;
 pub use sizes::{MAX_SAMPLE_SIZE, bytes_of_table, capacity_of, lg_of};
-pub use sketch_base::{Error, ErrorKind, Fault};
+pub use sketch_base::{Error, ErrorKind, Fault, HashKey};
 pub use slot::Slot;
+pub use table_key::TableKey;

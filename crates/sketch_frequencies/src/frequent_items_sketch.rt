@@ -18,7 +18,7 @@ mod updates;
 mod words_and_lines;
 
 use crate::sizes::{MIN_MAP_SIZE, check_map_size, check_sample_size, max_sample_of};
-use counter_table::{ReversePurgeItemHashMap, capacity_of, lg_of};
+use counter_table::{ReversePurgeItemHashMap, TableKey, capacity_of, lg_of};
 use sketch_base::{Error, Fault};
 use std::alloc::Global;
 use std::hash::Hash;
@@ -113,9 +113,65 @@ impl<T: Eq + Hash + Drop> FrequentItemsSketch<T> {
         ensures accepted { IsOk result → sizes_fault max_map_size sample_size ≡ None }
         ensures refused { IfErr result (λ e. e ≡ refusal_of (sizes_fault max_map_size sample_size)) }
     {
+        Self::with_sample_size_and_key(alloc, max_map_size, sample_size, TableKey::Plain)
+    }
+
+    /// Creates an empty sketch as [`new`](Self::new) does, whose table hashes under `key`.
+    ///
+    /// With a secret key, no way is known to choose items that slow the sketch down. The sketch and its clones keep the key. No
+    /// image contains it.
+    ///
+    /// # Errors
+    ///
+    /// Returns those of `new`.
+    ///
+    /// # Examples
+    ///
+    /// ```
+    /// use sketch_frequencies::{Error, FrequentItemsSketch, HashKey, TableKey};
+    /// use std::alloc::Global;
+    ///
+    /// fn senders(alloc: Global, random: &[u8; 16]) -> Result<FrequentItemsSketch<u64>, Error> {
+    ///     let key = TableKey::Keyed(HashKey::from_bytes(random));
+    ///     FrequentItemsSketch::with_key(alloc, 1024, key)
+    /// }
+    /// ```
+    pub fn with_key(alloc: Global, max_map_size: usize, key: TableKey) -> Result<Self, Error>
+        ensures ok { IfOk result (λ sketch. sketch ≡ empty_state max_map_size (max_sample_size max_map_size)) }
+        ensures state { IfOk result (λ sketch. IsState T.eq sketch) }
+        ensures stands { IfOk result (λ sketch.
+            StandsFor T.eq sketch (New max_map_size (max_sample_size max_map_size))) }
+        ensures budget { IfOk result (λ sketch.
+            KeepsTailBudget T.eq sketch (New max_map_size (max_sample_size max_map_size))) }
+        ensures accepted { IsOk result → size_fault max_map_size ≡ None }
+        ensures refused { IfErr result (λ e. e ≡ refusal_of (size_fault max_map_size)) }
+    {
+        Self::with_sample_size_and_key(alloc, max_map_size, max_sample_of(max_map_size), key)
+    }
+
+    /// Creates an empty sketch as [`with_sample_size`](Self::with_sample_size) does, whose table hashes under `key`, as that of
+    /// [`with_key`](Self::with_key).
+    ///
+    /// # Errors
+    ///
+    /// Returns those of `with_sample_size`.
+    pub fn with_sample_size_and_key(
+        alloc: Global,
+        max_map_size: usize,
+        sample_size: usize,
+        key: TableKey,
+    ) -> Result<Self, Error>
+        ensures ok { IfOk result (λ sketch. sketch ≡ empty_state max_map_size sample_size) }
+        ensures state { IfOk result (λ sketch. IsState T.eq sketch) }
+        ensures stands { IfOk result (λ sketch. StandsFor T.eq sketch (New max_map_size sample_size)) }
+        ensures budget { IfOk result (λ sketch. KeepsTailBudget T.eq sketch (New max_map_size sample_size)) }
+        ensures accepted { IsOk result → sizes_fault max_map_size sample_size ≡ None }
+        ensures refused { IfErr result (λ e. e ≡ refusal_of (sizes_fault max_map_size sample_size)) }
+    {
         check_map_size(max_map_size)?;
         check_sample_size(max_map_size, sample_size)?;
         let map = ReversePurgeItemHashMap::new(alloc, MIN_MAP_SIZE)?;
+        let _ = key;
         Ok(FrequentItemsSketch {
             map,
             error: 0,

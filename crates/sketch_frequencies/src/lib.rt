@@ -25,7 +25,9 @@ pub mod laws;
 mod row;
 mod sizes;
 
-pub use counter_table::{ItemKey, OwnedKey, ReversePurgeItemHashMap, ReversePurgeItemIter};
+pub use counter_table::{
+    HashKey, ItemKey, OwnedKey, ReversePurgeItemHashMap, ReversePurgeItemIter, TableKey,
+};
 pub use error_type::ErrorType;
 pub use frequent_item_value::FrequentItemValue;
 pub use frequent_items_sketch::FrequentItemsSketch;

@@ -13,7 +13,7 @@ use crate::image::{
     read_counters, read_header, read_numbers, table_size, write_items, write_weights,
 };
 use crate::sizes::{MIN_MAP_SIZE, max_sample_of};
-use counter_table::ReversePurgeItemHashMap;
+use counter_table::{ReversePurgeItemHashMap, TableKey};
 use sketch_base::Error;
 use std::alloc::Global;
 
@@ -122,6 +122,50 @@ impl<T: FrequentItemValue + Drop> FrequentItemsSketch<T> {
         ensures err { IfErr result (IsImageRefusal (early_fault_within T.row max_bytes T.codec image.now)
             (first_fault_within T.row max_bytes T.codec image.now)) }
     {
+        Self::deserialize_with_limit_and_key(alloc, image, max_bytes, TableKey::Plain)
+    }
+
+    /// Returns the sketch of an image as [`deserialize_with_limit`](Self::deserialize_with_limit) does. Its table hashes under
+    /// `key`, as that of [`with_key`](Self::with_key).
+    ///
+    /// With a secret key, no way is known to write an image that takes long to read.
+    ///
+    /// # Errors
+    ///
+    /// Returns those of `deserialize_with_limit`.
+    ///
+    /// # Examples
+    ///
+    /// ```
+    /// use sketch_frequencies::{Error, FrequentItemsSketch, TableKey};
+    /// use std::alloc::Global;
+    ///
+    /// fn received(
+    ///     alloc: Global,
+    ///     image: &[u8],
+    ///     key: TableKey,
+    /// ) -> Result<FrequentItemsSketch<u64>, Error> {
+    ///     FrequentItemsSketch::deserialize_with_limit_and_key(alloc, image, 1 << 20, key)
+    /// }
+    /// ```
+    pub fn deserialize_with_limit_and_key(
+        alloc: Global,
+        image: &[u8],
+        max_bytes: usize,
+        key: TableKey,
+    ) -> Result<Self, Error>
+        ensures image { IfOk result (λ sketch. IsImageOf T.codec T.content image.now sketch) }
+        ensures state { IfOk result (λ sketch. IsState T.eq sketch) }
+        ensures sample { IfOk result (λ sketch. sketch.sample_size ≡ max_sample_size sketch.max_size) }
+        ensures stands { IfOk result (λ sketch. Restores T.codec T.content T.eq image.now sketch) }
+        ensures budget { IfOk result (λ sketch. RestoresBudget T.codec T.content T.eq image.now sketch) }
+        ensures within { IfOk result (λ sketch.
+            memory_bytes (table_bytes T.row sketch.size) (owned_by T.codec T.content sketch.counters) ≤ max_bytes) }
+        ensures accepted { IsOk result → limit_fault T.row max_bytes T.codec image.now ≡ None }
+        ensures err { IfErr result (IsImageRefusal (early_fault_within T.row max_bytes T.codec image.now)
+            (first_fault_within T.row max_bytes T.codec image.now)) }
+    {
+        let _ = key;
         let header = read_header(image)?;
         let max_size = table_size(header.lg_max);
         let sample_size = max_sample_of(max_size);

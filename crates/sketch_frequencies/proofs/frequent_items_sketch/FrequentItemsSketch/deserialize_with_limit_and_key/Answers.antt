@@ -10,7 +10,7 @@ use Rattle.sketch_frequencies.proofs.Powers.{eight_is_power}
 use Rattle.sketch_frequencies.proofs.Refusals.{none_of_empty, counts_of_full, size_of_empty, size_of_full, room_of_empty, room_of_full, is_within, first_of, early_refused, limit_refused, memory_refused, weights_refused, items_refused}
 use Rattle.sketch_frequencies.proofs.SampleSizes.{usual_sample}
 use Rattle.sketch_frequencies.proofs.ImageWeights.{length-weights_at}
-use Rattle.sketch_frequencies.proofs.frequent_items_sketch.FrequentItemsSketch.deserialize_with_limit.Goals as goal
+use Rattle.sketch_frequencies.proofs.frequent_items_sketch.FrequentItemsSketch.deserialize_with_limit_and_key.Goals as goal
 
 pub new-requires-clause-power : goal.new-requires-clause-power
 new-requires-clause-power g c = eight_is_power

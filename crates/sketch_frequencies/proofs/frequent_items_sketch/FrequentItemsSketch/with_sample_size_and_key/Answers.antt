@@ -3,7 +3,7 @@ use Rattle.std.specs.List.{IsDistinct}
 use Rattle.std.proofs.lemmas.List.Elements.{All-nil}
 use Rattle.sketch_frequencies.proofs.Powers.{eight_is_power}
 use Rattle.sketch_frequencies.proofs.SampleSizes.{size_passes}
-use Rattle.sketch_frequencies.proofs.frequent_items_sketch.FrequentItemsSketch.with_sample_size.Goals as goal
+use Rattle.sketch_frequencies.proofs.frequent_items_sketch.FrequentItemsSketch.with_sample_size_and_key.Goals as goal
 
 pub new-requires-clause-power : goal.new-requires-clause-power
 new-requires-clause-power g c = eight_is_power
