@@ -1,4 +1,4 @@
--- Bytes that come piece by piece and are taken in block by block, for blocks of 16 bytes and of 32 at once.
+-- Bytes that come piece by piece and are taken in block by block, for blocks of 8, 16 and 32 bytes at once.
 use Rattle.std.proofs.Common.{◌≡◌, ℕ, zero, suc, ◌+◌, ◌-◌, ◌*◌, ◌/◌, ◌%◌, ◌^◌, ◌<◌, ◌≤◌, List, [], ◌∷◌, ◌++◌, length, take, drop, refl, sym, ap, ◌∙◌, arith, length-append, length-drop, zero-add, fold}
 use Rattle.std.proofs.lemmas.List.{take-append-le, drop-append-le, append_assoc, append-nil, drop-drop, take_at, drop_at, drop_all, length-take-le}
 use Rattle.std.specs.List.{concat}
@@ -7,46 +7,56 @@ use borrow.Rule.Slice.PartMut.{put_mid, post_of}
 
 -- how many bytes a block has
 pub data Width : Type 0 where
+  Eight : Width
   Sixteen : Width
   ThirtyTwo : Width
 
 abbrev pub size : Width → ℕ
+size Eight = 8
 size Sixteen = 16
 size ThirtyTwo = 32
 
 -- ---- counts of whole blocks
 
 few_blocks : (w : Width) (l : ℕ) → l < size w → l / size w ≡ 0
+few_blocks Eight l lt = omega arith
 few_blocks Sixteen l lt = omega arith
 few_blocks ThirtyTwo l lt = omega arith
 
 one_block_more : (w : Width) (l : ℕ) → (size w + l) / size w ≡ suc (l / size w)
+one_block_more Eight l = omega arith
 one_block_more Sixteen l = omega arith
 one_block_more ThirtyTwo l = omega arith
 
 pub blocks_fit : (w : Width) (l : ℕ) → size w * (l / size w) ≤ l
+blocks_fit Eight l = omega arith
 blocks_fit Sixteen l = omega arith
 blocks_fit ThirtyTwo l = omega arith
 
 blocks_together : (w : Width) (l k : ℕ) → l / size w + (l - size w * (l / size w) + k) / size w ≡ (l + k) / size w
+blocks_together Eight l k = omega arith
 blocks_together Sixteen l k = omega arith
 blocks_together ThirtyTwo l k = omega arith
 
 -- ---- bytes since the last whole block, by the count of all bytes, which wraps
 
 pub used_below : (w : Width) (t : ℕ) → t % size w < size w
+used_below Eight t = omega arith
 used_below Sixteen t = omega arith
 used_below ThirtyTwo t = omega arith
 
 pub used_short : (w : Width) (t n : ℕ) → t % size w + n < size w → (t + n) % 2 ^ 64 % size w ≡ t % size w + n
+used_short Eight t n lt = omega arith
 used_short Sixteen t n lt = omega arith
 used_short ThirtyTwo t n lt = omega arith
 
 used_after : (w : Width) (t n : ℕ) → size w - t % size w ≤ n → (t + n) % 2 ^ 64 % size w ≡ n - (size w - t % size w) - (n - (size w - t % size w)) / size w * size w
+used_after Eight t n le = omega arith
 used_after Sixteen t n le = omega arith
 used_after ThirtyTwo t n le = omega arith
 
 used_behind : (w : Width) (t n : ℕ) → t % size w ≡ 0 → (t + n) % 2 ^ 64 % size w ≡ n - n / size w * size w
+used_behind Eight t n none = omega arith
 used_behind Sixteen t n none = omega arith
 used_behind ThirtyTwo t n none = omega arith
 

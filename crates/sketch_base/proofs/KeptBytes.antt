@@ -48,11 +48,11 @@ whole_buffer b n lb le zeros =
     ∙ (ap (λ zs. take n b ++ zs) (sym zeros) ∙ take-append-drop n b)
 
 -- the zeros behind a short piece
-pub zeros_behind : (b ys bs : List ℕ) (n k : ℕ) → length b ≡ 16 → drop n b ≡ replicate (16 - n) 0 → ys ≡ bs → k ≡ length bs → n + length bs < 16
-    → drop (n + length bs) (put_mid n k b ys) ≡ replicate (16 - (n + length bs)) 0
-zeros_behind b ys bs n k lb zeros same ek short =
+pub zeros_behind : {width : ℕ} (b ys bs : List ℕ) (n k : ℕ) → length b ≡ width → drop n b ≡ replicate (width - n) 0 → ys ≡ bs → k ≡ length bs → n + length bs < width
+    → drop (n + length bs) (put_mid n k b ys) ≡ replicate (width - (n + length bs)) 0
+zeros_behind {width} b ys bs n k lb zeros same ek short =
     let past : drop (n + length bs) (put_mid n k b ys) ≡ drop (n + length bs) b = drop-put_mid n k b ys (n + length bs) (omega arith) (omega arith) (ap length same ∙ sym ek) in
-    let left : drop (length bs) (drop n b) ≡ replicate (16 - n - length bs) 0 = ap (drop (length bs)) zeros ∙ drop-replicate (length bs) (16 - n) 0 in
+    let left : drop (length bs) (drop n b) ≡ replicate (width - n - length bs) 0 = ap (drop (length bs)) zeros ∙ drop-replicate (length bs) (width - n) 0 in
     past ∙ (sym (drop-drop (length bs) n b) ∙ (left ∙ ap (λ (m : ℕ). replicate m 0) (omega arith)))
 
 -- the bytes after a short piece

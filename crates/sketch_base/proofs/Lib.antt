@@ -9,6 +9,8 @@ pub mod Rotation
 pub mod Searching
 pub mod Separators
 pub mod Series
+pub mod SipHashPieces
+pub mod SipStrings
 pub mod SipWords
 pub mod SplitEnds
 pub mod SplitLines

@@ -20,7 +20,7 @@ are-more [] last small lt (suc i) = omega arith
 are-more (b ∷ bytes) last small lt zero = small 0
 are-more (b ∷ bytes) last small lt (suc i) = are-more bytes last (λ j. small (suc j)) lt i
 
-are-take : (k : ℕ) (bytes : List ℕ) → AreBytes bytes → AreBytes (take k bytes)
+pub are-take : (k : ℕ) (bytes : List ℕ) → AreBytes bytes → AreBytes (take k bytes)
 are-take zero bytes small i = omega arith
 are-take (suc k) [] small i = omega arith
 are-take (suc k) (b ∷ bytes) small zero = small 0

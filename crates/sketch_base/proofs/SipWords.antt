@@ -12,7 +12,7 @@ use Rattle.sketch_base.proofs.LittleEndian.{AreBytes, are-drop, number-append, n
 -- ---- words one after another
 
 -- those of the front alone are read
-words-append : (n : ℕ) (xs ys : List ℕ) → 8 * n ≤ length xs → words n (xs ++ ys) ≡ words n xs
+pub words-append : (n : ℕ) (xs ys : List ℕ) → 8 * n ≤ length xs → words n (xs ++ ys) ≡ words n xs
 unfolding words
 words-append zero xs ys le = refl
 words-append (suc n) xs ys le =
@@ -29,7 +29,7 @@ words_more (suc n) xs =
     ap (λ (ws : List ℕ). le_number (take 8 xs) ∷ ws) (words_more n (drop 8 xs) ∙ ap (λ (ys : List ℕ). words n (drop 8 xs) ++ le_number (take 8 ys) ∷ []) after)
 
 -- the state after one more
-state_more : (start : State) (n : ℕ) (xs : List ℕ) → fold (compression 1) start (words (suc n) xs) ≡ compression 1 (fold (compression 1) start (words n xs)) (le_number (take 8 (drop (8 * n) xs)))
+pub state_more : (start : State) (n : ℕ) (xs : List ℕ) → fold (compression 1) start (words (suc n) xs) ≡ compression 1 (fold (compression 1) start (words n xs)) (le_number (take 8 (drop (8 * n) xs)))
 state_more start n xs =
     ap (fold (compression 1) start) (words_more n xs) ∙ fold-append (compression 1) start (words n xs) (le_number (take 8 (drop (8 * n) xs)) ∷ [])
 
@@ -50,7 +50,7 @@ one_read start v next xs n word le ev ew en =
 abbrev pub tail : List ℕ → List ℕ
 tail bytes = drop (8 * (length bytes / 8)) bytes
 
-length-tail : (bytes : List ℕ) → length (tail bytes) ≡ length bytes % 8
+pub length-tail : (bytes : List ℕ) → length (tail bytes) ≡ length bytes % 8
 length-tail bytes = length-drop (8 * (length bytes / 8)) bytes ∙ omega arith
 
 -- the bytes after the last whole word are below 2^56

@@ -12,6 +12,7 @@ pub mod PowersOfTwo
 pub mod Reciprocal
 pub mod ShortBytes
 pub mod SipHash
+pub mod SipHashState
 pub mod Split
 pub mod Strings
 pub mod Xxh64

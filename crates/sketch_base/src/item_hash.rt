@@ -2,9 +2,13 @@
 ghost use Rattle.std.specs.Prelude.{◌≡◌};
 ghost use Rattle.sketch_base.specs.Hashes.{fed_bytes, le64};
 ghost use Rattle.sketch_base.specs.Murmur3.{murmur3_x64_128};
+ghost use Rattle.sketch_base.specs.SipHash.{sip_hash_1_3};
 ghost use Rattle.sketch_base.specs.Xxh64.{xxh64};
 
 use crate::murmurhash::MurmurHash3X64128;
+use crate::rehashable_item::RehashableItem;
+use crate::sip_hash::HashKey;
+use crate::sip_hasher::SipHasher13;
 use crate::xxhash::XxHash64;
 use std::hash::{Hash, Hasher};
 
@@ -36,4 +40,34 @@ pub fn murmur3_of_u64(n: u64, seed: u64) -> (u64, u64)
     ensures { result ≡ murmur3_x64_128 (le64 n) seed }
 {
     murmur3_of(&n, seed)
+}
+
+/// Returns SipHash-1-3 under a key of all bytes that the `Hash` of `item` feeds. Does not allocate.
+///
+/// Fewer than 16 bytes, as those of a number, are hashed in one piece.
+///
+/// # Examples
+///
+/// ```
+/// use sketch_base::{HashKey, keyed_hash_of};
+///
+/// fn shard_of(key: HashKey, user: u64) -> u64 {
+///     keyed_hash_of(key, &user) % 100
+/// }
+/// ```
+#[inline(always)]
+pub fn keyed_hash_of<T: Hash>(key: HashKey, item: &T) -> u64
+    ensures { result ≡ sip_hash_1_3 key (fed_bytes T.hash_input item.now) }
+{
+    RehashableItem::new(item).keyed_hash(key)
+}
+
+/// Returns SipHash-1-3 under a key of all bytes that the `Hash` of `item` feeds, which may be many.
+#[inline(never)]
+pub(crate) fn keyed_hash_of_many<T: Hash>(key: HashKey, item: &T) -> u64
+    ensures { result ≡ sip_hash_1_3 key (fed_bytes T.hash_input item.now) }
+{
+    let mut hasher = SipHasher13::with_key(key);
+    item.hash(&mut hasher);
+    hasher.digest()
 }

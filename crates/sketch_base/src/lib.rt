@@ -5,7 +5,8 @@
 //!   the whole list of bytes.
 //! - [`xxh64_of`], [`murmur3_of`] and [`murmur3_of_u64`] hash a whole item or number. [`xxh64_of_str`] and
 //!   [`murmur3_of_str`] hash a string without a buffer.
-//! - [`keyed_hash`] hashes bytes under a secret [`HashKey`], for items that others choose.
+//! - [`keyed_hash`] hashes bytes under a secret [`HashKey`], for items that others choose. [`keyed_hash_of`] and
+//!   [`keyed_hash_of_str`] hash a whole item and a string.
 //! - [`RehashableItem`] hashes one item under several seeds. It feeds an item of few bytes once, and keeps them as
 //!   [`ShortBytes`]. [`RehashableStr`] does so for a string. Both kinds of bytes are [`Rehashable`].
 //! - [`Strings`] are many strings in order: `&[&str]`, [`OffsetStrings`] of one buffer, or [`ByteStrings`].
@@ -37,6 +38,7 @@ mod separator;
 mod short_bytes;
 mod short_copy;
 mod sip_hash;
+mod sip_hasher;
 mod sketch_bytes;
 mod sketch_slice;
 mod split;
@@ -50,7 +52,7 @@ pub use divisor::Divisor;
 pub use error::{Error, ErrorKind};
 pub use family::Family;
 pub use fault::Fault;
-pub use item_hash::{murmur3_of, murmur3_of_u64, xxh64_of};
+pub use item_hash::{keyed_hash_of, murmur3_of, murmur3_of_u64, xxh64_of};
 pub use murmurhash::{DEFAULT_UPDATE_SEED, MurmurHash3X64128};
 pub use offset_strings::{OffsetStrings, are_offsets};
 pub use rehashable_item::{Rehashable, RehashableItem};
@@ -62,6 +64,6 @@ pub use sip_hash::{HashKey, keyed_hash};
 pub use sketch_bytes::SketchBytes;
 pub use sketch_slice::SketchSlice;
 pub use split::{finished_lines, finished_words, next_line, next_word};
-pub use str_hash::{murmur3_of_str, xxh64_of_str};
+pub use str_hash::{keyed_hash_of_str, murmur3_of_str, xxh64_of_str};
 pub use strings::Strings;
 pub use xxhash::XxHash64;

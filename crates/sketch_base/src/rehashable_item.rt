@@ -2,9 +2,11 @@
 ghost use Rattle.std.specs.Prelude.{◌≡◌, ◌<◌, ◌≤◌, ℕ, List, IfSome, IfNone, length};
 ghost use Rattle.sketch_base.specs.Hashes.{fed_bytes};
 ghost use Rattle.sketch_base.specs.Murmur3.{murmur3_x64_128};
+ghost use Rattle.sketch_base.specs.SipHash.{sip_hash_1_3};
 
-use crate::item_hash::murmur3_of;
+use crate::item_hash::{keyed_hash_of_many, murmur3_of};
 use crate::short_bytes::ShortBytes;
+use crate::sip_hash::HashKey;
 use std::hash::Hash;
 use std::marker::Model;
 
@@ -112,6 +114,17 @@ impl<'a, T: Hash> RehashableItem<'a, T> {
             self.short.murmur3(seed)
         } else {
             murmur3_of(self.item, seed)
+        }
+    }
+    /// Returns SipHash-1-3 under a key of all bytes that the item's `Hash` feeds.
+    #[inline(always)]
+    pub fn keyed_hash(&self, key: HashKey) -> u64
+        ensures { result ≡ sip_hash_1_3 key self.now }
+    {
+        if self.short.len() < 16 {
+            self.short.keyed_hash(key)
+        } else {
+            keyed_hash_of_many(key, self.item)
         }
     }
 }

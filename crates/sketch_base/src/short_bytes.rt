@@ -2,9 +2,11 @@
 ghost use Rattle.std.specs.Prelude.{◌≡◌, ◌^◌, ◌<◌, [], length, ℕ};
 ghost use Rattle.sketch_base.specs.Murmur3.{murmur3_x64_128};
 ghost use Rattle.sketch_base.specs.ShortBytes as short;
+ghost use Rattle.sketch_base.specs.SipHash.{sip_hash_1_3};
 
 use crate::murmurhash::finalization;
 use crate::short_copy::copy_short;
+use crate::sip_hash::{HashKey, keyed_hash};
 use std::hash::Hasher;
 use std::marker::Model;
 
@@ -68,6 +70,15 @@ impl ShortBytes {
         ensures { result ≡ murmur3_x64_128 self.now seed }
     {
         finalization((seed, seed), &self.buffer, self.len as u64)
+    }
+
+    /// Returns SipHash-1-3 of the bytes, which are fewer than 16, under a key.
+    #[inline(always)]
+    pub fn keyed_hash(&self, key: HashKey) -> u64
+        requires { length self.now < 16 }
+        ensures { result ≡ sip_hash_1_3 key self.now }
+    {
+        keyed_hash(key, &self.buffer[..self.len])
     }
 }
 
