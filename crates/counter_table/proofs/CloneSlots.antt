@@ -1,14 +1,14 @@
 -- Slots that were cloned one by one.
-use Rattle.std.proofs.Common.{◌≡◌, ℕ, zero, suc, ◌≤◌, Bool, true, false, List, [], ◌∷◌, length, refl, ap, sym, ◌∙◌, subst, arith, Some}
+use Rattle.std.proofs.Common.{◌%◌, ◌≡◌, ℕ, zero, suc, ◌≤◌, Bool, true, false, List, [], ◌∷◌, length, refl, ap, sym, ◌∙◌, subst, arith, Some}
 use Rattle.std.specs.Prelude.{IsTrue}
 use Rattle.std.specs.Cmp.{IsEquivalence}
-use Rattle.std.specs.List.{AllByRecursion, AllZip, IsDistinct, concat}
+use Rattle.std.specs.List.{AllByRecursion, AllZip, IsDistinct}
 use Rattle.std.specs.Map.{keys_of}
 use Rattle.std.proofs.lemmas.List.Sorted.{IsPermutation-refl}
 use Rattle.std.proofs.lemmas.Slice.Zip.{AllZip-long}
 use Rattle.counter_table.specs.declared.slot.Slot.{Slot}
 use Rattle.counter_table.specs.declared.slot.Slot.TheVariants.{Free, Taken}
-use Rattle.counter_table.specs.Homes.{ahead, distance, home_in, home_of}
+use Rattle.counter_table.specs.Homes.{ahead, distance, home_in}
 use Rattle.counter_table.specs.Slots.{Held, entries_of, slot_at, is_taken, IsPlaced, IsSameSlot, IsSlots}
 use Rattle.counter_table.specs.Tables.{IsSameEntry, IsSameMap}
 use Rattle.std.proofs.lemmas.Map.Keys.{IsDistinct-head, IsDistinct-tail, IsDistinct-cons}
@@ -100,13 +100,13 @@ module _ {T : Type 0} (eq : T → T → Bool) where
   pub cloned_length : (slots clones : List (Slot T)) → AllZip (IsSameSlot eq) slots clones → length (entries_of clones) ≡ length (entries_of slots)
   cloned_length slots clones zip = AllZip-long (IsSameEntry eq) (entries_of slots) (entries_of clones) (zip_entries slots clones zip)
 
-  pub IsSlots-clones : IsEquivalence eq → (input : T → List (List ℕ)) → ((x y : T) → IsTrue (eq x y) → input x ≡ input y) → (slots clones : List (Slot T)) → AllZip (IsSameSlot eq) slots clones → IsSlots eq input slots → IsSlots eq input clones
-  IsSlots-clones laws input respects slots clones zip ok =
+  pub IsSlots-clones : IsEquivalence eq → (hashed : T → ℕ) → ((x y : T) → IsTrue (eq x y) → hashed x ≡ hashed y) → (slots clones : List (Slot T)) → AllZip (IsSameSlot eq) slots clones → IsSlots eq hashed slots → IsSlots eq hashed clones
+  IsSlots-clones laws hashed respects slots clones zip ok =
       let long = cloned_size slots clones zip in
-      let P : ℕ → Type 0 = λ n. IsPlaced (home_in input n) clones in
+      let P : ℕ → Type 0 = λ n. IsPlaced (home_in hashed n) clones in
       record {
         distinct = zip_distinct laws slots clones zip ok.distinct;
-        placed = subst P (sym long) (IsPlaced-clones (home_in input (length slots)) (λ x y t. ap (λ f. home_of (concat f) (length slots)) (respects x y t)) slots clones zip ok.placed);
+        placed = subst P (sym long) (IsPlaced-clones (home_in hashed (length slots)) (λ x y t. ap (λ f. f % length slots) (respects x y t)) slots clones zip ok.placed);
         room = omega (arith, long, cloned_length slots clones zip, ok.room);
         size = rw long ok.size;
       }

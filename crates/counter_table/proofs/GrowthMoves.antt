@@ -25,9 +25,9 @@ nothing_at (Free ∷ os) zero s h e = cc
 nothing_at (Free ∷ os) (suc k) s h e = nothing_at os k s h e
 nothing_at (Taken d n x ∷ os) k s h e = cc
 
-pub IsSlots-free : {T : Type 0} (eq : T → T → Bool) (input : T → List (List ℕ)) (slots : List (Slot T)) → entries_of slots ≡ [] → IsTableSize (length slots) → IsSlots eq input slots
+pub IsSlots-free : {T : Type 0} (eq : T → T → Bool) (hashed : T → ℕ) (slots : List (Slot T)) → entries_of slots ≡ [] → IsTableSize (length slots) → IsSlots eq hashed slots
 unfolding IsDistinct
-IsSlots-free eq input slots h size = record {
+IsSlots-free eq hashed slots h size = record {
   distinct = rw h tt;
   placed = record { drift = λ k s e. absurd (nothing_at slots k s h e); run = λ k s e. absurd (nothing_at slots k s h e) };
   room = rw h (some_size (length slots) size);
@@ -76,10 +76,10 @@ pub split_more : {X : Type 0} (all before rest after : List X) (o : X) → all �
 split_more all before rest after o e f = e ∙ ap (λ r. before ++ r) f ∙ sym (append_assoc before (o ∷ []) after)
 
 -- free slots alone
-pub IsSlots-made : {T : Type 0} (eq : T → T → Bool) (input : T → List (List ℕ)) (slots : List (Slot T)) (n : ℕ) → slots ≡ replicate n Free → IsTableSize n → IsSlots eq input slots
-IsSlots-made {T} eq input slots n e size =
+pub IsSlots-made : {T : Type 0} (eq : T → T → Bool) (hashed : T → ℕ) (slots : List (Slot T)) (n : ℕ) → slots ≡ replicate n Free → IsTableSize n → IsSlots eq hashed slots
+IsSlots-made {T} eq hashed slots n e size =
     let long : length slots ≡ n = ap length e ∙ length-replicate n Free in
-    IsSlots-free eq input slots (ap entries_of e ∙ entries_of-replicate {T = T} n) (rw long size)
+    IsSlots-free eq hashed slots (ap entries_of e ∙ entries_of-replicate {T = T} n) (rw long size)
 
 pub made_free : {T : Type 0} (slots : List (Slot T)) (n : ℕ) → slots ≡ replicate n Free → (entries_of slots ≡ []) × (length slots ≡ n)
 made_free {T} slots n e = (ap entries_of e ∙ entries_of-replicate {T = T} n, ap length e ∙ length-replicate n Free)

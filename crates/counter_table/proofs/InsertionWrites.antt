@@ -17,7 +17,7 @@ use Rattle.counter_table.specs.Homes.{home_in, ahead, distance}
 use Rattle.counter_table.specs.Slots.{Held, held, taken, entries_of, slot_at, is_taken, AddsAt, IsPlaced, IsSlots}
 use Rattle.counter_table.specs.Probes.{IsFreeSlot, IsProbe}
 use Rattle.counter_table.proofs.ArithmeticRing.{ahead-distance, distance-ahead}
-use Rattle.counter_table.proofs.LookupHomes.{some_size, home_of-below}
+use Rattle.counter_table.proofs.LookupHomes.{some_size, remainder_below}
 use Rattle.counter_table.proofs.LookupReach.{is_taken-below, slot_at-set_same, slot_at-set_other}
 use Rattle.counter_table.proofs.LookupProbes.{differs, free_slot_below, lookup_slot}
 
@@ -91,26 +91,26 @@ IsPlaced-set home slots k s p at =
     }
 
 -- ---- the slots after the write
-pub record Wrote {T : Type 0} (eq : T → T → Bool) (input : T → List (List ℕ)) (old : List (Slot T)) (x : T) (w : ℕ) (new : List (Slot T)) : Type 0 where
-  pub slots_ok : IsSlots eq input new
+pub record Wrote {T : Type 0} (eq : T → T → Bool) (hashed : T → ℕ) (old : List (Slot T)) (x : T) (w : ℕ) (new : List (Slot T)) : Type 0 where
+  pub slots_ok : IsSlots eq hashed new
   pub entries : IsPermutation (put eq (entries_of old) x w) (entries_of new)
 
 -- to the item's own slot
-wrote_hit : {T : Type 0} {eq : T → T → Bool} → IsEquivalence eq → (input : T → List (List ℕ)) (slots : List (Slot T)) → IsSlots eq input slots →
-    (x : T) (w k : ℕ) (s : Held T) → slot_at slots k ≡ Some s → eq x s.item ≡ true → (new : List (Slot T)) → new ≡ set slots k (Taken s.drift (s.count + w) s.item) → Wrote eq input slots x w new
-wrote_hit {T} {eq} laws input slots ok x w k s e t new is =
+wrote_hit : {T : Type 0} {eq : T → T → Bool} → IsEquivalence eq → (hashed : T → ℕ) (slots : List (Slot T)) → IsSlots eq hashed slots →
+    (x : T) (w k : ℕ) (s : Held T) → slot_at slots k ≡ Some s → eq x s.item ≡ true → (new : List (Slot T)) → new ≡ set slots k (Taken s.drift (s.count + w) s.item) → Wrote eq hashed slots x w new
+wrote_hit {T} {eq} laws hashed slots ok x w k s e t new is =
     let n = length slots in
     let v : Held T = record { item = s.item; count = s.count + w; drift = s.drift } in
     let long = length-set slots k (taken v) in
-    let home : T → ℕ = home_in input n in
+    let home : T → ℕ = home_in hashed n in
     let put_is = put_hit laws slots x w k s ok.distinct e t in
     let there : is_tracked eq (entries_of slots) x ≡ true = ap is_some (lookup_slot (eq x) (laws.congr x) slots k s ok.distinct e t) in
-    let P : ℕ → Type 0 = λ m. IsPlaced (home_in input m) (set slots k (taken v)) in
+    let P : ℕ → Type 0 = λ m. IsPlaced (home_in hashed m) (set slots k (taken v)) in
     let at : Stands home slots k v = record {
       below = is_taken-below slots k (ap is_some e);
       drift = ok.placed.drift k s e;
       run = λ j l. ok.placed.run k s e j (omega arith);
-      home_below = home_of-below _ n (some_size n ok.size);
+      home_below = remainder_below _ n (some_size n ok.size);
     } in
     rw is (record {
       slots_ok = record {
@@ -123,32 +123,32 @@ wrote_hit {T} {eq} laws input slots ok x w k s e t new is =
     })
 
 -- and so by an amount that is added where a look-up found it, whichever item is named
-pub wrote_by_key : {T : Type 0} {eq : T → T → Bool} → IsEquivalence eq → {input : T → List (List ℕ)} {slots : List (Slot T)} → IsSlots eq input slots → {names : T → Bool} → ((x y : T) → IsTrue (names x) → names y ≡ eq x y) → {h index c probed : ℕ} {found : Option ℕ}
-    → IsProbe names h slots index found probed → found ≡ Some c → (w : ℕ) {new : List (Slot T)} → AddsAt slots index w new → (x : T) → IsTrue (names x) → Wrote eq input slots x w new
-wrote_by_key laws {input} {slots} ok alike {index = index} p hit w {new} adds x is =
+pub wrote_by_key : {T : Type 0} {eq : T → T → Bool} → IsEquivalence eq → {hashed : T → ℕ} {slots : List (Slot T)} → IsSlots eq hashed slots → {names : T → Bool} → ((x y : T) → IsTrue (names x) → names y ≡ eq x y) → {h index c probed : ℕ} {found : Option ℕ}
+    → IsProbe names h slots index found probed → found ≡ Some c → (w : ℕ) {new : List (Slot T)} → AddsAt slots index w new → (x : T) → IsTrue (names x) → Wrote eq hashed slots x w new
+wrote_by_key laws {hashed} {slots} ok alike {index = index} p hit w {new} adds x is =
     let here = p.here _ hit in
-    wrote_hit laws input slots ok x w index here.0 here.1 (sym (alike x here.0.item is) ∙ here.3) new (adds here.0 here.1)
+    wrote_hit laws hashed slots ok x w index here.0 here.1 (sym (alike x here.0.item is) ∙ here.3) new (adds here.0 here.1)
 
 -- and so where it found the item
-pub wrote_found : {T : Type 0} {eq : T → T → Bool} → IsEquivalence eq → {input : T → List (List ℕ)} {slots : List (Slot T)} → IsSlots eq input slots → {x : T} {h index c probed : ℕ} {found : Option ℕ}
-    → IsProbe (eq x) h slots index found probed → found ≡ Some c → (w : ℕ) {new : List (Slot T)} → AddsAt slots index w new → Wrote eq input slots x w new
+pub wrote_found : {T : Type 0} {eq : T → T → Bool} → IsEquivalence eq → {hashed : T → ℕ} {slots : List (Slot T)} → IsSlots eq hashed slots → {x : T} {h index c probed : ℕ} {found : Option ℕ}
+    → IsProbe (eq x) h slots index found probed → found ≡ Some c → (w : ℕ) {new : List (Slot T)} → AddsAt slots index w new → Wrote eq hashed slots x w new
 wrote_found {eq = eq} laws ok {x} p hit w adds = wrote_by_key laws ok (laws.congr x) p hit w adds x (laws.refl x)
 
 -- to the first free slot
-pub wrote_free_slot : {T : Type 0} {eq : T → T → Bool} → IsEquivalence eq → (input : T → List (List ℕ)) (slots : List (Slot T)) → IsSlots eq input slots →
-    (x : T) (w k probed : ℕ) → is_tracked eq (entries_of slots) x ≡ false → length (entries_of slots) + 1 < length slots → IsFreeSlot (home_in input (length slots) x) slots k probed → (new : List (Slot T)) → new ≡ set slots k (Taken probed w x) → Wrote eq input slots x w new
-wrote_free_slot {T} {eq} laws input slots ok x w k probed absent room p new is =
+pub wrote_free_slot : {T : Type 0} {eq : T → T → Bool} → IsEquivalence eq → (hashed : T → ℕ) (slots : List (Slot T)) → IsSlots eq hashed slots →
+    (x : T) (w k probed : ℕ) → is_tracked eq (entries_of slots) x ≡ false → length (entries_of slots) + 1 < length slots → IsFreeSlot (home_in hashed (length slots) x) slots k probed → (new : List (Slot T)) → new ≡ set slots k (Taken probed w x) → Wrote eq hashed slots x w new
+wrote_free_slot {T} {eq} laws hashed slots ok x w k probed absent room p new is =
     let n = length slots in
     let v : Held T = record { item = x; count = w; drift = probed } in
     let long = length-set slots k (taken v) in
-    let home : T → ℕ = home_in input n in
+    let home : T → ℕ = home_in hashed n in
     let h = home x in
-    let home_below : h < n = home_of-below _ n (some_size n ok.size) in
+    let home_below : h < n = remainder_below _ n (some_size n ok.size) in
     let below = free_slot_below home_below p in
     let put_is = put_new eq (entries_of slots) x w absent in
     let moved : IsPermutation (put eq (entries_of slots) x w) (entries_of (set slots k (taken v))) = rw put_is (put_miss slots k v below p.free) in
     let far : distance n h k ≡ probed - 1 = ap (distance n h) p.index_is ∙ distance-ahead n h (probed - 1) home_below (omega (arith, p.short, p.some)) in
-    let P : ℕ → Type 0 = λ m. IsPlaced (home_in input m) (set slots k (taken v)) in
+    let P : ℕ → Type 0 = λ m. IsPlaced (home_in hashed m) (set slots k (taken v)) in
     let at : Stands home slots k v = record {
       below = below;
       drift = omega (arith, far, p.some);

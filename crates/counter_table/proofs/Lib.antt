@@ -17,6 +17,7 @@ pub mod PurgeRoom
 pub mod PurgeSamples
 pub mod PurgeSweeps
 pub mod PurgeTurns
+mod TableHashing
 pub mod WalkEntries
 pub mod WalkSlots
 pub mod WalkSteps

@@ -1,10 +1,8 @@
 -- The home of an item, the index after an index, and where a look-up stands.
-use Rattle.std.proofs.Common.{◌≡◌, ℕ, ◌+◌, ◌-◌, ◌%◌, ◌<◌, ap, sym, ◌∙◌, arith, List, bit_and}
+use Rattle.std.proofs.Common.{◌≡◌, ℕ, ◌+◌, ◌-◌, ◌%◌, ◌<◌, ap, sym, ◌∙◌, arith, bit_and}
 use Rattle.std.proofs.Math.Nat.{mod-lt}
-use Rattle.sketch_base.specs.Hashes.{fed_bytes}
-use Rattle.sketch_base.specs.Murmur3.{murmur3_x64_128}
 use Rattle.sketch_base.specs.PowersOfTwo.{masked_remainder}
-use Rattle.counter_table.specs.Homes.{home_in, home_of, ahead}
+use Rattle.counter_table.specs.Homes.{home_in, ahead}
 use Rattle.counter_table.specs.Slots.{IsTableSize}
 use Rattle.counter_table.proofs.ArithmeticPowers.{power_positive}
 use Rattle.counter_table.proofs.ArithmeticRing.{ahead_is}
@@ -31,9 +29,8 @@ before_masked p back n size = masked (p + (n - back)) n size
 pub stride_masked : (p stride n : ℕ) → IsTableSize n → bit_and (p + stride) (n - 1) ≡ (p + stride) % n
 stride_masked p stride n size = masked (p + stride) n size
 
-pub home_of-below : (bytes : List ℕ) (n : ℕ) → 0 < n → home_of bytes n < n
-unfolding home_of
-home_of-below bytes n h = mod-lt ((murmur3_x64_128 bytes 9001).0) h
+pub remainder_below : (hash n : ℕ) → 0 < n → hash % n < n
+remainder_below hash n h = mod-lt hash h
 
 pub ahead-next : (n h j : ℕ) → h < n → j + 1 < n → ahead n (ahead n h j) 1 ≡ ahead n h (j + 1)
 ahead-next n h j l m =
@@ -46,22 +43,22 @@ pub ahead-zero : (n h : ℕ) → h < n → ahead n h 0 ≡ h
 ahead-zero n h l = let a = ahead_is n h 0 l (omega arith) in omega arith
 
 -- ---- a look-up that has looked at so many indices from the home of x on
-pub record Stands {T : Type 0} (input : T → List (List ℕ)) (x : T) (n index probed : ℕ) : Type 0 where
-  pub at_index : index ≡ ahead n (home_in input n x) probed
+pub record Stands {T : Type 0} (hashed : T → ℕ) (x : T) (n index probed : ℕ) : Type 0 where
+  pub at_index : index ≡ ahead n (home_in hashed n x) probed
   pub below : probed < n
 
-module _ {T : Type 0} (input : T → List (List ℕ)) (x : T) (n : ℕ) (size : IsTableSize n) where
-  home_below : home_in input n x < n
-  home_below = home_of-below (fed_bytes input x) n (some_size n size)
+module _ {T : Type 0} (hashed : T → ℕ) (x : T) (n : ℕ) (size : IsTableSize n) where
+  home_below : home_in hashed n x < n
+  home_below = remainder_below _ n (some_size n size)
 
   -- it starts at the home
-  pub stands_first : (index : ℕ) → index ≡ home_in input n x → Stands input x n index 0
-  stands_first index is = record { at_index = is ∙ sym (ahead-zero n (home_in input n x) home_below); below = some_size n size }
+  pub stands_first : (index : ℕ) → index ≡ home_in hashed n x → Stands hashed x n index 0
+  stands_first index is = record { at_index = is ∙ sym (ahead-zero n (home_in hashed n x) home_below); below = some_size n size }
 
   -- its index is one of the table's
-  pub stands_within : (index probed : ℕ) → Stands input x n index probed → index < n
-  stands_within index probed s = let a = ahead_is n (home_in input n x) probed home_below (omega (arith, s.below)) in omega (arith, s.at_index, a.below)
+  pub stands_within : (index probed : ℕ) → Stands hashed x n index probed → index < n
+  stands_within index probed s = let a = ahead_is n (home_in hashed n x) probed home_below (omega (arith, s.below)) in omega (arith, s.at_index, a.below)
 
   -- and goes on to the next
-  pub stands_next : (index next probed : ℕ) → Stands input x n index probed → next ≡ ahead n index 1 → probed + 1 < n → Stands input x n next (probed + 1)
-  stands_next index next probed s step below = record { at_index = step ∙ ap (λ p. ahead n p 1) s.at_index ∙ ahead-next n (home_in input n x) probed home_below below; below = below }
+  pub stands_next : (index next probed : ℕ) → Stands hashed x n index probed → next ≡ ahead n index 1 → probed + 1 < n → Stands hashed x n next (probed + 1)
+  stands_next index next probed s step below = record { at_index = step ∙ ap (λ p. ahead n p 1) s.at_index ∙ ahead-next n (home_in hashed n x) probed home_below below; below = below }

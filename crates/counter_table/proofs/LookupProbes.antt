@@ -1,5 +1,5 @@
 -- What a look-up's indices say of the map.
-use Rattle.std.proofs.Common.{◌≡◌, ℕ, zero, suc, ◌+◌, ◌-◌, ◌<◌, ◌≤◌, Bool, true, false, inl, inr, refl, ap, sym, ◌∙◌, subst, arith, List, [], ◌∷◌, length, Option, Some, None, is_some, unwrap_or, ◌^◌}
+use Rattle.std.proofs.Common.{◌%◌, ◌≡◌, ℕ, zero, suc, ◌+◌, ◌-◌, ◌<◌, ◌≤◌, Bool, true, false, inl, inr, refl, ap, sym, ◌∙◌, subst, arith, List, [], ◌∷◌, length, Option, Some, None, is_some, unwrap_or, ◌^◌}
 use Rattle.std.specs.Cmp.{IsEquivalence}
 use Rattle.std.specs.List.{IsDistinct, AllByRecursion}
 use Rattle.std.specs.Map.{lookup, keys_of}
@@ -9,16 +9,17 @@ use Rattle.counter_table.specs.declared.slot.Slot.{Slot}
 use Rattle.counter_table.specs.declared.slot.Slot.TheVariants.{Free, Taken}
 use Rattle.counter_table.specs.Homes.{home_in, ahead, distance, IsReach, IsShortOfReach}
 use Rattle.std.specs.Prelude.{IsTrue}
-use Rattle.sketch_base.specs.Hashes.{fed_bytes}
 use Rattle.counter_table.specs.Tables.{Table, is_tracked}
 use Rattle.std.specs.List.{concat}
-use Rattle.counter_table.specs.Homes.{home_of}
-use Rattle.counter_table.proofs.LookupHomes.{some_size, home_of-below}
+use Rattle.counter_table.specs.declared.table_key.TableKey.{TableKey}
+use Rattle.counter_table.specs.TableHashes.{hash_of, hash_in}
+use Rattle.counter_table.proofs.LookupHomes.{some_size, remainder_below}
 use Rattle.counter_table.specs.Keys.{IsKey}
-use Rattle.counter_table.specs.Slots.{Held, entries_of, table_of, slot_at, is_taken, CountHasRoom, IsPlaced, IsSlots}
+use Rattle.counter_table.specs.Slots.{Held, entries_of, table_of, KeyedSlots, slot_at, is_taken, CountHasRoom, IsPlaced, IsSlots}
 use Rattle.counter_table.specs.Probes.{IsPassed, IsProbe, IsFreeSlot, IsCountAt}
 use Rattle.counter_table.proofs.ArithmeticRing.{ahead_is, ahead-distance}
 use Rattle.counter_table.proofs.LookupReach.{HasFree, free_from_few, is_taken-below, taken_slot, taken_few, taken_within, IsReach-from_free, reach_above}
+use Rattle.counter_table.proofs.TableHashing.{hashes_alike, hashed_as_named}
 
 -- ---- a look-up goes on
 pub IsPassed-none : {T : Type 0} (names : T → Bool) (h : ℕ) (slots : List (Slot T)) → IsPassed names h slots 0
@@ -135,12 +136,12 @@ lookup_found names alike home h slots below placed d index probed (Some c) respe
     lookup_slot names alike slots index w.0 d w.1 w.3 ∙ ap Some w.2
 
 -- where x is absent, all of its reach was looked at
-pub reach_absent : {T : Type 0} (names : T → Bool) (home : T → ℕ) (slots : List (Slot T)) → ((x : T) → home x < length slots) → IsPlaced home slots → HasFree slots → (x : T) (index probed : ℕ) → IsProbe names (home x) slots index None probed → IsReach home (table_of slots) x probed
+pub reach_absent : {T : Type 0} {key : TableKey} (names : T → Bool) (home : T → ℕ) (slots : List (Slot T)) → ((x : T) → home x < length slots) → IsPlaced home slots → HasFree slots → (x : T) (index probed : ℕ) → IsProbe names (home x) slots index None probed → IsReach home (table_of key slots) x probed
 reach_absent names home slots below placed free_slot x index probed p =
     IsReach-from_free home slots below placed free_slot x probed p.some p.short (λ j l. p.passed.taken j (omega arith)) (ap (is_taken slots) (sym p.index_is) ∙ p.free refl)
 
 -- where x is present, less
-pub reach_present : {T : Type 0} (names : T → Bool) (home : T → ℕ) (slots : List (Slot T)) → ((x : T) → home x < length slots) → IsPlaced home slots → HasFree slots → (x : T) (index probed c : ℕ) → IsProbe names (home x) slots index (Some c) probed → IsShortOfReach home (table_of slots) x probed
+pub reach_present : {T : Type 0} {key : TableKey} (names : T → Bool) (home : T → ℕ) (slots : List (Slot T)) → ((x : T) → home x < length slots) → IsPlaced home slots → HasFree slots → (x : T) (index probed c : ℕ) → IsProbe names (home x) slots index (Some c) probed → IsShortOfReach home (table_of key slots) x probed
 reach_present names home slots below placed free_slot x index probed c p =
     let w = p.here c refl in
     let taken : (j : ℕ) → j < probed → is_taken slots (ahead (length slots) (home x) j) ≡ true = λ j l. elim (cases_eq j (probed - 1)) [
@@ -150,11 +151,11 @@ reach_present names home slots below placed free_slot x index probed c p =
     let r = reach_above home slots below placed free_slot x probed taken in
     record { some = p.some; reach = r.0; is_reach = r.1; less = r.2 }
 
-reach_if_absent : {T : Type 0} (names : T → Bool) (home : T → ℕ) (slots : List (Slot T)) → ((x : T) → home x < length slots) → IsPlaced home slots → HasFree slots → (x : T) (index probed : ℕ) (found : Option ℕ) → is_some found ≡ false → IsProbe names (home x) slots index found probed → IsReach home (table_of slots) x probed
+reach_if_absent : {T : Type 0} {key : TableKey} (names : T → Bool) (home : T → ℕ) (slots : List (Slot T)) → ((x : T) → home x < length slots) → IsPlaced home slots → HasFree slots → (x : T) (index probed : ℕ) (found : Option ℕ) → is_some found ≡ false → IsProbe names (home x) slots index found probed → IsReach home (table_of key slots) x probed
 reach_if_absent names home slots below placed free_slot x index probed None f p = reach_absent names home slots below placed free_slot x index probed p
 reach_if_absent names home slots below placed free_slot x index probed (Some c) f p = absurd (false≢true (sym f))
 
-reach_if_present : {T : Type 0} (names : T → Bool) (home : T → ℕ) (slots : List (Slot T)) → ((x : T) → home x < length slots) → IsPlaced home slots → HasFree slots → (x : T) (index probed : ℕ) (found : Option ℕ) → is_some found ≡ true → IsProbe names (home x) slots index found probed → IsShortOfReach home (table_of slots) x probed
+reach_if_present : {T : Type 0} {key : TableKey} (names : T → Bool) (home : T → ℕ) (slots : List (Slot T)) → ((x : T) → home x < length slots) → IsPlaced home slots → HasFree slots → (x : T) (index probed : ℕ) (found : Option ℕ) → is_some found ≡ true → IsProbe names (home x) slots index found probed → IsShortOfReach home (table_of key slots) x probed
 reach_if_present names home slots below placed free_slot x index probed None t p = absurd (false≢true t)
 reach_if_present names home slots below placed free_slot x index probed (Some c) t p = reach_present names home slots below placed free_slot x index probed c p
 
@@ -163,21 +164,21 @@ few_probed : {T : Type 0} {names : T → Bool} {h : ℕ} {slots : List (Slot T)}
 few_probed {T} {names} {h} {slots} {index} {found} {probed} l p = omega (arith, p.some, taken_within slots h (probed - 1) l (omega (arith, p.some, p.short)) p.passed.taken)
 
 -- ---- a look-up in the slots of a table
-pub record Answers {T : Type 0} (eq : T → T → Bool) (input : T → List (List ℕ)) (table : Table T) (x : T) (found : Option ℕ) (probed : ℕ) : Type 0 where
+pub record Answers {T : Type 0} (eq : T → T → Bool) (hashed : T → ℕ) (table : Table T) (x : T) (found : Option ℕ) (probed : ℕ) : Type 0 where
   pub looked_up : lookup (eq x) table.entries ≡ found
-  pub absent : is_tracked eq table.entries x ≡ false → IsReach (home_in input table.size) table x probed
-  pub present : is_tracked eq table.entries x ≡ true → IsShortOfReach (home_in input table.size) table x probed
+  pub absent : is_tracked eq table.entries x ≡ false → IsReach (home_in hashed table.size) table x probed
+  pub present : is_tracked eq table.entries x ≡ true → IsShortOfReach (home_in hashed table.size) table x probed
   pub few : probed ≤ length table.entries + 1
   pub within : probed ≤ table.size
 
-pub answers : {T : Type 0} {eq : T → T → Bool} → IsEquivalence eq → {input : T → List (List ℕ)} → ((x y : T) → IsTrue (eq x y) → input x ≡ input y) → (slots : List (Slot T)) → IsSlots eq input slots →
-    (x : T) (index : ℕ) (found : Option ℕ) (probed : ℕ) → IsProbe (eq x) (home_in input (length slots) x) slots index found probed → Answers eq input (table_of slots) x found probed
-answers {T} {eq} laws {input} respects slots s x index found probed p =
+pub answers : {T : Type 0} {key : TableKey} {eq : T → T → Bool} → IsEquivalence eq → {hashed : T → ℕ} → ((x y : T) → IsTrue (eq x y) → hashed x ≡ hashed y) → (slots : List (Slot T)) → IsSlots eq hashed slots →
+    (x : T) (index : ℕ) (found : Option ℕ) (probed : ℕ) → IsProbe (eq x) (home_in hashed (length slots) x) slots index found probed → Answers eq hashed (table_of key slots) x found probed
+answers {T} {eq} laws {hashed} respects slots s x index found probed p =
     let n = length slots in
-    let home : T → ℕ = home_in input n in
-    let below : (y : T) → home y < n = λ y. home_of-below (fed_bytes input y) n (some_size n s.size) in
+    let home : T → ℕ = home_in hashed n in
+    let below : (y : T) → home y < n = λ y. remainder_below _ n (some_size n s.size) in
     let free_slot = free_from_few slots s.room in
-    let up = lookup_found (eq x) (laws.congr x) home (home x) slots (below x) s.placed s.distinct index probed found (λ y t. ap (λ f. home_of (concat f) n) (respects x y t)) p in
+    let up = lookup_found (eq x) (laws.congr x) home (home x) slots (below x) s.placed s.distinct index probed found (λ y t. ap (λ f. f % n) (respects x y t)) p in
     let tracked = ap is_some up in
     record {
       looked_up = up;
@@ -187,28 +188,28 @@ answers {T} {eq} laws {input} respects slots s x index found probed p =
       within = p.short;
     }
 
--- where the slots were lent
-pub answers_lent : {T : Type 0} {eq : T → T → Bool} → IsEquivalence eq → {input : T → List (List ℕ)} → ((x y : T) → IsTrue (eq x y) → input x ≡ input y) → (slots lent : List (Slot T)) → IsSlots eq input slots → (table : Table T) → table_of slots ≡ table → lent ≡ slots →
-    (x : T) (index : ℕ) (found : Option ℕ) (probed : ℕ) → IsProbe (eq x) (home_in input (length lent) x) lent index found probed → Answers eq input table x found probed
-answers_lent {T} {eq} laws {input} respects slots lent s table view same x index found probed p =
-    let P : Table T → Type 0 = λ t. Answers eq input t x found probed in
-    let Q : List (Slot T) → Type 0 = λ l. IsProbe (eq x) (home_in input (length l) x) l index found probed in
-    subst P view (answers laws respects slots s x index found probed (subst Q same p))
+-- where the slots were lent, with the key of their table
+pub answers_lent : {T : Type 0} {eq : T → T → Bool} → IsEquivalence eq → {input : T → List (List ℕ)} → ((x y : T) → IsTrue (eq x y) → input x ≡ input y) → (of lent : KeyedSlots T) → IsSlots eq (hash_in of.key input) of.slots → (table : Table T) → table_of of.key of.slots ≡ table → lent ≡ of →
+    (x : T) (index : ℕ) (found : Option ℕ) (probed : ℕ) → IsProbe (eq x) (home_in (hash_in lent.key input) (length lent.slots) x) lent.slots index found probed → Answers eq (hash_in table.key input) table x found probed
+answers_lent {T} {eq} laws {input} respects of lent s table view same x index found probed p =
+    let P : Table T → Type 0 = λ t. Answers eq (hash_in t.key input) t x found probed in
+    let Q : KeyedSlots T → Type 0 = λ l. IsProbe (eq x) (home_in (hash_in l.key input) (length l.slots) x) l.slots index found probed in
+    subst P view (answers laws (hashes_alike of.key respects) of.slots s x index found probed (subst Q same p))
 
 -- ---- a look-up by a key
-pub key_found : {T : Type 0} {eq : T → T → Bool} {input : T → List (List ℕ)} {names : T → Bool} {fed : List (List ℕ)} → IsKey eq input names fed → (slots : List (Slot T)) → IsSlots eq input slots →
-    (index : ℕ) (found : Option ℕ) (probed : ℕ) → IsProbe names (home_of (concat fed) (length slots)) slots index found probed → lookup names (entries_of slots) ≡ found
-key_found {T} {eq} {input} {names} {fed} key slots s index found probed p =
+pub key_found : {T : Type 0} {eq : T → T → Bool} {hashed : T → ℕ} {names : T → Bool} {fed : ℕ} → IsKey eq hashed names fed → (slots : List (Slot T)) → IsSlots eq hashed slots →
+    (index : ℕ) (found : Option ℕ) (probed : ℕ) → IsProbe names (fed % length slots) slots index found probed → lookup names (entries_of slots) ≡ found
+key_found {T} {eq} {hashed} {names} {fed} key slots s index found probed p =
     let n = length slots in
-    let home : T → ℕ = home_in input n in
-    lookup_found names key.alike home (home_of (concat fed) n) slots (home_of-below (concat fed) n (some_size n s.size)) s.placed s.distinct index probed found (λ y t. ap (λ f. home_of (concat f) n) (key.hash y t)) p
+    let home : T → ℕ = home_in hashed n in
+    lookup_found names key.alike home ((fed % n)) slots (remainder_below _ n (some_size n s.size)) s.placed s.distinct index probed found (λ y t. ap (λ f. f % n) (key.same_hash y t)) p
 
--- where the slots were lent
-pub key_found_lent : {T : Type 0} {eq : T → T → Bool} {input : T → List (List ℕ)} {names : T → Bool} {fed : List (List ℕ)} → IsKey eq input names fed → (slots lent : List (Slot T)) → IsSlots eq input slots → (table : Table T) → table_of slots ≡ table → lent ≡ slots →
-    (index : ℕ) (found : Option ℕ) (probed : ℕ) → IsProbe names (home_of (concat fed) (length lent)) lent index found probed → lookup names table.entries ≡ found
-key_found_lent {T} {names = names} {fed = fed} key slots lent s table view same index found probed p =
-    let Q : List (Slot T) → Type 0 = λ l. IsProbe names (home_of (concat fed) (length l)) l index found probed in
-    ap (λ t. lookup names t.entries) (sym view) ∙ key_found key slots s index found probed (subst Q same p)
+-- where the slots were lent, with the key of their table
+pub key_found_lent : {T : Type 0} {eq : T → T → Bool} {input : T → List (List ℕ)} {names : T → Bool} {fed : List (List ℕ)} → ((x : T) → IsTrue (names x) → fed ≡ input x) → ((x y : T) → IsTrue (names x) → names y ≡ eq x y) → (of lent : KeyedSlots T) → IsSlots eq (hash_in of.key input) of.slots → (table : Table T) → table_of of.key of.slots ≡ table → lent ≡ of →
+    (index : ℕ) (found : Option ℕ) (probed : ℕ) → IsProbe names (hash_of lent.key (concat fed) % length lent.slots) lent.slots index found probed → lookup names table.entries ≡ found
+key_found_lent {T} {input = input} {names = names} {fed = fed} respects alike of lent s table view same index found probed p =
+    let Q : KeyedSlots T → Type 0 = λ l. IsProbe names (hash_of l.key (concat fed) % length l.slots) l.slots index found probed in
+    ap (λ t. lookup names t.entries) (sym view) ∙ key_found (record { same_hash = hashed_as_named of.key respects; alike = alike }) of.slots s index found probed (subst Q same p)
 
 -- ---- where it ended
 pub probe_below : {T : Type 0} {names : T → Bool} {h : ℕ} {slots : List (Slot T)} {index : ℕ} {found : Option ℕ} {probed : ℕ} → h < length slots → IsProbe names h slots index found probed → index < length slots

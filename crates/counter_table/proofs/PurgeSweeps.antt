@@ -9,7 +9,6 @@ use Rattle.std.proofs.lemmas.List.{length-set, append-nil, map-append, same_list
 use Rattle.std.proofs.lemmas.List.Sorted.{IsPermutation-refl, IsPermutation-sym, IsPermutation-trans, IsPermutation-append_left, IsPermutation-map, length_permutation}
 use Rattle.std.proofs.lemmas.List.Elements.{filter-append}
 use Rattle.std.proofs.lemmas.Map.Keys.{IsDistinct-IsPermutation}
-use Rattle.sketch_base.specs.Hashes.{fed_bytes}
 use Rattle.counter_table.specs.Filters.{filter-permutation}
 use Rattle.counter_table.specs.Homes.{ahead, distance, home_in}
 use Rattle.counter_table.specs.Probes.{IsFreeSlot}
@@ -22,7 +21,7 @@ use Rattle.counter_table.proofs.ArithmeticRing.{ahead_is, distance_is, ahead-dis
 use Rattle.counter_table.proofs.GrowthMoves.{IsSlots-free, last_apart}
 use Rattle.counter_table.proofs.InsertionPuts.{put_new, is_tracked-keys, is_tracked-permutation}
 use Rattle.counter_table.proofs.InsertionWrites.{put_miss, wrote_free_slot}
-use Rattle.counter_table.proofs.LookupHomes.{some_size, home_of-below}
+use Rattle.counter_table.proofs.LookupHomes.{some_size, remainder_below}
 use Rattle.counter_table.proofs.LookupReach.{slot_at-set_same, slot_at-set_other, taken_slot}
 use Rattle.counter_table.proofs.PurgeTurns.{slot_from_held, slot_from_none, set_free}
 
@@ -197,17 +196,17 @@ purged_absent {T} eq m (e ∷ es) x h = elim (cases_Bool (eq x e.0)) [
 ]
 
 -- ---- a sweep that has settled the indices less than a indices on from f, which was free
-pub record Sweep {T : Type 0} (eq : T → T → Bool) (input : T → List (List ℕ)) (m : ℕ) (old slots : List (Slot T)) (f a removed : ℕ) : Type 0 where
+pub record Sweep {T : Type 0} (eq : T → T → Bool) (hashed : T → ℕ) (m : ℕ) (old slots : List (Slot T)) (f a removed : ℕ) : Type 0 where
   pub below : f < length old
   pub free : is_taken old f ≡ false
   pub long : length slots ≡ length old
   pub rest : (k : ℕ) → a ≤ distance (length old) f k → get_or slots k Free ≡ get_or old k Free
-  pub ok : IsSlots eq input (part (length old) f a slots)
+  pub ok : IsSlots eq hashed (part (length old) f a slots)
   pub entries : IsPermutation (purged m (entries_of (part (length old) f a old))) (entries_of (part (length old) f a slots))
   pub count : removed + length (entries_of (part (length old) f a slots)) ≡ length (entries_of (part (length old) f a old))
 
-pub sweep_starts : {T : Type 0} (eq : T → T → Bool) (input : T → List (List ℕ)) (m : ℕ) (old : List (Slot T)) (f : ℕ) → IsSlots eq input old → f < length old → is_taken old f ≡ false → Sweep eq input m old old f 1 0
-sweep_starts {T} eq input m old f ok l free =
+pub sweep_starts : {T : Type 0} (eq : T → T → Bool) (hashed : T → ℕ) (m : ℕ) (old : List (Slot T)) (f : ℕ) → IsSlots eq hashed old → f < length old → is_taken old f ≡ false → Sweep eq hashed m old old f 1 0
+sweep_starts {T} eq hashed m old f ok l free =
     let n = length old in
     let size : length (part n f 1 old) ≡ n = length_keep (done n f 1) old in
     let none : entries_of (part n f 1 old) ≡ [] = no_entries (part n f 1 old) (λ k kb. elim (cases_lt (distance n f k) 1) [
@@ -221,7 +220,7 @@ sweep_starts {T} eq input m old f ok l free =
       free = free;
       long = refl;
       rest = λ k h. refl;
-      ok = IsSlots-free eq input (part n f 1 old) none (rw size ok.size);
+      ok = IsSlots-free eq hashed (part n f 1 old) none (rw size ok.size);
       entries = rw none (IsPermutation-refl _);
       count = rw none refl;
     }
@@ -247,7 +246,7 @@ record More {T : Type 0} (old : List (Slot T)) (f a : ℕ) (s : Held T) : Type 0
   pub entries : IsPermutation (entries_of (part (length old) f a old) ++ (s.item, s.count) ∷ []) (entries_of (part (length old) f (a + 1) old))
   pub size : length (entries_of (part (length old) f (a + 1) old)) ≡ length (entries_of (part (length old) f a old)) + 1
 
-module _ {T : Type 0} {eq : T → T → Bool} (laws : IsEquivalence eq) (input : T → List (List ℕ)) (m : ℕ) (old slots : List (Slot T)) (f a removed p : ℕ) (ok : IsSlots eq input old) (w : Sweep eq input m old slots f a removed) (pb : p < length old) (far : distance (length old) f p ≡ a) where
+module _ {T : Type 0} {eq : T → T → Bool} (laws : IsEquivalence eq) (hashed : T → ℕ) (m : ℕ) (old slots : List (Slot T)) (f a removed p : ℕ) (ok : IsSlots eq hashed old) (w : Sweep eq hashed m old slots f a removed) (pb : p < length old) (far : distance (length old) f p ≡ a) where
   here : get_or slots p Free ≡ get_or old p Free
   here = w.rest p (omega (arith, far))
 
@@ -269,7 +268,7 @@ module _ {T : Type 0} {eq : T → T → Bool} (laws : IsEquivalence eq) (input :
       let last : List (T × ℕ) = (s.item, s.count) ∷ [] in
       record { entries = perm; size = omega (arith, length_permutation _ _ perm, length-append (entries_of before) last) }
 
-  turn_free : is_taken slots p ≡ false → Sweep eq input m old slots f (a + 1) removed
+  turn_free : is_taken slots p ≡ false → Sweep eq hashed m old slots f (a + 1) removed
   turn_free none =
       let n = length old in
       let nothing : get_or slots p Free ≡ Free = slot_from_none (get_or slots p Free) none in
@@ -285,7 +284,7 @@ module _ {T : Type 0} {eq : T → T → Bool} (laws : IsEquivalence eq) (input :
         count = rw (mine, theirs) w.count;
       }
 
-  turn_spent : (s : Held T) → slot_at slots p ≡ Some s → s.count ≤ m → (new : List (Slot T)) → new ≡ set slots p Free → Sweep eq input m old new f (a + 1) (removed + 1)
+  turn_spent : (s : Held T) → slot_at slots p ≡ Some s → s.count ≤ m → (new : List (Slot T)) → new ≡ set slots p Free → Sweep eq hashed m old new f (a + 1) (removed + 1)
   turn_spent s at low new is =
       let n = length old in
       let one = more s at in
@@ -312,11 +311,11 @@ module _ {T : Type 0} {eq : T → T → Bool} (laws : IsEquivalence eq) (input :
       let keys' : IsDistinct eq (keys_of es ++ s.item ∷ []) = rw (map-append (λ (e : T × ℕ). e.0) es last) at keys in
       is_tracked-permutation eq (purged m es) (entries_of (part n f a slots)) s.item w.entries ∙ is_tracked-keys eq (purged m es) s.item ∙ purged_absent eq m es s.item (last_apart laws (keys_of es) s.item [] keys')
 
-  turn_left : (s : Held T) → slot_at slots p ≡ Some s → m < s.count → (new : List (Slot T)) → Moves (home_in input (length slots)) slots p m s new → Sweep eq input m old new f (a + 1) removed
+  turn_left : (s : Held T) → slot_at slots p ≡ Some s → m < s.count → (new : List (Slot T)) → Moves (home_in hashed (length slots)) slots p m s new → Sweep eq hashed m old new f (a + 1) removed
   turn_left s at high new moves =
       let n = length old in
-      let h = home_in input n s.item in
-      let hb : h < n = home_of-below (fed_bytes input s.item) n (some_size n ok.size) in
+      let h = home_in hashed n s.item in
+      let hb : h < n = remainder_below _ n (some_size n ok.size) in
       let mid = set slots p Free in
       let now = part n f a slots in
       let before = part n f a old in
@@ -325,7 +324,7 @@ module _ {T : Type 0} {eq : T → T → Bool} (laws : IsEquivalence eq) (input :
       let one = more s at in
       let long_mid : length mid ≡ n = length-set slots p Free ∙ w.long in
       let long_now : length now ≡ n = length_keep (done n f a) slots ∙ w.long in
-      let G : ℕ → Type 0 = λ z. IsFreeSlot (home_in input z s.item) mid q moves.probed in
+      let G : ℕ → Type 0 = λ z. IsFreeSlot (home_in hashed z s.item) mid q moves.probed in
       let free_slot : IsFreeSlot h mid q moves.probed = subst G w.long moves.free_slot in
       let taken_mid : (j : ℕ) → j + 1 < moves.probed → is_taken mid (ahead n h j) ≡ true = λ j l. ap (λ z. is_taken mid (ahead z h j)) (sym long_mid) ∙ free_slot.taken j l in
       let q_is : q ≡ ahead n h (moves.probed - 1) = free_slot.index_is ∙ ap (λ z. ahead z h (moves.probed - 1)) long_mid in
@@ -355,11 +354,11 @@ module _ {T : Type 0} {eq : T → T → Bool} (laws : IsEquivalence eq) (input :
           | inr other ↦ ap (λ o. is_some (held o)) (part_free n f a slots q (slot_from_none (get_or slots q Free) (sym (ap is_some (slot_at-set_other slots p q Free other)) ∙ free_slot.free)))
         ];
       } in
-      let N : ℕ → Type 0 = λ z. IsFreeSlot (home_in input z s.item) now q moves.probed in
+      let N : ℕ → Type 0 = λ z. IsFreeSlot (home_in hashed z s.item) now q moves.probed in
       let new_part : part n f (a + 1) (set mid q v) ≡ set now q v = moved_part n f a p w.below pb far slots w.long q v qb q_near in
       let gone_before = absent s at in
       let room : length (entries_of now) + 1 < length now = omega (arith, w.count, one.size, few_keep (done n f (a + 1)) old, ok.room, long_now) in
-      let wrote = wrote_free_slot laws input now w.ok s.item (s.count - m) q moves.probed gone_before room (subst N (sym long_now) free_slot_now) (part n f (a + 1) (set mid q v)) new_part in
+      let wrote = wrote_free_slot laws hashed now w.ok s.item (s.count - m) q moves.probed gone_before room (subst N (sym long_now) free_slot_now) (part n f (a + 1) (set mid q v)) new_part in
       let rest_of : List (T × ℕ) = (s.item, s.count - m) ∷ [] in
       let step : IsPermutation (purged m (entries_of (part n f (a + 1) old))) (purged m (entries_of before) ++ rest_of) = rw (purged_more m (entries_of before) s.item s.count high) at (purged-permutation m _ _ (IsPermutation-sym _ _ one.entries)) in
       let pushed : put eq (entries_of now) s.item (s.count - m) ≡ entries_of now ++ rest_of = put_new eq (entries_of now) s.item (s.count - m) gone_before in
@@ -376,7 +375,7 @@ module _ {T : Type 0} {eq : T → T → Bool} (laws : IsEquivalence eq) (input :
         count = omega (arith, w.count, one.size, length_permutation _ _ last, length-append (entries_of now) rest_of);
       })
 
-  pub sweep_turn : (dropped : Bool) (new : List (Slot T)) → Settles (home_in input (length slots)) slots p m dropped new → (dropped ≡ true → Sweep eq input m old new f (a + 1) (removed + 1)) × (dropped ≡ false → Sweep eq input m old new f (a + 1) removed)
+  pub sweep_turn : (dropped : Bool) (new : List (Slot T)) → Settles (home_in hashed (length slots)) slots p m dropped new → (dropped ≡ true → Sweep eq hashed m old new f (a + 1) (removed + 1)) × (dropped ≡ false → Sweep eq hashed m old new f (a + 1) removed)
   sweep_turn dropped new turn = elim (cases_Bool (is_taken slots p)) [
     | inr none ↦
         let t = turn.free none in
@@ -394,15 +393,15 @@ module _ {T : Type 0} {eq : T → T → Bool} (laws : IsEquivalence eq) (input :
   ]
 
   -- what the turn needs
-  pub turn_drift : HasDrift (home_in input (length slots)) slots p
+  pub turn_drift : HasDrift (home_in hashed (length slots)) slots p
   turn_drift s at =
-      let D : ℕ → Type 0 = λ z. s.drift ≡ distance z (home_in input z s.item) p + 1 in
+      let D : ℕ → Type 0 = λ z. s.drift ≡ distance z (home_in hashed z s.item) p + 1 in
       subst D (sym w.long) (ok.placed.drift p s (ap held (sym here) ∙ at))
 
 -- ---- the end
-pub sweep_ends : {T : Type 0} {eq : T → T → Bool} {input : T → List (List ℕ)} {m : ℕ} {old slots : List (Slot T)} {f a removed : ℕ} → Sweep eq input m old slots f a removed → length old ≤ a →
-    IsSlots eq input slots × IsPermutation (purged m (entries_of old)) (entries_of slots) × (removed + length (entries_of slots) ≡ length (entries_of old))
-sweep_ends {T} {eq} {input} {m} {old} {slots} {f} {a} {removed} w all =
+pub sweep_ends : {T : Type 0} {eq : T → T → Bool} {hashed : T → ℕ} {m : ℕ} {old slots : List (Slot T)} {f a removed : ℕ} → Sweep eq hashed m old slots f a removed → length old ≤ a →
+    IsSlots eq hashed slots × IsPermutation (purged m (entries_of old)) (entries_of slots) × (removed + length (entries_of slots) ≡ length (entries_of old))
+sweep_ends {T} {eq} {hashed} {m} {old} {slots} {f} {a} {removed} w all =
     let n = length old in
     let whole : (xs : List (Slot T)) → length xs ≡ n → part n f a xs ≡ xs = λ xs long.
     let size : length (part n f a xs) ≡ length xs = length_keep (done n f a) xs in
@@ -413,5 +412,5 @@ sweep_ends {T} {eq} {input} {m} {old} {slots} {f} {a} {removed} w all =
     (rw mine at w.ok, rw (mine, theirs) at w.entries, rw (mine, theirs) at w.count)
 
 -- fewer were dropped than a table has
-pub sweep_few : {T : Type 0} {eq : T → T → Bool} {input : T → List (List ℕ)} {m : ℕ} {old slots : List (Slot T)} {f a removed : ℕ} → Sweep eq input m old slots f a removed → removed ≤ length (entries_of old)
-sweep_few {T} {eq} {input} {m} {old} {slots} {f} {a} {removed} w = omega (arith, w.count, few_keep (done (length old) f a) old)
+pub sweep_few : {T : Type 0} {eq : T → T → Bool} {hashed : T → ℕ} {m : ℕ} {old slots : List (Slot T)} {f a removed : ℕ} → Sweep eq hashed m old slots f a removed → removed ≤ length (entries_of old)
+sweep_few {T} {eq} {hashed} {m} {old} {slots} {f} {a} {removed} w = omega (arith, w.count, few_keep (done (length old) f a) old)

@@ -1,17 +1,11 @@
--- Where a table looks up an item: from its home on, wrapping around at the end. These definitions depend on the entries and
--- the size of the table alone.
-use Rattle.std.specs.Prelude.{ℕ, ◌+◌, ◌-◌, ◌%◌, ◌<◌, ◌≤◌, nat_le, List, count_by}
-use Rattle.sketch_base.specs.Hashes.{fed_bytes}
-use Rattle.sketch_base.specs.Murmur3.{murmur3_x64_128}
+-- Where a table looks up an item: from its home on, wrapping around at the end. These definitions depend on the entries,
+-- the size of the table and the hashes of the items alone.
+use Rattle.std.specs.Prelude.{ℕ, ◌+◌, ◌-◌, ◌%◌, ◌<◌, ◌≤◌, nat_le, count_by}
 use Rattle.counter_table.specs.Tables.{Table}
 
--- the home of an item that feeds these bytes: the first half of their hash under the seed 9001, modulo the size
-unfoldable pub home_of : List ℕ → ℕ → ℕ
-home_of bytes size = (murmur3_x64_128 bytes 9001).0 % size
-
--- the home of an item, where `input` are the writes of its `Hash`
-abbrev pub home_in : {T : Type 0} → (T → List (List ℕ)) → ℕ → T → ℕ
-home_in input size x = home_of (fed_bytes input x) size
+-- the home of an item: its hash modulo the size
+abbrev pub home_in : {T : Type 0} → (T → ℕ) → ℕ → T → ℕ
+home_in hashed size x = hashed x % size
 
 -- the index j steps after p, wrapping around
 unfoldable pub ahead : ℕ → ℕ → ℕ → ℕ

@@ -6,9 +6,9 @@ use Rattle.std.proofs.lemmas.Bool.{false≢true}
 use Rattle.counter_table.specs.Tables.{count_by_key, count_of, is_tracked_by_key, is_tracked}
 
 -- a key names the items that are equal to one of them, and hashes as they do
-pub record IsKey {T : Type 0} (eq : T → T → Bool) (input : T → List (List ℕ)) (names : T → Bool)
-    (fed : List (List ℕ)) : Type 0 where
-  pub hash : (x : T) → IsTrue (names x) → fed ≡ input x
+pub record IsKey {T : Type 0} (eq : T → T → Bool) (hashed : T → ℕ) (names : T → Bool)
+    (hash : ℕ) : Type 0 where
+  pub same_hash : (x : T) → IsTrue (names x) → hash ≡ hashed x
   pub alike : (x y : T) → IsTrue (names x) → names y ≡ eq x y
 
 by_test : (b : Bool) (P : Bool → Type 0) → P true → P false → P b

@@ -7,6 +7,7 @@ pub mod Indices
 pub mod Probes
 pub mod Settled
 pub mod Slots
+pub mod TableHashes
 pub mod Tables
 pub mod Walk
 pub mod Walking

@@ -7,6 +7,7 @@ use Rattle.counter_table.specs.Homes.{ahead, distance, home_in}
 use Rattle.counter_table.specs.Tables.{Table}
 use Rattle.counter_table.specs.declared.slot.Slot.{Slot}
 use Rattle.counter_table.specs.declared.slot.Slot.TheVariants.{Free, Taken}
+use Rattle.counter_table.specs.declared.table_key.TableKey.{TableKey}
 
 -- a size that a table may have
 pub record IsTableSize (n : ℕ) : Type 0 where
@@ -42,8 +43,13 @@ slot_entry (Taken drift count item) = Some (item, count)
 abbrev pub entries_of : {T : Type 0} → List (Slot T) → List (T × ℕ)
 entries_of slots = filter_map slot_entry slots
 
-abbrev pub table_of : {T : Type 0} → List (Slot T) → Table T
-table_of slots = record { entries = entries_of slots; size = length slots }
+-- the slots of a table, with its key
+pub record KeyedSlots (T : Type 0) : Type 0 where
+  pub key : TableKey
+  pub slots : List (Slot T)
+
+abbrev pub table_of : {T : Type 0} → TableKey → List (Slot T) → Table T
+table_of key slots = record { entries = entries_of slots; size = length slots; key = key }
 
 -- each drift is the distance from the item's home plus 1, and every index from the home to the entry is taken
 pub record IsPlaced {T : Type 0} (home : T → ℕ) (slots : List (Slot T)) : Type 0 where
@@ -53,16 +59,16 @@ pub record IsPlaced {T : Type 0} (home : T → ℕ) (slots : List (Slot T)) : Ty
       is_taken slots (ahead (length slots) (home s.item) j) ≡ true
 
 -- the invariant of the slots of every table
-pub record IsSlots {T : Type 0} (eq : T → T → Bool) (input : T → List (List ℕ)) (slots : List (Slot T)) : Type 0 where
+pub record IsSlots {T : Type 0} (eq : T → T → Bool) (hashed : T → ℕ) (slots : List (Slot T)) : Type 0 where
   pub distinct : IsDistinct eq (keys_of (entries_of slots))
-  pub placed : IsPlaced (home_in input (length slots)) slots
+  pub placed : IsPlaced (home_in hashed (length slots)) slots
   pub room : length (entries_of slots) < length slots
   pub size : IsTableSize (length slots)
 
 -- the invariant of the slots with the number of entries
-pub record IsCounted {T : Type 0} (eq : T → T → Bool) (input : T → List (List ℕ)) (slots : List (Slot T)) (active : ℕ)
+pub record IsCounted {T : Type 0} (eq : T → T → Bool) (hashed : T → ℕ) (slots : List (Slot T)) (active : ℕ)
     : Type 0 where
-  pub slots_ok : IsSlots eq input slots
+  pub slots_ok : IsSlots eq hashed slots
   pub active_is : active ≡ length (entries_of slots)
 
 -- adding w to the count in the slot at k does not overflow

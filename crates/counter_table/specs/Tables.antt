@@ -2,11 +2,13 @@
 use Rattle.std.specs.Prelude.{◌≡◌, ℕ, ◌+◌, ◌-◌, ◌/◌, ◌≤◌, nat_lt, nat_le, ◌==◌, Bool, true, cond, List, [], ◌∷◌, ◌++◌, length, map, filter, sum_by, count_by, is_some, unwrap_or, IsPermutation}
 use Rattle.std.specs.List.{list_any, AllZip}
 use Rattle.std.specs.Map.{lookup}
+use Rattle.counter_table.specs.declared.table_key.TableKey.{TableKey}
 
--- a table: its entries in some order, and its size
+-- a table: its entries in some order, its size, and its key
 pub record Table (T : Type 0) : Type 0 where
   pub entries : List (T × ℕ)
   pub size : ℕ
+  pub key : TableKey
 
 -- the count of the item, 0 if it has none
 abbrev pub count_of : {T : Type 0} → (T → T → Bool) → List (T × ℕ) → T → ℕ

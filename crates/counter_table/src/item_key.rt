@@ -7,8 +7,9 @@ ghost use Rattle.std.specs.String.{string_bytes};
 ghost use Rattle.std.proofs.Common.{ap};
 ghost use Rattle.sketch_base.specs.Hashes.{fed_bytes};
 ghost use Rattle.sketch_base.specs.Murmur3.{murmur3_x64_128};
+ghost use Rattle.sketch_base.specs.SipHash.{sip_hash_1_3};
 
-use sketch_base::{murmur3_of, murmur3_of_str};
+use sketch_base::{HashKey, keyed_hash_of, keyed_hash_of_str, murmur3_of, murmur3_of_str};
 use std::alloc::{AllocError, Global};
 use std::hash::Hash;
 
@@ -27,6 +28,10 @@ pub trait ItemKey<T: Eq + Hash>: Copy + Hash {
     /// Returns both halves of MurmurHash3 x64 128 of all bytes that the key's `Hash` feeds, under a seed. Does not allocate.
     fn murmur3(&self, seed: u64) -> (u64, u64)
         ensures { result ≡ murmur3_x64_128 (fed_bytes Self.hash_input self.now) seed };
+
+    /// Returns SipHash-1-3 of all bytes that the key's `Hash` feeds, under a secret key. Does not allocate.
+    fn keyed_hash(&self, secret: HashKey) -> u64
+        ensures { result ≡ sip_hash_1_3 secret (fed_bytes Self.hash_input self.now) };
 
     // A key hashes as the items that it names.
     ghost respects_hash: { (k : Self) (x : T) → IsTrue (names k x) → Self.hash_input k ≡ T.hash_input x };
@@ -51,6 +56,11 @@ impl<T: Eq + Hash> ItemKey<T> for &T {
     fn murmur3(&self, seed: u64) -> (u64, u64) {
         murmur3_of(*self, seed)
     }
+
+    #[inline(always)]
+    fn keyed_hash(&self, secret: HashKey) -> u64 {
+        keyed_hash_of(secret, *self)
+    }
 }
 
 impl ItemKey<String> for &str {
@@ -68,6 +78,11 @@ impl ItemKey<String> for &str {
     #[inline(always)]
     fn murmur3(&self, seed: u64) -> (u64, u64) {
         murmur3_of_str(self, seed)
+    }
+
+    #[inline(always)]
+    fn keyed_hash(&self, secret: HashKey) -> u64 {
+        keyed_hash_of_str(secret, self)
     }
 }
 

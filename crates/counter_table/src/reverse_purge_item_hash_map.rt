@@ -7,14 +7,17 @@ ghost use Rattle.sketch_base.specs.Errors.{no_memory};
 ghost use Rattle.counter_table.specs.Bytes.{table_bytes};
 ghost use Rattle.counter_table.specs.Homes.{home_in, IsReach, IsShortOfReach};
 ghost use Rattle.counter_table.specs.Slots.{entries_of};
+ghost use Rattle.counter_table.specs.TableHashes.{hash_in};
 ghost use Rattle.counter_table.specs.Tables.{count_by_key, count_of, is_tracked_by_key, is_tracked, put, purged, IsSampleMiddle, IsSameMap, PutsEqual, PutsByKey};
 ghost use Rattle.counter_table.specs.Walk.{entry_of};
+ghost use Rattle.counter_table.specs.declared.table_key.TableKey.TheVariants.{Plain};
 
 use crate::item_key::{ItemKey, OwnedKey};
 use crate::reverse_purge_item_iter::ReversePurgeItemIter;
 use crate::sizes::{MAX_SAMPLE_SIZE, bytes_of_table, capacity_of, lg_of};
 use crate::slot::Slot;
 use crate::slot_table::SlotTable;
+use crate::table_key::TableKey;
 use sketch_base::Error;
 use std::alloc::Global;
 use std::hash::Hash;
@@ -55,24 +58,44 @@ impl<T: Eq + Hash + Drop> Model for ReversePurgeItemHashMap<T> {
     ghost Value = { Table T };
 
     ghost use Rattle.counter_table.specs.Slots.{table_of, IsCounted};
+    ghost use Rattle.counter_table.specs.TableHashes.{hash_in};
 
-    ghost view = { λ a. table_of a.table };
+    ghost view = { λ a. table_of a.table.key a.table.slots };
 
-    ghost invariant = { λ a. IsCounted T.eq T.hash_input a.table a.active };
+    ghost invariant = { λ a. IsCounted T.eq (hash_in a.table.key T.hash_input) a.table.slots a.active };
 }
 
 impl<T: Eq + Hash + Drop> ReversePurgeItemHashMap<T> {
     /// Creates an empty map in a table of `map_size` slots, a power of two of at most 2^30.
     ///
-    /// Allocates the table. Returns `NoMemory` if that fails.
+    /// Its table is [`TableKey::Plain`]. Allocates the table. Returns `NoMemory` if that fails.
     pub fn new(alloc: Global, map_size: usize) -> Result<Self, Error>
         requires power { IsTrue (is_power_of_two map_size) }
         requires limit { map_size ≤ 2 ^ 30 }
-        ensures ok { IfOk result (λ map. map ≡ record { entries = []; size = map_size }) }
+        ensures ok { IfOk result (λ map. map ≡ record { entries = []; size = map_size; key = Plain }) }
         ensures err { IfErr result (λ e. e ≡ no_memory) }
     {
-        let table = SlotTable::new(alloc, map_size)?;
+        Self::with_key(alloc, map_size, TableKey::Plain)
+    }
+
+    /// Creates an empty map in a table of `map_size` slots, a power of two of at most 2^30, that hashes under `key`.
+    ///
+    /// Allocates the table. Returns `NoMemory` if that fails.
+    pub fn with_key(alloc: Global, map_size: usize, key: TableKey) -> Result<Self, Error>
+        requires power { IsTrue (is_power_of_two map_size) }
+        requires limit { map_size ≤ 2 ^ 30 }
+        ensures ok { IfOk result (λ map. map ≡ record { entries = []; size = map_size; key = key }) }
+        ensures err { IfErr result (λ e. e ≡ no_memory) }
+    {
+        let table = SlotTable::new(alloc, key, map_size)?;
         Ok(ReversePurgeItemHashMap { table, active: 0 })
+    }
+
+    /// Returns the key under which the table hashes.
+    pub fn key(&self) -> TableKey
+        ensures { result ≡ self.now.key }
+    {
+        self.table.key()
     }
 
     /// Returns the count of the item, 0 if it is absent. [`get_counted`](Self::get_counted) also returns the number of probes.
@@ -92,9 +115,9 @@ impl<T: Eq + Hash + Drop> ReversePurgeItemHashMap<T> {
     pub fn get_counted(&self, item: &T) -> (u64, usize)
         ensures count { result.0 ≡ count_of T.eq self.now.entries item.now }
         ensures absent { is_tracked T.eq self.now.entries item.now ≡ false
-            → IsReach (home_in T.hash_input self.now.size) self.now item.now result.1 }
+            → IsReach (home_in (hash_in self.now.key T.hash_input) self.now.size) self.now item.now result.1 }
         ensures present { is_tracked T.eq self.now.entries item.now ≡ true
-            → IsShortOfReach (home_in T.hash_input self.now.size) self.now item.now result.1 }
+            → IsShortOfReach (home_in (hash_in self.now.key T.hash_input) self.now.size) self.now item.now result.1 }
         ensures probed { result.1 ≤ length self.now.entries + 1 }
         ensures within { result.1 ≤ self.now.size }
     {
@@ -134,6 +157,7 @@ impl<T: Eq + Hash + Drop> ReversePurgeItemHashMap<T> {
             → count_of T.eq self.old.entries item + adjust_amount < 2 ^ 64 }
         ensures entries { IsPermutation (put T.eq self.old.entries item adjust_amount) self.new.entries }
         ensures size { self.new.size ≡ self.old.size }
+        ensures key { self.new.key ≡ self.old.key }
         ensures distinct { IsDistinct T.eq (keys_of self.new.entries) }
     {
         if self.table.put(item, adjust_amount) {
@@ -159,6 +183,7 @@ impl<T: Eq + Hash + Drop> ReversePurgeItemHashMap<T> {
             → count_of T.eq self.old.entries item.now + adjust_amount < 2 ^ 64 }
         ensures entries { OnOk result (PutsEqual T.eq self.old.entries item.now adjust_amount self.new.entries) }
         ensures size { self.new.size ≡ self.old.size }
+        ensures key { self.new.key ≡ self.old.key }
         ensures distinct { IsDistinct T.eq (keys_of self.new.entries) }
         ensures err { OnErr result (self.new ≡ self.old) }
         ensures memory { IfErr result (λ e. e ≡ no_memory) }
@@ -189,6 +214,7 @@ impl<T: Eq + Hash + Drop> ReversePurgeItemHashMap<T> {
             → count_by_key (K.names key) self.old.entries + adjust_amount < 2 ^ 64 }
         ensures entries { OnOk result (PutsByKey T.eq (K.names key) self.old.entries adjust_amount self.new.entries) }
         ensures size { self.new.size ≡ self.old.size }
+        ensures key { self.new.key ≡ self.old.key }
         ensures distinct { IsDistinct T.eq (keys_of self.new.entries) }
         ensures err { OnErr result (self.new ≡ self.old) }
         ensures memory { IfErr result (λ e. e ≡ no_memory) }
@@ -211,6 +237,7 @@ impl<T: Eq + Hash + Drop> ReversePurgeItemHashMap<T> {
         ensures middle { IsSampleMiddle (min sample_size (min (length self.old.entries) 1024)) self.old.entries result }
         ensures entries { IsPermutation (purged result self.old.entries) self.new.entries }
         ensures size { self.new.size ≡ self.old.size }
+        ensures key { self.new.key ≡ self.old.key }
         ensures distinct { IsDistinct T.eq (keys_of self.new.entries) }
         ensures room { length self.new.entries + min sample_size (min (length self.old.entries) 1024) / 2 + 1
             ≤ length self.old.entries }
@@ -231,11 +258,12 @@ impl<T: Eq + Hash + Drop> ReversePurgeItemHashMap<T> {
         requires room { length self.old.entries < new_size }
         ensures entries { IsPermutation self.old.entries self.new.entries }
         ensures ok { OnOk result (self.new.size ≡ new_size) }
+        ensures key { self.new.key ≡ self.old.key }
         ensures err { OnErr result (self.new ≡ self.old) }
         ensures memory { IfErr result (λ e. e ≡ no_memory) }
         ensures distinct { IsDistinct T.eq (keys_of self.new.entries) }
     {
-        let table = SlotTable::new(self.allocator(), new_size)?;
+        let table = SlotTable::new(self.allocator(), self.key(), new_size)?;
         let old = mem::replace(&mut self.table, table);
         self.table.move_all(old);
         Ok(())
@@ -310,6 +338,7 @@ impl<T: Eq + Hash + Drop> ReversePurgeItemHashMap<T> {
         requires clones { (x y : T) → T.is_clone x y → IsTrue (T.eq x y) }
         ensures entries { IfOk result (λ map. IsSameMap T.eq self.now.entries map.entries) }
         ensures size { IfOk result (λ map. map.size ≡ self.now.size) }
+        ensures key { IfOk result (λ map. map.key ≡ self.now.key) }
         ensures distinct { IfOk result (λ map. IsDistinct T.eq (keys_of map.entries)) }
         ensures err { IfErr result (λ e. e ≡ no_memory) }
     {
@@ -345,6 +374,7 @@ impl<T: Eq + Hash + Drop> ReversePurgeItemHashMap<T> {
             → IsPermutation (put T.eq self.old.entries item.now adjust_amount) self.new.entries }
         ensures absent { result ≡ false → self.new ≡ self.old }
         ensures size { self.new.size ≡ self.old.size }
+        ensures key { self.new.key ≡ self.old.key }
         ensures distinct { IsDistinct T.eq (keys_of self.new.entries) }
     {
         self.adjust_by_key(item, adjust_amount)
@@ -361,6 +391,7 @@ impl<T: Eq + Hash + Drop> ReversePurgeItemHashMap<T> {
             → IsPermutation (put T.eq self.old.entries x adjust_amount) self.new.entries }
         ensures absent { result ≡ false → self.new ≡ self.old }
         ensures size { self.new.size ≡ self.old.size }
+        ensures key { self.new.key ≡ self.old.key }
         ensures distinct { IsDistinct T.eq (keys_of self.new.entries) }
     {
         self.table.adjust(key, adjust_amount)
@@ -372,6 +403,7 @@ impl<T: Eq + Hash + Drop> ReversePurgeItemHashMap<T> {
         requires room { length self.old.entries + 1 < self.old.size }
         ensures entries { IsPermutation (put T.eq self.old.entries item amount) self.new.entries }
         ensures size { self.new.size ≡ self.old.size }
+        ensures key { self.new.key ≡ self.old.key }
         ensures distinct { IsDistinct T.eq (keys_of self.new.entries) }
     {
         self.table.insert(item, amount);
@@ -384,7 +416,7 @@ impl<T: Eq + Hash + Drop> ReversePurgeItemHashMap<T> {
     pub fn clear(&mut self, size: usize)
         requires power { IsTrue (is_power_of_two size) }
         requires within { size ≤ self.old.size }
-        ensures { self.new ≡ record { entries = []; size = size } }
+        ensures { self.new ≡ record { entries = []; size = size; key = self.old.key } }
     {
         self.table.clear(size);
         self.active = 0;

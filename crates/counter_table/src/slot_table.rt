@@ -4,6 +4,7 @@ ghost use Rattle.std.specs.List.{IsDistinct, AllZip};
 ghost use Rattle.std.specs.Map.{keys_of};
 ghost use Rattle.sketch_base.specs.Errors.{no_memory};
 ghost use Rattle.counter_table.specs.Slots.{IsTableSize, IsSlots, IsSameSlot, entries_of};
+ghost use Rattle.counter_table.specs.TableHashes.{hash_in};
 
 mod insertions;
 mod look_ups;
@@ -12,42 +13,45 @@ mod purges;
 use crate::fingerprints::{FREE, free_fingerprints};
 use crate::slot::Slot;
 use crate::slot_table::look_ups::SlotSlices;
+use crate::table_key::TableKey;
 use sketch_base::Error;
 use std::alloc::Global;
 use std::hash::Hash;
 use std::marker::Model;
 
-/// The slots of a table, and a fingerprint for each.
+/// The slots of a table, a fingerprint for each, and the key under which items are hashed.
 ///
-/// Contracts see the list of the slots.
+/// Contracts see the key and the list of the slots.
 #[derive(Debug, Drop)]
 pub(crate) struct SlotTable<T: Eq + Hash + Drop> {
+    key: TableKey,
     slots: Vec<Slot<T>>,
     fingerprints: Vec<u8>,
 }
 
 impl<T: Eq + Hash + Drop> Model for SlotTable<T> {
-    ghost use Rattle.std.specs.Prelude.{List};
-    ghost use Rattle.counter_table.specs.declared.slot.Slot.{Slot};
+    ghost use Rattle.counter_table.specs.Slots.{KeyedSlots};
 
-    ghost Value = { List (Slot T) };
+    ghost Value = { KeyedSlots T };
 
     ghost use Rattle.counter_table.specs.Fingerprints.{AreFingerprints};
+    ghost use Rattle.counter_table.specs.TableHashes.{hash_in};
 
-    ghost view = { λ a. a.slots.items };
+    ghost view = { λ a. record { key = a.key; slots = a.slots.items } };
 
-    ghost invariant = { λ a. AreFingerprints T.hash_input a.slots.items a.fingerprints.items };
+    ghost invariant = { λ a. AreFingerprints (hash_in a.key T.hash_input) a.slots.items a.fingerprints.items };
 }
 
 impl<T: Eq + Hash + Drop> SlotTable<T> {
-    /// Creates a table of `size` free slots. Allocates the slots and the fingerprints.
-    pub(crate) fn new(alloc: Global, size: usize) -> Result<Self, Error>
-        ensures ok { IfOk result (λ table. table ≡ replicate size Slot.Free) }
+    /// Creates a table of `size` free slots with a key. Allocates the slots and the fingerprints.
+    pub(crate) fn new(alloc: Global, key: TableKey, size: usize) -> Result<Self, Error>
+        ensures ok { IfOk result (λ table. table ≡ record { key = key; slots = replicate size Slot.Free }) }
         ensures err { IfErr result (λ e. e ≡ no_memory) }
     {
         let slots = free_slots(alloc, size)?;
         let fingerprints = free_fingerprints(alloc, size)?;
         Ok(SlotTable {
+            key,
             slots,
             fingerprints,
         })
@@ -56,15 +60,23 @@ impl<T: Eq + Hash + Drop> SlotTable<T> {
     /// Returns the number of slots.
     #[inline(always)]
     pub(crate) fn len(&self) -> usize
-        ensures { result ≡ length self.now }
+        ensures { result ≡ length self.now.slots }
     {
         self.slots.len()
+    }
+
+    /// Returns the key.
+    #[inline(always)]
+    pub(crate) fn key(&self) -> TableKey
+        ensures { result ≡ self.now.key }
+    {
+        self.key
     }
 
     /// Returns the slots.
     #[inline(always)]
     pub(crate) fn slots(&self) -> &[Slot<T>]
-        ensures { result.now ≡ self.now }
+        ensures { result.now ≡ self.now.slots }
     {
         &self.slots
     }
@@ -75,6 +87,7 @@ impl<T: Eq + Hash + Drop> SlotTable<T> {
         ensures { result ≡ self.now }
     {
         SlotSlices {
+            key: self.key,
             slots: &self.slots,
             fingerprints: &self.fingerprints,
         }
@@ -89,9 +102,10 @@ impl<T: Eq + Hash + Drop> SlotTable<T> {
     /// Frees every slot, and sets their number to `size`, at most the current number. Keeps the memory.
     /// It does not allocate.
     pub(crate) fn clear(&mut self, size: usize)
-        requires within { size ≤ length self.old }
-        ensures free { entries_of self.new ≡ [] }
-        ensures size { length self.new ≡ size }
+        requires within { size ≤ length self.old.slots }
+        ensures free { entries_of self.new.slots ≡ [] }
+        ensures size { length self.new.slots ≡ size }
+        ensures key { self.new.key ≡ self.old.key }
     {
         self.slots.truncate(size);
         free_all(&mut self.slots);
@@ -101,13 +115,14 @@ impl<T: Eq + Hash + Drop> SlotTable<T> {
 
     /// Moves all entries of `old` into free slots.
     pub(crate) fn move_all(&mut self, old: SlotTable<T>)
-        requires distinct { IsDistinct T.eq (keys_of (entries_of old)) }
-        requires room { length (entries_of old) < length self.old }
-        requires size { IsTableSize (length self.old) }
-        requires free { entries_of self.old ≡ [] }
-        ensures slots { IsSlots T.eq T.hash_input self.new }
-        ensures entries { IsPermutation (entries_of old) (entries_of self.new) }
-        ensures size { length self.new ≡ length self.old }
+        requires distinct { IsDistinct T.eq (keys_of (entries_of old.slots)) }
+        requires room { length (entries_of old.slots) < length self.old.slots }
+        requires size { IsTableSize (length self.old.slots) }
+        requires free { entries_of self.old.slots ≡ [] }
+        ensures slots { IsSlots T.eq (hash_in self.new.key T.hash_input) self.new.slots }
+        ensures entries { IsPermutation (entries_of old.slots) (entries_of self.new.slots) }
+        ensures size { length self.new.slots ≡ length self.old.slots }
+        ensures key { self.new.key ≡ self.old.key }
     {
         for slot in old.slots {
             if let Slot::Taken { count, item, .. } = slot {
@@ -123,12 +138,14 @@ impl<T: Eq + Hash + Drop> SlotTable<T> {
     where
         T: Clone,
         requires clones { (x y : T) → T.is_clone x y → IsTrue (T.eq x y) }
-        ensures ok { IfOk result (λ table. AllZip (IsSameSlot T.eq) self.now table) }
+        ensures ok { IfOk result (λ table. AllZip (IsSameSlot T.eq) self.now.slots table.slots) }
+        ensures key { IfOk result (λ table. table.key ≡ self.now.key) }
         ensures err { IfErr result (λ e. e ≡ no_memory) }
     {
         let slots = clone_slots(self.allocator(), &self.slots)?;
         let fingerprints = self.fingerprints.clone()?;
         Ok(SlotTable {
+            key: self.key,
             slots,
             fingerprints,
         })

@@ -170,8 +170,7 @@ impl<T: Eq + Hash + Drop> FrequentItemsSketch<T> {
     {
         check_map_size(max_map_size)?;
         check_sample_size(max_map_size, sample_size)?;
-        let map = ReversePurgeItemHashMap::new(alloc, MIN_MAP_SIZE)?;
-        let _ = key;
+        let map = ReversePurgeItemHashMap::with_key(alloc, MIN_MAP_SIZE, key)?;
         Ok(FrequentItemsSketch {
             map,
             error: 0,

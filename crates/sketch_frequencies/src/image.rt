@@ -14,7 +14,7 @@ ghost use Rattle.sketch_frequencies.specs.State.{capacity};
 ghost use Rattle.sketch_frequencies.specs.Writing.{WritesItems};
 
 use crate::frequent_item_value::FrequentItemValue;
-use counter_table::{ReversePurgeItemHashMap, Slot, bytes_of_table, capacity_of};
+use counter_table::{ReversePurgeItemHashMap, Slot, TableKey, bytes_of_table, capacity_of};
 use sketch_base::image::{SERIAL_VERSION, opening_fault, u32_at, u64_at};
 use sketch_base::{Error, Family, Fault, SketchBytes, SketchSlice};
 use std::alloc::Global;
@@ -205,12 +205,13 @@ fn weight_at(image: &[u8], i: usize) -> u64
     u64_at(image, 32 + 8 * i)
 }
 
-/// Reads the items, each with its weight, into a new table of `size` slots.
+/// Reads the items, each with its weight, into a new table of `size` slots with a key.
 pub(crate) fn read_counters<T: FrequentItemValue + Drop>(
     alloc: Global,
     image: &[u8],
     active: u32,
     size: usize,
+    key: TableKey,
 ) -> Result<ReversePurgeItemHashMap<T>, Error>
     requires active { active ≡ active_at image.now }
     requires weights { 32 + 8 * active ≤ length image.now }
@@ -227,7 +228,7 @@ pub(crate) fn read_counters<T: FrequentItemValue + Drop>(
 {
     let mut slice = SketchSlice::new(image);
     slice.advance(32 + 8 * active as u64);
-    let mut map = ReversePurgeItemHashMap::new(alloc, size)?;
+    let mut map = ReversePurgeItemHashMap::with_key(alloc, size, key)?;
     for i in 0..active as usize {
         let item = T::deserialize_value(alloc, &mut slice)?;
         let weight = weight_at(image, i);

@@ -1,10 +1,10 @@
 //! Insertions, and additions to counts.
 ghost use Rattle.std.specs.Prelude.{◌≡◌, ◌+◌, ◌<◌, ◌^◌, true, false, not, length, IfOk, IfErr, OnOk, OnErr, IsOk, IsTrue, IsPermutation};
 ghost use Rattle.sketch_base.specs.Errors.{no_memory};
-ghost use Rattle.counter_table.specs.Fingerprints.{hash_in};
 ghost use Rattle.counter_table.specs.Homes.{home_in};
 ghost use Rattle.counter_table.specs.Probes.{IsFreeSlot};
 ghost use Rattle.counter_table.specs.Slots.{IsSlots, CountHasRoom, AddsAt, entries_of};
+ghost use Rattle.counter_table.specs.TableHashes.{hash_in};
 ghost use Rattle.counter_table.specs.Tables.{count_by_key, count_of, is_tracked_by_key, is_tracked, put, PutsByKey};
 
 use crate::fingerprints::{fingerprint, hash_of};
@@ -18,18 +18,18 @@ impl<T: Eq + Hash + Drop> SlotTable<T> {
     /// Adds to the count of the item that the key names if it has one, and returns whether it has.
     #[inline(always)]
     pub(crate) fn adjust<K: ItemKey<T>>(&mut self, key: K, amount: u64) -> bool
-        requires slots { IsSlots T.eq T.hash_input self.old }
-        requires fits { is_tracked_by_key (K.names key) (entries_of self.old) ≡ true
-            → count_by_key (K.names key) (entries_of self.old) + amount < 2 ^ 64 }
-        ensures tracked { result ≡ is_tracked_by_key (K.names key) (entries_of self.old) }
-        ensures slots { IsSlots T.eq T.hash_input self.new }
+        requires slots { IsSlots T.eq (hash_in self.old.key T.hash_input) self.old.slots }
+        requires fits { is_tracked_by_key (K.names key) (entries_of self.old.slots) ≡ true
+            → count_by_key (K.names key) (entries_of self.old.slots) + amount < 2 ^ 64 }
+        ensures tracked { result ≡ is_tracked_by_key (K.names key) (entries_of self.old.slots) }
+        ensures slots { IsSlots T.eq (hash_in self.new.key T.hash_input) self.new.slots }
         ensures present { result ≡ true → (x : T) → IsTrue (K.names key x)
-            → IsPermutation (put T.eq (entries_of self.old) x amount) (entries_of self.new) }
+            → IsPermutation (put T.eq (entries_of self.old.slots) x amount) (entries_of self.new.slots) }
         ensures absent { result ≡ false → self.new ≡ self.old }
-        ensures size { length self.new ≡ length self.old }
+        ensures size { length self.new.slots ≡ length self.old.slots }
+        ensures key { self.new.key ≡ self.old.key }
     {
-        let hash = hash_of::<T, K>(key);
-        let probe = self.as_slices().find_from(key, hash);
+        let probe = self.as_slices().find(key);
         match probe.found {
             Some(_) => {
                 self.add_at(probe.index, amount);
@@ -42,14 +42,15 @@ impl<T: Eq + Hash + Drop> SlotTable<T> {
     /// Inserts an item that is absent into the first free slot from its home on.
     #[inline(always)]
     pub(crate) fn insert(&mut self, item: T, amount: u64)
-        requires slots { IsSlots T.eq T.hash_input self.old }
-        requires absent { is_tracked T.eq (entries_of self.old) item ≡ false }
-        requires room { length (entries_of self.old) + 1 < length self.old }
-        ensures slots { IsSlots T.eq T.hash_input self.new }
-        ensures entries { IsPermutation (put T.eq (entries_of self.old) item amount) (entries_of self.new) }
-        ensures size { length self.new ≡ length self.old }
+        requires slots { IsSlots T.eq (hash_in self.old.key T.hash_input) self.old.slots }
+        requires absent { is_tracked T.eq (entries_of self.old.slots) item ≡ false }
+        requires room { length (entries_of self.old.slots) + 1 < length self.old.slots }
+        ensures slots { IsSlots T.eq (hash_in self.new.key T.hash_input) self.new.slots }
+        ensures entries { IsPermutation (put T.eq (entries_of self.old.slots) item amount) (entries_of self.new.slots) }
+        ensures size { length self.new.slots ≡ length self.old.slots }
+        ensures key { self.new.key ≡ self.old.key }
     {
-        let hash = hash_of::<T, &T>(&item);
+        let hash = hash_of::<T, &T>(self.key(), &item);
         let free_slot = self.as_slices().find_free(&item, hash);
         self.fill(free_slot.index, free_slot.probed, item, amount, hash);
     }
@@ -57,25 +58,25 @@ impl<T: Eq + Hash + Drop> SlotTable<T> {
     /// Adds to the item's count, or puts the item into the free slot where its look-up ended. Returns whether it was put.
     #[inline(always)]
     pub(crate) fn put(&mut self, item: T, amount: u64) -> bool
-        requires slots { IsSlots T.eq T.hash_input self.old }
-        requires room { is_tracked T.eq (entries_of self.old) item ≡ false
-            → length (entries_of self.old) + 1 < length self.old }
-        requires fits { is_tracked T.eq (entries_of self.old) item ≡ true
-            → count_of T.eq (entries_of self.old) item + amount < 2 ^ 64 }
-        ensures tracked { is_tracked T.eq (entries_of self.old) item ≡ not result }
-        ensures slots { IsSlots T.eq T.hash_input self.new }
-        ensures entries { IsPermutation (put T.eq (entries_of self.old) item amount) (entries_of self.new) }
-        ensures size { length self.new ≡ length self.old }
+        requires slots { IsSlots T.eq (hash_in self.old.key T.hash_input) self.old.slots }
+        requires room { is_tracked T.eq (entries_of self.old.slots) item ≡ false
+            → length (entries_of self.old.slots) + 1 < length self.old.slots }
+        requires fits { is_tracked T.eq (entries_of self.old.slots) item ≡ true
+            → count_of T.eq (entries_of self.old.slots) item + amount < 2 ^ 64 }
+        ensures tracked { is_tracked T.eq (entries_of self.old.slots) item ≡ not result }
+        ensures slots { IsSlots T.eq (hash_in self.new.key T.hash_input) self.new.slots }
+        ensures entries { IsPermutation (put T.eq (entries_of self.old.slots) item amount) (entries_of self.new.slots) }
+        ensures size { length self.new.slots ≡ length self.old.slots }
+        ensures key { self.new.key ≡ self.old.key }
     {
-        let hash = hash_of::<T, &T>(&item);
-        let probe = self.as_slices().find_from(&item, hash);
+        let probe = self.as_slices().find(&item);
         match probe.found {
             Some(_) => {
                 self.add_at(probe.index, amount);
                 false
             }
             None => {
-                self.fill(probe.index, probe.probed, item, amount, hash);
+                self.fill(probe.index, probe.probed, item, amount, probe.hash);
                 true
             }
         }
@@ -93,21 +94,21 @@ impl<T: Eq + Hash + Drop> SlotTable<T> {
     where
         T: Clone,
         requires clones { (x y : T) → T.is_clone x y → IsTrue (T.eq x y) }
-        requires slots { IsSlots T.eq T.hash_input self.old }
-        requires room { is_tracked T.eq (entries_of self.old) item.now ≡ false
-            → length (entries_of self.old) + 1 < length self.old }
-        requires fits { is_tracked T.eq (entries_of self.old) item.now ≡ true
-            → count_of T.eq (entries_of self.old) item.now + amount < 2 ^ 64 }
-        ensures tracked { IfOk result (λ put. is_tracked T.eq (entries_of self.old) item.now ≡ not put) }
-        ensures slots { IsSlots T.eq T.hash_input self.new }
-        ensures entries { OnOk result (PutsByKey T.eq (T.eq item.now) (entries_of self.old) amount (entries_of self.new)) }
-        ensures size { length self.new ≡ length self.old }
+        requires slots { IsSlots T.eq (hash_in self.old.key T.hash_input) self.old.slots }
+        requires room { is_tracked T.eq (entries_of self.old.slots) item.now ≡ false
+            → length (entries_of self.old.slots) + 1 < length self.old.slots }
+        requires fits { is_tracked T.eq (entries_of self.old.slots) item.now ≡ true
+            → count_of T.eq (entries_of self.old.slots) item.now + amount < 2 ^ 64 }
+        ensures tracked { IfOk result (λ put. is_tracked T.eq (entries_of self.old.slots) item.now ≡ not put) }
+        ensures slots { IsSlots T.eq (hash_in self.new.key T.hash_input) self.new.slots }
+        ensures entries { OnOk result (PutsByKey T.eq (T.eq item.now) (entries_of self.old.slots) amount (entries_of self.new.slots)) }
+        ensures size { length self.new.slots ≡ length self.old.slots }
+        ensures key { self.new.key ≡ self.old.key }
         ensures err { OnErr result (self.new ≡ self.old) }
         ensures memory { IfErr result (λ e. e ≡ no_memory) }
-        ensures succeeds { is_tracked T.eq (entries_of self.old) item.now ≡ true → IsOk result }
+        ensures succeeds { is_tracked T.eq (entries_of self.old.slots) item.now ≡ true → IsOk result }
     {
-        let hash = hash_of::<T, &T>(item);
-        let probe = self.as_slices().find_from(item, hash);
+        let probe = self.as_slices().find(item);
         match probe.found {
             Some(_) => {
                 self.add_at(probe.index, amount);
@@ -115,7 +116,7 @@ impl<T: Eq + Hash + Drop> SlotTable<T> {
             }
             None => {
                 let item = item.clone()?;
-                self.fill(probe.index, probe.probed, item, amount, hash);
+                self.fill(probe.index, probe.probed, item, amount, probe.hash);
                 Ok(true)
             }
         }
@@ -130,21 +131,21 @@ impl<T: Eq + Hash + Drop> SlotTable<T> {
     /// Returns `NoMemory` if the item cannot be allocated. The table is then unchanged.
     #[inline(always)]
     pub(crate) fn put_by_key<K: OwnedKey<T>>(&mut self, key: K, amount: u64) -> Result<bool, Error>
-        requires slots { IsSlots T.eq T.hash_input self.old }
-        requires room { is_tracked_by_key (K.names key) (entries_of self.old) ≡ false
-            → length (entries_of self.old) + 1 < length self.old }
-        requires fits { is_tracked_by_key (K.names key) (entries_of self.old) ≡ true
-            → count_by_key (K.names key) (entries_of self.old) + amount < 2 ^ 64 }
-        ensures tracked { IfOk result (λ put. is_tracked_by_key (K.names key) (entries_of self.old) ≡ not put) }
-        ensures slots { IsSlots T.eq T.hash_input self.new }
-        ensures entries { OnOk result (PutsByKey T.eq (K.names key) (entries_of self.old) amount (entries_of self.new)) }
-        ensures size { length self.new ≡ length self.old }
+        requires slots { IsSlots T.eq (hash_in self.old.key T.hash_input) self.old.slots }
+        requires room { is_tracked_by_key (K.names key) (entries_of self.old.slots) ≡ false
+            → length (entries_of self.old.slots) + 1 < length self.old.slots }
+        requires fits { is_tracked_by_key (K.names key) (entries_of self.old.slots) ≡ true
+            → count_by_key (K.names key) (entries_of self.old.slots) + amount < 2 ^ 64 }
+        ensures tracked { IfOk result (λ put. is_tracked_by_key (K.names key) (entries_of self.old.slots) ≡ not put) }
+        ensures slots { IsSlots T.eq (hash_in self.new.key T.hash_input) self.new.slots }
+        ensures entries { OnOk result (PutsByKey T.eq (K.names key) (entries_of self.old.slots) amount (entries_of self.new.slots)) }
+        ensures size { length self.new.slots ≡ length self.old.slots }
+        ensures key { self.new.key ≡ self.old.key }
         ensures err { OnErr result (self.new ≡ self.old) }
         ensures memory { IfErr result (λ e. e ≡ no_memory) }
-        ensures succeeds { is_tracked_by_key (K.names key) (entries_of self.old) ≡ true → IsOk result }
+        ensures succeeds { is_tracked_by_key (K.names key) (entries_of self.old.slots) ≡ true → IsOk result }
     {
-        let hash = hash_of::<T, K>(key);
-        let probe = self.as_slices().find_from(key, hash);
+        let probe = self.as_slices().find(key);
         match probe.found {
             Some(_) => {
                 self.add_at(probe.index, amount);
@@ -152,7 +153,7 @@ impl<T: Eq + Hash + Drop> SlotTable<T> {
             }
             None => {
                 let item = key.to_item(self.allocator())?;
-                self.fill(probe.index, probe.probed, item, amount, hash);
+                self.fill(probe.index, probe.probed, item, amount, probe.hash);
                 Ok(true)
             }
         }
@@ -161,10 +162,11 @@ impl<T: Eq + Hash + Drop> SlotTable<T> {
     /// Adds to the count in a slot.
     #[inline(always)]
     fn add_at(&mut self, index: usize, amount: u64)
-        requires index { index < length self.old }
-        requires fits { CountHasRoom self.old index amount }
-        ensures adds { AddsAt self.old index amount self.new }
-        ensures size { length self.new ≡ length self.old }
+        requires index { index < length self.old.slots }
+        requires fits { CountHasRoom self.old.slots index amount }
+        ensures adds { AddsAt self.old.slots index amount self.new.slots }
+        ensures size { length self.new.slots ≡ length self.old.slots }
+        ensures key { self.new.key ≡ self.old.key }
     {
         if let Slot::Taken { count, .. } = &mut self.slots[index] {
             *count += amount;
@@ -174,14 +176,15 @@ impl<T: Eq + Hash + Drop> SlotTable<T> {
     /// Writes an item that is absent, its count and its fingerprint to the first free slot from its home on.
     #[inline(always)]
     fn fill(&mut self, index: usize, probed: usize, item: T, amount: u64, hash: u64)
-        requires slots { IsSlots T.eq T.hash_input self.old }
-        requires absent { is_tracked T.eq (entries_of self.old) item ≡ false }
-        requires room { length (entries_of self.old) + 1 < length self.old }
-        requires free { IsFreeSlot (home_in T.hash_input (length self.old) item) self.old index probed }
-        requires hash { hash ≡ hash_in T.hash_input item }
-        ensures slots { IsSlots T.eq T.hash_input self.new }
-        ensures entries { IsPermutation (put T.eq (entries_of self.old) item amount) (entries_of self.new) }
-        ensures size { length self.new ≡ length self.old }
+        requires slots { IsSlots T.eq (hash_in self.old.key T.hash_input) self.old.slots }
+        requires absent { is_tracked T.eq (entries_of self.old.slots) item ≡ false }
+        requires room { length (entries_of self.old.slots) + 1 < length self.old.slots }
+        requires free { IsFreeSlot (home_in (hash_in self.old.key T.hash_input) (length self.old.slots) item) self.old.slots index probed }
+        requires hash { hash ≡ hash_in self.old.key T.hash_input item }
+        ensures slots { IsSlots T.eq (hash_in self.new.key T.hash_input) self.new.slots }
+        ensures entries { IsPermutation (put T.eq (entries_of self.old.slots) item amount) (entries_of self.new.slots) }
+        ensures size { length self.new.slots ≡ length self.old.slots }
+        ensures key { self.new.key ≡ self.old.key }
     {
         self.slots[index] = Slot::Taken {
             drift: probed as u32,

@@ -2,10 +2,10 @@
 //!
 //! Every index from an entry's home to its slot is taken, so a look-up may end at the first free slot.
 ghost use Rattle.std.specs.Prelude.{◌≡◌, ◌<◌, false, length, map, not};
-ghost use Rattle.counter_table.specs.Fingerprints.{hash_in};
 ghost use Rattle.counter_table.specs.Homes.{home_in};
 ghost use Rattle.counter_table.specs.Probes.{IsProbe, IsFreeSlot};
 ghost use Rattle.counter_table.specs.Slots.{IsTableSize, IsSlots, entries_of, is_taken};
+ghost use Rattle.counter_table.specs.TableHashes.{hash_in};
 ghost use Rattle.counter_table.specs.Tables.{count_of};
 
 use crate::fingerprints::{FREE, count_at, hash_of, home, probe_at};
@@ -13,15 +13,17 @@ use crate::indices::next;
 use crate::item_key::ItemKey;
 use crate::slot::Slot;
 use crate::slot_table::SlotTable;
+use crate::table_key::TableKey;
 use std::hash::Hash;
 use std::marker::Model;
 
-/// The end of a look-up: the item's slot, with its count, or the free slot where the item goes.
+/// The end of a look-up: the item's slot, with its count, or the free slot where the item goes. It also has the item's hash.
 #[derive(Drop)]
 pub(crate) struct Probe {
     pub(crate) index: usize,
     pub(crate) found: Option<u64>,
     pub(crate) probed: usize,
+    pub(crate) hash: u64,
 }
 
 /// The first free slot from an item's home on, and the number of slots that were probed to find it.
@@ -31,46 +33,56 @@ pub(crate) struct FreeSlot {
     pub(crate) probed: usize,
 }
 
-/// The slots of a table and their fingerprints, borrowed for look-ups.
+/// The slots of a table and their fingerprints, borrowed for look-ups, with the table's key.
 ///
-/// Contracts see the list of the slots. A loop of look-ups holds both slices, and does not read them from the table each time.
+/// Contracts see the key and the list of the slots. A loop of look-ups holds both slices, and does not read them from the table each time.
 #[derive(Drop)]
 pub(crate) struct SlotSlices<'a, T: Eq + Hash> {
+    pub(crate) key: TableKey,
     pub(crate) slots: &'a [Slot<T>],
     pub(crate) fingerprints: &'a [u8],
 }
 
 impl<'a, T: Eq + Hash> Model for SlotSlices<'a, T> {
-    ghost use Rattle.std.specs.Prelude.{List};
-    ghost use Rattle.counter_table.specs.declared.slot.Slot.{Slot};
+    ghost use Rattle.counter_table.specs.Slots.{KeyedSlots};
 
-    ghost Value = { List (Slot T) };
+    ghost Value = { KeyedSlots T };
 
     ghost use Rattle.counter_table.specs.Fingerprints.{AreFingerprints};
+    ghost use Rattle.counter_table.specs.TableHashes.{hash_in};
 
-    ghost view = { λ a. a.slots.now };
+    ghost view = { λ a. record { key = a.key; slots = a.slots.now } };
 
-    ghost invariant = { λ a. AreFingerprints T.hash_input a.slots.now a.fingerprints.now };
+    ghost invariant = { λ a. AreFingerprints (hash_in a.key T.hash_input) a.slots.now a.fingerprints.now };
 }
 
 impl<'a, T: Eq + Hash> SlotSlices<'a, T> {
     /// Looks up the item that the key names, from its home slot on.
+    ///
+    /// Each kind of hash has a look-up of its own, so that the compiler keeps apart what each of them needs.
     #[inline(always)]
     pub(crate) fn find<K: ItemKey<T>>(&self, key: K) -> Probe
-        requires { IsSlots T.eq T.hash_input self.now }
-        ensures { IsProbe (K.names key) (home_in K.hash_input (length self.now) key) self.now
-            result.index result.found result.probed }
+        requires { IsSlots T.eq (hash_in self.now.key T.hash_input) self.now.slots }
+        ensures probe { IsProbe (K.names key) (home_in (hash_in self.now.key K.hash_input) (length self.now.slots) key)
+            self.now.slots result.index result.found result.probed }
+        ensures hash { result.hash ≡ hash_in self.now.key K.hash_input key }
     {
-        self.find_from(key, hash_of::<T, K>(key))
+        match self.key {
+            TableKey::Plain => self.find_from(key, hash_of::<T, K>(TableKey::Plain, key)),
+            TableKey::Keyed(secret) => {
+                self.find_from(key, hash_of::<T, K>(TableKey::Keyed(secret), key))
+            }
+        }
     }
 
     /// Looks up the item that the key names, from its home slot on, with the key's hash.
     #[inline(always)]
-    pub(crate) fn find_from<K: ItemKey<T>>(&self, key: K, hash: u64) -> Probe
-        requires slots { IsSlots T.eq T.hash_input self.now }
-        requires hash { hash ≡ hash_in K.hash_input key }
-        ensures { IsProbe (K.names key) (home_in K.hash_input (length self.now) key) self.now
-            result.index result.found result.probed }
+    fn find_from<K: ItemKey<T>>(&self, key: K, hash: u64) -> Probe
+        requires slots { IsSlots T.eq (hash_in self.now.key T.hash_input) self.now.slots }
+        requires hash { hash ≡ hash_in self.now.key K.hash_input key }
+        ensures probe { IsProbe (K.names key) (home_in (hash_in self.now.key K.hash_input) (length self.now.slots) key)
+            self.now.slots result.index result.found result.probed }
+        ensures hash { result.hash ≡ hash_in self.now.key K.hash_input key }
     {
         let slots = self.slots;
         let fingerprints = self.fingerprints;
@@ -84,6 +96,7 @@ impl<'a, T: Eq + Hash> SlotSlices<'a, T> {
                     index,
                     found: None,
                     probed,
+                    hash,
                 };
             }
             let found = count_at(slots, key, hash, index, seen);
@@ -92,6 +105,7 @@ impl<'a, T: Eq + Hash> SlotSlices<'a, T> {
                     index,
                     found,
                     probed,
+                    hash,
                 };
             }
             index = next(index, size);
@@ -101,10 +115,11 @@ impl<'a, T: Eq + Hash> SlotSlices<'a, T> {
     /// Finds the first free slot from the home of an item with this hash on.
     #[inline(always)]
     pub(crate) fn find_free(&self, item: &T, hash: u64) -> FreeSlot
-        requires size { IsTableSize (length self.now) }
-        requires room { length (entries_of self.now) < length self.now }
-        requires hash { hash ≡ hash_in T.hash_input item.now }
-        ensures { IsFreeSlot (home_in T.hash_input (length self.now) item.now) self.now result.index result.probed }
+        requires size { IsTableSize (length self.now.slots) }
+        requires room { length (entries_of self.now.slots) < length self.now.slots }
+        requires hash { hash ≡ hash_in self.now.key T.hash_input item.now }
+        ensures { IsFreeSlot (home_in (hash_in self.now.key T.hash_input) (length self.now.slots) item.now)
+            self.now.slots result.index result.probed }
     {
         self.find_free_from(item, home(hash, self.slots.len()))
     }
@@ -112,10 +127,11 @@ impl<'a, T: Eq + Hash> SlotSlices<'a, T> {
     /// Finds the first free slot from the home of an item on.
     #[inline(always)]
     pub(crate) fn find_free_from(&self, _item: &T, home: usize) -> FreeSlot
-        requires size { IsTableSize (length self.now) }
-        requires room { length (entries_of self.now) < length self.now }
-        requires home { home ≡ home_in T.hash_input (length self.now) _item.now }
-        ensures { IsFreeSlot (home_in T.hash_input (length self.now) _item.now) self.now result.index result.probed }
+        requires size { IsTableSize (length self.now.slots) }
+        requires room { length (entries_of self.now.slots) < length self.now.slots }
+        requires home { home ≡ home_in (hash_in self.now.key T.hash_input) (length self.now.slots) _item.now }
+        ensures { IsFreeSlot (home_in (hash_in self.now.key T.hash_input) (length self.now.slots) _item.now)
+            self.now.slots result.index result.probed }
     {
         let fingerprints = self.fingerprints;
         let size = self.slots.len();
@@ -132,8 +148,8 @@ impl<'a, T: Eq + Hash> SlotSlices<'a, T> {
     /// Returns the count of an item, 0 if it is absent.
     #[inline(always)]
     fn count(&self, item: &T) -> u64
-        requires { IsSlots T.eq T.hash_input self.now }
-        ensures { result ≡ count_of T.eq (entries_of self.now) item.now }
+        requires { IsSlots T.eq (hash_in self.now.key T.hash_input) self.now.slots }
+        ensures { result ≡ count_of T.eq (entries_of self.now.slots) item.now }
     {
         self.find(item).found.unwrap_or(0)
     }
@@ -145,9 +161,9 @@ impl<T: Eq + Hash + Drop> SlotTable<T> {
     /// It is not inlined, so that its loops have the processor's registers to themselves.
     #[inline(never)]
     pub(crate) fn counts_of(&self, items: &[T], counts: &mut [u64])
-        requires slots { IsSlots T.eq T.hash_input self.now }
+        requires slots { IsSlots T.eq (hash_in self.now.key T.hash_input) self.now.slots }
         requires same { length counts.old ≡ length items.now }
-        ensures { counts.new ≡ map (count_of T.eq (entries_of self.now)) items.now }
+        ensures { counts.new ≡ map (count_of T.eq (entries_of self.now.slots)) items.now }
     {
         let slices = self.as_slices();
         // The label names the loop for its proof.

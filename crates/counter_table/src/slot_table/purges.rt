@@ -7,6 +7,7 @@ ghost use Rattle.counter_table.specs.Fingerprints.{AreFingerprints};
 ghost use Rattle.counter_table.specs.Homes.{home_in};
 ghost use Rattle.counter_table.specs.Settled.{HasDrift, Settles};
 ghost use Rattle.counter_table.specs.Slots.{IsTableSize, IsSlots, entries_of};
+ghost use Rattle.counter_table.specs.TableHashes.{hash_in};
 ghost use Rattle.counter_table.specs.Tables.{purged, IsSampleMiddle};
 
 use crate::fingerprints::FREE;
@@ -15,6 +16,7 @@ use crate::sizes::MAX_SAMPLE_SIZE;
 use crate::slot::Slot;
 use crate::slot_table::SlotTable;
 use crate::slot_table::look_ups::{FreeSlot, SlotSlices, last_free};
+use crate::table_key::TableKey;
 use std::hash::Hash;
 use std::mem;
 
@@ -29,8 +31,8 @@ impl<T: Eq + Hash + Drop> SlotTable<T> {
     pub(crate) fn middle_of(&self, size: usize) -> u64
         requires some { 0 < size }
         requires few { size ≤ 1024 }
-        requires active { size ≤ length (entries_of self.now) }
-        ensures { IsSampleMiddle size (entries_of self.now) result }
+        requires active { size ≤ length (entries_of self.now.slots) }
+        ensures { IsSampleMiddle size (entries_of self.now.slots) result }
     {
         if size <= SMALL_SAMPLE_SIZE {
             middle_in::<T, SMALL_SAMPLE_SIZE>(&self.slots, size)
@@ -42,13 +44,14 @@ impl<T: Eq + Hash + Drop> SlotTable<T> {
     /// Subtracts `amount` from each count, removes the entries at or below it, and returns the number of removed entries.
     #[inline(always)]
     pub(crate) fn lower(&mut self, amount: u64) -> usize
-        requires slots { IsSlots T.eq T.hash_input self.old }
-        ensures slots { IsSlots T.eq T.hash_input self.new }
-        ensures entries { IsPermutation (purged amount (entries_of self.old)) (entries_of self.new) }
-        ensures removed { result + length (entries_of self.new) ≡ length (entries_of self.old) }
-        ensures size { length self.new ≡ length self.old }
+        requires slots { IsSlots T.eq (hash_in self.old.key T.hash_input) self.old.slots }
+        ensures slots { IsSlots T.eq (hash_in self.new.key T.hash_input) self.new.slots }
+        ensures entries { IsPermutation (purged amount (entries_of self.old.slots)) (entries_of self.new.slots) }
+        ensures removed { result + length (entries_of self.new.slots) ≡ length (entries_of self.old.slots) }
+        ensures size { length self.new.slots ≡ length self.old.slots }
+        ensures key { self.new.key ≡ self.old.key }
     {
-        sweep(&mut self.slots, &mut self.fingerprints, amount)
+        sweep(&self.key, &mut self.slots, &mut self.fingerprints, amount)
     }
 }
 
@@ -57,20 +60,25 @@ impl<T: Eq + Hash + Drop> SlotTable<T> {
 /// The sweep goes up from the index after a free slot, and wraps around. An entry after that slot also has its home after it.
 /// So all indices from an entry's home to its slot are settled before the entry is. The entries that stay get the slots that
 /// they would get if they were inserted into an empty table in this order.
-fn sweep<T: Eq + Hash + Drop>(slots: &mut [Slot<T>], fingerprints: &mut [u8], amount: u64) -> usize
-    requires slots { IsSlots T.eq T.hash_input slots.old }
-    requires fingerprints { AreFingerprints T.hash_input slots.old fingerprints.old }
-    ensures slots { IsSlots T.eq T.hash_input slots.new }
+fn sweep<T: Eq + Hash + Drop>(
+    key: &TableKey,
+    slots: &mut [Slot<T>],
+    fingerprints: &mut [u8],
+    amount: u64,
+) -> usize
+    requires slots { IsSlots T.eq (hash_in key.now T.hash_input) slots.old }
+    requires fingerprints { AreFingerprints (hash_in key.now T.hash_input) slots.old fingerprints.old }
+    ensures slots { IsSlots T.eq (hash_in key.now T.hash_input) slots.new }
     ensures entries { IsPermutation (purged amount (entries_of slots.old)) (entries_of slots.new) }
     ensures removed { result + length (entries_of slots.new) ≡ length (entries_of slots.old) }
-    ensures fingerprints { AreFingerprints T.hash_input slots.new fingerprints.new }
+    ensures fingerprints { AreFingerprints (hash_in key.now T.hash_input) slots.new fingerprints.new }
 {
     let size = slots.len();
     let free = last_free(slots);
     let mut removed = 0;
     for on in 1..size {
         let index = after(free, on, size);
-        if settle(slots, fingerprints, index, amount) {
+        if settle(key, slots, fingerprints, index, amount) {
             removed += 1;
         }
     }
@@ -81,17 +89,18 @@ fn sweep<T: Eq + Hash + Drop>(slots: &mut [Slot<T>], fingerprints: &mut [u8], am
 /// home on. Its own slot is the last possible one. Otherwise frees the slot. Returns whether an entry was dropped.
 #[inline(always)]
 fn settle<T: Eq + Hash + Drop>(
+    key: &TableKey,
     slots: &mut [Slot<T>],
     fingerprints: &mut [u8],
     index: usize,
     amount: u64,
 ) -> bool
     requires size { IsTableSize (length slots.old) }
-    requires fingerprints { AreFingerprints T.hash_input slots.old fingerprints.old }
+    requires fingerprints { AreFingerprints (hash_in key.now T.hash_input) slots.old fingerprints.old }
     requires index { index < length slots.old }
-    requires drift { HasDrift (home_in T.hash_input (length slots.old)) slots.old index }
-    ensures slots { Settles (home_in T.hash_input (length slots.old)) slots.old index amount result slots.new }
-    ensures fingerprints { AreFingerprints T.hash_input slots.new fingerprints.new }
+    requires drift { HasDrift (home_in (hash_in key.now T.hash_input) (length slots.old)) slots.old index }
+    ensures slots { Settles (home_in (hash_in key.now T.hash_input) (length slots.old)) slots.old index amount result slots.new }
+    ensures fingerprints { AreFingerprints (hash_in key.now T.hash_input) slots.new fingerprints.new }
 {
     let size = slots.len();
     let moving = fingerprints[index];
@@ -104,6 +113,7 @@ fn settle<T: Eq + Hash + Drop>(
             }
             let home = before(index, drift as usize - 1, size);
             let slices = SlotSlices {
+                key: *key,
                 slots,
                 fingerprints,
             };

@@ -165,13 +165,12 @@ impl<T: FrequentItemValue + Drop> FrequentItemsSketch<T> {
         ensures err { IfErr result (IsImageRefusal (early_fault_within T.row max_bytes T.codec image.now)
             (first_fault_within T.row max_bytes T.codec image.now)) }
     {
-        let _ = key;
         let header = read_header(image)?;
         let max_size = table_size(header.lg_max);
         let sample_size = max_sample_of(max_size);
         if header.is_empty {
             check_limit::<T>(MIN_MAP_SIZE, 0, max_bytes)?;
-            let map = ReversePurgeItemHashMap::new(alloc, MIN_MAP_SIZE)?;
+            let map = ReversePurgeItemHashMap::with_key(alloc, MIN_MAP_SIZE, key)?;
             return Ok(FrequentItemsSketch {
                 map,
                 error: 0,
@@ -185,7 +184,7 @@ impl<T: FrequentItemValue + Drop> FrequentItemsSketch<T> {
         let item_bytes = image.len() - (32 + 8 * numbers.active as usize);
         check_limit::<T>(size, item_bytes, max_bytes)?;
         check_weights(image, &numbers)?;
-        let map = read_counters(alloc, image, numbers.active, size)?;
+        let map = read_counters(alloc, image, numbers.active, size, key)?;
         Ok(FrequentItemsSketch {
             map,
             error: numbers.error,

@@ -2,12 +2,11 @@ use Rattle.std.proofs.Common.{◌≡◌, ap, sym, ◌∙◌, arith, Some, None}
 use Rattle.std.proofs.lemmas.List.{get_or_default}
 use Rattle.counter_table.specs.Slots.{Held, held, slot_at}
 use Rattle.counter_table.specs.declared.slot.Slot.TheVariants.{Free}
-use Rattle.counter_table.proofs.LookupFingerprints.{seen_other}
 use Rattle.counter_table.proofs.LookupProbes.{IsCountAt-found, IsCountAt-other}
 use Rattle.counter_table.proofs.fingerprints.count_at.Goals as goal
 
 pub returns-then-seen-fingerprint : goal.returns-then-seen-fingerprint
-returns-then-seen-fingerprint g c = IsCountAt-other _ _ _ (seen_other g.T.Hash.hash_input c.args.slots.now (g.met.K.ItemKey.respects_hash c.args.key) c.args.hash c.args.index c.args.seen c.fingerprint.result c.requires.hash c.fingerprint.ensures c.requires.seen c.if-seen-fingerprint.true)
+returns-then-seen-fingerprint g c = IsCountAt-other _ _ _ (c.requires.other (λ same. c.if-seen-fingerprint.true (same ∙ sym c.fingerprint.ensures)))
 
 pub returns-then-names : goal.returns-then-names
 returns-then-names g c =

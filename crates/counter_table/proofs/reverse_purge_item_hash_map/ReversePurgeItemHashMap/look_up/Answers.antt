@@ -4,7 +4,7 @@ use Rattle.counter_table.proofs.reverse_purge_item_hash_map.ReversePurgeItemHash
 
 pub returns : goal.returns
 returns g c =
-    let a = answers_lent g.met.T.Eq.laws g.met.T.Hash.respects_eq c.self.inside.table c.as_slices.result c.self.invariant.slots_ok c.args.self.now c.self.view_is c.as_slices.ensures c.args.item.now _ _ _ c.find.ensures in
+    let a = answers_lent g.met.T.Eq.laws g.met.T.Hash.respects_eq c.self.inside.table c.as_slices.result c.self.invariant.slots_ok c.args.self.now c.self.view_is c.as_slices.ensures c.args.item.now _ _ _ c.find.ensures.probe in
     sym a.looked_up
 
 pub find-requires : goal.find-requires

@@ -40,3 +40,6 @@ returns-clause-size g c = c.lower-removed.ensures.size ∙ ap (λ t. t.size) c.s
 
 pub returns-clause-distinct : goal.returns-clause-distinct
 returns-clause-distinct g c = c.lower-removed.ensures.slots.distinct
+
+pub returns-clause-key : goal.returns-clause-key
+returns-clause-key g c = c.lower-removed.ensures.key ∙ ap (λ t. t.key) c.self.view_is

@@ -9,7 +9,7 @@ use Rattle.counter_table.proofs.reverse_purge_item_hash_map.ReversePurgeItemHash
 
 pub move_all-requires : goal.move_all-requires
 move_all-requires g c =
-    let new = made_free _ _ (c.replace-old.ensures.after ∙ c.in_ok-table.ensures.ok) in
+    let new = made_free _ _ (ap (λ t. t.slots) (c.replace-old.ensures.after ∙ c.in_ok-table.ensures.ok)) in
     record {
       distinct = rw c.replace-old.ensures.value c.self.invariant.slots_ok.distinct;
       room = rw (new.1, c.replace-old.ensures.value) (rw (← c.self.view_is) at c.requires.room);
@@ -19,7 +19,7 @@ move_all-requires g c =
 
 pub invariant_of-self : goal.invariant_of-self
 invariant_of-self g c =
-    let moved = ap (λ l. length (entries_of l)) c.replace-old.ensures.value in
+    let moved = ap (λ l. length (entries_of l.slots)) c.replace-old.ensures.value in
     record {
       slots_ok = c.move_all.ensures.slots;
       active_is = omega (arith, c.self.invariant.active_is, moved, length_permutation _ _ c.move_all.ensures.entries);
@@ -28,12 +28,13 @@ invariant_of-self g c =
 pub returns-in_err-table : goal.returns-in_err-table
 returns-in_err-table g c =
     let e = err_from_is_err_and c.from_residual.result c.from_residual.ensures.1 in
-    record { entries = IsPermutation-refl _; ok = rw e.1 tt; err = rw e.1 refl; memory = rw e.1 (e.2 ∙ c.in_err-table.ensures.err); distinct = rw (← c.self.view_is) c.self.invariant.slots_ok.distinct }
+    record { entries = IsPermutation-refl _; ok = rw e.1 tt; key = refl; err = rw e.1 refl; memory = rw e.1 (e.2 ∙ c.in_err-table.ensures.err); distinct = rw (← c.self.view_is) c.self.invariant.slots_ok.distinct }
 
 pub returns : goal.returns
 returns g c = record {
   entries = rw (← c.self.view_is) (rw c.replace-old.ensures.value at c.move_all.ensures.entries);
-  ok = c.move_all.ensures.size ∙ (made_free _ _ (c.replace-old.ensures.after ∙ c.in_ok-table.ensures.ok)).1;
+  ok = c.move_all.ensures.size ∙ (made_free _ _ (ap (λ t. t.slots) (c.replace-old.ensures.after ∙ c.in_ok-table.ensures.ok))).1;
+  key = c.move_all.ensures.key ∙ (ap (λ t. t.key) (c.replace-old.ensures.after ∙ c.in_ok-table.ensures.ok) ∙ c.key.ensures);
   err = tt;
   memory = tt;
   distinct = c.move_all.ensures.slots.distinct;

@@ -1,4 +1,6 @@
 use Rattle.std.proofs.Common.{ap, sym, ◌∙◌}
+use Rattle.counter_table.specs.TableHashes.{hash_in}
+use Rattle.counter_table.proofs.TableHashing.{hashes_alike}
 use Rattle.counter_table.proofs.CloneSlots.{IsSlots-clones, cloned_length, cloned_map, cloned_size}
 use Rattle.counter_table.proofs.reverse_purge_item_hash_map.ReversePurgeItemHashMap.try_clone.Goals as goal
 
@@ -7,7 +9,7 @@ invariant_of-result g c =
     let eq = g.T.PartialEq.eq in
     let zip = c.in_ok-table.ensures.ok in
     record {
-      slots_ok = IsSlots-clones eq g.met.T.Eq.laws g.T.Hash.hash_input g.met.T.Hash.respects_eq _ _ zip c.self.invariant.slots_ok;
+      slots_ok = rw c.in_ok-table.ensures.key (IsSlots-clones eq g.met.T.Eq.laws (hash_in c.self.inside.table.key g.T.Hash.hash_input) (hashes_alike c.self.inside.table.key g.met.T.Hash.respects_eq) _ _ zip c.self.invariant.slots_ok);
       active_is = c.self.invariant.active_is ∙ sym (cloned_length eq _ _ zip);
     }
 
@@ -19,3 +21,6 @@ returns-clause-size g c = cloned_size g.T.PartialEq.eq _ _ c.in_ok-table.ensures
 
 pub returns-clause-distinct : goal.returns-clause-distinct
 returns-clause-distinct g c = (invariant_of-result g c).slots_ok.distinct
+
+pub returns-clause-key : goal.returns-clause-key
+returns-clause-key g c = c.in_ok-table.ensures.key ∙ ap (λ t. t.key) c.self.view_is

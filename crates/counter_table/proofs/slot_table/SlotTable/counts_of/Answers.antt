@@ -9,14 +9,14 @@ each-init g c = refl
 
 pub each-preserved : goal.each-preserved
 each-preserved g c =
-    let f : g.row.T.Denot → ℕ = count_of g.T.PartialEq.eq (entries_of c.args.self.now) in
+    let f : g.row.T.Denot → ℕ = count_of g.T.PartialEq.eq (entries_of c.args.self.now.slots) in
     let item : f c.index-items-i.result ≡ f (get_or c.args.items.now c.each.i c.index-items-i.result) = ap f c.index-items-i.is in
     ap (λ (n : ℕ). take (c.each.i + 1) (set c.each.counts c.each.i n)) (rw c.as_slices-slices.ensures at c.count.ensures ∙ item)
     ∙ written_more f c.args.items.now c.each.counts c.each.i c.index-items-i.result c.each-test.true (omega arith) c.each.invariant
 
 pub returns : goal.returns
 returns g c =
-    let f : g.row.T.Denot → ℕ = count_of g.T.PartialEq.eq (entries_of c.args.self.now) in
+    let f : g.row.T.Denot → ℕ = count_of g.T.PartialEq.eq (entries_of c.args.self.now.slots) in
     written_all f c.args.items.now c.each.counts c.each.i c.each-test.false (omega arith) c.each.invariant
 
 pub count-requires : goal.count-requires

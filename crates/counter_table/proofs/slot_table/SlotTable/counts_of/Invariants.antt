@@ -5,4 +5,4 @@ use Rattle.counter_table.proofs.slot_table.SlotTable.counts_of.Given as goal
 
 -- the counts so far are written
 abbrev pub invariant-each : goal.invariant-each
-invariant-each g l = take l.i l.counts ≡ map (count_of g.T.PartialEq.eq (entries_of l.self)) (take l.i l.items)
+invariant-each g l = take l.i l.counts ≡ map (count_of g.T.PartialEq.eq (entries_of l.self.slots)) (take l.i l.items)

@@ -12,8 +12,8 @@ use Rattle.sketch_frequencies.proofs.SampleSizes.{usual_sample}
 use Rattle.sketch_frequencies.proofs.ImageWeights.{length-weights_at}
 use Rattle.sketch_frequencies.proofs.frequent_items_sketch.FrequentItemsSketch.deserialize_with_limit_and_key.Goals as goal
 
-pub new-requires-clause-power : goal.new-requires-clause-power
-new-requires-clause-power g c = eight_is_power
+pub with_key-requires-clause-power : goal.with_key-requires-clause-power
+with_key-requires-clause-power g c = eight_is_power
 
 pub invariant_of-result : goal.invariant_of-result
 invariant_of-result g c =

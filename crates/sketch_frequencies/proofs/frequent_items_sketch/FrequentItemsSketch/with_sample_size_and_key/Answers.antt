@@ -5,8 +5,8 @@ use Rattle.sketch_frequencies.proofs.Powers.{eight_is_power}
 use Rattle.sketch_frequencies.proofs.SampleSizes.{size_passes}
 use Rattle.sketch_frequencies.proofs.frequent_items_sketch.FrequentItemsSketch.with_sample_size_and_key.Goals as goal
 
-pub new-requires-clause-power : goal.new-requires-clause-power
-new-requires-clause-power g c = eight_is_power
+pub with_key-requires-clause-power : goal.with_key-requires-clause-power
+with_key-requires-clause-power g c = eight_is_power
 
 pub invariant_of-result : goal.invariant_of-result
 unfolding IsDistinct
