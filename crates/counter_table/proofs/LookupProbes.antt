@@ -188,13 +188,12 @@ answers {T} {eq} laws {hashed} respects slots s x index found probed p =
       within = p.short;
     }
 
--- where the slots were lent, with the key of their table
-pub answers_lent : {T : Type 0} {eq : T → T → Bool} → IsEquivalence eq → {input : T → List (List ℕ)} → ((x y : T) → IsTrue (eq x y) → input x ≡ input y) → (of lent : KeyedSlots T) → IsSlots eq (hash_in of.key input) of.slots → (table : Table T) → table_of of.key of.slots ≡ table → lent ≡ of →
-    (x : T) (index : ℕ) (found : Option ℕ) (probed : ℕ) → IsProbe (eq x) (home_in (hash_in lent.key input) (length lent.slots) x) lent.slots index found probed → Answers eq (hash_in table.key input) table x found probed
-answers_lent {T} {eq} laws {input} respects of lent s table view same x index found probed p =
+-- of a table under a view
+pub answers_of : {T : Type 0} {eq : T → T → Bool} → IsEquivalence eq → {input : T → List (List ℕ)} → ((x y : T) → IsTrue (eq x y) → input x ≡ input y) → (of : KeyedSlots T) → IsSlots eq (hash_in of.key input) of.slots → (table : Table T) → table_of of.key of.slots ≡ table →
+    (x : T) (index : ℕ) (found : Option ℕ) (probed : ℕ) → IsProbe (eq x) (home_in (hash_in of.key input) (length of.slots) x) of.slots index found probed → Answers eq (hash_in table.key input) table x found probed
+answers_of {T} {eq} laws {input} respects of s table view x index found probed p =
     let P : Table T → Type 0 = λ t. Answers eq (hash_in t.key input) t x found probed in
-    let Q : KeyedSlots T → Type 0 = λ l. IsProbe (eq x) (home_in (hash_in l.key input) (length l.slots) x) l.slots index found probed in
-    subst P view (answers laws (hashes_alike of.key respects) of.slots s x index found probed (subst Q same p))
+    subst P view (answers laws (hashes_alike of.key respects) of.slots s x index found probed p)
 
 -- ---- a look-up by a key
 pub key_found : {T : Type 0} {eq : T → T → Bool} {hashed : T → ℕ} {names : T → Bool} {fed : ℕ} → IsKey eq hashed names fed → (slots : List (Slot T)) → IsSlots eq hashed slots →
@@ -204,12 +203,11 @@ key_found {T} {eq} {hashed} {names} {fed} key slots s index found probed p =
     let home : T → ℕ = home_in hashed n in
     lookup_found names key.alike home ((fed % n)) slots (remainder_below _ n (some_size n s.size)) s.placed s.distinct index probed found (λ y t. ap (λ f. f % n) (key.same_hash y t)) p
 
--- where the slots were lent, with the key of their table
-pub key_found_lent : {T : Type 0} {eq : T → T → Bool} {input : T → List (List ℕ)} {names : T → Bool} {fed : List (List ℕ)} → ((x : T) → IsTrue (names x) → fed ≡ input x) → ((x y : T) → IsTrue (names x) → names y ≡ eq x y) → (of lent : KeyedSlots T) → IsSlots eq (hash_in of.key input) of.slots → (table : Table T) → table_of of.key of.slots ≡ table → lent ≡ of →
-    (index : ℕ) (found : Option ℕ) (probed : ℕ) → IsProbe names (hash_of lent.key (concat fed) % length lent.slots) lent.slots index found probed → lookup names table.entries ≡ found
-key_found_lent {T} {input = input} {names = names} {fed = fed} respects alike of lent s table view same index found probed p =
-    let Q : KeyedSlots T → Type 0 = λ l. IsProbe names (hash_of l.key (concat fed) % length l.slots) l.slots index found probed in
-    ap (λ t. lookup names t.entries) (sym view) ∙ key_found (record { same_hash = hashed_as_named of.key respects; alike = alike }) of.slots s index found probed (subst Q same p)
+-- in a table under a view
+pub key_found_of : {T : Type 0} {eq : T → T → Bool} {input : T → List (List ℕ)} {names : T → Bool} {fed : List (List ℕ)} → ((x : T) → IsTrue (names x) → fed ≡ input x) → ((x y : T) → IsTrue (names x) → names y ≡ eq x y) → (of : KeyedSlots T) → IsSlots eq (hash_in of.key input) of.slots → (table : Table T) → table_of of.key of.slots ≡ table →
+    (index : ℕ) (found : Option ℕ) (probed : ℕ) → IsProbe names (hash_of of.key (concat fed) % length of.slots) of.slots index found probed → lookup names table.entries ≡ found
+key_found_of {T} {names = names} respects alike of s table view index found probed p =
+    ap (λ t. lookup names t.entries) (sym view) ∙ key_found (record { same_hash = hashed_as_named of.key respects; alike = alike }) of.slots s index found probed p
 
 -- ---- where it ended
 pub probe_below : {T : Type 0} {names : T → Bool} {h : ℕ} {slots : List (Slot T)} {index : ℕ} {found : Option ℕ} {probed : ℕ} → h < length slots → IsProbe names h slots index found probed → index < length slots

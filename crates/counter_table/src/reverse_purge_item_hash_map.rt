@@ -121,7 +121,7 @@ impl<T: Eq + Hash + Drop> ReversePurgeItemHashMap<T> {
         ensures probed { result.1 ≤ length self.now.entries + 1 }
         ensures within { result.1 ≤ self.now.size }
     {
-        let probe = self.table.as_slices().find(item);
+        let probe = self.table.find(item);
         (probe.found.unwrap_or(0), probe.probed)
     }
 
@@ -353,14 +353,14 @@ impl<T: Eq + Hash + Drop> ReversePurgeItemHashMap<T> {
     pub fn look_up(&self, item: &T) -> Option<u64>
         ensures { result ≡ lookup (T.eq item.now) self.now.entries }
     {
-        self.table.as_slices().find(item).found
+        self.table.find(item).found
     }
 
     /// Returns the count of the item that the key names, if it has an entry. It does not allocate.
     pub fn look_up_by_key<K: ItemKey<T>>(&self, key: K) -> Option<u64>
         ensures { result ≡ lookup (K.names key) self.now.entries }
     {
-        self.table.as_slices().find(key).found
+        self.table.find(key).found
     }
 
     /// Adds to the item's count if it has an entry, and returns whether it has one.

@@ -1,10 +1,13 @@
 -- The SipHash of a string: its bytes and the byte 255.
-use Rattle.std.proofs.Common.{◌≡◌, ℕ, suc, ◌+◌, ◌*◌, ◌/◌, ◌%◌, ◌^◌, ◌<◌, ◌≤◌, List, [], ◌∷◌, ◌++◌, length, take, drop, sym, ap, ◌∙◌, arith, length-append, fold}
+use Rattle.std.proofs.Common.{◌-◌, refl, replicate, ◌≡◌, ℕ, suc, ◌+◌, ◌*◌, ◌/◌, ◌%◌, ◌^◌, ◌<◌, ◌≤◌, List, [], ◌∷◌, ◌++◌, length, take, drop, sym, ap, ◌∙◌, arith, length-append, length-drop, fold}
 use Rattle.std.proofs.Math.Pow.{pow_mono}
-use Rattle.std.proofs.lemmas.List.{drop-append-le, take_all, drop_all}
-use Rattle.sketch_base.specs.MachineWords.{le_number}
+use Rattle.std.proofs.Math.Seq.{take-add}
+use Rattle.std.proofs.lemmas.List.{drop-append-le, take-append-le, take-append-drop, drop-drop, drop-take, take-replicate, length-take-le, take_all, drop_all}
+use Rattle.std.specs.Int.{w64}
+use Rattle.sketch_base.specs.Fields.{le_at}
+use Rattle.sketch_base.specs.MachineWords.{le_number, word_at}
 use Rattle.sketch_base.specs.SipHash.{State, initialization, compression, finalization, padded, words, sip_hash}
-use Rattle.sketch_base.proofs.LittleEndian.{AreBytes, are-drop, are-more, number-below, pow256}
+use Rattle.sketch_base.proofs.LittleEndian.{AreBytes, are-drop, are-more, number-below, number-zeros, pow256, u64_is, word_is}
 use Rattle.sketch_base.proofs.SipWords.{tail, length-tail, words-append, state_more, last_is_sum, hash_is}
 
 -- with the byte that ends it
@@ -53,3 +56,58 @@ hash_filled key bytes start v more all end size full es ev ee ez em ea =
     let last : size ≡ le_number (drop (8 * (length (ended bytes) / 8)) (padded (ended bytes))) =
     omega (arith, ez, ap le_number none, ap (λ (n : ℕ). n % 256 * 2 ^ 56) long, last_is_sum (ended bytes)) in
     hash_is key (ended bytes) start more all size es (sym state) last ea
+
+-- ---- few bytes in a buffer of 16, and then zeros
+
+-- the zeros of a word that is not whole
+pub begun_zeros : (buffer : List ℕ) (n : ℕ) → length buffer ≡ 16 → n < 8 → drop n buffer ≡ replicate (16 - n) 0 → drop n (take 8 buffer) ≡ replicate (8 - n) 0
+begun_zeros buffer n lb lt zeros =
+    let whole : 8 ≡ n + (8 - n) = omega arith in
+    ap (λ (k : ℕ). drop n (take k buffer)) whole ∙ (drop-take n (8 - n) buffer ∙ (ap (take (8 - n)) zeros ∙ take-replicate (8 - n) (16 - n) 0 (omega arith)))
+
+-- the first eight bytes of the buffer, if it has no more
+begun_is : (bytes buffer : List ℕ) (n : ℕ) → length buffer ≡ 16 → n < 8 → bytes ≡ take n buffer → drop n buffer ≡ replicate (16 - n) 0 → le_number (take 8 buffer) ≡ le_number bytes
+begun_is bytes buffer n lb lt is zeros =
+    let rest : take (8 - n) (drop n buffer) ≡ replicate (8 - n) 0 = ap (take (8 - n)) zeros ∙ take-replicate (8 - n) (16 - n) 0 (omega arith) in
+    let whole : 8 ≡ n + (8 - n) = omega arith in
+    let parts : take 8 buffer ≡ take n buffer ++ take (8 - n) (drop n buffer) = ap (λ (k : ℕ). take k buffer) whole ∙ take-add n (8 - n) buffer in
+    ap le_number (parts ∙ (λ i. sym is i ++ rest i)) ∙ number-zeros bytes (8 - n)
+
+-- fewer than eight: they are in the last word
+pub one_word : (key : ℕ × ℕ) (bytes buffer : List ℕ) (n word size : ℕ) → length buffer ≡ 16 → n < 8 → bytes ≡ take n buffer → drop n buffer ≡ replicate (16 - n) 0 → word ≡ le_at w64 (take 8 buffer) 0 → size ≡ n * 2 ^ 56
+    → finalization 3 (compression 1 (initialization key) (word + size)) ≡ sip_hash 1 3 key bytes
+unfolding words
+one_word key bytes buffer n word size lb lt is zeros ew es =
+    let long : length bytes ≡ n = ap length is ∙ length-take-le n buffer (omega (arith, lb)) in
+    let none : length bytes / 8 ≡ 0 = omega (arith, long) in
+    let eight : length (take 8 buffer) ≡ 8 = length-take-le 8 buffer (omega (arith, lb)) in
+    let front : le_number (take 8 buffer) ≡ le_number bytes = begun_is bytes buffer n lb lt is zeros in
+    let number : word ≡ le_number bytes = ew ∙ (u64_is (take 8 buffer) 0 (omega (arith, eight)) ∙ (ap le_number (take_all 8 (take 8 buffer) (omega (arith, eight))) ∙ front)) in
+    let left : le_number (tail bytes) ≡ le_number bytes = ap (λ (k : ℕ). le_number (drop (8 * k) bytes)) none in
+    let last : word + size ≡ le_number (drop (8 * (length bytes / 8)) (padded bytes)) = omega (arith, es, number, left, long, last_is_sum bytes) in
+    hash_is key bytes (initialization key) (initialization key) _ _ refl (ap (λ (k : ℕ). fold (compression 1) (initialization key) (words k bytes)) (sym none)) last refl
+
+-- eight and more: a whole word, and the last
+pub two_words : (key : ℕ × ℕ) (bytes buffer : List ℕ) (n first word size : ℕ) → length buffer ≡ 16 → 8 ≤ n → n < 16 → bytes ≡ take n buffer → drop n buffer ≡ replicate (16 - n) 0 → first ≡ word_at buffer 0 → word ≡ le_at w64 (take 8 (drop 8 buffer)) 0 → size ≡ n * 2 ^ 56
+    → finalization 3 (compression 1 (compression 1 (initialization key) first) (word + size)) ≡ sip_hash 1 3 key bytes
+unfolding words
+two_words key bytes buffer n first word size lb le lt is zeros ef ew es =
+    let long : length bytes ≡ n = ap length is ∙ length-take-le n buffer (omega (arith, lb)) in
+    let one : length bytes / 8 ≡ 1 = omega (arith, long) in
+    let whole : bytes ++ replicate (16 - n) 0 ≡ buffer = (λ i. is i ++ sym zeros i) ∙ take-append-drop n buffer in
+    let front : take 8 buffer ≡ take 8 bytes = ap (take 8) (sym whole) ∙ take-append-le 8 bytes (replicate (16 - n) 0) (omega (arith, long)) in
+    let behind : drop 8 buffer ≡ drop 8 bytes ++ replicate (16 - n) 0 = ap (drop 8) (sym whole) ∙ drop-append-le 8 bytes (replicate (16 - n) 0) (omega (arith, long)) in
+    let eight : length (drop 8 buffer) ≡ 8 = omega (arith, length-drop 8 buffer, lb) in
+    let all : take 8 (drop 8 buffer) ≡ drop 8 buffer = take_all 8 (drop 8 buffer) (omega (arith, eight)) in
+    let number : word ≡ le_number (drop 8 bytes) = ew ∙ (ap (λ (bs : List ℕ). le_at w64 bs 0) all ∙ (u64_is (drop 8 buffer) 0 (omega (arith, eight)) ∙ (ap le_number (all ∙ behind) ∙ number-zeros (drop 8 bytes) (16 - n)))) in
+    let head : first ≡ le_number (take 8 bytes) = ef ∙ (word_is buffer 0 (omega (arith, lb)) ∙ ap le_number front) in
+    let state : compression 1 (initialization key) first ≡ fold (compression 1) (initialization key) (words (length bytes / 8) bytes) =
+    ap (compression 1 (initialization key)) head ∙ ap (λ (k : ℕ). fold (compression 1) (initialization key) (words k bytes)) (sym one) in
+    let left : le_number (tail bytes) ≡ le_number (drop 8 bytes) = ap (λ (k : ℕ). le_number (drop (8 * k) bytes)) one in
+    let last : word + size ≡ le_number (drop (8 * (length bytes / 8)) (padded bytes)) = omega (arith, es, number, left, long, last_is_sum bytes) in
+    hash_is key bytes (initialization key) _ _ _ refl state last refl
+
+pub ended_zeros : (buffer : List ℕ) (n : ℕ) → length buffer ≡ 16 → 8 ≤ n → drop n buffer ≡ replicate (16 - n) 0 → drop (n - 8) (take 8 (drop 8 buffer)) ≡ replicate (8 - (n - 8)) 0
+ended_zeros buffer n lb le zeros =
+    ap (drop (n - 8)) (take_all 8 (drop 8 buffer) (omega (arith, lb, length-drop 8 buffer)))
+    ∙ (drop-drop (n - 8) 8 buffer ∙ (ap (λ (k : ℕ). drop k buffer) (omega arith) ∙ (zeros ∙ ap (λ (k : ℕ). replicate k 0) (omega arith))))

@@ -6,7 +6,8 @@ ghost use Rattle.sketch_base.specs.SipHash.{sip_hash_1_3};
 
 use crate::murmurhash::finalization;
 use crate::short_copy::copy_short;
-use crate::sip_hash::{HashKey, keyed_hash};
+use crate::sip_hash::{HashKey, begun_word, hash_of_two_words, hash_of_word};
+use crate::words::word_at;
 use std::hash::Hasher;
 use std::marker::Model;
 
@@ -78,7 +79,13 @@ impl ShortBytes {
         requires { length self.now < 16 }
         ensures { result ≡ sip_hash_1_3 key self.now }
     {
-        keyed_hash(key, &self.buffer[..self.len])
+        let size = (self.len as u64) << 56;
+        if self.len < 8 {
+            hash_of_word(key, begun_word(&self.buffer[..8], self.len) + size)
+        } else {
+            let last = begun_word(&self.buffer[8..], self.len - 8) + size;
+            hash_of_two_words(key, word_at(&self.buffer, 0), last)
+        }
     }
 }
 

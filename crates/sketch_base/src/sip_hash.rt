@@ -1,6 +1,8 @@
 //! SipHash-1-3 of bytes under a secret key.
-ghost use Rattle.std.specs.Prelude.{◌≡◌, ◌*◌, ◌/◌, length, drop};
+ghost use Rattle.std.specs.Prelude.{◌≡◌, ◌-◌, ◌*◌, ◌/◌, ◌^◌, ◌<◌, length, drop, replicate};
+ghost use Rattle.std.specs.Int.{w64};
 ghost use Rattle.std.specs.List.{fold};
+ghost use Rattle.sketch_base.specs.Fields.{le_at};
 ghost use Rattle.sketch_base.specs.MachineWords.{le_number};
 ghost use Rattle.sketch_base.specs.MachineWords as words;
 ghost use Rattle.sketch_base.specs.SipHash as spec;
@@ -138,6 +140,37 @@ pub(crate) fn finalization(v: State) -> u64
 {
     let after = sip_round(sip_round(sip_round((v.0, v.1, v.2 ^ 0xFF, v.3))));
     after.0 ^ after.1 ^ after.2 ^ after.3
+}
+
+/// Returns the number of the bytes of a word that is not whole yet. `_used` is their number, and zeros follow them.
+#[inline(always)]
+pub(crate) fn begun_word(word: &[u8], _used: usize) -> u64
+    requires word { length word.now ≡ 8 }
+    requires used { _used < 8 }
+    requires zeros { drop _used word.now ≡ replicate (8 - _used) 0 }
+    ensures word { result ≡ le_at w64 word.now 0 }
+    ensures below { result < 2 ^ 56 }
+{
+    u64_at(word, 0)
+}
+
+/// Returns the hash of one word, the last.
+///
+/// It is not inlined, and neither is that of two words. A caller with another hash beside this one keeps its registers.
+#[inline(never)]
+pub(crate) fn hash_of_word(key: HashKey, last: u64) -> u64
+    ensures { result ≡ spec.finalization 3 (spec.compression 1 (spec.initialization key) last) }
+{
+    finalization(compression(initialization(key), last))
+}
+
+/// Returns the hash of two words.
+#[inline(never)]
+pub(crate) fn hash_of_two_words(key: HashKey, first: u64, last: u64) -> u64
+    ensures { result
+        ≡ spec.finalization 3 (spec.compression 1 (spec.compression 1 (spec.initialization key) first) last) }
+{
+    finalization(compression(compression(initialization(key), first), last))
 }
 
 /// Returns SipHash-1-3 of bytes under a key. Does not allocate.

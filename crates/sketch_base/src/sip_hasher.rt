@@ -1,13 +1,13 @@
 //! SipHash-1-3 as a hasher of bytes that arrive in pieces.
-ghost use Rattle.std.specs.Prelude.{◌≡◌, ℕ, ◌+◌, ◌-◌, ◌^◌, ◌<◌, ◌≤◌, List, [], length, drop, replicate};
-ghost use Rattle.std.specs.Int.{w64};
-ghost use Rattle.sketch_base.specs.Fields.{le_at};
+ghost use Rattle.std.specs.Prelude.{◌≡◌, ℕ, ◌+◌, ◌≤◌, List, [], length};
 ghost use Rattle.sketch_base.specs.SipHash.{sip_hash_1_3};
 ghost use Rattle.sketch_base.specs.SipHashState as pieces;
 
 use crate::image::u64_at;
 use crate::short_copy::copy_short;
-use crate::sip_hash::{HashKey, State, compress_words, compression, finalization, initialization};
+use crate::sip_hash::{
+    HashKey, State, begun_word, compress_words, compression, finalization, initialization,
+};
 use std::hash::Hasher;
 use std::marker::Model;
 
@@ -102,18 +102,6 @@ impl SipHasher13 {
         self.buffer = [0; 8];
         copy_short(&mut self.buffer[..tail.len()], tail);
     }
-}
-
-/// Returns the number of the bytes since the last whole word, of which there are `_used`.
-#[inline(always)]
-fn begun_word(buffer: &[u8], _used: usize) -> u64
-    requires buffer { length buffer.now ≡ 8 }
-    requires used { _used < 8 }
-    requires zeros { drop _used buffer.now ≡ replicate (8 - _used) 0 }
-    ensures word { result ≡ le_at w64 buffer.now 0 }
-    ensures below { result < 2 ^ 56 }
-{
-    u64_at(buffer, 0)
 }
 
 impl Hasher for SipHasher13 {

@@ -254,7 +254,9 @@ pub fn keyed_hash_of_str(key: HashKey, text: &str) -> u64
 }
 
 /// Returns SipHash-1-3 of bytes and the byte 255, under a key.
-#[inline(always)]
+///
+/// It is not inlined. A caller with another hash beside this one keeps its registers.
+#[inline(never)]
 fn keyed_hash_of_ended(key: HashKey, bytes: &[u8]) -> u64
     ensures { result ≡ sip_hash_1_3 key (fed_bytes fed.str bytes.now) }
 {

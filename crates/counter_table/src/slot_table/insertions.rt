@@ -29,7 +29,7 @@ impl<T: Eq + Hash + Drop> SlotTable<T> {
         ensures size { length self.new.slots ≡ length self.old.slots }
         ensures key { self.new.key ≡ self.old.key }
     {
-        let probe = self.as_slices().find(key);
+        let probe = self.find(key);
         match probe.found {
             Some(_) => {
                 self.add_at(probe.index, amount);
@@ -69,7 +69,7 @@ impl<T: Eq + Hash + Drop> SlotTable<T> {
         ensures size { length self.new.slots ≡ length self.old.slots }
         ensures key { self.new.key ≡ self.old.key }
     {
-        let probe = self.as_slices().find(&item);
+        let probe = self.find(&item);
         match probe.found {
             Some(_) => {
                 self.add_at(probe.index, amount);
@@ -108,7 +108,7 @@ impl<T: Eq + Hash + Drop> SlotTable<T> {
         ensures memory { IfErr result (λ e. e ≡ no_memory) }
         ensures succeeds { is_tracked T.eq (entries_of self.old.slots) item.now ≡ true → IsOk result }
     {
-        let probe = self.as_slices().find(item);
+        let probe = self.find(item);
         match probe.found {
             Some(_) => {
                 self.add_at(probe.index, amount);
@@ -145,7 +145,7 @@ impl<T: Eq + Hash + Drop> SlotTable<T> {
         ensures memory { IfErr result (λ e. e ≡ no_memory) }
         ensures succeeds { is_tracked_by_key (K.names key) (entries_of self.old.slots) ≡ true → IsOk result }
     {
-        let probe = self.as_slices().find(key);
+        let probe = self.find(key);
         match probe.found {
             Some(_) => {
                 self.add_at(probe.index, amount);

@@ -57,27 +57,9 @@ impl<'a, T: Eq + Hash> Model for SlotSlices<'a, T> {
 }
 
 impl<'a, T: Eq + Hash> SlotSlices<'a, T> {
-    /// Looks up the item that the key names, from its home slot on.
-    ///
-    /// Each kind of hash has a look-up of its own, so that the compiler keeps apart what each of them needs.
-    #[inline(always)]
-    pub(crate) fn find<K: ItemKey<T>>(&self, key: K) -> Probe
-        requires { IsSlots T.eq (hash_in self.now.key T.hash_input) self.now.slots }
-        ensures probe { IsProbe (K.names key) (home_in (hash_in self.now.key K.hash_input) (length self.now.slots) key)
-            self.now.slots result.index result.found result.probed }
-        ensures hash { result.hash ≡ hash_in self.now.key K.hash_input key }
-    {
-        match self.key {
-            TableKey::Plain => self.find_from(key, hash_of::<T, K>(TableKey::Plain, key)),
-            TableKey::Keyed(secret) => {
-                self.find_from(key, hash_of::<T, K>(TableKey::Keyed(secret), key))
-            }
-        }
-    }
-
     /// Looks up the item that the key names, from its home slot on, with the key's hash.
     #[inline(always)]
-    fn find_from<K: ItemKey<T>>(&self, key: K, hash: u64) -> Probe
+    pub(crate) fn find_from<K: ItemKey<T>>(&self, key: K, hash: u64) -> Probe
         requires slots { IsSlots T.eq (hash_in self.now.key T.hash_input) self.now.slots }
         requires hash { hash ≡ hash_in self.now.key K.hash_input key }
         ensures probe { IsProbe (K.names key) (home_in (hash_in self.now.key K.hash_input) (length self.now.slots) key)
@@ -145,18 +127,48 @@ impl<'a, T: Eq + Hash> SlotSlices<'a, T> {
         }
     }
 
-    /// Returns the count of an item, 0 if it is absent.
+    /// Writes the count of each item to `counts`, 0 if it is absent. Requires the key of the table.
     #[inline(always)]
-    fn count(&self, item: &T) -> u64
-        requires { IsSlots T.eq (hash_in self.now.key T.hash_input) self.now.slots }
-        ensures { result ≡ count_of T.eq (entries_of self.now.slots) item.now }
+    fn counts_under(&self, key: &TableKey, items: &[T], counts: &mut [u64])
+        requires slots { IsSlots T.eq (hash_in self.now.key T.hash_input) self.now.slots }
+        requires key { key.now ≡ self.now.key }
+        requires same { length counts.old ≡ length items.now }
+        ensures { counts.new ≡ map (count_of T.eq (entries_of self.now.slots)) items.now }
     {
-        self.find(item).found.unwrap_or(0)
+        // The label names the loop for its proof.
+        'each: for i in 0..items.len() {
+            let item = &items[i];
+            let probe = self.find_from(item, hash_of::<T, &T>(*key, item));
+            counts[i] = probe.found.unwrap_or(0);
+        }
     }
 }
 
 impl<T: Eq + Hash + Drop> SlotTable<T> {
-    /// Writes the count of each item to `counts`, 0 if it is absent.
+    /// Looks up the item that the key names, from its home slot on.
+    ///
+    /// Each kind of hash has a look-up of its own, so that the compiler keeps apart what each of them needs. The hash comes
+    /// first, so that nothing of the table waits for it in a register.
+    #[inline(always)]
+    pub(crate) fn find<K: ItemKey<T>>(&self, key: K) -> Probe
+        requires { IsSlots T.eq (hash_in self.now.key T.hash_input) self.now.slots }
+        ensures probe { IsProbe (K.names key) (home_in (hash_in self.now.key K.hash_input) (length self.now.slots) key)
+            self.now.slots result.index result.found result.probed }
+        ensures hash { result.hash ≡ hash_in self.now.key K.hash_input key }
+    {
+        match self.key() {
+            TableKey::Plain => {
+                let hash = hash_of::<T, K>(TableKey::Plain, key);
+                self.as_slices().find_from(key, hash)
+            }
+            TableKey::Keyed(secret) => {
+                let hash = hash_of::<T, K>(TableKey::Keyed(secret), key);
+                self.as_slices().find_from(key, hash)
+            }
+        }
+    }
+
+    /// Writes the count of each item to `counts`, 0 if it is absent. Each kind of hash has a loop of its own.
     ///
     /// It is not inlined, so that its loops have the processor's registers to themselves.
     #[inline(never)]
@@ -166,9 +178,9 @@ impl<T: Eq + Hash + Drop> SlotTable<T> {
         ensures { counts.new ≡ map (count_of T.eq (entries_of self.now.slots)) items.now }
     {
         let slices = self.as_slices();
-        // The label names the loop for its proof.
-        'each: for i in 0..items.len() {
-            counts[i] = slices.count(&items[i]);
+        match self.key() {
+            TableKey::Plain => slices.counts_under(&TableKey::Plain, items, counts),
+            TableKey::Keyed(secret) => slices.counts_under(&TableKey::Keyed(secret), items, counts),
         }
     }
 }

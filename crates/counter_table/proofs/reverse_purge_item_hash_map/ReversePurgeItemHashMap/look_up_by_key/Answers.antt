@@ -1,10 +1,10 @@
 use Rattle.std.proofs.Common.{sym}
-use Rattle.counter_table.proofs.LookupProbes.{key_found_lent}
+use Rattle.counter_table.proofs.LookupProbes.{key_found_of}
 use Rattle.counter_table.proofs.reverse_purge_item_hash_map.ReversePurgeItemHashMap.look_up_by_key.Goals as goal
 
 pub returns : goal.returns
 returns g c =
-    sym (key_found_lent (g.met.K.ItemKey.respects_hash c.args.key) (g.met.K.ItemKey.respects_eq c.args.key) c.self.inside.table c.as_slices.result c.self.invariant.slots_ok c.args.self.now c.self.view_is c.as_slices.ensures _ _ _ c.find.ensures.probe)
+    sym (key_found_of (g.met.K.ItemKey.respects_hash c.args.key) (g.met.K.ItemKey.respects_eq c.args.key) c.self.inside.table c.self.invariant.slots_ok c.args.self.now c.self.view_is _ _ _ c.find.ensures.probe)
 
 pub find-requires : goal.find-requires
-find-requires g c = rw c.as_slices.ensures c.self.invariant.slots_ok
+find-requires g c = c.self.invariant.slots_ok

@@ -1,7 +1,7 @@
 use Rattle.std.proofs.Common.{◌≡◌, map, take}
 use Rattle.counter_table.specs.Slots.{entries_of}
 use Rattle.counter_table.specs.Tables.{count_of}
-use Rattle.counter_table.proofs.slot_table.SlotTable.counts_of.Given as goal
+use Rattle.counter_table.proofs.slot_table.look_ups.SlotSlices.counts_under.Given as goal
 
 -- the counts so far are written
 abbrev pub invariant-each : goal.invariant-each
