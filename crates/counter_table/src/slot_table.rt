@@ -142,10 +142,11 @@ impl<T: Eq + Hash + Drop> SlotTable<T> {
         ensures key { IfOk result (λ table. table.key ≡ self.now.key) }
         ensures err { IfErr result (λ e. e ≡ no_memory) }
     {
+        let key = self.key();
         let slots = clone_slots(self.allocator(), &self.slots)?;
         let fingerprints = self.fingerprints.clone()?;
         Ok(SlotTable {
-            key: self.key,
+            key,
             slots,
             fingerprints,
         })
