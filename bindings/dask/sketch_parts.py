@@ -386,7 +386,7 @@ def weight(text: str, least: int, most: int) -> int:
 
 @dataclass(frozen=True)
 class Heavy:
-    """Frequent items, in a table of at most `size` slots. Each table hashes under `key`, or under a key of its own if it is None."""
+    """Frequent items, in a table of at most `size` slots. It hashes under `key`, or under its own random key if that is None."""
 
     size: int
     item: type | str = str

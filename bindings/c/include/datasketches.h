@@ -20,8 +20,8 @@
  *     DS_INVALID_UTF8, DS_BAD_FRACTION.
  *  3. Errors of handles: DS_NO_SKETCH if the handle has no sketch, DS_WRONG_KIND if its sketch is of a kind without this call;
  *     of several handles, the first one's that has such an error, in the order of arguments and of an array. All calls return
- *     these but `ds_free`, those whose names end in `_new` or `_deserialize`, and the calls for sizes at the end. `ds_clone` and
- *     `ds_memory_bytes` take any kind.
+ *     these but `ds_free`, those whose names end in `_new`, `_deserialize` or `_with_key`, and the calls for sizes at the end.
+ *     `ds_clone` and `ds_memory_bytes` take any kind.
  *  4. The errors in the call's comment, in their order there. DS_NO_MEMORY comes when an allocation fails, which may be earlier.
  *     DS_NO_ROOM of `serialize` and `rows` comes last.
  *
@@ -401,9 +401,9 @@ int32_t ds_count_min_i64_deserialize(ds_sketch *handle, const uint8_t *image, si
  *
  * `new` and `deserialize` draw a key. The first call of a process asks the system for two random words. Each call counts the
  * first word up, so no two sketches of a process get the same key. After a `fork`, parent and child count on from the same words,
- * which stay secret. If the system has no random bytes, these calls return DS_NO_RANDOM before any other error.
+ * which stay secret. If the system has no random bytes, these calls return DS_NO_RANDOM. Only DS_BAD_ARGUMENT comes before.
  *
- * `new_with_key` and `deserialize_with_key` take the key from the caller. Runs with the same keys are reproducible: the same calls
+ * `new_with_key` and `deserialize_with_key` take the key from the caller. With the same keys a run is reproducible: the same calls
  * have the same results. Runs with drawn keys may differ in the counters that purges remove, so in bounds and rows, within the
  * same guarantees. They also differ in the order of rows of equal estimates and of the items in an image. If others choose the
  * items, choose both words at random and keep them secret. --- */

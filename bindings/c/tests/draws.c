@@ -130,7 +130,7 @@ static void in_turn(void)
     ds_free(&sketch);
 }
 
-/* Without random bytes each call returns an error, before any other and without a change, until there are some. */
+/* Without random bytes each call returns an error, before those of sizes and images, and changes nothing, until there are some. */
 static void no_random_bytes(void)
 {
     ds_sketch none = DS_NONE, sketch = DS_NONE;
