@@ -1,9 +1,10 @@
 /* The calls that create or read a sketch of frequent items without a key from the caller. Each draws a key and passes it to the
  * call of the same name with `_with_key`.
  *
- * The first call of a process asks the system for two random words. Each call counts the first word up, so no two sketches of a
- * process get the same key. Both words stay secret, also after a `fork`. Then parent and child count on from the same words, so a
- * sketch of one may have the same key as a sketch of the other. There is no lock that a `fork` could leave held. */
+ * The first call of a process asks the system for two random words. Each call counts the first word up, as Rust's `RandomState`
+ * does, so no two sketches of a process get the same key. Both words stay secret, also after a `fork`. Then parent and child count
+ * on from the same words, so a sketch of one may have the same key as a sketch of the other. There is no lock that a `fork` could
+ * leave held. */
 #define _POSIX_C_SOURCE 200809L
 
 #include "datasketches.h"
