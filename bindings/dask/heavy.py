@@ -26,13 +26,16 @@ def words_of(arguments: Sequence[str] | None) -> argparse.Namespace:
     parser.add_argument("--top", type=engine.positive, default=20, metavar="N", help="print at most N items (%(default)s)")
     parser.add_argument("--threshold", type=engine.whole_number(0, 2**64 - 1), default=0, metavar="WEIGHT",
                         help="print items whose upper bound is above WEIGHT, not those where it is equal (%(default)s)")
+    parser.add_argument("--key", type=engine.key_of, metavar="HEX",
+                        help="hash under these 32 hexadecimal digits, so that runs over the same parts have the same result (a "
+                             "random key for each sketch)")
     engine.add_engine_words(parser)
     return parser.parse_args(arguments)
 
 
 def heaviest(words: argparse.Namespace) -> dict[str, Any]:
     """Counts, and returns the heaviest items and the smallest known weight above which no item is missing."""
-    shape = Heavy(words.size)
+    shape = Heavy(words.size, key=words.key)
     shape.empty()
     parts = engine.cut_files(words.files, words.parts, words=words.words, **engine.items_of(words))
     with engine.connect(words.workers, words.scheduler, threads=words.column is None) as client:

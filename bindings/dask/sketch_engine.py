@@ -78,6 +78,13 @@ def whole_number(least: int, most: int = 2**63 - 1) -> Callable[[str], int]:
 positive = whole_number(1)
 
 
+def key_of(text: str) -> bytes:
+    """Reads a key of 16 bytes."""
+    if not re.fullmatch("[0-9a-fA-F]{32}", text):
+        raise argparse.ArgumentTypeError("a key is 32 hexadecimal digits")
+    return bytes.fromhex(text)
+
+
 def delimiter_of(text: str) -> str:
     """Reads the character between columns."""
     return "\t" if text == r"\t" else text

@@ -386,17 +386,18 @@ def weight(text: str, least: int, most: int) -> int:
 
 @dataclass(frozen=True)
 class Heavy:
-    """Frequent items, in a table of at most `size` slots."""
+    """Frequent items, in a table of at most `size` slots. It hashes under `key`, or under its own random key if that is None."""
 
     size: int
     item: type | str = str
+    key: bytes | None = None
     least, most = 0, 2**64 - 1
 
     def empty(self) -> ds.FrequentItemsSketch:
-        return ds.FrequentItemsSketch(self.size, item=self.item)
+        return ds.FrequentItemsSketch(self.size, item=self.item, key=self.key)
 
     def read(self, image: bytes) -> ds.FrequentItemsSketch:
-        return ds.FrequentItemsSketch.deserialize(image, item=self.item, max_bytes=None)
+        return ds.FrequentItemsSketch.deserialize(image, item=self.item, max_bytes=None, key=self.key)
 
     def add(self, sketch: ds.FrequentItemsSketch, batch: Batch) -> None:
         sketch.update(batch.items, 1 if batch.weights is None else batch.weights)

@@ -20,8 +20,8 @@
  *     DS_INVALID_UTF8, DS_BAD_FRACTION.
  *  3. Errors of handles: DS_NO_SKETCH if the handle has no sketch, DS_WRONG_KIND if its sketch is of a kind without this call;
  *     of several handles, the first one's that has such an error, in the order of arguments and of an array. All calls return
- *     these but `ds_free`, those whose names end in `_new` or `_deserialize`, and the calls for sizes at the end. `ds_clone` and
- *     `ds_memory_bytes` take any kind.
+ *     these but `ds_free`, those whose names end in `_new`, `_deserialize` or `_with_key`, and the calls for sizes at the end.
+ *     `ds_clone` and `ds_memory_bytes` take any kind.
  *  4. The errors in the call's comment, in their order there. DS_NO_MEMORY comes when an allocation fails, which may be earlier.
  *     DS_NO_ROOM of `serialize` and `rows` comes last.
  *
@@ -76,7 +76,8 @@ enum {
     DS_WRONG_KIND = -2,    /* the sketch is of a kind without this call */
     DS_NO_ROOM = -3,       /* a buffer of the caller has not the length that the call needs */
     DS_BAD_FRACTION = -4,  /* a fraction is not above 0 and at most 1 */
-    DS_BAD_ARGUMENT = -5   /* from this header alone: the same handle twice, null with a count above 0, or null in a pair */
+    DS_BAD_ARGUMENT = -5,  /* from this header alone: the same handle twice, null with a count above 0, or null in a pair */
+    DS_NO_RANDOM = -7      /* a key was to be drawn, and the system has no random bytes */
 };
 
 /* The errors of sketches: number, constant, name and message of each. */
@@ -131,6 +132,7 @@ static inline const char *ds_result_name(int32_t result)
     case DS_NO_ROOM: return "NoRoom";
     case DS_BAD_FRACTION: return "BadFraction";
     case DS_BAD_ARGUMENT: return "BadArgument";
+    case DS_NO_RANDOM: return "NoRandom";
     DS_SKETCH_ERRORS(DS_AS_NAME)
     default: return result < 0 ? "Unknown" : "Ok";
     }
@@ -147,6 +149,7 @@ static inline const char *ds_result_message(int32_t result)
     case DS_NO_ROOM: return "the buffer has not the length that is needed";
     case DS_BAD_FRACTION: return "the fraction is not above 0 and at most 1";
     case DS_BAD_ARGUMENT: return "the same handle twice, or null with a count above 0 or in a pair";
+    case DS_NO_RANDOM: return "the system has no random bytes for a key";
     DS_SKETCH_ERRORS(DS_AS_MESSAGE)
     default: return result < 0 ? "unknown" : "ok";
     }
@@ -391,7 +394,19 @@ int32_t ds_count_min_i64_get_status(ds_sketch *handle, ds_count_min_status *stat
 int32_t ds_count_min_i64_serialize(ds_sketch *handle, uint8_t *out, size_t capacity, size_t *written);
 int32_t ds_count_min_i64_deserialize(ds_sketch *handle, const uint8_t *image, size_t length, uint64_t seed, size_t max_bytes);
 
-/* --- Frequent items: the items of the largest weights, in at most three quarters of `max_map_size` counters. --- */
+/* --- Frequent items: the items of the largest weights, in at most three quarters of `max_map_size` counters.
+ *
+ * A sketch's table hashes items by SipHash-1-3 under a key of two words. Without the key, no way is known to choose items that
+ * slow the sketch down. A clone has the key of its original. A merge keeps the handle's own key. An image has no key.
+ *
+ * `new` and `deserialize` draw a key. The first call of a process asks the system for two random words. Each call counts the
+ * first word up, so no two sketches of a process get the same key. After a `fork`, parent and child count on from the same words,
+ * which stay secret. If the system has no random bytes, these calls return DS_NO_RANDOM. Only DS_BAD_ARGUMENT comes before.
+ *
+ * `new_with_key` and `deserialize_with_key` take the key from the caller. With the same keys a run is reproducible: the same calls
+ * have the same results. Runs with drawn keys may differ in the counters that purges remove, so in bounds and rows, within the
+ * same guarantees. They also differ in the order of rows of equal estimates and of the items in an image. If others choose the
+ * items, choose both words at random and keep them secret. --- */
 
 /* An item's bounds. Its true weight lies between the lower and the upper one, which differ by the sketch's error. */
 typedef struct ds_frequent_items_bounds {
@@ -400,13 +415,19 @@ typedef struct ds_frequent_items_bounds {
     uint64_t upper_bound;
 } ds_frequent_items_bounds;
 
-/* Puts an empty sketch into the handle. Its table may grow to `max_map_size` slots, a power of two from 8 to 2^30. Its purges
- * sample `sample_size` counters, an even number from 2 to three quarters of `max_map_size`, at most 1024. The largest sample
- * has the strongest guarantee: see `ds_frequent_items_max_sample_size`. Returns DS_MAP_SIZE_NOT_POWER_OF_TWO,
- * DS_MAP_SIZE_TOO_SMALL, DS_MAP_SIZE_TOO_LARGE, DS_BAD_SAMPLE_SIZE, or DS_NO_MEMORY. */
+/* Puts an empty sketch into the handle, under a drawn key. Its table may grow to `max_map_size` slots, a power of two from 8 to
+ * 2^30. Its purges sample `sample_size` counters, an even number from 2 to three quarters of `max_map_size`, at most 1024. The
+ * largest sample has the strongest guarantee: see `ds_frequent_items_max_sample_size`. Returns DS_NO_RANDOM,
+ * DS_MAP_SIZE_NOT_POWER_OF_TWO, DS_MAP_SIZE_TOO_SMALL, DS_MAP_SIZE_TOO_LARGE, DS_BAD_SAMPLE_SIZE, or DS_NO_MEMORY. */
 int32_t ds_frequent_items_u64_new(ds_sketch *handle, size_t max_map_size, size_t sample_size);
 int32_t ds_frequent_items_i64_new(ds_sketch *handle, size_t max_map_size, size_t sample_size);
 int32_t ds_frequent_items_string_new(ds_sketch *handle, size_t max_map_size, size_t sample_size);
+
+/* Puts an empty sketch into the handle, under the key of two words. Otherwise as the calls without a key. */
+int32_t ds_frequent_items_u64_new_with_key(ds_sketch *handle, size_t max_map_size, size_t sample_size, uint64_t k0, uint64_t k1);
+int32_t ds_frequent_items_i64_new_with_key(ds_sketch *handle, size_t max_map_size, size_t sample_size, uint64_t k0, uint64_t k1);
+int32_t ds_frequent_items_string_new_with_key(ds_sketch *handle, size_t max_map_size, size_t sample_size, uint64_t k0,
+                                              uint64_t k1);
 
 /* Returns the largest sample size for a `max_map_size`. */
 static inline size_t ds_frequent_items_max_sample_size(size_t max_map_size)
@@ -510,14 +531,22 @@ int32_t ds_frequent_items_u64_serialize(ds_sketch *handle, uint8_t *out, size_t 
 int32_t ds_frequent_items_i64_serialize(ds_sketch *handle, uint8_t *out, size_t capacity, size_t *written);
 int32_t ds_frequent_items_string_serialize(ds_sketch *handle, uint8_t *out, size_t capacity, size_t *written);
 
-/* Reads a sketch from its image and puts it into the handle. It takes the largest sample size, since an image has none.
- * Returns the error of the image's first failed check. Returns DS_TABLE_TOO_LARGE if the table takes more than `max_bytes` by
- * the formula of `ds_memory_bytes`. With strings, all bytes of `image` after the weights are added to the table's. Returns
- * DS_NO_MEMORY. Before both come the checks of the image's length and fields. The checks of the weights and the items come
- * after them. */
+/* Reads a sketch from its image and puts it into the handle, under a drawn key. It takes the largest sample size, since an image
+ * has none. Returns DS_NO_RANDOM. Returns the error of the image's first failed check. Returns DS_TABLE_TOO_LARGE if the table
+ * takes more than `max_bytes` by the formula of `ds_memory_bytes`. With strings, all bytes of `image` after the weights are added
+ * to the table's. Returns DS_NO_MEMORY. Before both come the checks of the image's length and fields. The checks of the weights
+ * and the items come after them. */
 int32_t ds_frequent_items_u64_deserialize(ds_sketch *handle, const uint8_t *image, size_t length, size_t max_bytes);
 int32_t ds_frequent_items_i64_deserialize(ds_sketch *handle, const uint8_t *image, size_t length, size_t max_bytes);
 int32_t ds_frequent_items_string_deserialize(ds_sketch *handle, const uint8_t *image, size_t length, size_t max_bytes);
+
+/* Reads a sketch from its image and puts it into the handle, under the key of two words. Otherwise as the calls without a key. */
+int32_t ds_frequent_items_u64_deserialize_with_key(ds_sketch *handle, const uint8_t *image, size_t length, size_t max_bytes,
+                                                   uint64_t k0, uint64_t k1);
+int32_t ds_frequent_items_i64_deserialize_with_key(ds_sketch *handle, const uint8_t *image, size_t length, size_t max_bytes,
+                                                   uint64_t k0, uint64_t k1);
+int32_t ds_frequent_items_string_deserialize_with_key(ds_sketch *handle, const uint8_t *image, size_t length, size_t max_bytes,
+                                                      uint64_t k0, uint64_t k1);
 
 /* Writes the items whose bound exceeds both the threshold and the sketch's error, in rows of descending estimates: an item and
  * its bounds each, at the front of both buffers, and the number of rows to `count`. The rest of the buffers stays as it was.
@@ -590,6 +619,13 @@ static inline bool ds_have_handle(const ds_sketch *others, size_t count, const d
     { \
         if (!image && length) return DS_BAD_ARGUMENT; \
         return call(handle, image ? image : (const uint8_t *)ds_no_values(), length, seed, max_bytes); \
+    }
+#define DS_CHECK_IMAGE_AND_KEY(call) \
+    static inline int32_t call##_checked(ds_sketch *handle, const uint8_t *image, size_t length, size_t max_bytes, uint64_t k0, \
+                                         uint64_t k1) \
+    { \
+        if (!image && length) return DS_BAD_ARGUMENT; \
+        return call(handle, image ? image : (const uint8_t *)ds_no_values(), length, max_bytes, k0, k1); \
     }
 #define DS_CHECK_ITEMS_AND_RESULTS(call, type, result) \
     static inline int32_t call##_checked(ds_sketch *handle, const type *items, size_t count, result *results, \
@@ -748,6 +784,9 @@ DS_CHECK_BUFFER(ds_frequent_items_string_serialize)
 DS_CHECK_ITEMS_AND(ds_frequent_items_u64_deserialize, uint8_t, size_t)
 DS_CHECK_ITEMS_AND(ds_frequent_items_i64_deserialize, uint8_t, size_t)
 DS_CHECK_ITEMS_AND(ds_frequent_items_string_deserialize, uint8_t, size_t)
+DS_CHECK_IMAGE_AND_KEY(ds_frequent_items_u64_deserialize_with_key)
+DS_CHECK_IMAGE_AND_KEY(ds_frequent_items_i64_deserialize_with_key)
+DS_CHECK_IMAGE_AND_KEY(ds_frequent_items_string_deserialize_with_key)
 DS_CHECK_ROWS(ds_frequent_items_u64_rows, uint64_t)
 DS_CHECK_ROWS(ds_frequent_items_i64_rows, int64_t)
 DS_CHECK_STRING_ROWS(ds_frequent_items_string_rows)
@@ -907,6 +946,12 @@ DS_CHECK_STRING_ROWS(ds_frequent_items_string_rows)
     ds_frequent_items_i64_deserialize_checked(handle, image, length, max_bytes)
 #define ds_frequent_items_string_deserialize(handle, image, length, max_bytes) \
     ds_frequent_items_string_deserialize_checked(handle, image, length, max_bytes)
+#define ds_frequent_items_u64_deserialize_with_key(handle, image, length, max_bytes, k0, k1) \
+    ds_frequent_items_u64_deserialize_with_key_checked(handle, image, length, max_bytes, k0, k1)
+#define ds_frequent_items_i64_deserialize_with_key(handle, image, length, max_bytes, k0, k1) \
+    ds_frequent_items_i64_deserialize_with_key_checked(handle, image, length, max_bytes, k0, k1)
+#define ds_frequent_items_string_deserialize_with_key(handle, image, length, max_bytes, k0, k1) \
+    ds_frequent_items_string_deserialize_with_key_checked(handle, image, length, max_bytes, k0, k1)
 #define ds_frequent_items_u64_rows(handle, no_false_negatives, threshold, items, num_items, bounds, num_bounds, count) \
     ds_frequent_items_u64_rows_checked(handle, no_false_negatives, threshold, items, num_items, bounds, num_bounds, count)
 #define ds_frequent_items_i64_rows(handle, no_false_negatives, threshold, items, num_items, bounds, num_bounds, count) \
@@ -920,6 +965,7 @@ DS_CHECK_STRING_ROWS(ds_frequent_items_string_rows)
 #undef DS_CHECK_ITEMS
 #undef DS_CHECK_ITEMS_AND
 #undef DS_CHECK_IMAGE_AND_SEED
+#undef DS_CHECK_IMAGE_AND_KEY
 #undef DS_CHECK_STRINGS
 #undef DS_CHECK_ITEMS_AND_RESULTS
 #undef DS_CHECK_STRINGS_AND_RESULTS

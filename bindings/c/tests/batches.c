@@ -23,6 +23,9 @@ struct strings {
 
 static bool as_pairs;
 
+/* The words of the key whose bytes are 0 to 15, under which the program runs too. */
+static const uint64_t K0 = 0x0706050403020100, K1 = 0x0f0e0d0c0b0a0908;
+
 static char names[NAMES][64];
 static ds_sketch sketches[NAMES];
 
@@ -42,7 +45,7 @@ static void create(const struct line *it)
     int32_t answer;
     if (strcmp(it->words[0], "bloom") == 0) answer = ds_bloom_new(handle, size, (uint16_t)other, seed);
     else if (strcmp(it->words[0], "countu") == 0) answer = ds_count_min_u64_new(handle, (uint8_t)size, (uint32_t)other, seed);
-    else answer = ds_frequent_items_string_new(handle, size, ds_frequent_items_max_sample_size(size));
+    else answer = ds_frequent_items_string_new_with_key(handle, size, ds_frequent_items_max_sample_size(size), K0, K1);
     if (answer != DS_OK) abort();
     puts("ok");
 }

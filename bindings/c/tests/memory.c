@@ -183,7 +183,8 @@ int main(void)
     for (uint64_t i = 0; i < 64; i++) items[i] = 2;
     for (int form = 0; form < 2; form++) {
         as_pairs = form == 1;
-        DONE(&frequent, ds_frequent_items_string_new(&frequent, 64, 48));
+        /* under a given key, so that each run makes the same allocations */
+        DONE(&frequent, ds_frequent_items_string_new_with_key(&frequent, 64, 48, 7, 8));
         if (!adds_strings(&frequent, NULL) || !adds_strings(&frequent, NULL)) return 1;
         if (!adds_strings(&frequent, items)) return 1;
         if (!tells_of_strings(&frequent)) return 1;

@@ -31,12 +31,13 @@ struct sketches {
     ds_sketch filter, count, signs, frequent;
 };
 
+/* Creates sketches of frequent items under one key, so that those of the same items have the same image. */
 static void create(struct sketches *it)
 {
     memset(it, 0, sizeof *it);
     CHECK(ds_bloom_new(&it->filter, 959, 7, 9001) == DS_OK && ds_count_min_u64_new(&it->count, 4, 128, 9001) == DS_OK);
     CHECK(ds_count_min_i64_new(&it->signs, 4, 128, 9001) == DS_OK);
-    CHECK(ds_frequent_items_string_new(&it->frequent, 64, 48) == DS_OK);
+    CHECK(ds_frequent_items_string_new_with_key(&it->frequent, 64, 48, 7, 8) == DS_OK);
 }
 
 static void clear(struct sketches *it)

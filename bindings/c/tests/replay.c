@@ -17,6 +17,9 @@ struct named {
 
 static struct named sketches[NAMES], images[NAMES];
 
+/* The words of the key whose bytes are 0 to 15, under which the program runs too. */
+static const uint64_t K0 = 0x0706050403020100, K1 = 0x0f0e0d0c0b0a0908;
+
 static struct named *look_up(struct named *table, const char *name)
 {
     for (int i = 0; i < NAMES; i++)
@@ -107,8 +110,8 @@ static void create(char **words)
     if (look_up(sketches, words[1])) { puts("refused NameTaken"); return; }
     struct named *it = place(sketches, words[1]);
     if (strcmp(words[0], "frequent") == 0) {
-        size_t greatest = strtoull(words[2], 0, 10);
-        made(it, ds_frequent_items_string_new(&it->handle, greatest, ds_frequent_items_max_sample_size(greatest)));
+        size_t greatest = strtoull(words[2], 0, 10), sample = ds_frequent_items_max_sample_size(greatest);
+        made(it, ds_frequent_items_string_new_with_key(&it->handle, greatest, sample, K0, K1));
         return;
     }
     uint64_t seed = strtoull(words[4], 0, 10), size = strtoull(words[3], 0, 10);
@@ -125,7 +128,7 @@ static void load(char **words)
     size_t length, most = strtoull(words[3], 0, 10);
     uint8_t *bytes = bytes_of(words[filter || frequent ? 4 : 5], &length);
     if (filter) made(it, ds_bloom_deserialize(&it->handle, bytes, length, most));
-    else if (frequent) made(it, ds_frequent_items_string_deserialize(&it->handle, bytes, length, most));
+    else if (frequent) made(it, ds_frequent_items_string_deserialize_with_key(&it->handle, bytes, length, most, K0, K1));
     else made(it, ds_count_min_u64_deserialize(&it->handle, bytes, length, strtoull(words[4], 0, 10), most));
     free(bytes);
 }

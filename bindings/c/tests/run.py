@@ -25,6 +25,9 @@ CRATE = f"{TOP}/crates/datasketches_c"
 COMPILER = next(name for name in [os.environ.get("CC", "cc"), "gcc", "clang"] if shutil.which(name))
 STRICT = ["-std=c11", "-Wall", "-Wextra", "-Wpedantic", "-Werror"]
 
+# The key of tables under which the program runs where it is compared: the 16 bytes of the key in the C tests.
+TABLE_KEY = {"DATASKETCHES_TABLE_KEY": bytes(range(16)).hex()}
+
 # The C type of each Rust type of an export. A slice is a pointer and a length, and an allocator is not passed.
 CROSSES = {"u8": "uint8_t", "u16": "uint16_t", "u32": "uint32_t", "u64": "uint64_t", "i32": "int32_t", "i64": "int64_t"}
 CROSSES |= {"usize": "size_t", "bool": "bool", "SketchHandle": "ds_sketch", "FilterStatus": "ds_bloom_status"}
@@ -59,6 +62,13 @@ def exported():
             kinds = [it.split(":")[1].strip() for it in inside.split(",") if it.strip()]
             found[name] = (CROSSES[result] if result else "void", [it for kind in kinds for it in in_c(kind)])
     return found
+
+
+def without_key(sources):
+    """Returns the functions of `src/keys.c`, as `exported` does: each has the parameters of the export but the key."""
+    words = ["uint64_t", "uint64_t"]
+    return {name.removesuffix("_with_key"): (result, kinds[:-2] if kinds[-2:] == words else None)
+            for name, (result, kinds) in sources.items() if name.endswith("_with_key")}
 
 
 def declared():
@@ -103,13 +113,14 @@ class Tests:
     def header(self):
         """Compares prototypes with exports, and the header's error numbers, names and strings with the sources."""
         sources, header = exported(), declared()
-        self.check("there are exports", len(sources) > 30)
-        for name in sorted(sources | header):
-            self.check(f"the prototype of {name}", sources.get(name) == header.get(name), (sources.get(name), header.get(name)))
-        for path, flags in [(self.archive, []), (f"{self.built}/libdatasketches.so", ["-D"])]:
+        calls = sources | without_key(sources)
+        self.check("there are exports", len(sources) > 30 and len(calls) == len(sources) + 6)
+        for name in sorted(calls | header):
+            self.check(f"the prototype of {name}", calls.get(name) == header.get(name), (calls.get(name), header.get(name)))
+        for path, flags, wanted in [(self.archive, [], sources), (f"{self.built}/libdatasketches.so", ["-D"], calls)]:
             listed = subprocess.run(["nm", "--defined-only", "-g", *flags, path], capture_output=True, check=True, text=True)
             names = {row.split()[2].split("@")[0] for row in listed.stdout.splitlines() if len(row.split()) == 3}
-            self.check(f"what {os.path.basename(path)} exports", names - {"DATASKETCHES_0"} == set(sources), names ^ set(sources))
+            self.check(f"what {os.path.basename(path)} exports", names - {"DATASKETCHES_0"} == set(wanted), names ^ set(wanted))
         numbers = re.findall(r"Fault::(\w+) => (-\d+)", read(f"{CRATE}/src/status_code.rt"))
         texts = dict(re.findall(r'fault\.\w+ = \(codes "(\w+)", codes "(.*)"\)',
                                 read(f"{TOP}/crates/sketch_base/specs/Faults.antt")))
@@ -120,7 +131,8 @@ class Tests:
             self.check(f"the constant of {name}", constant.replace("_", "") == name.upper())
         others = re.findall(r"pub const (\w+): i32 = (-?\d+);", read(f"{CRATE}/src/status_code.rt"))
         constants = re.findall(r"DS_(\w+) = (-?\d+)", read(f"{C}/include/datasketches.h"))
-        self.check("the other results", set(others) == set(constants) - {("BAD_ARGUMENT", "-5"), ("MIN_RESULT", "-44")})
+        of_c = {("BAD_ARGUMENT", "-5"), ("NO_RANDOM", "-7"), ("MIN_RESULT", "-44")}
+        self.check("the other results", set(others) == set(constants) - of_c, constants)
 
     def calls(self, source):
         """Runs a source's checks plainly, with the address sanitizer, and under valgrind."""
@@ -135,6 +147,13 @@ class Tests:
         checked = self.compile(f"{HERE}/sizes.c", "-g", "-O1", "-fsanitize=address,undefined", "-fno-sanitize-recover=all")
         ran = self.run([checked])
         self.check("sizes", ran.returncode == 0 and b"checks hold" in ran.stdout, ran)
+
+    def keys_drawn(self):
+        """Checks which keys are passed on, also if the system has no random bytes or interrupts the call for them."""
+        calls = [f"ds_frequent_items_{kind}_{call}_with_key" for kind in ["u64", "i64", "string"] for call in ["new", "deserialize"]]
+        wraps = [f"-Wl,--wrap={name}" for name in ["getrandom", "open", *calls]]
+        ran = self.run([self.compile(f"{HERE}/draws.c", "-O2", *wraps)])
+        self.check("keys drawn", ran.returncode == 0 and b"checks hold" in ran.stdout, ran)
 
     def requests_counted(self):
         """Checks the numbers of allocations and of freed blocks, call by call."""
@@ -168,7 +187,7 @@ class Tests:
         for (line, wanted), reply in zip(rows, replies, strict=True):
             self.check(f"known row {line}", reply == wanted, reply)
         lines = "".join(f"{line}\n" for line in by_chance(10_000, shown)).encode()
-        wanted, got = (self.run([it], lines).stdout.splitlines() for it in [self.program, replay])
+        wanted, got = (self.run([it], lines, **TABLE_KEY).stdout.splitlines() for it in [self.program, replay])
         unlike = next((it for it in zip(wanted, got) if it[0] != it[1]), "")
         self.check("ten thousand lines", len(wanted) == 10_000 and wanted == got, (len(wanted), len(got), unlike))
         for name in ["Mismatch", "SameName", "WrongKind", "WeightOverflow", "BadFamily", "BadBitCount", "CellAboveTotal",
@@ -181,7 +200,7 @@ class Tests:
         """Compares runs of lines on one sketch, whose strings are passed in one call, with the program's replies to each line."""
         batches = self.compile(f"{HERE}/batches.c", "-g", "-O1", "-fsanitize=address,undefined", "-fno-sanitize-recover=all")
         lines = "".join(f"{line}\n" for line in runs_by_chance(6_000)).encode()
-        wanted = self.run([self.program], lines).stdout.splitlines()
+        wanted = self.run([self.program], lines, **TABLE_KEY).stdout.splitlines()
         for name, words in [("with offsets", []), ("as pairs", ["pairs"])]:
             got = self.run([batches, *words], lines).stdout.splitlines()
             unlike = next((it for it in zip(wanted, got) if it[0] != it[1]), "")
@@ -295,8 +314,10 @@ def main():
         tests.calls(f"{HERE}/pairs.c")
         tests.calls(f"{HERE}/words.c")
         tests.calls(f"{HERE}/keys.c")
+        tests.calls(f"{HERE}/table_keys.c")
         tests.calls(f"{HERE}/many.c")
         tests.sizes()
+        tests.keys_drawn()
         tests.requests_counted()
         requests = tests.refused_in_turn()
         tests.beside_the_program()

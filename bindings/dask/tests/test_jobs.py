@@ -35,6 +35,7 @@ from sketch_parts import Heavy, Seen, Traffic, sketch_part
 WORKERS, PARTS, SIZE, PATIENCE = 3, 12, 64, 120
 WORDS = zipf(PARTS * 4000, 3000, 1)
 WEIGHTS = collections.Counter(WORDS)
+KEY = bytes(range(16))
 BUDGET = 24  # half the sample size of a sketch of 64 slots
 
 
@@ -184,6 +185,23 @@ class Heaviest(Tests):
         trees = [engine.merged(Heavy(SIZE), images, fan_in) for fan_in in (2, PARTS)]
         for image in CLIENT.gather(CLIENT.compute(trees)):
             self.check(image)
+
+    def test_the_same_key_gives_the_same_result(self):
+        parts = engine.cut_files([STREAM], PARTS, words=True)
+        shape = Heavy(SIZE, key=KEY)
+        trees = [engine.merged(shape, engine.sketches(shape, parts), fan_in) for fan_in in (3, 3)]
+        one, other = CLIENT.gather(CLIENT.compute(trees))
+        self.assertEqual(one, other)
+        self.check(one)
+        words = (heavy.main, "--words", STREAM, "--size", str(SIZE), "--key", KEY.hex(), "--fan-in", "3")
+        found = self.found(*words)
+        self.assertEqual(found, self.found(*words))
+        rows = shape.read(one).rows()
+        self.assertEqual([tuple(each.values()) for each in found["items"]], rows[:20])
+        for key in ("", KEY.hex()[1:], KEY.hex() + "0", " " + KEY.hex()[1:], "x" * 32):
+            with self.assertRaises(SystemExit) as refused, contextlib.redirect_stderr(io.StringIO()):
+                heavy.main([STREAM, "--key", key])
+            self.assertEqual(refused.exception.code, 2)
 
     def test_a_worker_that_dies_is_made_up_for(self):
         shape, log, gate = Heavy(SIZE), os.path.join(FOLDER, "begun"), os.path.join(FOLDER, "gate")
@@ -470,7 +488,7 @@ class Limits(Tests):
             shape.read(image).close()
         with mock.patch.object(sketch_parts, "ds") as package:
             Heavy(SIZE).read(b"image")
-        package.FrequentItemsSketch.deserialize.assert_called_once_with(b"image", item=str, max_bytes=None)
+        package.FrequentItemsSketch.deserialize.assert_called_once_with(b"image", item=str, max_bytes=None, key=None)
 
 
 class Ends(unittest.TestCase):

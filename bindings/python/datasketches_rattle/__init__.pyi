@@ -135,7 +135,11 @@ class FrequentItemsSketch:
     # The bytes that an unpickled sketch may take; a subclass may set others, and None is no limit.
     unpickle_max_bytes: ClassVar[int | None]
     def __new__(
-        cls: type[_I], max_map_size: SupportsIndex, item: type[int] | type[str] | str = ..., sample_size: SupportsIndex | None = None
+        cls: type[_I],
+        max_map_size: SupportsIndex,
+        item: type[int] | type[str] | str = ...,
+        sample_size: SupportsIndex | None = None,
+        key: Bytes | None = None,
     ) -> _I: ...
     @overload
     def update(self, items: Item, weight: SupportsIndex = 1, /) -> None: ...
@@ -153,6 +157,7 @@ class FrequentItemsSketch:
         max_map_size: SupportsIndex = 4096,
         sample_size: SupportsIndex | None = None,
         progress: bool | None = None,
+        key: Bytes | None = None,
     ) -> _I: ...
     @overload
     def bounds(self, items: Item, /) -> tuple[int, int, int]: ...
@@ -191,6 +196,7 @@ class FrequentItemsSketch:
         item: type[int] | type[str] | str = ...,
         max_bytes: SupportsIndex | None = 1073741824,
         sample_size: SupportsIndex | None = None,
+        key: Bytes | None = None,
     ) -> _I: ...
     @classmethod
     def suggest_max_map_size(cls, parts: SupportsIndex) -> int: ...

@@ -45,10 +45,10 @@ def _bar(file: BinaryIO, progress: bool | None) -> Any:
 
 def from_file(
     cls: type[FrequentItemsSketch], path: Any, split: str = "words", max_map_size: int = 4096, sample_size: int | None = None,
-    progress: bool | None = None,
+    progress: bool | None = None, key: Any = None,
 ) -> FrequentItemsSketch:
     """Returns a sketch of the words or lines of a file, which is read once, in chunks."""
-    sketch = cls(max_map_size, item=str, sample_size=sample_size)
+    sketch = cls(max_map_size, item=str, sample_size=sample_size, key=key)
     updates = {"words": sketch.update_words, "lines": sketch.update_lines}
     if split not in updates:
         raise ValueError(f"split is 'words' or 'lines', not {split!r}")

@@ -7,6 +7,7 @@ typedef struct {
     bool with_sign;
     bool with_texts;
     int32_t (*make)(ds_sketch *, size_t, size_t);
+    int32_t (*make_with_key)(ds_sketch *, size_t, size_t, uint64_t, uint64_t);
     of_two merge;
     of_many merge_all;
     int32_t (*reset)(ds_sketch *);
@@ -14,12 +15,14 @@ typedef struct {
     int32_t (*status)(ds_sketch *, ds_frequent_items_status *);
     image_writer serialize;
     int32_t (*deserialize)(ds_sketch *, const uint8_t *, size_t, size_t);
+    int32_t (*deserialize_with_key)(ds_sketch *, const uint8_t *, size_t, size_t, uint64_t, uint64_t);
 } Kind;
 
 #define KIND(name, with_sign, with_texts, call) \
-    {name, with_sign, with_texts, ds_frequent_items_##call##_new, ds_frequent_items_##call##_merge, \
-     ds_frequent_items_##call##_merge_all, ds_frequent_items_##call##_reset, ds_frequent_items_##call##_set_sample_size, \
-     ds_frequent_items_##call##_get_status, ds_frequent_items_##call##_serialize, ds_frequent_items_##call##_deserialize}
+    {name, with_sign, with_texts, ds_frequent_items_##call##_new, ds_frequent_items_##call##_new_with_key, \
+     ds_frequent_items_##call##_merge, ds_frequent_items_##call##_merge_all, ds_frequent_items_##call##_reset, \
+     ds_frequent_items_##call##_set_sample_size, ds_frequent_items_##call##_get_status, ds_frequent_items_##call##_serialize, \
+     ds_frequent_items_##call##_deserialize, ds_frequent_items_##call##_deserialize_with_key}
 
 static const Kind numbers_with_sign = KIND("i64", true, false, i64);
 static const Kind numbers_without_sign = KIND("u64", false, false, u64);
@@ -46,6 +49,29 @@ static const Kind *kind_named(PyObject *item)
     return NULL;
 }
 
+/* The key of a new sketch, as two words. If it is not given, the library draws it. */
+typedef struct {
+    bool given;
+    uint64_t words[2];
+} Key;
+
+static bool key_or_none(PyObject *object, Key *key)
+{
+    key->given = object != Py_None;
+    return !key->given || key_of(object, key->words);
+}
+
+static int32_t make_sketch(const Kind *kind, ds_sketch *made, size_t size, size_t sample, const Key *key)
+{
+    return key->given ? kind->make_with_key(made, size, sample, key->words[0], key->words[1]) : kind->make(made, size, sample);
+}
+
+static int32_t read_sketch(const Kind *kind, ds_sketch *made, const Image *image, size_t limit, const Key *key)
+{
+    return key->given ? kind->deserialize_with_key(made, image->bytes, image->length, limit, key->words[0], key->words[1])
+                      : kind->deserialize(made, image->bytes, image->length, limit);
+}
+
 /* Returns a new object that owns the handle's sketch, or NULL. */
 static PyObject *frequent_of(PyTypeObject *type, ds_sketch *made, const Kind *kind)
 {
@@ -59,10 +85,12 @@ static PyObject *frequent_of(PyTypeObject *type, ds_sketch *made, const Kind *ki
 
 static PyObject *frequent_new(PyTypeObject *type, PyObject *args, PyObject *keywords)
 {
-    static char *names[] = {"max_map_size", "item", "sample_size", NULL};
-    PyObject *size_object, *item = NULL, *sample_object = Py_None;
+    static char *names[] = {"max_map_size", "item", "sample_size", "key", NULL};
+    PyObject *size_object, *item = NULL, *sample_object = Py_None, *key_object = Py_None;
     uint64_t size, sample;
-    if (!PyArg_ParseTupleAndKeywords(args, keywords, "O|OO:FrequentItemsSketch", names, &size_object, &item, &sample_object))
+    Key key;
+    if (!PyArg_ParseTupleAndKeywords(args, keywords, "O|OOO:FrequentItemsSketch", names, &size_object, &item, &sample_object,
+                                     &key_object))
         return NULL;
     const Kind *kind = natural_of(size_object, "max_map_size", &size) ? kind_named(item) : NULL;
     if (kind == NULL)
@@ -71,8 +99,10 @@ static PyObject *frequent_new(PyTypeObject *type, PyObject *args, PyObject *keyw
         sample = ds_frequent_items_max_sample_size(size);
     else if (!natural_of(sample_object, "sample_size", &sample))
         return NULL;
+    if (!key_or_none(key_object, &key))
+        return NULL;
     ds_sketch made = DS_NONE;
-    int32_t answer = kind->make(&made, size, sample);
+    int32_t answer = make_sketch(kind, &made, size, sample, &key);
     return answer < 0 ? refuse(answer) : frequent_of(type, &made, kind);
 }
 
@@ -196,9 +226,9 @@ static PyObject *frequent_serialize(PyObject *object, PyObject *Py_UNUSED(unused
 }
 
 PyDoc_STRVAR(deserialize_doc,
-"deserialize($type, image, item=int, max_bytes=1073741824, sample_size=None)\n--\n\n"
+"deserialize($type, image, item=int, max_bytes=1073741824, sample_size=None, key=None)\n--\n\n"
 "Return the sketch of an image, which may be untrusted, with items of this type. An image has no sample size: without\n"
-"`sample_size` it is the largest.\n\n"
+"`sample_size` it is the largest. It has no key either: without `key` the sketch gets a drawn one.\n\n"
 "Raise 'TableTooLarge' if the table, with the bytes of all strings, would take more than `max_bytes`; None is no limit.\n"
 "Bytes are read in place, and any other buffer is copied first, up to the limit.\n\n"
 ">>> import datasketches_rattle as ds\n"
@@ -209,22 +239,24 @@ PyDoc_STRVAR(deserialize_doc,
 
 static PyObject *frequent_deserialize(PyObject *type, PyObject *args, PyObject *keywords)
 {
-    static char *names[] = {"image", "item", "max_bytes", "sample_size", NULL};
+    static char *names[] = {"image", "item", "max_bytes", "sample_size", "key", NULL};
     Image image = {0};
-    PyObject *item = NULL, *limit_object = NULL, *sample_object = Py_None;
+    PyObject *item = NULL, *limit_object = NULL, *sample_object = Py_None, *key_object = Py_None;
     size_t limit = DEFAULT_LIMIT;
     uint64_t sample = 0;
-    if (!PyArg_ParseTupleAndKeywords(args, keywords, "y*|OOO:deserialize", names, &image.view, &item, &limit_object,
-                                     &sample_object))
+    Key key;
+    if (!PyArg_ParseTupleAndKeywords(args, keywords, "y*|OOOO:deserialize", names, &image.view, &item, &limit_object,
+                                     &sample_object, &key_object))
         return NULL;
     const Kind *kind = kind_named(item);
     bool ready = kind != NULL && limit_of(limit_object, &limit) &&
-                 (sample_object == Py_None || natural_of(sample_object, "sample_size", &sample)) && image_take(&image, limit);
+                 (sample_object == Py_None || natural_of(sample_object, "sample_size", &sample)) &&
+                 key_or_none(key_object, &key) && image_take(&image, limit);
     ds_sketch made = DS_NONE;
     int32_t answer = DS_OK, sampled = DS_OK;
     if (ready) {
         Py_BEGIN_ALLOW_THREADS
-        answer = kind->deserialize(&made, image.bytes, image.length, limit);
+        answer = read_sketch(kind, &made, &image, limit, &key);
         if (answer >= 0 && sample_object != Py_None)
             sampled = kind->set_sample_size(&made, sample);
         if (sampled < 0)
@@ -260,7 +292,7 @@ static PyObject *frequent_unpickle(PyObject *type, PyObject *args)
 }
 
 PyDoc_STRVAR(frequent_from_file_doc,
-"from_file($type, path, split='words', max_map_size=4096, sample_size=None, progress=None)\n--\n\n"
+"from_file($type, path, split='words', max_map_size=4096, sample_size=None, progress=None, key=None)\n--\n\n"
 "Return a sketch of the words of a file in UTF-8, or of its lines with `split='lines'`. They are those of `update_words` and\n"
 "`update_lines`; a byte order mark at the front is skipped.\n\n"
 "The file is read once, in chunks, so it may be a pipe. Raise 'InvalidUtf8' if some bytes are not UTF-8. With tqdm installed a\n"
@@ -351,12 +383,15 @@ static PyNumberMethods frequent_as_number = {.nb_add = frequent_add, .nb_inplace
 static PyMappingMethods frequent_as_mapping = {.mp_subscript = frequent_at};
 
 PyDoc_STRVAR(frequent_doc,
-"FrequentItemsSketch(max_map_size, item=int, sample_size=None)\n--\n\n"
+"FrequentItemsSketch(max_map_size, item=int, sample_size=None, key=None)\n--\n\n"
 "The most frequent items, in at most three quarters of `max_map_size` counters. `max_map_size` is a power of two from 8\n"
 "to 2**30.\n\n"
 "`item` is int or 'i64' for numbers from -2**63 to 2**63 - 1, 'u64' for those from 0 to 2**64 - 1, and str for\n"
 "strings. `sample_size` is the number of counters that a purge samples: an even number, by default the largest. `+` merges\n"
 "two sketches, and `+=` merges another one into this. `heavy += heavy` doubles all weights.\n\n"
+"The table hashes items under a secret key, so no way is known to choose items that slow it down. By default each sketch gets\n"
+"a drawn key. `key`, 16 bytes, fixes it: runs with the same key are reproducible. Other runs may purge other counters, within\n"
+"the same bounds. A copy keeps the key, and `+` and `+=` that of the first sketch. An image and a pickle have no key.\n\n"
 ">>> import datasketches_rattle as ds\n"
 ">>> heavy = ds.FrequentItemsSketch(1024, item=int)\n"
 ">>> heavy.update(-7, 30)\n"

@@ -23,10 +23,10 @@ static bool open_bytes(PyObject *object, const char *what, const char *kinds, Im
     return false;
 }
 
-/* Reads the two words of a key. */
-static bool key_of(PyObject *object, uint64_t words[2])
+bool key_of(PyObject *object, uint64_t words[2])
 {
     Image image = {0};
+    words[0] = words[1] = 0;
     if (!open_bytes(object, "the key", "bytes", &image))
         return false;
     bool fits = image.length == KEY_BYTES;
@@ -119,7 +119,7 @@ PyDoc_STRVAR(keyed_hash_doc,
 
 static PyObject *keyed_hash(PyObject *Py_UNUSED(module), PyObject *const *args, Py_ssize_t count)
 {
-    uint64_t words[2] = {0, 0};
+    uint64_t words[2];
     const Question many = {.call = "keyed_hash", .size = sizeof(uint64_t), .kind = "u8", .width = 1, .context = words,
                            .object = hash_at, .check = are_strings, .strings = hash_strings, .numbers = hash_numbers};
     Image image = {0};

@@ -116,6 +116,8 @@ static PyObject *refuse_as(int32_t answer, const char *kind)
 {
     if (answer == DS_NO_MEMORY)
         return PyErr_NoMemory();
+    if (answer == DS_NO_RANDOM)
+        return PyErr_Format(PyExc_OSError, "%s", ds_result_message(answer));
     PyObject *error = PyObject_CallFunction(sketch_error, "s", ds_result_message(answer));
     PyObject *kind_text = PyUnicode_FromString(kind);
     PyObject *fault = PyUnicode_FromString(ds_result_name(answer));

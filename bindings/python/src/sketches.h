@@ -584,6 +584,9 @@ PyObject *frequent_suggest_max_map_size(PyObject *type, PyObject *args, PyObject
 
 /* --- keyed_hash.c --- */
 
+/* Reads a key of 16 bytes as two words. Returns false, with an error set, if the object is none. */
+bool key_of(PyObject *object, uint64_t words[2]);
+
 /* Adds the function `keyed_hash` to the module. */
 bool add_keyed_hash(PyObject *m);
 

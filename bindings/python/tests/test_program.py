@@ -12,6 +12,7 @@ import datasketches_rattle as ds
 
 HERE = os.path.dirname(os.path.abspath(__file__))
 PROGRAM = os.environ.get("DATASKETCHES_CLI", os.path.join(HERE, "../../../crates/datasketches_cli/out/datasketches_cli"))
+KEY = bytes(range(16))  # the key of the tables of the package and of the program
 NAMES = ("f", "g", "h")
 JOINS = {"union": "__ior__", "intersect": "__iand__", "difference": "__isub__"}
 
@@ -102,7 +103,7 @@ def script_of_counts(chance, length, signed=False):
 
 def script_of_texts(chance, length):
     """Returns the same for frequent strings."""
-    heavy = {name: ds.FrequentItemsSketch(chance.choice((8, 16)), item=str) for name in NAMES}
+    heavy = {name: ds.FrequentItemsSketch(chance.choice((8, 16)), item=str, key=KEY) for name in NAMES}
     lines = [f"frequent {name} {each.max_map_size}" for name, each in heavy.items()]
     replies = ["ok"] * len(lines)
     for _ in range(length):
@@ -152,7 +153,8 @@ class Program(unittest.TestCase):
     def play(self, make):
         for seed in range(20):
             lines, replies = make(random.Random(seed), 200)
-            done = subprocess.run([PROGRAM], input="\n".join(lines).encode(), capture_output=True, timeout=60, check=True)
+            done = subprocess.run([PROGRAM], input="\n".join(lines).encode(), capture_output=True, timeout=60, check=True,
+                                  env={**os.environ, "DATASKETCHES_TABLE_KEY": KEY.hex()})
             said = done.stdout.decode().split("\n")[:-1]
             for line, reply, answer in zip(lines, said, replies):
                 self.assertEqual(in_order(reply), in_order(answer), line)

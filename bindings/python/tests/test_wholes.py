@@ -361,9 +361,10 @@ class Shared(unittest.TestCase):
     def test_each_buffer_is_read_alike(self):
         chance = random.Random(1)
         mapping = mmap.mmap(-1, 4096)
-        of_strings = functools.partial(ds.FrequentItemsSketch.deserialize, item=str)
+        of_numbers = functools.partial(ds.FrequentItemsSketch.deserialize, key=bytes(16))
+        of_strings = functools.partial(of_numbers, item=str)
         for whole, read in ((filled(128, [1, 2]), ds.BloomFilter.deserialize), (counted(3, [1, 2]), ds.CountMinSketch.deserialize),
-                            (frequent([1, 2], 16), ds.FrequentItemsSketch.deserialize),
+                            (frequent([1, 2], 16), of_numbers),
                             (frequent(["a", "bcd"], 16, item=str), of_strings)):
             image = bytes(whole)
             for _ in range(3000):

@@ -26,9 +26,9 @@ def split(data):
     return [word.decode() for word in re.split(rb"[ \t\n\f\r]+", data) if word]
 
 
-def counted(*given, size=1 << 16):
+def counted(*given, size=1 << 16, **more):
     """A sketch of the words of some strings or buffers."""
-    sketch = ds.FrequentItemsSketch(size, item=str)
+    sketch = ds.FrequentItemsSketch(size, item=str, **more)
     for each in given:
         sketch.update_words(each)
     return sketch
@@ -94,9 +94,9 @@ class Words(unittest.TestCase):
 
     def test_as_update(self):
         data = b"the cat saw the dog and the dog saw the cat run to the pond"
-        other = ds.FrequentItemsSketch(1 << 16, item=str)
+        other = ds.FrequentItemsSketch(1 << 16, item=str, key=bytes(16))
         other.update(split(data))
-        self.assertEqual(bytes(counted(data)), bytes(other))
+        self.assertEqual(bytes(counted(data, key=bytes(16))), bytes(other))
 
 
 def lines(data):

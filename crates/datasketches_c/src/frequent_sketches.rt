@@ -23,11 +23,11 @@ use crate::handle::SketchHandle;
 use crate::images::to_bytes;
 use crate::join::join;
 use crate::making::put_made;
-use sketch_frequencies::FrequentItemsSketch;
+use sketch_frequencies::{FrequentItemsSketch, HashKey, TableKey};
 use std::alloc::Global;
 
 /// Puts an empty sketch of frequent strings into the handle, and frees what the handle had. Its table may grow to
-/// `max_map_size` slots. Its purges sample `sample_size` counters.
+/// `max_map_size` slots, and hashes items under the key of two words. Its purges sample `sample_size` counters.
 ///
 /// Returns the first of these errors, and then changes nothing:
 ///
@@ -37,11 +37,13 @@ use std::alloc::Global;
 /// - `BadSampleSize` unless `sample_size` is even, and from 2 to three quarters of `max_map_size`, at most 1024.
 /// - `NoMemory` if an allocation fails.
 #[unsafe(no_mangle)]
-pub extern "C" fn ds_frequent_items_string_new(
+pub extern "C" fn ds_frequent_items_string_new_with_key(
     alloc: Global,
     handle: &mut SketchHandle,
     max_map_size: usize,
     sample_size: usize,
+    k0: u64,
+    k1: u64,
 ) -> i32
     ensures done { OnDone result ((result ≡ ok)
         × (handle.new.value ≡ Some (FrequentStrings (empty_state max_map_size sample_size)))) }
@@ -51,12 +53,18 @@ pub extern "C" fn ds_frequent_items_string_new(
     ensures refused { OnRefused result ((handle.new.value ≡ handle.old.value)
         × (result ≡ refusal_number (refusal_of (sizes_fault max_map_size sample_size)).fault)) }
 {
-    let made = FrequentItemsSketch::<String>::with_sample_size(alloc, max_map_size, sample_size);
+    let key = TableKey::Keyed(HashKey::new(k0, k1));
+    let made = FrequentItemsSketch::<String>::with_sample_size_and_key(
+        alloc,
+        max_map_size,
+        sample_size,
+        key,
+    );
     put_made(alloc, handle, made)
 }
 
 /// Puts an empty sketch of frequent numbers into the handle, and frees what the handle had. Its table may grow to
-/// `max_map_size` slots. Its purges sample `sample_size` counters.
+/// `max_map_size` slots, and hashes items under the key of two words. Its purges sample `sample_size` counters.
 ///
 /// Returns the first of these errors, and then changes nothing:
 ///
@@ -66,11 +74,13 @@ pub extern "C" fn ds_frequent_items_string_new(
 /// - `BadSampleSize` unless `sample_size` is even, and from 2 to three quarters of `max_map_size`, at most 1024.
 /// - `NoMemory` if an allocation fails.
 #[unsafe(no_mangle)]
-pub extern "C" fn ds_frequent_items_u64_new(
+pub extern "C" fn ds_frequent_items_u64_new_with_key(
     alloc: Global,
     handle: &mut SketchHandle,
     max_map_size: usize,
     sample_size: usize,
+    k0: u64,
+    k1: u64,
 ) -> i32
     ensures done { OnDone result ((result ≡ ok)
         × (handle.new.value ≡ Some (FrequentU64 (empty_state max_map_size sample_size)))) }
@@ -80,12 +90,18 @@ pub extern "C" fn ds_frequent_items_u64_new(
     ensures refused { OnRefused result ((handle.new.value ≡ handle.old.value)
         × (result ≡ refusal_number (refusal_of (sizes_fault max_map_size sample_size)).fault)) }
 {
-    let made = FrequentItemsSketch::<u64>::with_sample_size(alloc, max_map_size, sample_size);
+    let key = TableKey::Keyed(HashKey::new(k0, k1));
+    let made = FrequentItemsSketch::<u64>::with_sample_size_and_key(
+        alloc,
+        max_map_size,
+        sample_size,
+        key,
+    );
     put_made(alloc, handle, made)
 }
 
 /// Puts an empty sketch of frequent numbers into the handle, and frees what the handle had. Its table may grow to
-/// `max_map_size` slots. Its purges sample `sample_size` counters.
+/// `max_map_size` slots, and hashes items under the key of two words. Its purges sample `sample_size` counters.
 ///
 /// Returns the first of these errors, and then changes nothing:
 ///
@@ -95,11 +111,13 @@ pub extern "C" fn ds_frequent_items_u64_new(
 /// - `BadSampleSize` unless `sample_size` is even, and from 2 to three quarters of `max_map_size`, at most 1024.
 /// - `NoMemory` if an allocation fails.
 #[unsafe(no_mangle)]
-pub extern "C" fn ds_frequent_items_i64_new(
+pub extern "C" fn ds_frequent_items_i64_new_with_key(
     alloc: Global,
     handle: &mut SketchHandle,
     max_map_size: usize,
     sample_size: usize,
+    k0: u64,
+    k1: u64,
 ) -> i32
     ensures done { OnDone result ((result ≡ ok)
         × (handle.new.value ≡ Some (FrequentI64 (empty_state max_map_size sample_size)))) }
@@ -109,7 +127,13 @@ pub extern "C" fn ds_frequent_items_i64_new(
     ensures refused { OnRefused result ((handle.new.value ≡ handle.old.value)
         × (result ≡ refusal_number (refusal_of (sizes_fault max_map_size sample_size)).fault)) }
 {
-    let made = FrequentItemsSketch::<i64>::with_sample_size(alloc, max_map_size, sample_size);
+    let key = TableKey::Keyed(HashKey::new(k0, k1));
+    let made = FrequentItemsSketch::<i64>::with_sample_size_and_key(
+        alloc,
+        max_map_size,
+        sample_size,
+        key,
+    );
     put_made(alloc, handle, made)
 }
 
@@ -407,8 +431,8 @@ pub extern "C" fn ds_frequent_items_i64_serialize(
     to_bytes::<FrequentItemsSketch<i64>>(alloc, handle, out, written)
 }
 
-/// Reads a sketch from its image, puts it into the handle, and frees what the handle had. The sketch takes the maximum
-/// sample size, since an image has none.
+/// Reads a sketch from its image, puts it into the handle, and frees what the handle had. Its table hashes items under
+/// the key of two words. The sketch takes the maximum sample size, since an image has none.
 ///
 /// Returns the first of these errors, and then changes nothing:
 ///
@@ -418,11 +442,13 @@ pub extern "C" fn ds_frequent_items_i64_serialize(
 /// - `NoMemory` if an allocation fails.
 /// - The error of the first failed check of the weights and the items.
 #[unsafe(no_mangle)]
-pub extern "C" fn ds_frequent_items_string_deserialize(
+pub extern "C" fn ds_frequent_items_string_deserialize_with_key(
     alloc: Global,
     handle: &mut SketchHandle,
     image: &[u8],
     max_bytes: usize,
+    k0: u64,
+    k1: u64,
 ) -> i32
     ensures done { OnDone result ((result ≡ ok) × HoldsFrequentStrings handle.new.value
         (IsRestored string_row strings_eq text_codec (λ item. string_bytes item) image.now max_bytes)) }
@@ -430,12 +456,15 @@ pub extern "C" fn ds_frequent_items_string_deserialize(
         (early_fault_within string_row max_bytes text_codec image.now)
         (first_fault_within string_row max_bytes text_codec image.now) result) }
 {
-    let read = FrequentItemsSketch::<String>::deserialize_with_limit(alloc, image, max_bytes);
+    let key = TableKey::Keyed(HashKey::new(k0, k1));
+    let read = FrequentItemsSketch::<String>::deserialize_with_limit_and_key(
+        alloc, image, max_bytes, key,
+    );
     put_made(alloc, handle, read)
 }
 
-/// Reads a sketch from its image, puts it into the handle, and frees what the handle had. The sketch takes the maximum
-/// sample size, since an image has none.
+/// Reads a sketch from its image, puts it into the handle, and frees what the handle had. Its table hashes items under
+/// the key of two words. The sketch takes the maximum sample size, since an image has none.
 ///
 /// Returns the first of these errors, and then changes nothing:
 ///
@@ -444,11 +473,13 @@ pub extern "C" fn ds_frequent_items_string_deserialize(
 /// - `NoMemory` if an allocation fails.
 /// - The error of the first failed check of the weights and the items.
 #[unsafe(no_mangle)]
-pub extern "C" fn ds_frequent_items_u64_deserialize(
+pub extern "C" fn ds_frequent_items_u64_deserialize_with_key(
     alloc: Global,
     handle: &mut SketchHandle,
     image: &[u8],
     max_bytes: usize,
+    k0: u64,
+    k1: u64,
 ) -> i32
     ensures done { OnDone result ((result ≡ ok) × HoldsFrequentU64 handle.new.value
         (IsRestored u64_row nat_eq u64_codec (λ n. n) image.now max_bytes)) }
@@ -456,12 +487,15 @@ pub extern "C" fn ds_frequent_items_u64_deserialize(
         (early_fault_within u64_row max_bytes u64_codec image.now)
         (first_fault_within u64_row max_bytes u64_codec image.now) result) }
 {
-    let read = FrequentItemsSketch::<u64>::deserialize_with_limit(alloc, image, max_bytes);
+    let key = TableKey::Keyed(HashKey::new(k0, k1));
+    let read = FrequentItemsSketch::<u64>::deserialize_with_limit_and_key(
+        alloc, image, max_bytes, key,
+    );
     put_made(alloc, handle, read)
 }
 
-/// Reads a sketch from its image, puts it into the handle, and frees what the handle had. The sketch takes the maximum
-/// sample size, since an image has none.
+/// Reads a sketch from its image, puts it into the handle, and frees what the handle had. Its table hashes items under
+/// the key of two words. The sketch takes the maximum sample size, since an image has none.
 ///
 /// Returns the first of these errors, and then changes nothing:
 ///
@@ -470,11 +504,13 @@ pub extern "C" fn ds_frequent_items_u64_deserialize(
 /// - `NoMemory` if an allocation fails.
 /// - The error of the first failed check of the weights and the items.
 #[unsafe(no_mangle)]
-pub extern "C" fn ds_frequent_items_i64_deserialize(
+pub extern "C" fn ds_frequent_items_i64_deserialize_with_key(
     alloc: Global,
     handle: &mut SketchHandle,
     image: &[u8],
     max_bytes: usize,
+    k0: u64,
+    k1: u64,
 ) -> i32
     ensures done { OnDone result ((result ≡ ok) × HoldsFrequentI64 handle.new.value
         (IsRestored i64_row int_eq i64_codec (λ n. n) image.now max_bytes)) }
@@ -482,6 +518,9 @@ pub extern "C" fn ds_frequent_items_i64_deserialize(
         (early_fault_within i64_row max_bytes i64_codec image.now)
         (first_fault_within i64_row max_bytes i64_codec image.now) result) }
 {
-    let read = FrequentItemsSketch::<i64>::deserialize_with_limit(alloc, image, max_bytes);
+    let key = TableKey::Keyed(HashKey::new(k0, k1));
+    let read = FrequentItemsSketch::<i64>::deserialize_with_limit_and_key(
+        alloc, image, max_bytes, key,
+    );
     put_made(alloc, handle, read)
 }
