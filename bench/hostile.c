@@ -2,9 +2,9 @@
  *
  *     hostile LIBRARY PROGRAM [LIBRARY PROGRAM]
  *
- * A LIBRARY is a shared object of the C library, and a PROGRAM is `datasketches_cli`. Of two of each, which run by turns, the first
- * has no keys and the second has them. Then a further table compares the two on random items. A time is the least of 15 rounds, or of
- * fewer once a row has taken a second. The exit status is 1 if a ratio of keyed sketches exceeds 2. */
+ * A LIBRARY is a shared object of the C library, and a PROGRAM is `datasketches_cli`. Of two of each the first has no keys and
+ * the second has them. They run by turns, and a further table compares the two on random items. A time is the least of 15
+ * rounds, or of fewer once a row has taken a second. The exit status is 1 if a ratio of a keyed library exceeds 2. */
 #define _GNU_SOURCE
 #include "hostile_items.h"
 #include <datasketches.h>
@@ -234,12 +234,14 @@ static void update_each(const struct library *library, ds_sketch *sketch, const 
     for (size_t i = 0; i < items->count; i++) {
         if (items->numbers) result |= library->i64_update(sketch, items->numbers[i], 1);
         else
-            result |= library->string_update(sketch, items->bytes + items->offsets[i], items->offsets[i + 1] - items->offsets[i], 1);
+            result |= library->string_update(sketch, items->bytes + items->offsets[i],
+                                             items->offsets[i + 1] - items->offsets[i], 1);
     }
     check(!result, "update");
 }
 
-static void bounds_all(const struct library *library, ds_sketch *sketch, const struct items *items, ds_frequent_items_bounds *bounds)
+static void bounds_all(const struct library *library, ds_sketch *sketch, const struct items *items,
+                       ds_frequent_items_bounds *bounds)
 {
     int32_t result = items->numbers ? library->i64_bounds_all(sketch, items->numbers, items->count, bounds, items->count)
         : library->string_bounds_all(sketch, items->bytes, items->offsets[items->count], items->offsets, items->count + 1, bounds,
@@ -248,8 +250,8 @@ static void bounds_all(const struct library *library, ds_sketch *sketch, const s
 }
 
 enum operation { INSERT, AGAIN, EACH, PRESENT, ABSENT, WRITE, READ, MERGE, WEIGHTED };
-static const char *const OPERATIONS[] = {"insert", "update again", "update one by one", "bounds, present", "bounds, absent",
-                                         "write image", "read image", "merge", "update by weights"};
+static const char *const OPERATIONS[] = {"update_all", "update_all again", "update", "bounds_all, present", "bounds_all, absent",
+                                         "serialize", "deserialize", "merge", "update_all_weighted"};
 
 /* What an operation works on: a table's maximum size, items, absent ones, and weights. */
 struct work {
@@ -324,11 +326,11 @@ static double run(const struct library *library, enum operation operation, struc
 
 static bool exceeded = false;
 
-/* Prints a row for each library: a benign and a hostile time, and their ratio. `counts` is whether a ratio above 2 is a failure. */
-static void row(const struct library *libraries, int number, enum operation operation, const char *name, struct work *benign,
-                struct work *hostile, bool counts)
+/* Prints a row for each library: the time of random and of chosen items, and their ratio. */
+static void row(const struct library *libraries, int number, enum operation operation, const char *name, struct work *random,
+                struct work *chosen)
 {
-    struct work *works[2] = {benign, hostile};
+    struct work *works[2] = {random, chosen};
     double least[2][2] = {{0}}, spent[2][2] = {{0}};
     ds_sketch held[2][2] = {{DS_NONE, DS_NONE}, {DS_NONE, DS_NONE}};
     for (int round = 0; round < ROUNDS; round++) {
@@ -343,23 +345,24 @@ static void row(const struct library *libraries, int number, enum operation oper
     }
     for (int l = 0; l < number; l++) {
         double ratio = least[l][1] / least[l][0];
-        printf("| %s, %s | %s | %.1f | %.1f | %.2f |\n", OPERATIONS[operation], name, libraries[l].label, least[l][0], least[l][1],
-               ratio);
-        exceeded |= libraries[l].is_keyed && counts && ratio > 2;
+        printf("| %s, %s | %s | %.1f | %.1f | %.2f |\n", OPERATIONS[operation], name, libraries[l].label, least[l][0],
+               least[l][1], ratio);
+        exceeded |= libraries[l].is_keyed && ratio > 2;
         for (int side = 0; side < 2; side++) libraries[l].free(&held[l][side]);
     }
     fflush(stdout);
 }
 
-/* Prints the rows of hostile items beside as many random ones. The last `absent` of each are not inserted. */
-static void rows(const struct library *libraries, int number, const char *name, struct items all, struct items others, size_t absent)
+/* Prints the rows of chosen items beside as many random ones. The last `absent` of each are not inserted. */
+static void rows(const struct library *libraries, int number, const char *name, struct items all, struct items others,
+                 size_t absent)
 {
     size_t present = all.count - absent;
-    struct work hostile = work_on(part(&all, 0, present), part(&all, present, all.count));
-    struct work benign = work_on(part(&others, 0, present), part(&others, present, all.count));
+    struct work chosen = work_on(part(&all, 0, present), part(&all, present, all.count));
+    struct work random = work_on(part(&others, 0, present), part(&others, present, all.count));
     enum operation operations[] = {INSERT, AGAIN, PRESENT, ABSENT, WRITE, READ, MERGE};
     for (size_t i = 0; i < sizeof operations / sizeof *operations; i++)
-        row(libraries, number, operations[i], name, &benign, &hostile, true);
+        row(libraries, number, operations[i], name, &random, &chosen);
 }
 
 /* Numbers of `homes` homes, `each` of them: first `present` of each, then the others. Group after group, or home by home. */
@@ -384,8 +387,8 @@ static struct work stream_of(struct items items, uint64_t *weights)
     return (struct work){.slots = SLOTS, .items = items, .weights = weights};
 }
 
-/* Prints the rows of streams that make purges dear: light items before heavy ones, and light items in the slots that a purge samples
- * with heavy items in all others. */
+/* Prints the rows of streams that make purges dear: light items before heavy ones, and light items in the slots that a purge
+ * samples with heavy items in all others. */
 static void floods(const struct library *libraries, int number)
 {
     enum { LIGHT = 1 << 18, HEAVY = MOST - 1024 };
@@ -399,8 +402,8 @@ static void floods(const struct library *libraries, int number)
         mixed.numbers[i] = mixed.numbers[other], mixed.numbers[other] = number;
         mixed_weights[i] = mixed_weights[other], mixed_weights[other] = weight;
     }
-    struct work benign = stream_of(mixed, mixed_weights), hostile = stream_of(items, weights);
-    row(libraries, number, WEIGHTED, "light before heavy", &benign, &hostile, true);
+    struct work in_random_order = stream_of(mixed, mixed_weights), light_first = stream_of(items, weights);
+    row(libraries, number, WEIGHTED, "light before heavy", &in_random_order, &light_first);
 
     struct items sampled = {.count = LIGHT + HEAVY, .numbers = room_for(LIGHT + HEAVY, 8)};
     size_t light = 0, heavy = 0;
@@ -410,12 +413,12 @@ static void floods(const struct library *libraries, int number)
         if (home >= 4096 && heavy < HEAVY) sampled.numbers[heavy++] = (int64_t)random_of(i);
     }
     for (size_t i = 0; i < LIGHT + HEAVY; i++) weights[i] = i < HEAVY ? 1u << 20 : 1;
-    struct work same = stream_of(items, weights), in_sample = stream_of(sampled, weights);
-    row(libraries, number, WEIGHTED, "light ones where purges sample", &same, &in_sample, true);
+    struct work anywhere = stream_of(items, weights), in_sample = stream_of(sampled, weights);
+    row(libraries, number, WEIGHTED, "light ones where purges sample", &anywhere, &in_sample);
 }
 
-/* Prints a row of items that a caller learned from images of sketches with the same key: those whose homes are near each other, since
- * an image lists its items in the order of their slots. It does not count for the exit status: no key helps against it. */
+/* Prints a row of items that a caller learned from images of sketches with the same key: those whose homes are near each other,
+ * since an image lists its items in the order of their slots. It does not count for the exit status: no key helps against it. */
 static void learned(const struct library *library)
 {
     enum { IMAGES = 8, EACH = 49000 };
@@ -443,7 +446,7 @@ static void learned(const struct library *library)
             if (!round || took < least[side]) least[side] = took;
         }
     }
-    printf("| insert, learned from 8 images of one key (not counted) | %s | %.1f | %.1f | %.2f |\n", library->label, least[0],
+    printf("| update_all, learned from 8 images of one key (not counted) | %s | %.1f | %.1f | %.2f |\n", library->label, least[0],
            least[1], least[1] / least[0]);
     library->free(&empty);
     library->free(&sketch);
@@ -493,9 +496,9 @@ static void program_row(const struct library *libraries, int number, const char 
                 if (took < least[l][side]) least[l][side] = took;
             }
         }
-        double benign = (least[l][1] - least[l][0]) / lines, hostile = (least[l][2] - least[l][0]) / lines;
-        printf("| program, %s | %s | %.1f | %.1f | %.2f |\n", name, libraries[l].label, benign, hostile, hostile / benign);
-        exceeded |= libraries[l].is_keyed && hostile / benign > 2;
+        double random = (least[l][1] - least[l][0]) / lines, chosen = (least[l][2] - least[l][0]) / lines;
+        printf("| program, %s | %s | %.1f | %.1f | %.2f |\n", name, libraries[l].label, random, chosen, chosen / random);
+        exceeded |= libraries[l].is_keyed && chosen / random > 2;
     }
     fflush(stdout);
 }
@@ -526,10 +529,10 @@ static void program_rows(const struct library *libraries, int number)
     free(words);
 }
 
-static void program_strings(const struct library *libraries, int number, const struct items *hostile, const struct items *benign)
+static void program_strings(const struct library *libraries, int number, const struct items *chosen, const struct items *random)
 {
     for (int side = 0; side < 2; side++) {
-        const struct items *items = side ? hostile : benign;
+        const struct items *items = side ? chosen : random;
         FILE *script = script_of(SCRIPTS[1 + side]);
         fprintf(script, "frequent s 65536\n");
         for (size_t i = 0; i < items->count; i++) {
@@ -539,7 +542,7 @@ static void program_strings(const struct library *libraries, int number, const s
         }
         fclose(script);
     }
-    program_row(libraries, number, "strings as items", hostile->count);
+    program_row(libraries, number, "strings as items", chosen->count);
 }
 
 /* --- Keyed beside plain --- */
@@ -629,8 +632,8 @@ int main(int argc, char **argv)
     numbers_of_one_home(SLOTS, 0x1234, found, OF_ONE_HOME);
     rows(libraries, number, "one home", numbers_of(found, OF_ONE_HOME), random, OF_ONE_HOME - ONE_HOME);
     rows(libraries, number, "511 a home", groups(hash_of_number, 96, 682, 532, 511, false), random, 96 * 21);
-    rows(libraries, number, "homes in a row", groups(hash_of_number, MOST / 2, 1, 3, 2, true), random_numbers(1u << 31, MOST * 3 / 2),
-         MOST / 2);
+    rows(libraries, number, "homes in a row", groups(hash_of_number, MOST / 2, 1, 3, 2, true),
+         random_numbers(1u << 31, MOST * 3 / 2), MOST / 2);
     rows(libraries, number, "511 a home of the key 0, 0", groups(sip_hash_of_number, 96, 682, 532, 511, false), random, 96 * 21);
     uint8_t *bytes = room_for(COLLIDING, COLLIDING_LENGTH);
     colliding_strings(bytes, COLLIDING);
@@ -645,6 +648,6 @@ int main(int argc, char **argv)
         printf("\n| operation | plain, ns | keyed, ns | ratio |\n|---|---|---|---|\n");
         comparisons(libraries);
     }
-    if (exceeded) printf("\na ratio of keyed sketches exceeds 2\n");
+    if (exceeded) printf("\na ratio of the library or the program with keys exceeds 2\n");
     return exceeded;
 }

@@ -119,9 +119,9 @@ static inline void numbers_of_homes(uint64_t (*hash)(uint64_t), size_t homes, si
  *
  * A block of 16 bytes k1, k2 changes the state h1, h2 by h1 = (rotl(h1 ^ mix(k1), 27) + h2) * 5 + .. and
  * h2 = (rotl(h2 ^ mix(k2), 31) + h1) * 5 + .., where mix is invertible. A flip of the top bit passes +, and * 5, as a flip of the
- * top bit. So flip bit 36 of a block's mix(k1), bit 32 of its mix(k2), and bit 63 of the next block's mix(k1). The first flips the
- * top bit of h1. The second and this one cancel in h2. The third cancels the flip of h1. After both blocks the state is the same,
- * whatever it was before. So a string of n pairs of blocks has 2^n versions. Both versions of each word are ASCII. */
+ * top bit. So flip bit 36 of a block's mix(k1), bit 32 of its mix(k2), and bit 63 of the next block's mix(k1). The first flips
+ * the top bit of h1. The second and this one cancel in h2. The third cancels the flip of h1. After both blocks the state is the
+ * same, whatever it was before. So a string of n pairs of blocks has 2^n versions. Both versions of each word are ASCII. */
 
 enum { MOST_PAIRS = 13, COLLIDING_LENGTH = 32 * MOST_PAIRS, COLLIDING = 1 << MOST_PAIRS };
 

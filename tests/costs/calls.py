@@ -69,7 +69,8 @@ def new_strings():
 
 def main():
     seen, count = ds.BloomFilter(num_bits=1 << 20, num_hashes=7), ds.CountMinSketch(num_hashes=4, num_buckets=4096)
-    for kind, of in [("a list of numbers", numbers), ("an array", lambda n: array.array("Q", numbers(n))), ("a list of strings", strings)]:
+    kinds = {"a list of numbers": numbers, "an array": lambda n: array.array("Q", numbers(n)), "a list of strings": strings}
+    for kind, of in kinds.items():
         cost(f"filter.insert of {kind}", of, seen.insert)
         cost(f"filter.contains of {kind}", of, seen.contains)
         cost(f"count.update of {kind}", of, count.update)
@@ -81,7 +82,8 @@ def main():
     cost("frequent.update_lines", words, lambda text: new_strings().update_lines(text))
     cost("frequent.update_words of one word", lambda n: 8 * n * b"a", lambda text: new_strings().update_words(text))
     cost("from_file", lambda n: file_of(words(n)), lambda path: ds.FrequentItemsSketch.from_file(path, progress=False))
-    cost("deserialize of numbers", lambda n: sketch_of(n).serialize(), lambda image: ds.FrequentItemsSketch.deserialize(image, item="u64"))
+    cost("deserialize of numbers", lambda n: sketch_of(n).serialize(),
+         lambda image: ds.FrequentItemsSketch.deserialize(image, item="u64"))
     cost("deserialize of strings", lambda n: sketch_of(n, str).serialize(),
          lambda image: ds.FrequentItemsSketch.deserialize(image, item=str))
     cost("deserialize of a filter", lambda n: filter_of(n).serialize(), ds.BloomFilter.deserialize)

@@ -1,7 +1,9 @@
 /* Makes each call of the C library that reads input on an input of size n and of 10 n. Callgrind counts the instructions of each,
  * and writes them to a file with the name and the size. `run.py` runs it.
  *
- *     costs --numbers FILE    writes numbers of one home
+ *     costs --numbers FILE    writes numbers of one home, 8 bytes each
+ *     costs --tenants FILE    writes tenants of one group of a map, 8 bytes each
+ *     costs --names FILE      the same of names, which have 8 bytes
  *     costs FILE              makes the calls, with these numbers
  *
  * Compiled with HAS_KEYS it also makes calls with items that collide in a table without a key. */
@@ -161,7 +163,8 @@ static void frequent_items(void)
          ds_frequent_items_string_update_all(&sketch, words, WORD * n, offsets, n + 1))
     COST("frequent_items_update_all_weighted_string", new_strings(&sketch),
          ds_frequent_items_string_update_all_weighted(&sketch, words, WORD * n, offsets, n + 1, weights, n))
-    COST("frequent_items_bounds_all_string", , ds_frequent_items_string_bounds_all(&sketch, words, WORD * n, offsets, n + 1, bounds, n))
+    COST("frequent_items_bounds_all_string", ,
+         ds_frequent_items_string_bounds_all(&sketch, words, WORD * n, offsets, n + 1, bounds, n))
     COST("frequent_items_update_all_pairs", new_strings(&sketch), ds_frequent_items_string_update_all_pairs(&sketch, strings, n))
     COST("frequent_items_update_string", new_strings(&sketch), ds_frequent_items_string_update(&sketch, one_word, WORD * n, 1))
     COST("frequent_items_update_words", new_strings(&sketch), ds_frequent_items_string_update_words(&sketch, words, WORD * n))
@@ -215,9 +218,10 @@ int main(int argc, char **argv)
 {
     bool writes = argc == 3;
     FILE *file = argc < 2 ? NULL : fopen(argv[argc - 1], writes ? "wb" : "rb");
-    check(file, "usage: costs [--numbers] FILE");
+    check(file, "usage: costs [--numbers | --tenants | --names] FILE");
     if (writes) {
-        numbers_of_one_home(SLOTS, 5, one_home, MOST);
+        if (strcmp(argv[1], "--numbers") == 0) numbers_of_one_home(SLOTS, 5, one_home, MOST);
+        else words_of_one_group(strcmp(argv[1], "--names") == 0, one_home, MOST);
         check(fwrite(one_home, 8, MOST, file) == MOST && !fclose(file), "write");
         return 0;
     }

@@ -12,6 +12,7 @@ after `--after`.
 import os
 import random
 import re
+import struct
 import subprocess
 import sys
 import tempfile
@@ -40,8 +41,8 @@ class Tests:
     def compile(self, *words):
         out = os.path.join(self.work, f"built{len(os.listdir(self.work))}")
         include = f"{TOP}/bindings/c/include"
-        subprocess.run([COMPILER, "-std=gnu11", "-O2", "-Wall", "-Wextra", "-Werror", f"-I{include}", *words, "-o", out, "-lpthread"],
-                       check=True)
+        flags = ["-std=gnu11", "-O2", "-Wall", "-Wextra", "-Werror", f"-I{include}"]
+        subprocess.run([COMPILER, *flags, *words, "-o", out, "-lpthread"], check=True)
         return out
 
     def callgrind(self, command, name, lines=b"", **settings):
@@ -74,11 +75,11 @@ class Tests:
         """Compares the calls of the C library."""
         built = os.path.join(self.work, "library")
         subprocess.run(["bash", f"{TOP}/bindings/c/build.sh", built, *archive], check=True, stdout=subprocess.DEVNULL)
-        keys = ["-DHAS_KEYS"] if contains(f"{built}/libdatasketches.a", b"ds_frequent_items_u64_new_with_key") else []
-        driver = self.compile(*keys, f"{HERE}/costs.c", f"{built}/libdatasketches.a")
-        numbers = os.path.join(self.work, "numbers")
-        subprocess.run([driver, "--numbers", numbers], check=True)
-        ran, counted = self.callgrind([driver, numbers], "calls")
+        has_keys = ["-DHAS_KEYS"] if contains(f"{built}/libdatasketches.a", b"ds_frequent_items_u64_new_with_key") else []
+        driver = self.compile(*has_keys, f"{HERE}/costs.c", f"{built}/libdatasketches.a")
+        for kind in ("numbers", "tenants", "names"):
+            subprocess.run([driver, f"--{kind}", os.path.join(self.work, kind)], check=True)
+        ran, counted = self.callgrind([driver, os.path.join(self.work, "numbers")], "calls")
         self.check("the calls of the C library", ran.returncode == 0 and b"all calls made" in ran.stdout, ran)
         self.check("calls were counted", len(counted) > 100, len(counted))
         self.compare(counted)
@@ -87,7 +88,7 @@ class Tests:
         """Compares scripts of the program."""
         _, counted = self.callgrind([program], "empty")
         start = min(counted.values())
-        for number, (name, (status, script)) in enumerate(scripts(program).items()):
+        for number, (name, (status, script)) in enumerate(scripts(program, self.work).items()):
             costs = []
             for n in (300, 3000):
                 lines = "".join(f"{line}\n" for line in script(n)).encode()
@@ -114,24 +115,6 @@ def contains(path, word):
         return word in file.read()
 
 
-def folded(a, b):
-    product = a * b
-    return product % 2**64 ^ product >> 64
-
-
-def names_of_one_group(count):
-    """Returns names whose look-ups begin at one group of a map of up to 512 groups, if its hash has the default seed."""
-    rng = random.Random(1)
-    names = []
-    while len(names) < count:
-        name = "".join(rng.choices("abcdefghijklmnopqrstuvwxyz", k=8))
-        word = int.from_bytes(name.encode(), "little")
-        hash = folded(folded(0x243F6A8885A308D3 ^ word, 0x9E3779B97F4A7C15 ^ 16) ^ 0xFFFFFF, 0x9E3779B97F4A7C15 ^ 2)
-        if (hash ^ hash >> 32) % 512 == 0:
-            names.append(name)
-    return names
-
-
 def image_of(n):
     """Returns an image of a sketch of n strings, in hexadecimal digits."""
     size = max(8, 1 << (n * 4 // 3).bit_length())
@@ -141,7 +124,13 @@ def image_of(n):
     return (head + n * (b"\x01" + bytes(7)) + items).hex()
 
 
-def scripts(program):
+def words_in(work, kind):
+    """Returns the words of 8 bytes in a file."""
+    with open(os.path.join(work, kind), "rb") as file:
+        return [word for word, in struct.iter_unpack("8s", file.read())]
+
+
+def scripts(program, work):
     """Returns scripts for a size, by name, each with the exit status of the program."""
     rng = random.Random(2)
     names = [f"name{i}" for i in range(3000)]
@@ -163,8 +152,10 @@ def scripts(program):
         "images": (0, lambda n: ["frequent s 8"] + [f"save s {name}" for name in names[:n]]),
     }
     if contains(program, KEY):
-        chosen = names_of_one_group(3000)
+        chosen = [word.decode() for word in words_in(work, "names")]
+        tenants = [int.from_bytes(word, "little") for word in words_in(work, "tenants")]
         found["names of one group"] = (0, lambda n: [f"bloom {name} 64 1 9001" for name in chosen[:n]])
+        found["tenants of one group"] = (0, lambda n: ["windows 1 8"] + [f"hadd {tenant} 1 x" for tenant in tenants[:n]])
     return found
 
 
