@@ -9,6 +9,11 @@ import tempfile
 
 import datasketches_rattle as ds
 
+TOP = os.path.dirname(os.path.dirname(os.path.dirname(os.path.abspath(__file__))))
+sys.path.insert(0, f"{TOP}/bindings/python/tests")
+
+import arrow  # noqa: E402
+
 marks = ctypes.CDLL(sys.argv[1])
 SIZES = (1000, 10000)
 
@@ -78,9 +83,16 @@ def main():
     cost("frequent.update of a list of numbers", numbers, lambda items: new_numbers().update(items))
     cost("frequent.update of a list of strings", strings, lambda items: new_strings().update(items))
     cost("frequent.update with weights", strings, lambda items: new_strings().update(items, [1] * len(items)))
+    cost("frequent.update of a dict", lambda n: dict.fromkeys(strings(n), 3), lambda items: new_strings().update(items))
+    cost("frequent.update of an iterator", lambda n: iter(strings(n)), lambda items: new_strings().update(items))
+    cost("frequent.update of an Arrow column", lambda n: arrow.Column("u", strings(n)), lambda items: new_strings().update(items))
+    cost("frequent.merge_all", lambda n: n * [ds.FrequentItemsSketch(8, item=str)] + [sketch_of(n, str)], new_strings().merge_all)
+    cost("count.merge_all", lambda n: [count_of(3) for _ in range(n)], ds.CountMinSketch(num_hashes=4, num_buckets=3).merge_all)
+    cost("filter.union_all", lambda n: [filter_of(1) for _ in range(n)], ds.BloomFilter(num_bits=64, num_hashes=7).union_all)
     cost("frequent.update_words", words, lambda text: new_strings().update_words(text))
-    cost("frequent.update_lines", words, lambda text: new_strings().update_lines(text))
+    cost("frequent.update_lines", lambda n: words(n).replace(b" ", b"\n"), lambda text: new_strings().update_lines(text))
     cost("frequent.update_words of one word", lambda n: 8 * n * b"a", lambda text: new_strings().update_words(text))
+    ds.FrequentItemsSketch.from_file(file_of(b"a"), progress=False)  # its imports are not counted below
     cost("from_file", lambda n: file_of(words(n)), lambda path: ds.FrequentItemsSketch.from_file(path, progress=False))
     cost("deserialize of numbers", lambda n: sketch_of(n).serialize(),
          lambda image: ds.FrequentItemsSketch.deserialize(image, item="u64"))
