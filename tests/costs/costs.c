@@ -1,0 +1,252 @@
+/* Makes each call of the C library that reads input on an input of size n and of 10 n. Callgrind counts the instructions of each,
+ * and writes them to a file with the name and the size. `run.py` runs it.
+ *
+ *     costs --numbers FILE    writes numbers of one home, 8 bytes each
+ *     costs --tenants FILE    writes tenants of one group of a map, 8 bytes each
+ *     costs --names FILE      the same of names, which have 8 bytes
+ *     costs FILE              makes the calls, with these numbers
+ *
+ * Compiled with HAS_KEYS it also makes calls with items that collide in a table without a key. */
+#include "../../bench/hostile_items.h"
+#include <datasketches.h>
+#include <stdio.h>
+#include <valgrind/callgrind.h>
+
+enum { N = 1000, MOST = 10 * N, SLOTS = 1 << 14, SAMPLE = 1024, WORD = 8 };
+
+static uint64_t numbers[2 * MOST], one_home[MOST], weights[MOST], offsets[MOST + 1], estimates[MOST];
+static int32_t offsets_32[MOST + 1];
+static int64_t signed_weights[MOST];
+static ds_frequent_items_bounds bounds[MOST];
+static bool answers[MOST];
+static size_t positions[MOST];
+static ds_string strings[MOST];
+static uint8_t words[WORD * MOST], lines[WORD * MOST], spaces[WORD * MOST], one_word[WORD * MOST];
+static uint8_t colliding[COLLIDING * COLLIDING_LENGTH], image[1 << 24];
+static ds_sketch others[MOST];
+
+static void check(bool holds, const char *what)
+{
+    if (holds) return;
+    fprintf(stderr, "costs: %s\n", what);
+    exit(1);
+}
+
+static void label(const char *name, size_t n)
+{
+    static char text[100];
+    snprintf(text, sizeof text, "%s %zu", name, n);
+    CALLGRIND_DUMP_STATS_AT(text);
+}
+
+/* Counts the instructions of a call at n and 10 n, after a preparation. The call returns `expected`. */
+#define COST_OF(name, prepare, call, expected) \
+    for (size_t n = N; n <= MOST; n *= 10) { \
+        int64_t result; \
+        prepare; \
+        CALLGRIND_ZERO_STATS; \
+        result = (int64_t)(call); \
+        label(name, n); \
+        check(result == (int64_t)(expected), name); \
+    }
+#define COST(name, prepare, call) COST_OF(name, prepare, call, 0)
+
+static ds_sketch sketch = DS_NONE, other = DS_NONE;
+
+static void new_filter(ds_sketch *handle, size_t bits) { check(!ds_bloom_new(handle, bits, 7, 9001), "filter"); }
+static void new_count(ds_sketch *handle, size_t buckets) { check(!ds_count_min_u64_new(handle, 4, buckets, 9001), "count"); }
+static void new_signed(size_t buckets) { check(!ds_count_min_i64_new(&sketch, 4, buckets, 9001), "count"); }
+static void new_numbers(ds_sketch *handle) { check(!ds_frequent_items_u64_new(handle, SLOTS, SAMPLE), "numbers"); }
+static void new_strings(ds_sketch *handle) { check(!ds_frequent_items_string_new(handle, SLOTS, SAMPLE), "strings"); }
+
+static void filters(void)
+{
+    size_t length = 0;
+    new_filter(&sketch, 1 << 20);
+    COST("bloom_insert_all_u64", , ds_bloom_insert_all_u64(&sketch, numbers, n))
+    COST("bloom_contains_all_u64", , ds_bloom_contains_all_u64(&sketch, numbers, n, answers, n))
+    COST("bloom_insert_all_string", , ds_bloom_insert_all_string(&sketch, words, WORD * n, offsets, n + 1))
+    COST("bloom_contains_all_string", , ds_bloom_contains_all_string(&sketch, words, WORD * n, offsets, n + 1, answers, n))
+    COST("bloom_insert_all_string_pairs", , ds_bloom_insert_all_string_pairs(&sketch, strings, n))
+    COST("bloom_contains_all_string_pairs", , ds_bloom_contains_all_string_pairs(&sketch, strings, n, answers, n))
+    COST("bloom_insert_string", , ds_bloom_insert_string(&sketch, one_word, WORD * n))
+    COST("bloom_insert_words", , ds_bloom_insert_words(&sketch, words, WORD * n))
+    COST("bloom_insert_words of spaces", , ds_bloom_insert_words(&sketch, spaces, WORD * n))
+    COST("bloom_insert_words of one word", , ds_bloom_insert_words(&sketch, one_word, WORD * n))
+    COST("bloom_insert_lines", , ds_bloom_insert_lines(&sketch, lines, WORD * n))
+    COST("bloom_deserialize", new_filter(&other, 64 * n); ds_bloom_insert_u64(&other, 1);
+         check(!ds_bloom_serialize(&other, image, sizeof image, &length), "image"),
+         ds_bloom_deserialize(&sketch, image, length, SIZE_MAX))
+    COST("bloom_deserialize of an empty filter", new_filter(&other, 64 * n);
+         check(!ds_bloom_serialize(&other, image, sizeof image, &length), "image"),
+         ds_bloom_deserialize(&sketch, image, length, SIZE_MAX))
+    COST_OF("bloom_deserialize, rejected at the end", new_filter(&other, 64 * n); ds_bloom_insert_u64(&other, 1);
+            check(!ds_bloom_serialize(&other, image, sizeof image, &length), "image"); image[24]++,
+            ds_bloom_deserialize(&sketch, image, length, SIZE_MAX), DS_BAD_BIT_COUNT)
+    COST("bloom_union", new_filter(&sketch, 64 * n); new_filter(&other, 64 * n), ds_bloom_union(&sketch, &other))
+    COST("bloom_union_all", new_filter(&sketch, 64); for (size_t i = 0; i < n; i++) new_filter(&others[i], 64),
+         ds_bloom_union_all(&sketch, others, n))
+}
+
+static void counts(void)
+{
+    size_t length = 0;
+    new_count(&sketch, 1 << 12);
+    COST("count_min_update_all_u64", , ds_count_min_u64_update_all_u64(&sketch, numbers, n))
+    COST("count_min_update_all_weighted_u64", , ds_count_min_u64_update_all_weighted_u64(&sketch, numbers, n, weights, n))
+    COST("count_min_estimate_all_u64", , ds_count_min_u64_estimate_all_u64(&sketch, numbers, n, estimates, n))
+    COST("count_min_update_all_string", , ds_count_min_u64_update_all_string(&sketch, words, WORD * n, offsets, n + 1))
+    COST("count_min_update_all_weighted_string", ,
+         ds_count_min_u64_update_all_weighted_string(&sketch, words, WORD * n, offsets, n + 1, weights, n))
+    COST("count_min_estimate_all_string", ,
+         ds_count_min_u64_estimate_all_string(&sketch, words, WORD * n, offsets, n + 1, estimates, n))
+    COST("count_min_update_all_string_pairs", , ds_count_min_u64_update_all_string_pairs(&sketch, strings, n))
+    COST("count_min_update_string", , ds_count_min_u64_update_string(&sketch, one_word, WORD * n, 1))
+    COST("count_min_update_words", , ds_count_min_u64_update_words(&sketch, words, WORD * n))
+    COST("count_min_update_words of spaces", , ds_count_min_u64_update_words(&sketch, spaces, WORD * n))
+    COST("count_min_update_lines", , ds_count_min_u64_update_lines(&sketch, lines, WORD * n))
+    COST("count_min_deserialize", new_count(&other, n); ds_count_min_u64_update_u64(&other, 1, 1);
+         check(!ds_count_min_u64_serialize(&other, image, sizeof image, &length), "image"),
+         ds_count_min_u64_deserialize(&sketch, image, length, 9001, SIZE_MAX))
+    COST("count_min_deserialize of an empty sketch", new_count(&other, n);
+         check(!ds_count_min_u64_serialize(&other, image, sizeof image, &length), "image"),
+         ds_count_min_u64_deserialize(&sketch, image, length, 9001, SIZE_MAX))
+    COST_OF("count_min_deserialize, rejected at the end", new_count(&other, n); ds_count_min_u64_update_u64(&other, 1, 1);
+            check(!ds_count_min_u64_serialize(&other, image, sizeof image, &length), "image"); image[length - 8] = 9,
+            ds_count_min_u64_deserialize(&sketch, image, length, 9001, SIZE_MAX), DS_CELL_ABOVE_TOTAL)
+    COST("count_min_merge", new_count(&sketch, n); new_count(&other, n); ds_count_min_u64_update_u64(&other, 1, 1),
+         ds_count_min_u64_merge(&sketch, &other))
+    COST("count_min_merge_all", new_count(&sketch, 3); for (size_t i = 0; i < n; i++) new_count(&others[i], 3),
+         ds_count_min_u64_merge_all(&sketch, others, n))
+    new_signed(1 << 12);
+    COST("count_min_i64_update_all_weighted_u64", ,
+         ds_count_min_i64_update_all_weighted_u64(&sketch, numbers, n, signed_weights, n))
+}
+
+/* Writes an image of n numbers of weight 1 in this order, in a table of 2^14 slots. Returns its length. */
+static size_t image_of(const uint64_t *items, size_t n)
+{
+    const uint8_t head[6] = {4, 1, 10, 14, 14, 0};
+    uint64_t total = n, one = 1;
+    memset(image, 0, 32);
+    memcpy(image, head, 6);
+    memcpy(image + 8, &n, 4);
+    memcpy(image + 16, &total, 8);
+    for (size_t i = 0; i < n; i++) memcpy(image + 32 + 8 * i, &one, 8), memcpy(image + 32 + 8 * (n + i), items + i, 8);
+    return 32 + 16 * n;
+}
+
+static void frequent_numbers(const char *kind, const uint64_t *items)
+{
+    char name[80];
+#define NAMED(call) (snprintf(name, sizeof name, "frequent_items_%s, %s", call, kind), name)
+    COST(NAMED("update_all"), new_numbers(&sketch), ds_frequent_items_u64_update_all(&sketch, items, n))
+    COST(NAMED("update_all_weighted"), new_numbers(&sketch),
+         ds_frequent_items_u64_update_all_weighted(&sketch, items, n, weights, n))
+    COST(NAMED("bounds_all"), , ds_frequent_items_u64_bounds_all(&sketch, items, n, bounds, n))
+    COST(NAMED("deserialize"), size_t length = image_of(items, n),
+         ds_frequent_items_u64_deserialize(&sketch, image, length, SIZE_MAX))
+    COST(NAMED("merge"), new_numbers(&sketch); new_numbers(&other);
+         ds_frequent_items_u64_update_all(&sketch, items, n / 2);
+         ds_frequent_items_u64_update_all(&other, items + n / 2, n / 2), ds_frequent_items_u64_merge(&sketch, &other))
+}
+
+static void frequent_items(void)
+{
+    size_t length = 0;
+    frequent_numbers("random numbers", numbers);
+    COST("frequent_items_merge_all", new_numbers(&sketch); for (size_t i = 0; i < n; i++) {
+             new_numbers(&others[i]);
+             ds_frequent_items_u64_update(&others[i], numbers[i], 1);
+         }, ds_frequent_items_u64_merge_all(&sketch, others, n))
+    COST("frequent_items_update_all_string", new_strings(&sketch),
+         ds_frequent_items_string_update_all(&sketch, words, WORD * n, offsets, n + 1))
+    COST("frequent_items_update_all_weighted_string", new_strings(&sketch),
+         ds_frequent_items_string_update_all_weighted(&sketch, words, WORD * n, offsets, n + 1, weights, n))
+    COST("frequent_items_bounds_all_string", ,
+         ds_frequent_items_string_bounds_all(&sketch, words, WORD * n, offsets, n + 1, bounds, n))
+    COST("frequent_items_update_all_pairs", new_strings(&sketch), ds_frequent_items_string_update_all_pairs(&sketch, strings, n))
+    COST("frequent_items_update_string", new_strings(&sketch), ds_frequent_items_string_update(&sketch, one_word, WORD * n, 1))
+    COST("frequent_items_update_words", new_strings(&sketch), ds_frequent_items_string_update_words(&sketch, words, WORD * n))
+    COST("frequent_items_update_words of spaces", new_strings(&sketch),
+         ds_frequent_items_string_update_words(&sketch, spaces, WORD * n))
+    COST("frequent_items_update_lines", new_strings(&sketch), ds_frequent_items_string_update_lines(&sketch, lines, WORD * n))
+    COST("frequent_items_deserialize, strings", new_strings(&other);
+         ds_frequent_items_string_update_all(&other, words, WORD * n, offsets, n + 1);
+         check(!ds_frequent_items_string_serialize(&other, image, sizeof image, &length), "image"),
+         ds_frequent_items_string_deserialize(&sketch, image, length, SIZE_MAX))
+    COST_OF("frequent_items_deserialize, rejected at the end", new_strings(&other);
+            ds_frequent_items_string_update_all(&other, words, WORD * n, offsets, n + 1);
+            check(!ds_frequent_items_string_serialize(&other, image, sizeof image, &length), "image"); image[length - 1] = 0xff,
+            ds_frequent_items_string_deserialize(&sketch, image, length, SIZE_MAX), DS_INVALID_UTF8)
+    COST_OF("frequent_items_update_all_string, bad offset at the end", uint64_t last = offsets[n]; offsets[n] = 0,
+            ds_frequent_items_string_update_all(&sketch, words, WORD * n, offsets, n + 1), (offsets[n] = last, DS_BAD_OFFSETS))
+    COST_OF("frequent_items_update_words, bad byte at the end", uint8_t last = words[WORD * n - 1]; words[WORD * n - 1] = 0xff,
+            ds_frequent_items_string_update_words(&sketch, words, WORD * n), (words[WORD * n - 1] = last, DS_INVALID_UTF8))
+}
+
+/* Items that collide in a table without a key. */
+static void hostile_items(void)
+{
+#ifdef HAS_KEYS
+    enum { EACH = COLLIDING_LENGTH };
+    frequent_numbers("numbers of one home", one_home);
+    COST("frequent_items_update_all, numbers of one home, given key",
+         check(!ds_frequent_items_u64_new_with_key(&sketch, SLOTS, SAMPLE, 1, 2), "new_with_key"),
+         ds_frequent_items_u64_update_all(&sketch, one_home, n))
+    COST("frequent_items_update_all_string, strings of one hash", new_strings(&sketch);
+         for (size_t i = 0; i <= n * 4 / 5; i++) offsets[i] = EACH * i,
+         ds_frequent_items_string_update_all(&sketch, colliding, EACH * (n * 4 / 5), offsets, n * 4 / 5 + 1))
+    COST("frequent_items_bounds_all_string, strings of one hash", ,
+         ds_frequent_items_string_bounds_all(&sketch, colliding, EACH * (n * 4 / 5), offsets, n * 4 / 5 + 1, bounds, n * 4 / 5))
+#endif
+}
+
+static void others_calls(void)
+{
+    size_t found;
+    COST_OF("keyed_hash", , (int64_t)(ds_keyed_hash(one_word, WORD * n, 1, 2) & 0), 0)
+    COST_OF("valid_utf8", , ds_valid_utf8(words, WORD * n), WORD * n)
+    COST_OF("finished_words of one word", , ds_finished_words(one_word, WORD * n), 0)
+    COST_OF("finished_lines of one line", , ds_finished_lines(words, WORD * n), 0)
+    COST("strings_from_utf8", , ds_strings_from_utf8(words, WORD * n, offsets_32, n, spaces, 0, strings, &found))
+    COST_OF("valid_u64", , ds_valid_u64(numbers, n, words, 0, estimates) & 0, 0)
+    COST_OF("select", , ds_select(answers, n, positions) & 0, 0)
+}
+
+int main(int argc, char **argv)
+{
+    bool writes = argc == 3;
+    FILE *file = argc < 2 ? NULL : fopen(argv[argc - 1], writes ? "wb" : "rb");
+    check(file, "usage: costs [--numbers | --tenants | --names] FILE");
+    if (writes) {
+        if (strcmp(argv[1], "--numbers") == 0) numbers_of_one_home(SLOTS, 5, one_home, MOST);
+        else words_of_one_group(strcmp(argv[1], "--names") == 0, one_home, MOST);
+        check(fwrite(one_home, 8, MOST, file) == MOST && !fclose(file), "write");
+        return 0;
+    }
+    check(fread(one_home, 8, MOST, file) == MOST && !fclose(file), "read");
+    for (size_t i = 0; i < 2 * MOST; i++) numbers[i] = random_of(i);
+    memset(spaces, ' ', sizeof spaces);
+    memset(one_word, 'a', sizeof one_word);
+    for (size_t i = 0; i < MOST; i++) {
+        weights[i] = 1 + i % 3, signed_weights[i] = (int64_t)(i % 5) - 2;
+        offsets[i] = WORD * i, offsets_32[i] = WORD * (int32_t)i;
+        snprintf((char *)words + WORD * i, WORD, "w%06zu", i % 1000000);
+        memcpy(lines + WORD * i, words + WORD * i, WORD - 1);
+        words[WORD * i + WORD - 1] = ' ', lines[WORD * i + WORD - 1] = '\n';
+        strings[i] = (ds_string){words + WORD * i, WORD - 1};
+    }
+    offsets[MOST] = WORD * MOST, offsets_32[MOST] = WORD * MOST;
+    colliding_strings(colliding, COLLIDING);
+    filters();
+    counts();
+    frequent_items();
+    hostile_items();
+    others_calls();
+    ds_free(&sketch);
+    ds_free(&other);
+    for (size_t i = 0; i < MOST; i++) ds_free(&others[i]);
+    puts("all calls made");
+    return 0;
+}
