@@ -35,7 +35,7 @@ fn main(rt: HostRuntime) -> ExitCode {
     let keys = match keys::keys_of(&rt) {
         Ok(keys) => keys,
         Err(KeyFault::BadValue) => {
-            let _ = eprintln!(rt; "DATASKETCHES_TABLE_KEY is not plain or 32 hexadecimal digits");
+            let _ = eprintln!(rt; "DATASKETCHES_TABLE_KEY must be plain or 32 hexadecimal digits");
             return ExitCode::from(2);
         }
         Err(KeyFault::NoRandomBytes) => {
