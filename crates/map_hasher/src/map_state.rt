@@ -2,7 +2,9 @@
 ghost use Rattle.std.specs.Prelude.{◌≡◌};
 ghost use Rattle.map_hasher.specs.MapHashers as spec;
 
-use std::hash::{BuildHasher, BuildHasherDefault, DefaultHasher, FoldHasher, Hasher, RandomState};
+use std::hash::{
+    BuildHasher, BuildHasherDefault, DefaultHasher, FoldHasher, Hash, Hasher, RandomState,
+};
 
 /// A hash builder: std's default one with its fixed seed, or a `RandomState`.
 ///
@@ -50,6 +52,15 @@ impl BuildHasher for MapState {
         match self {
             MapState::Fixed(state) => MapHasher::Fold(state.build_hasher()),
             MapState::Random(state) => MapHasher::Sip(state.build_hasher()),
+        }
+    }
+
+    // one test of the variant for all writes of a key
+    #[inline(always)]
+    fn hash_one<T: Hash + Drop>(&self, x: T) -> u64 {
+        match self {
+            MapState::Fixed(state) => state.hash_one(x),
+            MapState::Random(state) => state.hash_one(x),
         }
     }
 }
