@@ -17,6 +17,8 @@
  * - whether a call failed
  * - the number of writes
  * - the number of reads before which the number of lines written was not the number of lines read
+ *
+ * With NO_RANDOM_BYTES, getentropy fails.
  */
 #define _GNU_SOURCE
 #include <dlfcn.h>
@@ -34,6 +36,7 @@ static void *(*real_calloc)(size_t, size_t);
 static void (*real_free)(void *);
 static ssize_t (*real_read)(int, void *, size_t);
 static ssize_t (*real_write)(int, const void *, size_t);
+static int (*real_getentropy)(void *, size_t);
 
 static long refused_at;
 static long requests;
@@ -69,6 +72,7 @@ __attribute__((constructor)) static void begin(void) {
     real_free = dlsym(RTLD_NEXT, "free");
     real_read = dlsym(RTLD_NEXT, "read");
     real_write = dlsym(RTLD_NEXT, "write");
+    real_getentropy = dlsym(RTLD_NEXT, "getentropy");
     refused_at = number_of("REFUSED_AT");
     fails_read_at = number_of("FAILS_READ_AT");
     fails_write_at = number_of("FAILS_WRITE_AT");
@@ -206,4 +210,12 @@ ssize_t write(int file, const void *bytes, size_t size) {
 
 ssize_t __write(int file, const void *bytes, size_t size) {
     return write(file, bytes, size);
+}
+
+int getentropy(void *bytes, size_t size) {
+    if (getenv("NO_RANDOM_BYTES")) {
+        errno = ENOSYS;
+        return -1;
+    }
+    return real_getentropy(bytes, size);
 }

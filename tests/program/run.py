@@ -19,12 +19,16 @@ sys.path[:0] = [os.path.join(TESTS, name) for name in ("docs", "memory")]
 import cluster  # noqa: E402
 import counted  # noqa: E402
 import examples  # noqa: E402
+import keys  # noqa: E402
 import loads  # noqa: E402
 import sessions  # noqa: E402
 import streams  # noqa: E402
 import trials  # noqa: E402
 
 NO_MEMORY = b"refused NoMemory"
+
+# All runs but those of `keys.py` are plain, so that each reply is determined.
+os.environ[keys.VARIABLE] = "plain"
 
 # The main job, and each kind with its merges, images and errors. The result of the only purge is determined: all counts are 1.
 WORKED = """frequent s 8
@@ -142,10 +146,13 @@ class Tests:
             self.failed += 1
             print(f"failed: {name} {said}")
 
-    def run(self, lines, refused_at=None, words=None, **settings):
+    def run(self, lines, refused_at=None, words=None, key="plain", **settings):
         """Runs the program over lines, or the trials with these words. The lines are in a file, so that each run reads
-        them by the same calls. Returns the exit status, both outputs, and the library's report if it was loaded."""
+        them by the same calls. With None for the key, tables hash under random keys. Returns the exit status, both outputs,
+        and the library's report if it was loaded."""
         env = {"PATH": "/usr/bin:/bin"}
+        if key is not None:
+            env[keys.VARIABLE] = key
         report, name = [os.path.join(self.work, it) for it in ("report", "lines")]
         with open(name, "wb") as file:
             file.write(lines)
@@ -578,6 +585,7 @@ def main():
         tests.lines()
         tests.loads()
         cluster.check(tests, tests.answers)
+        keys.check(tests)
         tests.streams_that_move_a_little()
         tests.replies_before_reads()
         tests.streams_that_fail()

@@ -1,11 +1,13 @@
 -- Saved sketches and what they stand for.
-use Rattle.std.proofs.Common.{◌≡◌, ℕ, ℤ, ◌≤◌, Bool, List, Option, Some, None, inl, refl, sym, ap, subst, arith}
+use Rattle.std.proofs.Common.{◌≡◌, ℕ, ℤ, ◌≤◌, Bool, List, Option, Some, None, inl, refl, sym, ap, subst, ◌∙◌, arith}
 use Rattle.std.specs.Prelude.{cond, ◌*◌}
 use Rattle.std.proofs.lemmas.Bool.{le-ltb}
+use denote.RattleType.{RattleType}
 use Rattle.std.specs.Global.{Global}
 use Rattle.std.specs.declared.vec.Vec.{Vec}
-use Rattle.sketch_base.specs.Checks.{or_else}
-use Rattle.sketch_base.specs.Errors.{no_memory}
+use Rattle.counter_table.specs.Bytes.{table_bytes}
+use Rattle.sketch_base.specs.Checks.{IsImageRefusal, or_else}
+use Rattle.sketch_base.specs.Errors.{ErrorValue, no_memory}
 use Rattle.sketch_base.specs.declared.fault.Fault.{Fault}
 use Rattle.sketch_base.specs.declared.fault.Fault.TheVariants.{TableTooLarge}
 use Rattle.sketch_bloom.specs.Image as bloom
@@ -16,8 +18,9 @@ use Rattle.sketch_countmin.specs.Laws as count_laws
 use Rattle.sketch_countmin.specs.State.{CountState, IsCountState}
 use Rattle.sketch_countmin.specs.History as count_history
 use Rattle.sketch_frequencies.specs.Image as frequent
-use Rattle.sketch_frequencies.specs.Items.{Codec}
+use Rattle.sketch_frequencies.specs.Items.{Codec, max_owned}
 use Rattle.sketch_frequencies.specs.Laws as frequent_laws
+use Rattle.sketch_frequencies.specs.Memory.{memory_bytes}
 use Rattle.sketch_frequencies.specs.State.{FrequentState, IsState, capacity}
 use Rattle.datasketches.specs.Histories.{History}
 use Rattle.datasketches.specs.Histories.History.{OfFrequent, OfCountI64, OfCountU64, OfBloom, OfStranger}
@@ -125,3 +128,15 @@ module _ {T C : Type 0} (slot : ℕ) (codec : Codec C) (content : T → C) where
   load_first most (image.CountU64 seed bytes) (CountU64 s) read accepted = inl (refl, none_within (count.early_fault seed bytes.items) _ _ read.no_fault accepted)
   load_first most (image.Bloom bytes) (Bloom s) read accepted = inl (refl, none_within (bloom.early_fault bytes.items) _ _ read.no_fault accepted)
   load_first most _ _ read accepted = absurd read
+
+or_else-none : (a : Option Fault) → or_else a None ≡ a
+or_else-none None = refl
+or_else-none (Some fault) = refl
+
+-- the greatest limit refuses nothing
+pub no_limit : {C : Type 0} (item : RattleType) (codec : Codec C) (image : List ℕ) (late : Option Fault) (e : ErrorValue)
+    → IsImageRefusal (frequent.early_fault_within item 18446744073709551615 codec image) (or_else (frequent.early_fault_within item 18446744073709551615 codec image) late) e
+    → IsImageRefusal (frequent.early_fault image) (or_else (frequent.early_fault image) late) e
+no_limit item codec image late e refused =
+    let within : over_limit 18446744073709551615 (memory_bytes (table_bytes item (frequent.restored_size image)) (max_owned codec (frequent.bytes_for_items image))) ≡ None = not_over _ _ (omega arith) in
+    subst (λ (early : Option Fault). IsImageRefusal early (or_else early late) e) (ap (or_else (frequent.early_fault image)) within ∙ or_else-none (frequent.early_fault image)) refused

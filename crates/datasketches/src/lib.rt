@@ -51,9 +51,9 @@ pub mod frequencies {
     pub use sketch_base::{SketchBytes, SketchSlice};
     pub use sketch_frequencies::{
         EMPTY_FLAG_MASK, Error, ErrorKind, ErrorType, Fault, FrequentItemValue,
-        FrequentItemsSketch, ItemBounds, ItemKey, OwnedKey, PREAMBLE_LONGS_EMPTY,
+        FrequentItemsSketch, HashKey, ItemBounds, ItemKey, OwnedKey, PREAMBLE_LONGS_EMPTY,
         PREAMBLE_LONGS_NONEMPTY, ReversePurgeItemHashMap, ReversePurgeItemIter, Row,
-        SERIAL_VERSION, suggest_max_map_size,
+        SERIAL_VERSION, TableKey, suggest_max_map_size,
     };
 }
 

@@ -6,6 +6,7 @@ ghost use Rattle.std.specs.Option.{option_copied_mut};
 ghost use Rattle.datasketches.specs.Lending.{LendsValue};
 ghost use Rattle.datasketches.specs.Names.{at_name, index_of, Puts, AreSame};
 
+use map_hasher::MapState;
 use sketch_base::Error;
 use std::alloc::Global;
 use std::collections::HashMap;
@@ -16,7 +17,7 @@ use std::marker::Model;
 /// removed, so indices do not change.
 #[derive(Drop)]
 pub struct NameMap<V> {
-    pub(crate) indices: HashMap<String, usize>,
+    pub(crate) indices: HashMap<String, usize, MapState>,
     pub(crate) values: Vec<V>,
 }
 
@@ -41,12 +42,12 @@ impl<V> fmt::Debug for NameMap<V> {
 }
 
 impl<V: Drop> NameMap<V> {
-    /// Creates an empty map.
-    pub fn new(alloc: Global) -> Self
+    /// Creates an empty map that hashes names under `state`.
+    pub fn new(alloc: Global, state: MapState) -> Self
         ensures { result ≡ [] }
     {
         NameMap {
-            indices: HashMap::new(alloc),
+            indices: HashMap::with_hasher(alloc, state),
             values: Vec::new(alloc),
         }
     }
@@ -106,7 +107,7 @@ impl<V: Drop> NameMap<V> {
 }
 
 /// Returns the index of the name's value, if any.
-pub(crate) fn index_of(indices: &HashMap<String, usize>, name: &str) -> Option<usize>
+pub(crate) fn index_of(indices: &HashMap<String, usize, MapState>, name: &str) -> Option<usize>
     ensures { result ≡ index_of name.now indices.now.entries }
 {
     indices.get(name).copied()

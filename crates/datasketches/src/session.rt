@@ -20,11 +20,12 @@ use crate::name_map::NameMap;
 use crate::reply::{Refusal, Reply};
 use crate::shape::Shape;
 use crate::sketch::Sketch;
+use map_hasher::MapState;
 use sketch_base::Error;
-use sketch_frequencies::{ErrorType, FrequentItemValue};
+use sketch_frequencies::{ErrorType, FrequentItemValue, TableKey};
 use std::alloc::Global;
 use std::fmt;
-use std::hash::Hash;
+use std::hash::{Hash, RandomState};
 use std::marker::Model;
 
 /// Sketches of four kinds and saved images of them, each under its own name.
@@ -59,6 +60,7 @@ use std::marker::Model;
 #[derive(Drop)]
 pub struct Session<T: Eq + Hash + Drop> {
     alloc: Global,
+    key: TableKey,
     sketches: NameMap<Sketch<T>>,
     images: NameMap<Image>,
 }
@@ -92,10 +94,71 @@ impl<T: FrequentItemValue + Clone + Drop> Session<T> {
         ensures empty { result ≡ record { sketches = []; images = [] } }
         ensures fits { SessionStandsFor T.eq T.codec T.content result nothing_named }
     {
+        Self::with_state(alloc, TableKey::Plain, MapState::fixed())
+    }
+
+    /// Creates a session as [`new`](Self::new) does, whose sketches of frequent items hash under `key`.
+    ///
+    /// The key applies to the sketches that commands create, restore and load. With a secret key, no way is known to
+    /// choose items or images that slow them down. Names hash as in a session of `new`. If callers choose the names, use
+    /// [`with_key_and_hasher`](Self::with_key_and_hasher).
+    ///
+    /// # Examples
+    ///
+    /// ```
+    /// use datasketches::Session;
+    /// use datasketches::frequencies::{HashKey, TableKey};
+    /// use std::alloc::Global;
+    ///
+    /// fn keyed_session(alloc: Global, random: &[u8; 16]) -> Session<String> {
+    ///     Session::with_key(alloc, TableKey::Keyed(HashKey::from_bytes(random)))
+    /// }
+    /// ```
+    pub fn with_key(alloc: Global, key: TableKey) -> Self
+        ensures empty { result ≡ record { sketches = []; images = [] } }
+        ensures fits { SessionStandsFor T.eq T.codec T.content result nothing_named }
+    {
+        Self::with_state(alloc, key, MapState::fixed())
+    }
+
+    /// Creates a session as [`with_key`](Self::with_key) does, whose names hash under `hash_builder`.
+    ///
+    /// With secret keys, no way is known to choose names that slow down the commands for others.
+    ///
+    /// # Examples
+    ///
+    /// ```
+    /// use datasketches::Session;
+    /// use datasketches::frequencies::{HashKey, TableKey};
+    /// use std::alloc::Global;
+    /// use std::hash::RandomState;
+    ///
+    /// fn session_of_strangers(
+    ///     alloc: Global,
+    ///     random: &[u8; 16],
+    ///     hash_builder: RandomState,
+    /// ) -> Session<String> {
+    ///     let key = TableKey::Keyed(HashKey::from_bytes(random));
+    ///     Session::with_key_and_hasher(alloc, key, hash_builder)
+    /// }
+    /// ```
+    pub fn with_key_and_hasher(alloc: Global, key: TableKey, hash_builder: RandomState) -> Self
+        ensures empty { result ≡ record { sketches = []; images = [] } }
+        ensures fits { SessionStandsFor T.eq T.codec T.content result nothing_named }
+    {
+        Self::with_state(alloc, key, MapState::Random(hash_builder))
+    }
+
+    /// Creates a session with no names and these keys.
+    fn with_state(alloc: Global, key: TableKey, state: MapState) -> Self
+        ensures empty { result ≡ record { sketches = []; images = [] } }
+        ensures fits { SessionStandsFor T.eq T.codec T.content result nothing_named }
+    {
         Session {
             alloc,
-            sketches: NameMap::new(alloc),
-            images: NameMap::new(alloc),
+            key,
+            sketches: NameMap::new(alloc, state),
+            images: NameMap::new(alloc, state),
         }
     }
 
@@ -235,7 +298,7 @@ impl<T: FrequentItemValue + Clone + Drop> Session<T> {
         if self.sketches.contains_name(name.as_str()) {
             return Err(Refusal::NameTaken);
         }
-        let sketch = Sketch::new(self.alloc, shape)?;
+        let sketch = Sketch::new(self.alloc, shape, self.key)?;
         self.sketches.insert(name, sketch)?;
         Ok(Reply::Done)
     }
@@ -282,7 +345,7 @@ impl<T: FrequentItemValue + Clone + Drop> Session<T> {
         if self.sketches.contains_name(name.as_str()) {
             return Err(Refusal::NameTaken);
         }
-        let sketch = Sketch::restore(self.alloc, saved)?;
+        let sketch = Sketch::restore(self.alloc, saved, self.key)?;
         self.sketches.insert(name, sketch)?;
         Ok(Reply::Done)
     }
@@ -298,7 +361,7 @@ impl<T: FrequentItemValue + Clone + Drop> Session<T> {
         if self.sketches.contains_name(new_name.as_str()) {
             return Err(Refusal::NameTaken);
         }
-        let sketch = Sketch::load(self.alloc, image, max_bytes)?;
+        let sketch = Sketch::load(self.alloc, image, max_bytes, self.key)?;
         self.sketches.insert(new_name, sketch)?;
         Ok(Reply::Done)
     }

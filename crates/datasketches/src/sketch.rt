@@ -19,7 +19,9 @@ use crate::shape::Shape;
 use sketch_base::Error;
 use sketch_bloom::{BloomFilter, BloomFilterBuilder, laws as bloom};
 use sketch_countmin::{CountMinSketch, laws as countmin};
-use sketch_frequencies::{ErrorType, FrequentItemValue, FrequentItemsSketch, laws as frequencies};
+use sketch_frequencies::{
+    ErrorType, FrequentItemValue, FrequentItemsSketch, TableKey, laws as frequencies,
+};
 use std::alloc::Global;
 use std::hash::Hash;
 
@@ -43,12 +45,12 @@ macro_rules! of_kind {
 }
 
 impl<T: Eq + Hash + Drop> Sketch<T> {
-    /// Creates an empty sketch of the shape.
+    /// Creates an empty sketch of the shape. The table of frequent items hashes under `key`.
     ///
     /// # Errors
     ///
     /// Returns the error of the kind's own constructor.
-    pub fn new(alloc: Global, shape: Shape) -> Result<Self, Error>
+    pub fn new(alloc: Global, shape: Shape, key: TableKey) -> Result<Self, Error>
         ensures ok { IfOk result (λ sketch. sketch ≡ empty_sketch shape) }
         ensures stands { IfOk result (λ sketch. StandsFor T.eq sketch (begun shape)) }
         ensures accepted { IsOk result → fault_of shape ≡ None }
@@ -56,14 +58,17 @@ impl<T: Eq + Hash + Drop> Sketch<T> {
     {
         match shape {
             Shape::Frequent { max_map_size } => {
-                of_kind!(Frequent, FrequentItemsSketch::new(alloc, max_map_size))
+                of_kind!(
+                    Frequent,
+                    FrequentItemsSketch::with_key(alloc, max_map_size, key)
+                )
             }
             Shape::FrequentSampled {
                 max_map_size,
                 sample_size,
             } => of_kind!(
                 Frequent,
-                FrequentItemsSketch::with_sample_size(alloc, max_map_size, sample_size)
+                FrequentItemsSketch::with_sample_size_and_key(alloc, max_map_size, sample_size, key)
             ),
             Shape::CountI64 {
                 num_hashes,
@@ -320,12 +325,12 @@ impl<T: FrequentItemValue + Drop> Sketch<T> {
         }
     }
 
-    /// Returns the sketch of an image.
+    /// Returns the sketch of an image. The table of frequent items hashes under `key`.
     ///
     /// # Errors
     ///
     /// Returns the image's first fault if it has one, and `NoMemory` if the sketch cannot be allocated.
-    pub fn restore(alloc: Global, image: &Image) -> Result<Self, Error>
+    pub fn restore(alloc: Global, image: &Image, key: TableKey) -> Result<Self, Error>
         ensures read { IfOk result (IsReadFrom T.codec T.content image.now) }
         ensures stands { IfOk result (GivesBack T.eq T.codec T.content image.now) }
         ensures refused { IfErr result (IsReadRefusal T.codec image.now) }
@@ -333,7 +338,15 @@ impl<T: FrequentItemValue + Drop> Sketch<T> {
         match image {
             Image::Frequent(bytes) => {
                 frequencies::image_laws::<T>();
-                of_kind!(Frequent, FrequentItemsSketch::deserialize(alloc, bytes))
+                of_kind!(
+                    Frequent,
+                    FrequentItemsSketch::deserialize_with_limit_and_key(
+                        alloc,
+                        bytes,
+                        usize::MAX,
+                        key
+                    )
+                )
             }
             Image::CountI64 { seed, bytes } => {
                 countmin::image_laws::<i64>();
@@ -356,7 +369,8 @@ impl<T: FrequentItemValue + Drop> Sketch<T> {
         }
     }
 
-    /// Returns the sketch of an untrusted image, if it takes at most `max_bytes`.
+    /// Returns the sketch of an untrusted image, if it takes at most `max_bytes`. The table of frequent items hashes under
+    /// `key`.
     ///
     /// For frequent items the limit counts what
     /// [`deserialize_with_limit`](sketch_frequencies::FrequentItemsSketch::deserialize_with_limit) counts: the table,
@@ -366,7 +380,12 @@ impl<T: FrequentItemValue + Drop> Sketch<T> {
     ///
     /// Returns the image's first fault if it has one, `TableTooLarge` if the limit is exceeded, and `NoMemory` if the
     /// sketch cannot be allocated.
-    pub fn load(alloc: Global, image: &Image, max_bytes: usize) -> Result<Self, Error>
+    pub fn load(
+        alloc: Global,
+        image: &Image,
+        max_bytes: usize,
+        key: TableKey,
+    ) -> Result<Self, Error>
         ensures read { IfOk result (IsReadFrom T.codec T.content image.now) }
         ensures stands { IfOk result (GivesBack T.eq T.codec T.content image.now) }
         ensures within { IfOk result (TakesWithin (option_bytes T.row) T.codec T.content max_bytes) }
@@ -378,7 +397,9 @@ impl<T: FrequentItemValue + Drop> Sketch<T> {
                 frequencies::image_laws::<T>();
                 of_kind!(
                     Frequent,
-                    FrequentItemsSketch::deserialize_with_limit(alloc, bytes, max_bytes)
+                    FrequentItemsSketch::deserialize_with_limit_and_key(
+                        alloc, bytes, max_bytes, key
+                    )
                 )
             }
             Image::CountI64 { seed, bytes } => {

@@ -28,7 +28,7 @@ no_request words none others asked (inr made) = others asked made
 
 -- nothing but what is recycled has changed
 abbrev pub with_recycled : Responder → Recycled Text → Responder
-with_recycled old recycled = record { alloc = old.alloc; state = old.state; recycled = recycled; replies = old.replies }
+with_recycled old recycled = record { alloc = old.alloc; keys = old.keys; state = old.state; recycled = recycled; replies = old.replies }
 
 -- the action that was made of the words and answered is answered to them
 answers : {E : Type 0} (words : List (List ℕ)) (made : Option (Action Text)) (old new : Responder) (recycled : Recycled Text) (result : Result Bool E) → IsActionOf words made →

@@ -1,6 +1,7 @@
 pub mod Asking
 pub mod Counts
 pub mod Grammar
+pub mod KeyValues
 pub mod Laws
 pub mod Parsing
 pub mod Printing

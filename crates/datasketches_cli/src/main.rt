@@ -7,9 +7,15 @@
 //! Numbers count all lines from 1. After a failed read or write it prints `input or output failed` on standard error
 //! and exits with status 2. If memory runs out outside a command, it prints `no memory` on standard error and exits
 //! with status 2. Otherwise the status is 0.
+//!
+//! Tables of frequent items and maps of names and tenants hash under random keys. The environment variable
+//! `DATASKETCHES_TABLE_KEY` fixes the keys: it is `plain`, or a key as 32 hexadecimal digits. For another value, or if
+//! the variable is not set and the system has no random bytes, the program prints this on standard error and exits with
+//! status 2. It reads no input then.
 #![tactic(auto)]
 
 mod counted;
+mod keys;
 mod laws;
 mod line_reader;
 mod parse;
@@ -21,13 +27,25 @@ mod state;
 mod stopped;
 
 use counted::Counted;
+use keys::KeyFault;
 use serve::{CliFault, Ended};
 use std::process::ExitCode;
 
 fn main(rt: HostRuntime) -> ExitCode {
+    let keys = match keys::keys_of(&rt) {
+        Ok(keys) => keys,
+        Err(KeyFault::BadValue) => {
+            let _ = eprintln!(rt; "DATASKETCHES_TABLE_KEY must be plain or 32 hexadecimal digits");
+            return ExitCode::from(2);
+        }
+        Err(KeyFault::NoRandomBytes) => {
+            let _ = eprintln!(rt; "no random bytes");
+            return ExitCode::from(2);
+        }
+    };
     let mut reader = Counted::new(rt.stdin());
     let mut writer = Counted::new(rt.stdout());
-    match serve::serve(rt.alloc(), &mut reader, &mut writer) {
+    match serve::serve(rt.alloc(), keys, &mut reader, &mut writer) {
         Ok(Ended::All) => ExitCode::SUCCESS,
         Ok(Ended::BadLine(_)) => ExitCode::from(1),
         Err(CliFault::Io) => {

@@ -5,6 +5,7 @@ ghost use Rattle.datasketches_cli.specs.Parsing.{texts_of};
 ghost use Rattle.datasketches_cli.specs.Serving.{Answers, AnswersChange, HasAnswered, IsAnswered, IsRequest};
 ghost use Rattle.datasketches_cli.specs.Steps.{nothing_served};
 
+use crate::keys::Keys;
 use crate::parse::change::{add, insert};
 use crate::parse::windows::windows_request_of;
 use crate::parse::words::{MAX_WORDS, copied, first_words};
@@ -30,6 +31,7 @@ pub enum LineOutcome {
 #[derive(Drop)]
 pub struct Responder {
     alloc: Global,
+    keys: Keys,
     /// The session and the windows.
     state: State,
     /// A name and an item of earlier lines, whose memory is reused.
@@ -39,14 +41,16 @@ pub struct Responder {
 }
 
 impl Responder {
-    /// Creates a responder with an empty state and no replies. Does not allocate.
-    pub fn new(alloc: Global) -> Self
+    /// Creates a responder with an empty state under `keys`, and no replies. Does not allocate.
+    pub fn new(alloc: Global, keys: Keys) -> Self
         ensures serves { result.state ≡ nothing_served }
         ensures gathers { string_bytes result.replies ≡ [] }
     {
+        let state = State::new(alloc, &keys);
         Responder {
             alloc,
-            state: State::new(alloc),
+            keys,
+            state,
             recycled: Recycled::new(),
             replies: String::new(alloc),
         }
@@ -155,7 +159,9 @@ impl Responder {
     fn answer(&mut self, request: Request) -> Result<(), AllocError>
         ensures { OnOk result (HasAnswered request self.old self.new) }
     {
-        let answer = self.state.apply(self.alloc, request, &mut self.recycled);
+        let answer = self
+            .state
+            .apply(self.alloc, &self.keys, request, &mut self.recycled);
         write_answer(self.alloc, &mut self.replies, &answer)
     }
 }

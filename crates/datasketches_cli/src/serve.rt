@@ -9,6 +9,7 @@ ghost use Rattle.datasketches_cli.specs.Steps.{nothing_served};
 ghost use Rattle.datasketches_cli.specs.Transcript.{Serves, bad_line};
 
 use crate::counted::Counted;
+use crate::keys::Keys;
 use crate::line_reader::LineReader;
 use crate::responder::{LineOutcome, Responder};
 use crate::stopped::Stopped;
@@ -37,7 +38,8 @@ pub enum CliFault {
 /// The number of gathered bytes at which replies are written.
 const WRITE_SIZE: usize = 1 << 16;
 
-/// Runs the requests of the reader's lines on a new session and new windows, and writes a reply line for each.
+/// Runs the requests of the reader's lines on a new session and new windows, and writes a reply line for each. Tables and
+/// maps hash under `keys`.
 ///
 /// A line ends at a line feed or at the end of input. One carriage return before that is dropped. A line without a word
 /// has no reply. After a line that is not a request, it writes `bad line` and the line's number, and stops.
@@ -51,6 +53,7 @@ const WRITE_SIZE: usize = 1 << 16;
 /// Otherwise returns `Memory`. Replies to earlier lines may already be written.
 pub fn serve<R: Read, W: Write>(
     alloc: Global,
+    keys: Keys,
     reader: &mut Counted<R>,
     writer: &mut Counted<W>,
 ) -> Result<Ended, CliFault>
@@ -64,7 +67,7 @@ pub fn serve<R: Read, W: Write>(
 {
     let reads = reader.failures();
     let writes = writer.failures();
-    match serve_lines(alloc, &mut *reader, &mut *writer) {
+    match serve_lines(alloc, keys, &mut *reader, &mut *writer) {
         Ok(ended) => Ok(ended),
         Err(_) => {
             if has_grown(reads, reader.failures()) || has_grown(writes, writer.failures()) {
@@ -86,6 +89,7 @@ fn has_grown(before: u64, now: u64) -> bool
 /// Runs the requests of the lines.
 fn serve_lines<R: Read, W: Write>(
     alloc: Global,
+    keys: Keys,
     reader: &mut Counted<R>,
     writer: &mut Counted<W>,
 ) -> Result<Ended, Stopped>
@@ -93,7 +97,7 @@ fn serve_lines<R: Read, W: Write>(
         (W.contents writer.old.inner) (W.contents writer.new.inner) writer.old.failures writer.new.failures) }
 {
     let mut lines = LineReader::new(alloc)?;
-    let mut responder = Responder::new(alloc);
+    let mut responder = Responder::new(alloc, keys);
     let mut line = Vec::new(alloc);
     answer_lines(&mut responder, &mut lines, reader, writer, &mut line)
 }

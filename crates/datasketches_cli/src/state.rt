@@ -2,6 +2,7 @@
 ghost use Rattle.std.specs.Prelude.{◌≡◌};
 ghost use Rattle.datasketches_cli.specs.Steps.{nothing_served, done_or_refused, Opens, AddsTo, TurnsFor, ReportsOn, ServingStep};
 
+use crate::keys::Keys;
 use crate::request::{Answer, Request};
 use datasketches::frequencies::ErrorType;
 use datasketches::{Recycled, Refusal, Reply, Session};
@@ -17,20 +18,21 @@ pub struct State {
 
 impl State {
     /// Creates a state with no sketch, no image and no windows. Does not allocate.
-    pub fn new(alloc: Global) -> Self
+    pub fn new(alloc: Global, keys: &Keys) -> Self
         ensures { result ≡ nothing_served }
     {
         State {
-            session: Session::new(alloc),
+            session: keys.session(alloc),
             windows: None,
         }
     }
 
-    /// Runs a request. A rejected request changes nothing.
+    /// Runs a request. A rejected request changes nothing. New windows hash under `keys`.
     #[inline(always)]
     pub fn apply(
         &mut self,
         alloc: Global,
+        keys: &Keys,
         request: Request,
         recycled: &mut Recycled<String>,
     ) -> Answer
@@ -43,7 +45,7 @@ impl State {
             Request::Windows {
                 windows,
                 max_map_size,
-            } => done_or_refused(open(alloc, &mut self.windows, windows, max_map_size)),
+            } => done_or_refused(open(alloc, keys, &mut self.windows, windows, max_map_size)),
             Request::Add {
                 tenant,
                 weight,
@@ -72,9 +74,10 @@ fn done_or_refused(outcome: Result<(), Refusal>) -> Answer
     }
 }
 
-/// Creates windows if there are none. Returns `NameTaken` if there are any, and the errors of [`HeavyWindows::new`].
+/// Creates windows if there are none. Returns `NameTaken` if there are any, and the errors of [`Keys::windows`].
 fn open(
     alloc: Global,
+    keys: &Keys,
     windows: &mut Option<HeavyWindows<String>>,
     limit: u64,
     max_map_size: u64,
@@ -84,7 +87,7 @@ fn open(
     if windows.is_some() {
         return Err(Refusal::NameTaken);
     }
-    let made = HeavyWindows::new(alloc, limit as usize, max_map_size as usize)?;
+    let made = keys.windows(alloc, limit as usize, max_map_size as usize)?;
     *windows = Some(made);
     Ok(())
 }

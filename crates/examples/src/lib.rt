@@ -20,9 +20,13 @@ mod keys;
 #[cfg(test)]
 mod many_strings;
 #[cfg(test)]
+mod map_keys;
+#[cfg(test)]
 mod session;
 #[cfg(test)]
 mod strings;
+#[cfg(test)]
+mod table_keys;
 #[cfg(test)]
 mod tests;
 #[cfg(test)]

@@ -1,9 +1,11 @@
 //! Examples of commands on named sketches.
 use datasketches::error::Error;
+use datasketches::frequencies::{HashKey, TableKey};
 use datasketches::{
     Action, Change, Command, ImageKind, Join, Recycled, Refusal, Reply, Session, Shape, Status,
 };
 use std::alloc::Global;
+use std::hash::RandomState;
 
 /// Returns whether a filter of a session has seen the number 7.
 pub fn has_seen_seven(alloc: Global) -> Result<bool, Error> {
@@ -110,4 +112,19 @@ pub fn takes_filter(session: &mut Session<u64>, name: String, image: Vec<u8>) ->
         max_bytes: 1 << 20,
     });
     matches!(told, Reply::Done)
+}
+
+/// Creates a session whose sketches of frequent items hash under a random key.
+pub fn keyed_session(alloc: Global, random: &[u8; 16]) -> Session<String> {
+    Session::with_key(alloc, TableKey::Keyed(HashKey::from_bytes(random)))
+}
+
+/// Creates a session that hashes names under random keys too.
+pub fn session_of_strangers(
+    alloc: Global,
+    random: &[u8; 16],
+    hash_builder: RandomState,
+) -> Session<String> {
+    let key = TableKey::Keyed(HashKey::from_bytes(random));
+    Session::with_key_and_hasher(alloc, key, hash_builder)
 }

@@ -1,6 +1,7 @@
 //! Examples of heavy hitters of each customer.
-use heavy_windows::{Error, ErrorType, HeavyWindows, Report};
+use heavy_windows::{Error, ErrorType, HashKey, HeavyWindows, Report, TableKey};
 use std::alloc::Global;
+use std::hash::RandomState;
 
 /// Returns a report on the load of customer 7.
 pub fn load_of_a_customer(alloc: Global) -> Result<Report<&'static str>, Error> {
@@ -18,4 +19,20 @@ pub fn weight_of_the_first(alloc: Global) -> Result<u64, Error> {
     windows.add(2, "/search", 900)?;
     let report = windows.report(1, ErrorType::NoFalseNegatives, 0)?;
     Ok(report.total_weight)
+}
+
+/// Creates windows whose sketches hash under a random key.
+pub fn keyed_load(alloc: Global, random: &[u8; 16]) -> Result<HeavyWindows<String>, Error> {
+    let key = TableKey::Keyed(HashKey::from_bytes(random));
+    HeavyWindows::with_key(alloc, 24, 1024, key)
+}
+
+/// Creates windows that hash tenants under random keys too.
+pub fn load_of_strangers(
+    alloc: Global,
+    random: &[u8; 16],
+    hash_builder: RandomState,
+) -> Result<HeavyWindows<String>, Error> {
+    let key = TableKey::Keyed(HashKey::from_bytes(random));
+    HeavyWindows::with_key_and_hasher(alloc, 24, 1024, key, hash_builder)
 }

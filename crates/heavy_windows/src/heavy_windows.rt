@@ -9,11 +9,12 @@ ghost use Rattle.heavy_windows.specs.State.{at_tenant, windows_total, IsWindows}
 
 use crate::report::Report;
 use crate::windows::Windows;
+use map_hasher::MapState;
 use sketch_base::{Error, Fault};
-use sketch_frequencies::{ErrorType, FrequentItemsSketch, check_map_size};
+use sketch_frequencies::{ErrorType, FrequentItemsSketch, TableKey, check_map_size};
 use std::alloc::Global;
 use std::collections::HashMap;
-use std::hash::Hash;
+use std::hash::{Hash, RandomState};
 use std::marker::Model;
 
 /// The maximum number of windows of a tenant.
@@ -45,7 +46,8 @@ pub struct HeavyWindows<T: Eq + Hash + Drop> {
     alloc: Global,
     limit: usize,
     max_map_size: usize,
-    tenants: HashMap<u64, Windows<T>>,
+    key: TableKey,
+    tenants: HashMap<u64, Windows<T>, MapState>,
 }
 
 impl<T: Eq + Hash + Drop> Model for HeavyWindows<T> {
@@ -78,12 +80,107 @@ impl<T: Eq + Hash + Drop> HeavyWindows<T> {
         ensures state { IfOk result IsWindows }
         ensures stands { IfOk result (λ w. (tenant : ℕ) → WindowsStandFor T.eq max_map_size (at_tenant tenant w) []) }
     {
+        Self::with_state(
+            alloc,
+            windows,
+            max_map_size,
+            TableKey::Plain,
+            MapState::fixed(),
+        )
+    }
+
+    /// Creates an empty store as [`new`](Self::new) does, whose sketches hash under `key`.
+    ///
+    /// All windows and the merged sketches of reports have tables under the key. With a secret key, no way is known to
+    /// choose items that slow them down. The map of tenants hashes as that of `new`. If callers choose the tenants'
+    /// numbers, use [`with_key_and_hasher`](Self::with_key_and_hasher).
+    ///
+    /// # Errors
+    ///
+    /// Returns those of `new`.
+    ///
+    /// # Examples
+    ///
+    /// ```
+    /// use heavy_windows::{Error, HashKey, HeavyWindows, TableKey};
+    /// use std::alloc::Global;
+    ///
+    /// fn keyed_load(alloc: Global, random: &[u8; 16]) -> Result<HeavyWindows<String>, Error> {
+    ///     let key = TableKey::Keyed(HashKey::from_bytes(random));
+    ///     HeavyWindows::with_key(alloc, 24, 1024, key)
+    /// }
+    /// ```
+    pub fn with_key(
+        alloc: Global,
+        windows: usize,
+        max_map_size: usize,
+        key: TableKey,
+    ) -> Result<Self, Error>
+        ensures call { IsMade windows max_map_size result }
+        ensures state { IfOk result IsWindows }
+        ensures stands { IfOk result (λ w. (tenant : ℕ) → WindowsStandFor T.eq max_map_size (at_tenant tenant w) []) }
+    {
+        Self::with_state(alloc, windows, max_map_size, key, MapState::fixed())
+    }
+
+    /// Creates an empty store as [`with_key`](Self::with_key) does, whose map of tenants hashes under `hash_builder`.
+    ///
+    /// With secret keys, no way is known to choose tenants that slow down the calls for others.
+    ///
+    /// # Errors
+    ///
+    /// Returns those of `new`.
+    ///
+    /// # Examples
+    ///
+    /// ```
+    /// use heavy_windows::{Error, HashKey, HeavyWindows, TableKey};
+    /// use std::alloc::Global;
+    /// use std::hash::RandomState;
+    ///
+    /// fn load_of_strangers(
+    ///     alloc: Global,
+    ///     random: &[u8; 16],
+    ///     hash_builder: RandomState,
+    /// ) -> Result<HeavyWindows<String>, Error> {
+    ///     let key = TableKey::Keyed(HashKey::from_bytes(random));
+    ///     HeavyWindows::with_key_and_hasher(alloc, 24, 1024, key, hash_builder)
+    /// }
+    /// ```
+    pub fn with_key_and_hasher(
+        alloc: Global,
+        windows: usize,
+        max_map_size: usize,
+        key: TableKey,
+        hash_builder: RandomState,
+    ) -> Result<Self, Error>
+        ensures call { IsMade windows max_map_size result }
+        ensures state { IfOk result IsWindows }
+        ensures stands { IfOk result (λ w. (tenant : ℕ) → WindowsStandFor T.eq max_map_size (at_tenant tenant w) []) }
+    {
+        let state = MapState::Random(hash_builder);
+        Self::with_state(alloc, windows, max_map_size, key, state)
+    }
+
+    /// Creates an empty store with these keys.
+    fn with_state(
+        alloc: Global,
+        windows: usize,
+        max_map_size: usize,
+        key: TableKey,
+        state: MapState,
+    ) -> Result<Self, Error>
+        ensures call { IsMade windows max_map_size result }
+        ensures state { IfOk result IsWindows }
+        ensures stands { IfOk result (λ w. (tenant : ℕ) → WindowsStandFor T.eq max_map_size (at_tenant tenant w) []) }
+    {
         check_limits(windows, max_map_size)?;
         Ok(HeavyWindows {
             alloc,
             limit: windows,
             max_map_size,
-            tenants: HashMap::new(alloc),
+            key,
+            tenants: HashMap::with_hasher(alloc, state),
         })
     }
 
@@ -111,7 +208,7 @@ impl<T: Eq + Hash + Drop> HeavyWindows<T> {
         if let Some(windows) = self.tenants.get_mut(&tenant) {
             return windows.add(item, weight);
         }
-        let mut window = FrequentItemsSketch::new(self.alloc, self.max_map_size)?;
+        let mut window = FrequentItemsSketch::with_key(self.alloc, self.max_map_size, self.key)?;
         window.update_with_count(item, weight)?;
         let windows = Windows::new(self.alloc, window);
         self.tenants.insert(tenant, windows)?;
@@ -132,7 +229,7 @@ impl<T: Eq + Hash + Drop> HeavyWindows<T> {
         let Some(windows) = self.tenants.get_mut(&tenant) else {
             return Ok(());
         };
-        let window = FrequentItemsSketch::new(self.alloc, self.max_map_size)?;
+        let window = FrequentItemsSketch::with_key(self.alloc, self.max_map_size, self.key)?;
         windows.turn(window, self.limit)
     }
 
@@ -190,8 +287,8 @@ impl<T: Eq + Hash + Drop> HeavyWindows<T> {
         ensures memory { windows_total (at_tenant tenant self.now) < 2 ^ 64 → IfErr result (λ e. e ≡ no_memory) }
     {
         match self.tenants.get(&tenant) {
-            Some(windows) => windows.merged(self.alloc, self.max_map_size),
-            None => FrequentItemsSketch::new(self.alloc, self.max_map_size),
+            Some(windows) => windows.merged(self.alloc, self.max_map_size, self.key),
+            None => FrequentItemsSketch::with_key(self.alloc, self.max_map_size, self.key),
         }
     }
 }

@@ -11,7 +11,7 @@ ghost use Rattle.heavy_windows.specs.State.{windows_total};
 ghost use Rattle.heavy_windows.specs.Steps.{AddsToNewest};
 
 use sketch_base::{Error, Fault};
-use sketch_frequencies::FrequentItemsSketch;
+use sketch_frequencies::{FrequentItemsSketch, TableKey};
 use std::alloc::Global;
 use std::collections::VecDeque;
 use std::hash::Hash;
@@ -97,11 +97,12 @@ impl<T: Eq + Hash + Drop> Windows<T> {
 }
 
 impl<T: Eq + Hash + Clone + Drop> Windows<T> {
-    /// Merges the windows into a new sketch, oldest first.
+    /// Merges the windows into a new sketch under `key`, oldest first.
     pub(crate) fn merged(
         &self,
         alloc: Global,
         max_map_size: usize,
+        key: TableKey,
     ) -> Result<FrequentItemsSketch<T>, Error>
         requires clones { (x y : T) → T.is_clone x y → IsTrue (T.eq x y) }
         requires size { size_fault max_map_size ≡ None }
@@ -110,7 +111,7 @@ impl<T: Eq + Hash + Clone + Drop> Windows<T> {
         ensures memory { windows_total self.now < 2 ^ 64 → IfErr result (λ e. e ≡ no_memory) }
     {
         self.check_total()?;
-        let mut merged = FrequentItemsSketch::new(alloc, max_map_size)?;
+        let mut merged = FrequentItemsSketch::with_key(alloc, max_map_size, key)?;
         for window in self.older.iter() {
             merged.merge(window)?;
         }

@@ -7,8 +7,8 @@ use Rattle.datasketches.proofs.sketch.Sketch.new.Goals as goal
 pub returns-in-Ok-clause-ok : goal.returns-in-Ok-clause-ok
 returns-in-Ok-clause-ok g c = rw c.in-Frequent.is (ap Frequent c.in-Ok.ensures.ok)
 
-pub returns-in-Ok-with_sample_size-clause-ok : goal.returns-in-Ok-with_sample_size-clause-ok
-returns-in-Ok-with_sample_size-clause-ok g c = rw c.in-FrequentSampled.is (ap Frequent c.in-Ok-with_sample_size.ensures.ok)
+pub returns-in-Ok-with_sample_size_and_key-clause-ok : goal.returns-in-Ok-with_sample_size_and_key-clause-ok
+returns-in-Ok-with_sample_size_and_key-clause-ok g c = rw c.in-FrequentSampled.is (ap Frequent c.in-Ok-with_sample_size_and_key.ensures.ok)
 
 pub returns-in-Ok-with_seed-clause-ok : goal.returns-in-Ok-with_seed-clause-ok
 returns-in-Ok-with_seed-clause-ok g c = rw c.in-CountI64.is (ap CountI64 c.in-Ok-with_seed.ensures.ok)

@@ -1,4 +1,5 @@
-use Rattle.datasketches.proofs.Saved.{filter_back, frequent_back}
+use Rattle.sketch_frequencies.specs.Image.{late_fault}
+use Rattle.datasketches.proofs.Saved.{filter_back, frequent_back, no_limit}
 use Rattle.datasketches.proofs.sketch.Sketch.restore.Goals as goal
 
 pub returns-in-Ok-clause-stands : goal.returns-in-Ok-clause-stands
@@ -6,3 +7,8 @@ returns-in-Ok-clause-stands g c = rw c.in-Frequent.is (frequent_back g.T.Partial
 
 pub returns-in-Ok-deserialize-clause-stands : goal.returns-in-Ok-deserialize-clause-stands
 returns-in-Ok-deserialize-clause-stands g c = rw c.in-Bloom.is (filter_back g.T.PartialEq.eq g.T.FrequentItemValue.codec g.T.FrequentItemValue.content c.in-Bloom.bytes c.deref-in-Bloom.ensures.value c.image_laws-in-Bloom.ensures.spelled c.in-Ok-deserialize.ensures.state c.in-Ok-deserialize.ensures.stands)
+
+pub returns-in-Err-clause-refused : goal.returns-in-Err-clause-refused
+returns-in-Err-clause-refused g c =
+    let refused = no_limit _ g.T.FrequentItemValue.codec c.deref.result.now (late_fault g.T.FrequentItemValue.codec c.deref.result.now) c.in-Err.error c.in-Err.ensures.err in
+    rw (c.in-Frequent.is, ← c.deref.ensures.value) refused

@@ -22,7 +22,7 @@ pub returns-in-Some-clause-memory : goal.returns-in-Some-clause-memory
 returns-in-Some-clause-memory g c = rw (found g c) c.merged.ensures.memory
 
 -- none was found: the tenant has none
-none : (g : given.Over) (c : goal.After-new g) → at_tenant c.args.tenant c.args.self.now ≡ []
+none : (g : given.Over) (c : goal.After-with_key g) → at_tenant c.args.tenant c.args.self.now ≡ []
 none g c =
     ap (λ (s : WindowsState g.row.T.Denot). at_tenant c.args.tenant s) (sym c.self.view_is)
     ∙ ap (λ o. unwrap_or o []) (sym c.in-None.ensures.value)
