@@ -6,8 +6,7 @@ ghost use Rattle.std.specs.Option.{option_copied_mut};
 ghost use Rattle.datasketches.specs.Lending.{LendsValue};
 ghost use Rattle.datasketches.specs.Names.{at_name, index_of, Puts, AreSame};
 
-use map_hasher::MapState;
-use sketch_base::Error;
+use sketch_base::{Error, MapState};
 use std::alloc::Global;
 use std::collections::HashMap;
 use std::fmt;

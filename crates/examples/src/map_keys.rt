@@ -1,7 +1,6 @@
 //! Examples of keys of tables and of maps.
 use counter_table::TableKey;
-use map_hasher::MapState;
-use sketch_base::HashKey;
+use sketch_base::{HashKey, MapState};
 use std::alloc::Global;
 use std::collections::HashMap;
 use std::hash::RandomState;

@@ -9,8 +9,7 @@ ghost use Rattle.heavy_windows.specs.State.{at_tenant, windows_total, IsWindows}
 
 use crate::report::Report;
 use crate::windows::Windows;
-use map_hasher::MapState;
-use sketch_base::{Error, Fault};
+use sketch_base::{Error, Fault, MapState};
 use sketch_frequencies::{ErrorType, FrequentItemsSketch, TableKey, check_map_size};
 use std::alloc::Global;
 use std::collections::HashMap;

@@ -3,6 +3,7 @@ pub mod Blocks
 pub mod DirectRemainder
 pub mod KeptBytes
 pub mod LittleEndian
+mod MapHashing
 pub mod ManyStrings
 pub mod Murmur3Pieces
 pub mod Rotation

@@ -6,6 +6,7 @@ pub mod Faults
 pub mod Fields
 pub mod Hashes
 pub mod MachineWords
+pub mod MapHashers
 pub mod Murmur3
 pub mod Murmur3State
 pub mod PowersOfTwo

@@ -6,7 +6,7 @@
 //! - [`xxh64_of`], [`murmur3_of`] and [`murmur3_of_u64`] hash a whole item or number. [`xxh64_of_str`] and
 //!   [`murmur3_of_str`] hash a string without a buffer.
 //! - [`keyed_hash`] hashes bytes under a secret [`HashKey`], for items that others choose. [`keyed_hash_of`] and
-//!   [`keyed_hash_of_str`] hash a whole item and a string.
+//!   [`keyed_hash_of_str`] hash a whole item and a string. [`MapState`] hashes the keys of a map.
 //! - [`RehashableItem`] hashes one item under several seeds. It feeds an item of few bytes once, and keeps them as
 //!   [`ShortBytes`]. [`RehashableStr`] does so for a string. Both kinds of bytes are [`Rehashable`].
 //! - [`Strings`] are many strings in order: `&[&str]`, [`OffsetStrings`] of one buffer, or [`ByteStrings`].
@@ -29,6 +29,7 @@ mod fault;
 pub mod image;
 mod item_hash;
 pub mod laws;
+mod map_state;
 mod murmurhash;
 mod offset_strings;
 mod rehashable_item;
@@ -53,6 +54,7 @@ pub use error::{Error, ErrorKind};
 pub use family::Family;
 pub use fault::Fault;
 pub use item_hash::{keyed_hash_of, murmur3_of, murmur3_of_u64, xxh64_of};
+pub use map_state::{MapHasher, MapState};
 pub use murmurhash::{DEFAULT_UPDATE_SEED, MurmurHash3X64128};
 pub use offset_strings::{OffsetStrings, are_offsets};
 pub use rehashable_item::{Rehashable, RehashableItem};

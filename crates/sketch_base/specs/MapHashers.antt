@@ -4,10 +4,10 @@ use Rattle.std.specs.Hash.FoldHasher as folding
 use Rattle.std.specs.Hash.DefaultHasher as sip
 use Rattle.std.specs.Hash.BuildHasherDefault as fixed
 use Rattle.std.specs.RandomState as random
-use Rattle.map_hasher.specs.declared.map_state.MapHasher.{MapHasher}
-use Rattle.map_hasher.specs.declared.map_state.MapHasher.TheVariants.{Fold, Sip}
-use Rattle.map_hasher.specs.declared.map_state.MapState.{MapState}
-use Rattle.map_hasher.specs.declared.map_state.MapState.TheVariants.{Fixed, Random}
+use Rattle.sketch_base.specs.declared.map_state.MapHasher.{MapHasher}
+use Rattle.sketch_base.specs.declared.map_state.MapHasher.TheVariants.{Fold, Sip}
+use Rattle.sketch_base.specs.declared.map_state.MapState.{MapState}
+use Rattle.sketch_base.specs.declared.map_state.MapState.TheVariants.{Fixed, Random}
 
 -- the hasher before a key is written
 abbrev pub initial_hasher : MapState → MapHasher

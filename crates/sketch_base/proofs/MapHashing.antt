@@ -5,8 +5,8 @@ use Rattle.std.specs.Hash.FoldHasher as folding
 use Rattle.std.specs.Hash.DefaultHasher as sip
 use Rattle.std.specs.declared.hash.FoldHasher.{FoldHasher}
 use Rattle.std.specs.declared.hash.DefaultHasher.{DefaultHasher}
-use Rattle.map_hasher.specs.MapHashers.{write}
-use Rattle.map_hasher.specs.declared.map_state.MapHasher.TheVariants.{Fold, Sip}
+use Rattle.sketch_base.specs.MapHashers.{write}
+use Rattle.sketch_base.specs.declared.map_state.MapHasher.TheVariants.{Fold, Sip}
 
 -- each write is one of the hasher inside
 pub fold-fold : (hasher : FoldHasher) (writes : List (List ℕ)) → fold write (Fold hasher) writes ≡ Fold (fold folding.write hasher writes)

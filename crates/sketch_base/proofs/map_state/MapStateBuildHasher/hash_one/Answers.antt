@@ -1,7 +1,7 @@
 use Rattle.std.specs.Hash.BuildHasherDefault as fixed
 use Rattle.std.specs.RandomState as random
-use Rattle.map_hasher.proofs.Folds.{fold-fold, fold-sip}
-use Rattle.map_hasher.proofs.map_state.MapStateBuildHasher.hash_one.Goals as goal
+use Rattle.sketch_base.proofs.MapHashing.{fold-fold, fold-sip}
+use Rattle.sketch_base.proofs.map_state.MapStateBuildHasher.hash_one.Goals as goal
 
 pub returns-in-Fixed : goal.returns-in-Fixed
 returns-in-Fixed g c = rw (c.in-Fixed.is, fold-fold (fixed.initial_hasher c.in-Fixed.state) (g.T.Hash.hash_input c.args.x)) c.hash_one.ensures

@@ -1,6 +1,6 @@
 //! The hash builder and its hashers.
 ghost use Rattle.std.specs.Prelude.{◌≡◌};
-ghost use Rattle.map_hasher.specs.MapHashers as spec;
+ghost use Rattle.sketch_base.specs.MapHashers as spec;
 
 use std::hash::{
     BuildHasher, BuildHasherDefault, DefaultHasher, FoldHasher, Hash, Hasher, RandomState,
@@ -11,7 +11,7 @@ use std::hash::{
 /// # Examples
 ///
 /// ```
-/// use map_hasher::MapState;
+/// use sketch_base::MapState;
 /// use std::alloc::Global;
 /// use std::collections::HashMap;
 /// use std::hash::RandomState;
