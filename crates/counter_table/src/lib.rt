@@ -7,7 +7,10 @@
 //! A purge deletes by backward shift (Knuth vol. 3, 6.4, algorithm R), all entries in one sweep. A later entry of its cluster
 //! fills a freed slot, so no slot is ever marked as deleted. The cost of a look-up is a function of the entries alone.
 //!
-//! Contracts describe a map by the list of its entries in an unspecified order, and by its size.
+//! A table hashes its items under a [`TableKey`]: by the fixed hash of the original crate, or by SipHash-1-3 under a secret
+//! key, for items that others choose.
+//!
+//! Contracts describe a map by the list of its entries in an unspecified order, by its size and by its key.
 //! [`ReversePurgeItemHashMap::slots`] returns the slots, for a caller that writes all entries.
 #![tactic(auto)]
 

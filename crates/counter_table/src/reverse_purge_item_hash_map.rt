@@ -30,8 +30,9 @@ use std::mem;
 /// or below it.
 ///
 /// A look-up starts at the item's home, the slot that its hash selects. It probes slot by slot and wraps around at the end. Its
-/// cost is a function of the map alone: earlier purges do not slow it down. The hash is fixed, so chosen items can form a
-/// cluster. Even then a look-up probes at most one slot for each entry and one more.
+/// cost is a function of the map and its key alone: earlier purges do not slow it down. Without a key the hash is fixed, so
+/// chosen items can form a cluster. Even then a look-up probes at most one slot for each entry and one more.
+/// [`with_key`](Self::with_key) creates a map whose homes a caller without the key cannot choose.
 ///
 /// # Examples
 ///
@@ -80,7 +81,7 @@ impl<T: Eq + Hash + Drop> ReversePurgeItemHashMap<T> {
 
     /// Creates an empty map in a table of `map_size` slots, a power of two of at most 2^30, that hashes under `key`.
     ///
-    /// Allocates the table. Returns `NoMemory` if that fails.
+    /// The map keeps the key, and so do its clones. Allocates the table. Returns `NoMemory` if that fails.
     pub fn with_key(alloc: Global, map_size: usize, key: TableKey) -> Result<Self, Error>
         requires power { IsTrue (is_power_of_two map_size) }
         requires limit { map_size ≤ 2 ^ 30 }
@@ -110,8 +111,8 @@ impl<T: Eq + Hash + Drop> ReversePurgeItemHashMap<T> {
     /// An index is full if, for some k, at least k + 1 entries have their home among the k + 1 indices that end at it, wrapping
     /// around. An item's reach is the number of indices from its home to the first that is not full, both included.
     ///
-    /// If the item is absent, the number of probes is the reach. If it is present, it is from 1 to the reach less 1. Earlier
-    /// purges have no influence. It is at most the number of entries plus 1, and at most the number of slots.
+    /// If the item is absent, the number of probes is the reach. If it is present, it is from 1 to the reach less 1. Homes are
+    /// those under the table's key. Earlier purges have no influence. It is at most the number of entries plus 1, and at most the number of slots.
     pub fn get_counted(&self, item: &T) -> (u64, usize)
         ensures count { result.0 ≡ count_of T.eq self.now.entries item.now }
         ensures absent { is_tracked T.eq self.now.entries item.now ≡ false

@@ -13,7 +13,8 @@
 //! A sketch of items that are [`FrequentItemValue`] is written as an image of bytes, and read from one. Items are strings,
 //! 64-bit numbers, or of a user's own type. [`laws`] has the laws of images.
 //!
-//! [`ReversePurgeItemHashMap`], from the crate `counter_table`, is the table of counters.
+//! [`ReversePurgeItemHashMap`], from the crate `counter_table`, is the table of counters. For items or images from callers who
+//! are not trusted, give a sketch a secret [`TableKey`], so that they cannot slow its table down.
 #![tactic(auto)]
 
 mod error_type;

@@ -55,7 +55,8 @@ impl<T: FrequentItemValue + Drop> FrequentItemsSketch<T> {
     ///
     /// Ignores the bytes after the image and the unused bytes within it. Adds up the weights of equal items, and leaves out items
     /// of weight 0. Allocates a table of the size that the image states, at most 2^30 slots, even if few of them are taken.
-    /// [`deserialize_with_limit`](Self::deserialize_with_limit) limits this. The image of an empty sketch gives a table of 8
+    /// [`deserialize_with_limit`](Self::deserialize_with_limit) limits this, and
+    /// [`deserialize_with_limit_and_key`](Self::deserialize_with_limit_and_key) is for untrusted images. The image of an empty sketch gives a table of 8
     /// slots, whatever size it states. The sample size is not in the image: it is the one that `new` chooses.
     ///
     /// # Errors
