@@ -2,6 +2,7 @@
 # Prints the number of instructions of each row on the proved side, as valgrind counts them. It uses the programs that `run.sh`
 # built. The numbers are the same in each run. Words choose rows as in `run.sh`.
 set -euo pipefail
+export DATASKETCHES_TABLE_KEY=plain # counts of random keys would differ from run to run
 cd "$(dirname "$0")"
 
 count() { # prints the number of instructions of a command

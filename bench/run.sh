@@ -3,6 +3,7 @@
 # each of them. With ORDER=1, or another number, the functions are linked in an order that depends on it. This needs lld, with
 # which rustc links here.
 set -euo pipefail
+export DATASKETCHES_TABLE_KEY=plain # the other side hashes so too
 cd "$(dirname "$0")"
 crates=out/crates
 libraries='sketch_base counter_table sketch_frequencies sketch_bloom sketch_countmin'
