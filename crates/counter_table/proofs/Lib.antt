@@ -9,8 +9,10 @@ pub mod InsertionWrites
 pub mod LookupCounts
 pub mod LookupFingerprints
 pub mod LookupHomes
+mod LookupMarks
 pub mod LookupProbes
 pub mod LookupReach
+mod LookupSkips
 pub mod LookupTallies
 pub mod PurgeMiddle
 pub mod PurgeRoom

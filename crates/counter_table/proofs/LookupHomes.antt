@@ -39,6 +39,13 @@ ahead-next n h j l m =
     let c = ahead_is n h (j + 1) l (omega arith) in
     omega arith
 
+pub ahead-more : (n h j k : ℕ) → h < n → j + k < n → ahead n (ahead n h j) k ≡ ahead n h (j + k)
+ahead-more n h j k l m =
+    let a = ahead_is n h j l (omega arith) in
+    let b = ahead_is n (ahead n h j) k a.below (omega arith) in
+    let c = ahead_is n h (j + k) l (omega arith) in
+    omega arith
+
 pub ahead-zero : (n h : ℕ) → h < n → ahead n h 0 ≡ h
 ahead-zero n h l = let a = ahead_is n h 0 l (omega arith) in omega arith
 
@@ -62,3 +69,7 @@ module _ {T : Type 0} (hashed : T → ℕ) (x : T) (n : ℕ) (size : IsTableSize
   -- and goes on to the next
   pub stands_next : (index next probed : ℕ) → Stands hashed x n index probed → next ≡ ahead n index 1 → probed + 1 < n → Stands hashed x n next (probed + 1)
   stands_next index next probed s step below = record { at_index = step ∙ ap (λ p. ahead n p 1) s.at_index ∙ ahead-next n (home_in hashed n x) probed home_below below; below = below }
+
+  -- or to one that is several on
+  pub stands_on : (index to probed on : ℕ) → Stands hashed x n index probed → to ≡ ahead n index on → probed + on < n → Stands hashed x n to (probed + on)
+  stands_on index to probed on s step below = record { at_index = step ∙ ap (λ p. ahead n p on) s.at_index ∙ ahead-more n (home_in hashed n x) probed on home_below below; below = below }

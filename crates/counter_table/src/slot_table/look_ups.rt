@@ -8,8 +8,8 @@ ghost use Rattle.counter_table.specs.Slots.{IsTableSize, IsSlots, entries_of, is
 ghost use Rattle.counter_table.specs.TableHashes.{hash_in};
 ghost use Rattle.counter_table.specs.Tables.{count_of};
 
-use crate::fingerprints::{FREE, count_at, hash_of, home, probe_at};
-use crate::indices::next;
+use crate::fingerprints::{FREE, count_at, fingerprint, hash_of, home, passed_at, probe_at};
+use crate::indices::{after, next};
 use crate::item_key::ItemKey;
 use crate::slot::Slot;
 use crate::slot_table::SlotTable;
@@ -58,6 +58,8 @@ impl<'a, T: Eq + Hash> Model for SlotSlices<'a, T> {
 
 impl<'a, T: Eq + Hash> SlotSlices<'a, T> {
     /// Looks up the item that the key names, from its home slot on, with the key's hash.
+    ///
+    /// The home's fingerprint comes first, since most look-ups of a skewed stream end there. Then up to 16 are passed at once.
     #[inline(always)]
     pub(crate) fn find_from<K: ItemKey<T>>(&self, key: K, hash: u64) -> Probe
         requires slots { IsSlots T.eq (hash_in self.now.key T.hash_input) self.now.slots }
@@ -90,7 +92,10 @@ impl<'a, T: Eq + Hash> SlotSlices<'a, T> {
                     hash,
                 };
             }
-            index = next(index, size);
+            let start = next(index, size);
+            let passed = passed_at(fingerprints, start, fingerprint(hash));
+            index = after(start, passed, size);
+            probed += passed;
         }
     }
 
