@@ -396,8 +396,8 @@ int32_t ds_count_min_i64_deserialize(ds_sketch *handle, const uint8_t *image, si
 
 /* --- Frequent items: the items of the largest weights, in at most three quarters of `max_map_size` counters.
  *
- * A sketch's table hashes items by SipHash-1-3 under a key of two words. Without the key, no way is known to choose items that
- * slow the sketch down. A clone has the key of its original. A merge keeps the handle's own key. An image has no key.
+ * A sketch's table hashes items by SipHash-1-3 under a key of two words. No way is known to choose items that slow the sketch
+ * down, for a caller who has neither the key nor rows or images of sketches under it. A clone has the key of its original. A merge keeps the handle's own key. An image has no key.
  *
  * `new` and `deserialize` draw a key. The first call of a process asks the system for two random words. Each call counts the
  * first word up, so no two sketches of a process get the same key. After a `fork`, parent and child count on from the same words,

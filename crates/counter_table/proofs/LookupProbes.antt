@@ -17,7 +17,7 @@ use Rattle.counter_table.proofs.LookupHomes.{some_size, remainder_below}
 use Rattle.counter_table.specs.Keys.{IsKey}
 use Rattle.counter_table.specs.Slots.{Held, entries_of, table_of, KeyedSlots, slot_at, is_taken, CountHasRoom, IsPlaced, IsSlots}
 use Rattle.counter_table.specs.Probes.{IsPassed, IsProbe, IsFreeSlot, IsCountAt}
-use Rattle.counter_table.proofs.ArithmeticRing.{ahead_is, ahead-distance}
+use Rattle.counter_table.proofs.ArithmeticRing.{ahead_is, ahead-distance, distance-ahead}
 use Rattle.counter_table.proofs.LookupReach.{HasFree, free_from_few, is_taken-below, taken_slot, taken_few, taken_within, IsReach-from_free, reach_above}
 use Rattle.counter_table.proofs.TableHashing.{hashes_alike, hashed_as_named}
 
@@ -235,3 +235,11 @@ fits_from_probe {T} {names} {h} {slots} {index} {c} {found} {probed} p hit up w 
     let count : s.count ≡ c = ap (λ (q : Held T). q.count) one ∙ here.2 in
     let known : unwrap_or (lookup names (entries_of slots)) 0 ≡ c = ap (λ o. unwrap_or o 0) (up ∙ hit) in
     omega (arith, count, known, fits (ap is_some (up ∙ hit)))
+
+-- a named item's drift is the number of slots that a look-up has probed when it comes to it
+pub drift_of_named : {T : Type 0} {hashed : T → ℕ} {names : T → Bool} {named : ℕ} → ((x : T) → IsTrue (names x) → named ≡ hashed x) → (slots : List (Slot T)) → IsPlaced (home_in hashed (length slots)) slots → (index probed : ℕ) → named % length slots < length slots → probed < length slots → index ≡ ahead (length slots) (named % length slots) probed → (s : Held T) → slot_at slots index ≡ Some s → IsTrue (names s.item) → s.drift ≡ probed + 1
+drift_of_named {T} {hashed} {names} {named} respects slots placed index probed home_below below at s here named_is =
+    let n = length slots in
+    let home : hashed s.item % n ≡ named % n = ap (λ f. f % n) (sym (respects s.item named_is)) in
+    let far : distance n (hashed s.item % n) index ≡ probed = ap (λ h. distance n h index) home ∙ ap (distance n (named % n)) at ∙ distance-ahead n (named % n) probed home_below below in
+    placed.drift index s here ∙ ap (λ d. d + 1) far

@@ -3,7 +3,7 @@
 //! A slot of an item of 8 bytes takes 24 bytes, and its fingerprint one. A look-up probes the fingerprints, and reads a slot
 //! only if its fingerprint is the item's. So few or no slots are read for an absent item. The fingerprint is taken from the
 //! top bits of the hash, and the home from its low bits.
-ghost use Rattle.std.specs.Prelude.{◌≡◌, ℕ, ◌≤◌, ◌+◌, ◌<◌, ◌%◌, ◌^◌, None, Some, length, map, nat_eq, slice_index, replicate, false, IfOk, IfErr};
+ghost use Rattle.std.specs.Prelude.{◌≡◌, ℕ, ◌≤◌, ◌+◌, ◌<◌, ◌%◌, ◌^◌, None, Some, length, map, nat_eq, slice_index, replicate, false, IfOk, IfErr, IsTrue};
 ghost use Rattle.std.specs.Simd.Lanes.{mask_l};
 ghost use Rattle.sketch_base.specs.Errors.{no_memory};
 ghost use Rattle.counter_table.specs.Fingerprints.{fingerprint_of};
@@ -107,8 +107,8 @@ pub(crate) fn passed_at(fingerprints: &[u8], index: usize, mark: u8) -> usize
 
 /// Returns the count in a slot if the slot holds an item that the key names.
 ///
-/// Compares the item only if `seen`, the slot's fingerprint, equals that of the key's hash. Requires that the key does not name the
-/// item of a slot with another fingerprint.
+/// Compares the item only if `seen`, the slot's fingerprint, equals that of the key's hash, and the slot's drift is the number of
+/// probes. Requires that the key names no item with another fingerprint or drift there.
 #[inline(always)]
 pub(crate) fn count_at<T: Eq + Hash, K: ItemKey<T>>(
     slots: &[Slot<T>],
@@ -116,8 +116,10 @@ pub(crate) fn count_at<T: Eq + Hash, K: ItemKey<T>>(
     hash: u64,
     index: usize,
     seen: u8,
+    probed: usize,
 ) -> Option<u64>
     requires index { index < length slots.now }
+    requires drift { (s : Held T) → slot_at slots.now index ≡ Some s → IsTrue (K.names key s.item) → s.drift ≡ probed }
     requires other { (seen ≡ fingerprint_of hash → ⊥) → (s : Held T) → slot_at slots.now index ≡ Some s
         → K.names key s.item ≡ false }
     ensures { IsCountAt (K.names key) slots.now index result }
@@ -126,12 +128,12 @@ pub(crate) fn count_at<T: Eq + Hash, K: ItemKey<T>>(
         return None;
     }
     if let Slot::Taken {
+        drift,
         count,
         item: there,
-        ..
     } = &slots[index]
     {
-        if key.names(there) {
+        if *drift as usize == probed && key.names(there) {
             return Some(*count);
         }
     }

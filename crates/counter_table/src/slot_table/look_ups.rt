@@ -83,7 +83,7 @@ impl<'a, T: Eq + Hash> SlotSlices<'a, T> {
                     hash,
                 };
             }
-            let found = count_at(slots, key, hash, index, seen);
+            let found = count_at(slots, key, hash, index, seen, probed);
             if found.is_some() {
                 return Probe {
                     index,

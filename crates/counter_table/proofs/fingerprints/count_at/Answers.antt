@@ -17,16 +17,6 @@ returns-then-names g c =
 pub offset_bounds-slots-index : goal.offset_bounds-slots-index
 offset_bounds-slots-index g c = omega (arith, c.requires.index)
 
--- the slot holds another item
-pub returns-else-names : goal.returns-else-names
-returns-else-names g c =
-    let r : Held g.row.T.Denot = record { item = c.in-Taken.there; count = c.in-Taken.count; drift = c.in-Taken.drift } in
-    let at : slot_at c.args.slots.now c.args.index ≡ Some r = ap held (get_or_default c.args.slots.now c.args.index Free c.index-slots-index.result c.requires.index ∙ (sym c.index-slots-index.is ∙ c.in-Taken.is)) in
-    IsCountAt-other _ _ _ (λ s e.
-    let both : Some r ≡ Some s = sym at ∙ e in
-    let same : r ≡ s = cc in
-    ap (λ (t : Held g.row.T.Denot). g.K.ItemKey.names c.args.key t.item) (sym same) ∙ (sym c.names.ensures ∙ c.if-names.false))
-
 -- the slot is free
 pub returns-in_default : goal.returns-in_default
 returns-in_default g c =

@@ -7,7 +7,7 @@ use Rattle.counter_table.proofs.LookupReach.{free_from_few}
 use Rattle.counter_table.proofs.LookupFingerprints.{home_is, seen_free, seen_other, seen_taken}
 use Rattle.counter_table.proofs.LookupHomes.{some_size, remainder_below, stands_first, stands_within, stands_next, stands_on}
 use Rattle.counter_table.proofs.LookupSkips.{IsPassed-skips}
-use Rattle.counter_table.proofs.LookupProbes.{IsProbe-found, IsProbe-free, IsPassed-none, IsPassed-on, IsPassed-below}
+use Rattle.counter_table.proofs.LookupProbes.{drift_of_named, IsProbe-found, IsProbe-free, IsPassed-none, IsPassed-on, IsPassed-below}
 use Rattle.counter_table.proofs.slot_table.look_ups.SlotSlices.find_from.Goals as goal
 
 pub probe-init : goal.probe-init
@@ -71,3 +71,13 @@ passed_at-passed-requires g c =
     let index : c.probe.index < length c.self.inside.slots.now = rw (ap (λ t. t.slots) c.self.view_is) (stands_within (hash_in c.args.self.now.key g.K.Hash.hash_input) c.args.key _ c.requires.slots.size c.probe.index c.probe.probed c.probe.invariant.stands) in
     let a = ahead_is (length c.self.inside.slots.now) c.probe.index 1 index (omega arith) in
     omega (arith, c.next-start.ensures, a.below, c.self.invariant.long)
+
+pub count_at-found-requires-clause-drift : goal.count_at-found-requires-clause-drift
+count_at-found-requires-clause-drift g c = λ s here named.
+    let key = c.self.inside.key in
+    let slots = c.self.inside.slots.now in
+    let hashed = hash_in key g.T.Hash.hash_input in
+    let placed = (rw (← c.self.view_is) at c.requires.slots).placed in
+    let stands = rw (← c.self.view_is) at c.probe.invariant.stands in
+    let home_below = remainder_below (hash_in key g.K.Hash.hash_input c.args.key) (length slots) (some_size (length slots) (rw (← c.self.view_is) at c.requires.slots).size) in
+    rw (c.probe_at-seen.ensures.counted) (drift_of_named (hashed_as_named key (g.met.K.ItemKey.respects_hash c.args.key)) slots placed c.probe.index c.probe.probed home_below stands.below stands.at_index s here named)
