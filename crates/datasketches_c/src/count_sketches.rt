@@ -12,6 +12,7 @@ ghost use Rattle.datasketches_c.specs.Images.{IsRefusedImage, WritesImage};
 ghost use Rattle.datasketches_c.specs.Kinds.{HoldsCountI64, HoldsCountU64, OnCountU64, OnKind, count_i64_of, count_u64_of};
 ghost use Rattle.datasketches_c.specs.Numbers.{OnDone, OnRefused, bad_fraction, max_i64, max_u64, min_i64, no_room, ok, refusal_number};
 ghost use Rattle.datasketches_c.specs.declared.any_sketch.AnySketch.TheVariants.{CountI64, CountU64};
+ghost use Rattle.datasketches_c.specs.Sharing.{reads};
 
 use crate::count::{self, CountStatus};
 use crate::handle::SketchHandle;
@@ -179,7 +180,7 @@ pub extern "C" fn ds_count_min_u64_get_status(
 ) -> i32
     ensures kept { handle.new.value ≡ handle.old.value }
     ensures untouched { OnRefused result (status.new ≡ status.old) }
-    ensures numbers { Describes count_u64_of handle.old.value handle.new.value result status.new }
+    ensures numbers { Describes (reads count_u64_of) handle.old.value handle.new.value result status.new }
 {
     count::status::<u64>(alloc, handle, status)
 }
@@ -197,7 +198,7 @@ pub extern "C" fn ds_count_min_i64_get_status(
 ) -> i32
     ensures kept { handle.new.value ≡ handle.old.value }
     ensures untouched { OnRefused result (status.new ≡ status.old) }
-    ensures numbers { Describes count_i64_of handle.old.value handle.new.value result status.new }
+    ensures numbers { Describes (reads count_i64_of) handle.old.value handle.new.value result status.new }
 {
     count::status::<i64>(alloc, handle, status)
 }
@@ -221,7 +222,7 @@ pub extern "C" fn ds_count_min_u64_serialize(
     ensures kept { handle.new.value ≡ handle.old.value }
     ensures untouched { OnRefused result (out.new ≡ out.old) }
     ensures uncounted { result ≢ ok → result ≢ no_room → written.new ≡ written.old }
-    ensures image { OnKind count_u64_of handle.old.value handle.new.value result (λ s.
+    ensures image { OnKind (reads count_u64_of) handle.old.value handle.new.value result (λ s.
         WritesImage (λ image. IsSpelled (pos 0) max_u64 image s) out.old out.new written.new result) }
 {
     to_bytes::<CountMinSketch<u64>>(alloc, handle, out, written)
@@ -246,7 +247,7 @@ pub extern "C" fn ds_count_min_i64_serialize(
     ensures kept { handle.new.value ≡ handle.old.value }
     ensures untouched { OnRefused result (out.new ≡ out.old) }
     ensures uncounted { result ≢ ok → result ≢ no_room → written.new ≡ written.old }
-    ensures image { OnKind count_i64_of handle.old.value handle.new.value result (λ s.
+    ensures image { OnKind (reads count_i64_of) handle.old.value handle.new.value result (λ s.
         WritesImage (λ image. IsSpelled min_i64 max_i64 image s) out.old out.new written.new result) }
 {
     to_bytes::<CountMinSketch<i64>>(alloc, handle, out, written)
