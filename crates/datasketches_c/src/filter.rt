@@ -8,10 +8,10 @@ ghost use Rattle.sketch_base.specs.Hashes.{fed_bytes};
 ghost use Rattle.sketch_bloom.specs.Building.{request_fault, words_for};
 ghost use Rattle.sketch_bloom.specs.History.{all_inserted_after};
 ghost use Rattle.sketch_bloom.specs.History.BloomHistory.{Difference, Insert, Intersection, New, Reset, Union};
-ghost use Rattle.sketch_bloom.specs.Image.{IsSpelled, early_fault_within, first_fault_within};
+ghost use Rattle.sketch_bloom.specs.Image.{IsSpelled, image_bytes, early_fault_within, first_fault_within};
 ghost use Rattle.sketch_bloom.specs.Stands.{Extends, ExtendsBoth, StandsFor};
 ghost use Rattle.sketch_bloom.specs.State.{empty_state, contains_item, inserted, all_inserted, IsCompatible, united, intersected, subtracted, capacity_of, cleared};
-ghost use Rattle.datasketches_c.specs.Images.{WritesImage, IsRefusedImage};
+ghost use Rattle.datasketches_c.specs.Images.{WritesImage, WritesSizedImage, TellsRoom, IsRefusedImage};
 ghost use Rattle.datasketches_c.specs.FilterImages.{IsRestored};
 ghost use Rattle.datasketches_c.specs.Joining.{IsCombined};
 ghost use Rattle.datasketches_c.specs.Kinds.{OnFilter, HoldsFilter, ReadsFilter};
@@ -19,7 +19,7 @@ ghost use Rattle.datasketches_c.specs.Numbers.{OnDone, OnRefused, ok, no, yes, n
 ghost use Rattle.datasketches_c.specs.declared.any_sketch.AnySketch.TheVariants.{Filter};
 
 use crate::handle::SketchHandle;
-use crate::images::{HasImage, copy_out, to_bytes};
+use crate::images::{HasImage, to_bytes};
 use crate::join::{Joins, join};
 use crate::kind::{on_kind, reading_kind};
 use crate::making::put_made;
@@ -468,23 +468,48 @@ pub extern "C" fn ds_bloom_get_status(
 }
 
 impl HasImage for BloomFilter {
-    ghost writes = { λ s. WritesImage (λ image. IsSpelled image s) };
+    ghost writes = { λ s. WritesSizedImage (λ image. IsSpelled image s) (image_bytes s) };
 
     fn write_to(&self, out: &mut [u8], written: &mut usize) -> i32 {
-        match self.serialize() {
-            Ok(image) => copy_out(&image, out, written),
-            Err(error) => refusal_number(error.fault()),
+        match self.serialize_into(out) {
+            Some(length) => {
+                *written = length;
+                OK
+            }
+            None => {
+                *written = self.serialized_size();
+                NO_ROOM
+            }
         }
     }
 }
 
+/// Writes the length in bytes of the filter's image, in constant time.
+///
+/// Returns `NO_SKETCH` if the handle has no sketch, and `WRONG_KIND` if its sketch is of another kind. Then nothing
+/// changes.
+#[unsafe(no_mangle)]
+pub extern "C" fn ds_bloom_serialized_bytes(
+    alloc: Global,
+    handle: &mut SketchHandle,
+    bytes: &mut usize,
+) -> i32
+    ensures kept { handle.new.value ≡ handle.old.value }
+    ensures untouched { OnRefused result (bytes.new ≡ bytes.old) }
+    ensures bytes { OnFilter handle.old.value handle.new.value result (λ s.
+        (result ≡ ok) × (bytes.new ≡ image_bytes s)) }
+{
+    on_kind!(alloc, handle, BloomFilter, filter => {
+        *bytes = filter.serialized_size();
+        OK
+    })
+}
+
 /// Writes the filter's image to the front of `out`, and the image's length in bytes to `written`. The rest of `out`
-/// stays as it was.
+/// stays as it was. Does not allocate.
 ///
-/// Returns the first of these errors, and then changes nothing:
-///
-/// - `NO_SKETCH` if the handle has no sketch, and `WRONG_KIND` if its sketch is of another kind.
-/// - `NoMemory` if an allocation fails.
+/// Returns `NO_SKETCH` if the handle has no sketch, and `WRONG_KIND` if its sketch is of another kind. Then nothing
+/// changes.
 ///
 /// Returns `NO_ROOM` if the image is longer than `out`. Then `written` is the image's length, and `out` is unchanged.
 #[unsafe(no_mangle)]
@@ -499,6 +524,8 @@ pub extern "C" fn ds_bloom_serialize(
     ensures uncounted { result ≢ ok → result ≢ no_room → written.new ≡ written.old }
     ensures image { ReadsFilter handle.old.value handle.new.value result (λ s.
         WritesImage (λ image. IsSpelled image s) out.old out.new written.new result) }
+    ensures room { OnFilter handle.old.value handle.new.value result (λ s.
+        TellsRoom (image_bytes s) (length out.old) written.new result) }
 {
     to_bytes::<BloomFilter>(alloc, handle, out, written)
 }
