@@ -3,10 +3,11 @@ ghost use Rattle.std.specs.Prelude.{◌≡◌};
 ghost use Rattle.sketch_countmin.specs.Image.{IsSpelled, image_bytes};
 ghost use Rattle.datasketches_c.specs.Images.{WritesSizedImage};
 ghost use Rattle.datasketches_c.specs.Kinds.{WritesDown};
+ghost use Rattle.datasketches_c.specs.Sharing.{reads};
 
 use crate::handle::SketchHandle;
 use crate::images::HasImage;
-use crate::kind::{Kind, on_kind};
+use crate::kind::{Kind, reading_kind};
 use crate::status_code::{NO_ROOM, OK};
 use sketch_countmin::{CountMinSketch, CountMinValue};
 use std::alloc::Global;
@@ -39,10 +40,10 @@ pub(crate) fn serialized_bytes<V: CountMinValue>(
 ) -> i32
 where
     CountMinSketch<V>: Kind,
-    ensures { WritesDown (⟦<CountMinSketch<V> as Kind>⟧.part) handle.old.value handle.new.value result bytes.old bytes.new
+    ensures { WritesDown (reads (⟦<CountMinSketch<V> as Kind>⟧.part)) handle.old.value handle.new.value result bytes.old bytes.new
         (λ s. bytes.new ≡ image_bytes s) }
 {
-    on_kind!(alloc, handle, CountMinSketch<V>, sketch => {
+    reading_kind!(alloc, handle, CountMinSketch<V>, sketch => {
         *bytes = sketch.serialized_size();
         OK
     })

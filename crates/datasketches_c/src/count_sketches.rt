@@ -216,7 +216,7 @@ pub extern "C" fn ds_count_min_u64_serialized_bytes(
 ) -> i32
     ensures kept { handle.new.value ≡ handle.old.value }
     ensures untouched { OnRefused result (bytes.new ≡ bytes.old) }
-    ensures bytes { OnKind count_u64_of handle.old.value handle.new.value result (λ s.
+    ensures bytes { OnKind (reads count_u64_of) handle.old.value handle.new.value result (λ s.
         (result ≡ ok) × (bytes.new ≡ image_bytes s)) }
 {
     count_images::serialized_bytes::<u64>(alloc, handle, bytes)
@@ -241,7 +241,7 @@ pub extern "C" fn ds_count_min_u64_serialize(
     ensures uncounted { result ≢ ok → result ≢ no_room → written.new ≡ written.old }
     ensures image { OnKind (reads count_u64_of) handle.old.value handle.new.value result (λ s.
         WritesImage (λ image. IsSpelled (pos 0) max_u64 image s) out.old out.new written.new result) }
-    ensures room { OnKind count_u64_of handle.old.value handle.new.value result (λ s.
+    ensures room { OnKind (reads count_u64_of) handle.old.value handle.new.value result (λ s.
         TellsRoom (image_bytes s) (length out.old) written.new result) }
 {
     to_bytes::<CountMinSketch<u64>>(alloc, handle, out, written)
@@ -259,7 +259,7 @@ pub extern "C" fn ds_count_min_i64_serialized_bytes(
 ) -> i32
     ensures kept { handle.new.value ≡ handle.old.value }
     ensures untouched { OnRefused result (bytes.new ≡ bytes.old) }
-    ensures bytes { OnKind count_i64_of handle.old.value handle.new.value result (λ s.
+    ensures bytes { OnKind (reads count_i64_of) handle.old.value handle.new.value result (λ s.
         (result ≡ ok) × (bytes.new ≡ image_bytes s)) }
 {
     count_images::serialized_bytes::<i64>(alloc, handle, bytes)
@@ -284,7 +284,7 @@ pub extern "C" fn ds_count_min_i64_serialize(
     ensures uncounted { result ≢ ok → result ≢ no_room → written.new ≡ written.old }
     ensures image { OnKind (reads count_i64_of) handle.old.value handle.new.value result (λ s.
         WritesImage (λ image. IsSpelled min_i64 max_i64 image s) out.old out.new written.new result) }
-    ensures room { OnKind count_i64_of handle.old.value handle.new.value result (λ s.
+    ensures room { OnKind (reads count_i64_of) handle.old.value handle.new.value result (λ s.
         TellsRoom (image_bytes s) (length out.old) written.new result) }
 {
     to_bytes::<CountMinSketch<i64>>(alloc, handle, out, written)

@@ -496,10 +496,10 @@ pub extern "C" fn ds_bloom_serialized_bytes(
 ) -> i32
     ensures kept { handle.new.value ≡ handle.old.value }
     ensures untouched { OnRefused result (bytes.new ≡ bytes.old) }
-    ensures bytes { OnFilter handle.old.value handle.new.value result (λ s.
+    ensures bytes { ReadsFilter handle.old.value handle.new.value result (λ s.
         (result ≡ ok) × (bytes.new ≡ image_bytes s)) }
 {
-    on_kind!(alloc, handle, BloomFilter, filter => {
+    reading_kind!(alloc, handle, BloomFilter, filter => {
         *bytes = filter.serialized_size();
         OK
     })
@@ -524,7 +524,7 @@ pub extern "C" fn ds_bloom_serialize(
     ensures uncounted { result ≢ ok → result ≢ no_room → written.new ≡ written.old }
     ensures image { ReadsFilter handle.old.value handle.new.value result (λ s.
         WritesImage (λ image. IsSpelled image s) out.old out.new written.new result) }
-    ensures room { OnFilter handle.old.value handle.new.value result (λ s.
+    ensures room { ReadsFilter handle.old.value handle.new.value result (λ s.
         TellsRoom (image_bytes s) (length out.old) written.new result) }
 {
     to_bytes::<BloomFilter>(alloc, handle, out, written)
