@@ -78,13 +78,20 @@ static void filters(void)
     CHECK(ds_bloom_new(&a, 959, 7, 9001) == DS_OK && ds_bloom_new(&b, 959, 7, 9001) == DS_OK);
     CHECK(ds_bloom_get_status(&a, &numbers) == DS_OK && numbers.bits_used == 0 && numbers.capacity == 960);
     CHECK(numbers.seed == 9001 && numbers.num_hashes == 7);
+    CHECK(ds_bloom_serialized_bytes(&a, &length) == DS_OK && length == 24);
     CHECK(ds_bloom_insert_all_u64(&a, items, 100) == DS_OK);
     for (int i = 0; i < 100; i++) CHECK(ds_bloom_insert_i64(&b, same[i]) == DS_OK);
+    CHECK(ds_bloom_serialized_bytes(&a, &length) == DS_OK && length == 32 + 120);
     CHECK(ds_bloom_serialize(&a, one, sizeof one, &length) == DS_OK && length == 32 + 120);
     CHECK(ds_bloom_serialize(&b, two, sizeof two, &again) == DS_OK && again == length);
     /* equal numbers are one item: signed or unsigned, one by one or in one call */
     CHECK(memcmp(one, two, length) == 0);
     CHECK(ds_bloom_serialize(&a, two, length - 1, &again) == DS_NO_ROOM && again == length);
+    CHECK(memcmp(one, two, length) == 0);
+    /* an image is written to as many bytes as it has */
+    memset(two, 7, sizeof two);
+    CHECK(ds_bloom_serialize(&a, two, length, &again) == DS_OK && again == length);
+    CHECK(memcmp(one, two, length) == 0 && two[length] == 7);
     CHECK(ds_bloom_contains_all_u64(&a, items, 100, answers, 100) == DS_OK);
     for (int i = 0; i < 100; i++) CHECK(answers[i] && ds_bloom_contains_u64(&a, items[i]) == DS_YES);
     CHECK(ds_bloom_contains_all_i64(&a, same, 100, answers, 99) == DS_NO_ROOM);
@@ -192,6 +199,9 @@ static void images_of_counts(void)
     CHECK(ds_count_min_u64_deserialize(&count, FIVE, 48, 1, 32) == DS_SEED_HASH_MISMATCH);
     CHECK(numbers.seed == 9001 && numbers.num_hashes == 1);
     CHECK(ds_count_min_u64_serialize(&count, NULL, 0, &length) == DS_NO_ROOM && length == 48);
+    CHECK(ds_count_min_u64_serialized_bytes(&count, &length) == DS_OK && length == 48);
+    CHECK(ds_count_min_i64_serialized_bytes(&count, &length) == DS_WRONG_KIND && length == 48);
+    CHECK(ds_bloom_serialized_bytes(&count, &length) == DS_WRONG_KIND && length == 48);
     CHECK(ds_count_min_u64_serialize(&count, image, 48, &length) == DS_OK && length == 48 && memcmp(image, FIVE, 48) == 0);
     ds_free(&count);
 }
@@ -228,8 +238,11 @@ static void more_counts(void)
     CHECK(ds_count_min_i64_upper_bound_i64(&b, 4, &estimate) == DS_OK && estimate == -3);
     CHECK(ds_count_min_i64_update_string(&b, apple, 5, INT64_MAX) == DS_WEIGHT_OVERFLOW);
     CHECK(ds_count_min_i64_merge(&b, &a) == DS_WRONG_KIND && ds_count_min_u64_merge(&a, &b) == DS_WRONG_KIND);
-    CHECK(ds_count_min_i64_serialize(&b, image, sizeof image, &length) == DS_OK && length == 24 + 8 * 512);
+    CHECK(ds_count_min_i64_serialized_bytes(&b, &length) == DS_OK && length == 24 + 8 * 512);
+    memset(image, 7, sizeof image);
+    CHECK(ds_count_min_i64_serialize(&b, image, length, &length) == DS_OK && length == 24 + 8 * 512 && image[length] == 7);
     ds_free(&a);
+    CHECK(ds_count_min_i64_serialized_bytes(&a, &length) == DS_NO_SKETCH && length == 24 + 8 * 512);
     CHECK(ds_count_min_i64_deserialize(&a, image, length, 9001, 1 << 14) == DS_OK && ds_count_min_i64_merge(&b, &a) == DS_OK);
     CHECK(ds_count_min_i64_estimate_u64(&b, 4, &estimate) == DS_OK && estimate == -6);
     ds_free(&b);

@@ -29,9 +29,7 @@ static int is_due(int32_t answer, ds_sketch *handle, uint64_t weight)
 static void keep(ds_sketch *filter)
 {
     size_t length;
-    int32_t answer = ds_bloom_serialize(filter, before, sizeof before, &length);
-    if (answer == DS_NO_MEMORY) answer = ds_bloom_serialize(filter, before, sizeof before, &length);
-    if (answer != DS_OK) exit(1);
+    if (ds_bloom_serialize(filter, before, sizeof before, &length) != DS_OK) exit(1);
 }
 
 /* Makes a call, and makes it again if an allocation failed. */

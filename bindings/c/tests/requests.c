@@ -125,7 +125,9 @@ static void filters(void)
     FREE(DS_NO, ds_bloom_equal(&filter, &same));
     FREE(DS_OK, ds_memory_bytes(&filter, &written));
     FREE(DS_OK, ds_bloom_get_status(&filter, &numbers));
-    ROW(1, 1, DS_OK, ds_bloom_serialize(&same, image, sizeof image, &written));
+    FREE(DS_OK, ds_bloom_serialize(&same, image, sizeof image, &written));
+    FREE(DS_NO_ROOM, ds_bloom_serialize(&same, image, written - 1, &written));
+    FREE(DS_OK, ds_bloom_serialized_bytes(&same, &written));
     FREE(DS_OK, ds_bloom_reset(&filter));
     FREE(DS_YES, ds_bloom_equal(&filter, &same));
     FREE(DS_NO, ds_bloom_contains_u64(&filter, 5));
@@ -185,7 +187,9 @@ static void counts(void)
     FREE(DS_OK, ds_count_min_u64_decay(&same, 9, 10));
     FREE(DS_BAD_FRACTION, ds_count_min_u64_decay(&same, 3, 2));
     FREE(DS_OK, ds_count_min_u64_get_status(&count, &numbers));
-    ROW(1, 1, DS_OK, ds_count_min_u64_serialize(&count, image, sizeof image, &written));
+    FREE(DS_OK, ds_count_min_u64_serialize(&count, image, sizeof image, &written));
+    FREE(DS_NO_ROOM, ds_count_min_u64_serialize(&count, image, written - 1, &written));
+    FREE(DS_OK, ds_count_min_u64_serialized_bytes(&count, &written));
     FREE(DS_WEIGHT_OVERFLOW, ds_count_min_u64_update_u64(&count, 3, UINT64_MAX));
     FREE(DS_OK, ds_count_min_u64_update_u64(&unlike, 3, UINT64_MAX));
     FREE(DS_WEIGHT_OVERFLOW, ds_count_min_u64_update_all_u64(&unlike, ITEMS, 3));
@@ -238,7 +242,9 @@ static void signed_counts(void)
     FREE(DS_OK, ds_count_min_i64_merge(&same, &count));
     FREE(DS_MISMATCH, ds_count_min_i64_merge(&count, &unlike));
     FREE(DS_OK, ds_count_min_i64_get_status(&count, &numbers));
-    ROW(1, 1, DS_OK, ds_count_min_i64_serialize(&count, image, sizeof image, &written));
+    FREE(DS_OK, ds_count_min_i64_serialize(&count, image, sizeof image, &written));
+    FREE(DS_NO_ROOM, ds_count_min_i64_serialize(&count, image, written - 1, &written));
+    FREE(DS_OK, ds_count_min_i64_serialized_bytes(&count, &written));
     FREE(DS_OK, ds_count_min_i64_update_u64(&heavy, 3, INT64_MAX));
     FREE(DS_WEIGHT_OVERFLOW, ds_count_min_i64_update_u64(&count, 3, INT64_MIN));
     FREE(DS_WEIGHT_OVERFLOW, ds_count_min_i64_update_all_u64(&heavy, ITEMS, 3));

@@ -7,12 +7,13 @@ use Rattle.datasketches_c.specs.CountJoins.{IsJoined}
 use Rattle.datasketches_c.specs.CountSteps.{Merges}
 use Rattle.datasketches_c.specs.Kinds.{OnKind, HoldsKind}
 use Rattle.datasketches_c.specs.Numbers.{ok, refusal_number}
+use Rattle.datasketches_c.specs.Sharing.{reads}
 use Rattle.datasketches_c.specs.declared.any_sketch.AnySketch.{AnySketch}
 use Rattle.datasketches_c.proofs.KindLemmas.{on_kind_less, of_held, holds_less}
 
 -- a sketch of a handle that another handle's sketch was added to
 pub merges_joined : (part : AnySketch → Option CountState) (greatest : ℕ) (old new : Option AnySketch) (result : ℤ) (other_old other_new : Option AnySketch)
-    → OnKind part old new result (λ a. OnKind part other_old other_new result (λ b. HoldsKind part new (λ c. IsJoined greatest a b c result)))
+    → OnKind part old new result (λ a. OnKind (reads part) other_old other_new result (λ b. HoldsKind part new (λ c. IsJoined greatest a b c result)))
     → MergesInto part greatest old new result other_old other_new
 merges_joined part greatest old new result other_old other_new said =
     let Joined : CountState → CountState → Type 0 = λ a b. HoldsKind part new (λ c. IsJoined greatest a b c result) in
@@ -26,5 +27,5 @@ merges_joined part greatest old new result other_old other_new said =
       (λ same over. of_held part new Is (λ c is. is.overflow same over) held),
       (λ differ. of_held part new Is (λ c is. is.mismatch differ) held),
     ) in
-    on_kind_less part old new result (λ a. OnKind part other_old other_new result (Joined a)) (λ a. OnKind part other_old other_new result (Merged a))
-    (λ a. on_kind_less part other_old other_new result (Joined a) (Merged a) (merged a)) said
+    on_kind_less part old new result (λ a. OnKind (reads part) other_old other_new result (Joined a)) (λ a. OnKind (reads part) other_old other_new result (Merged a))
+    (λ a. on_kind_less (reads part) other_old other_new result (Joined a) (Merged a) (merged a)) said

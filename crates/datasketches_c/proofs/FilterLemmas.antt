@@ -6,8 +6,9 @@ use Rattle.sketch_bloom.specs.State.{FilterState, IsCompatible}
 use Rattle.datasketches_c.specs.Joining.{IsCombined, joined, joined_history}
 use Rattle.datasketches_c.specs.Kinds.{OnKind, HoldsKind, filter_of}
 use Rattle.datasketches_c.specs.Numbers.{ok, refusal_number}
+use Rattle.datasketches_c.specs.Sharing.{reads}
 use Rattle.datasketches_c.specs.declared.any_sketch.AnySketch.{AnySketch}
-use Rattle.datasketches_c.specs.declared.any_sketch.AnySketch.TheVariants.{Filter, CountI64, CountU64, FrequentI64, FrequentStrings, FrequentU64}
+use Rattle.datasketches_c.specs.declared.any_sketch.AnySketch.TheVariants.{Filter, CountI64, CountU64, FrequentI64, FrequentStrings, FrequentU64, SharedFilter, SharedCountI64, SharedCountU64, SharedFrequentI64, SharedFrequentU64, SharedFrequentStrings, Moved}
 use Rattle.datasketches_c.specs.declared.filter.SetOperation.{SetOperation}
 use Rattle.datasketches_c.proofs.KindLemmas.{on_kind_less, of_held, holds_less}
 
@@ -19,12 +20,19 @@ holds_filter (Some (CountU64 c)) s is = absurd is
 holds_filter (Some (FrequentI64 c)) s is = absurd is
 holds_filter (Some (FrequentU64 c)) s is = absurd is
 holds_filter (Some (FrequentStrings c)) s is = absurd is
+holds_filter (Some (SharedFilter c)) s is = absurd is
+holds_filter (Some (SharedCountI64 c)) s is = absurd is
+holds_filter (Some (SharedCountU64 c)) s is = absurd is
+holds_filter (Some (SharedFrequentI64 c)) s is = absurd is
+holds_filter (Some (SharedFrequentU64 c)) s is = absurd is
+holds_filter (Some (SharedFrequentStrings c)) s is = absurd is
+holds_filter (Some Moved) s is = absurd is
 holds_filter None s is = absurd is
 
 -- a filter of a handle that another handle's filter was set against
 pub was_set_against : (operation : SetOperation) (old new other_old other_new : Option AnySketch) (result : ℤ)
-    → OnKind filter_of old new result (λ a. OnKind filter_of other_old other_new result (λ b. HoldsKind filter_of new (λ c. IsCombined operation a b c result)))
-    → OnKind filter_of old new result (λ a. OnKind filter_of other_old other_new result (λ b.
+    → OnKind filter_of old new result (λ a. OnKind (reads filter_of) other_old other_new result (λ b. HoldsKind filter_of new (λ c. IsCombined operation a b c result)))
+    → OnKind filter_of old new result (λ a. OnKind (reads filter_of) other_old other_new result (λ b.
     (IsCompatible a b → (result ≡ ok) × (new ≡ Some (Filter (joined operation a b))) × ExtendsBoth a b (joined operation a b) (joined_history operation)) × (¬ IsCompatible a b → result ≡ refusal_number Mismatch)))
 was_set_against operation old new other_old other_new result said =
     let Combined : FilterState → FilterState → Type 0 = λ a b. HoldsKind filter_of new (λ c. IsCombined operation a b c result) in
@@ -39,5 +47,5 @@ was_set_against operation old new other_old other_new result said =
       )),
       (λ differ. of_held filter_of new Is (λ c is. is.mismatch differ) held),
     ) in
-    on_kind_less filter_of old new result (λ a. OnKind filter_of other_old other_new result (Combined a)) (λ a. OnKind filter_of other_old other_new result (Set a))
-    (λ a. on_kind_less filter_of other_old other_new result (Combined a) (Set a) (set a)) said
+    on_kind_less filter_of old new result (λ a. OnKind (reads filter_of) other_old other_new result (Combined a)) (λ a. OnKind (reads filter_of) other_old other_new result (Set a))
+    (λ a. on_kind_less (reads filter_of) other_old other_new result (Combined a) (Set a) (set a)) said

@@ -2,6 +2,7 @@
 use Rattle.std.proofs.Common.{◌≡◌, List, length, ℕ, Option, None, Some, ℤ, pos, negsuc, refl, sym, ap, ◌∙◌, subst}
 use Rattle.datasketches_c.specs.Kinds.{OnPart, OnKind, OfPart, HoldsKind, WritesDown, WritesDownEach}
 use Rattle.datasketches_c.specs.Numbers.{OnRefused, ok, no_sketch, wrong_kind}
+use Rattle.datasketches_c.specs.Sharing.{reads}
 use Rattle.datasketches_c.specs.declared.any_sketch.AnySketch.{AnySketch}
 
 module _ {S : Type 0} (part : AnySketch → Option S) where
@@ -42,14 +43,6 @@ module _ {S : Type 0} (part : AnySketch → Option S) where
       → R s t → OnKind part old new result (λ a. HoldsKind part new (R a))
   changed R old new held given s t result old_is which new_is which_new said =
       on_kind_said old new held s result (λ a. HoldsKind part new (R a)) old_is which (holds_kind new given t (R s) new_is which_new said)
-
-  -- of one whose sketch another handle's was joined to, what holds of the three
-  pub was_joined : (R : S → S → S → Type 0) (old new other_old other_new : Option AnySketch) (held given : AnySketch) (s t : S) (result : ℤ) → old ≡ Some held → part held ≡ Some s
-      → new ≡ Some given → part given ≡ Some t → OnKind part other_old other_new result (λ b. R s b t)
-      → OnKind part old new result (λ a. OnKind part other_old other_new result (λ b. HoldsKind part new (R a b)))
-  was_joined R old new other_old other_new held given s t result old_is which new_is which_new said =
-      on_kind_said old new held s result (λ a. OnKind part other_old other_new result (λ b. HoldsKind part new (R a b))) old_is which
-      (on_kind_less other_old other_new result (λ b. R s b t) (λ b. HoldsKind part new (R s b)) (λ b is. holds_kind new given t (R s b) new_is which_new is) said)
 
   of_part : {Q : Type 0} (found : Option S) (P : S → Type 0) → ((s : S) → P s → Q) → OfPart part found P → Q
   of_part (Some s) P follows said = follows s said
@@ -95,3 +88,11 @@ module _ {S : Type 0} (part : AnySketch → Option S) where
       → WritesDown part old new result before now Said → WritesDownEach items old new result before now (OnKind part old new result (λ s. (result ≡ ok) × Said s))
   each_written items old new result before now Said same written =
       record { kept = written.kept; other_length = λ other. absurd (other same); told = λ _. written.told; untouched = written.untouched }
+
+-- of one whose sketch another handle's was joined to, what holds of the three
+pub was_joined : {S : Type 0} (part : AnySketch → Option S) (R : S → S → S → Type 0) (old new other_old other_new : Option AnySketch) (held given : AnySketch) (s t : S) (result : ℤ) → old ≡ Some held → part held ≡ Some s
+    → new ≡ Some given → part given ≡ Some t → OnKind (reads part) other_old other_new result (λ b. R s b t)
+    → OnKind part old new result (λ a. OnKind (reads part) other_old other_new result (λ b. HoldsKind part new (R a b)))
+was_joined part R old new other_old other_new held given s t result old_is which new_is which_new said =
+    on_kind_said part old new held s result (λ a. OnKind (reads part) other_old other_new result (λ b. HoldsKind part new (R a b))) old_is which
+    (on_kind_less (reads part) other_old other_new result (λ b. R s b t) (λ b. HoldsKind part new (R s b)) (λ b is. holds_kind part new given t (R s b) new_is which_new is) said)

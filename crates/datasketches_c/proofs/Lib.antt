@@ -17,3 +17,4 @@ pub mod StringLemmas
 pub mod StringReports
 pub mod StringRows
 pub mod Words
+pub mod Writing

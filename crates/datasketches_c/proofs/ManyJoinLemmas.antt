@@ -13,6 +13,7 @@ use Rattle.datasketches_c.specs.ManyJoins.{IsMerged, IsUnited, MergesCounts, Mer
 use Rattle.datasketches_c.specs.Numbers.{ok, refusal_number}
 use Rattle.datasketches_c.specs.declared.any_sketch.AnySketch.{AnySketch}
 use Rattle.datasketches_c.specs.declared.any_sketch.AnySketch.TheVariants.{Filter}
+use Rattle.datasketches_c.specs.Sharing.{reads}
 use Rattle.datasketches_c.proofs.FilterLemmas.{holds_filter}
 use Rattle.datasketches_c.proofs.KindLemmas.{on_kind_less, on_kind_said, holds_kind, of_held, holds_less}
 use Rattle.datasketches_c.proofs.ManyHandleLemmas.{on_each_less}
@@ -24,24 +25,24 @@ or_less z bs P Q less (inr said) = inr (less said)
 -- what is said of a sketch and many others can be replaced by what follows from it
 on_all_less : {S : Type 0} (part : AnySketch → Option S) (old new : Option AnySketch) (z : ℤ) (others : List (Option AnySketch)) (P Q : S → List S → Type 0)
     → ((a : S) (bs : List S) → P a bs → Q a bs)
-    → OnKind part old new z (λ a. OnEachKind part others z (λ bs. OrNoMemory z bs (P a bs)))
-    → OnKind part old new z (λ a. OnEachKind part others z (λ bs. OrNoMemory z bs (Q a bs)))
+    → OnKind part old new z (λ a. OnEachKind (reads part) others z (λ bs. OrNoMemory z bs (P a bs)))
+    → OnKind part old new z (λ a. OnEachKind (reads part) others z (λ bs. OrNoMemory z bs (Q a bs)))
 on_all_less part old new z others P Q less said =
-    on_kind_less part old new z (λ a. OnEachKind part others z (λ bs. OrNoMemory z bs (P a bs))) (λ a. OnEachKind part others z (λ bs. OrNoMemory z bs (Q a bs)))
-    (λ a. on_each_less part others z (λ bs. OrNoMemory z bs (P a bs)) (λ bs. OrNoMemory z bs (Q a bs)) (λ bs. or_less z bs (P a bs) (Q a bs) (less a bs))) said
+    on_kind_less part old new z (λ a. OnEachKind (reads part) others z (λ bs. OrNoMemory z bs (P a bs))) (λ a. OnEachKind (reads part) others z (λ bs. OrNoMemory z bs (Q a bs)))
+    (λ a. on_each_less (reads part) others z (λ bs. OrNoMemory z bs (P a bs)) (λ bs. OrNoMemory z bs (Q a bs)) (λ bs. or_less z bs (P a bs) (Q a bs) (less a bs))) said
 
 -- a sketch of a handle that many handles' sketches were joined to, and what holds of all
 pub all_were_joined : {S : Type 0} (part : AnySketch → Option S) (R : S → List S → S → Type 0) (old new : Option AnySketch) (others : List (Option AnySketch)) (held given : AnySketch) (s t : S) (z : ℤ)
-    → old ≡ Some held → part held ≡ Some s → new ≡ Some given → part given ≡ Some t → OnEachKind part others z (λ bs. OrNoMemory z bs (R s bs t))
-    → OnKind part old new z (λ a. OnEachKind part others z (λ bs. OrNoMemory z bs (HoldsKind part new (R a bs))))
+    → old ≡ Some held → part held ≡ Some s → new ≡ Some given → part given ≡ Some t → OnEachKind (reads part) others z (λ bs. OrNoMemory z bs (R s bs t))
+    → OnKind part old new z (λ a. OnEachKind (reads part) others z (λ bs. OrNoMemory z bs (HoldsKind part new (R a bs))))
 all_were_joined part R old new others held given s t z old_is which new_is which_new said =
-    on_kind_said part old new held s z (λ a. OnEachKind part others z (λ bs. OrNoMemory z bs (HoldsKind part new (R a bs)))) old_is which
-    (on_each_less part others z (λ bs. OrNoMemory z bs (R s bs t)) (λ bs. OrNoMemory z bs (HoldsKind part new (R s bs)))
+    on_kind_said part old new held s z (λ a. OnEachKind (reads part) others z (λ bs. OrNoMemory z bs (HoldsKind part new (R a bs)))) old_is which
+    (on_each_less (reads part) others z (λ bs. OrNoMemory z bs (R s bs t)) (λ bs. OrNoMemory z bs (HoldsKind part new (R s bs)))
     (λ bs. or_less z bs (R s bs t) (HoldsKind part new (R s bs)) (λ is. holds_kind part new given t (R s bs) new_is which_new is)) said)
 
 -- a filter of a handle that many handles' filters were united into
 pub all_were_united : (old new : Option AnySketch) (z : ℤ) (others : List (Option AnySketch))
-    → OnKind filter_of old new z (λ a. OnEachKind filter_of others z (λ bs. OrNoMemory z bs (HoldsKind filter_of new (λ c. IsUnited a bs c z))))
+    → OnKind filter_of old new z (λ a. OnEachKind (reads filter_of) others z (λ bs. OrNoMemory z bs (HoldsKind filter_of new (λ c. IsUnited a bs c z))))
     → UnitesAll old new z others
 all_were_united old new z others said =
     let Combined : FilterState → List FilterState → Type 0 = λ a bs. HoldsKind filter_of new (λ c. IsUnited a bs c z) in
@@ -62,7 +63,7 @@ all_were_united old new z others said =
 
 -- a sketch of a handle that many handles' sketches were added to
 pub all_were_merged : (part : AnySketch → Option CountState) (greatest : ℕ) (old new : Option AnySketch) (z : ℤ) (others : List (Option AnySketch))
-    → OnKind part old new z (λ a. OnEachKind part others z (λ bs. OrNoMemory z bs (HoldsKind part new (λ c. IsMerged greatest a bs c z))))
+    → OnKind part old new z (λ a. OnEachKind (reads part) others z (λ bs. OrNoMemory z bs (HoldsKind part new (λ c. IsMerged greatest a bs c z))))
     → MergesCounts part greatest old new z others
 all_were_merged part greatest old new z others said =
     let Joined : CountState → List CountState → Type 0 = λ a bs. HoldsKind part new (λ c. IsMerged greatest a bs c z) in

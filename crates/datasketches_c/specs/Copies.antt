@@ -8,6 +8,7 @@ use Rattle.sketch_frequencies.specs.Stands.{Extends, KeepsTailBudget}
 use Rattle.sketch_frequencies.specs.State.{FrequentState}
 use Rattle.sketch_frequencies.specs.Steps.{IsSameState}
 use Rattle.datasketches_c.specs.Numbers.{OnDone, OnRefused, ok, no_sketch, refusal_number}
+use Rattle.datasketches_c.specs.Sharing.{unshared}
 use Rattle.datasketches_c.specs.declared.any_sketch.AnySketch.{AnySketch}
 use Rattle.datasketches_c.specs.declared.any_sketch.AnySketch.TheVariants.{FrequentStrings, FrequentI64, FrequentU64}
 
@@ -25,9 +26,9 @@ HoldsCopy (FrequentI64 s) (Some (FrequentI64 t)) = IsCopy int_eq s t
 HoldsCopy (FrequentU64 s) (Some (FrequentU64 t)) = IsCopy nat_eq s t
 HoldsCopy sketch held = held ≡ Some sketch
 
--- the handle holds a copy of the other handle's sketch, or the call returned an error and the handle is unchanged
+-- the handle holds a copy of the other handle's sketch, which is not shared, or the call returned an error and the handle is unchanged
 abbrev pub IsCopied : Option AnySketch → (old new : Option AnySketch) → ℤ → Type 0
 IsCopied None old new result = (result ≡ no_sketch) × (new ≡ old)
 IsCopied (Some sketch) old new result =
-    OnDone result ((result ≡ ok) × HoldsCopy sketch new)
+    OnDone result ((result ≡ ok) × HoldsCopy (unshared sketch) new)
     × OnRefused result ((result ≡ refusal_number NoMemory) × (new ≡ old))

@@ -6,6 +6,7 @@ use Rattle.sketch_countmin.specs.State.{CountState, IsMinCell, SameShape, upper_
 use Rattle.datasketches_c.specs.CountSteps.{Weighs, WeighsAll, WeighsEach, Merges}
 use Rattle.datasketches_c.specs.Estimates.{IsEstimate, AreEstimates}
 use Rattle.datasketches_c.specs.Kinds.{OnKind, HoldsKind}
+use Rattle.datasketches_c.specs.Sharing.{reads}
 use Rattle.datasketches_c.specs.Numbers.{ok, refusal_number}
 use Rattle.datasketches_c.specs.declared.any_sketch.AnySketch.{AnySketch}
 use Rattle.datasketches_c.specs.declared.count.CountStatus.{CountStatus}
@@ -69,7 +70,7 @@ module _ (part : AnySketch → Option CountState) (greatest : ℕ) where
   -- `Mismatch` if the shapes differ
   abbrev pub MergesInto : (old new : Option AnySketch) → ℤ → (other_old other_new : Option AnySketch) → Type 0
   MergesInto old new result other_old other_new =
-      OnKind part old new result (λ a. OnKind part other_old other_new result (λ b.
+      OnKind part old new result (λ a. OnKind (reads part) other_old other_new result (λ b.
       (SameShape a b → a.total + b.total ≤ greatest → (result ≡ ok) × HoldsKind part new (Merges a b))
       × (SameShape a b → greatest < a.total + b.total → result ≡ refusal_number WeightOverflow)
       × (¬ SameShape a b → result ≡ refusal_number Mismatch)))

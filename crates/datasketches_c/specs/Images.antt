@@ -12,6 +12,18 @@ WritesImage IsImage old new written result =
     ⊎ (((result ≡ no_room) × (length old < written) × ((image : List ℕ) × IsImage image × (length image ≡ written)))
     ⊎ (result ≡ refusal_number NoMemory))
 
+-- the result is `ok` if a buffer of `room` bytes has room for the image, whose length is `size`, and `no_room` otherwise. `written` is
+-- the length
+pub record TellsRoom (size room written : ℕ) (result : ℤ) : Type 0 where
+  pub counted : written ≡ size
+  pub fits : size ≤ room → result ≡ ok
+  pub short : room < size → result ≡ no_room
+
+-- both hold of an image whose length is known
+abbrev pub WritesSizedImage : (List ℕ → Type 0) → (size : ℕ) → (old new : List ℕ) → ℕ → ℤ → Type 0
+WritesSizedImage IsImage size old new written result =
+    WritesImage IsImage old new written result × TellsRoom size (length old) written result
+
 -- the image is rejected with its first fault, or with `NoMemory` if no check before the allocation fails
 abbrev pub IsRefusedImage : (before whole : Option Fault) → ℤ → Type 0
 IsRefusedImage before whole result =

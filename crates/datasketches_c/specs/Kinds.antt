@@ -6,6 +6,7 @@ use Rattle.sketch_bloom.specs.State.{FilterState}
 use Rattle.sketch_countmin.specs.State.{CountState}
 use Rattle.sketch_frequencies.specs.State.{FrequentState}
 use Rattle.datasketches_c.specs.Numbers.{OnRefused, ok, no_room, no_sketch, wrong_kind}
+use Rattle.datasketches_c.specs.Sharing.{reads}
 use Rattle.datasketches_c.specs.declared.any_sketch.AnySketch.{AnySketch}
 use Rattle.datasketches_c.specs.declared.any_sketch.AnySketch.TheVariants.{Filter, CountI64, CountU64, FrequentI64, FrequentStrings, FrequentU64}
 
@@ -114,3 +115,19 @@ HoldsFrequentU64 = HoldsKind frequent_u64_of
 
 abbrev pub HoldsFrequentStrings : Option AnySketch → (FrequentState (String Global) → Type 0) → Type 0
 HoldsFrequentStrings = HoldsKind frequent_strings_of
+
+-- `OnKind` for calls that read a sketch of a kind, which may be shared; below, for each kind
+abbrev pub ReadsKind : {S : Type 0} → (AnySketch → Option S) → (old new : Option AnySketch) → ℤ → (S → Type 0) → Type 0
+ReadsKind part = OnKind (reads part)
+
+abbrev pub ReadsFilter : (old new : Option AnySketch) → ℤ → (FilterState → Type 0) → Type 0
+ReadsFilter = ReadsKind filter_of
+
+abbrev pub ReadsFrequentI64 : (old new : Option AnySketch) → ℤ → (FrequentState ℤ → Type 0) → Type 0
+ReadsFrequentI64 = ReadsKind frequent_i64_of
+
+abbrev pub ReadsFrequentU64 : (old new : Option AnySketch) → ℤ → (FrequentState ℕ → Type 0) → Type 0
+ReadsFrequentU64 = ReadsKind frequent_u64_of
+
+abbrev pub ReadsFrequentStrings : (old new : Option AnySketch) → ℤ → (FrequentState (String Global) → Type 0) → Type 0
+ReadsFrequentStrings = ReadsKind frequent_strings_of

@@ -22,4 +22,5 @@ pub mod ManyHandles
 pub mod ManyJoins
 pub mod MemoryBytes
 pub mod Numbers
+pub mod Sharing
 pub mod Strings

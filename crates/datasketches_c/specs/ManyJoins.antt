@@ -12,6 +12,7 @@ use Rattle.sketch_frequencies.specs.State.{FrequentState, Overflows, TotalHasRoo
 use Rattle.datasketches_c.specs.Kinds.{OnFilter, OnKind, HoldsKind, filter_of}
 use Rattle.datasketches_c.specs.ManyHandles.{OnEachKind, OrNoMemory}
 use Rattle.datasketches_c.specs.Numbers.{OnDone, OnRefused, ok, refusal_number}
+use Rattle.datasketches_c.specs.Sharing.{reads}
 use Rattle.datasketches_c.specs.declared.any_sketch.AnySketch.{AnySketch}
 use Rattle.datasketches_c.specs.declared.any_sketch.AnySketch.TheVariants.{Filter}
 
@@ -25,7 +26,7 @@ pub record IsUnited (old : FilterState) (others : List FilterState) (new : Filte
 -- the same of the handle's filter and the other handles' filters. `NoMemory` may come in its place
 abbrev pub UnitesAll : (old new : Option AnySketch) → ℤ → (others : List (Option AnySketch)) → Type 0
 UnitesAll old new result others =
-    OnFilter old new result (λ a. OnEachKind filter_of others result (λ bs. OrNoMemory result bs (
+    OnFilter old new result (λ a. OnEachKind (reads filter_of) others result (λ bs. OrNoMemory result bs (
     (All (IsCompatible a) bs
     → (result ≡ ok) × (new ≡ Some (Filter (all_united a bs)))
     × filters_stand.ExtendsByAll a bs (all_united a bs) filters.all_united_after)
@@ -51,7 +52,7 @@ abbrev pub MergesCounts :
     (part : AnySketch → Option CountState) → (greatest : ℕ) → (old new : Option AnySketch) → ℤ →
     (others : List (Option AnySketch)) → Type 0
 MergesCounts part greatest old new result others =
-    OnKind part old new result (λ a. OnEachKind part others result (λ bs. OrNoMemory result bs (
+    OnKind part old new result (λ a. OnEachKind (reads part) others result (λ bs. OrNoMemory result bs (
     (All (SameShape a) bs → a.total + total_of_each bs ≤ greatest → (result ≡ ok) × HoldsKind part new (MergesEach a bs))
     × (All (SameShape a) bs → greatest < a.total + total_of_each bs → result ≡ refusal_number WeightOverflow)
     × (¬ All (SameShape a) bs → result ≡ refusal_number Mismatch))))
@@ -76,5 +77,5 @@ abbrev pub MergesFrequent :
     {T : Type 0} → (part : AnySketch → Option (FrequentState T)) → (T → T → Bool) → (old new : Option AnySketch) → ℤ →
     (others : List (Option AnySketch)) → Type 0
 MergesFrequent part eq old new result others =
-    OnKind part old new result (λ a. OnEachKind part others result (λ bs. OrNoMemory result bs (
+    OnKind part old new result (λ a. OnEachKind (reads part) others result (λ bs. OrNoMemory result bs (
     HoldsKind part new (λ t. MergesAllInto eq a bs t result))))

@@ -8,6 +8,7 @@ use Rattle.sketch_frequencies.specs.Memory.{memory_bytes, owned_by}
 use Rattle.datasketches_c.specs.FrequentImages.{i64_row, u64_row}
 use Rattle.datasketches_c.specs.FrequentStringImages.{string_row}
 use Rattle.datasketches_c.specs.Numbers.{no_sketch, ok}
+use Rattle.datasketches_c.specs.Sharing.{unshared}
 use Rattle.datasketches_c.specs.declared.any_sketch.AnySketch.{AnySketch}
 use Rattle.datasketches_c.specs.declared.any_sketch.AnySketch.TheVariants.{Filter, CountI64, CountU64, FrequentI64, FrequentStrings, FrequentU64}
 
@@ -21,8 +22,9 @@ bytes_of (FrequentI64 s) = memory_bytes (table_bytes i64_row s.size) (owned_by i
 bytes_of (FrequentU64 s) = memory_bytes (table_bytes u64_row s.size) (owned_by u64_codec (λ n. n) s.counters)
 bytes_of (FrequentStrings s) =
     memory_bytes (table_bytes string_row s.size) (owned_by text_codec (λ item. string_bytes item) s.counters)
+bytes_of held = 0
 
 -- the call wrote the number of bytes that the handle's sketch takes, or the result is `no_sketch` and nothing was written
 abbrev pub Measures : Option AnySketch → ℤ → (bytes_old bytes_new : ℕ) → Type 0
 Measures None result bytes_old bytes_new = (result ≡ no_sketch) × (bytes_new ≡ bytes_old)
-Measures (Some sketch) result bytes_old bytes_new = (result ≡ ok) × (bytes_new ≡ bytes_of sketch)
+Measures (Some sketch) result bytes_old bytes_new = (result ≡ ok) × (bytes_new ≡ bytes_of (unshared sketch))

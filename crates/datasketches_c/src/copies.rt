@@ -1,6 +1,7 @@
 //! Calls that copy and free sketches of any kind.
 ghost use Rattle.std.specs.Prelude.{◌≡◌, None, Some, Ok, IfSome};
 ghost use Rattle.datasketches_c.specs.Copies.{HoldsCopy, IsCopied};
+ghost use Rattle.datasketches_c.specs.Sharing.{unshared};
 
 use crate::any_sketch::AnySketch;
 use crate::handle::SketchHandle;
@@ -19,17 +20,24 @@ fn as_any<K: Kind>(copy: Result<K, Error>) -> Option<AnySketch>
     }
 }
 
-/// Returns a copy of a sketch, or `None` if an allocation fails.
+/// Returns a copy of a sketch, which is not shared, or `None` if an allocation fails.
 fn copy_of(sketch: &AnySketch) -> Option<AnySketch>
-    ensures { IfSome result (λ copy. HoldsCopy sketch.now (Some copy)) }
+    ensures { IfSome result (λ copy. HoldsCopy (unshared sketch.now) (Some copy)) }
 {
     match sketch {
         AnySketch::FrequentStrings(sketch) => as_any(sketch.try_clone()),
+        AnySketch::SharedFrequentStrings(shared) => as_any((**shared).try_clone()),
         AnySketch::FrequentI64(sketch) => as_any(sketch.try_clone()),
+        AnySketch::SharedFrequentI64(shared) => as_any((**shared).try_clone()),
         AnySketch::FrequentU64(sketch) => as_any(sketch.try_clone()),
+        AnySketch::SharedFrequentU64(shared) => as_any((**shared).try_clone()),
         AnySketch::CountI64(sketch) => as_any(sketch.try_clone()),
+        AnySketch::SharedCountI64(shared) => as_any((**shared).try_clone()),
         AnySketch::CountU64(sketch) => as_any(sketch.try_clone()),
+        AnySketch::SharedCountU64(shared) => as_any((**shared).try_clone()),
         AnySketch::Filter(sketch) => as_any(sketch.try_clone()),
+        AnySketch::SharedFilter(shared) => as_any((**shared).try_clone()),
+        AnySketch::Moved => Some(AnySketch::Moved),
     }
 }
 

@@ -8,12 +8,13 @@ ghost use Rattle.datasketches_c.specs.CountSteps.{Weighs, WeighsAll};
 ghost use Rattle.datasketches_c.specs.Estimates.{AreEstimates, IsEstimate};
 ghost use Rattle.datasketches_c.specs.Kinds.{WritesDown, WritesDownEach};
 ghost use Rattle.datasketches_c.specs.Numbers.{OnRefused, ok, no_room, refusal_number};
+ghost use Rattle.datasketches_c.specs.Sharing.{reads};
 
 use crate::count_item::CountItem;
 use crate::count_weighted::{count_weighted, count_weighted_strings};
 use crate::handle::SketchHandle;
 use crate::join::{Joins, join};
-use crate::kind::{Kind, on_kind};
+use crate::kind::{Kind, on_kind, reading_kind};
 use crate::status_code::{NO_ROOM, OK, refusal_number};
 use sketch_base::{Fault, Strings};
 use sketch_countmin::laws::min_cell_bounds;
@@ -106,10 +107,10 @@ pub(crate) fn estimate<V: CountMinValue, I: CountItem>(
 ) -> i32
 where
     CountMinSketch<V>: Kind,
-    ensures { WritesDown (⟦<CountMinSketch<V> as Kind>⟧.part) handle.old.value handle.new.value result estimate.old estimate.new (λ s.
+    ensures { WritesDown (reads (⟦<CountMinSketch<V> as Kind>⟧.part)) handle.old.value handle.new.value result estimate.old estimate.new (λ s.
         IsEstimate s (I.bytes item) (V.number estimate.new)) }
 {
-    on_kind!(alloc, handle, CountMinSketch<V>, sketch => {
+    reading_kind!(alloc, handle, CountMinSketch<V>, sketch => {
         *estimate = item.estimate_in(sketch);
         OK
     })
@@ -125,10 +126,10 @@ pub(crate) fn upper_bound<V: CountMinValue, I: Hash + Drop>(
 ) -> i32
 where
     CountMinSketch<V>: Kind,
-    ensures { WritesDown (⟦<CountMinSketch<V> as Kind>⟧.part) handle.old.value handle.new.value result bound.old bound.new
+    ensures { WritesDown (reads (⟦<CountMinSketch<V> as Kind>⟧.part)) handle.old.value handle.new.value result bound.old bound.new
         (IsBound V.greatest (fed_bytes I.hash_input item) (V.number bound.new)) }
 {
-    on_kind!(alloc, handle, CountMinSketch<V>, sketch => {
+    reading_kind!(alloc, handle, CountMinSketch<V>, sketch => {
         *bound = sketch.upper_bound(item);
         OK
     })
@@ -163,12 +164,12 @@ where
     CountMinSketch<V>: Kind,
     ensures length { length estimates.new ≡ length estimates.old }
     ensures each { WritesDownEach (length items.now) handle.old.value handle.new.value result estimates.old estimates.new
-        (EstimatesAll (⟦<CountMinSketch<V> as Kind>⟧.part) handle.old.value handle.new.value result (fed_bytes I.hash_input) items.now (map V.number estimates.new)) }
+        (EstimatesAll (reads (⟦<CountMinSketch<V> as Kind>⟧.part)) handle.old.value handle.new.value result (fed_bytes I.hash_input) items.now (map V.number estimates.new)) }
 {
     if estimates.len() != items.len() {
         return NO_ROOM;
     }
-    on_kind!(alloc, handle, CountMinSketch<V>, sketch => {
+    reading_kind!(alloc, handle, CountMinSketch<V>, sketch => {
         estimate_items(sketch, items, estimates);
         OK
     })
@@ -229,10 +230,10 @@ where
     requires { length estimates.old ≡ length (S.list strings.now) }
     ensures kept { handle.new.value ≡ handle.old.value }
     ensures length { length estimates.new ≡ length estimates.old }
-    ensures estimates { EstimatesAll (⟦<CountMinSketch<V> as Kind>⟧.part) handle.old.value handle.new.value result (fed_bytes fed.str) (S.list strings.now) (map V.number estimates.new) }
+    ensures estimates { EstimatesAll (reads (⟦<CountMinSketch<V> as Kind>⟧.part)) handle.old.value handle.new.value result (fed_bytes fed.str) (S.list strings.now) (map V.number estimates.new) }
     ensures untouched { OnRefused result (estimates.new ≡ estimates.old) }
 {
-    on_kind!(alloc, handle, CountMinSketch<V>, sketch => {
+    reading_kind!(alloc, handle, CountMinSketch<V>, sketch => {
         estimate_strings(sketch, strings, estimates);
         OK
     })
@@ -303,10 +304,10 @@ pub(crate) fn status<V: CountMinValue>(
 ) -> i32
 where
     CountMinSketch<V>: Kind,
-    ensures { WritesDown (⟦<CountMinSketch<V> as Kind>⟧.part) handle.old.value handle.new.value result status.old status.new
+    ensures { WritesDown (reads (⟦<CountMinSketch<V> as Kind>⟧.part)) handle.old.value handle.new.value result status.old status.new
         (AreCountNumbers status.new) }
 {
-    on_kind!(alloc, handle, CountMinSketch<V>, sketch => {
+    reading_kind!(alloc, handle, CountMinSketch<V>, sketch => {
         *status = status_of(sketch);
         OK
     })

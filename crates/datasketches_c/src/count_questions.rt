@@ -7,6 +7,7 @@ ghost use Rattle.sketch_base.specs.Hashes.{fed_bytes};
 ghost use Rattle.datasketches_c.specs.CountCalls.{Bounds, Estimates, EstimatesAll};
 ghost use Rattle.datasketches_c.specs.Kinds.{count_i64_of, count_u64_of};
 ghost use Rattle.datasketches_c.specs.Numbers.{OnRefused, max_i64, max_u64, no_room, refusal_number};
+ghost use Rattle.datasketches_c.specs.Sharing.{reads};
 
 use crate::count;
 use crate::handle::SketchHandle;
@@ -26,7 +27,7 @@ pub extern "C" fn ds_count_min_u64_estimate_u64(
     estimate: &mut u64,
 ) -> i32
     ensures kept { handle.new.value ≡ handle.old.value }
-    ensures estimate { Estimates count_u64_of handle.old.value handle.new.value result (fed_bytes fed.u64 item) (pos estimate.new) }
+    ensures estimate { Estimates (reads count_u64_of) handle.old.value handle.new.value result (fed_bytes fed.u64 item) (pos estimate.new) }
     ensures untouched { OnRefused result (estimate.new ≡ estimate.old) }
 {
     count::estimate(alloc, handle, item, estimate)
@@ -44,7 +45,7 @@ pub extern "C" fn ds_count_min_u64_estimate_i64(
     estimate: &mut u64,
 ) -> i32
     ensures kept { handle.new.value ≡ handle.old.value }
-    ensures estimate { Estimates count_u64_of handle.old.value handle.new.value result (fed_bytes fed.i64 item) (pos estimate.new) }
+    ensures estimate { Estimates (reads count_u64_of) handle.old.value handle.new.value result (fed_bytes fed.i64 item) (pos estimate.new) }
     ensures untouched { OnRefused result (estimate.new ≡ estimate.old) }
 {
     count::estimate(alloc, handle, item, estimate)
@@ -65,7 +66,7 @@ pub extern "C" fn ds_count_min_u64_estimate_string(
 ) -> i32
     ensures kept { handle.new.value ≡ handle.old.value }
     ensures utf8 { IsUtf8 item.now
-        → Estimates count_u64_of handle.old.value handle.new.value result (fed_bytes fed.str item.now) (pos estimate.new) }
+        → Estimates (reads count_u64_of) handle.old.value handle.new.value result (fed_bytes fed.str item.now) (pos estimate.new) }
     ensures invalid_utf8 { ¬ (IsUtf8 item.now) → result ≡ refusal_number Fault.InvalidUtf8 }
     ensures untouched { OnRefused result (estimate.new ≡ estimate.old) }
 {
@@ -84,7 +85,7 @@ pub extern "C" fn ds_count_min_i64_estimate_u64(
     estimate: &mut i64,
 ) -> i32
     ensures kept { handle.new.value ≡ handle.old.value }
-    ensures estimate { Estimates count_i64_of handle.old.value handle.new.value result (fed_bytes fed.u64 item) estimate.new }
+    ensures estimate { Estimates (reads count_i64_of) handle.old.value handle.new.value result (fed_bytes fed.u64 item) estimate.new }
     ensures untouched { OnRefused result (estimate.new ≡ estimate.old) }
 {
     count::estimate(alloc, handle, item, estimate)
@@ -102,7 +103,7 @@ pub extern "C" fn ds_count_min_i64_estimate_i64(
     estimate: &mut i64,
 ) -> i32
     ensures kept { handle.new.value ≡ handle.old.value }
-    ensures estimate { Estimates count_i64_of handle.old.value handle.new.value result (fed_bytes fed.i64 item) estimate.new }
+    ensures estimate { Estimates (reads count_i64_of) handle.old.value handle.new.value result (fed_bytes fed.i64 item) estimate.new }
     ensures untouched { OnRefused result (estimate.new ≡ estimate.old) }
 {
     count::estimate(alloc, handle, item, estimate)
@@ -123,7 +124,7 @@ pub extern "C" fn ds_count_min_i64_estimate_string(
 ) -> i32
     ensures kept { handle.new.value ≡ handle.old.value }
     ensures utf8 { IsUtf8 item.now
-        → Estimates count_i64_of handle.old.value handle.new.value result (fed_bytes fed.str item.now) estimate.new }
+        → Estimates (reads count_i64_of) handle.old.value handle.new.value result (fed_bytes fed.str item.now) estimate.new }
     ensures invalid_utf8 { ¬ (IsUtf8 item.now) → result ≡ refusal_number Fault.InvalidUtf8 }
     ensures untouched { OnRefused result (estimate.new ≡ estimate.old) }
 {
@@ -148,7 +149,7 @@ pub extern "C" fn ds_count_min_u64_estimate_all_u64(
     ensures no_room { length estimates.old ≢ length items.now
         → (result ≡ no_room) × (estimates.new ≡ estimates.old) }
     ensures estimates { length estimates.old ≡ length items.now
-        → EstimatesAll count_u64_of handle.old.value handle.new.value result (fed_bytes fed.u64) items.now (map pos estimates.new) }
+        → EstimatesAll (reads count_u64_of) handle.old.value handle.new.value result (fed_bytes fed.u64) items.now (map pos estimates.new) }
     ensures untouched { OnRefused result (estimates.new ≡ estimates.old) }
 {
     count::estimate_all(alloc, handle, items, estimates)
@@ -172,7 +173,7 @@ pub extern "C" fn ds_count_min_u64_estimate_all_i64(
     ensures no_room { length estimates.old ≢ length items.now
         → (result ≡ no_room) × (estimates.new ≡ estimates.old) }
     ensures estimates { length estimates.old ≡ length items.now
-        → EstimatesAll count_u64_of handle.old.value handle.new.value result (fed_bytes fed.i64) items.now (map pos estimates.new) }
+        → EstimatesAll (reads count_u64_of) handle.old.value handle.new.value result (fed_bytes fed.i64) items.now (map pos estimates.new) }
     ensures untouched { OnRefused result (estimates.new ≡ estimates.old) }
 {
     count::estimate_all(alloc, handle, items, estimates)
@@ -196,7 +197,7 @@ pub extern "C" fn ds_count_min_i64_estimate_all_u64(
     ensures no_room { length estimates.old ≢ length items.now
         → (result ≡ no_room) × (estimates.new ≡ estimates.old) }
     ensures estimates { length estimates.old ≡ length items.now
-        → EstimatesAll count_i64_of handle.old.value handle.new.value result (fed_bytes fed.u64) items.now estimates.new }
+        → EstimatesAll (reads count_i64_of) handle.old.value handle.new.value result (fed_bytes fed.u64) items.now estimates.new }
     ensures untouched { OnRefused result (estimates.new ≡ estimates.old) }
 {
     count::estimate_all(alloc, handle, items, estimates)
@@ -220,7 +221,7 @@ pub extern "C" fn ds_count_min_i64_estimate_all_i64(
     ensures no_room { length estimates.old ≢ length items.now
         → (result ≡ no_room) × (estimates.new ≡ estimates.old) }
     ensures estimates { length estimates.old ≡ length items.now
-        → EstimatesAll count_i64_of handle.old.value handle.new.value result (fed_bytes fed.i64) items.now estimates.new }
+        → EstimatesAll (reads count_i64_of) handle.old.value handle.new.value result (fed_bytes fed.i64) items.now estimates.new }
     ensures untouched { OnRefused result (estimates.new ≡ estimates.old) }
 {
     count::estimate_all(alloc, handle, items, estimates)
@@ -239,7 +240,7 @@ pub extern "C" fn ds_count_min_u64_upper_bound_u64(
     bound: &mut u64,
 ) -> i32
     ensures kept { handle.new.value ≡ handle.old.value }
-    ensures bound { Bounds count_u64_of max_u64 handle.old.value handle.new.value result (fed_bytes fed.u64 item) (pos bound.new) }
+    ensures bound { Bounds (reads count_u64_of) max_u64 handle.old.value handle.new.value result (fed_bytes fed.u64 item) (pos bound.new) }
     ensures untouched { OnRefused result (bound.new ≡ bound.old) }
 {
     count::upper_bound(alloc, handle, item, bound)
@@ -258,7 +259,7 @@ pub extern "C" fn ds_count_min_u64_upper_bound_i64(
     bound: &mut u64,
 ) -> i32
     ensures kept { handle.new.value ≡ handle.old.value }
-    ensures bound { Bounds count_u64_of max_u64 handle.old.value handle.new.value result (fed_bytes fed.i64 item) (pos bound.new) }
+    ensures bound { Bounds (reads count_u64_of) max_u64 handle.old.value handle.new.value result (fed_bytes fed.i64 item) (pos bound.new) }
     ensures untouched { OnRefused result (bound.new ≡ bound.old) }
 {
     count::upper_bound(alloc, handle, item, bound)
@@ -280,7 +281,7 @@ pub extern "C" fn ds_count_min_u64_upper_bound_string(
 ) -> i32
     ensures kept { handle.new.value ≡ handle.old.value }
     ensures utf8 { IsUtf8 item.now
-        → Bounds count_u64_of max_u64 handle.old.value handle.new.value result (fed_bytes fed.str item.now) (pos bound.new) }
+        → Bounds (reads count_u64_of) max_u64 handle.old.value handle.new.value result (fed_bytes fed.str item.now) (pos bound.new) }
     ensures invalid_utf8 { ¬ (IsUtf8 item.now) → result ≡ refusal_number Fault.InvalidUtf8 }
     ensures untouched { OnRefused result (bound.new ≡ bound.old) }
 {
@@ -300,7 +301,7 @@ pub extern "C" fn ds_count_min_i64_upper_bound_u64(
     bound: &mut i64,
 ) -> i32
     ensures kept { handle.new.value ≡ handle.old.value }
-    ensures bound { Bounds count_i64_of max_i64 handle.old.value handle.new.value result (fed_bytes fed.u64 item) bound.new }
+    ensures bound { Bounds (reads count_i64_of) max_i64 handle.old.value handle.new.value result (fed_bytes fed.u64 item) bound.new }
     ensures untouched { OnRefused result (bound.new ≡ bound.old) }
 {
     count::upper_bound(alloc, handle, item, bound)
@@ -319,7 +320,7 @@ pub extern "C" fn ds_count_min_i64_upper_bound_i64(
     bound: &mut i64,
 ) -> i32
     ensures kept { handle.new.value ≡ handle.old.value }
-    ensures bound { Bounds count_i64_of max_i64 handle.old.value handle.new.value result (fed_bytes fed.i64 item) bound.new }
+    ensures bound { Bounds (reads count_i64_of) max_i64 handle.old.value handle.new.value result (fed_bytes fed.i64 item) bound.new }
     ensures untouched { OnRefused result (bound.new ≡ bound.old) }
 {
     count::upper_bound(alloc, handle, item, bound)
@@ -341,7 +342,7 @@ pub extern "C" fn ds_count_min_i64_upper_bound_string(
 ) -> i32
     ensures kept { handle.new.value ≡ handle.old.value }
     ensures utf8 { IsUtf8 item.now
-        → Bounds count_i64_of max_i64 handle.old.value handle.new.value result (fed_bytes fed.str item.now) bound.new }
+        → Bounds (reads count_i64_of) max_i64 handle.old.value handle.new.value result (fed_bytes fed.str item.now) bound.new }
     ensures invalid_utf8 { ¬ (IsUtf8 item.now) → result ≡ refusal_number Fault.InvalidUtf8 }
     ensures untouched { OnRefused result (bound.new ≡ bound.old) }
 {

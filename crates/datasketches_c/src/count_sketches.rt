@@ -1,19 +1,21 @@
 //! Calls on whole Count-Min sketches: create, merge, halve, decay, describe, write and read.
-ghost use Rattle.std.specs.Prelude.{None, Some, pos, ◌<◌, ◌≡◌, ◌≢◌, ◌≤◌};
+ghost use Rattle.std.specs.Prelude.{None, Some, pos, length, ◌<◌, ◌≡◌, ◌≢◌, ◌≤◌};
 ghost use Rattle.sketch_base.specs.Errors.{refusal_of};
 ghost use Rattle.sketch_countmin.specs.History.CountHistory.{Decay, Halve, New};
-ghost use Rattle.sketch_countmin.specs.Image.{IsSpelled, early_fault_within, first_fault_within};
+ghost use Rattle.sketch_countmin.specs.Image.{IsSpelled, image_bytes, early_fault_within, first_fault_within};
 ghost use Rattle.sketch_countmin.specs.Shapes.{shape_fault};
 ghost use Rattle.sketch_countmin.specs.Stands.{Extends, StandsFor};
 ghost use Rattle.sketch_countmin.specs.State.{decayed_state, empty_state, halved_state};
 ghost use Rattle.datasketches_c.specs.CountCalls.{Describes, MergesInto};
 ghost use Rattle.datasketches_c.specs.CountImages.{IsRestored};
-ghost use Rattle.datasketches_c.specs.Images.{IsRefusedImage, WritesImage};
+ghost use Rattle.datasketches_c.specs.Images.{IsRefusedImage, TellsRoom, WritesImage};
 ghost use Rattle.datasketches_c.specs.Kinds.{HoldsCountI64, HoldsCountU64, OnCountU64, OnKind, count_i64_of, count_u64_of};
 ghost use Rattle.datasketches_c.specs.Numbers.{OnDone, OnRefused, bad_fraction, max_i64, max_u64, min_i64, no_room, ok, refusal_number};
 ghost use Rattle.datasketches_c.specs.declared.any_sketch.AnySketch.TheVariants.{CountI64, CountU64};
+ghost use Rattle.datasketches_c.specs.Sharing.{reads};
 
 use crate::count::{self, CountStatus};
+use crate::count_images;
 use crate::handle::SketchHandle;
 use crate::images::to_bytes;
 use crate::kind::on_kind;
@@ -179,7 +181,7 @@ pub extern "C" fn ds_count_min_u64_get_status(
 ) -> i32
     ensures kept { handle.new.value ≡ handle.old.value }
     ensures untouched { OnRefused result (status.new ≡ status.old) }
-    ensures numbers { Describes count_u64_of handle.old.value handle.new.value result status.new }
+    ensures numbers { Describes (reads count_u64_of) handle.old.value handle.new.value result status.new }
 {
     count::status::<u64>(alloc, handle, status)
 }
@@ -197,18 +199,34 @@ pub extern "C" fn ds_count_min_i64_get_status(
 ) -> i32
     ensures kept { handle.new.value ≡ handle.old.value }
     ensures untouched { OnRefused result (status.new ≡ status.old) }
-    ensures numbers { Describes count_i64_of handle.old.value handle.new.value result status.new }
+    ensures numbers { Describes (reads count_i64_of) handle.old.value handle.new.value result status.new }
 {
     count::status::<i64>(alloc, handle, status)
 }
 
+/// Writes the length in bytes of the sketch's image, in constant time.
+///
+/// Returns `NO_SKETCH` if the handle has no sketch, and `WRONG_KIND` if its sketch is of another kind. Then nothing
+/// changes.
+#[unsafe(no_mangle)]
+pub extern "C" fn ds_count_min_u64_serialized_bytes(
+    alloc: Global,
+    handle: &mut SketchHandle,
+    bytes: &mut usize,
+) -> i32
+    ensures kept { handle.new.value ≡ handle.old.value }
+    ensures untouched { OnRefused result (bytes.new ≡ bytes.old) }
+    ensures bytes { OnKind (reads count_u64_of) handle.old.value handle.new.value result (λ s.
+        (result ≡ ok) × (bytes.new ≡ image_bytes s)) }
+{
+    count_images::serialized_bytes::<u64>(alloc, handle, bytes)
+}
+
 /// Writes the sketch's image to the front of `out`, and the image's length in bytes to `written`. The rest of `out`
-/// stays as it was.
+/// stays as it was. Does not allocate.
 ///
-/// Returns the first of these errors, and then changes nothing:
-///
-/// - `NO_SKETCH` if the handle has no sketch, and `WRONG_KIND` if its sketch is of another kind.
-/// - `NoMemory` if an allocation fails.
+/// Returns `NO_SKETCH` if the handle has no sketch, and `WRONG_KIND` if its sketch is of another kind. Then nothing
+/// changes.
 ///
 /// Returns `NO_ROOM` if the image is longer than `out`. Then `written` is the image's length, and `out` is unchanged.
 #[unsafe(no_mangle)]
@@ -221,19 +239,37 @@ pub extern "C" fn ds_count_min_u64_serialize(
     ensures kept { handle.new.value ≡ handle.old.value }
     ensures untouched { OnRefused result (out.new ≡ out.old) }
     ensures uncounted { result ≢ ok → result ≢ no_room → written.new ≡ written.old }
-    ensures image { OnKind count_u64_of handle.old.value handle.new.value result (λ s.
+    ensures image { OnKind (reads count_u64_of) handle.old.value handle.new.value result (λ s.
         WritesImage (λ image. IsSpelled (pos 0) max_u64 image s) out.old out.new written.new result) }
+    ensures room { OnKind (reads count_u64_of) handle.old.value handle.new.value result (λ s.
+        TellsRoom (image_bytes s) (length out.old) written.new result) }
 {
     to_bytes::<CountMinSketch<u64>>(alloc, handle, out, written)
 }
 
+/// Writes the length in bytes of the sketch's image, in constant time.
+///
+/// Returns `NO_SKETCH` if the handle has no sketch, and `WRONG_KIND` if its sketch is of another kind. Then nothing
+/// changes.
+#[unsafe(no_mangle)]
+pub extern "C" fn ds_count_min_i64_serialized_bytes(
+    alloc: Global,
+    handle: &mut SketchHandle,
+    bytes: &mut usize,
+) -> i32
+    ensures kept { handle.new.value ≡ handle.old.value }
+    ensures untouched { OnRefused result (bytes.new ≡ bytes.old) }
+    ensures bytes { OnKind (reads count_i64_of) handle.old.value handle.new.value result (λ s.
+        (result ≡ ok) × (bytes.new ≡ image_bytes s)) }
+{
+    count_images::serialized_bytes::<i64>(alloc, handle, bytes)
+}
+
 /// Writes the sketch's image to the front of `out`, and the image's length in bytes to `written`. The rest of `out`
-/// stays as it was.
+/// stays as it was. Does not allocate.
 ///
-/// Returns the first of these errors, and then changes nothing:
-///
-/// - `NO_SKETCH` if the handle has no sketch, and `WRONG_KIND` if its sketch is of another kind.
-/// - `NoMemory` if an allocation fails.
+/// Returns `NO_SKETCH` if the handle has no sketch, and `WRONG_KIND` if its sketch is of another kind. Then nothing
+/// changes.
 ///
 /// Returns `NO_ROOM` if the image is longer than `out`. Then `written` is the image's length, and `out` is unchanged.
 #[unsafe(no_mangle)]
@@ -246,8 +282,10 @@ pub extern "C" fn ds_count_min_i64_serialize(
     ensures kept { handle.new.value ≡ handle.old.value }
     ensures untouched { OnRefused result (out.new ≡ out.old) }
     ensures uncounted { result ≢ ok → result ≢ no_room → written.new ≡ written.old }
-    ensures image { OnKind count_i64_of handle.old.value handle.new.value result (λ s.
+    ensures image { OnKind (reads count_i64_of) handle.old.value handle.new.value result (λ s.
         WritesImage (λ image. IsSpelled min_i64 max_i64 image s) out.old out.new written.new result) }
+    ensures room { OnKind (reads count_i64_of) handle.old.value handle.new.value result (λ s.
+        TellsRoom (image_bytes s) (length out.old) written.new result) }
 {
     to_bytes::<CountMinSketch<i64>>(alloc, handle, out, written)
 }

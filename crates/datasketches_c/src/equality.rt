@@ -3,9 +3,10 @@ ghost use Rattle.std.specs.Prelude.{◌≡◌, if◌then◌else◌};
 ghost use Rattle.datasketches_c.specs.Equality.{ComparesWith};
 ghost use Rattle.datasketches_c.specs.Kinds.{OnKind, count_i64_of, count_u64_of, filter_of};
 ghost use Rattle.datasketches_c.specs.Numbers.{no, yes};
+ghost use Rattle.datasketches_c.specs.Sharing.{reads};
 
 use crate::handle::SketchHandle;
-use crate::kind::{Kind, on_kind};
+use crate::kind::{Kind, reading_kind};
 use crate::status_code::{NO, YES};
 use sketch_bloom::BloomFilter;
 use sketch_countmin::CountMinSketch;
@@ -14,10 +15,10 @@ use std::alloc::Global;
 /// Compares a sketch with that of a handle, which keeps it.
 fn equal_to<K: Kind + PartialEq>(alloc: Global, sketch: &K, handle: &mut SketchHandle) -> i32
     ensures kept { handle.new.value ≡ handle.old.value }
-    ensures call { OnKind K.part handle.old.value handle.new.value result (λ b.
+    ensures call { OnKind (reads K.part) handle.old.value handle.new.value result (λ b.
         result ≡ (if K.eq sketch.now b then yes else no)) }
 {
-    on_kind!(alloc, handle, K, other => { if *sketch == *other { YES } else { NO } })
+    reading_kind!(alloc, handle, K, other => { if *sketch == *other { YES } else { NO } })
 }
 
 /// Compares the sketches of two handles, which keep them.
@@ -28,11 +29,11 @@ fn equal<K: Kind + PartialEq>(
 ) -> i32
     ensures kept { handle.new.value ≡ handle.old.value }
     ensures other { other.new.value ≡ other.old.value }
-    ensures call { OnKind K.part handle.old.value handle.new.value result (λ a.
-        OnKind K.part other.old.value other.new.value result (λ b.
+    ensures call { OnKind (reads K.part) handle.old.value handle.new.value result (λ a.
+        OnKind (reads K.part) other.old.value other.new.value result (λ b.
         result ≡ (if K.eq a b then yes else no))) }
 {
-    on_kind!(alloc, handle, K, sketch => equal_to(alloc, sketch, other))
+    reading_kind!(alloc, handle, K, sketch => equal_to(alloc, sketch, other))
 }
 
 /// Returns `YES` if both filters have the same number of words, number of hashes, seed and positions, and `NO`
@@ -48,7 +49,7 @@ pub extern "C" fn ds_bloom_equal(
 ) -> i32
     ensures kept { handle.new.value ≡ handle.old.value }
     ensures other { other.new.value ≡ other.old.value }
-    ensures call { ComparesWith filter_of handle.old.value handle.new.value result other.old.value other.new.value }
+    ensures call { ComparesWith (reads filter_of) handle.old.value handle.new.value result other.old.value other.new.value }
 {
     equal::<BloomFilter>(alloc, handle, other)
 }
@@ -66,7 +67,7 @@ pub extern "C" fn ds_count_min_u64_equal(
 ) -> i32
     ensures kept { handle.new.value ≡ handle.old.value }
     ensures other { other.new.value ≡ other.old.value }
-    ensures call { ComparesWith count_u64_of handle.old.value handle.new.value result other.old.value other.new.value }
+    ensures call { ComparesWith (reads count_u64_of) handle.old.value handle.new.value result other.old.value other.new.value }
 {
     equal::<CountMinSketch<u64>>(alloc, handle, other)
 }
@@ -84,7 +85,7 @@ pub extern "C" fn ds_count_min_i64_equal(
 ) -> i32
     ensures kept { handle.new.value ≡ handle.old.value }
     ensures other { other.new.value ≡ other.old.value }
-    ensures call { ComparesWith count_i64_of handle.old.value handle.new.value result other.old.value other.new.value }
+    ensures call { ComparesWith (reads count_i64_of) handle.old.value handle.new.value result other.old.value other.new.value }
 {
     equal::<CountMinSketch<i64>>(alloc, handle, other)
 }

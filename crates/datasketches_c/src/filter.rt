@@ -8,20 +8,20 @@ ghost use Rattle.sketch_base.specs.Hashes.{fed_bytes};
 ghost use Rattle.sketch_bloom.specs.Building.{request_fault, words_for};
 ghost use Rattle.sketch_bloom.specs.History.{all_inserted_after};
 ghost use Rattle.sketch_bloom.specs.History.BloomHistory.{Difference, Insert, Intersection, New, Reset, Union};
-ghost use Rattle.sketch_bloom.specs.Image.{IsSpelled, early_fault_within, first_fault_within};
+ghost use Rattle.sketch_bloom.specs.Image.{IsSpelled, image_bytes, early_fault_within, first_fault_within};
 ghost use Rattle.sketch_bloom.specs.Stands.{Extends, ExtendsBoth, StandsFor};
 ghost use Rattle.sketch_bloom.specs.State.{empty_state, contains_item, inserted, all_inserted, IsCompatible, united, intersected, subtracted, capacity_of, cleared};
-ghost use Rattle.datasketches_c.specs.Images.{WritesImage, IsRefusedImage};
+ghost use Rattle.datasketches_c.specs.Images.{WritesImage, WritesSizedImage, TellsRoom, IsRefusedImage};
 ghost use Rattle.datasketches_c.specs.FilterImages.{IsRestored};
 ghost use Rattle.datasketches_c.specs.Joining.{IsCombined};
-ghost use Rattle.datasketches_c.specs.Kinds.{OnFilter, HoldsFilter};
+ghost use Rattle.datasketches_c.specs.Kinds.{OnFilter, HoldsFilter, ReadsFilter};
 ghost use Rattle.datasketches_c.specs.Numbers.{OnDone, OnRefused, ok, no, yes, no_room, refusal_number};
 ghost use Rattle.datasketches_c.specs.declared.any_sketch.AnySketch.TheVariants.{Filter};
 
 use crate::handle::SketchHandle;
-use crate::images::{HasImage, copy_out, to_bytes};
+use crate::images::{HasImage, to_bytes};
 use crate::join::{Joins, join};
-use crate::kind::on_kind;
+use crate::kind::{on_kind, reading_kind};
 use crate::making::put_made;
 use crate::status_code::{NO, NO_ROOM, OK, YES, refusal_number};
 use crate::strings::on_string;
@@ -186,20 +186,20 @@ pub extern "C" fn ds_bloom_insert_all_i64(
 #[inline]
 fn contains<I: Hash>(alloc: Global, handle: &mut SketchHandle, item: &I) -> i32
     ensures kept { handle.new.value ≡ handle.old.value }
-    ensures answer { OnFilter handle.old.value handle.new.value result (λ s.
+    ensures answer { ReadsFilter handle.old.value handle.new.value result (λ s.
         result ≡ (if contains_item s (fed_bytes I.hash_input item.now) then yes else no)) }
 {
-    on_kind!(alloc, handle, BloomFilter, filter => { if filter.contains(item) { YES } else { NO } })
+    reading_kind!(alloc, handle, BloomFilter, filter => { if filter.contains(item) { YES } else { NO } })
 }
 
 /// Returns whether the filter of a handle contains a string, as `YES` or `NO`.
 #[inline]
 fn contains_str(alloc: Global, handle: &mut SketchHandle, item: &str) -> i32
     ensures kept { handle.new.value ≡ handle.old.value }
-    ensures answer { OnFilter handle.old.value handle.new.value result (λ s.
+    ensures answer { ReadsFilter handle.old.value handle.new.value result (λ s.
         result ≡ (if contains_item s (fed_bytes fed.str item.now) then yes else no)) }
 {
-    on_kind!(alloc, handle, BloomFilter, filter => { if filter.contains_str(item) { YES } else { NO } })
+    reading_kind!(alloc, handle, BloomFilter, filter => { if filter.contains_str(item) { YES } else { NO } })
 }
 
 /// Returns `YES` if the filter contains a number, and `NO` otherwise.
@@ -209,7 +209,7 @@ fn contains_str(alloc: Global, handle: &mut SketchHandle, item: &str) -> i32
 #[unsafe(no_mangle)]
 pub extern "C" fn ds_bloom_contains_u64(alloc: Global, handle: &mut SketchHandle, item: u64) -> i32
     ensures kept { handle.new.value ≡ handle.old.value }
-    ensures answer { OnFilter handle.old.value handle.new.value result (λ s.
+    ensures answer { ReadsFilter handle.old.value handle.new.value result (λ s.
         result ≡ (if contains_item s (fed_bytes fed.u64 item) then yes else no)) }
 {
     contains(alloc, handle, &item)
@@ -222,7 +222,7 @@ pub extern "C" fn ds_bloom_contains_u64(alloc: Global, handle: &mut SketchHandle
 #[unsafe(no_mangle)]
 pub extern "C" fn ds_bloom_contains_i64(alloc: Global, handle: &mut SketchHandle, item: i64) -> i32
     ensures kept { handle.new.value ≡ handle.old.value }
-    ensures answer { OnFilter handle.old.value handle.new.value result (λ s.
+    ensures answer { ReadsFilter handle.old.value handle.new.value result (λ s.
         result ≡ (if contains_item s (fed_bytes fed.i64 item) then yes else no)) }
 {
     contains(alloc, handle, &item)
@@ -241,7 +241,7 @@ pub extern "C" fn ds_bloom_contains_string(
     item: &[u8],
 ) -> i32
     ensures kept { handle.new.value ≡ handle.old.value }
-    ensures utf8 { IsUtf8 item.now → OnFilter handle.old.value handle.new.value result (λ s.
+    ensures utf8 { IsUtf8 item.now → ReadsFilter handle.old.value handle.new.value result (λ s.
         result ≡ (if contains_item s (fed_bytes fed.str item.now) then yes else no)) }
     ensures invalid_utf8 { ¬ (IsUtf8 item.now) → result ≡ refusal_number Fault.InvalidUtf8 }
 {
@@ -260,14 +260,14 @@ fn contains_all<I: Hash>(
     ensures kept { handle.new.value ≡ handle.old.value }
     ensures no_room { length answers.old ≢ length items.now → (result ≡ no_room) × (answers.new ≡ answers.old) }
     ensures answers { length answers.old ≡ length items.now
-        → OnFilter handle.old.value handle.new.value result (λ s. (result ≡ ok)
+        → ReadsFilter handle.old.value handle.new.value result (λ s. (result ≡ ok)
         × (answers.new ≡ map (λ item. contains_item s (fed_bytes I.hash_input item)) items.now)) }
     ensures untouched { OnRefused result (answers.new ≡ answers.old) }
 {
     if answers.len() != items.len() {
         return NO_ROOM;
     }
-    on_kind!(alloc, handle, BloomFilter, filter => {
+    reading_kind!(alloc, handle, BloomFilter, filter => {
         filter.contains_all(items, answers);
         OK
     })
@@ -289,7 +289,7 @@ pub extern "C" fn ds_bloom_contains_all_u64(
     ensures kept { handle.new.value ≡ handle.old.value }
     ensures no_room { length answers.old ≢ length items.now → (result ≡ no_room) × (answers.new ≡ answers.old) }
     ensures answers { length answers.old ≡ length items.now
-        → OnFilter handle.old.value handle.new.value result (λ s. (result ≡ ok)
+        → ReadsFilter handle.old.value handle.new.value result (λ s. (result ≡ ok)
         × (answers.new ≡ map (λ item. contains_item s (fed_bytes fed.u64 item)) items.now)) }
     ensures untouched { OnRefused result (answers.new ≡ answers.old) }
 {
@@ -312,7 +312,7 @@ pub extern "C" fn ds_bloom_contains_all_i64(
     ensures kept { handle.new.value ≡ handle.old.value }
     ensures no_room { length answers.old ≢ length items.now → (result ≡ no_room) × (answers.new ≡ answers.old) }
     ensures answers { length answers.old ≡ length items.now
-        → OnFilter handle.old.value handle.new.value result (λ s. (result ≡ ok)
+        → ReadsFilter handle.old.value handle.new.value result (λ s. (result ≡ ok)
         × (answers.new ≡ map (λ item. contains_item s (fed_bytes fed.i64 item)) items.now)) }
     ensures untouched { OnRefused result (answers.new ≡ answers.old) }
 {
@@ -359,7 +359,7 @@ pub extern "C" fn ds_bloom_union(
     ensures other { other.new.value ≡ other.old.value }
     ensures refused { OnRefused result (handle.new.value ≡ handle.old.value) }
     ensures call { OnFilter handle.old.value handle.new.value result (λ a.
-        OnFilter other.old.value other.new.value result (λ b.
+        ReadsFilter other.old.value other.new.value result (λ b.
         (IsCompatible a b → (result ≡ ok) × (handle.new.value ≡ Some (Filter (united a b)))
         × ExtendsBoth a b (united a b) Union)
         × (¬ IsCompatible a b → result ≡ refusal_number Fault.Mismatch))) }
@@ -383,7 +383,7 @@ pub extern "C" fn ds_bloom_intersect(
     ensures other { other.new.value ≡ other.old.value }
     ensures refused { OnRefused result (handle.new.value ≡ handle.old.value) }
     ensures call { OnFilter handle.old.value handle.new.value result (λ a.
-        OnFilter other.old.value other.new.value result (λ b.
+        ReadsFilter other.old.value other.new.value result (λ b.
         (IsCompatible a b → (result ≡ ok) × (handle.new.value ≡ Some (Filter (intersected a b)))
         × ExtendsBoth a b (intersected a b) Intersection)
         × (¬ IsCompatible a b → result ≡ refusal_number Fault.Mismatch))) }
@@ -407,7 +407,7 @@ pub extern "C" fn ds_bloom_difference(
     ensures other { other.new.value ≡ other.old.value }
     ensures refused { OnRefused result (handle.new.value ≡ handle.old.value) }
     ensures call { OnFilter handle.old.value handle.new.value result (λ a.
-        OnFilter other.old.value other.new.value result (λ b.
+        ReadsFilter other.old.value other.new.value result (λ b.
         (IsCompatible a b → (result ≡ ok) × (handle.new.value ≡ Some (Filter (subtracted a b)))
         × ExtendsBoth a b (subtracted a b) Difference)
         × (¬ IsCompatible a b → result ≡ refusal_number Fault.Mismatch))) }
@@ -452,11 +452,11 @@ pub extern "C" fn ds_bloom_get_status(
 ) -> i32
     ensures kept { handle.new.value ≡ handle.old.value }
     ensures untouched { OnRefused result (status.new ≡ status.old) }
-    ensures numbers { OnFilter handle.old.value handle.new.value result (λ s. (result ≡ ok)
+    ensures numbers { ReadsFilter handle.old.value handle.new.value result (λ s. (result ≡ ok)
         × (status.new.bits_used ≡ set.len s.set) × (status.new.capacity ≡ capacity_of s)
         × (status.new.seed ≡ s.seed) × (status.new.num_hashes ≡ s.num_hashes)) }
 {
-    on_kind!(alloc, handle, BloomFilter, filter => {
+    reading_kind!(alloc, handle, BloomFilter, filter => {
         *status = FilterStatus {
             bits_used: filter.bits_used(),
             capacity: filter.capacity() as u64,
@@ -468,23 +468,48 @@ pub extern "C" fn ds_bloom_get_status(
 }
 
 impl HasImage for BloomFilter {
-    ghost writes = { λ s. WritesImage (λ image. IsSpelled image s) };
+    ghost writes = { λ s. WritesSizedImage (λ image. IsSpelled image s) (image_bytes s) };
 
     fn write_to(&self, out: &mut [u8], written: &mut usize) -> i32 {
-        match self.serialize() {
-            Ok(image) => copy_out(&image, out, written),
-            Err(error) => refusal_number(error.fault()),
+        match self.serialize_into(out) {
+            Some(length) => {
+                *written = length;
+                OK
+            }
+            None => {
+                *written = self.serialized_size();
+                NO_ROOM
+            }
         }
     }
 }
 
+/// Writes the length in bytes of the filter's image, in constant time.
+///
+/// Returns `NO_SKETCH` if the handle has no sketch, and `WRONG_KIND` if its sketch is of another kind. Then nothing
+/// changes.
+#[unsafe(no_mangle)]
+pub extern "C" fn ds_bloom_serialized_bytes(
+    alloc: Global,
+    handle: &mut SketchHandle,
+    bytes: &mut usize,
+) -> i32
+    ensures kept { handle.new.value ≡ handle.old.value }
+    ensures untouched { OnRefused result (bytes.new ≡ bytes.old) }
+    ensures bytes { ReadsFilter handle.old.value handle.new.value result (λ s.
+        (result ≡ ok) × (bytes.new ≡ image_bytes s)) }
+{
+    reading_kind!(alloc, handle, BloomFilter, filter => {
+        *bytes = filter.serialized_size();
+        OK
+    })
+}
+
 /// Writes the filter's image to the front of `out`, and the image's length in bytes to `written`. The rest of `out`
-/// stays as it was.
+/// stays as it was. Does not allocate.
 ///
-/// Returns the first of these errors, and then changes nothing:
-///
-/// - `NO_SKETCH` if the handle has no sketch, and `WRONG_KIND` if its sketch is of another kind.
-/// - `NoMemory` if an allocation fails.
+/// Returns `NO_SKETCH` if the handle has no sketch, and `WRONG_KIND` if its sketch is of another kind. Then nothing
+/// changes.
 ///
 /// Returns `NO_ROOM` if the image is longer than `out`. Then `written` is the image's length, and `out` is unchanged.
 #[unsafe(no_mangle)]
@@ -497,8 +522,10 @@ pub extern "C" fn ds_bloom_serialize(
     ensures kept { handle.new.value ≡ handle.old.value }
     ensures untouched { OnRefused result (out.new ≡ out.old) }
     ensures uncounted { result ≢ ok → result ≢ no_room → written.new ≡ written.old }
-    ensures image { OnFilter handle.old.value handle.new.value result (λ s.
+    ensures image { ReadsFilter handle.old.value handle.new.value result (λ s.
         WritesImage (λ image. IsSpelled image s) out.old out.new written.new result) }
+    ensures room { ReadsFilter handle.old.value handle.new.value result (λ s.
+        TellsRoom (image_bytes s) (length out.old) written.new result) }
 {
     to_bytes::<BloomFilter>(alloc, handle, out, written)
 }

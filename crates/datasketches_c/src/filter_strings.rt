@@ -5,12 +5,12 @@ ghost use Rattle.sketch_base.specs.Hashes.{fed_bytes};
 ghost use Rattle.sketch_bloom.specs.History.{all_inserted_after};
 ghost use Rattle.sketch_bloom.specs.Stands.{Extends};
 ghost use Rattle.sketch_bloom.specs.State.{contains_item, all_inserted};
-ghost use Rattle.datasketches_c.specs.Kinds.{OnFilter};
+ghost use Rattle.datasketches_c.specs.Kinds.{OnFilter, ReadsFilter};
 ghost use Rattle.datasketches_c.specs.Numbers.{OnRefused, ok};
 ghost use Rattle.datasketches_c.specs.declared.any_sketch.AnySketch.TheVariants.{Filter};
 
 use crate::handle::SketchHandle;
-use crate::kind::on_kind;
+use crate::kind::{on_kind, reading_kind};
 use crate::status_code::OK;
 use sketch_base::Strings;
 use sketch_bloom::BloomFilter;
@@ -44,11 +44,11 @@ pub(crate) fn contains_all_strings<S: Strings>(
 ) -> i32
     requires { length answers.old ≡ length (S.list strings.now) }
     ensures kept { handle.new.value ≡ handle.old.value }
-    ensures answers { OnFilter handle.old.value handle.new.value result (λ s. (result ≡ ok)
+    ensures answers { ReadsFilter handle.old.value handle.new.value result (λ s. (result ≡ ok)
         × (answers.new ≡ map (λ string. contains_item s (fed_bytes fed.str string)) (S.list strings.now))) }
     ensures untouched { OnRefused result (answers.new ≡ answers.old) }
 {
-    on_kind!(alloc, handle, BloomFilter, filter => {
+    reading_kind!(alloc, handle, BloomFilter, filter => {
         filter.contains_strings(strings, answers);
         OK
     })

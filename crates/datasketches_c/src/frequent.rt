@@ -10,12 +10,13 @@ ghost use Rattle.datasketches_c.specs.FrequentStringImages.{WritesFrequentString
 ghost use Rattle.datasketches_c.specs.FrequentStrings.{strings_eq};
 ghost use Rattle.datasketches_c.specs.Kinds.{OnKind, HoldsKind, WritesDown, WritesDownEach};
 ghost use Rattle.datasketches_c.specs.Numbers.{OnRefused, ok, no_room, refusal_number};
+ghost use Rattle.datasketches_c.specs.Sharing.{reads};
 
 use crate::frequent_rows::write_rows;
 use crate::handle::SketchHandle;
 use crate::images::{HasImage, copy_out};
 use crate::join::Joins;
-use crate::kind::{Kind, on_kind};
+use crate::kind::{Kind, on_kind, reading_kind};
 use crate::status_code::{NO_ROOM, OK, refusal_number};
 use sketch_base::Fault;
 use sketch_frequencies::{FrequentItemValue, FrequentItemsSketch, ItemBounds};
@@ -143,10 +144,10 @@ pub(crate) fn bounds<T: Eq + Hash + Drop>(
 ) -> i32
 where
     FrequentItemsSketch<T>: Kind,
-    ensures { WritesDown (⟦<FrequentItemsSketch<T> as Kind>⟧.part) handle.old.value handle.new.value result bounds.old bounds.new (λ s.
+    ensures { WritesDown (reads (⟦<FrequentItemsSketch<T> as Kind>⟧.part)) handle.old.value handle.new.value result bounds.old bounds.new (λ s.
         AreBounds T.eq s item.now bounds.new) }
 {
-    on_kind!(alloc, handle, FrequentItemsSketch<T>, sketch => {
+    reading_kind!(alloc, handle, FrequentItemsSketch<T>, sketch => {
         *bounds = bounds_of(sketch, item);
         OK
     })
@@ -175,13 +176,13 @@ pub(crate) fn bounds_all<T: Eq + Hash + Drop>(
 where
     FrequentItemsSketch<T>: Kind,
     ensures { WritesDownEach (length items.now) handle.old.value handle.new.value result bounds.old bounds.new
-        (OnKind (⟦<FrequentItemsSketch<T> as Kind>⟧.part) handle.old.value handle.new.value result (λ s.
+        (OnKind (reads (⟦<FrequentItemsSketch<T> as Kind>⟧.part)) handle.old.value handle.new.value result (λ s.
         (result ≡ ok) × AreBoundsOfAll T.eq s items.now bounds.new)) }
 {
     if bounds.len() != items.len() {
         return NO_ROOM;
     }
-    on_kind!(alloc, handle, FrequentItemsSketch<T>, sketch => {
+    reading_kind!(alloc, handle, FrequentItemsSketch<T>, sketch => {
         bounds_of_all(sketch, items, bounds);
         OK
     })
@@ -242,11 +243,11 @@ where
     requires clones { (x y : T) → T.is_clone x y → IsTrue (T.eq x y) }
     ensures kept { handle.new.value ≡ handle.old.value }
     ensures left { LeavesRows items.old items.new bounds.old bounds.new count.old count.new result }
-    ensures rows { OnKind (⟦<FrequentItemsSketch<T> as Kind>⟧.part) handle.old.value handle.new.value result (λ s.
+    ensures rows { OnKind (reads (⟦<FrequentItemsSketch<T> as Kind>⟧.part)) handle.old.value handle.new.value result (λ s.
         WritesRows T.eq (error_type no_false_negatives) threshold s items.old items.new bounds.old bounds.new count.new
         result) }
 {
-    on_kind!(alloc, handle, FrequentItemsSketch<T>, sketch => {
+    reading_kind!(alloc, handle, FrequentItemsSketch<T>, sketch => {
         write_rows(sketch, no_false_negatives, threshold, items, bounds, count)
     })
 }
@@ -313,10 +314,10 @@ pub(crate) fn status<T: Eq + Hash + Drop>(
 ) -> i32
 where
     FrequentItemsSketch<T>: Kind,
-    ensures { WritesDown (⟦<FrequentItemsSketch<T> as Kind>⟧.part) handle.old.value handle.new.value result status.old status.new (λ s.
+    ensures { WritesDown (reads (⟦<FrequentItemsSketch<T> as Kind>⟧.part)) handle.old.value handle.new.value result status.old status.new (λ s.
         AreNumbers s status.new) }
 {
-    on_kind!(alloc, handle, FrequentItemsSketch<T>, sketch => {
+    reading_kind!(alloc, handle, FrequentItemsSketch<T>, sketch => {
         *status = status_of(sketch);
         OK
     })

@@ -7,7 +7,7 @@ ghost use Rattle.datasketches_c.specs.FrequentCalls.{AreBounds, Updates, Updates
 ghost use Rattle.datasketches_c.specs.FrequentRows.{WritesRows, error_type};
 ghost use Rattle.datasketches_c.specs.FrequentStringRows.{WritesStringRows};
 ghost use Rattle.datasketches_c.specs.FrequentStrings.{UpdatesString, WeighsStrings};
-ghost use Rattle.datasketches_c.specs.Kinds.{HoldsFrequentI64, HoldsFrequentStrings, HoldsFrequentU64, OnFrequentI64, OnFrequentStrings, OnFrequentU64};
+ghost use Rattle.datasketches_c.specs.Kinds.{HoldsFrequentI64, HoldsFrequentStrings, HoldsFrequentU64, OnFrequentI64, OnFrequentStrings, OnFrequentU64, ReadsFrequentStrings, ReadsFrequentU64, ReadsFrequentI64};
 ghost use Rattle.datasketches_c.specs.Numbers.{OnRefused, bad_offsets, no_room, ok, refusal_number};
 ghost use Rattle.sketch_base.specs.Strings.{AreOffsets, AreStrings, strings_of};
 
@@ -16,7 +16,7 @@ use crate::frequent_string::{
     bounds_of_string, update_all_weighted_strings, update_string, write_rows,
 };
 use crate::handle::SketchHandle;
-use crate::kind::on_kind;
+use crate::kind::{on_kind, reading_kind};
 use crate::strings::{on_string, on_strings, strings_for};
 use sketch_base::Fault;
 use sketch_frequencies::{FrequentItemsSketch, ItemBounds};
@@ -231,13 +231,13 @@ pub extern "C" fn ds_frequent_items_string_bounds(
     bounds: &mut ItemBounds,
 ) -> i32
     ensures kept { handle.new.value ≡ handle.old.value }
-    ensures utf8 { IsUtf8 item.now → OnFrequentStrings handle.old.value handle.new.value result (λ s.
+    ensures utf8 { IsUtf8 item.now → ReadsFrequentStrings handle.old.value handle.new.value result (λ s.
         (result ≡ ok) × AreBoundsOfString s item.now bounds.new) }
     ensures invalid_utf8 { ¬ (IsUtf8 item.now) → result ≡ refusal_number Fault.InvalidUtf8 }
     ensures untouched { OnRefused result (bounds.new ≡ bounds.old) }
 {
     on_string!(item => {
-        on_kind!(alloc, handle, FrequentItemsSketch<String>, sketch => bounds_of_string(sketch, item, bounds))
+        reading_kind!(alloc, handle, FrequentItemsSketch<String>, sketch => bounds_of_string(sketch, item, bounds))
     })
 }
 
@@ -253,7 +253,7 @@ pub extern "C" fn ds_frequent_items_u64_bounds(
     bounds: &mut ItemBounds,
 ) -> i32
     ensures kept { handle.new.value ≡ handle.old.value }
-    ensures bounds { OnFrequentU64 handle.old.value handle.new.value result (λ s.
+    ensures bounds { ReadsFrequentU64 handle.old.value handle.new.value result (λ s.
         (result ≡ ok) × AreBounds nat_eq s item bounds.new) }
     ensures untouched { OnRefused result (bounds.new ≡ bounds.old) }
 {
@@ -272,7 +272,7 @@ pub extern "C" fn ds_frequent_items_i64_bounds(
     bounds: &mut ItemBounds,
 ) -> i32
     ensures kept { handle.new.value ≡ handle.old.value }
-    ensures bounds { OnFrequentI64 handle.old.value handle.new.value result (λ s.
+    ensures bounds { ReadsFrequentI64 handle.old.value handle.new.value result (λ s.
         (result ≡ ok) × AreBounds int_eq s item bounds.new) }
     ensures untouched { OnRefused result (bounds.new ≡ bounds.old) }
 {
@@ -295,7 +295,7 @@ pub extern "C" fn ds_frequent_items_u64_bounds_all(
     ensures kept { handle.new.value ≡ handle.old.value }
     ensures no_room { length bounds.old ≢ length items.now → result ≡ no_room }
     ensures bounds { length bounds.old ≡ length items.now
-        → OnFrequentU64 handle.old.value handle.new.value result (λ s.
+        → ReadsFrequentU64 handle.old.value handle.new.value result (λ s.
         (result ≡ ok) × AreBoundsOfAll nat_eq s items.now bounds.new) }
     ensures untouched { OnRefused result (bounds.new ≡ bounds.old) }
 {
@@ -318,7 +318,7 @@ pub extern "C" fn ds_frequent_items_i64_bounds_all(
     ensures kept { handle.new.value ≡ handle.old.value }
     ensures no_room { length bounds.old ≢ length items.now → result ≡ no_room }
     ensures bounds { length bounds.old ≡ length items.now
-        → OnFrequentI64 handle.old.value handle.new.value result (λ s.
+        → ReadsFrequentI64 handle.old.value handle.new.value result (λ s.
         (result ≡ ok) × AreBoundsOfAll int_eq s items.now bounds.new) }
     ensures untouched { OnRefused result (bounds.new ≡ bounds.old) }
 {
@@ -357,12 +357,12 @@ pub extern "C" fn ds_frequent_items_string_rows(
         ((bytes.new ≡ bytes.old) × (offsets.new ≡ offsets.old) × (bounds.new ≡ bounds.old)) }
     ensures uncounted { result ≢ ok → result ≢ no_room
         → (count.new ≡ count.old) × (num_bytes.new ≡ num_bytes.old) }
-    ensures rows { OnFrequentStrings handle.old.value handle.new.value result (λ s.
+    ensures rows { ReadsFrequentStrings handle.old.value handle.new.value result (λ s.
         WritesStringRows (error_type no_false_negatives) threshold s
         (record { bytes = bytes.old; offsets = offsets.old; bounds = bounds.old })
         (record { bytes = bytes.new; offsets = offsets.new; bounds = bounds.new }) count.new num_bytes.new result) }
 {
-    on_kind!(alloc, handle, FrequentItemsSketch<String>, sketch => write_rows(sketch, no_false_negatives, threshold, bytes, offsets, bounds, count, num_bytes))
+    reading_kind!(alloc, handle, FrequentItemsSketch<String>, sketch => write_rows(sketch, no_false_negatives, threshold, bytes, offsets, bounds, count, num_bytes))
 }
 
 /// Writes the tracked numbers whose bound exceeds both the threshold and the error, in rows of descending estimates. A
@@ -391,7 +391,7 @@ pub extern "C" fn ds_frequent_items_u64_rows(
     ensures kept { handle.new.value ≡ handle.old.value }
     ensures untouched { OnRefused result ((items.new ≡ items.old) × (bounds.new ≡ bounds.old)) }
     ensures uncounted { result ≢ ok → result ≢ no_room → count.new ≡ count.old }
-    ensures rows { OnFrequentU64 handle.old.value handle.new.value result (λ s.
+    ensures rows { ReadsFrequentU64 handle.old.value handle.new.value result (λ s.
         WritesRows nat_eq (error_type no_false_negatives) threshold s items.old items.new bounds.old bounds.new count.new
         result) }
 {
@@ -432,7 +432,7 @@ pub extern "C" fn ds_frequent_items_i64_rows(
     ensures kept { handle.new.value ≡ handle.old.value }
     ensures untouched { OnRefused result ((items.new ≡ items.old) × (bounds.new ≡ bounds.old)) }
     ensures uncounted { result ≢ ok → result ≢ no_room → count.new ≡ count.old }
-    ensures rows { OnFrequentI64 handle.old.value handle.new.value result (λ s.
+    ensures rows { ReadsFrequentI64 handle.old.value handle.new.value result (λ s.
         WritesRows int_eq (error_type no_false_negatives) threshold s items.old items.new bounds.old bounds.new count.new
         result) }
 {

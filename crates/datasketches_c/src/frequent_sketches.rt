@@ -14,7 +14,7 @@ ghost use Rattle.datasketches_c.specs.FrequentImages.{IsRestored, WritesFrequent
 ghost use Rattle.datasketches_c.specs.FrequentStringImages.{WritesFrequentStrings, string_row};
 ghost use Rattle.datasketches_c.specs.FrequentStrings.{strings_eq};
 ghost use Rattle.datasketches_c.specs.Images.{IsRefusedImage};
-ghost use Rattle.datasketches_c.specs.Kinds.{HoldsFrequentI64, HoldsFrequentStrings, HoldsFrequentU64, OnFrequentI64, OnFrequentStrings, OnFrequentU64};
+ghost use Rattle.datasketches_c.specs.Kinds.{HoldsFrequentI64, HoldsFrequentStrings, HoldsFrequentU64, OnFrequentI64, OnFrequentStrings, OnFrequentU64, ReadsFrequentStrings, ReadsFrequentU64, ReadsFrequentI64};
 ghost use Rattle.datasketches_c.specs.Numbers.{OnDone, OnRefused, no_room, ok, refusal_number};
 ghost use Rattle.datasketches_c.specs.declared.any_sketch.AnySketch.TheVariants.{FrequentI64, FrequentStrings, FrequentU64};
 
@@ -155,7 +155,7 @@ pub extern "C" fn ds_frequent_items_string_merge(
     ensures other { other.new.value ≡ other.old.value }
     ensures refused { OnRefused result (handle.new.value ≡ handle.old.value) }
     ensures call { OnFrequentStrings handle.old.value handle.new.value result (λ a.
-        OnFrequentStrings other.old.value other.new.value result (λ b.
+        ReadsFrequentStrings other.old.value other.new.value result (λ b.
         HoldsFrequentStrings handle.new.value (λ t. MergesInto strings_eq a b t result))) }
 {
     join::<FrequentItemsSketch<String>, ()>(alloc, handle, other, ())
@@ -179,7 +179,7 @@ pub extern "C" fn ds_frequent_items_u64_merge(
     ensures other { other.new.value ≡ other.old.value }
     ensures refused { OnRefused result (handle.new.value ≡ handle.old.value) }
     ensures call { OnFrequentU64 handle.old.value handle.new.value result (λ a.
-        OnFrequentU64 other.old.value other.new.value result (λ b.
+        ReadsFrequentU64 other.old.value other.new.value result (λ b.
         HoldsFrequentU64 handle.new.value (λ t. MergesInto nat_eq a b t result))) }
 {
     join::<FrequentItemsSketch<u64>, ()>(alloc, handle, other, ())
@@ -203,7 +203,7 @@ pub extern "C" fn ds_frequent_items_i64_merge(
     ensures other { other.new.value ≡ other.old.value }
     ensures refused { OnRefused result (handle.new.value ≡ handle.old.value) }
     ensures call { OnFrequentI64 handle.old.value handle.new.value result (λ a.
-        OnFrequentI64 other.old.value other.new.value result (λ b.
+        ReadsFrequentI64 other.old.value other.new.value result (λ b.
         HoldsFrequentI64 handle.new.value (λ t. MergesInto int_eq a b t result))) }
 {
     join::<FrequentItemsSketch<i64>, ()>(alloc, handle, other, ())
@@ -313,7 +313,7 @@ pub extern "C" fn ds_frequent_items_string_get_status(
     status: &mut FrequentStatus,
 ) -> i32
     ensures kept { handle.new.value ≡ handle.old.value }
-    ensures numbers { OnFrequentStrings handle.old.value handle.new.value result (λ s.
+    ensures numbers { ReadsFrequentStrings handle.old.value handle.new.value result (λ s.
         (result ≡ ok) × AreNumbers s status.new) }
     ensures untouched { OnRefused result (status.new ≡ status.old) }
 {
@@ -331,7 +331,7 @@ pub extern "C" fn ds_frequent_items_u64_get_status(
     status: &mut FrequentStatus,
 ) -> i32
     ensures kept { handle.new.value ≡ handle.old.value }
-    ensures numbers { OnFrequentU64 handle.old.value handle.new.value result (λ s.
+    ensures numbers { ReadsFrequentU64 handle.old.value handle.new.value result (λ s.
         (result ≡ ok) × AreNumbers s status.new) }
     ensures untouched { OnRefused result (status.new ≡ status.old) }
 {
@@ -349,7 +349,7 @@ pub extern "C" fn ds_frequent_items_i64_get_status(
     status: &mut FrequentStatus,
 ) -> i32
     ensures kept { handle.new.value ≡ handle.old.value }
-    ensures numbers { OnFrequentI64 handle.old.value handle.new.value result (λ s.
+    ensures numbers { ReadsFrequentI64 handle.old.value handle.new.value result (λ s.
         (result ≡ ok) × AreNumbers s status.new) }
     ensures untouched { OnRefused result (status.new ≡ status.old) }
 {
@@ -375,7 +375,7 @@ pub extern "C" fn ds_frequent_items_string_serialize(
     ensures kept { handle.new.value ≡ handle.old.value }
     ensures untouched { OnRefused result (out.new ≡ out.old) }
     ensures uncounted { result ≢ ok → result ≢ no_room → written.new ≡ written.old }
-    ensures image { OnFrequentStrings handle.old.value handle.new.value result (λ s.
+    ensures image { ReadsFrequentStrings handle.old.value handle.new.value result (λ s.
         WritesFrequentStrings s out.old out.new written.new result) }
 {
     to_bytes::<FrequentItemsSketch<String>>(alloc, handle, out, written)
@@ -400,7 +400,7 @@ pub extern "C" fn ds_frequent_items_u64_serialize(
     ensures kept { handle.new.value ≡ handle.old.value }
     ensures untouched { OnRefused result (out.new ≡ out.old) }
     ensures uncounted { result ≢ ok → result ≢ no_room → written.new ≡ written.old }
-    ensures image { OnFrequentU64 handle.old.value handle.new.value result (λ s.
+    ensures image { ReadsFrequentU64 handle.old.value handle.new.value result (λ s.
         WritesFrequent u64_codec (λ n. n) s out.old out.new written.new result) }
 {
     to_bytes::<FrequentItemsSketch<u64>>(alloc, handle, out, written)
@@ -425,7 +425,7 @@ pub extern "C" fn ds_frequent_items_i64_serialize(
     ensures kept { handle.new.value ≡ handle.old.value }
     ensures untouched { OnRefused result (out.new ≡ out.old) }
     ensures uncounted { result ≢ ok → result ≢ no_room → written.new ≡ written.old }
-    ensures image { OnFrequentI64 handle.old.value handle.new.value result (λ s.
+    ensures image { ReadsFrequentI64 handle.old.value handle.new.value result (λ s.
         WritesFrequent i64_codec (λ n. n) s out.old out.new written.new result) }
 {
     to_bytes::<FrequentItemsSketch<i64>>(alloc, handle, out, written)

@@ -5,13 +5,13 @@ ghost use Rattle.datasketches_c.specs.FrequentBatches.{AreBoundsOfString, AreBou
 ghost use Rattle.datasketches_c.specs.FrequentRows.{error_type};
 ghost use Rattle.datasketches_c.specs.FrequentStringRows.{LeavesStringRows, ReportsStrings, WritesStringRows, row_strings};
 ghost use Rattle.datasketches_c.specs.FrequentStrings.{AddsStrings, UpdatesString, WeighsStrings};
-ghost use Rattle.datasketches_c.specs.Kinds.{HoldsFrequentStrings, OnFrequentStrings};
+ghost use Rattle.datasketches_c.specs.Kinds.{HoldsFrequentStrings, OnFrequentStrings, ReadsFrequentStrings};
 ghost use Rattle.datasketches_c.specs.Numbers.{OnDone, OnRefused, ok, no_room, refusal_number};
 ghost use Rattle.datasketches_c.specs.Strings.{offsets_from};
 
 use crate::frequent_rows::{copy_bounds, error_type_of};
 use crate::handle::SketchHandle;
-use crate::kind::on_kind;
+use crate::kind::{on_kind, reading_kind};
 use crate::status_code::{NO_ROOM, OK, refusal_number};
 use sketch_base::{Fault, Strings};
 use sketch_frequencies::{FrequentItemsSketch, ItemBounds, Row};
@@ -119,11 +119,11 @@ pub(crate) fn bounds_all_strings<S: Strings>(
 ) -> i32
     requires { length bounds.old ≡ length (S.list strings.now) }
     ensures kept { handle.new.value ≡ handle.old.value }
-    ensures bounds { OnFrequentStrings handle.old.value handle.new.value result (λ s.
+    ensures bounds { ReadsFrequentStrings handle.old.value handle.new.value result (λ s.
         (result ≡ ok) × AreBoundsOfStrings s (S.list strings.now) bounds.new) }
     ensures untouched { result ≢ ok → bounds.new ≡ bounds.old }
 {
-    on_kind!(alloc, handle, FrequentItemsSketch<String>, sketch => {
+    reading_kind!(alloc, handle, FrequentItemsSketch<String>, sketch => {
         bounds_of_strings(sketch, strings, bounds);
         OK
     })

@@ -2,9 +2,10 @@
 ghost use Rattle.std.specs.Prelude.{◌≡◌, ◌≢◌, ◌<◌, ◌≤◌, ℕ, ℤ, List, length, take, drop};
 ghost use Rattle.datasketches_c.specs.Kinds.{OnKind};
 ghost use Rattle.datasketches_c.specs.Numbers.{OnRefused, ok, no_room};
+ghost use Rattle.datasketches_c.specs.Sharing.{reads};
 
 use crate::handle::SketchHandle;
-use crate::kind::{Kind, on_kind};
+use crate::kind::{Kind, reading_kind};
 use crate::status_code::{NO_ROOM, OK};
 use std::alloc::Global;
 
@@ -44,11 +45,11 @@ pub(crate) fn to_bytes<K: HasImage>(
     out: &mut [u8],
     written: &mut usize,
 ) -> i32
-    ensures image { OnKind K.part handle.old.value handle.new.value result (λ s.
+    ensures image { OnKind (reads K.part) handle.old.value handle.new.value result (λ s.
         K.writes s out.old out.new written.new result) }
     ensures uncounted { result ≢ ok → result ≢ no_room → written.new ≡ written.old }
     ensures untouched { OnRefused result (out.new ≡ out.old) }
     ensures kept { handle.new.value ≡ handle.old.value }
 {
-    on_kind!(alloc, handle, K, sketch => sketch.write_to(out, written))
+    reading_kind!(alloc, handle, K, sketch => sketch.write_to(out, written))
 }

@@ -2,9 +2,10 @@
 ghost use Rattle.std.specs.Prelude.{◌≡◌, ℤ};
 ghost use Rattle.datasketches_c.specs.Kinds.{OnKind, HoldsKind};
 ghost use Rattle.datasketches_c.specs.Numbers.{OnRefused};
+ghost use Rattle.datasketches_c.specs.Sharing.{reads};
 
 use crate::handle::SketchHandle;
-use crate::kind::{Kind, on_kind};
+use crate::kind::{Kind, on_kind, reading_kind};
 use std::alloc::Global;
 
 /// A kind of sketches that can be combined with other sketches of the kind. A value of type `W` selects the way.
@@ -25,11 +26,11 @@ fn join_into<K: Joins<W>, W: Copy>(
     way: W,
 ) -> i32
     ensures kept { handle.new.value ≡ handle.old.value }
-    ensures call { OnKind K.part handle.old.value handle.new.value result (λ b.
+    ensures call { OnKind (reads K.part) handle.old.value handle.new.value result (λ b.
         K.joins way sketch.old b sketch.new result) }
     ensures refused { OnRefused result (sketch.new ≡ sketch.old) }
 {
-    on_kind!(alloc, handle, K, other => sketch.join_with(other, way))
+    reading_kind!(alloc, handle, K, other => sketch.join_with(other, way))
 }
 
 /// Combines the sketch of the other handle, which keeps it, into the sketch of a handle. Returns `NO_SKETCH` or
@@ -43,7 +44,7 @@ pub(crate) fn join<K: Joins<W>, W: Copy>(
     ensures other { other.new.value ≡ other.old.value }
     ensures refused { OnRefused result (handle.new.value ≡ handle.old.value) }
     ensures call { OnKind K.part handle.old.value handle.new.value result (λ a.
-        OnKind K.part other.old.value other.new.value result (λ b.
+        OnKind (reads K.part) other.old.value other.new.value result (λ b.
         HoldsKind K.part handle.new.value (λ c. K.joins way a b c result))) }
 {
     on_kind!(alloc, handle, K, sketch => join_into(alloc, sketch, other, way))

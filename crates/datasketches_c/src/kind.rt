@@ -1,15 +1,20 @@
 //! The kinds of sketches, each as its library's type.
-ghost use Rattle.std.specs.Prelude.{◌≡◌, Option, Some, None, MatchOption, refl};
+ghost use Rattle.std.specs.Prelude.{◌≡◌, Option, Some, None, MatchOption, refl, true};
 ghost use Rattle.std.specs.Borrow.{sem, LendsIf};
+ghost use Rattle.std.specs.Arc.{arc_value};
 ghost use Rattle.datasketches_c.specs.Kinds.{filter_of, count_i64_of, count_u64_of, frequent_i64_of, frequent_u64_of, frequent_strings_of};
+ghost use Rattle.datasketches_c.specs.Sharing.{is_shared, reads, unshared};
 ghost use Rattle.datasketches_c.specs.contracts.any_sketch.AnySketch as any_sketch;
 ghost use Rattle.datasketches_c.specs.declared.any_sketch.AnySketch.{AnySketch as OfAnyKind};
-ghost use Rattle.datasketches_c.specs.declared.any_sketch.AnySketch.TheVariants.{Filter, CountI64, CountU64, FrequentI64, FrequentU64, FrequentStrings};
+ghost use Rattle.datasketches_c.specs.declared.any_sketch.AnySketch.TheVariants.{Filter, CountI64, CountU64, FrequentI64, FrequentU64, FrequentStrings, SharedFilter, SharedCountI64, SharedCountU64, SharedFrequentI64, SharedFrequentU64, SharedFrequentStrings};
+ghost use Rattle.std.specs.Global.{Global};
+ghost use Rattle.std.specs.declared.sync.Arc.{Arc};
 
 use crate::any_sketch::AnySketch;
 use sketch_bloom::BloomFilter;
 use sketch_countmin::CountMinSketch;
 use sketch_frequencies::FrequentItemsSketch;
+use std::sync::Arc;
 
 /// A type of sketches that is one of the kinds.
 pub(crate) trait Kind: Drop {
@@ -23,21 +28,35 @@ pub(crate) trait Kind: Drop {
         ensures which { MatchOption result (part any.old ≡ None)
             (λ s. (part any.old ≡ Some s.now) × (any.old ≡ whole s.now)) };
 
-    /// Returns the sketch for reading if it is of this kind.
+    /// Returns the sketch for reading if it is of this kind, shared or not.
     fn part_in(any: &AnySketch) -> Option<&Self>
-        ensures { MatchOption result (part any.now ≡ None) (λ s. part any.now ≡ Some s.now) };
+        ensures { MatchOption result (reads part any.now ≡ None) (λ s. reads part any.now ≡ Some s.now) };
 
     /// Returns the sketch as one of any kind.
     fn into_any(self) -> AnySketch
         ensures { result ≡ whole self };
 
+    ghost sharing: { Arc Self Global → OfAnyKind };
+
+    /// Returns the shared sketch as one of any kind.
+    fn into_shared(shared: Arc<Self>) -> AnySketch
+        ensures { result ≡ sharing shared };
+
     ghost back: { (s : Self) → part (whole s) ≡ Some s };
+
+    ghost same: { (s : Self) → unshared (whole s) ≡ whole s };
+
+    ghost same_shared: { (shared : Arc Self Global) → unshared (sharing shared) ≡ whole (arc_value shared) };
+
+    ghost marked: { (shared : Arc Self Global) → is_shared (sharing shared) ≡ true };
 }
 
 impl Kind for BloomFilter {
     ghost part = { filter_of };
 
     ghost whole = { Filter };
+
+    ghost sharing = { SharedFilter };
 
     #[inline(always)]
     fn part_of(any: &mut AnySketch) -> Option<&mut BloomFilter> {
@@ -50,10 +69,10 @@ impl Kind for BloomFilter {
 
     #[inline(always)]
     fn part_in(any: &AnySketch) -> Option<&BloomFilter> {
-        if let AnySketch::Filter(sketch) = any {
-            Some(sketch)
-        } else {
-            None
+        match any {
+            AnySketch::Filter(sketch) => Some(sketch),
+            AnySketch::SharedFilter(shared) => Some(&**shared),
+            _ => None,
         }
     }
 
@@ -61,13 +80,27 @@ impl Kind for BloomFilter {
         AnySketch::Filter(self)
     }
 
+    fn into_shared(shared: Arc<BloomFilter>) -> AnySketch
+        ensures { result ≡ SharedFilter shared }
+    {
+        AnySketch::SharedFilter(shared)
+    }
+
     ghost back = { λ s. refl };
+
+    ghost same = { λ s. refl };
+
+    ghost same_shared = { λ shared. refl };
+
+    ghost marked = { λ shared. refl };
 }
 
 impl Kind for CountMinSketch<i64> {
     ghost part = { count_i64_of };
 
     ghost whole = { CountI64 };
+
+    ghost sharing = { SharedCountI64 };
 
     #[inline(always)]
     fn part_of(any: &mut AnySketch) -> Option<&mut CountMinSketch<i64>> {
@@ -80,10 +113,10 @@ impl Kind for CountMinSketch<i64> {
 
     #[inline(always)]
     fn part_in(any: &AnySketch) -> Option<&CountMinSketch<i64>> {
-        if let AnySketch::CountI64(sketch) = any {
-            Some(sketch)
-        } else {
-            None
+        match any {
+            AnySketch::CountI64(sketch) => Some(sketch),
+            AnySketch::SharedCountI64(shared) => Some(&**shared),
+            _ => None,
         }
     }
 
@@ -91,13 +124,27 @@ impl Kind for CountMinSketch<i64> {
         AnySketch::CountI64(self)
     }
 
+    fn into_shared(shared: Arc<CountMinSketch<i64>>) -> AnySketch
+        ensures { result ≡ SharedCountI64 shared }
+    {
+        AnySketch::SharedCountI64(shared)
+    }
+
     ghost back = { λ s. refl };
+
+    ghost same = { λ s. refl };
+
+    ghost same_shared = { λ shared. refl };
+
+    ghost marked = { λ shared. refl };
 }
 
 impl Kind for CountMinSketch<u64> {
     ghost part = { count_u64_of };
 
     ghost whole = { CountU64 };
+
+    ghost sharing = { SharedCountU64 };
 
     #[inline(always)]
     fn part_of(any: &mut AnySketch) -> Option<&mut CountMinSketch<u64>> {
@@ -110,10 +157,10 @@ impl Kind for CountMinSketch<u64> {
 
     #[inline(always)]
     fn part_in(any: &AnySketch) -> Option<&CountMinSketch<u64>> {
-        if let AnySketch::CountU64(sketch) = any {
-            Some(sketch)
-        } else {
-            None
+        match any {
+            AnySketch::CountU64(sketch) => Some(sketch),
+            AnySketch::SharedCountU64(shared) => Some(&**shared),
+            _ => None,
         }
     }
 
@@ -121,13 +168,27 @@ impl Kind for CountMinSketch<u64> {
         AnySketch::CountU64(self)
     }
 
+    fn into_shared(shared: Arc<CountMinSketch<u64>>) -> AnySketch
+        ensures { result ≡ SharedCountU64 shared }
+    {
+        AnySketch::SharedCountU64(shared)
+    }
+
     ghost back = { λ s. refl };
+
+    ghost same = { λ s. refl };
+
+    ghost same_shared = { λ shared. refl };
+
+    ghost marked = { λ shared. refl };
 }
 
 impl Kind for FrequentItemsSketch<i64> {
     ghost part = { frequent_i64_of };
 
     ghost whole = { FrequentI64 };
+
+    ghost sharing = { SharedFrequentI64 };
 
     #[inline(always)]
     fn part_of(any: &mut AnySketch) -> Option<&mut FrequentItemsSketch<i64>> {
@@ -140,10 +201,10 @@ impl Kind for FrequentItemsSketch<i64> {
 
     #[inline(always)]
     fn part_in(any: &AnySketch) -> Option<&FrequentItemsSketch<i64>> {
-        if let AnySketch::FrequentI64(sketch) = any {
-            Some(sketch)
-        } else {
-            None
+        match any {
+            AnySketch::FrequentI64(sketch) => Some(sketch),
+            AnySketch::SharedFrequentI64(shared) => Some(&**shared),
+            _ => None,
         }
     }
 
@@ -151,13 +212,27 @@ impl Kind for FrequentItemsSketch<i64> {
         AnySketch::FrequentI64(self)
     }
 
+    fn into_shared(shared: Arc<FrequentItemsSketch<i64>>) -> AnySketch
+        ensures { result ≡ SharedFrequentI64 shared }
+    {
+        AnySketch::SharedFrequentI64(shared)
+    }
+
     ghost back = { λ s. refl };
+
+    ghost same = { λ s. refl };
+
+    ghost same_shared = { λ shared. refl };
+
+    ghost marked = { λ shared. refl };
 }
 
 impl Kind for FrequentItemsSketch<u64> {
     ghost part = { frequent_u64_of };
 
     ghost whole = { FrequentU64 };
+
+    ghost sharing = { SharedFrequentU64 };
 
     #[inline(always)]
     fn part_of(any: &mut AnySketch) -> Option<&mut FrequentItemsSketch<u64>> {
@@ -170,10 +245,10 @@ impl Kind for FrequentItemsSketch<u64> {
 
     #[inline(always)]
     fn part_in(any: &AnySketch) -> Option<&FrequentItemsSketch<u64>> {
-        if let AnySketch::FrequentU64(sketch) = any {
-            Some(sketch)
-        } else {
-            None
+        match any {
+            AnySketch::FrequentU64(sketch) => Some(sketch),
+            AnySketch::SharedFrequentU64(shared) => Some(&**shared),
+            _ => None,
         }
     }
 
@@ -181,13 +256,27 @@ impl Kind for FrequentItemsSketch<u64> {
         AnySketch::FrequentU64(self)
     }
 
+    fn into_shared(shared: Arc<FrequentItemsSketch<u64>>) -> AnySketch
+        ensures { result ≡ SharedFrequentU64 shared }
+    {
+        AnySketch::SharedFrequentU64(shared)
+    }
+
     ghost back = { λ s. refl };
+
+    ghost same = { λ s. refl };
+
+    ghost same_shared = { λ shared. refl };
+
+    ghost marked = { λ shared. refl };
 }
 
 impl Kind for FrequentItemsSketch<String> {
     ghost part = { frequent_strings_of };
 
     ghost whole = { FrequentStrings };
+
+    ghost sharing = { SharedFrequentStrings };
 
     #[inline(always)]
     fn part_of(any: &mut AnySketch) -> Option<&mut FrequentItemsSketch<String>> {
@@ -200,10 +289,10 @@ impl Kind for FrequentItemsSketch<String> {
 
     #[inline(always)]
     fn part_in(any: &AnySketch) -> Option<&FrequentItemsSketch<String>> {
-        if let AnySketch::FrequentStrings(sketch) = any {
-            Some(sketch)
-        } else {
-            None
+        match any {
+            AnySketch::FrequentStrings(sketch) => Some(sketch),
+            AnySketch::SharedFrequentStrings(shared) => Some(&**shared),
+            _ => None,
         }
     }
 
@@ -211,7 +300,19 @@ impl Kind for FrequentItemsSketch<String> {
         AnySketch::FrequentStrings(self)
     }
 
+    fn into_shared(shared: Arc<FrequentItemsSketch<String>>) -> AnySketch
+        ensures { result ≡ SharedFrequentStrings shared }
+    {
+        AnySketch::SharedFrequentStrings(shared)
+    }
+
     ghost back = { λ s. refl };
+
+    ghost same = { λ s. refl };
+
+    ghost same_shared = { λ shared. refl };
+
+    ghost marked = { λ shared. refl };
 }
 
 /// Does `$work` on the sketch of a handle, and gives the result of `$work`. The sketch is taken out of the handle, and
@@ -239,3 +340,28 @@ macro_rules! on_kind {
 }
 
 pub(crate) use on_kind;
+
+/// Does `$work` on the sketch of a handle, which it may read, and gives the result of `$work`. The sketch may be shared. It is
+/// taken out of the handle, and put back after the work.
+///
+/// Returns from the function as `on_kind` does.
+macro_rules! reading_kind {
+    ($alloc:expr, $handle:expr, $kind:ty, $sketch:ident => $work:expr) => {{
+        let Some(boxed) = $handle.take($alloc) else {
+            return $crate::status_code::NO_SKETCH;
+        };
+        match <$kind as $crate::kind::Kind>::part_in(&*boxed) {
+            Some($sketch) => {
+                let answer = $work;
+                $handle.give(boxed);
+                answer
+            }
+            None => {
+                $handle.give(boxed);
+                $crate::status_code::WRONG_KIND
+            }
+        }
+    }};
+}
+
+pub(crate) use reading_kind;

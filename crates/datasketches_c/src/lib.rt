@@ -31,6 +31,7 @@ mod many_string_pairs;
 mod many_strings;
 mod memory;
 mod raw_box;
+mod sharing;
 mod sizes;
 pub mod status_code;
 mod strings;

@@ -4,25 +4,26 @@ ghost use Rattle.std.specs.Prelude.{◌≡◌, ◌<◌, Some, IfOk, IsSome, OnEr
 ghost use Rattle.datasketches_c.specs.Kinds.{OnKind};
 ghost use Rattle.datasketches_c.specs.ManyHandles.{OnEachKind, found_in};
 ghost use Rattle.datasketches_c.specs.Numbers.{ok};
+ghost use Rattle.datasketches_c.specs.Sharing.{reads};
 
 use crate::any_sketch::AnySketch;
 use crate::handle::SketchHandle;
-use crate::kind::{Kind, on_kind};
+use crate::kind::{Kind, reading_kind};
 use crate::status_code::OK;
 use std::alloc::{AllocError, Global};
 
 /// Returns `OK` if the handle has a sketch of the kind, and otherwise `NO_SKETCH` or `WRONG_KIND`.
 fn refusal_of_handle<K: Kind>(alloc: Global, handle: &mut SketchHandle) -> i32
     ensures kept { handle.new.value ≡ handle.old.value }
-    ensures call { OnKind K.part handle.old.value handle.old.value result (λ s. result ≡ ok) }
+    ensures call { OnKind (reads K.part) handle.old.value handle.old.value result (λ s. result ≡ ok) }
 {
-    on_kind!(alloc, handle, K, _sketch => OK)
+    reading_kind!(alloc, handle, K, _sketch => OK)
 }
 
 /// Returns `OK` if each handle has a sketch of the kind, and otherwise the error of the first that has none.
 pub(crate) fn refusal_of_handles<K: Kind>(alloc: Global, handles: &mut [SketchHandle]) -> i32
     ensures kept { map (λ handle. handle.value) handles.new ≡ map (λ handle. handle.value) handles.old }
-    ensures call { OnEachKind K.part (map (λ handle. handle.value) handles.old) result (λ ss. result ≡ ok) }
+    ensures call { OnEachKind (reads K.part) (map (λ handle. handle.value) handles.old) result (λ ss. result ≡ ok) }
 {
     'each: for i in 0..handles.len() {
         let refusal = refusal_of_handle::<K>(alloc, &mut handles[i]);
@@ -67,8 +68,8 @@ pub(crate) fn give_all(
 
 /// Returns a sketch that was taken out as the sketch of its kind.
 fn taken_part<K: Kind>(sketch: &Option<Box<AnySketch>>) -> &K
-    requires { IsSome (found_in K.part (option_map (λ boxed. boxed.value) sketch.now)) }
-    ensures { found_in K.part (option_map (λ boxed. boxed.value) sketch.now) ≡ Some result.now }
+    requires { IsSome (found_in (reads K.part) (option_map (λ boxed. boxed.value) sketch.now)) }
+    ensures { found_in (reads K.part) (option_map (λ boxed. boxed.value) sketch.now) ≡ Some result.now }
 {
     let Some(boxed) = sketch else {
         unreachable!();
@@ -84,8 +85,8 @@ pub(crate) fn taken_parts<K: Kind>(
     alloc: Global,
     taken: &[Option<Box<AnySketch>>],
 ) -> Result<Vec<&K>, AllocError>
-    requires { OnEachKind K.part (map (option_map (λ boxed. boxed.value)) taken.now) ok (λ ss. ok ≡ ok) }
-    ensures parts { IfOk result (λ parts. map (found_in K.part) (map (option_map (λ boxed. boxed.value)) taken.now)
+    requires { OnEachKind (reads K.part) (map (option_map (λ boxed. boxed.value)) taken.now) ok (λ ss. ok ≡ ok) }
+    ensures parts { IfOk result (λ parts. map (found_in (reads K.part)) (map (option_map (λ boxed. boxed.value)) taken.now)
         ≡ map Some (map (λ part. part.now) parts.items)) }
     ensures some { OnErr result (0 < length taken.now) }
 {

@@ -7,6 +7,7 @@ ghost use Rattle.datasketches_c.specs.Kinds.{OnKind, HoldsKind, count_i64_of, co
 ghost use Rattle.datasketches_c.specs.ManyHandles.{OnEachKind, OrNoMemory};
 ghost use Rattle.datasketches_c.specs.ManyJoins.{IsMerged, IsUnited, MergesAllInto, MergesCounts, MergesFrequent, UnitesAll};
 ghost use Rattle.datasketches_c.specs.Numbers.{OnRefused, max_i64, max_u64, ok};
+ghost use Rattle.datasketches_c.specs.Sharing.{reads};
 
 use crate::any_sketch::AnySketch;
 use crate::handle::SketchHandle;
@@ -32,8 +33,8 @@ pub(crate) trait JoinsMany: Kind {
 
 /// Combines sketches that were taken out of handles into a sketch.
 fn join_taken<K: JoinsMany>(alloc: Global, sketch: &mut K, taken: &[Option<Box<AnySketch>>]) -> i32
-    requires { OnEachKind K.part (map (option_map (λ boxed. boxed.value)) taken.now) ok (λ bs. ok ≡ ok) }
-    ensures call { OnEachKind K.part (map (option_map (λ boxed. boxed.value)) taken.now) result (λ bs.
+    requires { OnEachKind (reads K.part) (map (option_map (λ boxed. boxed.value)) taken.now) ok (λ bs. ok ≡ ok) }
+    ensures call { OnEachKind (reads K.part) (map (option_map (λ boxed. boxed.value)) taken.now) result (λ bs.
         OrNoMemory result bs (K.joins_many sketch.old bs sketch.new result)) }
     ensures refused { OnRefused result (sketch.new ≡ sketch.old) }
 {
@@ -46,7 +47,7 @@ fn join_taken<K: JoinsMany>(alloc: Global, sketch: &mut K, taken: &[Option<Box<A
 /// Combines the sketches of handles, which keep them, into a sketch.
 fn join_many_into<K: JoinsMany>(alloc: Global, sketch: &mut K, handles: &mut [SketchHandle]) -> i32
     ensures kept { map (λ handle. handle.value) handles.new ≡ map (λ handle. handle.value) handles.old }
-    ensures call { OnEachKind K.part (map (λ handle. handle.value) handles.old) result (λ bs.
+    ensures call { OnEachKind (reads K.part) (map (λ handle. handle.value) handles.old) result (λ bs.
         OrNoMemory result bs (K.joins_many sketch.old bs sketch.new result)) }
     ensures refused { OnRefused result (sketch.new ≡ sketch.old) }
 {
@@ -72,7 +73,7 @@ fn join_many<K: JoinsMany>(
     ensures others { map (λ other. other.value) others.new ≡ map (λ other. other.value) others.old }
     ensures refused { OnRefused result (handle.new.value ≡ handle.old.value) }
     ensures call { OnKind K.part handle.old.value handle.new.value result (λ a.
-        OnEachKind K.part (map (λ other. other.value) others.old) result (λ bs.
+        OnEachKind (reads K.part) (map (λ other. other.value) others.old) result (λ bs.
         OrNoMemory result bs (HoldsKind K.part handle.new.value (λ c. K.joins_many a bs c result)))) }
 {
     on_kind!(alloc, handle, K, sketch => join_many_into(alloc, sketch, others))

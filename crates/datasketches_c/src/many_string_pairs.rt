@@ -10,10 +10,11 @@ ghost use Rattle.sketch_bloom.specs.State.{all_inserted, contains_item};
 ghost use Rattle.datasketches_c.specs.CountCalls.{AddsEach, AddsWeights, EstimatesAll};
 ghost use Rattle.datasketches_c.specs.FrequentBatches.{AreBoundsOfStrings};
 ghost use Rattle.datasketches_c.specs.FrequentStrings.{AddsStrings, WeighsStrings};
-ghost use Rattle.datasketches_c.specs.Kinds.{HoldsFrequentStrings, OnFilter, OnFrequentStrings, count_i64_of, count_u64_of};
+ghost use Rattle.datasketches_c.specs.Kinds.{HoldsFrequentStrings, OnFilter, OnFrequentStrings, count_i64_of, count_u64_of, ReadsFilter, ReadsFrequentStrings};
 ghost use Rattle.datasketches_c.specs.Numbers.{OnRefused, max_i64, max_u64, no_room, ok, refusal_number};
 ghost use Rattle.sketch_base.specs.Strings.{strings_at};
 ghost use Rattle.datasketches_c.specs.declared.any_sketch.AnySketch.TheVariants.{Filter};
+ghost use Rattle.datasketches_c.specs.Sharing.{reads};
 
 use crate::count;
 use crate::filter_strings::{contains_all_strings, insert_all_strings};
@@ -65,7 +66,7 @@ pub extern "C" fn ds_bloom_contains_all_string_pairs(
     ensures invalid_utf8 { length answers.old ≡ length items.now → ¬ All IsUtf8 (strings_at items.now)
         → result ≡ refusal_number Fault.InvalidUtf8 }
     ensures answers { length answers.old ≡ length items.now → All IsUtf8 (strings_at items.now)
-        → OnFilter handle.old.value handle.new.value result (λ s. (result ≡ ok)
+        → ReadsFilter handle.old.value handle.new.value result (λ s. (result ≡ ok)
         × (answers.new ≡ map (λ string. contains_item s (fed_bytes fed.str string)) (strings_at items.now))) }
     ensures untouched { OnRefused result (answers.new ≡ answers.old) }
 {
@@ -146,7 +147,7 @@ pub extern "C" fn ds_count_min_u64_estimate_all_string_pairs(
     ensures invalid_utf8 { length estimates.old ≡ length items.now → ¬ All IsUtf8 (strings_at items.now)
         → result ≡ refusal_number Fault.InvalidUtf8 }
     ensures estimates { length estimates.old ≡ length items.now → All IsUtf8 (strings_at items.now)
-        → EstimatesAll count_u64_of handle.old.value handle.new.value result (fed_bytes fed.str) (strings_at items.now) (map pos estimates.new) }
+        → EstimatesAll (reads count_u64_of) handle.old.value handle.new.value result (fed_bytes fed.str) (strings_at items.now) (map pos estimates.new) }
     ensures untouched { OnRefused result (estimates.new ≡ estimates.old) }
 {
     on_strings!(strings_of_pairs_for(estimates.len(), items), strings => {
@@ -227,7 +228,7 @@ pub extern "C" fn ds_count_min_i64_estimate_all_string_pairs(
     ensures invalid_utf8 { length estimates.old ≡ length items.now → ¬ All IsUtf8 (strings_at items.now)
         → result ≡ refusal_number Fault.InvalidUtf8 }
     ensures estimates { length estimates.old ≡ length items.now → All IsUtf8 (strings_at items.now)
-        → EstimatesAll count_i64_of handle.old.value handle.new.value result (fed_bytes fed.str) (strings_at items.now) estimates.new }
+        → EstimatesAll (reads count_i64_of) handle.old.value handle.new.value result (fed_bytes fed.str) (strings_at items.now) estimates.new }
     ensures untouched { OnRefused result (estimates.new ≡ estimates.old) }
 {
     on_strings!(strings_of_pairs_for(estimates.len(), items), strings => {
@@ -310,7 +311,7 @@ pub extern "C" fn ds_frequent_items_string_bounds_all_pairs(
     ensures invalid_utf8 { length bounds.old ≡ length items.now → ¬ All IsUtf8 (strings_at items.now)
         → (result ≡ refusal_number Fault.InvalidUtf8) × (bounds.new ≡ bounds.old) }
     ensures bounds { length bounds.old ≡ length items.now → All IsUtf8 (strings_at items.now)
-        → OnFrequentStrings handle.old.value handle.new.value result (λ s.
+        → ReadsFrequentStrings handle.old.value handle.new.value result (λ s.
         (result ≡ ok) × AreBoundsOfStrings s (strings_at items.now) bounds.new) }
     ensures untouched { result ≢ ok → bounds.new ≡ bounds.old }
 {

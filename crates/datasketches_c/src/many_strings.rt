@@ -10,10 +10,11 @@ ghost use Rattle.sketch_bloom.specs.State.{all_inserted, contains_item};
 ghost use Rattle.datasketches_c.specs.CountCalls.{AddsEach, EstimatesAll};
 ghost use Rattle.datasketches_c.specs.FrequentBatches.{AreBoundsOfStrings};
 ghost use Rattle.datasketches_c.specs.FrequentStrings.{AddsStrings};
-ghost use Rattle.datasketches_c.specs.Kinds.{HoldsFrequentStrings, OnFilter, OnFrequentStrings, count_i64_of, count_u64_of};
+ghost use Rattle.datasketches_c.specs.Kinds.{HoldsFrequentStrings, OnFilter, OnFrequentStrings, count_i64_of, count_u64_of, ReadsFilter, ReadsFrequentStrings};
 ghost use Rattle.datasketches_c.specs.Numbers.{OnRefused, bad_offsets, max_i64, max_u64, no_room, ok, refusal_number};
 ghost use Rattle.sketch_base.specs.Strings.{AreOffsets, AreStrings, strings_of};
 ghost use Rattle.datasketches_c.specs.declared.any_sketch.AnySketch.TheVariants.{Filter};
+ghost use Rattle.datasketches_c.specs.Sharing.{reads};
 
 use crate::count;
 use crate::filter_strings::{contains_all_strings, insert_all_strings};
@@ -77,7 +78,7 @@ pub extern "C" fn ds_bloom_contains_all_string(
     ensures invalid_utf8 { AreOffsets bytes.now offsets.now → length answers.old + 1 ≡ length offsets.now
         → ¬ All IsUtf8 (strings_of bytes.now offsets.now) → result ≡ refusal_number Fault.InvalidUtf8 }
     ensures answers { AreStrings bytes.now offsets.now → length answers.old + 1 ≡ length offsets.now
-        → OnFilter handle.old.value handle.new.value result (λ s. (result ≡ ok)
+        → ReadsFilter handle.old.value handle.new.value result (λ s. (result ≡ ok)
         × (answers.new ≡ map (λ string. contains_item s (fed_bytes fed.str string)) (strings_of bytes.now offsets.now))) }
     ensures untouched { OnRefused result (answers.new ≡ answers.old) }
 {
@@ -203,7 +204,7 @@ pub extern "C" fn ds_count_min_u64_estimate_all_string(
     ensures invalid_utf8 { AreOffsets bytes.now offsets.now → length estimates.old + 1 ≡ length offsets.now
         → ¬ All IsUtf8 (strings_of bytes.now offsets.now) → result ≡ refusal_number Fault.InvalidUtf8 }
     ensures estimates { AreStrings bytes.now offsets.now → length estimates.old + 1 ≡ length offsets.now
-        → EstimatesAll count_u64_of handle.old.value handle.new.value result (fed_bytes fed.str) (strings_of bytes.now offsets.now) (map pos estimates.new) }
+        → EstimatesAll (reads count_u64_of) handle.old.value handle.new.value result (fed_bytes fed.str) (strings_of bytes.now offsets.now) (map pos estimates.new) }
     ensures untouched { OnRefused result (estimates.new ≡ estimates.old) }
 {
     on_strings!(strings_for(estimates.len(), bytes, offsets), strings => {
@@ -236,7 +237,7 @@ pub extern "C" fn ds_count_min_i64_estimate_all_string(
     ensures invalid_utf8 { AreOffsets bytes.now offsets.now → length estimates.old + 1 ≡ length offsets.now
         → ¬ All IsUtf8 (strings_of bytes.now offsets.now) → result ≡ refusal_number Fault.InvalidUtf8 }
     ensures estimates { AreStrings bytes.now offsets.now → length estimates.old + 1 ≡ length offsets.now
-        → EstimatesAll count_i64_of handle.old.value handle.new.value result (fed_bytes fed.str) (strings_of bytes.now offsets.now) estimates.new }
+        → EstimatesAll (reads count_i64_of) handle.old.value handle.new.value result (fed_bytes fed.str) (strings_of bytes.now offsets.now) estimates.new }
     ensures untouched { OnRefused result (estimates.new ≡ estimates.old) }
 {
     on_strings!(strings_for(estimates.len(), bytes, offsets), strings => {
@@ -272,7 +273,7 @@ pub extern "C" fn ds_frequent_items_string_bounds_all(
         → ¬ All IsUtf8 (strings_of bytes.now offsets.now)
         → (result ≡ refusal_number Fault.InvalidUtf8) × (bounds.new ≡ bounds.old) }
     ensures bounds { AreStrings bytes.now offsets.now → length bounds.old + 1 ≡ length offsets.now
-        → OnFrequentStrings handle.old.value handle.new.value result (λ s.
+        → ReadsFrequentStrings handle.old.value handle.new.value result (λ s.
         (result ≡ ok) × AreBoundsOfStrings s (strings_of bytes.now offsets.now) bounds.new) }
     ensures untouched { result ≢ ok → bounds.new ≡ bounds.old }
 {

@@ -1,6 +1,7 @@
 //! The number of bytes that the sketches of handles take.
 ghost use Rattle.std.specs.Prelude.{◌≡◌};
 ghost use Rattle.datasketches_c.specs.MemoryBytes.{Measures, bytes_of};
+ghost use Rattle.datasketches_c.specs.Sharing.{unshared};
 
 use crate::any_sketch::AnySketch;
 use crate::handle::SketchHandle;
@@ -9,15 +10,22 @@ use std::alloc::Global;
 
 /// Returns the number of bytes that a sketch takes.
 fn bytes_of(sketch: &AnySketch) -> usize
-    ensures { result ≡ bytes_of sketch.now }
+    ensures { result ≡ bytes_of (unshared sketch.now) }
 {
     match sketch {
         AnySketch::FrequentStrings(sketch) => sketch.memory_bytes(),
+        AnySketch::SharedFrequentStrings(shared) => (**shared).memory_bytes(),
         AnySketch::FrequentI64(sketch) => sketch.memory_bytes(),
+        AnySketch::SharedFrequentI64(shared) => (**shared).memory_bytes(),
         AnySketch::FrequentU64(sketch) => sketch.memory_bytes(),
+        AnySketch::SharedFrequentU64(shared) => (**shared).memory_bytes(),
         AnySketch::CountI64(sketch) => sketch.estimated_size(),
+        AnySketch::SharedCountI64(shared) => (**shared).estimated_size(),
         AnySketch::CountU64(sketch) => sketch.estimated_size(),
+        AnySketch::SharedCountU64(shared) => (**shared).estimated_size(),
         AnySketch::Filter(sketch) => sketch.estimated_size(),
+        AnySketch::SharedFilter(shared) => (**shared).estimated_size(),
+        AnySketch::Moved => 0,
     }
 }
 

@@ -8,6 +8,7 @@ pub mod Lanes
 pub mod SetAlgebra
 pub mod RoundTrips
 pub mod Spellings
+pub mod ImageLengths
 pub mod States
 pub mod Answering
 pub mod Batches

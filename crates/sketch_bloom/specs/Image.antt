@@ -124,6 +124,10 @@ pub record IsSpelled (image : List ℕ) (s : FilterState) : Type 0 where
   pub empty : s.set ≡ set.empty → image ≡ preamble 3 4 s.num_hashes s.seed s.num_words
   pub full : s.set ≢ set.empty → IsWritten image s
 
+-- the length of the image that is written for the filter
+abbrev pub image_bytes : FilterState → ℕ
+image_bytes s = if set.len s.set == 0 then 24 else 32 + 8 * s.num_words
+
 -- ---- the promise of a reader
 
 -- if a filter stands for a history and has this image, the filter that is read stands for the restored history

@@ -1,5 +1,5 @@
 //! The Bloom filter.
-ghost use Rattle.std.specs.Prelude.{◌≡◌, ℕ, List, ◌*◌, ◌≤◌, ◌↔◌, length, IfOk, IfErr, IsOk, IsTrue, OnOk, OnErr};
+ghost use Rattle.std.specs.Prelude.{◌≡◌, ℕ, List, ◌*◌, ◌≤◌, ◌↔◌, length, take, drop, IfOk, IfErr, IfSome, IfNone, IsOk, IsSome, IsTrue, OnOk, OnErr};
 ghost use Rattle.std.specs.FinSet as set;
 ghost use Rattle.std.specs.Hash as fed;
 ghost use Rattle.sketch_base.specs.Checks.{IsImageRefusal};
@@ -8,7 +8,7 @@ ghost use Rattle.sketch_base.specs.Hashes.{fed_bytes};
 ghost use Rattle.sketch_base.specs.Xxh64.{xxh64};
 ghost use Rattle.sketch_bloom.specs.History.{BloomHistory};
 ghost use Rattle.sketch_bloom.specs.History.BloomHistory.{Insert, Union, Intersection, Difference, Reset};
-ghost use Rattle.sketch_bloom.specs.Image.{IsImage, IsSpelled, Restores, early_fault, first_fault, early_fault_within, first_fault_within};
+ghost use Rattle.sketch_bloom.specs.Image.{IsImage, IsSpelled, Restores, image_bytes, early_fault, first_fault, early_fault_within, first_fault_within};
 ghost use Rattle.sketch_bloom.specs.Operations.{on_sets};
 ghost use Rattle.sketch_bloom.specs.Stands.{Extends, ExtendsBoth};
 ghost use Rattle.sketch_bloom.specs.State.{IsFilterState, IsCompatible, capacity_of, empty_state, contains_item, inserted, cleared, united, intersected, subtracted};
@@ -19,10 +19,7 @@ mod words_and_lines;
 
 use crate::bit_set;
 use crate::hashes::{hashes_of, hashes_of_str};
-use crate::image::{
-    EMPTY_FLAG_MASK, PREAMBLE_LONGS_EMPTY, PREAMBLE_LONGS_NONEMPTY, UNCOUNTED, begin_image,
-    read_preamble, read_words, write_words,
-};
+use crate::image::{UNCOUNTED, image_length, read_preamble, read_words, write_empty, write_full};
 use crate::limits::{MAX_NUM_HASHES, MAX_NUM_WORDS};
 use crate::set_operation::SetOperation;
 use sketch_base::image::u64_at;
@@ -357,9 +354,23 @@ impl BloomFilter {
         8 * self.words.len()
     }
 
+    /// Returns the length in bytes of the filter's image, in constant time.
+    ///
+    /// It is 24 if the set is empty, and otherwise 32 and 8 for each word.
+    pub fn serialized_size(&self) -> usize
+        ensures size { result ≡ image_bytes self.now }
+
+        // There is an image, and each has this length.
+        ensures some { (image : List ℕ) × IsSpelled image self.now }
+        ensures each { (image : List ℕ) → IsSpelled image self.now → length image ≡ result }
+    {
+        let _seed = self.seed;
+        image_length(&self.words, self.bits_used)
+    }
+
     /// Writes the filter as an image. `docs/FORMATS.md` describes its fields.
     ///
-    /// The image has 24 bytes if the set is empty, and otherwise 32 bytes and 8 for each word.
+    /// The image has [`serialized_size`](Self::serialized_size) bytes.
     ///
     /// # Errors
     ///
@@ -369,32 +380,53 @@ impl BloomFilter {
         ensures err { IfErr result (λ e. e ≡ no_memory) }
     {
         let alloc = *self.words.allocator();
-        let num_words = self.words.len();
-        let seed = self.seed;
-        if self.bits_used == 0 {
-            let out = begin_image(
-                alloc,
-                24,
-                PREAMBLE_LONGS_EMPTY,
-                EMPTY_FLAG_MASK,
-                self.num_hashes,
-                seed,
-                num_words,
-            )?;
-            return Ok(out.into_bytes());
+        let mut image = vec![in alloc; 0; self.serialized_size()]?;
+        self.write_image(&mut image);
+        Ok(image)
+    }
+
+    /// Writes the filter as an image to the front of `out`, and returns the image's length, which is
+    /// [`serialized_size`](Self::serialized_size). The rest of `out` is unchanged. Does not allocate.
+    ///
+    /// Returns `None` if the image is longer than `out`, which is then unchanged.
+    ///
+    /// # Examples
+    ///
+    /// ```
+    /// use sketch_bloom::BloomFilter;
+    ///
+    /// fn image_in_page<'a>(filter: &BloomFilter, page: &'a mut [u8]) -> Option<&'a [u8]> {
+    ///     let length = filter.serialize_into(page)?;
+    ///     Some(&page[..length])
+    /// }
+    /// ```
+    pub fn serialize_into(&self, out: &mut [u8]) -> Option<usize>
+        ensures image { IfSome result (λ n. IsSpelled (take n out.new) self.now) }
+        ensures length { IfSome result (λ n. n ≡ image_bytes self.now) }
+        ensures rest { IfSome result (λ n. drop n out.new ≡ drop n out.old) }
+
+        // There is no image exactly if `out` is too short.
+        ensures room { IsSome result ↔ (image_bytes self.now ≤ length out.old) }
+        ensures none { IfNone result (out.new ≡ out.old) }
+    {
+        let length = self.serialized_size();
+        if length > out.len() {
+            return None;
         }
-        let mut out = begin_image(
-            alloc,
-            32 + 8 * num_words,
-            PREAMBLE_LONGS_NONEMPTY,
-            0,
-            self.num_hashes,
-            seed,
-            num_words,
-        )?;
-        out.write_u64_le(self.bits_used)?;
-        write_words(&mut out, &self.words)?;
-        Ok(out.into_bytes())
+        self.write_image(&mut out[..length]);
+        Some(length)
+    }
+
+    /// Writes the filter as an image to `out`, which has the image's length.
+    fn write_image(&self, out: &mut [u8])
+        requires { length out.old ≡ image_bytes self.now }
+        ensures { IsSpelled out.new self.now }
+    {
+        if self.bits_used == 0 {
+            write_empty(out, self.num_hashes, self.seed, self.words.len());
+        } else {
+            write_full(out, self.num_hashes, self.seed, self.bits_used, &self.words);
+        }
     }
 
     /// Reads a filter from an image.

@@ -1,7 +1,8 @@
 //! Reading and writing the images of filters.
-ghost use Rattle.std.specs.Prelude.{◌≡◌, ◌+◌, ◌*◌, ◌<◌, ◌≤◌, ◌^◌, ◌++◌, None, Some, false, length, drop, All, IfOk, IfErr, OnOk};
+ghost use Rattle.std.specs.Prelude.{◌≡◌, ◌+◌, ◌*◌, ◌<◌, ◌≤◌, ◌^◌, ◌++◌, ◌==◌, if◌then◌else◌, None, Some, false, length, drop, All, IfOk, IfErr, OnOk};
 ghost use Rattle.std.specs.FinSet as set;
-ghost use Rattle.sketch_base.specs.Errors.{invalid_data, no_memory};
+ghost use Rattle.std.specs.Int.{w64, to_le_bytes};
+ghost use Rattle.sketch_base.specs.Errors.{invalid_data};
 ghost use Rattle.sketch_base.specs.Fields.{bytes_of_words, words_in};
 ghost use Rattle.sketch_bloom.specs.BitSet.{set_of};
 ghost use Rattle.sketch_bloom.specs.Image.{early_fault, preamble};
@@ -9,7 +10,7 @@ ghost use Rattle.sketch_bloom.specs.Preamble.{IsPreamble};
 
 use crate::limits::{MAX_NUM_HASHES, MAX_NUM_WORDS};
 use sketch_base::image::{SERIAL_VERSION, opening_fault, u16_at, u32_at, u64_at};
-use sketch_base::{Error, Family, Fault, SketchBytes};
+use sketch_base::{Error, Family, Fault};
 use std::alloc::{AllocError, Global};
 
 /// The preamble longs of an empty filter.
@@ -110,26 +111,49 @@ pub fn read_words(
     Ok((words, size))
 }
 
-/// Allocates a buffer with room for `room` bytes, and writes the preamble of an image to it.
-pub fn begin_image(
-    alloc: Global,
-    room: usize,
-    longs: u8,
-    flags: u8,
-    num_hashes: u16,
-    seed: u64,
-    num_words: usize,
-) -> Result<SketchBytes, Error>
-    requires { num_words ≤ MAX_NUM_WORDS }
-    ensures ok { IfOk result (λ out. out.bytes ≡ preamble longs flags num_hashes seed num_words) }
-    ensures err { IfErr result (λ e. e ≡ no_memory) }
+/// Returns the length of the image of a filter with these words, of which `bits_used` bits are set.
+pub fn image_length(words: &[u64], bits_used: u64) -> usize
+    requires { length words.now ≤ MAX_NUM_WORDS }
+    ensures length { result ≡ (if bits_used == 0 then 24 else 32 + 8 * length words.now) }
+
+    // What the type says, for the caller's proof.
+    ensures words_fit { All (λ word. word < 2 ^ 64) words.now }
+{
+    if bits_used == 0 {
+        24
+    } else {
+        32 + 8 * words.len()
+    }
+}
+
+/// Writes the image of an empty filter to `out`, which has its length.
+pub fn write_empty(out: &mut [u8], num_hashes: u16, seed: u64, num_words: usize)
+    requires room { length out.old ≡ 24 }
+    requires few_words { num_words ≤ MAX_NUM_WORDS }
+    ensures bytes { out.new ≡ preamble 3 4 num_hashes seed num_words }
 
     // What the type says, for the caller's proof.
     ensures seed_fits { seed < 2 ^ 64 }
 {
-    let mut out = SketchBytes::with_capacity(alloc, room)?;
-    out.write(&preamble_bytes(longs, flags, num_hashes, seed, num_words))?;
-    Ok(out)
+    let longs = PREAMBLE_LONGS_EMPTY;
+    out.copy_from_slice(&preamble_bytes(longs, EMPTY_FLAG_MASK, num_hashes, seed, num_words));
+}
+
+/// Writes the image of a filter that is not empty to `out`, which has its length.
+pub fn write_full(out: &mut [u8], num_hashes: u16, seed: u64, bits_used: u64, words: &[u64])
+    requires room { length out.old ≡ 32 + 8 * length words.now }
+    requires few_words { length words.now ≤ MAX_NUM_WORDS }
+    ensures bytes { out.new ≡ preamble 4 0 num_hashes seed (length words.now) ++ to_le_bytes w64 bits_used
+        ++ bytes_of_words words.now }
+
+    // What the types say, for the caller's proof.
+    ensures seed_fits { seed < 2 ^ 64 }
+    ensures words_fit { All (λ word. word < 2 ^ 64) words.now }
+{
+    let longs = PREAMBLE_LONGS_NONEMPTY;
+    out[..24].copy_from_slice(&preamble_bytes(longs, 0, num_hashes, seed, words.len()));
+    out[24..32].copy_from_slice(&bits_used.to_le_bytes());
+    write_words(&mut out[32..], words);
 }
 
 /// Returns the bytes of an image's preamble.
@@ -149,39 +173,15 @@ fn preamble_bytes(longs: u8, flags: u8, num_hashes: u16, seed: u64, num_words: u
     ]
 }
 
-/// The number of words that are written at once.
-const BLOCK: usize = 8;
-
-/// Returns the bytes of a block of words.
-#[inline(always)]
-fn bytes_of_block(words: &[u64]) -> [u8; 64]
-    requires { length words.now ≡ BLOCK }
-    ensures { result ≡ bytes_of_words words.now }
-{
-    let mut bytes = [0; 64];
-    // The label is for the prover.
-    'fills: for i in 0..BLOCK {
-        bytes[8 * i..8 * i + 8].copy_from_slice(&words[i].to_le_bytes());
-    }
-    bytes
-}
-
-/// Writes the words block by block, then the rest one by one.
-pub fn write_words(out: &mut SketchBytes, words: &[u64]) -> Result<(), Error>
-    ensures ok { OnOk result (out.new.bytes ≡ out.old.bytes ++ bytes_of_words words.now) }
-    ensures err { IfErr result (λ e. e ≡ no_memory) }
+/// Writes the words to `out`, which has 8 bytes for each.
+fn write_words(out: &mut [u8], words: &[u64])
+    requires { length out.old ≡ 8 * length words.now }
+    ensures bytes { out.new ≡ bytes_of_words words.now }
 
     // What the type says, for the caller's proof.
     ensures words_fit { All (λ word. word < 2 ^ 64) words.now }
 {
-    let blocks = words.len() / BLOCK;
-    // The labels are for the prover.
-    'whole: for b in 0..blocks {
-        let at = BLOCK * b;
-        out.write(&bytes_of_block(&words[at..at + BLOCK]))?;
+    for i in 0..words.len() {
+        out[8 * i..8 * i + 8].copy_from_slice(&words[i].to_le_bytes());
     }
-    'rest: for i in BLOCK * blocks..words.len() {
-        out.write_u64_le(words[i])?;
-    }
-    Ok(())
 }

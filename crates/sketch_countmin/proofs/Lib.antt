@@ -5,6 +5,7 @@ pub mod Reading
 pub mod RoundTrips
 pub mod Writing
 pub mod Spellings
+pub mod ImageLengths
 pub mod Images
 pub mod RowCounts
 pub mod RowSteps

@@ -54,7 +54,7 @@ unfolding number_at
 numbers_back least greatest back [] fit = refl
 numbers_back least greatest back (z ∷ zs) fit = rw (back z (All-head (InRange least greatest) z zs fit), numbers_back least greatest back zs (All-tail (InRange least greatest) z zs fit)) refl
 
-length-bytes : (zs : List ℤ) → length (flat_map bytes_of zs) ≡ 8 * length zs
+pub length-bytes : (zs : List ℤ) → length (flat_map bytes_of zs) ≡ 8 * length zs
 length-bytes [] = refl
 length-bytes (z ∷ zs) = omega (arith, length-append (bytes_of z) (flat_map bytes_of zs), length-bytes zs)
 
@@ -70,7 +70,7 @@ rows_back d (row ∷ rows) wide =
     let rest : drop d (row ++ cells) ≡ cells = ap (λ (n : ℕ). drop n (row ++ cells)) (sym width) ∙ drop-append_seam row cells in
     rw (first, rest, rows_back d rows (All-tail (λ (r : List ℤ). length r ≡ d) row rows wide)) refl
 
-length-all_cells : (d : ℕ) (rows : List (List ℤ)) → All (λ row. length row ≡ d) rows → length (all_cells rows) ≡ length rows * d
+pub length-all_cells : (d : ℕ) (rows : List (List ℤ)) → All (λ row. length row ≡ d) rows → length (all_cells rows) ≡ length rows * d
 length-all_cells d [] wide = omega arith
 length-all_cells d (row ∷ rows) wide =
     omega (arith, length-append row (all_cells rows), All-head (λ (r : List ℤ). length r ≡ d) row rows wide, length-all_cells d rows (All-tail (λ (r : List ℤ). length r ≡ d) row rows wide))

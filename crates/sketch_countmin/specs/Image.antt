@@ -161,6 +161,10 @@ pub record IsSpelled (least : ℤ) (greatest : ℕ) (image : List ℕ) (s : Coun
   pub full : s.total ≢ 0
       → image ≡ preamble 0 s.buckets s.hashes (seed_hash s.seed) ++ flat_map bytes_of (numbers_of s)
 
+-- the length of the image that is written for the sketch
+abbrev pub image_bytes : CountState → ℕ
+image_bytes s = if s.total == 0 then 16 else 24 + 8 * (s.hashes * s.buckets)
+
 -- ---- the promise of a reader
 
 -- if a sketch stands for a history and has this image, the sketch that is read stands for the restored history

@@ -2,7 +2,7 @@
 ghost use Rattle.std.specs.Prelude.{◌≡◌, ◌≢◌, ◌+◌, ◌*◌, ◌<◌, ◌≤◌, ◌++◌, None, Some, false, length, drop, map, pos, unsigned_abs, All, IfOk, IfErr, OnOk, MatchResult};
 ghost use Rattle.std.specs.List.{flat_map};
 ghost use Rattle.sketch_base.specs.Checks.{IsImageRefusal, first_failing};
-ghost use Rattle.sketch_base.specs.Errors.{invalid_data, no_memory};
+ghost use Rattle.sketch_base.specs.Errors.{invalid_data};
 ghost use Rattle.sketch_base.specs.Hashes.{seed_hash};
 ghost use Rattle.sketch_countmin.specs.Image.{early_fault, number_at, numbers_in, total_at, total_checks, cell_checks, cells_checks, preamble};
 ghost use Rattle.sketch_countmin.specs.Preamble.{IsPreamble};
@@ -11,7 +11,7 @@ ghost use Rattle.sketch_countmin.specs.Values.{InRange, bytes_of};
 use crate::count_min_value::CountMinValue;
 use crate::limits::{MAX_TABLE_ENTRIES, MIN_NUM_BUCKETS};
 use sketch_base::image::{SERIAL_VERSION, opening_fault, u16_at, u32_at};
-use sketch_base::{Error, ErrorKind, Family, Fault, SketchBytes, compute_seed_hash};
+use sketch_base::{Error, ErrorKind, Family, Fault, compute_seed_hash};
 use std::alloc::Global;
 
 /// The preamble longs.
@@ -161,21 +161,30 @@ pub fn read_cells<T: CountMinValue>(
     Ok(counts)
 }
 
-/// Allocates a buffer with room for `room` bytes, and writes the preamble of an image to it.
-pub fn begin_image(
-    alloc: Global,
-    room: usize,
-    flags: u8,
+/// Writes the image of a sketch whose total is 0 to `out`, which has its length.
+pub fn write_empty(out: &mut [u8], num_buckets: u32, num_hashes: u8, hash: u16)
+    requires { length out.old ≡ 16 }
+    ensures { out.new ≡ preamble 1 num_buckets num_hashes hash }
+{
+    out.copy_from_slice(&preamble_bytes(EMPTY_FLAG_MASK, num_buckets, num_hashes, hash));
+}
+
+/// Writes the image of a sketch whose total is not 0 to `out`, which has its length.
+pub fn write_full<T: CountMinValue>(
+    out: &mut [u8],
     num_buckets: u32,
     num_hashes: u8,
     hash: u16,
-) -> Result<SketchBytes, Error>
-    ensures ok { IfOk result (λ out. out.bytes ≡ preamble flags num_buckets num_hashes hash) }
-    ensures err { IfErr result (λ e. e ≡ no_memory) }
+    total: T,
+    counts: &[T],
+)
+    requires { length out.old ≡ 24 + 8 * length counts.now }
+    ensures { out.new ≡ preamble 0 num_buckets num_hashes hash ++ bytes_of (T.number total)
+        ++ flat_map bytes_of (map T.number counts.now) }
 {
-    let mut out = SketchBytes::with_capacity(alloc, room)?;
-    out.write(&preamble_bytes(flags, num_buckets, num_hashes, hash))?;
-    Ok(out)
+    out[..16].copy_from_slice(&preamble_bytes(0, num_buckets, num_hashes, hash));
+    out[16..24].copy_from_slice(&total.to_bytes());
+    write_cells(&mut out[24..], counts);
 }
 
 /// Returns the bytes of an image's preamble.
@@ -193,40 +202,12 @@ fn preamble_bytes(flags: u8, num_buckets: u32, num_hashes: u8, hash: u16) -> [u8
     ]
 }
 
-/// The number of cells that are written at once.
-const BLOCK: usize = 8;
-
-/// Returns the bytes of a block of cells.
-#[inline(always)]
-fn bytes_of_block<T: CountMinValue>(cells: &[T]) -> [u8; 64]
-    requires { length cells.now ≡ BLOCK }
-    ensures bytes { result ≡ flat_map bytes_of (map T.number cells.now) }
-    ensures in_range { All (InRange T.least T.greatest) (map T.number cells.now) }
+/// Writes the cells to `out`, which has 8 bytes for each.
+fn write_cells<T: CountMinValue>(out: &mut [u8], counts: &[T])
+    requires { length out.old ≡ 8 * length counts.now }
+    ensures { out.new ≡ flat_map bytes_of (map T.number counts.now) }
 {
-    let mut bytes = [0; 64];
-    // The label is for the prover.
-    'fills: for i in 0..BLOCK {
-        bytes[8 * i..8 * i + 8].copy_from_slice(&cells[i].to_bytes());
+    for i in 0..counts.len() {
+        out[8 * i..8 * i + 8].copy_from_slice(&counts[i].to_bytes());
     }
-    bytes
-}
-
-/// Writes the cells block by block, then the rest one by one.
-pub fn write_cells<T: CountMinValue>(out: &mut SketchBytes, counts: &[T]) -> Result<(), Error>
-    ensures ok { OnOk result (out.new.bytes ≡ out.old.bytes ++ flat_map bytes_of (map T.number counts.now)) }
-    ensures err { IfErr result (λ e. e ≡ no_memory) }
-
-    // What the type says, for the caller's proof.
-    ensures in_range { OnOk result (All (InRange T.least T.greatest) (map T.number counts.now)) }
-{
-    let blocks = counts.len() / BLOCK;
-    // The labels are for the prover.
-    'whole: for b in 0..blocks {
-        let at = BLOCK * b;
-        out.write(&bytes_of_block(&counts[at..at + BLOCK]))?;
-    }
-    'rest: for i in BLOCK * blocks..counts.len() {
-        out.write(&counts[i].to_bytes())?;
-    }
-    Ok(())
 }

@@ -1,27 +1,42 @@
 //! Reading and writing the images of sketches.
-ghost use Rattle.std.specs.Prelude.{◌≡◌, ◌≢◌, ◌+◌, ◌*◌, ◌<◌, ◌≤◌, None, false, length, OnOk, IfOk, IfErr};
+ghost use Rattle.std.specs.Prelude.{◌≡◌, ◌≢◌, ℕ, List, ◌+◌, ◌*◌, ◌<◌, ◌≤◌, ◌↔◌, None, false, length, take, drop, OnOk, IfOk, IfErr, IfSome, IfNone, IsSome};
 ghost use Rattle.sketch_base.specs.Checks.{IsImageRefusal};
 ghost use Rattle.sketch_base.specs.Errors.{no_memory};
 ghost use Rattle.sketch_base.specs.Hashes.{seed_hash};
-ghost use Rattle.sketch_countmin.specs.Image.{early_fault, late_fault, first_fault, early_fault_within, first_fault_within, value_at, IsImage, IsSpelled, Restores};
+ghost use Rattle.sketch_countmin.specs.Image.{early_fault, late_fault, first_fault, early_fault_within, first_fault_within, value_at, image_bytes, IsImage, IsSpelled, Restores};
 ghost use Rattle.sketch_countmin.specs.Preamble.{IsPreamble};
 ghost use Rattle.sketch_countmin.specs.State.{IsCountState};
 
 use crate::cells::row_seeds;
 use crate::count_min_sketch::{CountMinSketch, bucket_count};
 use crate::count_min_value::CountMinValue;
-use crate::image::{
-    EMPTY_FLAG_MASK, Preamble, begin_image, read_cells, read_preamble, read_total, write_cells,
-};
+use crate::image::{Preamble, read_cells, read_preamble, read_total, write_empty, write_full};
 use crate::limits::{MAX_TABLE_ENTRIES, MIN_NUM_BUCKETS};
 use sketch_base::{DEFAULT_UPDATE_SEED, Error, ErrorKind, Fault, compute_seed_hash};
 use std::alloc::Global;
 
 impl<T: CountMinValue> CountMinSketch<T> {
+    /// Returns the length in bytes of the sketch's image, in constant time.
+    ///
+    /// It is 16 if the total is 0, and otherwise 24 and 8 for each cell.
+    pub fn serialized_size(&self) -> usize
+        ensures size { result ≡ image_bytes self.now }
+
+        // There is an image, and each has this length.
+        ensures some { (image : List ℕ) × IsSpelled T.least T.greatest image self.now }
+        ensures each { (image : List ℕ) → IsSpelled T.least T.greatest image self.now → length image ≡ result }
+    {
+        if self.total.to_number() == 0 {
+            16
+        } else {
+            24 + 8 * self.counts.len()
+        }
+    }
+
     /// Writes the sketch as an image. `docs/FORMATS.md` describes its fields.
     ///
-    /// The image has 16 bytes if the total is 0, and otherwise 24 bytes and 8 for each cell. It contains the 16-bit
-    /// hash of the seed, but not the seed: a reader has to know it.
+    /// The image has [`serialized_size`](Self::serialized_size) bytes. It contains the 16-bit hash of the seed, but not
+    /// the seed: a reader has to know it.
     ///
     /// # Errors
     ///
@@ -31,18 +46,59 @@ impl<T: CountMinValue> CountMinSketch<T> {
         ensures err { IfErr result (λ e. e ≡ no_memory) }
     {
         let alloc = *self.counts.allocator();
-        let hash = compute_seed_hash(self.seed, ErrorKind::InvalidArgument)?;
+        let mut image = vec![in alloc; 0; self.serialized_size()]?;
+        self.write_image(&mut image);
+        Ok(image)
+    }
+
+    /// Writes the sketch as an image, as [`serialize`](Self::serialize) does, to the front of `out`. Returns the
+    /// image's length, which is [`serialized_size`](Self::serialized_size). The rest of `out` is unchanged. Does not
+    /// allocate.
+    ///
+    /// Returns `None` if the image is longer than `out`, which is then unchanged.
+    ///
+    /// # Examples
+    ///
+    /// ```
+    /// use sketch_countmin::CountMinSketch;
+    ///
+    /// fn image_in_page<'a>(counts: &CountMinSketch<u64>, page: &'a mut [u8]) -> Option<&'a [u8]> {
+    ///     let length = counts.serialize_into(page)?;
+    ///     Some(&page[..length])
+    /// }
+    /// ```
+    pub fn serialize_into(&self, out: &mut [u8]) -> Option<usize>
+        ensures image { IfSome result (λ n. IsSpelled T.least T.greatest (take n out.new) self.now) }
+        ensures length { IfSome result (λ n. n ≡ image_bytes self.now) }
+        ensures rest { IfSome result (λ n. drop n out.new ≡ drop n out.old) }
+
+        // There is no image exactly if `out` is too short.
+        ensures room { IsSome result ↔ (image_bytes self.now ≤ length out.old) }
+        ensures none { IfNone result (out.new ≡ out.old) }
+    {
+        let length = self.serialized_size();
+        if length > out.len() {
+            return None;
+        }
+        self.write_image(&mut out[..length]);
+        Some(length)
+    }
+
+    /// Writes the sketch as an image to `out`, which has the image's length.
+    fn write_image(&self, out: &mut [u8])
+        requires { length out.old ≡ image_bytes self.now }
+        ensures { IsSpelled T.least T.greatest out.new self.now }
+    {
+        let Ok(hash) = compute_seed_hash(self.seed, ErrorKind::InvalidArgument) else {
+            unreachable!();
+        };
         let num_buckets = self.buckets.divisor() as u32;
         let num_hashes = self.row_seeds.len() as u8;
         if self.total.to_number() == 0 {
-            let out = begin_image(alloc, 16, EMPTY_FLAG_MASK, num_buckets, num_hashes, hash)?;
-            return Ok(out.into_bytes());
+            write_empty(out, num_buckets, num_hashes, hash);
+        } else {
+            write_full(out, num_buckets, num_hashes, hash, self.total, &self.counts);
         }
-        let room = 24 + 8 * self.counts.len();
-        let mut out = begin_image(alloc, room, 0, num_buckets, num_hashes, hash)?;
-        out.write(&self.total.to_bytes())?;
-        write_cells(&mut out, &self.counts)?;
-        Ok(out.into_bytes())
     }
 
     /// Reads a sketch with the default seed 9001 from an image, as

@@ -6,19 +6,19 @@ use Rattle.datasketches_c.proofs.KindLemmas.{wrote_down, none_written, other_wri
 use Rattle.datasketches_c.proofs.count.estimate_all.Goals as goal
 
 -- each has its estimate
-pub returns-in-Some-part_of-clause-each : goal.returns-in-Some-part_of-clause-each
-returns-in-Some-part_of-clause-each g c =
+pub returns-in-Some-part_in-clause-each : goal.returns-in-Some-part_in-clause-each
+returns-in-Some-part_in-clause-each g c =
     let estimates = c.estimate_items.new.estimates in
     let are : CountState → Type 0 = λ s. AreEstimates s (fed_bytes g.I.Hash.hash_input) c.args.items.now (map g.V.CountMinValue.number estimates) in
     each_written _ _ _ _ _ _ _ _ (omega arith)
-    (wrote_down _ c.args.handle.now.value c.give.new.self.value c.deref_mut.result.now c.in-Some-part_of.sketch.now c.args.estimates.now estimates are (c.in-Some.ensures.sketch ∙ ap Some (sym c.deref_mut.ensures.value)) c.in-Some-part_of.ensures.which.0 (c.give.ensures ∙ ap Some (sym c.in-Some-part_of.ensures.which.1)) c.estimate_items.ensures.each)
+    (wrote_down _ c.args.handle.now.value c.give.new.self.value c.deref.result.now c.in-Some-part_in.sketch.now c.args.estimates.now estimates are (c.in-Some.ensures.sketch ∙ ap Some (sym c.deref.ensures)) c.in-Some-part_in.ensures (c.give.ensures ∙ ap Some (sym c.deref.ensures)) c.estimate_items.ensures.each)
 
 -- there is no sketch, or one of another kind
 pub returns-in-None-clause-each : goal.returns-in-None-clause-each
 returns-in-None-clause-each g c =
     let are : CountState → Type 0 = λ s. AreEstimates s (fed_bytes g.I.Hash.hash_input) c.args.items.now (map g.V.CountMinValue.number c.args.estimates.now) in
     each_written _ _ _ _ _ _ _ _ (omega arith)
-    (other_written _ c.args.handle.now.value c.give-in-None.new.self.value c.deref_mut.result.now c.args.estimates.now are (c.in-Some.ensures.sketch ∙ ap Some (sym c.deref_mut.ensures.value)) c.in-None.ensures.which c.give-in-None.ensures)
+    (other_written _ c.args.handle.now.value c.give-in-None.new.self.value c.deref.result.now c.args.estimates.now are (c.in-Some.ensures.sketch ∙ ap Some (sym c.deref.ensures)) c.in-None.ensures (c.give-in-None.ensures ∙ ap Some (sym c.deref.ensures)))
 
 pub returns-in_default-clause-each : goal.returns-in_default-clause-each
 returns-in_default-clause-each g c =

@@ -2,17 +2,18 @@ use Rattle.std.proofs.Common.{Some, map, sym, ap, ◌∙◌, refl}
 use Rattle.std.specs.Hash as fed
 use Rattle.sketch_base.specs.Hashes.{fed_bytes}
 use Rattle.datasketches_c.specs.Numbers.{ok}
+use Rattle.datasketches_c.specs.Sharing.{reads}
 use Rattle.datasketches_c.proofs.CountCallLemmas.{all_estimated}
 use Rattle.datasketches_c.proofs.count.estimate_all_strings.Goals as goal
 
 -- the sketch is put back
-pub returns-in-Some-part_of-clause-kept : goal.returns-in-Some-part_of-clause-kept
-returns-in-Some-part_of-clause-kept g c =
-    c.give.ensures ∙ (ap Some (sym c.in-Some-part_of.ensures.which.1) ∙ sym (c.in-Some.ensures.sketch ∙ ap Some (sym c.deref_mut.ensures.value)))
+pub returns-in-Some-part_in-clause-kept : goal.returns-in-Some-part_in-clause-kept
+returns-in-Some-part_in-clause-kept g c =
+    c.give.ensures ∙ sym c.in-Some.ensures.sketch
 
 -- each has its estimate
-pub returns-in-Some-part_of-clause-estimates : goal.returns-in-Some-part_of-clause-estimates
-returns-in-Some-part_of-clause-estimates g c =
-    all_estimated g.bound-8.part c.args.handle.now.value c.give.new.self.value c.deref_mut.result.now c.in-Some-part_of.sketch.now ok
-    (c.in-Some.ensures.sketch ∙ ap Some (sym c.deref_mut.ensures.value)) c.in-Some-part_of.ensures.which.0
+pub returns-in-Some-part_in-clause-estimates : goal.returns-in-Some-part_in-clause-estimates
+returns-in-Some-part_in-clause-estimates g c =
+    all_estimated (reads g.bound-8.part) c.args.handle.now.value c.give.new.self.value c.deref.result.now c.in-Some-part_in.sketch.now ok
+    (c.in-Some.ensures.sketch ∙ ap Some (sym c.deref.ensures)) c.in-Some-part_in.ensures
     (fed_bytes fed.str) (g.S.Strings.list c.args.strings.now) (map g.V.CountMinValue.number c.estimate_strings.new.estimates) refl c.estimate_strings.ensures.each

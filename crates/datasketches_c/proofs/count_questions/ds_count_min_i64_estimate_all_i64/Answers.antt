@@ -2,9 +2,10 @@ use Rattle.std.proofs.Common.{rules}
 use Rattle.std.specs.Hash as fed
 use Rattle.sketch_base.specs.Hashes.{fed_bytes}
 use Rattle.datasketches_c.specs.Kinds.{count_i64_of}
+use Rattle.datasketches_c.specs.Sharing.{reads}
 use Rattle.datasketches_c.proofs.CountCallLemmas.{own_numbers}
 use Rattle.datasketches_c.proofs.count_questions.ds_count_min_i64_estimate_all_i64.Goals as goal
 
 pub returns-clause-estimates : goal.returns-clause-estimates
 returns-clause-estimates c =
-    λ same. let said = own_numbers count_i64_of c.args.handle.now.value c.estimate_all.new.handle.value c.estimate_all.result (fed_bytes fed.i64) c.args.items.now c.estimate_all.new.estimates (c.estimate_all.ensures.each.told same) in search rules
+    λ same. let said = own_numbers (reads count_i64_of) c.args.handle.now.value c.estimate_all.new.handle.value c.estimate_all.result (fed_bytes fed.i64) c.args.items.now c.estimate_all.new.estimates (c.estimate_all.ensures.each.told same) in search rules

@@ -4,11 +4,11 @@ use Rattle.datasketches_c.proofs.KindLemmas.{wrote_down, none_written, other_wri
 use Rattle.datasketches_c.proofs.frequent.bounds.Goals as goal
 
 -- the handle has a sketch of the kind and gets it back, or it has none, or one of another kind
-pub returns-in-Some-part_of : goal.returns-in-Some-part_of
-returns-in-Some-part_of g c = wrote_down _ c.args.handle.now.value c.give.new.self.value c.deref_mut.result.now c.in-Some-part_of.sketch.now c.args.bounds.now c.bounds_of.result (λ s. AreBounds g.T.PartialEq.eq s c.args.item.now c.bounds_of.result) (c.in-Some.ensures.sketch ∙ ap Some (sym c.deref_mut.ensures.value)) c.in-Some-part_of.ensures.which.0 (c.give.ensures ∙ ap Some (sym c.in-Some-part_of.ensures.which.1)) c.bounds_of.ensures
+pub returns-in-Some-part_in : goal.returns-in-Some-part_in
+returns-in-Some-part_in g c = wrote_down _ c.args.handle.now.value c.give.new.self.value c.deref.result.now c.in-Some-part_in.sketch.now c.args.bounds.now c.bounds_of.result (λ s. AreBounds g.T.PartialEq.eq s c.args.item.now c.bounds_of.result) (c.in-Some.ensures.sketch ∙ ap Some (sym c.deref.ensures)) c.in-Some-part_in.ensures (c.give.ensures ∙ ap Some (sym c.deref.ensures)) c.bounds_of.ensures
 
 pub returns-in_default : goal.returns-in_default
 returns-in_default g c = none_written _ c.args.handle.now.value c.take.new.self.value c.args.bounds.now (λ s. AreBounds g.T.PartialEq.eq s c.args.item.now c.args.bounds.now) c.in_default.ensures.sketch c.in_default.ensures.emptied
 
 pub returns-in-None : goal.returns-in-None
-returns-in-None g c = other_written _ c.args.handle.now.value c.give-in-None.new.self.value c.deref_mut.result.now c.args.bounds.now (λ s. AreBounds g.T.PartialEq.eq s c.args.item.now c.args.bounds.now) (c.in-Some.ensures.sketch ∙ ap Some (sym c.deref_mut.ensures.value)) c.in-None.ensures.which c.give-in-None.ensures
+returns-in-None g c = other_written _ c.args.handle.now.value c.give-in-None.new.self.value c.deref.result.now c.args.bounds.now (λ s. AreBounds g.T.PartialEq.eq s c.args.item.now c.args.bounds.now) (c.in-Some.ensures.sketch ∙ ap Some (sym c.deref.ensures)) c.in-None.ensures (c.give-in-None.ensures ∙ ap Some (sym c.deref.ensures))

@@ -7,6 +7,7 @@ use Rattle.datasketches_c.specs.ManyHandles.{OnEachKind}
 use Rattle.datasketches_c.specs.Numbers.{ok}
 use Rattle.datasketches_c.specs.declared.any_sketch.AnySketch.{AnySketch}
 use Rattle.datasketches_c.specs.declared.handle.SketchHandle.{SketchHandle}
+use Rattle.datasketches_c.specs.Sharing.{reads}
 use Rattle.datasketches_c.proofs.AnswerLemmas.{handed_on}
 use Rattle.datasketches_c.proofs.Refusals.{is_done}
 use Rattle.datasketches_c.proofs.ManyHandleLemmas.{on_each_next, on_each_stopped, values_from}
@@ -21,7 +22,7 @@ returns-then-refusal-ne-OK-clause-kept g c =
 -- this handle is the first without a sketch of the kind
 pub returns-then-refusal-ne-OK-clause-call : goal.returns-then-refusal-ne-OK-clause-call
 returns-then-refusal-ne-OK-clause-call g c =
-    let part = g.K.Kind.part in
+    let part = reads g.K.Kind.part in
     let value : SketchHandle → Option AnySketch = λ handle. handle.value in
     let held : List (Option AnySketch) = map value c.args.handles.now in
     let v : Option AnySketch = value (get_or c.each.handles c.each.i c.index-handles-i.result) in
@@ -36,7 +37,7 @@ returns-then-refusal-ne-OK-clause-call g c =
 -- one handle more has a sketch of the kind
 pub each-preserved : goal.each-preserved
 each-preserved g c =
-    let part = g.K.Kind.part in
+    let part = reads g.K.Kind.part in
     let value : SketchHandle → Option AnySketch = λ handle. handle.value in
     let held : List (Option AnySketch) = map value c.args.handles.now in
     let v : Option AnySketch = value (get_or c.each.handles c.each.i c.index-handles-i.result) in

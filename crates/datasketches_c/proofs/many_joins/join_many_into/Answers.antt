@@ -7,6 +7,7 @@ use Rattle.datasketches_c.specs.ManyHandles.{OnEachKind, OrNoMemory}
 use Rattle.datasketches_c.specs.Numbers.{ok}
 use Rattle.datasketches_c.specs.declared.any_sketch.AnySketch.{AnySketch}
 use Rattle.datasketches_c.specs.declared.handle.SketchHandle.{SketchHandle}
+use Rattle.datasketches_c.specs.Sharing.{reads}
 use Rattle.datasketches_c.proofs.AnswerLemmas.{handed_on}
 use Rattle.datasketches_c.proofs.Refusals.{is_done}
 use Rattle.datasketches_c.proofs.ManyHandleLemmas.{on_each_less, on_each_moved, some_more}
@@ -15,7 +16,7 @@ use Rattle.datasketches_c.proofs.many_joins.join_many_into.Goals as goal
 -- a handle has no sketch of the kind
 pub returns-then-refusal-ne-OK-clause-call : goal.returns-then-refusal-ne-OK-clause-call
 returns-then-refusal-ne-OK-clause-call g c =
-    let part = g.K.Kind.part in
+    let part = reads g.K.Kind.part in
     let value : SketchHandle → Option AnySketch = λ handle. handle.value in
     let held : List (Option AnySketch) = map value c.args.handles.now in
     let z = c.refusal_of_handles-refusal.result in
@@ -25,7 +26,7 @@ returns-then-refusal-ne-OK-clause-call g c =
 -- there was no memory for the list
 pub returns-in_default-clause-call : goal.returns-in_default-clause-call
 returns-in_default-clause-call g c =
-    let part = g.K.Kind.part in
+    let part = reads g.K.Kind.part in
     let value : SketchHandle → Option AnySketch = λ handle. handle.value in
     let held : List (Option AnySketch) = map value c.args.handles.now in
     let z = c.refusal_number.result in
@@ -38,7 +39,7 @@ returns-in_default-clause-call g c =
 -- the sketches that were taken out are those of the handles
 pub returns-clause-call : goal.returns-clause-call
 returns-clause-call g c =
-    let part = g.K.Kind.part in
+    let part = reads g.K.Kind.part in
     let of : Option (Box AnySketch Global) → Option AnySketch = option_map (λ boxed. boxed.value) in
     let value : SketchHandle → Option AnySketch = λ handle. handle.value in
     let held : List (Option AnySketch) = map value c.args.handles.now in

@@ -4,6 +4,7 @@ use Rattle.std.specs.Option.{option_map}
 use Rattle.datasketches_c.specs.ManyHandles.{OnEachKind, OrNoMemory}
 use Rattle.datasketches_c.specs.Numbers.{ok}
 use Rattle.datasketches_c.specs.declared.any_sketch.AnySketch.{AnySketch}
+use Rattle.datasketches_c.specs.Sharing.{reads}
 use Rattle.datasketches_c.proofs.AnswerLemmas.{handed_on}
 use Rattle.datasketches_c.proofs.ManyHandleLemmas.{on_each_found, on_each_moved, some_more}
 use Rattle.datasketches_c.proofs.many_joins.join_taken.Goals as goal
@@ -11,7 +12,7 @@ use Rattle.datasketches_c.proofs.many_joins.join_taken.Goals as goal
 -- the sketches of the list are those of the handles
 pub returns-in-Ok-clause-call : goal.returns-in-Ok-clause-call
 returns-in-Ok-clause-call g c =
-    let part = g.K.Kind.part in
+    let part = reads g.K.Kind.part in
     let of : Option (Box AnySketch Global) → Option AnySketch = option_map (λ boxed. boxed.value) in
     let held : List (Option AnySketch) = map of c.args.taken.now in
     let others = map (λ other. other.now) c.deref.result.now in
@@ -23,7 +24,7 @@ returns-in-Ok-clause-call g c =
 -- there was no memory for the list
 pub returns-in-Err-clause-call : goal.returns-in-Err-clause-call
 returns-in-Err-clause-call g c =
-    let part = g.K.Kind.part in
+    let part = reads g.K.Kind.part in
     let of : Option (Box AnySketch Global) → Option AnySketch = option_map (λ boxed. boxed.value) in
     let held : List (Option AnySketch) = map of c.args.taken.now in
     let z = c.refusal_number.result in

@@ -1,0 +1,45 @@
+-- Sketches that several handles share.
+use Rattle.std.specs.Prelude.{◌≡◌, ◌⊎◌, Bool, true, false, Option, Some, None, ℤ}
+use Rattle.std.specs.Arc.{arc_value}
+use Rattle.sketch_base.specs.declared.fault.Fault.TheVariants.{NoMemory}
+use Rattle.datasketches_c.specs.Numbers.{no_sketch, refusal_number, wrong_kind}
+use Rattle.datasketches_c.specs.declared.any_sketch.AnySketch.{AnySketch}
+use Rattle.datasketches_c.specs.declared.any_sketch.AnySketch.TheVariants.{Filter, CountI64, CountU64, FrequentI64, FrequentU64, FrequentStrings, SharedFilter, SharedCountI64, SharedCountU64, SharedFrequentI64, SharedFrequentU64, SharedFrequentStrings}
+
+-- the sketch as one that is not shared
+abbrev pub unshared : AnySketch → AnySketch
+unshared (SharedFilter s) = Filter (arc_value s)
+unshared (SharedCountI64 s) = CountI64 (arc_value s)
+unshared (SharedCountU64 s) = CountU64 (arc_value s)
+unshared (SharedFrequentI64 s) = FrequentI64 (arc_value s)
+unshared (SharedFrequentU64 s) = FrequentU64 (arc_value s)
+unshared (SharedFrequentStrings s) = FrequentStrings (arc_value s)
+unshared held = held
+
+abbrev pub is_shared : AnySketch → Bool
+is_shared (SharedFilter s) = true
+is_shared (SharedCountI64 s) = true
+is_shared (SharedCountU64 s) = true
+is_shared (SharedFrequentI64 s) = true
+is_shared (SharedFrequentU64 s) = true
+is_shared (SharedFrequentStrings s) = true
+is_shared held = false
+
+-- the sketch of a kind, shared or not, where `part` gives one that is not shared
+abbrev pub reads : {S : Type 0} → (AnySketch → Option S) → AnySketch → Option S
+reads part held = part (unshared held)
+
+-- new holds the sketch of old, and shares it
+abbrev pub IsShareOf : Option AnySketch → Option AnySketch → Type 0
+IsShareOf (Some held) (Some share) = (unshared share ≡ unshared held) × (is_shared share ≡ true)
+IsShareOf held share = ⊥
+
+-- new holds the sketch of old for itself
+abbrev pub IsOwnOf : Option AnySketch → Option AnySketch → Type 0
+IsOwnOf (Some held) (Some own) = (unshared own ≡ unshared held) × (is_shared own ≡ false)
+IsOwnOf held own = ⊥
+
+-- why a call that shares a sketch is refused: there is none, it cannot be shared, or memory ran out
+abbrev pub IsShareRefusal : Option AnySketch → ℤ → Type 0
+IsShareRefusal None result = result ≡ no_sketch
+IsShareRefusal (Some held) result = (result ≡ wrong_kind) ⊎ (result ≡ refusal_number NoMemory)
