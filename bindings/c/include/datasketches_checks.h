@@ -242,17 +242,22 @@ static inline int32_t ds_check_string_rows(int32_t (*call)(ds_sketch *, bool, ui
 #define ds_count_min_u64_update_all_i64(...) ds_check_i64s(ds_count_min_u64_update_all_i64, __VA_ARGS__)
 #define ds_count_min_u64_update_all_string(...) ds_check_offsets(ds_count_min_u64_update_all_string, __VA_ARGS__)
 #define ds_count_min_u64_update_all_string_pairs(...) ds_check_pairs(ds_count_min_u64_update_all_string_pairs, __VA_ARGS__)
-#define ds_count_min_u64_update_all_weighted_u64(...) ds_check_u64s_with_weights_u64(ds_count_min_u64_update_all_weighted_u64, __VA_ARGS__)
-#define ds_count_min_u64_update_all_weighted_i64(...) ds_check_i64s_with_weights_u64(ds_count_min_u64_update_all_weighted_i64, __VA_ARGS__)
-#define ds_count_min_u64_update_all_weighted_string(...) ds_check_offsets_with_weights_u64(ds_count_min_u64_update_all_weighted_string, __VA_ARGS__)
-#define ds_count_min_u64_update_all_weighted_string_pairs(...) ds_check_pairs_with_weights_u64(ds_count_min_u64_update_all_weighted_string_pairs, __VA_ARGS__)
+#define ds_count_min_u64_update_all_weighted_u64(...) \
+    ds_check_u64s_with_weights_u64(ds_count_min_u64_update_all_weighted_u64, __VA_ARGS__)
+#define ds_count_min_u64_update_all_weighted_i64(...) \
+    ds_check_i64s_with_weights_u64(ds_count_min_u64_update_all_weighted_i64, __VA_ARGS__)
+#define ds_count_min_u64_update_all_weighted_string(...) \
+    ds_check_offsets_with_weights_u64(ds_count_min_u64_update_all_weighted_string, __VA_ARGS__)
+#define ds_count_min_u64_update_all_weighted_string_pairs(...) \
+    ds_check_pairs_with_weights_u64(ds_count_min_u64_update_all_weighted_string_pairs, __VA_ARGS__)
 #define ds_count_min_u64_update_words(...) ds_check_bytes(ds_count_min_u64_update_words, __VA_ARGS__)
 #define ds_count_min_u64_update_lines(...) ds_check_bytes(ds_count_min_u64_update_lines, __VA_ARGS__)
 #define ds_count_min_u64_estimate_string(...) ds_check_bytes_and_u64_out(ds_count_min_u64_estimate_string, __VA_ARGS__)
 #define ds_count_min_u64_estimate_all_u64(...) ds_check_u64s_with_u64s(ds_count_min_u64_estimate_all_u64, __VA_ARGS__)
 #define ds_count_min_u64_estimate_all_i64(...) ds_check_i64s_with_u64s(ds_count_min_u64_estimate_all_i64, __VA_ARGS__)
 #define ds_count_min_u64_estimate_all_string(...) ds_check_offsets_with_u64s(ds_count_min_u64_estimate_all_string, __VA_ARGS__)
-#define ds_count_min_u64_estimate_all_string_pairs(...) ds_check_pairs_with_u64s(ds_count_min_u64_estimate_all_string_pairs, __VA_ARGS__)
+#define ds_count_min_u64_estimate_all_string_pairs(...) \
+    ds_check_pairs_with_u64s(ds_count_min_u64_estimate_all_string_pairs, __VA_ARGS__)
 #define ds_count_min_u64_upper_bound_string(...) ds_check_bytes_and_u64_out(ds_count_min_u64_upper_bound_string, __VA_ARGS__)
 #define ds_count_min_u64_merge(...) ds_check_two_handles(ds_count_min_u64_merge, __VA_ARGS__)
 #define ds_count_min_u64_merge_all(...) ds_check_handles(ds_count_min_u64_merge_all, __VA_ARGS__)
@@ -264,17 +269,22 @@ static inline int32_t ds_check_string_rows(int32_t (*call)(ds_sketch *, bool, ui
 #define ds_count_min_i64_update_all_i64(...) ds_check_i64s(ds_count_min_i64_update_all_i64, __VA_ARGS__)
 #define ds_count_min_i64_update_all_string(...) ds_check_offsets(ds_count_min_i64_update_all_string, __VA_ARGS__)
 #define ds_count_min_i64_update_all_string_pairs(...) ds_check_pairs(ds_count_min_i64_update_all_string_pairs, __VA_ARGS__)
-#define ds_count_min_i64_update_all_weighted_u64(...) ds_check_u64s_with_weights_i64(ds_count_min_i64_update_all_weighted_u64, __VA_ARGS__)
-#define ds_count_min_i64_update_all_weighted_i64(...) ds_check_i64s_with_weights_i64(ds_count_min_i64_update_all_weighted_i64, __VA_ARGS__)
-#define ds_count_min_i64_update_all_weighted_string(...) ds_check_offsets_with_weights_i64(ds_count_min_i64_update_all_weighted_string, __VA_ARGS__)
-#define ds_count_min_i64_update_all_weighted_string_pairs(...) ds_check_pairs_with_weights_i64(ds_count_min_i64_update_all_weighted_string_pairs, __VA_ARGS__)
+#define ds_count_min_i64_update_all_weighted_u64(...) \
+    ds_check_u64s_with_weights_i64(ds_count_min_i64_update_all_weighted_u64, __VA_ARGS__)
+#define ds_count_min_i64_update_all_weighted_i64(...) \
+    ds_check_i64s_with_weights_i64(ds_count_min_i64_update_all_weighted_i64, __VA_ARGS__)
+#define ds_count_min_i64_update_all_weighted_string(...) \
+    ds_check_offsets_with_weights_i64(ds_count_min_i64_update_all_weighted_string, __VA_ARGS__)
+#define ds_count_min_i64_update_all_weighted_string_pairs(...) \
+    ds_check_pairs_with_weights_i64(ds_count_min_i64_update_all_weighted_string_pairs, __VA_ARGS__)
 #define ds_count_min_i64_update_words(...) ds_check_bytes(ds_count_min_i64_update_words, __VA_ARGS__)
 #define ds_count_min_i64_update_lines(...) ds_check_bytes(ds_count_min_i64_update_lines, __VA_ARGS__)
 #define ds_count_min_i64_estimate_string(...) ds_check_bytes_and_i64_out(ds_count_min_i64_estimate_string, __VA_ARGS__)
 #define ds_count_min_i64_estimate_all_u64(...) ds_check_u64s_with_i64s(ds_count_min_i64_estimate_all_u64, __VA_ARGS__)
 #define ds_count_min_i64_estimate_all_i64(...) ds_check_i64s_with_i64s(ds_count_min_i64_estimate_all_i64, __VA_ARGS__)
 #define ds_count_min_i64_estimate_all_string(...) ds_check_offsets_with_i64s(ds_count_min_i64_estimate_all_string, __VA_ARGS__)
-#define ds_count_min_i64_estimate_all_string_pairs(...) ds_check_pairs_with_i64s(ds_count_min_i64_estimate_all_string_pairs, __VA_ARGS__)
+#define ds_count_min_i64_estimate_all_string_pairs(...) \
+    ds_check_pairs_with_i64s(ds_count_min_i64_estimate_all_string_pairs, __VA_ARGS__)
 #define ds_count_min_i64_upper_bound_string(...) ds_check_bytes_and_i64_out(ds_count_min_i64_upper_bound_string, __VA_ARGS__)
 #define ds_count_min_i64_merge(...) ds_check_two_handles(ds_count_min_i64_merge, __VA_ARGS__)
 #define ds_count_min_i64_merge_all(...) ds_check_handles(ds_count_min_i64_merge_all, __VA_ARGS__)
@@ -288,7 +298,8 @@ static inline int32_t ds_check_string_rows(int32_t (*call)(ds_sketch *, bool, ui
 #define ds_frequent_items_u64_bounds_all(...) ds_check_u64s_with_bounds(ds_frequent_items_u64_bounds_all, __VA_ARGS__)
 #define ds_frequent_items_i64_bounds_all(...) ds_check_i64s_with_bounds(ds_frequent_items_i64_bounds_all, __VA_ARGS__)
 #define ds_frequent_items_string_bounds_all(...) ds_check_offsets_with_bounds(ds_frequent_items_string_bounds_all, __VA_ARGS__)
-#define ds_frequent_items_string_bounds_all_pairs(...) ds_check_pairs_with_bounds(ds_frequent_items_string_bounds_all_pairs, __VA_ARGS__)
+#define ds_frequent_items_string_bounds_all_pairs(...) \
+    ds_check_pairs_with_bounds(ds_frequent_items_string_bounds_all_pairs, __VA_ARGS__)
 #define ds_frequent_items_u64_merge(...) ds_check_two_handles(ds_frequent_items_u64_merge, __VA_ARGS__)
 #define ds_frequent_items_i64_merge(...) ds_check_two_handles(ds_frequent_items_i64_merge, __VA_ARGS__)
 #define ds_frequent_items_string_merge(...) ds_check_two_handles(ds_frequent_items_string_merge, __VA_ARGS__)
@@ -299,19 +310,26 @@ static inline int32_t ds_check_string_rows(int32_t (*call)(ds_sketch *, bool, ui
 #define ds_frequent_items_i64_update_all(...) ds_check_i64s(ds_frequent_items_i64_update_all, __VA_ARGS__)
 #define ds_frequent_items_string_update_all(...) ds_check_offsets(ds_frequent_items_string_update_all, __VA_ARGS__)
 #define ds_frequent_items_string_update_all_pairs(...) ds_check_pairs(ds_frequent_items_string_update_all_pairs, __VA_ARGS__)
-#define ds_frequent_items_u64_update_all_weighted(...) ds_check_u64s_with_weights_u64(ds_frequent_items_u64_update_all_weighted, __VA_ARGS__)
-#define ds_frequent_items_i64_update_all_weighted(...) ds_check_i64s_with_weights_u64(ds_frequent_items_i64_update_all_weighted, __VA_ARGS__)
-#define ds_frequent_items_string_update_all_weighted(...) ds_check_offsets_with_weights_u64(ds_frequent_items_string_update_all_weighted, __VA_ARGS__)
-#define ds_frequent_items_string_update_all_weighted_pairs(...) ds_check_pairs_with_weights_u64(ds_frequent_items_string_update_all_weighted_pairs, __VA_ARGS__)
+#define ds_frequent_items_u64_update_all_weighted(...) \
+    ds_check_u64s_with_weights_u64(ds_frequent_items_u64_update_all_weighted, __VA_ARGS__)
+#define ds_frequent_items_i64_update_all_weighted(...) \
+    ds_check_i64s_with_weights_u64(ds_frequent_items_i64_update_all_weighted, __VA_ARGS__)
+#define ds_frequent_items_string_update_all_weighted(...) \
+    ds_check_offsets_with_weights_u64(ds_frequent_items_string_update_all_weighted, __VA_ARGS__)
+#define ds_frequent_items_string_update_all_weighted_pairs(...) \
+    ds_check_pairs_with_weights_u64(ds_frequent_items_string_update_all_weighted_pairs, __VA_ARGS__)
 #define ds_frequent_items_u64_serialize(...) ds_check_buffer(ds_frequent_items_u64_serialize, __VA_ARGS__)
 #define ds_frequent_items_i64_serialize(...) ds_check_buffer(ds_frequent_items_i64_serialize, __VA_ARGS__)
 #define ds_frequent_items_string_serialize(...) ds_check_buffer(ds_frequent_items_string_serialize, __VA_ARGS__)
 #define ds_frequent_items_u64_deserialize(...) ds_check_bytes_and_size(ds_frequent_items_u64_deserialize, __VA_ARGS__)
 #define ds_frequent_items_i64_deserialize(...) ds_check_bytes_and_size(ds_frequent_items_i64_deserialize, __VA_ARGS__)
 #define ds_frequent_items_string_deserialize(...) ds_check_bytes_and_size(ds_frequent_items_string_deserialize, __VA_ARGS__)
-#define ds_frequent_items_u64_deserialize_with_key(...) ds_check_image_and_key(ds_frequent_items_u64_deserialize_with_key, __VA_ARGS__)
-#define ds_frequent_items_i64_deserialize_with_key(...) ds_check_image_and_key(ds_frequent_items_i64_deserialize_with_key, __VA_ARGS__)
-#define ds_frequent_items_string_deserialize_with_key(...) ds_check_image_and_key(ds_frequent_items_string_deserialize_with_key, __VA_ARGS__)
+#define ds_frequent_items_u64_deserialize_with_key(...) \
+    ds_check_image_and_key(ds_frequent_items_u64_deserialize_with_key, __VA_ARGS__)
+#define ds_frequent_items_i64_deserialize_with_key(...) \
+    ds_check_image_and_key(ds_frequent_items_i64_deserialize_with_key, __VA_ARGS__)
+#define ds_frequent_items_string_deserialize_with_key(...) \
+    ds_check_image_and_key(ds_frequent_items_string_deserialize_with_key, __VA_ARGS__)
 #define ds_frequent_items_u64_rows(...) ds_check_u64_rows(ds_frequent_items_u64_rows, __VA_ARGS__)
 #define ds_frequent_items_i64_rows(...) ds_check_i64_rows(ds_frequent_items_i64_rows, __VA_ARGS__)
 #define ds_frequent_items_string_rows(...) ds_check_string_rows(ds_frequent_items_string_rows, __VA_ARGS__)
