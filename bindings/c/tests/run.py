@@ -250,6 +250,15 @@ class Tests:
                 subprocess.run([*command, f"{self.built}/libdatasketches.a"], check=True)
                 ran = self.run([out])
                 self.check(f"{name}, {compiler}", ran.returncode == 0 and b"checks hold" in ran.stdout, ran)
+            objects = []
+            for flags in [["-std=c++17"], ["-std=c++20", *NO_EXCEPTIONS]]:
+                objects.append(os.path.join(self.work, f"both{len(os.listdir(self.work))}.o"))
+                command = [compiler, *WARNINGS, *SANITIZED, *flags, "-I", f"{C}/include", "-c", f"{HERE}/both.cpp"]
+                subprocess.run([*command, "-o", objects[-1]], check=True)
+            out = os.path.join(self.work, f"both{len(os.listdir(self.work))}")
+            subprocess.run([compiler, *SANITIZED, *objects, f"{self.built}/libdatasketches.a", "-o", out], check=True)
+            ran = self.run([out])
+            self.check(f"both forms in a program, {compiler}", ran.returncode == 0 and ran.stdout == b"both hold\n", ran)
             self.rejected_by(compiler)
 
     def rejected_by(self, compiler):
