@@ -25,7 +25,7 @@
  *
  * Results and weights are contiguous ranges of the sketch's type. `span(pointer, count)` makes a range of a pointer and a count.
  *
- * One call at a time uses a sketch, also a query. So no member is const. */
+ * One call at a time uses a sketch, also a query. So no member of a sketch is const. */
 #ifndef DATASKETCHES_HPP
 #define DATASKETCHES_HPP
 
