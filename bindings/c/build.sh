@@ -1,7 +1,7 @@
 #!/usr/bin/env bash
 # Builds the C library into a folder: libdatasketches.so.0 with its link, and libdatasketches.a: build.sh OUT [ARCHIVE].
 # ARCHIVE is what `rt lib` builds from `crates/datasketches_c`. Without it that crate is proved and built first, if it is not
-# built yet. The calls that draw keys are compiled from `src/`. `CC` names the compiler.
+# built yet. The calls in C are compiled from `src/`. `CC` names the compiler.
 set -euo pipefail
 here="$(cd "$(dirname "$0")" && pwd)"
 out="${1:?the folder to build into}"
@@ -18,14 +18,20 @@ if [ -z "$archive" ]; then
         exit 1
     }
 fi
-keys="$(mktemp -d)"
-trap 'rm -rf "$keys"' EXIT
-"${CC:-cc}" -std=c11 -O2 -Wall -Wextra -Wpedantic -Werror -fPIC -I"$here/include" -c "$here/src/keys.c" -o "$keys/keys.o"
+objects="$(mktemp -d)"
+trap 'rm -rf "$objects"' EXIT
+for source in "$here"/src/*.c; do
+    "${CC:-cc}" -std=c11 -O2 -Wall -Wextra -Wpedantic -Werror -fPIC -I"$here/include" -c "$source" \
+        -o "$objects/$(basename "$source" .c).o"
+done
 "${CC:-cc}" -shared -o "$out/libdatasketches.so.0" -Wl,-soname,libdatasketches.so.0 -Wl,-z,defs,-z,relro,-z,now \
     -Wl,--version-script="$here/datasketches.map" \
-    "$keys/keys.o" -Wl,--whole-archive "$archive" -Wl,--no-whole-archive "$heap"
+    "$objects"/*.o -Wl,--whole-archive "$archive" -Wl,--no-whole-archive "$heap"
 ln -sf libdatasketches.so.0 "$out/libdatasketches.so"
 rm -f "$out/libdatasketches.a"
-printf 'create %s\naddlib %s\naddlib %s\naddmod %s\nsave\nend\n' \
-    "$out/libdatasketches.a" "$archive" "$heap" "$keys/keys.o" | ar -M
+{
+    printf 'create %s\naddlib %s\naddlib %s\n' "$out/libdatasketches.a" "$archive" "$heap"
+    printf 'addmod %s\n' "$objects"/*.o
+    printf 'save\nend\n'
+} | ar -M
 echo "built $out/libdatasketches.so.0 and $out/libdatasketches.a"

@@ -13,8 +13,8 @@ setup(
     ext_modules=[
         Extension(
             "datasketches_rattle._sketches",
-            sources=[*sorted(glob.glob("src/*.c")), "../c/src/keys.c"],
-            depends=glob.glob("src/*.h") + [ARCHIVE, "../c/include/datasketches.h"],
+            sources=sorted(glob.glob("src/*.c") + glob.glob("../c/src/*.c")),
+            depends=glob.glob("src/*.h") + glob.glob("../c/include/*.h") + [ARCHIVE],
             include_dirs=["../c/include"],
             extra_objects=[ARCHIVE],
             extra_compile_args=["-std=c11", "-fvisibility=hidden"],

@@ -15,7 +15,7 @@
  *
  * A call returns the first error in this order:
  *
- *  1. DS_BAD_ARGUMENT, by the checks of this header (see below).
+ *  1. DS_BAD_ARGUMENT, by the checks of `datasketches_checks.h` (see below).
  *  2. Errors of arguments: DS_BAD_OFFSETS, DS_NO_ROOM if items and their weights or results differ in number,
  *     DS_INVALID_UTF8, DS_BAD_FRACTION.
  *  3. Errors of handles: DS_NO_SKETCH if the handle has no sketch, DS_WRONG_KIND if its sketch is of a kind without this call;
@@ -38,9 +38,18 @@
  *  5. The program has one `malloc`, `realloc` and `free`, which the library calls.
  *  6. A `bool` that the library reads is 0 or 1.
  *
- * This header checks parts of rule 2, at next to no cost. The same handle twice, a handle that is also in the array of others, a
- * null pointer with a count above 0, or a null pointer in a pair returns DS_BAD_ARGUMENT. A null pointer with the count 0 means
- * no values. These checks are macros of the calls' names: `(ds_bloom_union)(a, b)`, in brackets, is the call without them.
+ * `datasketches_checks.h`, which this header includes, checks parts of rule 2, at next to no cost. The same handle twice, a handle
+ * that is also in the array of others, a null pointer with a count above 0, or a null pointer in a pair returns DS_BAD_ARGUMENT. A
+ * null pointer with the count 0 means no values. `ds_free(NULL)` does nothing. These checks are macros of the calls' names, so
+ * callers from other languages have none. `(ds_bloom_union)(a, b)`, in brackets, is the call without them. Define `DS_NO_CHECKS`
+ * before this header to leave all out.
+ *
+ * The interface of the library file is fixed within a soname (`libdatasketches.so.0`). A call keeps its name, its result and its
+ * parameters, with their types and order. A result keeps its number. A structure keeps its members, their types and order, and
+ * its size: it never grows. A call that writes other numbers gets another structure and another name, so the name of a call is the
+ * version of what it writes. A later library of the same soname may have more calls, more errors and other messages. So take each
+ * number below 0 as an error, also one that this header does not name. The functions and macros of these headers, and
+ * `DS_MIN_RESULT`, are compiled into a program: they are no part of that interface and may change with each version.
  */
 #ifndef DATASKETCHES_H
 #define DATASKETCHES_H
@@ -76,7 +85,7 @@ enum {
     DS_WRONG_KIND = -2,    /* the sketch is of a kind without this call */
     DS_NO_ROOM = -3,       /* a buffer of the caller has not the length that the call needs */
     DS_BAD_FRACTION = -4,  /* a fraction is not above 0 and at most 1 */
-    DS_BAD_ARGUMENT = -5,  /* from this header alone: the same handle twice, null with a count above 0, or null in a pair */
+    DS_BAD_ARGUMENT = -5,  /* from checks alone: the same handle twice, null with a count above 0, or null in a pair */
     DS_NO_RANDOM = -7      /* a key was to be drawn, and the system has no random bytes */
 };
 
@@ -122,41 +131,13 @@ enum {
 enum { DS_SKETCH_ERRORS(DS_AS_CONSTANT) DS_MIN_RESULT = -44 };
 #undef DS_AS_CONSTANT
 
-/* Returns the name of a result, as "Mismatch". Never null. */
-static inline const char *ds_result_name(int32_t result)
-{
-#define DS_AS_NAME(number, constant, name, message) case number: return name;
-    switch (result) {
-    case DS_NO_SKETCH: return "NoSketch";
-    case DS_WRONG_KIND: return "WrongKind";
-    case DS_NO_ROOM: return "NoRoom";
-    case DS_BAD_FRACTION: return "BadFraction";
-    case DS_BAD_ARGUMENT: return "BadArgument";
-    case DS_NO_RANDOM: return "NoRandom";
-    DS_SKETCH_ERRORS(DS_AS_NAME)
-    default: return result < 0 ? "Unknown" : "Ok";
-    }
-#undef DS_AS_NAME
-}
+/* Returns the name of a result, as "Mismatch", and its message, as "shapes or seeds differ". They are never null, and are never
+ * freed. A result of 0 or more is "Ok" and "ok". A number below 0 that is no result is "Unknown" and "unknown". */
+const char *ds_result_name(int32_t result);
+const char *ds_result_message(int32_t result);
 
-/* Returns the message of a result, as "shapes or seeds differ". Never null. */
-static inline const char *ds_result_message(int32_t result)
-{
-#define DS_AS_MESSAGE(number, constant, name, message) case number: return message;
-    switch (result) {
-    case DS_NO_SKETCH: return "the handle has no sketch";
-    case DS_WRONG_KIND: return "the sketch is of another kind";
-    case DS_NO_ROOM: return "the buffer has not the length that is needed";
-    case DS_BAD_FRACTION: return "the fraction is not above 0 and at most 1";
-    case DS_BAD_ARGUMENT: return "the same handle twice, or null with a count above 0 or in a pair";
-    case DS_NO_RANDOM: return "the system has no random bytes for a key";
-    DS_SKETCH_ERRORS(DS_AS_MESSAGE)
-    default: return result < 0 ? "unknown" : "ok";
-    }
-#undef DS_AS_MESSAGE
-}
-
-/* Frees the handle's sketch, of any kind, if any. The handle is then DS_NONE, and may be freed again. */
+/* Frees the handle's sketch, of any kind, if any. The handle is then DS_NONE, and may be freed again. `ds_free(NULL)` does
+ * nothing. */
 void ds_free(ds_sketch *handle);
 
 /* Puts a copy of the other handle's sketch, of any kind, into this handle. The other handle keeps its own. Returns DS_NO_SKETCH
@@ -573,416 +554,6 @@ int32_t ds_frequent_items_string_rows(ds_sketch *handle, bool no_false_negatives
                                       size_t room_for_bytes, uint64_t *offsets, size_t num_offsets,
                                       ds_frequent_items_bounds *bounds, size_t num_bounds, size_t *count, size_t *num_bytes);
 
-/* --- The checks of arguments. --- */
-
-/* Returns the pointer that is passed in place of null if the count is 0. */
-static inline void *ds_no_values(void)
-{
-    static uint64_t none;
-    return &none;
-}
-
-/* Returns whether there are strings at null, or a string is at null. */
-static inline bool ds_have_null(const ds_string *strings, size_t count)
-{
-    bool found = false;
-    if (!strings) return count > 0;
-    for (size_t i = 0; i < count; i++) found |= !strings[i].bytes;
-    return found;
-}
-
-/* Returns whether there are handles at null, or the handle is one of them. */
-static inline bool ds_have_handle(const ds_sketch *others, size_t count, const ds_sketch *handle)
-{
-    if (!others) return count > 0;
-    return (uintptr_t)handle - (uintptr_t)others < count * sizeof *others;
-}
-
-#define DS_CHECK_HANDLES(call) \
-    static inline int32_t call##_checked(ds_sketch *handle, ds_sketch *other) \
-    { \
-        return handle == other ? DS_BAD_ARGUMENT : call(handle, other); \
-    }
-#define DS_CHECK_MANY_HANDLES(call) \
-    static inline int32_t call##_checked(ds_sketch *handle, ds_sketch *others, size_t count) \
-    { \
-        if (ds_have_handle(others, count, handle)) return DS_BAD_ARGUMENT; \
-        return call(handle, others ? others : (ds_sketch *)ds_no_values(), count); \
-    }
-#define DS_CHECK_ITEMS(call, type) \
-    static inline int32_t call##_checked(ds_sketch *handle, const type *items, size_t count) \
-    { \
-        if (!items && count) return DS_BAD_ARGUMENT; \
-        return call(handle, items ? items : (const type *)ds_no_values(), count); \
-    }
-#define DS_CHECK_ITEMS_AND(call, type, other) \
-    static inline int32_t call##_checked(ds_sketch *handle, const type *items, size_t count, other last) \
-    { \
-        if (!items && count) return DS_BAD_ARGUMENT; \
-        return call(handle, items ? items : (const type *)ds_no_values(), count, last); \
-    }
-#define DS_CHECK_IMAGE_AND_SEED(call) \
-    static inline int32_t call##_checked(ds_sketch *handle, const uint8_t *image, size_t length, uint64_t seed, \
-                                         size_t max_bytes) \
-    { \
-        if (!image && length) return DS_BAD_ARGUMENT; \
-        return call(handle, image ? image : (const uint8_t *)ds_no_values(), length, seed, max_bytes); \
-    }
-#define DS_CHECK_IMAGE_AND_KEY(call) \
-    static inline int32_t call##_checked(ds_sketch *handle, const uint8_t *image, size_t length, size_t max_bytes, uint64_t k0, \
-                                         uint64_t k1) \
-    { \
-        if (!image && length) return DS_BAD_ARGUMENT; \
-        return call(handle, image ? image : (const uint8_t *)ds_no_values(), length, max_bytes, k0, k1); \
-    }
-#define DS_CHECK_ITEMS_AND_RESULTS(call, type, result) \
-    static inline int32_t call##_checked(ds_sketch *handle, const type *items, size_t count, result *results, \
-                                         size_t num_results) \
-    { \
-        if ((!items && count) || (!results && num_results)) return DS_BAD_ARGUMENT; \
-        return call(handle, items ? items : (const type *)ds_no_values(), count, \
-                    results ? results : (result *)ds_no_values(), num_results); \
-    }
-#define DS_CHECK_STRINGS(call) \
-    static inline int32_t call##_checked(ds_sketch *handle, const uint8_t *bytes, size_t num_bytes, \
-                                         const uint64_t *offsets, size_t num_offsets) \
-    { \
-        if ((!bytes && num_bytes) || (!offsets && num_offsets)) return DS_BAD_ARGUMENT; \
-        return call(handle, bytes ? bytes : (const uint8_t *)ds_no_values(), num_bytes, \
-                    offsets ? offsets : (const uint64_t *)ds_no_values(), num_offsets); \
-    }
-#define DS_CHECK_STRINGS_AND_RESULTS(call, result) \
-    static inline int32_t call##_checked(ds_sketch *handle, const uint8_t *bytes, size_t num_bytes, \
-                                         const uint64_t *offsets, size_t num_offsets, result *results, size_t num_results) \
-    { \
-        if ((!bytes && num_bytes) || (!offsets && num_offsets) || (!results && num_results)) return DS_BAD_ARGUMENT; \
-        return call(handle, bytes ? bytes : (const uint8_t *)ds_no_values(), num_bytes, \
-                    offsets ? offsets : (const uint64_t *)ds_no_values(), num_offsets, \
-                    results ? results : (result *)ds_no_values(), num_results); \
-    }
-#define DS_CHECK_PAIRS(call) \
-    static inline int32_t call##_checked(ds_sketch *handle, const ds_string *strings, size_t count) \
-    { \
-        if (ds_have_null(strings, count)) return DS_BAD_ARGUMENT; \
-        return call(handle, strings ? strings : (const ds_string *)ds_no_values(), count); \
-    }
-#define DS_CHECK_PAIRS_AND_RESULTS(call, result) \
-    static inline int32_t call##_checked(ds_sketch *handle, const ds_string *strings, size_t count, result *results, \
-                                         size_t num_results) \
-    { \
-        if (ds_have_null(strings, count) || (!results && num_results)) return DS_BAD_ARGUMENT; \
-        return call(handle, strings ? strings : (const ds_string *)ds_no_values(), count, \
-                    results ? results : (result *)ds_no_values(), num_results); \
-    }
-#define DS_CHECK_BUFFER(call) \
-    static inline int32_t call##_checked(ds_sketch *handle, uint8_t *out, size_t capacity, size_t *written) \
-    { \
-        if (!out && capacity) return DS_BAD_ARGUMENT; \
-        return call(handle, out ? out : (uint8_t *)ds_no_values(), capacity, written); \
-    }
-#define DS_CHECK_STRING_ROWS(call) \
-    static inline int32_t call##_checked(ds_sketch *handle, bool no_false_negatives, uint64_t threshold, uint8_t *bytes, \
-                                         size_t room_for_bytes, uint64_t *offsets, size_t num_offsets, \
-                                         ds_frequent_items_bounds *bounds, size_t num_bounds, size_t *count, size_t *num_bytes) \
-    { \
-        uint64_t *no_offsets = (uint64_t *)ds_no_values(); \
-        ds_frequent_items_bounds *no_bounds = (ds_frequent_items_bounds *)ds_no_values(); \
-        if ((!bytes && room_for_bytes) || (!offsets && num_offsets) || (!bounds && num_bounds)) return DS_BAD_ARGUMENT; \
-        return call(handle, no_false_negatives, threshold, bytes ? bytes : (uint8_t *)ds_no_values(), room_for_bytes, \
-                    offsets ? offsets : no_offsets, num_offsets, bounds ? bounds : no_bounds, num_bounds, count, num_bytes); \
-    }
-#define DS_CHECK_ROWS(call, type) \
-    static inline int32_t call##_checked(ds_sketch *handle, bool no_false_negatives, uint64_t threshold, type *items, \
-                                         size_t num_items, ds_frequent_items_bounds *bounds, size_t num_bounds, size_t *count) \
-    { \
-        if ((!items && num_items) || (!bounds && num_bounds)) return DS_BAD_ARGUMENT; \
-        return call(handle, no_false_negatives, threshold, items ? items : (type *)ds_no_values(), num_items, \
-                    bounds ? bounds : (ds_frequent_items_bounds *)ds_no_values(), num_bounds, count); \
-    }
-
-DS_CHECK_HANDLES(ds_clone)
-DS_CHECK_ITEMS(ds_bloom_insert_string, uint8_t)
-DS_CHECK_ITEMS(ds_bloom_insert_all_u64, uint64_t)
-DS_CHECK_ITEMS(ds_bloom_insert_all_i64, int64_t)
-DS_CHECK_STRINGS(ds_bloom_insert_all_string)
-DS_CHECK_PAIRS(ds_bloom_insert_all_string_pairs)
-DS_CHECK_ITEMS(ds_bloom_contains_string, uint8_t)
-DS_CHECK_ITEMS_AND_RESULTS(ds_bloom_contains_all_u64, uint64_t, bool)
-DS_CHECK_ITEMS_AND_RESULTS(ds_bloom_contains_all_i64, int64_t, bool)
-DS_CHECK_STRINGS_AND_RESULTS(ds_bloom_contains_all_string, bool)
-DS_CHECK_PAIRS_AND_RESULTS(ds_bloom_contains_all_string_pairs, bool)
-DS_CHECK_HANDLES(ds_bloom_union)
-DS_CHECK_MANY_HANDLES(ds_bloom_union_all)
-DS_CHECK_HANDLES(ds_bloom_intersect)
-DS_CHECK_HANDLES(ds_bloom_difference)
-DS_CHECK_HANDLES(ds_bloom_equal)
-DS_CHECK_BUFFER(ds_bloom_serialize)
-DS_CHECK_ITEMS_AND(ds_bloom_deserialize, uint8_t, size_t)
-DS_CHECK_ITEMS_AND(ds_count_min_u64_update_string, uint8_t, uint64_t)
-DS_CHECK_ITEMS(ds_count_min_u64_update_all_u64, uint64_t)
-DS_CHECK_ITEMS(ds_count_min_u64_update_all_i64, int64_t)
-DS_CHECK_STRINGS(ds_count_min_u64_update_all_string)
-DS_CHECK_PAIRS(ds_count_min_u64_update_all_string_pairs)
-DS_CHECK_ITEMS_AND_RESULTS(ds_count_min_u64_update_all_weighted_u64, uint64_t, const uint64_t)
-DS_CHECK_ITEMS_AND_RESULTS(ds_count_min_u64_update_all_weighted_i64, int64_t, const uint64_t)
-DS_CHECK_STRINGS_AND_RESULTS(ds_count_min_u64_update_all_weighted_string, const uint64_t)
-DS_CHECK_PAIRS_AND_RESULTS(ds_count_min_u64_update_all_weighted_string_pairs, const uint64_t)
-DS_CHECK_ITEMS_AND(ds_count_min_u64_estimate_string, uint8_t, uint64_t *)
-DS_CHECK_ITEMS_AND_RESULTS(ds_count_min_u64_estimate_all_u64, uint64_t, uint64_t)
-DS_CHECK_ITEMS_AND_RESULTS(ds_count_min_u64_estimate_all_i64, int64_t, uint64_t)
-DS_CHECK_STRINGS_AND_RESULTS(ds_count_min_u64_estimate_all_string, uint64_t)
-DS_CHECK_PAIRS_AND_RESULTS(ds_count_min_u64_estimate_all_string_pairs, uint64_t)
-DS_CHECK_ITEMS_AND(ds_count_min_u64_upper_bound_string, uint8_t, uint64_t *)
-DS_CHECK_HANDLES(ds_count_min_u64_merge)
-DS_CHECK_MANY_HANDLES(ds_count_min_u64_merge_all)
-DS_CHECK_HANDLES(ds_count_min_u64_equal)
-DS_CHECK_BUFFER(ds_count_min_u64_serialize)
-DS_CHECK_IMAGE_AND_SEED(ds_count_min_u64_deserialize)
-DS_CHECK_ITEMS_AND(ds_count_min_i64_update_string, uint8_t, int64_t)
-DS_CHECK_ITEMS(ds_count_min_i64_update_all_u64, uint64_t)
-DS_CHECK_ITEMS(ds_count_min_i64_update_all_i64, int64_t)
-DS_CHECK_STRINGS(ds_count_min_i64_update_all_string)
-DS_CHECK_PAIRS(ds_count_min_i64_update_all_string_pairs)
-DS_CHECK_ITEMS_AND_RESULTS(ds_count_min_i64_update_all_weighted_u64, uint64_t, const int64_t)
-DS_CHECK_ITEMS_AND_RESULTS(ds_count_min_i64_update_all_weighted_i64, int64_t, const int64_t)
-DS_CHECK_STRINGS_AND_RESULTS(ds_count_min_i64_update_all_weighted_string, const int64_t)
-DS_CHECK_PAIRS_AND_RESULTS(ds_count_min_i64_update_all_weighted_string_pairs, const int64_t)
-DS_CHECK_ITEMS_AND(ds_count_min_i64_estimate_string, uint8_t, int64_t *)
-DS_CHECK_ITEMS_AND_RESULTS(ds_count_min_i64_estimate_all_u64, uint64_t, int64_t)
-DS_CHECK_ITEMS_AND_RESULTS(ds_count_min_i64_estimate_all_i64, int64_t, int64_t)
-DS_CHECK_STRINGS_AND_RESULTS(ds_count_min_i64_estimate_all_string, int64_t)
-DS_CHECK_PAIRS_AND_RESULTS(ds_count_min_i64_estimate_all_string_pairs, int64_t)
-DS_CHECK_ITEMS_AND(ds_count_min_i64_upper_bound_string, uint8_t, int64_t *)
-DS_CHECK_HANDLES(ds_count_min_i64_merge)
-DS_CHECK_MANY_HANDLES(ds_count_min_i64_merge_all)
-DS_CHECK_HANDLES(ds_count_min_i64_equal)
-DS_CHECK_BUFFER(ds_count_min_i64_serialize)
-DS_CHECK_IMAGE_AND_SEED(ds_count_min_i64_deserialize)
-DS_CHECK_ITEMS_AND(ds_frequent_items_string_update, uint8_t, uint64_t)
-DS_CHECK_ITEMS(ds_frequent_items_string_update_words, uint8_t)
-DS_CHECK_ITEMS(ds_frequent_items_string_update_lines, uint8_t)
-DS_CHECK_ITEMS(ds_count_min_i64_update_lines, uint8_t)
-DS_CHECK_ITEMS(ds_count_min_i64_update_words, uint8_t)
-DS_CHECK_ITEMS(ds_count_min_u64_update_lines, uint8_t)
-DS_CHECK_ITEMS(ds_count_min_u64_update_words, uint8_t)
-DS_CHECK_ITEMS(ds_bloom_insert_lines, uint8_t)
-DS_CHECK_ITEMS(ds_bloom_insert_words, uint8_t)
-DS_CHECK_ITEMS_AND(ds_frequent_items_string_bounds, uint8_t, ds_frequent_items_bounds *)
-DS_CHECK_ITEMS_AND_RESULTS(ds_frequent_items_u64_bounds_all, uint64_t, ds_frequent_items_bounds)
-DS_CHECK_ITEMS_AND_RESULTS(ds_frequent_items_i64_bounds_all, int64_t, ds_frequent_items_bounds)
-DS_CHECK_STRINGS_AND_RESULTS(ds_frequent_items_string_bounds_all, ds_frequent_items_bounds)
-DS_CHECK_PAIRS_AND_RESULTS(ds_frequent_items_string_bounds_all_pairs, ds_frequent_items_bounds)
-DS_CHECK_HANDLES(ds_frequent_items_u64_merge)
-DS_CHECK_HANDLES(ds_frequent_items_i64_merge)
-DS_CHECK_HANDLES(ds_frequent_items_string_merge)
-DS_CHECK_MANY_HANDLES(ds_frequent_items_u64_merge_all)
-DS_CHECK_MANY_HANDLES(ds_frequent_items_i64_merge_all)
-DS_CHECK_MANY_HANDLES(ds_frequent_items_string_merge_all)
-DS_CHECK_ITEMS(ds_frequent_items_u64_update_all, uint64_t)
-DS_CHECK_ITEMS(ds_frequent_items_i64_update_all, int64_t)
-DS_CHECK_STRINGS(ds_frequent_items_string_update_all)
-DS_CHECK_PAIRS(ds_frequent_items_string_update_all_pairs)
-DS_CHECK_ITEMS_AND_RESULTS(ds_frequent_items_u64_update_all_weighted, uint64_t, const uint64_t)
-DS_CHECK_ITEMS_AND_RESULTS(ds_frequent_items_i64_update_all_weighted, int64_t, const uint64_t)
-DS_CHECK_STRINGS_AND_RESULTS(ds_frequent_items_string_update_all_weighted, const uint64_t)
-DS_CHECK_PAIRS_AND_RESULTS(ds_frequent_items_string_update_all_weighted_pairs, const uint64_t)
-DS_CHECK_BUFFER(ds_frequent_items_u64_serialize)
-DS_CHECK_BUFFER(ds_frequent_items_i64_serialize)
-DS_CHECK_BUFFER(ds_frequent_items_string_serialize)
-DS_CHECK_ITEMS_AND(ds_frequent_items_u64_deserialize, uint8_t, size_t)
-DS_CHECK_ITEMS_AND(ds_frequent_items_i64_deserialize, uint8_t, size_t)
-DS_CHECK_ITEMS_AND(ds_frequent_items_string_deserialize, uint8_t, size_t)
-DS_CHECK_IMAGE_AND_KEY(ds_frequent_items_u64_deserialize_with_key)
-DS_CHECK_IMAGE_AND_KEY(ds_frequent_items_i64_deserialize_with_key)
-DS_CHECK_IMAGE_AND_KEY(ds_frequent_items_string_deserialize_with_key)
-DS_CHECK_ROWS(ds_frequent_items_u64_rows, uint64_t)
-DS_CHECK_ROWS(ds_frequent_items_i64_rows, int64_t)
-DS_CHECK_STRING_ROWS(ds_frequent_items_string_rows)
-
-#define ds_clone(handle, other) ds_clone_checked(handle, other)
-#define ds_bloom_insert_string(handle, item, length) ds_bloom_insert_string_checked(handle, item, length)
-#define ds_bloom_insert_all_u64(handle, items, count) ds_bloom_insert_all_u64_checked(handle, items, count)
-#define ds_bloom_insert_all_i64(handle, items, count) ds_bloom_insert_all_i64_checked(handle, items, count)
-#define ds_bloom_insert_all_string(handle, bytes, num_bytes, offsets, num_offsets) \
-    ds_bloom_insert_all_string_checked(handle, bytes, num_bytes, offsets, num_offsets)
-#define ds_bloom_insert_all_string_pairs(handle, strings, count) ds_bloom_insert_all_string_pairs_checked(handle, strings, count)
-#define ds_bloom_contains_string(handle, item, length) ds_bloom_contains_string_checked(handle, item, length)
-#define ds_bloom_contains_all_u64(handle, items, count, results, num_results) \
-    ds_bloom_contains_all_u64_checked(handle, items, count, results, num_results)
-#define ds_bloom_contains_all_i64(handle, items, count, results, num_results) \
-    ds_bloom_contains_all_i64_checked(handle, items, count, results, num_results)
-#define ds_bloom_contains_all_string(handle, bytes, num_bytes, offsets, num_offsets, results, num_results) \
-    ds_bloom_contains_all_string_checked(handle, bytes, num_bytes, offsets, num_offsets, results, num_results)
-#define ds_bloom_contains_all_string_pairs(handle, strings, count, results, num_results) \
-    ds_bloom_contains_all_string_pairs_checked(handle, strings, count, results, num_results)
-#define ds_bloom_union(handle, other) ds_bloom_union_checked(handle, other)
-#define ds_bloom_union_all(handle, others, count) ds_bloom_union_all_checked(handle, others, count)
-#define ds_bloom_intersect(handle, other) ds_bloom_intersect_checked(handle, other)
-#define ds_bloom_difference(handle, other) ds_bloom_difference_checked(handle, other)
-#define ds_bloom_equal(handle, other) ds_bloom_equal_checked(handle, other)
-#define ds_bloom_serialize(handle, out, capacity, written) ds_bloom_serialize_checked(handle, out, capacity, written)
-#define ds_bloom_deserialize(handle, image, length, max_bytes) \
-    ds_bloom_deserialize_checked(handle, image, length, max_bytes)
-#define ds_count_min_u64_update_string(handle, item, length, weight) \
-    ds_count_min_u64_update_string_checked(handle, item, length, weight)
-#define ds_count_min_u64_update_all_u64(handle, items, count) \
-    ds_count_min_u64_update_all_u64_checked(handle, items, count)
-#define ds_count_min_u64_update_all_i64(handle, items, count) \
-    ds_count_min_u64_update_all_i64_checked(handle, items, count)
-#define ds_count_min_u64_update_all_string(handle, bytes, num_bytes, offsets, num_offsets) \
-    ds_count_min_u64_update_all_string_checked(handle, bytes, num_bytes, offsets, num_offsets)
-#define ds_count_min_u64_update_all_string_pairs(handle, strings, count) \
-    ds_count_min_u64_update_all_string_pairs_checked(handle, strings, count)
-#define ds_count_min_u64_update_all_weighted_u64(handle, items, count, weights, num_weights) \
-    ds_count_min_u64_update_all_weighted_u64_checked(handle, items, count, weights, num_weights)
-#define ds_count_min_u64_update_all_weighted_i64(handle, items, count, weights, num_weights) \
-    ds_count_min_u64_update_all_weighted_i64_checked(handle, items, count, weights, num_weights)
-#define ds_count_min_u64_update_all_weighted_string(handle, bytes, num_bytes, offsets, num_offsets, weights, num_weights) \
-    ds_count_min_u64_update_all_weighted_string_checked(handle, bytes, num_bytes, offsets, num_offsets, weights, num_weights)
-#define ds_count_min_u64_update_all_weighted_string_pairs(handle, strings, count, weights, num_weights) \
-    ds_count_min_u64_update_all_weighted_string_pairs_checked(handle, strings, count, weights, num_weights)
-#define ds_count_min_u64_estimate_string(handle, item, length, estimate) \
-    ds_count_min_u64_estimate_string_checked(handle, item, length, estimate)
-#define ds_count_min_u64_estimate_all_u64(handle, items, count, estimates, num_estimates) \
-    ds_count_min_u64_estimate_all_u64_checked(handle, items, count, estimates, num_estimates)
-#define ds_count_min_u64_estimate_all_i64(handle, items, count, estimates, num_estimates) \
-    ds_count_min_u64_estimate_all_i64_checked(handle, items, count, estimates, num_estimates)
-#define ds_count_min_u64_estimate_all_string(handle, bytes, num_bytes, offsets, num_offsets, estimates, num_estimates) \
-    ds_count_min_u64_estimate_all_string_checked(handle, bytes, num_bytes, offsets, num_offsets, estimates, num_estimates)
-#define ds_count_min_u64_estimate_all_string_pairs(handle, strings, count, estimates, num_estimates) \
-    ds_count_min_u64_estimate_all_string_pairs_checked(handle, strings, count, estimates, num_estimates)
-#define ds_count_min_u64_upper_bound_string(handle, item, length, bound) \
-    ds_count_min_u64_upper_bound_string_checked(handle, item, length, bound)
-#define ds_count_min_u64_merge(handle, other) ds_count_min_u64_merge_checked(handle, other)
-#define ds_count_min_u64_merge_all(handle, others, count) ds_count_min_u64_merge_all_checked(handle, others, count)
-#define ds_count_min_u64_equal(handle, other) ds_count_min_u64_equal_checked(handle, other)
-#define ds_count_min_u64_serialize(handle, out, capacity, written) \
-    ds_count_min_u64_serialize_checked(handle, out, capacity, written)
-#define ds_count_min_u64_deserialize(handle, image, length, seed, max_bytes) \
-    ds_count_min_u64_deserialize_checked(handle, image, length, seed, max_bytes)
-#define ds_count_min_i64_update_string(handle, item, length, weight) \
-    ds_count_min_i64_update_string_checked(handle, item, length, weight)
-#define ds_count_min_i64_update_all_u64(handle, items, count) \
-    ds_count_min_i64_update_all_u64_checked(handle, items, count)
-#define ds_count_min_i64_update_all_i64(handle, items, count) \
-    ds_count_min_i64_update_all_i64_checked(handle, items, count)
-#define ds_count_min_i64_update_all_string(handle, bytes, num_bytes, offsets, num_offsets) \
-    ds_count_min_i64_update_all_string_checked(handle, bytes, num_bytes, offsets, num_offsets)
-#define ds_count_min_i64_update_all_string_pairs(handle, strings, count) \
-    ds_count_min_i64_update_all_string_pairs_checked(handle, strings, count)
-#define ds_count_min_i64_update_all_weighted_u64(handle, items, count, weights, num_weights) \
-    ds_count_min_i64_update_all_weighted_u64_checked(handle, items, count, weights, num_weights)
-#define ds_count_min_i64_update_all_weighted_i64(handle, items, count, weights, num_weights) \
-    ds_count_min_i64_update_all_weighted_i64_checked(handle, items, count, weights, num_weights)
-#define ds_count_min_i64_update_all_weighted_string(handle, bytes, num_bytes, offsets, num_offsets, weights, num_weights) \
-    ds_count_min_i64_update_all_weighted_string_checked(handle, bytes, num_bytes, offsets, num_offsets, weights, num_weights)
-#define ds_count_min_i64_update_all_weighted_string_pairs(handle, strings, count, weights, num_weights) \
-    ds_count_min_i64_update_all_weighted_string_pairs_checked(handle, strings, count, weights, num_weights)
-#define ds_count_min_i64_estimate_string(handle, item, length, estimate) \
-    ds_count_min_i64_estimate_string_checked(handle, item, length, estimate)
-#define ds_count_min_i64_estimate_all_u64(handle, items, count, estimates, num_estimates) \
-    ds_count_min_i64_estimate_all_u64_checked(handle, items, count, estimates, num_estimates)
-#define ds_count_min_i64_estimate_all_i64(handle, items, count, estimates, num_estimates) \
-    ds_count_min_i64_estimate_all_i64_checked(handle, items, count, estimates, num_estimates)
-#define ds_count_min_i64_estimate_all_string(handle, bytes, num_bytes, offsets, num_offsets, estimates, num_estimates) \
-    ds_count_min_i64_estimate_all_string_checked(handle, bytes, num_bytes, offsets, num_offsets, estimates, num_estimates)
-#define ds_count_min_i64_estimate_all_string_pairs(handle, strings, count, estimates, num_estimates) \
-    ds_count_min_i64_estimate_all_string_pairs_checked(handle, strings, count, estimates, num_estimates)
-#define ds_count_min_i64_upper_bound_string(handle, item, length, bound) \
-    ds_count_min_i64_upper_bound_string_checked(handle, item, length, bound)
-#define ds_count_min_i64_merge(handle, other) ds_count_min_i64_merge_checked(handle, other)
-#define ds_count_min_i64_merge_all(handle, others, count) ds_count_min_i64_merge_all_checked(handle, others, count)
-#define ds_count_min_i64_equal(handle, other) ds_count_min_i64_equal_checked(handle, other)
-#define ds_count_min_i64_serialize(handle, out, capacity, written) \
-    ds_count_min_i64_serialize_checked(handle, out, capacity, written)
-#define ds_count_min_i64_deserialize(handle, image, length, seed, max_bytes) \
-    ds_count_min_i64_deserialize_checked(handle, image, length, seed, max_bytes)
-#define ds_frequent_items_string_update(handle, item, length, weight) \
-    ds_frequent_items_string_update_checked(handle, item, length, weight)
-#define ds_frequent_items_string_update_words(handle, text, length) \
-    ds_frequent_items_string_update_words_checked(handle, text, length)
-#define ds_frequent_items_string_update_lines(handle, text, length) \
-    ds_frequent_items_string_update_lines_checked(handle, text, length)
-#define ds_count_min_i64_update_lines(handle, text, length) ds_count_min_i64_update_lines_checked(handle, text, length)
-#define ds_count_min_i64_update_words(handle, text, length) ds_count_min_i64_update_words_checked(handle, text, length)
-#define ds_count_min_u64_update_lines(handle, text, length) ds_count_min_u64_update_lines_checked(handle, text, length)
-#define ds_count_min_u64_update_words(handle, text, length) ds_count_min_u64_update_words_checked(handle, text, length)
-#define ds_bloom_insert_lines(handle, text, length) ds_bloom_insert_lines_checked(handle, text, length)
-#define ds_bloom_insert_words(handle, text, length) ds_bloom_insert_words_checked(handle, text, length)
-#define ds_frequent_items_string_bounds(handle, item, length, bounds) \
-    ds_frequent_items_string_bounds_checked(handle, item, length, bounds)
-#define ds_frequent_items_u64_bounds_all(handle, items, count, bounds, num_bounds) \
-    ds_frequent_items_u64_bounds_all_checked(handle, items, count, bounds, num_bounds)
-#define ds_frequent_items_i64_bounds_all(handle, items, count, bounds, num_bounds) \
-    ds_frequent_items_i64_bounds_all_checked(handle, items, count, bounds, num_bounds)
-#define ds_frequent_items_string_bounds_all(handle, bytes, num_bytes, offsets, num_offsets, bounds, num_bounds) \
-    ds_frequent_items_string_bounds_all_checked(handle, bytes, num_bytes, offsets, num_offsets, bounds, num_bounds)
-#define ds_frequent_items_string_bounds_all_pairs(handle, strings, count, bounds, num_bounds) \
-    ds_frequent_items_string_bounds_all_pairs_checked(handle, strings, count, bounds, num_bounds)
-#define ds_frequent_items_u64_merge(handle, other) ds_frequent_items_u64_merge_checked(handle, other)
-#define ds_frequent_items_i64_merge(handle, other) ds_frequent_items_i64_merge_checked(handle, other)
-#define ds_frequent_items_string_merge(handle, other) ds_frequent_items_string_merge_checked(handle, other)
-#define ds_frequent_items_u64_merge_all(handle, others, count) ds_frequent_items_u64_merge_all_checked(handle, others, count)
-#define ds_frequent_items_i64_merge_all(handle, others, count) ds_frequent_items_i64_merge_all_checked(handle, others, count)
-#define ds_frequent_items_string_merge_all(handle, others, count) \
-    ds_frequent_items_string_merge_all_checked(handle, others, count)
-#define ds_frequent_items_u64_update_all(handle, items, count) \
-    ds_frequent_items_u64_update_all_checked(handle, items, count)
-#define ds_frequent_items_i64_update_all(handle, items, count) \
-    ds_frequent_items_i64_update_all_checked(handle, items, count)
-#define ds_frequent_items_string_update_all(handle, bytes, num_bytes, offsets, num_offsets) \
-    ds_frequent_items_string_update_all_checked(handle, bytes, num_bytes, offsets, num_offsets)
-#define ds_frequent_items_string_update_all_pairs(handle, strings, count) \
-    ds_frequent_items_string_update_all_pairs_checked(handle, strings, count)
-#define ds_frequent_items_u64_update_all_weighted(handle, items, count, weights, num_weights) \
-    ds_frequent_items_u64_update_all_weighted_checked(handle, items, count, weights, num_weights)
-#define ds_frequent_items_i64_update_all_weighted(handle, items, count, weights, num_weights) \
-    ds_frequent_items_i64_update_all_weighted_checked(handle, items, count, weights, num_weights)
-#define ds_frequent_items_string_update_all_weighted(handle, bytes, num_bytes, offsets, num_offsets, weights, num_weights) \
-    ds_frequent_items_string_update_all_weighted_checked(handle, bytes, num_bytes, offsets, num_offsets, weights, num_weights)
-#define ds_frequent_items_string_update_all_weighted_pairs(handle, strings, count, weights, num_weights) \
-    ds_frequent_items_string_update_all_weighted_pairs_checked(handle, strings, count, weights, num_weights)
-#define ds_frequent_items_u64_serialize(handle, out, capacity, written) \
-    ds_frequent_items_u64_serialize_checked(handle, out, capacity, written)
-#define ds_frequent_items_i64_serialize(handle, out, capacity, written) \
-    ds_frequent_items_i64_serialize_checked(handle, out, capacity, written)
-#define ds_frequent_items_string_serialize(handle, out, capacity, written) \
-    ds_frequent_items_string_serialize_checked(handle, out, capacity, written)
-#define ds_frequent_items_u64_deserialize(handle, image, length, max_bytes) \
-    ds_frequent_items_u64_deserialize_checked(handle, image, length, max_bytes)
-#define ds_frequent_items_i64_deserialize(handle, image, length, max_bytes) \
-    ds_frequent_items_i64_deserialize_checked(handle, image, length, max_bytes)
-#define ds_frequent_items_string_deserialize(handle, image, length, max_bytes) \
-    ds_frequent_items_string_deserialize_checked(handle, image, length, max_bytes)
-#define ds_frequent_items_u64_deserialize_with_key(handle, image, length, max_bytes, k0, k1) \
-    ds_frequent_items_u64_deserialize_with_key_checked(handle, image, length, max_bytes, k0, k1)
-#define ds_frequent_items_i64_deserialize_with_key(handle, image, length, max_bytes, k0, k1) \
-    ds_frequent_items_i64_deserialize_with_key_checked(handle, image, length, max_bytes, k0, k1)
-#define ds_frequent_items_string_deserialize_with_key(handle, image, length, max_bytes, k0, k1) \
-    ds_frequent_items_string_deserialize_with_key_checked(handle, image, length, max_bytes, k0, k1)
-#define ds_frequent_items_u64_rows(handle, no_false_negatives, threshold, items, num_items, bounds, num_bounds, count) \
-    ds_frequent_items_u64_rows_checked(handle, no_false_negatives, threshold, items, num_items, bounds, num_bounds, count)
-#define ds_frequent_items_i64_rows(handle, no_false_negatives, threshold, items, num_items, bounds, num_bounds, count) \
-    ds_frequent_items_i64_rows_checked(handle, no_false_negatives, threshold, items, num_items, bounds, num_bounds, count)
-#define ds_frequent_items_string_rows(handle, no_false_negatives, threshold, bytes, room_for_bytes, offsets, num_offsets, \
-                                      bounds, num_bounds, count, num_bytes) \
-    ds_frequent_items_string_rows_checked(handle, no_false_negatives, threshold, bytes, room_for_bytes, offsets, num_offsets, \
-                                          bounds, num_bounds, count, num_bytes)
-
-#undef DS_CHECK_HANDLES
-#undef DS_CHECK_ITEMS
-#undef DS_CHECK_ITEMS_AND
-#undef DS_CHECK_IMAGE_AND_SEED
-#undef DS_CHECK_IMAGE_AND_KEY
-#undef DS_CHECK_STRINGS
-#undef DS_CHECK_ITEMS_AND_RESULTS
-#undef DS_CHECK_STRINGS_AND_RESULTS
-#undef DS_CHECK_PAIRS
-#undef DS_CHECK_PAIRS_AND_RESULTS
-#undef DS_CHECK_BUFFER
-#undef DS_CHECK_STRING_ROWS
-#undef DS_CHECK_ROWS
-
 /* --- Columns with nulls, and columns with offsets of 32 bits, as in Arrow. These functions of the header allocate nothing. A
  * bitmap `validity` says which items are there: item i is there if bit `validity_offset` + i is set, where bit k is the bit
  * k % 8, lowest first, of byte k / 8. If `validity` is null, all items are there. For a slice of a column, pass pointers to its
@@ -1012,7 +583,7 @@ static inline bool ds_is_valid(const uint8_t *validity, size_t validity_offset, 
         for (size_t i = 0; i < count; i++) bad |= offsets[i + 1] < offsets[i]; \
         if (count) bad |= offsets[0] < 0 || (uint64_t)offsets[count] > num_bytes; \
         if (bad) return DS_BAD_OFFSETS; \
-        if (!bytes) bytes = (const uint8_t *)ds_no_values(); \
+        if (!bytes) bytes = (const uint8_t *)""; \
         for (size_t i = 0; i < count; i++) { \
             if (validity && !ds_is_valid(validity, validity_offset, i)) continue; \
             strings[found].bytes = bytes + offsets[i]; \
@@ -1055,7 +626,8 @@ static inline size_t ds_select(const bool *results, size_t count, size_t *positi
     return found;
 }
 
-/* --- Chunks of a stream. These calls take no handle, and return a number of bytes, never an error. --- */
+/* --- Chunks of a stream. These calls take no handle, and return a number of bytes, never an error. With the checks they return 0
+ * at null, whatever the length. --- */
 
 /* Returns the number of bytes through the last byte of ASCII white space, or through the last LF, or 0 if there is none. Words or
  * lines that begin after them may go on in the next chunk: pass on the bytes before, and put the rest before the next chunk. */
@@ -1065,40 +637,13 @@ size_t ds_finished_lines(const uint8_t *text, size_t length);
 /* Returns the number of bytes before the first that is not part of valid UTF-8, or `length` if all are UTF-8. */
 size_t ds_valid_utf8(const uint8_t *text, size_t length);
 
-/* These checks return 0 at null, whatever the length. */
-static inline size_t ds_finished_words_checked(const uint8_t *text, size_t length)
-{
-    return text ? (ds_finished_words)(text, length) : 0;
-}
-
-static inline size_t ds_finished_lines_checked(const uint8_t *text, size_t length)
-{
-    return text ? (ds_finished_lines)(text, length) : 0;
-}
-
-static inline size_t ds_valid_utf8_checked(const uint8_t *text, size_t length)
-{
-    return text ? (ds_valid_utf8)(text, length) : 0;
-}
-
-#define ds_finished_words(text, length) ds_finished_words_checked(text, length)
-#define ds_finished_lines(text, length) ds_finished_lines_checked(text, length)
-#define ds_valid_utf8(text, length) ds_valid_utf8_checked(text, length)
-
-/* --- Items that others choose. This call takes no handle, and returns a hash, never an error. --- */
+/* --- Items that others choose. This call takes no handle, and returns a hash, never an error. With the checks, null means no
+ * bytes, whatever the length. --- */
 
 /* Returns SipHash-1-3 of bytes under a key of two words. A caller who chooses the items of a sketch can choose ones whose hashes
  * collide. Insert this hash in place of such an item, as a `uint64_t`: without the key, no way is known to choose items that
  * collide. Choose both words at random and keep them secret. Sketches that are merged need the same key. */
 uint64_t ds_keyed_hash(const uint8_t *bytes, size_t length, uint64_t k0, uint64_t k1);
-
-/* Null means no bytes, whatever the length. */
-static inline uint64_t ds_keyed_hash_checked(const uint8_t *bytes, size_t length, uint64_t k0, uint64_t k1)
-{
-    return (ds_keyed_hash)(bytes ? bytes : (const uint8_t *)ds_no_values(), bytes ? length : 0, k0, k1);
-}
-
-#define ds_keyed_hash(bytes, length, k0, k1) ds_keyed_hash_checked(bytes, length, k0, k1)
 
 /* --- Sizes from error targets. Each call writes a size if it returns DS_OK, and leaves it as it was otherwise. --- */
 
@@ -1129,5 +674,7 @@ int32_t ds_bloom_suggest_num_hashes(uint64_t num_bits, uint64_t num_items, uint1
 #ifdef __cplusplus
 }
 #endif
+
+#include "datasketches_checks.h"
 
 #endif

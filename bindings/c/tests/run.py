@@ -1,5 +1,6 @@
 """Tests the C library. The header is compared with the sources and the built archive. The calls are made from C: plainly, with
-the address sanitizer, under valgrind, with allocations that fail or are counted, and compared with the program line by line.
+the address sanitizer, under valgrind, with allocations that fail or are counted, and compared with the program line by line. The
+header for C++ is tested with each compiler that is there, in C++17 and C++20, with exceptions and without.
 
     python3 bindings/c/tests/run.py crates/datasketches_cli/out/datasketches_cli [ARCHIVE]
 
@@ -23,7 +24,11 @@ import loads  # noqa: E402
 
 CRATE = f"{TOP}/crates/datasketches_c"
 COMPILER = next(name for name in [os.environ.get("CC", "cc"), "gcc", "clang"] if shutil.which(name))
-STRICT = ["-std=c11", "-Wall", "-Wextra", "-Wpedantic", "-Werror"]
+CPP_COMPILERS = [name for name in ["g++", "clang++"] if shutil.which(name)]
+WARNINGS = ["-Wall", "-Wextra", "-Wpedantic", "-Werror"]
+STRICT = ["-std=c11", *WARNINGS]
+SANITIZED = ["-g", "-O0", "-fsanitize=address,undefined", "-fno-sanitize-recover=all"]
+NO_EXCEPTIONS = ["-fno-exceptions", "-DDATASKETCHES_NO_EXCEPTIONS"]
 
 # The key of tables under which the program runs where it is compared: the 16 bytes of the key in the C tests.
 TABLE_KEY = {"DATASKETCHES_TABLE_KEY": bytes(range(16)).hex()}
@@ -33,6 +38,66 @@ CROSSES = {"u8": "uint8_t", "u16": "uint16_t", "u32": "uint32_t", "u64": "uint64
 CROSSES |= {"usize": "size_t", "bool": "bool", "SketchHandle": "ds_sketch", "FilterStatus": "ds_bloom_status"}
 CROSSES |= {"CountStatus": "ds_count_min_status", "ItemBounds": "ds_frequent_items_bounds"}
 CROSSES |= {"FrequentStatus": "ds_frequent_items_status"}
+
+# The start of a function in C++, in which each line of `NOT_CPP` does not compile: the line, the compiler's message, and flags.
+CPP_BEFORE = """#include <datasketches.hpp>
+#include <list>
+using namespace datasketches;
+void function(bloom_filter &filter, count_min_sketch<std::uint64_t> &counts, count_min_sketch<std::int64_t> &with_sign,
+              frequent_items<std::string> &heavy, frequent_items<std::uint64_t> &numbers)
+{
+    const std::vector<std::string> words{"a", "b"};
+    const std::vector<std::uint64_t> items{1, 2};
+    std::vector<bool> bits(2);
+    const std::array<bool, 2> fixed{};
+    (void)filter, (void)counts, (void)with_sign, (void)heavy, (void)numbers, (void)bits, (void)fixed;
+"""
+NOT_CPP = [
+    *[(f"auto copy({name});", "deleted", []) for name in ["filter", "counts", "with_sign", "heavy", "numbers"]],
+    *[(f"std::remove_reference_t<decltype({name})> copy; copy = {name};", "deleted", [])
+      for name in ["filter", "counts", "heavy"]],
+    ("bloom_filter filters[2] = {filter, filter};", "deleted", []),
+    ("auto report = heavy.rows(error_type::no_false_positives); auto copy = report;", "deleted", []),
+    ("counts = with_sign;", "no (match|viable)", []),
+    ("counts.merge(with_sign);", "cannot convert|no matching|non-const lvalue reference", []),
+    ("filter.union_all(std::vector<count_min_sketch<std::uint64_t>>());", "of the type of this sketch", []),
+    ("filter.union_all(std::list<bloom_filter>());", "a contiguous range", []),
+    ("const std::vector<bloom_filter> filters; filter.union_all(filters);", "are not const", []),
+    ("count_min_sketch<int> sketch;", "weights of count_min_sketch are std::int64_t or std::uint64_t", []),
+    ("count_min_sketch<double> sketch;", "weights of count_min_sketch are std::int64_t or std::uint64_t", []),
+    ("frequent_items<int> sketch(64);", "items of frequent_items are std::string, std::int64_t or std::uint64_t", []),
+    ("frequent_items<std::string_view> sketch(64);", "items of frequent_items are std::string", []),
+    ("frequent_items<std::string> sketch = 64;", "conversion", []),
+    ('counts.update("a", -1);', "a weight is of an integer type", []),
+    ('counts.update("a", 1.5);', "a weight is of an integer type", []),
+    ('with_sign.update("a", std::uint64_t{1});', "a weight is of an integer type", []),
+    ('heavy.update("a", 2);', "a weight is of an integer type", []),
+    ("counts.update_all(words, std::vector<int>{1, 2});", "of the type of this sketch", []),
+    ("with_sign.update_all(words, items);", "of the type of this sketch", []),
+    ("counts.update_all(words, std::list<std::uint64_t>{1, 2});", "a contiguous range", []),
+    ("filter.insert(true);", "an item is a string, or an integer", []),
+    ("filter.insert('a');", "an item is a string, or an integer", []),
+    ("filter.insert(1.5);", "an item is a string, or an integer", []),
+    ("filter.insert(nullptr);", "an item is a string, or an integer", []),
+    ("filter.insert(words);", "an item is a string, or an integer", []),
+    ('filter.insert_all(std::string("abc"));', "an item is a string, or an integer", []),
+    ("filter.insert_all(7);", "items are a range", []),
+    ("heavy.update(1);", "converts to std::string_view", []),
+    ("numbers.update(-1);", "an item of frequent_items is of an integer type", []),
+    ('numbers.update("a");', "an item of frequent_items is of an integer type", []),
+    ("numbers.update_all(words);", "an item of frequent_items is of an integer type", []),
+    ('numbers.update_all(offset_strings("", nullptr, 0));', "the items are numbers, and no strings", []),
+    ("filter.contains_all(words, bits);", "a contiguous range", []),
+    ("filter.contains_all(words, fixed);", "are not const", []),
+    ("counts.estimate_all(words, std::array<int, 2>());", "of the type of this sketch", []),
+    ("with_sign.halve();", "only weights in std::uint64_t are halved", []),
+    ("with_sign.decay(1, 2);", "only weights in std::uint64_t decay", []),
+    ('numbers.update_words("a b");', "only a sketch of strings counts words", []),
+    ("filter.insert(1);", "nodiscard|unused", NO_EXCEPTIONS),
+    ("if (filter.contains(1)) return;", "convert|bool", NO_EXCEPTIONS),
+    ("bloom_filter made(64, 1);", "no matching", NO_EXCEPTIONS),
+    ("(void)(filter == filter);", "no match|invalid operands", NO_EXCEPTIONS),
+]
 
 
 def read(path):
@@ -71,14 +136,33 @@ def without_key(sources):
             for name, (result, kinds) in sources.items() if name.endswith("_with_key")}
 
 
+def functions(path, end):
+    """Returns the functions of a header or a C source, as `exported` does. `end` is what comes after the parameters."""
+    text = re.sub(r"/\*.*?\*/", "", read(path), flags=re.DOTALL)
+    found = {}
+    for result, name, inside in re.findall(rf"^(void|\w+_t|const char \*) ?(ds_\w+)\(([^)]*)\){end}", text, re.MULTILINE):
+        kinds = [re.fullmatch(r"\s*(.*?)\w+", it).group(1).strip() for it in inside.split(",")]
+        found[name] = (result, [kind for kind in kinds if kind or inside != "void"])
+    return found
+
+
+def in_c_sources():
+    """Returns the functions of `src/` but those of `keys.c`, as `exported` does."""
+    found = {}
+    for path in glob.glob(f"{C}/src/*.c"):
+        found |= functions(path, r"\n\{")
+    return found
+
+
 def declared():
     """Returns the prototypes of the header, as `exported` does."""
-    text = re.sub(r"/\*.*?\*/", "", read(f"{C}/include/datasketches.h"), flags=re.DOTALL)
-    found = {}
-    for result, name, inside in re.findall(r"^(void|\w+_t) (ds_\w+)\(([^)]*)\);", text, re.MULTILINE):
-        kinds = [re.fullmatch(r"\s*(.*?)\w+", it).group(1).strip() for it in inside.split(",")]
-        found[name] = (result, kinds)
-    return found
+    return functions(f"{C}/include/datasketches.h", ";")
+
+
+def needs_check(name, kinds):
+    """Returns whether a call needs a check of its arguments: it frees, or takes two handles, or a pointer with a count."""
+    counted = any(kind.endswith("*") and kind != "ds_sketch *" and count == "size_t" for kind, count in zip(kinds, kinds[1:]))
+    return name == "ds_free" or kinds.count("ds_sketch *") > 1 or counted
 
 
 class Tests:
@@ -112,15 +196,21 @@ class Tests:
 
     def header(self):
         """Compares prototypes with exports, and the header's error numbers, names and strings with the sources."""
-        sources, header = exported(), declared()
-        calls = sources | without_key(sources)
-        self.check("there are exports", len(sources) > 30 and len(calls) == len(sources) + 6)
+        sources, header, in_c = exported(), declared(), in_c_sources()
+        calls = sources | without_key(sources) | in_c
+        self.check("there are exports", len(sources) > 30 and len(calls) == len(sources) + 6 + len(in_c))
+        self.check("there are calls in C", {"ds_result_name", "ds_result_message"} <= set(in_c), in_c)
         for name in sorted(calls | header):
             self.check(f"the prototype of {name}", calls.get(name) == header.get(name), (calls.get(name), header.get(name)))
         for path, flags, wanted in [(self.archive, [], sources), (f"{self.built}/libdatasketches.so", ["-D"], calls)]:
             listed = subprocess.run(["nm", "--defined-only", "-g", *flags, path], capture_output=True, check=True, text=True)
             names = {row.split()[2].split("@")[0] for row in listed.stdout.splitlines() if len(row.split()) == 3}
             self.check(f"what {os.path.basename(path)} exports", names - {"DATASKETCHES_0"} == set(wanted), names ^ set(wanted))
+        checked = re.findall(r"^#define (ds_\w+)\(\.\.\.\)(?: \\\n   )? ds_check_\w+\((\w+), __VA_ARGS__\)$",
+                             read(f"{C}/include/datasketches_checks.h"), re.MULTILINE)
+        needed = {name for name, (_, kinds) in header.items() if needs_check(name, kinds)}
+        self.check("the calls with checks", {name for name, _ in checked} == needed, {name for name, _ in checked} ^ needed)
+        self.check("each check makes its call", all(name == made for name, made in checked) and len(checked) == len(needed))
         numbers = re.findall(r"Fault::(\w+) => (-\d+)", read(f"{CRATE}/src/status_code.rt"))
         texts = dict(re.findall(r'fault\.\w+ = \(codes "(\w+)", codes "(.*)"\)',
                                 read(f"{TOP}/crates/sketch_base/specs/Faults.antt")))
@@ -142,6 +232,45 @@ class Tests:
         for name, command in [("plainly", [plain]), ("with addresses checked", [checked]), ("under valgrind", [*valgrind, plain])]:
             ran = self.run(command)
             self.check(f"{os.path.basename(source)}, {name}", ran.returncode == 0 and b"checks hold" in ran.stdout, ran)
+
+    def without_checks(self):
+        """Runs the calls of `checks.c` that need no check, with a header that has none."""
+        ran = self.run([self.compile(f"{HERE}/checks.c", *SANITIZED, "-DDS_NO_CHECKS")])
+        self.check("calls without checks", ran.returncode == 0 and b"checks hold" in ran.stdout, ran)
+
+    def cplusplus(self):
+        """Tests the header for C++: what it does, and what does not compile with it."""
+        self.check("there is a compiler for C++", bool(CPP_COMPILERS))
+        for compiler in CPP_COMPILERS:
+            runs = [("C++17", ["-std=c++17", *SANITIZED]), ("C++20", ["-std=c++20", *SANITIZED])]
+            runs.append(("C++17 without exceptions", ["-std=c++17", "-O2", *NO_EXCEPTIONS]))
+            for name, flags in runs:
+                out = os.path.join(self.work, f"cpp{len(os.listdir(self.work))}")
+                command = [compiler, *WARNINGS, *flags, "-I", f"{C}/include", f"{HERE}/cpp.cpp", "-o", out]
+                subprocess.run([*command, f"{self.built}/libdatasketches.a"], check=True)
+                ran = self.run([out])
+                self.check(f"{name}, {compiler}", ran.returncode == 0 and b"checks hold" in ran.stdout, ran)
+            objects = []
+            for flags in [["-std=c++17"], ["-std=c++20", *NO_EXCEPTIONS]]:
+                objects.append(os.path.join(self.work, f"both{len(os.listdir(self.work))}.o"))
+                command = [compiler, *WARNINGS, *SANITIZED, *flags, "-I", f"{C}/include", "-c", f"{HERE}/both.cpp"]
+                subprocess.run([*command, "-o", objects[-1]], check=True)
+            out = os.path.join(self.work, f"both{len(os.listdir(self.work))}")
+            subprocess.run([compiler, *SANITIZED, *objects, f"{self.built}/libdatasketches.a", "-o", out], check=True)
+            ran = self.run([out])
+            self.check(f"both forms in a program, {compiler}", ran.returncode == 0 and ran.stdout == b"both hold\n", ran)
+            self.rejected_by(compiler)
+
+    def rejected_by(self, compiler):
+        """Checks that a compiler rejects each line of `NOT_CPP`, and says why, and accepts what they stand in."""
+        for line, phrase, flags in [("", "", []), ("", "", NO_EXCEPTIONS), *NOT_CPP]:
+            source = os.path.join(self.work, "rejected.cpp")
+            with open(source, "w", encoding="utf-8") as it:
+                it.write(CPP_BEFORE + line + "\n}\n")
+            command = [compiler, "-std=c++17", *WARNINGS, *flags, "-I", f"{C}/include", "-fsyntax-only", source]
+            ran = subprocess.run(command, capture_output=True, text=True)
+            holds = ran.returncode != 0 and re.search(phrase, ran.stderr) if line else ran.returncode == 0
+            self.check(f"{compiler} rejects {line}" if line else f"{compiler} accepts the lines before", holds, ran.stderr)
 
     def sizes(self):
         checked = self.compile(f"{HERE}/sizes.c", "-g", "-O1", "-fsanitize=address,undefined", "-fno-sanitize-recover=all")
@@ -224,9 +353,18 @@ class Tests:
         self.check("the example", ran.stdout.decode().splitlines() == shown, ran)
         needed = subprocess.run(["readelf", "-d", example], capture_output=True, text=True, check=True).stdout
         self.check("the name of the shared object", "libdatasketches.so.0" in needed)
-        if shutil.which("g++"):
-            whole = ["g++", "-x", "c++", "-Wall", "-Wextra", "-Werror", "-fsyntax-only", f"{prefix}/include/datasketches.h"]
-            self.check("the header in C++", subprocess.run(whole).returncode == 0)
+        headers = ["datasketches.h", "datasketches_checks.h", "datasketches.hpp"]
+        for name in headers[:2]:
+            whole = [COMPILER, *STRICT, "-x", "c", "-fsyntax-only", f"{prefix}/include/{name}"]
+            self.check(f"{name} in C", subprocess.run(whole).returncode == 0)
+        for compiler in CPP_COMPILERS:
+            for name in headers:
+                whole = [compiler, "-std=c++17", "-x", "c++", *WARNINGS, "-fsyntax-only", f"{prefix}/include/{name}"]
+                self.check(f"{name} with {compiler}", subprocess.run(whole, stderr=subprocess.DEVNULL).returncode == 0)
+            subprocess.run([compiler, "-std=c++17", *WARNINGS, f"{C}/example.cpp", "-o", example, *flags], check=True)
+            ran = self.run([example], b"to be or not to be", LD_LIBRARY_PATH=f"{prefix}/lib")
+            shown = re.findall(r"^ \*     (?!\$)(.*)$", read(f"{C}/example.cpp"), re.MULTILINE)
+            self.check(f"the example with {compiler}", ran.stdout.decode().splitlines() == shown, ran)
 
 
 def is_played(line, reply):
@@ -316,6 +454,9 @@ def main():
         tests.calls(f"{HERE}/keys.c")
         tests.calls(f"{HERE}/table_keys.c")
         tests.calls(f"{HERE}/many.c")
+        tests.calls(f"{HERE}/checks.c")
+        tests.without_checks()
+        tests.cplusplus()
         tests.sizes()
         tests.keys_drawn()
         tests.requests_counted()

@@ -1,0 +1,342 @@
+/* datasketches_checks.h: checks of arguments before calls of the library. `datasketches.h` includes it.
+ *
+ * A call with a check is a macro of the call's name. It passes the call and its arguments to the function of this header that
+ * checks arguments of that form, and each argument is evaluated once. So `ds_bloom_union(a, b)` is checked, and arguments may have
+ * commas: `ds_bloom_insert_all_u64(&seen, (uint64_t[]){1, 2, 3}, 3)`.
+ *
+ * The checks return DS_BAD_ARGUMENT for the same handle twice, a handle that is also in the array of others, a null pointer with a
+ * count above 0, and a null pointer in a pair. They pass a pointer to no values in place of null with the count 0. They do nothing
+ * for `ds_free(NULL)`.
+ *
+ * To leave out the check of one call, put its name in brackets: `(ds_bloom_union)(a, b)`. To leave out all, define `DS_NO_CHECKS`
+ * before `datasketches.h`. A pointer to a function, as `&ds_bloom_union`, is to the call without checks. */
+#ifndef DATASKETCHES_CHECKS_H
+#define DATASKETCHES_CHECKS_H
+
+#include "datasketches.h"
+
+#ifdef __cplusplus
+extern "C" {
+#endif
+
+/* Returns the pointer that is passed in place of null if the count is 0. */
+static inline void *ds_no_values(void)
+{
+    static uint64_t none;
+    return &none;
+}
+
+/* Returns whether there are strings at null, or a string is at null. */
+static inline bool ds_have_null(const ds_string *strings, size_t count)
+{
+    bool found = false;
+    if (!strings) return count > 0;
+    for (size_t i = 0; i < count; i++) found |= !strings[i].bytes;
+    return found;
+}
+
+/* Returns whether there are handles at null, or the handle is one of them. */
+static inline bool ds_have_handle(const ds_sketch *others, size_t count, const ds_sketch *handle)
+{
+    if (!others) return count > 0;
+    return (uintptr_t)handle - (uintptr_t)others < count * sizeof *others;
+}
+
+/* --- The checks of each form of arguments: the call, and its arguments. --- */
+
+static inline void ds_check_free(void (*call)(ds_sketch *), ds_sketch *handle)
+{
+    if (handle) call(handle);
+}
+
+static inline int32_t ds_check_two_handles(int32_t (*call)(ds_sketch *, ds_sketch *), ds_sketch *handle, ds_sketch *other)
+{
+    return handle == other ? DS_BAD_ARGUMENT : call(handle, other);
+}
+
+static inline int32_t ds_check_handles(int32_t (*call)(ds_sketch *, ds_sketch *, size_t), ds_sketch *handle, ds_sketch *others,
+                                       size_t count)
+{
+    if (ds_have_handle(others, count, handle)) return DS_BAD_ARGUMENT;
+    return call(handle, others ? others : (ds_sketch *)ds_no_values(), count);
+}
+
+static inline int32_t ds_check_buffer(int32_t (*call)(ds_sketch *, uint8_t *, size_t, size_t *), ds_sketch *handle, uint8_t *out,
+                                      size_t capacity, size_t *written)
+{
+    if (!out && capacity) return DS_BAD_ARGUMENT;
+    return call(handle, out ? out : (uint8_t *)ds_no_values(), capacity, written);
+}
+
+static inline int32_t ds_check_image_and_seed(int32_t (*call)(ds_sketch *, const uint8_t *, size_t, uint64_t, size_t),
+                                              ds_sketch *handle, const uint8_t *image, size_t length, uint64_t seed,
+                                              size_t max_bytes)
+{
+    if (!image && length) return DS_BAD_ARGUMENT;
+    return call(handle, image ? image : (const uint8_t *)ds_no_values(), length, seed, max_bytes);
+}
+
+static inline int32_t ds_check_image_and_key(int32_t (*call)(ds_sketch *, const uint8_t *, size_t, size_t, uint64_t, uint64_t),
+                                             ds_sketch *handle, const uint8_t *image, size_t length, size_t max_bytes,
+                                             uint64_t k0, uint64_t k1)
+{
+    if (!image && length) return DS_BAD_ARGUMENT;
+    return call(handle, image ? image : (const uint8_t *)ds_no_values(), length, max_bytes, k0, k1);
+}
+
+/* Returns 0 at null, whatever the length. */
+static inline size_t ds_check_text(size_t (*call)(const uint8_t *, size_t), const uint8_t *text, size_t length)
+{
+    return text ? call(text, length) : 0;
+}
+
+/* Null means no bytes, whatever the length. */
+static inline uint64_t ds_check_hash(uint64_t (*call)(const uint8_t *, size_t, uint64_t, uint64_t), const uint8_t *bytes,
+                                     size_t length, uint64_t k0, uint64_t k1)
+{
+    return call(bytes ? bytes : (const uint8_t *)ds_no_values(), bytes ? length : 0, k0, k1);
+}
+
+/* Items, as numbers or as the bytes of a string or an image. */
+#define DS_CHECK_ITEMS(form, type) \
+    static inline int32_t ds_check_##form(int32_t (*call)(ds_sketch *, const type *, size_t), ds_sketch *handle, \
+                                          const type *items, size_t count) \
+    { \
+        if (!items && count) return DS_BAD_ARGUMENT; \
+        return call(handle, items ? items : (const type *)ds_no_values(), count); \
+    }
+DS_CHECK_ITEMS(bytes, uint8_t)
+DS_CHECK_ITEMS(u64s, uint64_t)
+DS_CHECK_ITEMS(i64s, int64_t)
+#undef DS_CHECK_ITEMS
+
+/* Bytes and one more argument. */
+#define DS_CHECK_BYTES_AND(form, type) \
+    static inline int32_t ds_check_bytes_and_##form(int32_t (*call)(ds_sketch *, const uint8_t *, size_t, type), \
+                                                    ds_sketch *handle, const uint8_t *bytes, size_t count, type last) \
+    { \
+        if (!bytes && count) return DS_BAD_ARGUMENT; \
+        return call(handle, bytes ? bytes : (const uint8_t *)ds_no_values(), count, last); \
+    }
+DS_CHECK_BYTES_AND(size, size_t)
+DS_CHECK_BYTES_AND(u64, uint64_t)
+DS_CHECK_BYTES_AND(i64, int64_t)
+DS_CHECK_BYTES_AND(u64_out, uint64_t *)
+DS_CHECK_BYTES_AND(i64_out, int64_t *)
+DS_CHECK_BYTES_AND(bounds_out, ds_frequent_items_bounds *)
+#undef DS_CHECK_BYTES_AND
+
+static inline int32_t ds_check_offsets(int32_t (*call)(ds_sketch *, const uint8_t *, size_t, const uint64_t *, size_t),
+                                       ds_sketch *handle, const uint8_t *bytes, size_t num_bytes, const uint64_t *offsets,
+                                       size_t num_offsets)
+{
+    if ((!bytes && num_bytes) || (!offsets && num_offsets)) return DS_BAD_ARGUMENT;
+    return call(handle, bytes ? bytes : (const uint8_t *)ds_no_values(), num_bytes,
+                offsets ? offsets : (const uint64_t *)ds_no_values(), num_offsets);
+}
+
+static inline int32_t ds_check_pairs(int32_t (*call)(ds_sketch *, const ds_string *, size_t), ds_sketch *handle,
+                                     const ds_string *strings, size_t count)
+{
+    if (ds_have_null(strings, count)) return DS_BAD_ARGUMENT;
+    return call(handle, strings ? strings : (const ds_string *)ds_no_values(), count);
+}
+
+/* Items or strings, with an array of results or weights. */
+#define DS_CHECK_ITEMS_WITH(form, type, other) \
+    static inline int32_t ds_check_##form(int32_t (*call)(ds_sketch *, const type *, size_t, other *, size_t), \
+                                          ds_sketch *handle, const type *items, size_t count, other *others, \
+                                          size_t num_others) \
+    { \
+        if ((!items && count) || (!others && num_others)) return DS_BAD_ARGUMENT; \
+        return call(handle, items ? items : (const type *)ds_no_values(), count, others ? others : (other *)ds_no_values(), \
+                    num_others); \
+    }
+#define DS_CHECK_WITH(form, other) \
+    DS_CHECK_ITEMS_WITH(u64s_with_##form, uint64_t, other) \
+    DS_CHECK_ITEMS_WITH(i64s_with_##form, int64_t, other) \
+    static inline int32_t ds_check_offsets_with_##form( \
+        int32_t (*call)(ds_sketch *, const uint8_t *, size_t, const uint64_t *, size_t, other *, size_t), ds_sketch *handle, \
+        const uint8_t *bytes, size_t num_bytes, const uint64_t *offsets, size_t num_offsets, other *others, size_t num_others) \
+    { \
+        if ((!bytes && num_bytes) || (!offsets && num_offsets) || (!others && num_others)) return DS_BAD_ARGUMENT; \
+        return call(handle, bytes ? bytes : (const uint8_t *)ds_no_values(), num_bytes, \
+                    offsets ? offsets : (const uint64_t *)ds_no_values(), num_offsets, \
+                    others ? others : (other *)ds_no_values(), num_others); \
+    } \
+    static inline int32_t ds_check_pairs_with_##form( \
+        int32_t (*call)(ds_sketch *, const ds_string *, size_t, other *, size_t), ds_sketch *handle, const ds_string *strings, \
+        size_t count, other *others, size_t num_others) \
+    { \
+        if (ds_have_null(strings, count) || (!others && num_others)) return DS_BAD_ARGUMENT; \
+        return call(handle, strings ? strings : (const ds_string *)ds_no_values(), count, \
+                    others ? others : (other *)ds_no_values(), num_others); \
+    }
+DS_CHECK_WITH(bools, bool)
+DS_CHECK_WITH(u64s, uint64_t)
+DS_CHECK_WITH(i64s, int64_t)
+DS_CHECK_WITH(bounds, ds_frequent_items_bounds)
+DS_CHECK_WITH(weights_u64, const uint64_t)
+DS_CHECK_WITH(weights_i64, const int64_t)
+#undef DS_CHECK_WITH
+#undef DS_CHECK_ITEMS_WITH
+
+/* Buffers for rows. */
+#define DS_CHECK_ROWS(form, type) \
+    static inline int32_t ds_check_##form( \
+        int32_t (*call)(ds_sketch *, bool, uint64_t, type *, size_t, ds_frequent_items_bounds *, size_t, size_t *), \
+        ds_sketch *handle, bool no_false_negatives, uint64_t threshold, type *items, size_t num_items, \
+        ds_frequent_items_bounds *bounds, size_t num_bounds, size_t *count) \
+    { \
+        if ((!items && num_items) || (!bounds && num_bounds)) return DS_BAD_ARGUMENT; \
+        return call(handle, no_false_negatives, threshold, items ? items : (type *)ds_no_values(), num_items, \
+                    bounds ? bounds : (ds_frequent_items_bounds *)ds_no_values(), num_bounds, count); \
+    }
+DS_CHECK_ROWS(u64_rows, uint64_t)
+DS_CHECK_ROWS(i64_rows, int64_t)
+#undef DS_CHECK_ROWS
+
+static inline int32_t ds_check_string_rows(int32_t (*call)(ds_sketch *, bool, uint64_t, uint8_t *, size_t, uint64_t *, size_t,
+                                                           ds_frequent_items_bounds *, size_t, size_t *, size_t *),
+                                           ds_sketch *handle, bool no_false_negatives, uint64_t threshold, uint8_t *bytes,
+                                           size_t room_for_bytes, uint64_t *offsets, size_t num_offsets,
+                                           ds_frequent_items_bounds *bounds, size_t num_bounds, size_t *count,
+                                           size_t *num_bytes)
+{
+    if ((!bytes && room_for_bytes) || (!offsets && num_offsets) || (!bounds && num_bounds)) return DS_BAD_ARGUMENT;
+    return call(handle, no_false_negatives, threshold, bytes ? bytes : (uint8_t *)ds_no_values(), room_for_bytes,
+                offsets ? offsets : (uint64_t *)ds_no_values(), num_offsets,
+                bounds ? bounds : (ds_frequent_items_bounds *)ds_no_values(), num_bounds, count, num_bytes);
+}
+
+#ifdef __cplusplus
+}
+#endif
+
+/* --- The calls with checks. --- */
+
+#ifndef DS_NO_CHECKS
+#define ds_free(...) ds_check_free(ds_free, __VA_ARGS__)
+#define ds_clone(...) ds_check_two_handles(ds_clone, __VA_ARGS__)
+#define ds_bloom_insert_string(...) ds_check_bytes(ds_bloom_insert_string, __VA_ARGS__)
+#define ds_bloom_insert_all_u64(...) ds_check_u64s(ds_bloom_insert_all_u64, __VA_ARGS__)
+#define ds_bloom_insert_all_i64(...) ds_check_i64s(ds_bloom_insert_all_i64, __VA_ARGS__)
+#define ds_bloom_insert_all_string(...) ds_check_offsets(ds_bloom_insert_all_string, __VA_ARGS__)
+#define ds_bloom_insert_all_string_pairs(...) ds_check_pairs(ds_bloom_insert_all_string_pairs, __VA_ARGS__)
+#define ds_bloom_insert_words(...) ds_check_bytes(ds_bloom_insert_words, __VA_ARGS__)
+#define ds_bloom_insert_lines(...) ds_check_bytes(ds_bloom_insert_lines, __VA_ARGS__)
+#define ds_bloom_contains_string(...) ds_check_bytes(ds_bloom_contains_string, __VA_ARGS__)
+#define ds_bloom_contains_all_u64(...) ds_check_u64s_with_bools(ds_bloom_contains_all_u64, __VA_ARGS__)
+#define ds_bloom_contains_all_i64(...) ds_check_i64s_with_bools(ds_bloom_contains_all_i64, __VA_ARGS__)
+#define ds_bloom_contains_all_string(...) ds_check_offsets_with_bools(ds_bloom_contains_all_string, __VA_ARGS__)
+#define ds_bloom_contains_all_string_pairs(...) ds_check_pairs_with_bools(ds_bloom_contains_all_string_pairs, __VA_ARGS__)
+#define ds_bloom_union(...) ds_check_two_handles(ds_bloom_union, __VA_ARGS__)
+#define ds_bloom_intersect(...) ds_check_two_handles(ds_bloom_intersect, __VA_ARGS__)
+#define ds_bloom_difference(...) ds_check_two_handles(ds_bloom_difference, __VA_ARGS__)
+#define ds_bloom_union_all(...) ds_check_handles(ds_bloom_union_all, __VA_ARGS__)
+#define ds_bloom_equal(...) ds_check_two_handles(ds_bloom_equal, __VA_ARGS__)
+#define ds_bloom_serialize(...) ds_check_buffer(ds_bloom_serialize, __VA_ARGS__)
+#define ds_bloom_deserialize(...) ds_check_bytes_and_size(ds_bloom_deserialize, __VA_ARGS__)
+#define ds_count_min_u64_update_string(...) ds_check_bytes_and_u64(ds_count_min_u64_update_string, __VA_ARGS__)
+#define ds_count_min_u64_update_all_u64(...) ds_check_u64s(ds_count_min_u64_update_all_u64, __VA_ARGS__)
+#define ds_count_min_u64_update_all_i64(...) ds_check_i64s(ds_count_min_u64_update_all_i64, __VA_ARGS__)
+#define ds_count_min_u64_update_all_string(...) ds_check_offsets(ds_count_min_u64_update_all_string, __VA_ARGS__)
+#define ds_count_min_u64_update_all_string_pairs(...) ds_check_pairs(ds_count_min_u64_update_all_string_pairs, __VA_ARGS__)
+#define ds_count_min_u64_update_all_weighted_u64(...) \
+    ds_check_u64s_with_weights_u64(ds_count_min_u64_update_all_weighted_u64, __VA_ARGS__)
+#define ds_count_min_u64_update_all_weighted_i64(...) \
+    ds_check_i64s_with_weights_u64(ds_count_min_u64_update_all_weighted_i64, __VA_ARGS__)
+#define ds_count_min_u64_update_all_weighted_string(...) \
+    ds_check_offsets_with_weights_u64(ds_count_min_u64_update_all_weighted_string, __VA_ARGS__)
+#define ds_count_min_u64_update_all_weighted_string_pairs(...) \
+    ds_check_pairs_with_weights_u64(ds_count_min_u64_update_all_weighted_string_pairs, __VA_ARGS__)
+#define ds_count_min_u64_update_words(...) ds_check_bytes(ds_count_min_u64_update_words, __VA_ARGS__)
+#define ds_count_min_u64_update_lines(...) ds_check_bytes(ds_count_min_u64_update_lines, __VA_ARGS__)
+#define ds_count_min_u64_estimate_string(...) ds_check_bytes_and_u64_out(ds_count_min_u64_estimate_string, __VA_ARGS__)
+#define ds_count_min_u64_estimate_all_u64(...) ds_check_u64s_with_u64s(ds_count_min_u64_estimate_all_u64, __VA_ARGS__)
+#define ds_count_min_u64_estimate_all_i64(...) ds_check_i64s_with_u64s(ds_count_min_u64_estimate_all_i64, __VA_ARGS__)
+#define ds_count_min_u64_estimate_all_string(...) ds_check_offsets_with_u64s(ds_count_min_u64_estimate_all_string, __VA_ARGS__)
+#define ds_count_min_u64_estimate_all_string_pairs(...) \
+    ds_check_pairs_with_u64s(ds_count_min_u64_estimate_all_string_pairs, __VA_ARGS__)
+#define ds_count_min_u64_upper_bound_string(...) ds_check_bytes_and_u64_out(ds_count_min_u64_upper_bound_string, __VA_ARGS__)
+#define ds_count_min_u64_merge(...) ds_check_two_handles(ds_count_min_u64_merge, __VA_ARGS__)
+#define ds_count_min_u64_merge_all(...) ds_check_handles(ds_count_min_u64_merge_all, __VA_ARGS__)
+#define ds_count_min_u64_equal(...) ds_check_two_handles(ds_count_min_u64_equal, __VA_ARGS__)
+#define ds_count_min_u64_serialize(...) ds_check_buffer(ds_count_min_u64_serialize, __VA_ARGS__)
+#define ds_count_min_u64_deserialize(...) ds_check_image_and_seed(ds_count_min_u64_deserialize, __VA_ARGS__)
+#define ds_count_min_i64_update_string(...) ds_check_bytes_and_i64(ds_count_min_i64_update_string, __VA_ARGS__)
+#define ds_count_min_i64_update_all_u64(...) ds_check_u64s(ds_count_min_i64_update_all_u64, __VA_ARGS__)
+#define ds_count_min_i64_update_all_i64(...) ds_check_i64s(ds_count_min_i64_update_all_i64, __VA_ARGS__)
+#define ds_count_min_i64_update_all_string(...) ds_check_offsets(ds_count_min_i64_update_all_string, __VA_ARGS__)
+#define ds_count_min_i64_update_all_string_pairs(...) ds_check_pairs(ds_count_min_i64_update_all_string_pairs, __VA_ARGS__)
+#define ds_count_min_i64_update_all_weighted_u64(...) \
+    ds_check_u64s_with_weights_i64(ds_count_min_i64_update_all_weighted_u64, __VA_ARGS__)
+#define ds_count_min_i64_update_all_weighted_i64(...) \
+    ds_check_i64s_with_weights_i64(ds_count_min_i64_update_all_weighted_i64, __VA_ARGS__)
+#define ds_count_min_i64_update_all_weighted_string(...) \
+    ds_check_offsets_with_weights_i64(ds_count_min_i64_update_all_weighted_string, __VA_ARGS__)
+#define ds_count_min_i64_update_all_weighted_string_pairs(...) \
+    ds_check_pairs_with_weights_i64(ds_count_min_i64_update_all_weighted_string_pairs, __VA_ARGS__)
+#define ds_count_min_i64_update_words(...) ds_check_bytes(ds_count_min_i64_update_words, __VA_ARGS__)
+#define ds_count_min_i64_update_lines(...) ds_check_bytes(ds_count_min_i64_update_lines, __VA_ARGS__)
+#define ds_count_min_i64_estimate_string(...) ds_check_bytes_and_i64_out(ds_count_min_i64_estimate_string, __VA_ARGS__)
+#define ds_count_min_i64_estimate_all_u64(...) ds_check_u64s_with_i64s(ds_count_min_i64_estimate_all_u64, __VA_ARGS__)
+#define ds_count_min_i64_estimate_all_i64(...) ds_check_i64s_with_i64s(ds_count_min_i64_estimate_all_i64, __VA_ARGS__)
+#define ds_count_min_i64_estimate_all_string(...) ds_check_offsets_with_i64s(ds_count_min_i64_estimate_all_string, __VA_ARGS__)
+#define ds_count_min_i64_estimate_all_string_pairs(...) \
+    ds_check_pairs_with_i64s(ds_count_min_i64_estimate_all_string_pairs, __VA_ARGS__)
+#define ds_count_min_i64_upper_bound_string(...) ds_check_bytes_and_i64_out(ds_count_min_i64_upper_bound_string, __VA_ARGS__)
+#define ds_count_min_i64_merge(...) ds_check_two_handles(ds_count_min_i64_merge, __VA_ARGS__)
+#define ds_count_min_i64_merge_all(...) ds_check_handles(ds_count_min_i64_merge_all, __VA_ARGS__)
+#define ds_count_min_i64_equal(...) ds_check_two_handles(ds_count_min_i64_equal, __VA_ARGS__)
+#define ds_count_min_i64_serialize(...) ds_check_buffer(ds_count_min_i64_serialize, __VA_ARGS__)
+#define ds_count_min_i64_deserialize(...) ds_check_image_and_seed(ds_count_min_i64_deserialize, __VA_ARGS__)
+#define ds_frequent_items_string_update(...) ds_check_bytes_and_u64(ds_frequent_items_string_update, __VA_ARGS__)
+#define ds_frequent_items_string_update_words(...) ds_check_bytes(ds_frequent_items_string_update_words, __VA_ARGS__)
+#define ds_frequent_items_string_update_lines(...) ds_check_bytes(ds_frequent_items_string_update_lines, __VA_ARGS__)
+#define ds_frequent_items_string_bounds(...) ds_check_bytes_and_bounds_out(ds_frequent_items_string_bounds, __VA_ARGS__)
+#define ds_frequent_items_u64_bounds_all(...) ds_check_u64s_with_bounds(ds_frequent_items_u64_bounds_all, __VA_ARGS__)
+#define ds_frequent_items_i64_bounds_all(...) ds_check_i64s_with_bounds(ds_frequent_items_i64_bounds_all, __VA_ARGS__)
+#define ds_frequent_items_string_bounds_all(...) ds_check_offsets_with_bounds(ds_frequent_items_string_bounds_all, __VA_ARGS__)
+#define ds_frequent_items_string_bounds_all_pairs(...) \
+    ds_check_pairs_with_bounds(ds_frequent_items_string_bounds_all_pairs, __VA_ARGS__)
+#define ds_frequent_items_u64_merge(...) ds_check_two_handles(ds_frequent_items_u64_merge, __VA_ARGS__)
+#define ds_frequent_items_i64_merge(...) ds_check_two_handles(ds_frequent_items_i64_merge, __VA_ARGS__)
+#define ds_frequent_items_string_merge(...) ds_check_two_handles(ds_frequent_items_string_merge, __VA_ARGS__)
+#define ds_frequent_items_u64_merge_all(...) ds_check_handles(ds_frequent_items_u64_merge_all, __VA_ARGS__)
+#define ds_frequent_items_i64_merge_all(...) ds_check_handles(ds_frequent_items_i64_merge_all, __VA_ARGS__)
+#define ds_frequent_items_string_merge_all(...) ds_check_handles(ds_frequent_items_string_merge_all, __VA_ARGS__)
+#define ds_frequent_items_u64_update_all(...) ds_check_u64s(ds_frequent_items_u64_update_all, __VA_ARGS__)
+#define ds_frequent_items_i64_update_all(...) ds_check_i64s(ds_frequent_items_i64_update_all, __VA_ARGS__)
+#define ds_frequent_items_string_update_all(...) ds_check_offsets(ds_frequent_items_string_update_all, __VA_ARGS__)
+#define ds_frequent_items_string_update_all_pairs(...) ds_check_pairs(ds_frequent_items_string_update_all_pairs, __VA_ARGS__)
+#define ds_frequent_items_u64_update_all_weighted(...) \
+    ds_check_u64s_with_weights_u64(ds_frequent_items_u64_update_all_weighted, __VA_ARGS__)
+#define ds_frequent_items_i64_update_all_weighted(...) \
+    ds_check_i64s_with_weights_u64(ds_frequent_items_i64_update_all_weighted, __VA_ARGS__)
+#define ds_frequent_items_string_update_all_weighted(...) \
+    ds_check_offsets_with_weights_u64(ds_frequent_items_string_update_all_weighted, __VA_ARGS__)
+#define ds_frequent_items_string_update_all_weighted_pairs(...) \
+    ds_check_pairs_with_weights_u64(ds_frequent_items_string_update_all_weighted_pairs, __VA_ARGS__)
+#define ds_frequent_items_u64_serialize(...) ds_check_buffer(ds_frequent_items_u64_serialize, __VA_ARGS__)
+#define ds_frequent_items_i64_serialize(...) ds_check_buffer(ds_frequent_items_i64_serialize, __VA_ARGS__)
+#define ds_frequent_items_string_serialize(...) ds_check_buffer(ds_frequent_items_string_serialize, __VA_ARGS__)
+#define ds_frequent_items_u64_deserialize(...) ds_check_bytes_and_size(ds_frequent_items_u64_deserialize, __VA_ARGS__)
+#define ds_frequent_items_i64_deserialize(...) ds_check_bytes_and_size(ds_frequent_items_i64_deserialize, __VA_ARGS__)
+#define ds_frequent_items_string_deserialize(...) ds_check_bytes_and_size(ds_frequent_items_string_deserialize, __VA_ARGS__)
+#define ds_frequent_items_u64_deserialize_with_key(...) \
+    ds_check_image_and_key(ds_frequent_items_u64_deserialize_with_key, __VA_ARGS__)
+#define ds_frequent_items_i64_deserialize_with_key(...) \
+    ds_check_image_and_key(ds_frequent_items_i64_deserialize_with_key, __VA_ARGS__)
+#define ds_frequent_items_string_deserialize_with_key(...) \
+    ds_check_image_and_key(ds_frequent_items_string_deserialize_with_key, __VA_ARGS__)
+#define ds_frequent_items_u64_rows(...) ds_check_u64_rows(ds_frequent_items_u64_rows, __VA_ARGS__)
+#define ds_frequent_items_i64_rows(...) ds_check_i64_rows(ds_frequent_items_i64_rows, __VA_ARGS__)
+#define ds_frequent_items_string_rows(...) ds_check_string_rows(ds_frequent_items_string_rows, __VA_ARGS__)
+#define ds_finished_words(...) ds_check_text(ds_finished_words, __VA_ARGS__)
+#define ds_finished_lines(...) ds_check_text(ds_finished_lines, __VA_ARGS__)
+#define ds_valid_utf8(...) ds_check_text(ds_valid_utf8, __VA_ARGS__)
+#define ds_keyed_hash(...) ds_check_hash(ds_keyed_hash, __VA_ARGS__)
+#endif
+
+#endif

@@ -1,0 +1,378 @@
+/* The checks of `datasketches_checks.h`: what each rejects and passes on, and arguments with commas. It also fixes what a soname
+ * fixes: the layout of structures and the numbers of results. Prints the checks that failed. Exits with 1 if there is any.
+ *
+ * With DS_NO_CHECKS it is compiled without the checks, and makes calls that need none. */
+#include <datasketches.h>
+#include <stdio.h>
+#include <string.h>
+
+static int checks, failures;
+
+#define CHECK(holds) \
+    do { \
+        checks++; \
+        if (!(holds)) { \
+            failures++; \
+            printf("%s:%d: %s\n", __FILE__, __LINE__, #holds); \
+        } \
+    } while (0)
+
+_Static_assert(sizeof(ds_sketch) == sizeof(void *), "a handle is one word");
+_Static_assert(sizeof(ds_string) == 16 && offsetof(ds_string, length) == 8, "ds_string");
+_Static_assert(sizeof(ds_bloom_status) == 32 && offsetof(ds_bloom_status, bits_used) == 0 &&
+                   offsetof(ds_bloom_status, capacity) == 8 && offsetof(ds_bloom_status, seed) == 16 &&
+                   offsetof(ds_bloom_status, num_hashes) == 24,
+               "ds_bloom_status");
+_Static_assert(sizeof(ds_count_min_status) == 24 && offsetof(ds_count_min_status, total_weight) == 0 &&
+                   offsetof(ds_count_min_status, seed) == 8 && offsetof(ds_count_min_status, num_buckets) == 16 &&
+                   offsetof(ds_count_min_status, num_hashes) == 20,
+               "ds_count_min_status");
+_Static_assert(sizeof(ds_frequent_items_bounds) == 24 && offsetof(ds_frequent_items_bounds, lower_bound) == 0 &&
+                   offsetof(ds_frequent_items_bounds, estimate) == 8 && offsetof(ds_frequent_items_bounds, upper_bound) == 16,
+               "ds_frequent_items_bounds");
+_Static_assert(sizeof(ds_frequent_items_status) == 56 && offsetof(ds_frequent_items_status, total_weight) == 0 &&
+                   offsetof(ds_frequent_items_status, maximum_error) == 8 &&
+                   offsetof(ds_frequent_items_status, num_active_items) == 16 &&
+                   offsetof(ds_frequent_items_status, maximum_map_capacity) == 24 &&
+                   offsetof(ds_frequent_items_status, current_map_capacity) == 32 &&
+                   offsetof(ds_frequent_items_status, max_map_size) == 40 && offsetof(ds_frequent_items_status, sample_size) == 48,
+               "ds_frequent_items_status");
+_Static_assert(DS_NO == 0 && DS_YES == 1 && DS_NO_SKETCH == -1 && DS_WRONG_KIND == -2 && DS_NO_ROOM == -3 &&
+                   DS_BAD_FRACTION == -4 && DS_BAD_ARGUMENT == -5 && DS_BAD_OFFSETS == -6 && DS_NO_RANDOM == -7 &&
+                   DS_BAD_NUM_BITS == -11 && DS_MISMATCH == -16 && DS_INVALID_UTF8 == -40 && DS_NO_MEMORY == -42 &&
+                   DS_BAD_WINDOWS == -44,
+               "results");
+
+static const uint64_t K0 = 0x0706050403020100, K1 = 0x0f0e0d0c0b0a0908;
+
+/* Arguments with commas, in calls of each form. */
+static void commas(void)
+{
+    ds_sketch sketches[2] = {DS_NONE, DS_NONE}, count = DS_NONE, signs = DS_NONE, heavy = DS_NONE, numbers = DS_NONE;
+    bool found[3] = {false, false, false};
+    uint64_t estimates[2] = {0, 0}, items[2], offsets[3];
+    int64_t of_signs[2] = {0, 0};
+    ds_frequent_items_bounds bounds[2];
+    uint8_t image[4200], bytes[8];
+    size_t length = 0, rows = 0;
+
+    CHECK(ds_bloom_new(&sketches[0], 959, 7, 9001) == DS_OK && ds_clone(&sketches[1], &sketches[0]) == DS_OK);
+    CHECK(ds_bloom_insert_all_u64(&sketches[0], (const uint64_t[]){1, 2, 3}, 3) == DS_OK);
+    CHECK(ds_bloom_insert_all_i64(&sketches[0], (const int64_t[]){-1, -2}, 2) == DS_OK);
+    CHECK(ds_bloom_contains_all_i64(&sketches[0], (const int64_t[]){-2, 3, 77}, 3, found, 3) == DS_OK);
+    CHECK(found[0] && found[1] && !found[2]);
+    CHECK(ds_bloom_insert_string(&sketches[0], (const uint8_t[]){'a', 'b'}, 2) == DS_OK);
+    CHECK(ds_bloom_contains_string(&sketches[0], (const uint8_t *){(const uint8_t *)"ab"}, 2) == DS_YES);
+    CHECK(ds_bloom_insert_all_string(&sketches[0], (const uint8_t[]){'c', 'd'}, 2, (const uint64_t[]){0, 1, 2}, 3) == DS_OK);
+    CHECK(ds_bloom_insert_all_string_pairs(
+              &sketches[0], (const ds_string[]){{(const uint8_t *)"ef", 2}, {(const uint8_t *)"", 0}}, 2) == DS_OK);
+    CHECK(ds_bloom_contains_all_string_pairs(
+              &sketches[0], (const ds_string[]){{(const uint8_t *)"c", 1}, {(const uint8_t *)"", 0}}, 2,
+              (bool *[2]){found + 1, NULL}[0], 2) == DS_OK);
+    CHECK(found[1] && found[2]);
+    CHECK(ds_bloom_union_all(&sketches[1], (ds_sketch *[2]){&sketches[0], NULL}[0], 1) == DS_OK);
+    CHECK(ds_bloom_equal(&sketches[1], (ds_sketch *[2]){&sketches[0], NULL}[0]) == DS_YES);
+    CHECK(ds_bloom_serialize(&sketches[0], (uint8_t *[2]){image, NULL}[0], sizeof image, &length) == DS_OK && length == 152);
+    CHECK(ds_bloom_deserialize(&sketches[1], (const uint8_t *[2]){image, NULL}[0], length, (size_t[2]){120, 0}[0]) == DS_OK);
+
+    CHECK(ds_count_min_u64_new(&count, 4, 128, 9001) == DS_OK && ds_count_min_i64_new(&signs, 4, 128, 9001) == DS_OK);
+    CHECK(ds_count_min_u64_update_all_weighted_u64(&count, (const uint64_t[]){1, 2}, 2, (const uint64_t[]){5, 6}, 2) == DS_OK);
+    CHECK(ds_count_min_u64_estimate_all_u64(&count, (const uint64_t[]){2, 1}, 2, estimates, 2) == DS_OK);
+    CHECK(estimates[0] == 6 && estimates[1] == 5);
+    CHECK(ds_count_min_i64_update_all_weighted_string_pairs(
+              &signs, (const ds_string[]){{(const uint8_t *)"a", 1}, {(const uint8_t *)"b", 1}}, 2, (const int64_t[]){-5, 6},
+              2) == DS_OK);
+    CHECK(ds_count_min_i64_estimate_all_string(&signs, (const uint8_t *)"ba", 2, (const uint64_t[]){0, 1, 2}, 3, of_signs, 2) ==
+          DS_OK);
+    CHECK(of_signs[0] == 6 && of_signs[1] == -5);
+    CHECK(ds_count_min_u64_serialize(&count, image, sizeof image, &length) == DS_OK);
+    CHECK(ds_count_min_u64_deserialize(&count, image, length, (uint64_t[2]){9001, 1}[0], 1 << 14) == DS_OK);
+
+    CHECK(ds_frequent_items_string_new_with_key(&heavy, 64, 48, K0, K1) == DS_OK);
+    CHECK(ds_frequent_items_string_update(&heavy, (const uint8_t[]){'x', 'y'}, 2, (uint64_t[2]){9, 0}[0]) == DS_OK);
+    CHECK(ds_frequent_items_string_update_words(&heavy, (const uint8_t[]){'x', ' ', 'y'}, 3) == DS_OK);
+    CHECK(ds_frequent_items_string_bounds(&heavy, (const uint8_t[]){'x', 'y'}, 2, &bounds[0]) == DS_OK && bounds[0].estimate == 9);
+    CHECK(ds_frequent_items_string_rows(&heavy, true, 1, bytes, sizeof bytes, (uint64_t *[2]){offsets, NULL}[0], 3, bounds, 2,
+                                        &rows, &length) == DS_OK);
+    CHECK(rows == 1 && length == 2 && bytes[1] == 'y');
+    CHECK(ds_frequent_items_u64_new(&numbers, 64, 48) == DS_OK);
+    CHECK(ds_frequent_items_u64_update_all(&numbers, (const uint64_t[]){7, 8, 7}, 3) == DS_OK);
+    CHECK(ds_frequent_items_u64_rows(&numbers, true, 1, (uint64_t *[2]){items, NULL}[0], 2, bounds, 2, &rows) == DS_OK);
+    CHECK(rows == 1 && items[0] == 7 && bounds[0].estimate == 2);
+    CHECK(ds_frequent_items_u64_serialize(&numbers, image, sizeof image, &length) == DS_OK);
+    CHECK(ds_frequent_items_u64_deserialize_with_key(&numbers, (const uint8_t *[2]){image, NULL}[0], length, 1 << 14, K0, K1) ==
+          DS_OK);
+    CHECK(ds_finished_words((const uint8_t[]){'a', ' ', 'b'}, 3) == 2 && ds_valid_utf8((const uint8_t[]){'a', 0xff}, 2) == 1);
+    /* a call within the arguments of the same call */
+    CHECK(ds_keyed_hash((const uint8_t[]){0, 1}, 2, K0 ^ ds_keyed_hash((const uint8_t[]){1, 2}, 2, K0, K1), K1) ==
+          (ds_keyed_hash)((const uint8_t *)"\0\1", 2, K0 ^ (ds_keyed_hash)((const uint8_t *)"\1\2", 2, K0, K1), K1));
+    for (int i = 0; i < 2; i++) ds_free((ds_sketch *[2]){&sketches[i], NULL}[0]);
+    ds_free(&count);
+    ds_free(&signs);
+    ds_free(&heavy);
+    ds_free(&numbers);
+}
+
+/* The call in brackets is the function, and so is its name as a value. */
+static void functions(void)
+{
+    ds_sketch a = DS_NONE, b = DS_NONE;
+    int32_t (*join)(ds_sketch *, ds_sketch *) = ds_bloom_union;
+    void (*release)(ds_sketch *) = &ds_free;
+
+    CHECK(ds_bloom_new(&a, 64, 1, 9001) == DS_OK && (ds_clone)(&b, &a) == DS_OK);
+    CHECK(join(&a, &b) == DS_OK && (ds_bloom_insert_all_u64)(&a, (const uint64_t[]){1, 2}, 2) == DS_OK);
+    CHECK(ds_bloom_contains_u64(&a, 2) == DS_YES);
+    (ds_free)(&a);
+    release(&b);
+    CHECK(ds_bloom_reset(&a) == DS_NO_SKETCH && ds_bloom_reset(&b) == DS_NO_SKETCH);
+}
+
+/* Names and messages as calls of the library. */
+static void names(void)
+{
+    const char *(*name)(int32_t) = ds_result_name;
+
+    CHECK(strcmp(name(DS_NO_SKETCH), "NoSketch") == 0 && strcmp(name(DS_WRONG_KIND), "WrongKind") == 0);
+    CHECK(strcmp(name(DS_NO_ROOM), "NoRoom") == 0 && strcmp(name(DS_BAD_FRACTION), "BadFraction") == 0);
+    CHECK(strcmp(name(DS_BAD_ARGUMENT), "BadArgument") == 0 && strcmp(name(DS_BAD_OFFSETS), "BadOffsets") == 0);
+    CHECK(strcmp(name(DS_OK), "Ok") == 0 && strcmp(name(DS_YES), "Ok") == 0 && strcmp(name(INT32_MIN), "Unknown") == 0);
+    CHECK(strcmp(ds_result_message(DS_OK), "ok") == 0 && strcmp(ds_result_message(DS_MIN_RESULT - 1), "unknown") == 0);
+    CHECK(strcmp(ds_result_message(DS_NO_SKETCH), "the handle has no sketch") == 0);
+    CHECK(strcmp(ds_result_message(DS_BAD_OFFSETS), "offsets missing, descending or out of range") == 0);
+#define IS_NAMED(number, constant, name, message) \
+    CHECK(strcmp(ds_result_name(number), name) == 0 && strcmp(ds_result_message(constant), message) == 0);
+    DS_SKETCH_ERRORS(IS_NAMED)
+}
+
+#ifdef DS_NO_CHECKS
+
+#if defined ds_free || defined ds_bloom_union || defined ds_frequent_items_string_rows || defined ds_keyed_hash
+#error "a check is left"
+#endif
+
+#else
+
+/* No sketch, so that a call that passes the checks returns another error, which shows that it was made. */
+static ds_sketch none = DS_NONE;
+
+#define REJECTS(call) CHECK((call) == DS_BAD_ARGUMENT)
+#define MAKES(call) CHECK((call) == DS_NO_SKETCH)
+
+static const uint8_t B[1] = {'a'};
+static const uint64_t ENDS[2] = {0, 1};
+static const ds_string NULLS[2] = {{B, 1}, {NULL, 0}};
+
+/* Calls for two sketches, and for a sketch and an array of others. */
+#define JOINS(two) \
+    REJECTS(two(&none, &none)); \
+    MAKES(two(&none, &others[1]));
+#define MANY_JOINS(many) \
+    REJECTS(many(&none, NULL, 1)); \
+    REJECTS(many(&others[0], others, 1)); \
+    REJECTS(many(&others[2], others, 3)); \
+    MAKES(many(&others[2], others, 2)); \
+    MAKES(many(&none, NULL, 0));
+
+/* Calls for the bytes of one string, with the arguments after them. */
+#define BYTES(call) \
+    REJECTS(call(&none, NULL, 1)); \
+    MAKES(call(&none, NULL, 0));
+#define BYTES_AND(call, last) \
+    REJECTS(call(&none, NULL, 1, last)); \
+    MAKES(call(&none, NULL, 0, last));
+
+/* Calls for many items of each form. */
+#define NUMBERS(call) \
+    REJECTS(call(&none, NULL, 1)); \
+    MAKES(call(&none, NULL, 0));
+#define OFFSETS(call) \
+    REJECTS(call(&none, NULL, 1, ENDS, 2)); \
+    REJECTS(call(&none, B, 1, NULL, 2)); \
+    CHECK(call(&none, NULL, 0, NULL, 0) == DS_BAD_OFFSETS); \
+    MAKES(call(&none, NULL, 0, ENDS, 1));
+#define PAIRS(call) \
+    REJECTS(call(&none, NULL, 1)); \
+    REJECTS(call(&none, NULLS, 2)); \
+    MAKES(call(&none, NULLS, 1)); \
+    MAKES(call(&none, NULL, 0));
+
+/* The same with results or weights: one value of the type. */
+#define NUMBERS_WITH(call, item, type) \
+    REJECTS(call(&none, NULL, 1, &(type){0}, 1)); \
+    REJECTS(call(&none, &(item){0}, 1, NULL, 1)); \
+    CHECK(call(&none, &(item){0}, 1, NULL, 0) == DS_NO_ROOM); \
+    MAKES(call(&none, &(item){0}, 1, &(type){0}, 1)); \
+    MAKES(call(&none, NULL, 0, NULL, 0));
+#define OFFSETS_WITH(call, type) \
+    REJECTS(call(&none, NULL, 1, ENDS, 2, &(type){0}, 1)); \
+    REJECTS(call(&none, B, 1, NULL, 2, &(type){0}, 1)); \
+    REJECTS(call(&none, B, 1, ENDS, 2, NULL, 1)); \
+    CHECK(call(&none, NULL, 0, NULL, 0, NULL, 0) == DS_BAD_OFFSETS); \
+    MAKES(call(&none, B, 1, ENDS, 2, &(type){0}, 1));
+#define PAIRS_WITH(call, type) \
+    REJECTS(call(&none, NULL, 1, &(type){0}, 1)); \
+    REJECTS(call(&none, NULLS, 2, &(type){0}, 1)); \
+    REJECTS(call(&none, NULLS, 1, NULL, 1)); \
+    MAKES(call(&none, NULLS, 1, &(type){0}, 1)); \
+    MAKES(call(&none, NULL, 0, NULL, 0));
+
+#define IMAGES(call, ...) \
+    REJECTS(call(&none, NULL, 1, __VA_ARGS__)); \
+    CHECK(call(&none, NULL, 0, __VA_ARGS__) == DS_INSUFFICIENT_DATA);
+#define BUFFERS(call) \
+    REJECTS(call(&none, NULL, 1, &length)); \
+    MAKES(call(&none, NULL, 0, &length));
+
+static void filters(void)
+{
+    ds_sketch others[3] = {DS_NONE, DS_NONE, DS_NONE};
+    size_t length = 0;
+    JOINS(ds_clone)
+    JOINS(ds_bloom_union)
+    JOINS(ds_bloom_intersect)
+    JOINS(ds_bloom_difference)
+    JOINS(ds_bloom_equal)
+    MANY_JOINS(ds_bloom_union_all)
+    BYTES(ds_bloom_insert_string)
+    BYTES(ds_bloom_contains_string)
+    BYTES(ds_bloom_insert_words)
+    BYTES(ds_bloom_insert_lines)
+    NUMBERS(ds_bloom_insert_all_u64)
+    NUMBERS(ds_bloom_insert_all_i64)
+    OFFSETS(ds_bloom_insert_all_string)
+    PAIRS(ds_bloom_insert_all_string_pairs)
+    NUMBERS_WITH(ds_bloom_contains_all_u64, uint64_t, bool)
+    NUMBERS_WITH(ds_bloom_contains_all_i64, int64_t, bool)
+    OFFSETS_WITH(ds_bloom_contains_all_string, bool)
+    PAIRS_WITH(ds_bloom_contains_all_string_pairs, bool)
+    BUFFERS(ds_bloom_serialize)
+    IMAGES(ds_bloom_deserialize, 8)
+}
+
+#define COUNTS(kind, weight) \
+    static void counts_##kind(void) \
+    { \
+        ds_sketch others[3] = {DS_NONE, DS_NONE, DS_NONE}; \
+        size_t length = 0; \
+        weight found = 7; \
+        JOINS(ds_count_min_##kind##_merge) \
+        JOINS(ds_count_min_##kind##_equal) \
+        MANY_JOINS(ds_count_min_##kind##_merge_all) \
+        BYTES_AND(ds_count_min_##kind##_update_string, 1) \
+        BYTES_AND(ds_count_min_##kind##_estimate_string, &found) \
+        BYTES_AND(ds_count_min_##kind##_upper_bound_string, &found) \
+        BYTES(ds_count_min_##kind##_update_words) \
+        BYTES(ds_count_min_##kind##_update_lines) \
+        NUMBERS(ds_count_min_##kind##_update_all_u64) \
+        NUMBERS(ds_count_min_##kind##_update_all_i64) \
+        OFFSETS(ds_count_min_##kind##_update_all_string) \
+        PAIRS(ds_count_min_##kind##_update_all_string_pairs) \
+        NUMBERS_WITH(ds_count_min_##kind##_update_all_weighted_u64, uint64_t, weight) \
+        NUMBERS_WITH(ds_count_min_##kind##_update_all_weighted_i64, int64_t, weight) \
+        OFFSETS_WITH(ds_count_min_##kind##_update_all_weighted_string, weight) \
+        PAIRS_WITH(ds_count_min_##kind##_update_all_weighted_string_pairs, weight) \
+        NUMBERS_WITH(ds_count_min_##kind##_estimate_all_u64, uint64_t, weight) \
+        NUMBERS_WITH(ds_count_min_##kind##_estimate_all_i64, int64_t, weight) \
+        OFFSETS_WITH(ds_count_min_##kind##_estimate_all_string, weight) \
+        PAIRS_WITH(ds_count_min_##kind##_estimate_all_string_pairs, weight) \
+        BUFFERS(ds_count_min_##kind##_serialize) \
+        IMAGES(ds_count_min_##kind##_deserialize, 9001, 8) \
+        CHECK(found == 7); \
+    }
+COUNTS(u64, uint64_t)
+COUNTS(i64, int64_t)
+
+#define FREQUENT(kind) \
+    JOINS(ds_frequent_items_##kind##_merge) \
+    MANY_JOINS(ds_frequent_items_##kind##_merge_all) \
+    BUFFERS(ds_frequent_items_##kind##_serialize) \
+    IMAGES(ds_frequent_items_##kind##_deserialize, 8) \
+    IMAGES(ds_frequent_items_##kind##_deserialize_with_key, 8, K0, K1)
+
+#define FREQUENT_NUMBERS(kind, item) \
+    static void frequent_##kind(void) \
+    { \
+        ds_sketch others[3] = {DS_NONE, DS_NONE, DS_NONE}; \
+        size_t length = 0; \
+        FREQUENT(kind) \
+        NUMBERS(ds_frequent_items_##kind##_update_all) \
+        NUMBERS_WITH(ds_frequent_items_##kind##_update_all_weighted, item, uint64_t) \
+        NUMBERS_WITH(ds_frequent_items_##kind##_bounds_all, item, ds_frequent_items_bounds) \
+        REJECTS(ds_frequent_items_##kind##_rows(&none, true, 0, NULL, 1, &(ds_frequent_items_bounds){0}, 1, &length)); \
+        REJECTS(ds_frequent_items_##kind##_rows(&none, true, 0, &(item){0}, 1, NULL, 1, &length)); \
+        MAKES(ds_frequent_items_##kind##_rows(&none, true, 0, NULL, 0, NULL, 0, &length)); \
+    }
+FREQUENT_NUMBERS(u64, uint64_t)
+FREQUENT_NUMBERS(i64, int64_t)
+
+static void frequent_strings(void)
+{
+    ds_sketch others[3] = {DS_NONE, DS_NONE, DS_NONE};
+    ds_frequent_items_bounds bounds[1];
+    size_t length = 0, count = 0;
+    uint64_t offsets[1];
+    uint8_t bytes[1];
+    FREQUENT(string)
+    BYTES_AND(ds_frequent_items_string_update, 1)
+    BYTES_AND(ds_frequent_items_string_bounds, bounds)
+    BYTES(ds_frequent_items_string_update_words)
+    BYTES(ds_frequent_items_string_update_lines)
+    OFFSETS(ds_frequent_items_string_update_all)
+    PAIRS(ds_frequent_items_string_update_all_pairs)
+    OFFSETS_WITH(ds_frequent_items_string_update_all_weighted, uint64_t)
+    PAIRS_WITH(ds_frequent_items_string_update_all_weighted_pairs, uint64_t)
+    OFFSETS_WITH(ds_frequent_items_string_bounds_all, ds_frequent_items_bounds)
+    PAIRS_WITH(ds_frequent_items_string_bounds_all_pairs, ds_frequent_items_bounds)
+    REJECTS(ds_frequent_items_string_rows(&none, true, 0, NULL, 1, offsets, 1, bounds, 1, &count, &length));
+    REJECTS(ds_frequent_items_string_rows(&none, true, 0, bytes, 1, NULL, 1, bounds, 1, &count, &length));
+    REJECTS(ds_frequent_items_string_rows(&none, true, 0, bytes, 1, offsets, 1, NULL, 1, &count, &length));
+    MAKES(ds_frequent_items_string_rows(&none, true, 0, NULL, 0, NULL, 0, NULL, 0, &count, &length));
+}
+
+/* Calls that take no handle. */
+static void text(void)
+{
+    CHECK(ds_finished_words(NULL, 9) == 0 && ds_finished_lines(NULL, 9) == 0 && ds_valid_utf8(NULL, 9) == 0);
+    CHECK(ds_finished_lines((const uint8_t *)"a\nb", 3) == 2);
+    CHECK(ds_keyed_hash(NULL, 9, K0, K1) == ds_keyed_hash(B, 0, K0, K1));
+}
+
+/* Each argument is evaluated once. */
+static void once(void)
+{
+    ds_sketch a = DS_NONE, b = DS_NONE, *handle = &a;
+    const uint64_t items[2] = {1, 2}, *item = items;
+    bool found[2] = {false, false}, *result = found;
+    size_t evaluated = 0, others = 0;
+
+    CHECK(ds_bloom_new(&a, 64, 1, 9001) == DS_OK && ds_bloom_new(&b, 64, 1, 9001) == DS_OK);
+    CHECK(ds_bloom_insert_all_u64((evaluated++, handle), item++, 1) == DS_OK && evaluated == 1 && item == items + 1);
+    CHECK(ds_bloom_contains_all_u64(handle, --item, 1, result++, 1) == DS_OK && found[0] && result == found + 1);
+    CHECK(ds_bloom_union((evaluated++, &b), (others++, &a)) == DS_OK && evaluated == 2 && others == 1);
+    ds_free((evaluated++, &a));
+    ds_free((evaluated++, &b));
+    CHECK(evaluated == 4);
+    ds_free(NULL);
+}
+
+#endif
+
+int main(void)
+{
+    commas();
+    functions();
+    names();
+#ifndef DS_NO_CHECKS
+    filters();
+    counts_u64();
+    counts_i64();
+    frequent_u64();
+    frequent_i64();
+    frequent_strings();
+    text();
+    once();
+#endif
+    printf("%d of %d checks hold\n", checks - failures, checks);
+    return failures != 0;
+}
