@@ -22,6 +22,6 @@ suffix="$("$python" -c 'import sysconfig; print(sysconfig.get_config_var("EXT_SU
 include="$("$python" -c 'import sysconfig; print(sysconfig.get_path("include"))')"
 # shellcheck disable=SC2086
 "${CC:-cc}" -std=c11 -O2 -Wall -Wextra -Werror -fPIC -fvisibility=hidden -shared \
-    -I"$here/../c/include" -isystem "$include" ${CFLAGS:-} "$here"/src/*.c "$here/../c/src/keys.c" "$archive" \
+    -I"$here/../c/include" -isystem "$include" ${CFLAGS:-} "$here"/src/*.c "$here"/../c/src/*.c "$archive" \
     -Wl,--version-script="$here/sketches.map" -Wl,-z,relro,-z,now -o "$out/datasketches_rattle/_sketches$suffix"
 echo "built $out/datasketches_rattle: PYTHONPATH=$out finds it"

@@ -13,7 +13,7 @@ setup(
     ext_modules=[
         Extension(
             "datasketches_rattle._sketches",
-            sources=[*sorted(glob.glob("src/*.c")), "../c/src/keys.c"],
+            sources=[*sorted(glob.glob("src/*.c")), *sorted(glob.glob("../c/src/*.c"))],
             depends=glob.glob("src/*.h") + [ARCHIVE, "../c/include/datasketches.h"],
             include_dirs=["../c/include"],
             extra_objects=[ARCHIVE],
