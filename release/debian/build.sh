@@ -9,7 +9,6 @@ mkdir -p "$work/deb/debian"
 cd "$work/deb"
 
 minor="$("$PYTHON" -c 'import sys; print(sys.version_info[1])')"
-echo "python:Depends=python3 (>= 3.$minor~), python3 (<< 3.$((minor + 1)))" >substvars
 sed '/^#/d' "$here/control" >debian/control
 cat >debian/changelog <<CHANGES
 datasketches-rattle ($version) unstable; urgency=medium
@@ -55,7 +54,10 @@ pack() {
     fi
     local objects=()
     mapfile -t objects < <(find "$folder/usr" -type f \( -name '*.so*' -o -path '*/bin/*' \) | sort)
-    cp substvars "$name.substvars"
+    : >"$name.substvars"
+    if [ "$folder" = python ]; then
+        echo "python:Depends=python3 (>= 3.$minor~), python3 (<< 3.$((minor + 1)))" >"$name.substvars"
+    fi
     if [ ${#objects[@]} -gt 0 ]; then dpkg-shlibdeps -T"$name.substvars" "${objects[@]/#/-e}"; fi
     dpkg-gencontrol -p"$name" -P"$folder" -T"$name.substvars" -v"$version" -ffiles
     (cd "$folder" && find usr -type f -print0 | sort -z | xargs -0 md5sum >DEBIAN/md5sums)
