@@ -86,6 +86,7 @@ case "$libdir" in
 "$prefix"/*) values[LIBDIR]="\${prefix}/${libdir#"$prefix"/}" ;;
 *) values[LIBDIR]="$libdir" ;;
 esac
+for name in PREFIX LIBDIR; do values[$name]="$(printf '%s' "${values[$name]}" | sed "s/[\\\\\"' ]/\\\\&/g")"; done
 install -d -- "$to$prefix/include" "$to$libdir/pkgconfig" "$to$libdir/cmake/datasketches"
 install -m 644 -- "${headers[@]}" "$to$prefix/include/"
 install -m 644 -- "$built/libdatasketches.a" "$to$libdir/"

@@ -109,7 +109,7 @@ class Tests:
     def libraries(self):
         example = read(f"{TOP}/bindings/c/example.c")
         wanted = "".join(f"{line}\n" for line in re.findall(r"^ \*     (?!\$)(.*)$", example, re.MULTILINE))
-        self.run(f"apt-get install --no-install-recommends {TOOLS}")
+        self.run(f"apt-get install {TOOLS}")
         shell, cmake = install_blocks("bindings/c/README.md")[:2]
         self.prints("bindings/c/README.md: pkg-config", shell, wanted)
         lists = ("cmake_minimum_required(VERSION 3.18)\nproject(example C)\nadd_executable(example example.c)\n"
@@ -146,7 +146,7 @@ class Tests:
         said = "import datasketches_rattle as ds, importlib.metadata as of; print(of.version('datasketches-rattle')); print(ds.__version__)"
         for name, lines, python in [("Debian", debian, "python3"), ("wheel", wheel, "venv/bin/python")]:
             if name == "wheel":
-                self.run("apt-get install --no-install-recommends python3-venv")
+                self.run("apt-get install python3-venv")
             self.prints(f"bindings/python/README.md: {name}", lines, "[('be', 2, 2, 2)]\n", PIP_NO_INDEX="1")
             got = self.run(f"{python} -c \"{page}\"")
             self.check(f"examples of bindings/python/README.md: {name}", got is not None and tried.fullmatch(got), got)
@@ -178,7 +178,7 @@ def main():
         if made == 0:
             shutil.copytree(built, f"{tests.root}/release")
             with open(f"{tests.root}/etc/apt/apt.conf.d/assume", "w", encoding="utf-8") as file:
-                file.write('APT::Get::Assume-Yes "true";\n')
+                file.write('APT::Get::Assume-Yes "true";\nAPT::Install-Recommends "false";\n')
             tests.check("there is no toolchain", tests.run("! command -v rt && ! command -v cc && ! command -v python3") == "")
             tests.tools()
             tests.python()

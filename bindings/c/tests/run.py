@@ -255,12 +255,12 @@ class Tests:
                 prefix = shutil.move(prefix, f"{prefix} away")
             libraries = f"{root}{prefix}/{below}"
             package = read(f"{libraries}/pkgconfig/datasketches.pc")
-            self.check(f"the prefix for pkg-config, {name}", f"prefix={'${pcfiledir}/../..' if more else prefix}\n" in package, package)
             flags = " ".join(re.findall(r"^(?:Cflags|Libs): (.*)$", package, re.MULTILINE))
             for variable in ["includedir", "libdir", "prefix"]:
-                value = re.search(f"^{variable}=(.*)$", package, re.MULTILINE)[1]
-                flags = flags.replace(f"${{{variable}}}", value)
-            flags = shlex.split(flags.replace("${pcfiledir}", f"{libraries}/pkgconfig").replace(prefix, root + prefix, 2))
+                flags = flags.replace(f"${{{variable}}}", re.search(f"^{variable}=(.*)$", package, re.MULTILINE)[1])
+            flags = shlex.split(flags.replace("${pcfiledir}", f"{libraries}/pkgconfig".replace(" ", "\\ ")))
+            flags = [flag if more else flag.replace(prefix, root + prefix) for flag in flags]
+            self.check(f"the file for pkg-config, {name}", len(flags) == 3 and flags[2] == "-ldatasketches", package)
             example = os.path.join(self.work, "example_installed")
             subprocess.run([COMPILER, *STRICT, f"{C}/example.c", "-o", example, *flags], check=True)
             ran = self.run([example], b"to be or not to be", LD_LIBRARY_PATH=libraries)
