@@ -49,12 +49,8 @@ strip --strip-debug --enable-deterministic-archives "${unneeded[@]}" "$work/c/li
 strip --strip-unneeded "${unneeded[@]}" "$work/c/libdatasketches.so.0" "$work/datasketches_cli" \
     "$work"/python/datasketches_rattle/_sketches*.so
 
-# LICENSE, NOTICE, and the licences of the toolchain's parts that NOTICE names.
-mkdir "$work/licences"
-cp "$source/LICENSE" "$source/NOTICE" "$work/licences/"
-kit="$(dirname "$(rt doc)")"
-cp "$kit/rattle/unicode/LICENSE-UNICODE" "$work/licences/LICENSE.unicode"
-cp "$kit/rattle/hex/LICENSE-MIT" "$work/licences/LICENSE.hex"
+# The licence of the toolchain's library in the program.
+install -m 644 "$(dirname "$(rt doc)")/rattle/hex/LICENSE-MIT" "$work/LICENSE.hex"
 
 # The archive of files.
 name="datasketches-$version-linux-x86_64"
@@ -62,7 +58,8 @@ tree="$work/tree/$name"
 DESTDIR="$work/tree" bash "$source/bindings/c/install.sh" --prefix "/$name" --relocatable "$work/c"
 install -D -m 755 "$work/datasketches_cli" "$tree/bin/datasketches_cli"
 install -D -m 644 "$source/release/datasketches_cli.1" "$tree/share/man/man1/datasketches_cli.1"
-install -m 644 "$source/release/README.md" "$source/bindings/c/example.c" "$source/CHANGELOG.md" "$work"/licences/* "$tree/"
+install -m 644 "$source/release/README.md" "$source/bindings/c/example.c" "$source/CHANGELOG.md" "$source/LICENSE" "$source/NOTICE" \
+    "$work/LICENSE.hex" "$tree/"
 tar --sort=name --owner=0 --group=0 --numeric-owner --mtime="@$SOURCE_DATE_EPOCH" --format=ustar -C "$work/tree" -c "$name" |
     gzip -9n >"$out/$name.tar.gz"
 

@@ -1,6 +1,6 @@
 """Packs the built Python package as a wheel. It needs Python's standard library alone, and writes the same bytes each time.
 
-    wheel.py OUT SOURCE WORK               writes the wheel of WORK/python into OUT, with WORK/licences
+    wheel.py OUT SOURCE WORK               writes the wheel of WORK/python into OUT
     wheel.py --metadata FOLDER SOURCE      writes the folder .dist-info of an installed package into FOLDER
 
 SOURCE is the repository. The wheel is for the Python that runs this. It is not `abi3` for 3.10: the extension has static types and
@@ -56,7 +56,7 @@ def write_wheel(out, source, work):
     tag = f"{python}-{python}-{platform(f'{package}/{extension}')}"
     info = f"{stem}.dist-info"
     files = [(f"datasketches_rattle/{name}", read(f"{package}/{name}")) for name in sorted(os.listdir(package))]
-    files += [(f"{info}/licenses/{name}", read(f"{work}/licences/{name}")) for name in sorted(os.listdir(f"{work}/licences"))]
+    files += [(f"{info}/licenses/{name}", read(f"{source}/{name}")) for name in ["LICENSE", "NOTICE"]]
     files.append((f"{info}/METADATA", text))
     files.append((f"{info}/WHEEL", f"Wheel-Version: 1.0\nGenerator: wheel.py\nRoot-Is-Purelib: false\nTag: {tag}\n".encode()))
     record = ""
