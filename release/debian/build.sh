@@ -56,9 +56,6 @@ pack() {
     fi
     gzip -9n <debian/changelog >"$doc/changelog.gz"
     gzip -9n <"$source/CHANGELOG.md" >"$doc/CHANGELOG.md.gz"
-    if [ -f "$here/$name.lintian-overrides" ]; then
-        install -D -m 644 "$here/$name.lintian-overrides" "$folder/usr/share/lintian/overrides/$name"
-    fi
     local objects=()
     mapfile -t objects < <(find "$folder/usr" -type f \( -name '*.so*' -o -path '*/bin/*' \) | sort)
     : >"$name.substvars"

@@ -175,7 +175,7 @@ class Tests:
                  for word in ["--redefine-sym", f"{name}={name.replace('ds_', 'other_', 1)}"]]
         subprocess.run(["objcopy", *names, f"{self.built}/libdatasketches.a", other], check=True)
         for flags in [["-fPIE", "-pie"], ["-fno-pie", "-no-pie"]]:
-            ran = self.run([self.compile(f"{HERE}/two.c", *flags, other)])
+            ran = self.run([self.compile(f"{HERE}/two.c", *flags, "-Wl,--whole-archive", other, "-Wl,--no-whole-archive")])
             self.check(f"two libraries, {flags[1]}", ran.returncode == 0 and ran.stdout == b"1 1 0\n", ran)
 
     def keys_drawn(self):
