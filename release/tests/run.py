@@ -177,8 +177,10 @@ def main():
         tests.check("debootstrap", made == 0, read(f"{work}/debootstrap.log")[-2000:])
         if made == 0:
             shutil.copytree(built, f"{tests.root}/release")
-            with open(f"{tests.root}/etc/apt/apt.conf.d/assume", "w", encoding="utf-8") as file:
-                file.write('APT::Get::Assume-Yes "true";\nAPT::Install-Recommends "false";\n')
+            for path, text in [("apt/apt.conf.d/assume", 'APT::Get::Assume-Yes "true";\nAPT::Install-Recommends "false";\n'),
+                               ("dpkg/dpkg.cfg.d/quick", "force-unsafe-io\n")]:
+                with open(f"{tests.root}/etc/{path}", "w", encoding="utf-8") as file:
+                    file.write(text)
             tests.check("there is no toolchain", tests.run("! command -v rt && ! command -v cc && ! command -v python3") == "")
             tests.tools()
             tests.python()
