@@ -52,14 +52,13 @@ strip --strip-unneeded "${unneeded[@]}" "$work/c/libdatasketches.so.0" "$work/da
 # The licence of the toolchain's library in the program.
 install -m 644 "$(dirname "$(rt doc)")/rattle/hex/LICENSE-MIT" "$work/LICENSE.hex"
 
-# The archive of files.
+# The tarball.
 name="datasketches-$version-linux-x86_64"
 tree="$work/tree/$name"
 DESTDIR="$work/tree" bash "$source/bindings/c/install.sh" --prefix "/$name" --relocatable "$work/c"
 install -D -m 755 "$work/datasketches_cli" "$tree/bin/datasketches_cli"
 install -D -m 644 "$source/release/datasketches_cli.1" "$tree/share/man/man1/datasketches_cli.1"
-install -m 644 "$source/release/README.md" "$source/bindings/c/example.c" "$source/CHANGELOG.md" "$source/LICENSE" "$source/NOTICE" \
-    "$work/LICENSE.hex" "$tree/"
+install -m 644 "$source"/{LICENSE,NOTICE,CHANGELOG.md,release/README.md,bindings/c/example.c} "$work/LICENSE.hex" "$tree/"
 tar --sort=name --owner=0 --group=0 --numeric-owner --mtime="@$SOURCE_DATE_EPOCH" --format=ustar -C "$work/tree" -c "$name" |
     gzip -9n >"$out/$name.tar.gz"
 

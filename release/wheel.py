@@ -3,8 +3,8 @@
     wheel.py OUT SOURCE WORK               writes the wheel of WORK/python into OUT
     wheel.py --metadata FOLDER SOURCE      writes the folder .dist-info of an installed package into FOLDER
 
-SOURCE is the repository. The wheel is for the Python that runs this. It is not `abi3` for 3.10: the extension has static types and
-uses buffers, which the stable ABI has from 3.11 on. Its tag names the lowest version of the C library that has its symbols.
+SOURCE is the repository. The wheel is for the Python that runs this. It is not `abi3` for 3.10: the extension has static types
+and uses buffers, which the stable ABI has from 3.11 on. Its tag names the lowest version of the C library that has its symbols.
 """
 import base64
 import hashlib

@@ -49,10 +49,12 @@ pack() {
     cp "$here/copyright" "$doc/copyright"
     cp "$source/NOTICE" "$doc/NOTICE"
     if [ "$folder" = tools ]; then
-        printf '\nFiles: usr/bin/datasketches_cli\nComment: The library hex of the toolchain.\n' >>"$doc/copyright"
-        sed -n 's/^Copyright (c) /Copyright: /p' "$work/LICENSE.hex" | sed '2,$s/^Copyright: / /' >>"$doc/copyright"
-        printf 'License: Expat\n' >>"$doc/copyright"
-        sed -n '/^Permission/,$ { s/^$/./; s/^/ /; p }' "$work/LICENSE.hex" >>"$doc/copyright"
+        {
+            printf '\nFiles: usr/bin/datasketches_cli\nComment: The library hex of the toolchain.\n'
+            sed -n 's/^Copyright (c) /Copyright: /p' "$work/LICENSE.hex" | sed '2,$s/^Copyright: / /'
+            printf 'License: Expat\n'
+            sed -n '/^Permission/,$ { s/^$/./; s/^/ /; p }' "$work/LICENSE.hex"
+        } >>"$doc/copyright"
     fi
     gzip -9n <debian/changelog >"$doc/changelog.gz"
     gzip -9n <"$source/CHANGELOG.md" >"$doc/CHANGELOG.md.gz"

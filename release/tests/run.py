@@ -85,7 +85,8 @@ class Tests:
         sums = subprocess.run(["sha256sum", "--strict", "-c", "SHA256SUMS"], cwd=outs[0], capture_output=True, text=True)
         self.check("the checksums", sums.returncode == 0 and sums.stdout.count(": OK\n") == 6, sums)
         packages = glob.glob(f"{outs[0]}/*.deb")
-        lint = subprocess.run(["lintian", "--allow-root", "--fail-on", "error,warning", *packages], capture_output=True, text=True)
+        lint = subprocess.run(["lintian", "--allow-root", "--fail-on", "error,warning", *packages], capture_output=True,
+                              text=True)
         self.check("lintian", lint.returncode == 0, lint.stdout + lint.stderr)
         return outs[0]
 
@@ -114,15 +115,16 @@ class Tests:
         self.prints("bindings/c/README.md: pkg-config", shell, wanted)
         lists = ("cmake_minimum_required(VERSION 3.18)\nproject(example C)\nadd_executable(example example.c)\n"
                  f"add_executable(example_static example.c)\n{cmake}{STATIC}\n")
-        os.mkdir(f"{self.root}/release/a project")
+        project = "/release/a project"
+        os.mkdir(self.root + project)
         for name, text in [("example.c", example), ("CMakeLists.txt", lists)]:
-            with open(f"{self.root}/release/a project/{name}", "w", encoding="utf-8") as file:
+            with open(f"{self.root}{project}/{name}", "w", encoding="utf-8") as file:
                 file.write(text)
         of_cmake = "cmake -B {0} . >/dev/null\ncmake --build {0} >/dev/null\nprintf 'to be or not to be' | {0}/{1}"
         for target in ["example", "example_static"]:
-            self.prints(f"bindings/c/README.md: CMake, {target}", of_cmake.format("built", target), wanted, folder="/release/a project")
-        self.prints("the shared library is linked", "ldd built/example; ldd built/example_static | grep -c datasketches || true",
-                    "0\n", folder="/release/a project")
+            self.prints(f"bindings/c/README.md: CMake, {target}", of_cmake.format("built", target), wanted, folder=project)
+        links = "ldd built/example | grep -c libdatasketches.so.0; ldd built/example_static | grep -c datasketches || true"
+        self.prints("what CMake links", links, "1\n0\n", folder=project)
         self.removed("libdatasketches-dev", "libdatasketches0")
         blocks = install_blocks("release/README.md")
         files = "/release/any folder"
@@ -132,7 +134,7 @@ class Tests:
         self.prints("release/README.md: pkg-config", blocks[1], wanted, folder=files)
         folder = self.run("ls -d datasketches-*/", folder=files).strip()
         for target in ["example", "example_static"]:
-            self.prints(f"release/README.md: CMake, {target}", of_cmake.format("moved", target), wanted, folder="/release/a project",
+            self.prints(f"release/README.md: CMake, {target}", of_cmake.format("moved", target), wanted, folder=project,
                         CMAKE_PREFIX_PATH=f"{files}/{folder}")
         self.check("licences of the files", {"LICENSE", "NOTICE"} < set(os.listdir(f"{self.root}{files}/{folder}")))
         self.nothing_left("beside the folder")
@@ -143,11 +145,12 @@ class Tests:
         shutil.copy(f"{TOP}/bindings/python/README.md", f"{self.root}/release/page.md")
         page = "import doctest; print(doctest.testfile('/release/page.md', module_relative=False))"
         tried = re.compile(r"TestResults\(failed=0, attempted=[1-9]\d+\)\n")
-        said = "import datasketches_rattle as ds, importlib.metadata as of; print(of.version('datasketches-rattle')); print(ds.__version__)"
+        said = ("import datasketches_rattle as ds, importlib.metadata as of; "
+                "print(of.version('datasketches-rattle')); print(ds.__version__)")
         for name, lines, python in [("Debian", debian, "python3"), ("wheel", wheel, "venv/bin/python")]:
             if name == "wheel":
                 self.run("apt-get install python3-venv")
-            self.prints(f"bindings/python/README.md: {name}", lines, "[('be', 2, 2, 2)]\n", PIP_NO_INDEX="1")
+            self.prints(f"bindings/python/README.md: {name}", lines, "True False\n", PIP_NO_INDEX="1")
             got = self.run(f"{python} -c \"{page}\"")
             self.check(f"examples of bindings/python/README.md: {name}", got is not None and tried.fullmatch(got), got)
             self.prints(f"the version: {name}", f"{python} -c \"{said}\"", version * 2)

@@ -59,7 +59,7 @@ extern "C" {
 #define DS_VERSION_PATCH 0
 #define DS_VERSION "0.2.0"
 
-/* Returns the version of the library, as "0.2.0": static bytes with an end mark, that no one frees. Needs no sketch. */
+/* Returns the version of the library, as "0.2.0". The string is static: do not free it. */
 const char *ds_version(void);
 
 /* A sketch of some kind, or none if `sketch` is null. Never read or write the pointer. */
