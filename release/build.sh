@@ -7,7 +7,7 @@
 #     SHA256SUMS
 #
 # ARCHIVE is what `rt lib` builds from `crates/datasketches_c`, PROGRAM what `rt run` builds from `crates/datasketches_cli`.
-# Without them the crates of the commit are proved and built. SOURCE_DATE_EPOCH is the time of all files, by default that of the
+# Without them the crates are proved and built first, if they are not built yet. SOURCE_DATE_EPOCH is the time of all files, by default that of the
 # commit. The same commit, time and tools give the same bytes, in any folder.
 set -euo pipefail
 umask 022
@@ -30,14 +30,18 @@ source="$work/source"
 version="$(cat "$source/VERSION")"
 archive="${2:-}" program="${3:-}"
 if [ -z "$archive" ]; then
-    echo "proving and building the crates: about 12 minutes on four cores if nothing is proved yet (all output: $out/build.log)"
-    (cd "$source/crates/datasketches_c" && rt lib && cd ../datasketches_cli && rt run <stdin) >"$out/build.log" 2>&1 || {
-        tail -n 20 "$out/build.log" >&2
+    [ -z "$(git -C "$top" status --porcelain -- crates crates.txt)" ] || {
+        echo "crates/ or crates.txt differ from the last commit: commit them first" >&2
         exit 1
     }
-    rm "$out/build.log"
-    archive="$source/crates/datasketches_c/out/libdatasketches_c.a"
-    program="$source/crates/datasketches_cli/out/datasketches_cli"
+    echo "proving and building the crates: about 20 minutes on four cores if nothing is built yet (all output: $work/build.log)"
+    (cd "$top/crates/datasketches_c" && rt lib && cd ../datasketches_cli && rt run <stdin) 2>&1 | tee "$work/build.log" |
+        awk '/^(so far|crate )/ { print "  " $0; fflush() }' || {
+        tail -n 20 "$work/build.log" >&2
+        exit 1
+    }
+    archive="$top/crates/datasketches_c/out/libdatasketches_c.a"
+    program="$top/crates/datasketches_cli/out/datasketches_cli"
 fi
 
 # What is built, without symbols that only debuggers read.
