@@ -7,8 +7,8 @@
 #     SHA256SUMS
 #
 # ARCHIVE is what `rt lib` builds from `crates/datasketches_c`, PROGRAM what `rt run` builds from `crates/datasketches_cli`.
-# Without them the crates are proved and built first, if they are not built yet. SOURCE_DATE_EPOCH is the time of all files, by default that of the
-# commit. The same commit, time and tools give the same bytes, in any folder.
+# Without them the crates are proved and built first, if they are not built yet. SOURCE_DATE_EPOCH is the time of all files, by
+# default that of the commit. The same commit, time and tools give the same bytes, in any folder.
 set -euo pipefail
 umask 022
 top="$(cd "$(dirname "$0")/.." && pwd)"
@@ -34,12 +34,14 @@ if [ -z "$archive" ]; then
         echo "crates/ or crates.txt differ from the last commit: commit them first" >&2
         exit 1
     }
-    echo "proving and building the crates: about 20 minutes on four cores if nothing is built yet (all output: $work/build.log)"
-    (cd "$top/crates/datasketches_c" && rt lib && cd ../datasketches_cli && rt run <stdin) 2>&1 | tee "$work/build.log" |
+    log="$out/build.log"
+    echo "proving and building the crates: about 20 minutes on four cores if nothing is built yet (all output: $log)"
+    (cd "$top/crates/datasketches_c" && rt lib && cd ../datasketches_cli && rt run <stdin) 2>&1 | tee "$log" |
         awk '/^(so far|crate )/ { print "  " $0; fflush() }' || {
-        tail -n 20 "$work/build.log" >&2
+        tail -n 20 "$log" >&2
         exit 1
     }
+    rm "$log"
     archive="$top/crates/datasketches_c/out/libdatasketches_c.a"
     program="$top/crates/datasketches_cli/out/datasketches_cli"
 fi
@@ -68,6 +70,7 @@ tar --sort=name --owner=0 --group=0 --numeric-owner --mtime="@$SOURCE_DATE_EPOCH
 
 bash "$source/release/debian/build.sh" "$out" "$source" "$work"
 "$PYTHON" "$source/release/wheel.py" "$out" "$source" "$work"
-(cd "$out" && sha256sum -- *.deb *.tar.gz *.whl >SHA256SUMS)
+cd "$out"
+sha256sum -- *"_${version}_amd64.deb" *"-$version-"* >SHA256SUMS
 echo "built $out:"
-(cd "$out" && ls -- *.deb *.tar.gz *.whl SHA256SUMS)
+sed 's/^[^ ]* /  /' SHA256SUMS
