@@ -73,4 +73,4 @@ bash "$source/release/debian/build.sh" "$out" "$source" "$work"
 cd "$out"
 sha256sum -- *"_${version}_amd64.deb" *"-$version-"* >SHA256SUMS
 echo "built $out:"
-sed 's/^[^ ]* /  /' SHA256SUMS
+sed 's/^[^ ]* */  /' SHA256SUMS
