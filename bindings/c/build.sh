@@ -1,7 +1,7 @@
 #!/usr/bin/env bash
 # Builds the C library into a folder: libdatasketches.so.0 with its link, and libdatasketches.a: build.sh OUT [ARCHIVE].
 # ARCHIVE is what `rt lib` builds from `crates/datasketches_c`. Without it that crate is proved and built first, if it is not
-# built yet. The calls in C are compiled from `src/`. `CC` names the compiler.
+# built yet. The calls in C are compiled from `src/`. `CC`, `LD`, `AR` and `OBJCOPY` name the tools.
 set -euo pipefail
 here="$(cd "$(dirname "$0")" && pwd)"
 out="${1:?the folder to build into}"
@@ -9,29 +9,29 @@ crate="$here/../../crates/datasketches_c"
 heap="$(dirname "$(rt doc)")/c/liblibc_c.a"
 archive="${2:-}"
 mkdir -p "$out"
+out="$(cd "$out" && pwd)"
 if [ -z "$archive" ]; then
     archive="$crate/out/libdatasketches_c.a"
-    log="$(cd "$out" && pwd)/build.log"
+    log="$out/build.log"
     echo "proving and building crates/datasketches_c: about 12 minutes on four cores if nothing is built yet (all output: $log)"
     (cd "$crate" && rt lib 2>&1) | tee "$log" | awk '/^(so far|crate )/ { print "  " $0; fflush() }' || {
         tail -n 20 "$log" >&2
         exit 1
     }
 fi
-objects="$(mktemp -d)"
-trap 'rm -rf "$objects"' EXIT
+work="$(mktemp -d)"
+trap 'rm -rf "$work"' EXIT
 for source in "$here"/src/*.c; do
     "${CC:-cc}" -std=c11 -O2 -Wall -Wextra -Wpedantic -Werror -fPIC -I"$here/include" -c "$source" \
-        -o "$objects/$(basename "$source" .c).o"
+        -o "$work/$(basename "$source" .c).o"
 done
-"${CC:-cc}" -shared -o "$out/libdatasketches.so.0" -Wl,-soname,libdatasketches.so.0 -Wl,-z,defs,-z,relro,-z,now \
-    -Wl,--version-script="$here/datasketches.map" \
-    "$objects"/*.o -Wl,--whole-archive "$archive" -Wl,--no-whole-archive "$heap"
-ln -sf libdatasketches.so.0 "$out/libdatasketches.so"
+
+# One object, whose global symbols are the calls. So two static libraries that contain the same runtime can be in one program.
+"${LD:-ld}" -r --force-group-allocation -o "$work/all" "$work"/*.o --whole-archive "$archive" "$heap"
+"${OBJCOPY:-objcopy}" --wildcard --keep-global-symbol='ds_*' "$work/all" "$work/datasketches.o"
 rm -f "$out/libdatasketches.a"
-{
-    printf 'create %s\naddlib %s\naddlib %s\n' "$out/libdatasketches.a" "$archive" "$heap"
-    printf 'addmod %s\n' "$objects"/*.o
-    printf 'save\nend\n'
-} | ar -M
+"${AR:-ar}" rcsD "$out/libdatasketches.a" "$work/datasketches.o"
+"${CC:-cc}" -shared -o "$out/libdatasketches.so.0" -Wl,-soname,libdatasketches.so.0 -Wl,-z,defs,-z,relro,-z,now \
+    -Wl,--version-script="$here/datasketches.map" "$work/datasketches.o"
+ln -sf libdatasketches.so.0 "$out/libdatasketches.so"
 echo "built $out/libdatasketches.so.0 and $out/libdatasketches.a"

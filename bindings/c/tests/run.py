@@ -6,10 +6,12 @@ header for C++ is tested with each compiler that is there, in C++17 and C++20, w
 
 prints a line for each test that failed and then 'N passed, M failed', and counts on from `--after 'N passed, M failed'`.
 """
+import ctypes
 import glob
 import os
 import random
 import re
+import shlex
 import shutil
 import subprocess
 import sys
@@ -165,6 +167,12 @@ def needs_check(name, kinds):
     return name == "ds_free" or kinds.count("ds_sketch *") > 1 or counted
 
 
+def global_names(path, *flags):
+    """Returns the names of the global symbols that a library defines."""
+    listed = subprocess.run(["nm", "--defined-only", "-g", *flags, path], capture_output=True, check=True, text=True)
+    return {row.split()[2].split("@")[0] for row in listed.stdout.splitlines() if len(row.split()) == 3}
+
+
 class Tests:
     def __init__(self, program, archive, work):
         self.program = program
@@ -202,10 +210,10 @@ class Tests:
         self.check("there are calls in C", {"ds_result_name", "ds_result_message"} <= set(in_c), in_c)
         for name in sorted(calls | header):
             self.check(f"the prototype of {name}", calls.get(name) == header.get(name), (calls.get(name), header.get(name)))
-        for path, flags, wanted in [(self.archive, [], sources), (f"{self.built}/libdatasketches.so", ["-D"], calls)]:
-            listed = subprocess.run(["nm", "--defined-only", "-g", *flags, path], capture_output=True, check=True, text=True)
-            names = {row.split()[2].split("@")[0] for row in listed.stdout.splitlines() if len(row.split()) == 3}
-            self.check(f"what {os.path.basename(path)} exports", names - {"DATASKETCHES_0"} == set(wanted), names ^ set(wanted))
+        for path, flags, wanted in [(self.archive, [], set(sources)), (f"{self.built}/libdatasketches.a", [], set(calls)),
+                                    (f"{self.built}/libdatasketches.so", ["-D"], set(calls))]:
+            names = global_names(path, *flags)
+            self.check(f"what {os.path.basename(path)} exports", names - {"DATASKETCHES_0"} == wanted, names ^ wanted)
         checked = re.findall(r"^#define (ds_\w+)\(\.\.\.\)(?: \\\n   )? ds_check_\w+\((\w+), __VA_ARGS__\)$",
                              read(f"{C}/include/datasketches_checks.h"), re.MULTILINE)
         needed = {name for name, (_, kinds) in header.items() if needs_check(name, kinds)}
@@ -277,11 +285,32 @@ class Tests:
         ran = self.run([checked])
         self.check("sizes", ran.returncode == 0 and b"checks hold" in ran.stdout, ran)
 
+    def version(self):
+        """Compares the version of the header and of the library with the repository's."""
+        version = read(f"{TOP}/VERSION").strip()
+        header = read(f"{C}/include/datasketches.h")
+        numbers = [re.findall(rf"^#define DS_VERSION_{name} (\d+)$", header, re.MULTILINE) for name in ["MAJOR", "MINOR", "PATCH"]]
+        self.check("the numbers of the version", numbers == [[number] for number in version.split(".")], numbers)
+        self.check("the string of the version", re.findall('^#define DS_VERSION "(.*)"$', header, re.MULTILINE) == [version])
+        call = ctypes.CDLL(f"{self.built}/libdatasketches.so.0").ds_version
+        call.restype = ctypes.c_char_p
+        self.check("ds_version", call() == version.encode(), call())
+
+    def two_libraries(self):
+        """Links the static library beside another one that contains the same runtime, at a fixed address and at any."""
+        other = os.path.join(self.work, "libother.a")
+        names = [word for name in global_names(f"{self.built}/libdatasketches.a")
+                 for word in ["--redefine-sym", f"{name}={name.replace('ds_', 'other_', 1)}"]]
+        subprocess.run(["objcopy", *names, f"{self.built}/libdatasketches.a", other], check=True)
+        for flags in [["-fPIE", "-pie"], ["-fno-pie", "-no-pie"]]:
+            ran = self.run([self.compile(f"{HERE}/two.c", *flags, "-Wl,--whole-archive", other, "-Wl,--no-whole-archive")])
+            self.check(f"two libraries, {flags[1]}", ran.returncode == 0 and ran.stdout == b"1 1 0\n", ran)
+
     def keys_drawn(self):
         """Checks which keys are passed on, also if the system has no random bytes or interrupts the call for them."""
         calls = [f"ds_frequent_items_{kind}_{call}_with_key" for kind in ["u64", "i64", "string"] for call in ["new", "deserialize"]]
         wraps = [f"-Wl,--wrap={name}" for name in ["getrandom", "open", *calls]]
-        ran = self.run([self.compile(f"{HERE}/draws.c", "-O2", *wraps)])
+        ran = self.run([self.compile(f"{HERE}/draws.c", "-O2", f"{C}/src/keys.c", *wraps, static=False)])
         self.check("keys drawn", ran.returncode == 0 and b"checks hold" in ran.stdout, ran)
 
     def requests_counted(self):
@@ -339,20 +368,50 @@ class Tests:
             self.check(f"some line in a run gets {word.decode()}", any(reply.startswith(word) for reply in wanted))
 
     def installed(self):
-        """Builds and runs the page's example with the files that `install.sh` installed and the flags of the pkg-config file."""
-        prefix = os.path.join(self.work, "prefix")
-        subprocess.run(["bash", f"{C}/install.sh", self.built, prefix], check=True)
-        package = read(f"{prefix}/lib/pkgconfig/datasketches.pc")
-        flags = re.findall(r"^(?:Cflags|Libs): (.*)$", package, re.MULTILINE)
-        flags = " ".join(flags).replace("${includedir}", f"{prefix}/include").replace("${libdir}", f"{prefix}/lib").split()
-        self.check("the file for pkg-config", f"prefix={prefix}\n" in package and len(flags) == 3, package)
-        example = os.path.join(self.work, "example_installed")
-        subprocess.run([COMPILER, *STRICT, f"{C}/example.c", "-o", example, *flags], check=True)
-        ran = self.run([example], b"to be or not to be", LD_LIBRARY_PATH=f"{prefix}/lib")
+        """Installs in each way. Builds the page's example with the flags of the pkg-config file, runs it, and uninstalls."""
+        version = read(f"{TOP}/VERSION").strip()
         shown = re.findall(r"^ \*     (?!\$)(.*)$", read(f"{C}/example.c"), re.MULTILINE)
-        self.check("the example", ran.stdout.decode().splitlines() == shown, ran)
+        places = [("prefix", "lib", "", []), ("a prefix", "lib/x86 64", "", []), ("moved", "lib", "", ["--relocatable"]),
+                  ("usr", "lib/x86_64-linux-gnu", "the root", [])]
+        for name, below, root, more in places:
+            prefix, root = os.path.join(self.work, "installed", name), os.path.join(self.work, root) if root else ""
+            place = ["--prefix", prefix, f"--libdir={below}"] if below != "lib" or more else []
+            words = [*place, *more, self.built] if place else [self.built, prefix]
+            env = {**os.environ, "DESTDIR": root}
+            subprocess.run(["bash", f"{C}/install.sh", *words], check=True, env=env)
+            if more:
+                prefix = shutil.move(prefix, f"{prefix} away")
+            libraries = f"{root}{prefix}/{below}"
+            package = read(f"{libraries}/pkgconfig/datasketches.pc")
+            flags = " ".join(re.findall(r"^(?:Cflags|Libs): (.*)$", package, re.MULTILINE))
+            for variable in ["includedir", "libdir", "prefix"]:
+                flags = flags.replace(f"${{{variable}}}", re.search(f"^{variable}=(.*)$", package, re.MULTILINE)[1])
+            flags = shlex.split(flags.replace("${pcfiledir}", f"{libraries}/pkgconfig".replace(" ", "\\ ")))
+            flags = [flag if more else flag.replace(prefix, root + prefix) for flag in flags]
+            self.check(f"the file for pkg-config, {name}", len(flags) == 3 and flags[2] == "-ldatasketches", package)
+            example = os.path.join(self.work, "example_installed")
+            subprocess.run([COMPILER, *STRICT, f"{C}/example.c", "-o", example, *flags], check=True)
+            ran = self.run([example], b"to be or not to be", LD_LIBRARY_PATH=libraries)
+            self.check(f"the example, {name}", ran.stdout.decode().splitlines() == shown, ran)
+            links = [os.readlink(f"{libraries}/libdatasketches.so{end}") for end in ["", ".0"]]
+            self.check(f"links, {name}", links == ["libdatasketches.so.0", f"libdatasketches.so.{version}"], links)
+            prefix = os.path.join(self.work, "installed", name)
+            if more:
+                shutil.move(f"{prefix} away", prefix)
+            subprocess.run(["bash", f"{C}/install.sh", "--uninstall", *(place or ["--prefix", prefix])], check=True, env=env)
+            left = [file for _, _, files in os.walk(root + prefix) for file in files]
+            self.check(f"nothing is left, {name}", os.path.isdir(root + prefix) and left == [], left)
         needed = subprocess.run(["readelf", "-d", example], capture_output=True, text=True, check=True).stdout
         self.check("the name of the shared object", "libdatasketches.so.0" in needed)
+        ran = subprocess.run(["bash", f"{C}/install.sh", self.built, prefix, "more"], capture_output=True, text=True)
+        self.check("wrong words", ran.returncode == 2 and "usage: install.sh" in ran.stderr, ran)
+        self.headers(example)
+
+    def headers(self, example):
+        """Compiles each header alone in C and C++, and builds and runs the example in C++ with the files that `install.sh` installed."""
+        prefix = os.path.join(self.work, "installed", "for C++")
+        subprocess.run(["bash", f"{C}/install.sh", self.built, prefix], check=True)
+        flags = [f"-I{prefix}/include", f"-L{prefix}/lib", "-ldatasketches"]
         headers = ["datasketches.h", "datasketches_checks.h", "datasketches.hpp"]
         for name in headers[:2]:
             whole = [COMPILER, *STRICT, "-x", "c", "-fsyntax-only", f"{prefix}/include/{name}"]
@@ -458,6 +517,8 @@ def main():
         tests.without_checks()
         tests.cplusplus()
         tests.sizes()
+        tests.version()
+        tests.two_libraries()
         tests.keys_drawn()
         tests.requests_counted()
         requests = tests.refused_in_turn()

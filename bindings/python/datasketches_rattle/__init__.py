@@ -6,6 +6,6 @@
 >>> "apple" in seen, "plum" in seen
 (True, False)
 """
-from ._sketches import BloomFilter, CountMinSketch, FrequentItemsSketch, SketchError, keyed_hash
+from ._sketches import BloomFilter, CountMinSketch, FrequentItemsSketch, SketchError, __version__, keyed_hash
 
 __all__ = ["BloomFilter", "CountMinSketch", "FrequentItemsSketch", "SketchError", "keyed_hash"]

@@ -21,6 +21,8 @@ _F = TypeVar("_F", bound="BloomFilter")
 _C = TypeVar("_C", bound="CountMinSketch")
 _I = TypeVar("_I", bound="FrequentItemsSketch")
 
+__version__: str
+
 class SketchError(Exception):
     kind: str | None
     fault: str | None

@@ -325,7 +325,8 @@ PyMODINIT_FUNC PyInit__sketches(void)
     if (sketch_error == NULL || PyModule_AddObjectRef(m, "SketchError", sketch_error) < 0)
         goto failed;
     if (!add_class(m, "BloomFilter", &filter_type) || !add_class(m, "CountMinSketch", &count_type) ||
-        !add_class(m, "FrequentItemsSketch", &frequent_type) || !add_keyed_hash(m))
+        !add_class(m, "FrequentItemsSketch", &frequent_type) || !add_keyed_hash(m) ||
+        PyModule_AddStringConstant(m, "__version__", ds_version()) < 0)
         goto failed;
     Py_DECREF(fields);
     return m;

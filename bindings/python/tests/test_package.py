@@ -129,6 +129,10 @@ class Package(unittest.TestCase):
                 self.assertTrue(hasattr(getattr(ds, name), each), f"{name}.{each}")
         self.assertTrue(os.path.exists(os.path.join(FOLDER, "py.typed")))
 
+    def test_version(self):
+        with open(os.path.join(os.path.dirname(os.path.abspath(__file__)), "..", "..", "..", "VERSION"), encoding="utf-8") as file:
+            self.assertEqual(ds.__version__, file.read().strip())
+
     def test_each_call_has_an_example(self):
         for name in ds.__all__:
             each = getattr(ds, name)

@@ -1,0 +1,76 @@
+#!/usr/bin/env bash
+# Builds the packages of the last commit into a folder: release/build.sh OUT [ARCHIVE PROGRAM]. OUT gets
+#
+#     datasketches-VERSION-linux-x86_64.tar.gz    C library and program, for any folder
+#     libdatasketches0, libdatasketches-dev, python3-datasketches-rattle, datasketches-tools    Debian packages
+#     datasketches_rattle-VERSION-..whl           wheel for the Python of `PYTHON`, by default /usr/bin/python3
+#     SHA256SUMS
+#
+# ARCHIVE is what `rt lib` builds from `crates/datasketches_c`, PROGRAM what `rt run` builds from `crates/datasketches_cli`.
+# Without them the crates are proved and built first, if they are not built yet. SOURCE_DATE_EPOCH is the time of all files, by
+# default that of the commit. The same commit, time and tools give the same bytes, in any folder.
+set -euo pipefail
+umask 022
+top="$(cd "$(dirname "$0")/.." && pwd)"
+out="${1:?the folder to build into}"
+[ $# -eq 1 ] || [ $# -eq 3 ] || {
+    echo "usage: release/build.sh OUT [ARCHIVE PROGRAM]" >&2
+    exit 2
+}
+export LC_ALL=C.UTF-8 TZ=UTC PYTHON="${PYTHON:-/usr/bin/python3}" PYTHONDONTWRITEBYTECODE=1
+SOURCE_DATE_EPOCH="${SOURCE_DATE_EPOCH:-$(git -C "$top" log -1 --format=%ct)}"
+export SOURCE_DATE_EPOCH
+mkdir -p "$out"
+out="$(cd "$out" && pwd)"
+work="$(mktemp -d)"
+trap 'rm -rf "$work"' EXIT
+
+git clone -q "$top" "$work/source"
+source="$work/source"
+version="$(cat "$source/VERSION")"
+archive="${2:-}" program="${3:-}"
+if [ -z "$archive" ]; then
+    [ -z "$(git -C "$top" status --porcelain -- crates crates.txt)" ] || {
+        echo "crates/ or crates.txt differ from the last commit: commit them first" >&2
+        exit 1
+    }
+    log="$out/build.log"
+    echo "proving and building the crates: about 20 minutes on four cores if nothing is built yet (all output: $log)"
+    (cd "$top/crates/datasketches_c" && rt lib && cd ../datasketches_cli && rt run <stdin) 2>&1 | tee "$log" |
+        awk '/^(so far|crate )/ { print "  " $0; fflush() }' || {
+        tail -n 20 "$log" >&2
+        exit 1
+    }
+    rm "$log"
+    archive="$top/crates/datasketches_c/out/libdatasketches_c.a"
+    program="$top/crates/datasketches_cli/out/datasketches_cli"
+fi
+
+# What is built, without symbols that only debuggers read.
+bash "$source/bindings/c/build.sh" "$work/c" "$archive"
+bash "$source/bindings/python/build.sh" "$work/python" "$archive"
+install -m 755 "$program" "$work/datasketches_cli"
+unneeded=(--remove-section=.comment --remove-section=.note)
+strip --strip-debug --enable-deterministic-archives "${unneeded[@]}" "$work/c/libdatasketches.a"
+strip --strip-unneeded "${unneeded[@]}" "$work/c/libdatasketches.so.0" "$work/datasketches_cli" \
+    "$work"/python/datasketches_rattle/_sketches*.so
+
+# The licence of the toolchain's library in the program.
+install -m 644 "$(dirname "$(rt doc)")/rattle/hex/LICENSE-MIT" "$work/LICENSE.hex"
+
+# The tarball.
+name="datasketches-$version-linux-x86_64"
+tree="$work/tree/$name"
+DESTDIR="$work/tree" bash "$source/bindings/c/install.sh" --prefix "/$name" --relocatable "$work/c"
+install -D -m 755 "$work/datasketches_cli" "$tree/bin/datasketches_cli"
+install -D -m 644 "$source/release/datasketches_cli.1" "$tree/share/man/man1/datasketches_cli.1"
+install -m 644 "$source"/{LICENSE,NOTICE,CHANGELOG.md,release/README.md,bindings/c/example.c} "$work/LICENSE.hex" "$tree/"
+tar --sort=name --owner=0 --group=0 --numeric-owner --mtime="@$SOURCE_DATE_EPOCH" --format=ustar -C "$work/tree" -c "$name" |
+    gzip -9n >"$out/$name.tar.gz"
+
+bash "$source/release/debian/build.sh" "$out" "$source" "$work"
+"$PYTHON" "$source/release/wheel.py" "$out" "$source" "$work"
+cd "$out"
+sha256sum -- *"_${version}_amd64.deb" *"-$version-"* >SHA256SUMS
+echo "built $out:"
+sed 's/^[^ ]* */  /' SHA256SUMS

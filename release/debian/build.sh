@@ -1,0 +1,76 @@
+#!/usr/bin/env bash
+# Packs what `release/build.sh` built as Debian packages: build.sh OUT SOURCE WORK.
+set -euo pipefail
+out="$1" source="$2" work="$3"
+version="$(cat "$source/VERSION")"
+multiarch="$(dpkg-architecture -q DEB_HOST_MULTIARCH)"
+here="$source/release/debian"
+mkdir -p "$work/deb/debian"
+cd "$work/deb"
+
+minor="$("$PYTHON" -c 'import sys; print(sys.version_info[1])')"
+sed '/^#/d' "$here/control" >debian/control
+cat >debian/changelog <<CHANGES
+datasketches-rattle ($version) unstable; urgency=medium
+
+  * Release $version: see CHANGELOG.md.gz.
+
+ -- $(sed -n 's/^Maintainer: //p' debian/control)  $(date -u -R -d "@$SOURCE_DATE_EPOCH")
+CHANGES
+
+# Files of each package.
+DESTDIR="$work/deb/dev" bash "$source/bindings/c/install.sh" --prefix /usr --libdir "lib/$multiarch" "$work/c"
+mkdir -p lib/DEBIAN dev/DEBIAN "lib/usr/lib/$multiarch"
+mv dev/usr/lib/"$multiarch"/libdatasketches.so.* "lib/usr/lib/$multiarch/"
+chmod 644 "lib/usr/lib/$multiarch/libdatasketches.so.$version"
+echo "libdatasketches 0 libdatasketches0 (>= $version)" >lib/DEBIAN/shlibs
+echo "activate-noawait ldconfig" >lib/DEBIAN/triggers
+install -D -m 644 "$source/bindings/c/README.md" dev/usr/share/doc/libdatasketches-dev/README.md
+install -D -m 644 "$source/bindings/c/example.c" dev/usr/share/doc/libdatasketches-dev/examples/example.c
+
+install -D -m 755 "$work/datasketches_cli" tools/usr/bin/datasketches_cli
+install -D -m 644 "$source/release/datasketches_cli.1" tools/usr/share/man/man1/datasketches_cli.1
+gzip -9n tools/usr/share/man/man1/datasketches_cli.1
+mkdir tools/DEBIAN
+
+package=python/usr/lib/python3/dist-packages
+mkdir -p "$package" python/DEBIAN
+cp -r "$work/python/datasketches_rattle" "$package/"
+chmod 644 "$package"/datasketches_rattle/_sketches*.so
+"$PYTHON" "$source/release/wheel.py" --metadata "$package" "$source"
+cp "$here"/python.postinst python/DEBIAN/postinst
+cp "$here"/python.prerm python/DEBIAN/prerm
+chmod 755 python/DEBIAN/{postinst,prerm}
+
+pack() {
+    local folder="$1" name="$2"
+    local doc="$folder/usr/share/doc/$name"
+    mkdir -p "$doc"
+    cp "$here/copyright" "$doc/copyright"
+    cp "$source/NOTICE" "$doc/NOTICE"
+    if [ "$folder" = tools ]; then
+        {
+            printf '\nFiles: usr/bin/datasketches_cli\nComment: The library hex of the toolchain.\n'
+            sed -n 's/^Copyright (c) /Copyright: /p' "$work/LICENSE.hex" | sed '2,$s/^Copyright: / /'
+            printf 'License: Expat\n'
+            sed -n '/^Permission/,$ { s/^$/./; s/^/ /; p }' "$work/LICENSE.hex"
+        } >>"$doc/copyright"
+    fi
+    gzip -9n <debian/changelog >"$doc/changelog.gz"
+    gzip -9n <"$source/CHANGELOG.md" >"$doc/CHANGELOG.md.gz"
+    local objects=()
+    mapfile -t objects < <(find "$folder/usr" -type f \( -name '*.so*' -o -path '*/bin/*' \) | sort)
+    : >"$name.substvars"
+    if [ "$folder" = python ]; then
+        echo "python:Depends=python3 (>= 3.$minor~), python3 (<< 3.$((minor + 1)))" >"$name.substvars"
+    fi
+    if [ ${#objects[@]} -gt 0 ]; then dpkg-shlibdeps -T"$name.substvars" "${objects[@]/#/-e}"; fi
+    dpkg-gencontrol -p"$name" -P"$folder" -T"$name.substvars" -v"$version" -ffiles
+    (cd "$folder" && find usr -type f -print0 | sort -z | xargs -0 md5sum >DEBIAN/md5sums)
+    dpkg-deb --root-owner-group --threads-max=1 -Zxz --build "$folder" "$out/${name}_${version}_amd64.deb" >/dev/null
+}
+
+pack lib libdatasketches0
+pack dev libdatasketches-dev
+pack python python3-datasketches-rattle
+pack tools datasketches-tools

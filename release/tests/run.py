@@ -1,0 +1,195 @@
+"""Builds the packages in two folders and compares them byte by byte. Then installs each in a fresh Debian without the toolchain,
+runs the first examples of the pages, and removes it again. It needs root, for `debootstrap` and `chroot`.
+
+    python3 release/tests/run.py [--after 'N passed, M failed'] PROGRAM ARCHIVE
+
+prints the failed tests and then 'N passed, M failed', counted on from the numbers after `--after`. `DEBIAN_MIRROR` names the
+mirror, by default http://deb.debian.org/debian.
+"""
+import filecmp
+import glob
+import os
+import platform
+import re
+import shutil
+import subprocess
+import sys
+import tempfile
+
+TOP = os.path.dirname(os.path.dirname(os.path.dirname(os.path.abspath(__file__))))
+MIRROR = os.environ.get("DEBIAN_MIRROR", "http://deb.debian.org/debian")
+TOOLS = "gcc libc6-dev pkgconf cmake make"
+ROWS = "ok\nok\nrows 1 a 5 5 5\n"
+STATIC = "target_link_libraries(example_static datasketches::datasketches_static)"
+
+
+def read(path):
+    with open(path, encoding="utf-8") as file:
+        return file.read()
+
+
+def install_blocks(page):
+    """Returns the indented blocks of a page's section 'Install'."""
+    section = re.search(r"^## Install\n(.*?)(?=^## |\Z)", read(f"{TOP}/{page}"), re.MULTILINE | re.DOTALL)[1]
+    blocks = re.findall(r"(?:^    .*\n)+", section, re.MULTILINE)
+    return [re.sub("^    ", "", block, flags=re.MULTILINE) for block in blocks]
+
+
+class Tests:
+    def __init__(self, work, passed, failed):
+        self.work, self.passed, self.failed = work, passed, failed
+        self.root = f"{work}/root"
+
+    def check(self, name, holds, said=""):
+        if holds:
+            self.passed += 1
+        else:
+            self.failed += 1
+            print(f"failed: {name} {said}")
+
+    def start_root(self):
+        """Starts to make the root of a fresh Debian, of the release that runs here."""
+        suite = platform.freedesktop_os_release()["VERSION_CODENAME"]
+        env = {"PATH": "/usr/sbin:/usr/bin:/sbin:/bin", "LANG": "C.UTF-8"}
+        with open(f"{self.work}/debootstrap.log", "w", encoding="utf-8") as log:
+            return subprocess.Popen(["debootstrap", "--variant=minbase", suite, self.root, MIRROR], stdout=log,
+                                    stderr=subprocess.STDOUT, env=env)
+
+    def run(self, script, folder="/release", **settings):
+        """Runs lines of a shell in the root, which ends at the first that fails. Returns its output, or None."""
+        env = {"PATH": "/usr/sbin:/usr/bin:/sbin:/bin", "LANG": "C.UTF-8", "HOME": "/root", "DEBIAN_FRONTEND": "noninteractive"}
+        ran = subprocess.run(["chroot", self.root, "/bin/bash", "-euo", "pipefail", "-c", f"cd '{folder}'\n{script}"],
+                             env={**env, **settings}, stdin=subprocess.DEVNULL, capture_output=True, text=True, timeout=600)
+        if ran.returncode:
+            print(f"status {ran.returncode} of: {script}\n{ran.stdout[-2000:]}\n{ran.stderr[-4000:]}")
+        return None if ran.returncode else ran.stdout
+
+    def prints(self, name, script, wanted, **settings):
+        """Checks that the output of lines of a shell ends with the wanted lines."""
+        got = self.run(script, **settings)
+        self.check(name, got is not None and got.endswith(wanted) and wanted != "", got)
+
+    def build_twice(self, program, archive):
+        """Builds from two clones in two folders. Returns the folder of the first packages."""
+        outs = []
+        for name in ["one", "the other/clone"]:
+            clone, out = f"{self.work}/{name}", f"{self.work}/{name} built"
+            subprocess.run(["git", "clone", "-q", TOP, clone], check=True)
+            subprocess.run(["bash", f"{clone}/release/build.sh", out, archive, program], check=True,
+                           stdout=subprocess.DEVNULL if outs else None)
+            outs.append(out)
+        names = sorted(os.listdir(outs[0]))
+        self.check("the packages", len(names) == 7 and names == sorted(os.listdir(outs[1])), names)
+        for name in names:
+            self.check(f"two builds of {name}", filecmp.cmp(f"{outs[0]}/{name}", f"{outs[1]}/{name}", shallow=False))
+        sums = subprocess.run(["sha256sum", "--strict", "-c", "SHA256SUMS"], cwd=outs[0], capture_output=True, text=True)
+        self.check("the checksums", sums.returncode == 0 and sums.stdout.count(": OK\n") == 6, sums)
+        packages = glob.glob(f"{outs[0]}/*.deb")
+        lint = subprocess.run(["lintian", "--allow-root", "--fail-on", "error,warning", *packages], capture_output=True,
+                              text=True)
+        self.check("lintian", lint.returncode == 0, lint.stdout + lint.stderr)
+        return outs[0]
+
+    def removed(self, *names):
+        """Removes Debian packages, and checks that nothing of them is left."""
+        self.run(f"apt-get purge {' '.join(names)}")
+        self.nothing_left(f"after {names[0]}")
+
+    def nothing_left(self, name):
+        left = self.run("find / -xdev -name '*datasketches*' -not -path '/release*' -not -path '/proc/*'; ldconfig -p | "
+                        "grep datasketches || true")
+        self.check(f"nothing is left {name}", left == "", left)
+
+    def tools(self):
+        blocks = install_blocks("README.md")
+        self.prints("README.md: the program", blocks[0], ROWS)
+        page = self.run("zcat /usr/share/man/man1/datasketches_cli.1.gz")
+        self.check("the example of the manual", page is not None and ROWS in page)
+        self.removed("datasketches-tools")
+
+    def libraries(self):
+        example = read(f"{TOP}/bindings/c/example.c")
+        wanted = "".join(f"{line}\n" for line in re.findall(r"^ \*     (?!\$)(.*)$", example, re.MULTILINE))
+        self.run(f"apt-get install {TOOLS}")
+        shell, cmake = install_blocks("bindings/c/README.md")[:2]
+        self.prints("bindings/c/README.md: pkg-config", shell, wanted)
+        lists = ("cmake_minimum_required(VERSION 3.18)\nproject(example C)\nadd_executable(example example.c)\n"
+                 f"add_executable(example_static example.c)\n{cmake}{STATIC}\n")
+        project = "/release/a project"
+        os.mkdir(self.root + project)
+        for name, text in [("example.c", example), ("CMakeLists.txt", lists)]:
+            with open(f"{self.root}{project}/{name}", "w", encoding="utf-8") as file:
+                file.write(text)
+        of_cmake = "cmake -B {0} . >/dev/null\ncmake --build {0} >/dev/null\nprintf 'to be or not to be' | {0}/{1}"
+        for target in ["example", "example_static"]:
+            self.prints(f"bindings/c/README.md: CMake, {target}", of_cmake.format("built", target), wanted, folder=project)
+        links = "ldd built/example | grep -c libdatasketches.so.0; ldd built/example_static | grep -c datasketches || true"
+        self.prints("what CMake links", links, "1\n0\n", folder=project)
+        self.removed("libdatasketches-dev", "libdatasketches0")
+        blocks = install_blocks("release/README.md")
+        files = "/release/any folder"
+        os.mkdir(self.root + files)
+        shutil.copy(glob.glob(f"{self.root}/release/*.tar.gz")[0], self.root + files)
+        self.prints("release/README.md: the program", blocks[0], ROWS, folder=files)
+        self.prints("release/README.md: pkg-config", blocks[1], wanted, folder=files)
+        folder = self.run("ls -d datasketches-*/", folder=files).strip()
+        for target in ["example", "example_static"]:
+            self.prints(f"release/README.md: CMake, {target}", of_cmake.format("moved", target), wanted, folder=project,
+                        CMAKE_PREFIX_PATH=f"{files}/{folder}")
+        self.check("licences of the files", {"LICENSE", "NOTICE"} < set(os.listdir(f"{self.root}{files}/{folder}")))
+        self.nothing_left("beside the folder")
+
+    def python(self):
+        version = read(f"{TOP}/VERSION")
+        debian, wheel = install_blocks("bindings/python/README.md")[:2]
+        shutil.copy(f"{TOP}/bindings/python/README.md", f"{self.root}/release/page.md")
+        page = "import doctest; print(doctest.testfile('/release/page.md', module_relative=False))"
+        tried = re.compile(r"TestResults\(failed=0, attempted=[1-9]\d+\)\n")
+        said = ("import datasketches_rattle as ds, importlib.metadata as of; "
+                "print(of.version('datasketches-rattle')); print(ds.__version__)")
+        for name, lines, python in [("Debian", debian, "python3"), ("wheel", wheel, "venv/bin/python")]:
+            if name == "wheel":
+                self.run("apt-get install python3-venv")
+            self.prints(f"bindings/python/README.md: {name}", lines, "True False\n", PIP_NO_INDEX="1")
+            got = self.run(f"{python} -c \"{page}\"")
+            self.check(f"examples of bindings/python/README.md: {name}", got is not None and tried.fullmatch(got), got)
+            self.prints(f"the version: {name}", f"{python} -c \"{said}\"", version * 2)
+            if name == "Debian":
+                self.removed("python3-datasketches-rattle")
+            else:
+                self.run("venv/bin/pip uninstall -y datasketches-rattle")
+                left = self.run("find venv -name '*datasketches*'")
+                self.check("nothing is left of the wheel", left == "", left)
+
+
+def main():
+    words = sys.argv[1:]
+    passed, failed = 0, 0
+    if words[0] == "--after":
+        passed, failed = [int(number) for number in re.fullmatch(r"(\d+) passed, (\d+) failed", words[1]).groups()]
+        words = words[2:]
+    program, archive = [os.path.abspath(word) for word in words]
+    if os.geteuid() != 0:
+        print(f"failed: the packages are tested as root alone\n{passed} passed, {failed + 1} failed")
+        sys.exit(1)
+    with tempfile.TemporaryDirectory() as work:
+        tests = Tests(work, passed, failed)
+        making = tests.start_root()
+        built = tests.build_twice(program, archive)
+        made = making.wait(timeout=600)
+        tests.check("debootstrap", made == 0, read(f"{work}/debootstrap.log")[-2000:])
+        if made == 0:
+            shutil.copytree(built, f"{tests.root}/release")
+            for path, text in [("apt/apt.conf.d/assume", 'APT::Get::Assume-Yes "true";\nAPT::Install-Recommends "false";\n'),
+                               ("dpkg/dpkg.cfg.d/quick", "force-unsafe-io\n")]:
+                with open(f"{tests.root}/etc/{path}", "w", encoding="utf-8") as file:
+                    file.write(text)
+            tests.check("there is no toolchain", tests.run("! command -v rt && ! command -v cc && ! command -v python3") == "")
+            tests.tools()
+            tests.python()
+            tests.libraries()
+        print(f"{tests.passed} passed, {tests.failed} failed")
+        sys.exit(1 if tests.failed else 0)
+
+
+main()
