@@ -2,6 +2,7 @@ pub mod Bools
 pub mod Sets
 pub mod Counting
 pub mod Images
+pub mod ByteWords
 pub mod Members
 pub mod Placing
 pub mod Lanes
@@ -9,6 +10,7 @@ pub mod SetAlgebra
 pub mod RoundTrips
 pub mod Spellings
 pub mod States
+pub mod Views
 pub mod Answering
 pub mod Batches
 pub mod Inserting
