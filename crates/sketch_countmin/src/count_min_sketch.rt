@@ -320,7 +320,7 @@ impl<T: CountMinValue> CountMinSketch<T> {
             → IsMin self.now.hashes (others_share self.now.buckets self.now.seed h (R.input item.now))
             (T.number result -ℤ own_value h (R.input item.now)) }
     {
-        item.min_cell(&self.counts, self.buckets, &self.row_seeds)
+        item.min_cell(&self.counts.as_slice(), self.buckets, &self.row_seeds)
     }
 
     /// Returns the estimate. It is no lower bound of the item's true weight: collisions can raise it above that.

@@ -5,6 +5,7 @@
 //! and read from one.
 #![tactic(auto)]
 
+mod cell_list;
 mod cells;
 mod count_min_sketch;
 mod count_min_value;
