@@ -131,6 +131,13 @@ seeds_more xs ys n seed x long h e pushed = below_more (λ (r : ℕ). get_or ys 
     (λ r lt. ap (λ (l : List ℕ). get_or l r 0) pushed ∙ (get_or_append_left xs (x ∷ []) 0 r (omega (arith, long, lt)) ∙ h r lt))
     (ap (λ (l : List ℕ). get_or l n 0) pushed ∙ (get_or_push xs x 0 n long ∙ e))
 
+pub seeds_set : (xs : List ℕ) (n seed x : ℕ) → n < length xs → ((r : ℕ) → r < n → get_or xs r 0 ≡ row_seed r seed) → x ≡ (murmur3_x64_128 (le64 n) seed).0
+    → (r : ℕ) → r < n + 1 → get_or (set xs n x) r 0 ≡ row_seed r seed
+unfolding row_seed
+seeds_set xs n seed x fits h e = below_more (λ (r : ℕ). get_or (set xs n x) r 0 ≡ row_seed r seed) n
+    (λ r lt. let ne : r ≢ n = omega arith in get_or-set_other xs n r x 0 ne ∙ h r lt)
+    (get_or-set_same xs n x 0 fits ∙ e)
+
 pub zeros_more : {T : Type 0} (num : T → ℤ) (xs ys : List T) (n : ℕ) (x : T) → num x ≡ pos 0 → map num xs ≡ replicate n (pos 0) → ys ≡ xs ++ x ∷ [] → map num ys ≡ replicate (n + 1) (pos 0)
 zeros_more num xs ys n x z h pushed =
     ap (map num) pushed ∙ (map_push num xs x ∙ (ap (λ (w : ℤ). map num xs ++ w ∷ []) z ∙ (ap (λ (l : List ℤ). l ++ pos 0 ∷ []) h ∙ replicate_more n (pos 0))))
