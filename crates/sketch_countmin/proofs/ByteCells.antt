@@ -1,5 +1,5 @@
 -- Cells that are read from bytes where they lie.
-use Rattle.std.proofs.Common.{◌≡◌, ℕ, zero, suc, ◌+◌, ◌*◌, ◌/◌, ◌<◌, ◌≤◌, List, take, drop, map, length, get_or, ℤ, pos, refl, sym, ap, ◌∙◌, arith, drop-drop}
+use Rattle.std.proofs.Common.{◌≡◌, ℕ, zero, suc, ◌+◌, ◌*◌, ◌/◌, ◌<◌, ◌≤◌, List, take, drop, map, length, get_or, ℤ, pos, refl, ap, ◌∙◌, arith, drop-drop}
 use Rattle.std.proofs.lemmas.List.{take-take, drop-take, length-take-le, length-map, get_or-map}
 use Rattle.sketch_countmin.specs.Image.{number_at, numbers_in}
 use Rattle.sketch_countmin.specs.Values.{number_in}

@@ -15,16 +15,15 @@ use Rattle.sketch_base.specs.declared.fault.Fault.TheVariants.{InsufficientData}
 use Rattle.sketch_countmin.specs.Buckets.{bucket_by, bucket_of}
 use Rattle.sketch_countmin.specs.Cells.{IsMinOf}
 use Rattle.sketch_countmin.specs.History.CountHistory.{Restored}
-use Rattle.sketch_countmin.specs.Image.{IsImage, Restores, says_empty, hashes_at, buckets_at, num_cells_at, numbers_in, total_at, cells_at, value_at, is_in_range, cell_checks, cells_checks, early_fault, late_fault}
+use Rattle.sketch_countmin.specs.Image.{IsImage, Restores, says_empty, numbers_in, total_at, cells_at, value_at, is_in_range, cell_checks, cells_checks, early_fault, late_fault}
 use Rattle.sketch_countmin.specs.Preamble.{IsPreamble}
-use Rattle.sketch_countmin.specs.Rows.{cell_at, rows_of}
 use Rattle.sketch_countmin.specs.Stands.{StandsFor}
-use Rattle.sketch_countmin.specs.State.{CountState, IsMinCell, item_cell, empty_state}
-use Rattle.sketch_countmin.specs.Table.{IsTable, IsTableShape, state_of}
+use Rattle.sketch_countmin.specs.State.{CountState, IsMinCell, item_cell}
+use Rattle.sketch_countmin.specs.Table.{IsTableShape, state_of}
 use Rattle.sketch_countmin.specs.View.{IsView, nearest, cells_shown, cells_of_bytes, view_at}
 use Rattle.sketch_countmin.specs.declared.image.Preamble.{Preamble}
 use Rattle.sketch_countmin.proofs.ByteCells.{length-cells_of_bytes, cells_of_part}
-use Rattle.sketch_countmin.proofs.Images.{neither, each_passes, full_passes, length-numbers_in}
+use Rattle.sketch_countmin.proofs.Images.{neither, each_passes, full_passes}
 use Rattle.sketch_countmin.proofs.Nearest.{nearest_bounded, nearest_self}
 use Rattle.sketch_countmin.proofs.Reading.{first_failing-append}
 use Rattle.sketch_countmin.proofs.Estimates.{bucket_below, least_here}

@@ -8,7 +8,7 @@ ghost use Rattle.sketch_countmin.specs.Buckets.{row_seed};
 ghost use Rattle.sketch_countmin.specs.History.{CountHistory, IsNonnegative, IsExact, own_value, others_share};
 ghost use Rattle.sketch_countmin.specs.Image.{IsImage, Restores, total_at, total_checks};
 ghost use Rattle.sketch_countmin.specs.Stands.{StandsFor};
-ghost use Rattle.sketch_countmin.specs.State.{CountState, IsCountState, IsMin, IsMinCell};
+ghost use Rattle.sketch_countmin.specs.State.{CountState, IsCountState, IsMin, IsMinCell, upper_bound_of};
 ghost use Rattle.sketch_countmin.specs.View.{view_at, view_fault};
 
 use crate::cell_list::ByteCells;
@@ -16,6 +16,7 @@ use crate::count_min_sketch::bucket_count;
 use crate::count_min_value::CountMinValue;
 use crate::image::{read_preamble, read_total};
 use crate::limits::MAX_TABLE_ENTRIES;
+use crate::margin::with_margin;
 use crate::rows::{HashItem, RowItem, StrItem};
 use sketch_base::{DEFAULT_UPDATE_SEED, Divisor, Error, murmur3_of_u64};
 use std::hash::Hash;
@@ -239,6 +240,15 @@ impl<'a, T: CountMinValue> CountMinView<'a, T> {
         let cells = ByteCells::new(self.bytes, self.total);
         let row_seeds = &self.row_seeds[..self.num_hashes as usize];
         item.min_cell(&cells, self.buckets, row_seeds)
+    }
+
+    /// Returns the estimate plus a margin, or the maximum of `T` if this exceeds it, as
+    /// [`CountMinSketch::upper_bound`](crate::CountMinSketch::upper_bound) does.
+    pub fn upper_bound<I: Hash + Drop>(&self, item: I) -> T
+        ensures { (estimate : ℤ) → IsMinCell self.now (fed_bytes I.hash_input item) estimate
+            → T.number result ≡ upper_bound_of T.greatest self.now estimate }
+    {
+        with_margin(self.estimate(item), self.total, self.buckets)
     }
 
     /// Returns the number of hashes, which is the number of rows.

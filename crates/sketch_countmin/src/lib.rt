@@ -14,6 +14,7 @@ mod fraction;
 mod image;
 pub mod laws;
 mod limits;
+mod margin;
 mod number_types;
 mod rows;
 mod sizes;

@@ -1,4 +1,4 @@
-use Rattle.std.proofs.Common.{◌≡◌, map, slice_index}
+use Rattle.std.proofs.Common.{◌≡◌, slice_index}
 use Rattle.sketch_base.specs.Hashes.{fed_bytes}
 use Rattle.sketch_countmin.specs.Buckets.{bucket_by}
 use Rattle.sketch_countmin.specs.Cells.{IsMinOf}

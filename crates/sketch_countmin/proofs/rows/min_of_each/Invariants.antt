@@ -1,4 +1,3 @@
-use Rattle.std.proofs.Common.{map}
 use Rattle.sketch_countmin.specs.Buckets.{buckets_by}
 use Rattle.sketch_countmin.specs.Cells.{IsMinOf}
 use Rattle.sketch_countmin.proofs.rows.min_of_each.Given as goal

@@ -1,4 +1,4 @@
-use Rattle.std.proofs.Common.{sym, ap, subst, ◌∙◌, take, unsigned_abs, List, ℕ}
+use Rattle.std.proofs.Common.{sym, ap, subst, ◌∙◌, take, List, ℕ}
 use Rattle.sketch_countmin.specs.State.{CountState, IsMinCell}
 use Rattle.sketch_countmin.proofs.Tables.{state_shown}
 use Rattle.sketch_countmin.proofs.Views.{least_of_none, least_of_some}
