@@ -9,7 +9,7 @@ use Rattle.std.specs.FinSet as set
 use Rattle.sketch_base.specs.Fields.{le_at, words_in}
 use Rattle.sketch_bloom.specs.BitSet.{set_of}
 use Rattle.sketch_bloom.specs.History.BloomHistory.{Restored}
-use Rattle.sketch_bloom.specs.Image.{IsImage, Restores, early_fault, bit_count_at, uncounted}
+use Rattle.sketch_bloom.specs.Image.{IsImage, Restores, early_fault, bit_count_at, uncounted, value_at}
 use Rattle.sketch_bloom.specs.Preamble.{IsPreamble}
 use Rattle.sketch_bloom.specs.Stands.{StandsFor}
 use Rattle.sketch_bloom.specs.State.{FilterState}
@@ -56,12 +56,16 @@ image_of_words image words p bits_used fields checks full words_are count stored
       value = rw (not_empty, length_is, ← words_is, fields.num_words, fields.num_hashes, fields.seed) refl;
     }
 
--- what comes back stands for the restored history
-pub restores : (image : List ℕ) (new : FilterState) → IsImage image new → Restores image new
-restores image new is old was h stands =
-    subst (λ (s : FilterState). StandsFor s (Restored h)) (was.value ∙ sym is.value) (record {
+-- the value of an image stands for the restored history
+pub value_restores : (image : List ℕ) (new : FilterState) → new ≡ value_at image → Restores image new
+value_restores image new is old was h stands =
+    subst (λ (s : FilterState). StandsFor s (Restored h)) (was.value ∙ sym is) (record {
       num_words = stands.num_words;
       num_hashes = stands.num_hashes;
       seed = stands.seed;
       set = stands.set;
     })
+
+-- so does what comes back
+pub restores : (image : List ℕ) (new : FilterState) → IsImage image new → Restores image new
+restores image new is = value_restores image new is.value

@@ -2,6 +2,7 @@ pub mod Bools
 pub mod Sets
 pub mod Counting
 pub mod Images
+pub mod ByteWords
 pub mod Members
 pub mod Placing
 pub mod Lanes
@@ -10,6 +11,7 @@ pub mod RoundTrips
 pub mod Spellings
 pub mod ImageLengths
 pub mod States
+pub mod Views
 pub mod Answering
 pub mod Batches
 pub mod Inserting

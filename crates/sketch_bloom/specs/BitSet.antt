@@ -3,6 +3,7 @@ use Rattle.std.specs.Prelude.{ℕ, zero, suc, ◌*◌, ◌/◌, ◌%◌, ◌==�
 use Rattle.std.specs.Int.{bit_at}
 use Rattle.std.specs.Ordering.{nat_cmp}
 use Rattle.std.specs.FinSet as set
+use Rattle.sketch_base.specs.Fields.{words_in}
 
 -- a finite set of numbers
 abbrev pub Numbers : Type 0
@@ -24,3 +25,7 @@ set_below words (suc n) = if bit_in words n then set.insert (set_below words n) 
 -- all numbers whose bit is set
 unfoldable pub set_of : List ℕ → Numbers
 set_of words = set_below words (64 * length words)
+
+-- the words of 64 bits in bytes
+abbrev pub words_of_bytes : List ℕ → List ℕ
+words_of_bytes bytes = words_in (length bytes / 8) bytes

@@ -1,6 +1,7 @@
 pub mod BitSet
 pub mod Operations
 pub mod Fields
+pub mod ViewFields
 pub mod Positions
 pub mod Pairs
 pub mod State

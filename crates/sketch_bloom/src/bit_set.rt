@@ -13,6 +13,7 @@ ghost use Rattle.sketch_bloom.specs.Pairs.{contains_pair, with_pair, pairs_conta
 
 use crate::limits::MAX_NUM_WORDS;
 use crate::set_operation::SetOperation;
+use crate::words::Words;
 use sketch_base::Divisor;
 use std::simd::prelude::*;
 
@@ -27,15 +28,15 @@ fn index_of(hash: u64, capacity: Divisor) -> u64
 
 /// Returns whether all positions of two hashes are in the set. Stops at the first that is not.
 #[inline(always)]
-pub fn contains_positions(
-    words: &[u64],
+pub fn contains_positions<W: Words>(
+    words: &W,
     capacity: Divisor,
     num_hashes: u16,
     h0: u64,
     h1: u64,
 ) -> bool
-    requires { capacity ≡ 64 * length words.now }
-    ensures { result ≡ set.is_subset (positions capacity num_hashes h0 h1) (set_of words.now) }
+    requires { capacity ≡ 64 * length (W.list words.now) }
+    ensures { result ≡ set.is_subset (positions capacity num_hashes h0 h1) (set_of (W.list words.now)) }
 {
     contains_others(words, capacity, 0, num_hashes, h0, h1)
 }
@@ -43,25 +44,25 @@ pub fn contains_positions(
 /// Returns whether all positions of two hashes are in the set, given that the first `probed` are. Stops at the first
 /// that is not.
 #[inline(always)]
-fn contains_others(
-    words: &[u64],
+fn contains_others<W: Words>(
+    words: &W,
     capacity: Divisor,
     probed: u16,
     num_hashes: u16,
     h0: u64,
     h1: u64,
 ) -> bool
-    requires capacity { capacity ≡ 64 * length words.now }
+    requires capacity { capacity ≡ 64 * length (W.list words.now) }
     requires few { probed ≤ num_hashes }
-    requires found { set.is_subset (positions capacity probed h0 h1) (set_of words.now) ≡ true }
-    ensures { result ≡ set.is_subset (positions capacity num_hashes h0 h1) (set_of words.now) }
+    requires found { set.is_subset (positions capacity probed h0 h1) (set_of (W.list words.now)) ≡ true }
+    ensures { result ≡ set.is_subset (positions capacity num_hashes h0 h1) (set_of (W.list words.now)) }
 {
     let mut hash = h0.wrapping_add(h1.wrapping_mul(probed as u64));
     // The label is for the prover.
     'probes: for _i in probed..num_hashes {
         hash = hash.wrapping_add(h1);
         let index = index_of(hash, capacity);
-        let word = words[(index / 64) as usize];
+        let word = words.word((index / 64) as usize);
         if word >> (index % 64) & 1 == 0 {
             return false;
         }
@@ -71,28 +72,28 @@ fn contains_others(
 
 /// Returns whether the first position of two hashes is in the set.
 #[inline(always)]
-fn contains_first(words: &[u64], capacity: Divisor, h0: u64, h1: u64) -> bool
-    requires { capacity ≡ 64 * length words.now }
-    ensures { result ≡ set.contains (set_of words.now) (position capacity h0 h1 1) }
+fn contains_first<W: Words>(words: &W, capacity: Divisor, h0: u64, h1: u64) -> bool
+    requires { capacity ≡ 64 * length (W.list words.now) }
+    ensures { result ≡ set.contains (set_of (W.list words.now)) (position capacity h0 h1 1) }
 {
     let index = index_of(h0.wrapping_add(h1), capacity);
-    words[(index / 64) as usize] >> (index % 64) & 1 != 0
+    words.word((index / 64) as usize) >> (index % 64) & 1 != 0
 }
 
 /// Returns whether all positions of two hashes are in the set, given in `found` whether the first is.
 #[inline(always)]
-fn contains_behind(
-    words: &[u64],
+fn contains_behind<W: Words>(
+    words: &W,
     capacity: Divisor,
     num_hashes: u16,
     h0: u64,
     h1: u64,
     found: bool,
 ) -> bool
-    requires capacity { capacity ≡ 64 * length words.now }
+    requires capacity { capacity ≡ 64 * length (W.list words.now) }
     requires some_hashes { 1 ≤ num_hashes }
-    requires found { found ≡ set.contains (set_of words.now) (position capacity h0 h1 1) }
-    ensures { result ≡ set.is_subset (positions capacity num_hashes h0 h1) (set_of words.now) }
+    requires found { found ≡ set.contains (set_of (W.list words.now)) (position capacity h0 h1 1) }
+    ensures { result ≡ set.is_subset (positions capacity num_hashes h0 h1) (set_of (W.list words.now)) }
 {
     found && contains_others(words, capacity, 1, num_hashes, h0, h1)
 }
@@ -101,17 +102,17 @@ fn contains_behind(
 ///
 /// The first positions of all pairs are probed before any other, so that the processor loads their words in parallel.
 #[inline(always)]
-pub fn contains_pairs(
-    words: &[u64],
+pub fn contains_pairs<W: Words>(
+    words: &W,
     capacity: Divisor,
     num_hashes: u16,
     pairs: &[(u64, u64)],
     answers: &mut [bool],
 )
-    requires capacity { capacity ≡ 64 * length words.now }
+    requires capacity { capacity ≡ 64 * length (W.list words.now) }
     requires some_hashes { 1 ≤ num_hashes }
     requires same { length answers.old ≡ length pairs.now }
-    ensures { answers.new ≡ map (contains_pair capacity num_hashes (set_of words.now)) pairs.now }
+    ensures { answers.new ≡ map (contains_pair capacity num_hashes (set_of (W.list words.now))) pairs.now }
 {
     // The labels are for the prover.
     'firsts: for i in 0..pairs.len() {

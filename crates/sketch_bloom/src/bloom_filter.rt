@@ -122,7 +122,13 @@ impl BloomFilter {
         ensures { result ≡ contains_item self.now (fed_bytes T.hash_input item.now) }
     {
         let (h0, h1) = hashes_of(item, self.seed);
-        bit_set::contains_positions(&self.words, self.capacity, self.num_hashes, h0, h1)
+        bit_set::contains_positions(
+            &self.words.as_slice(),
+            self.capacity,
+            self.num_hashes,
+            h0,
+            h1,
+        )
     }
 
     /// Inserts the item's positions, and returns whether all of them were in the set before. Does not allocate.
@@ -193,7 +199,13 @@ impl BloomFilter {
         ensures { result ≡ contains_item self.now (fed_bytes fed.str item.now) }
     {
         let (h0, h1) = hashes_of_str(item, self.seed);
-        bit_set::contains_positions(&self.words, self.capacity, self.num_hashes, h0, h1)
+        bit_set::contains_positions(
+            &self.words.as_slice(),
+            self.capacity,
+            self.num_hashes,
+            h0,
+            h1,
+        )
     }
 
     /// Inserts the string's positions, as [`insert`](Self::insert) does, in less time. Does not allocate.

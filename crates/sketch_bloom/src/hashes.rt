@@ -12,6 +12,7 @@ ghost use Rattle.sketch_bloom.specs.Pairs.{pair_of, contains_pair, with_pair, pa
 
 use crate::bit_set;
 use crate::limits::MAX_NUM_WORDS;
+use crate::words::Words;
 use sketch_base::{Divisor, Strings, xxh64_of, xxh64_of_str};
 use std::hash::Hash;
 
@@ -174,19 +175,19 @@ pub fn contains_and_insert_items<B: Batch>(
 
 /// Writes for each item whether all its positions are in the set.
 #[inline(always)]
-pub fn contains_items<B: Batch>(
-    words: &[u64],
+pub fn contains_items<W: Words, B: Batch>(
+    words: &W,
     capacity: Divisor,
     num_hashes: u16,
     seed: u64,
     batch: &B,
     answers: &mut [bool],
 )
-    requires capacity { capacity ≡ 64 * length words.now }
+    requires capacity { capacity ≡ 64 * length (W.list words.now) }
     requires some_hashes { 1 ≤ num_hashes }
     requires same { length answers.old ≡ length (B.inputs batch.now) }
     ensures { answers.new
-        ≡ map (λ input. contains_pair capacity num_hashes (set_of words.now) (pair_of seed input)) (B.inputs batch.now) }
+        ≡ map (λ input. contains_pair capacity num_hashes (set_of (W.list words.now)) (pair_of seed input)) (B.inputs batch.now) }
 {
     let count = batch.count();
     let blocks = count.div_ceil(BLOCK);

@@ -8,14 +8,17 @@
 mod bit_set;
 mod bloom_filter;
 mod bloom_filter_builder;
+mod bloom_filter_view;
 mod hashes;
 mod image;
 pub mod laws;
 mod limits;
 mod set_operation;
 mod sizes;
+mod words;
 
 pub use bloom_filter::BloomFilter;
 pub use bloom_filter_builder::BloomFilterBuilder;
+pub use bloom_filter_view::BloomFilterView;
 pub use sizes::{suggest_num_bits, suggest_num_hashes};
 pub use sketch_base::{Error, ErrorKind, Fault};

@@ -26,12 +26,12 @@ use Rattle.sketch_countmin.proofs.Reading.{first_failing-append}
 use Rattle.sketch_countmin.proofs.Tables.{length-rows_of, rows_width, rows_all, rows_of-replicate, zeros_read}
 
 -- so many numbers are read
-length-numbers_in : (least : ℤ) (n : ℕ) (bytes : List ℕ) → length (numbers_in least n bytes) ≡ n
+pub length-numbers_in : (least : ℤ) (n : ℕ) (bytes : List ℕ) → length (numbers_in least n bytes) ≡ n
 length-numbers_in least zero bytes = refl
 length-numbers_in least (suc n) bytes = omega (arith, length-numbers_in least n (drop 8 bytes))
 
 -- neither of two faults
-neither : (first last : Option Fault) → or_else first last ≡ None → (first ≡ None) × (last ≡ None)
+pub neither : (first last : Option Fault) → or_else first last ≡ None → (first ≡ None) × (last ≡ None)
 neither None last h = (refl, h)
 neither (Some fault) last h = cc
 
@@ -110,7 +110,7 @@ value_read least image p fields full row_seeds d seed total cells height width t
     rw (not_empty, cells_are, height, width, total_is, fields.num_hashes, fields.num_buckets) refl
 
 -- where no check of a list fails, each passes
-each_passes : (checks : List (Bool × Fault)) → first_failing checks ≡ None → All (λ check. check.0 ≡ true) checks
+pub each_passes : (checks : List (Bool × Fault)) → first_failing checks ≡ None → All (λ check. check.0 ≡ true) checks
 each_passes [] h = All-nil (λ (check : Bool × Fault). check.0 ≡ true)
 each_passes (check ∷ checks) h =
     let both = first_passes check.0 check.1 (first_failing checks) h in
@@ -247,6 +247,15 @@ total_fits least greatest total h =
     in_order : (a b : ℤ) → int_le a b ≡ true → a ≤ℤ b
     in_order a b e = le_z_yes (subst T (sym e) tt)
 
+-- neither the total nor the cells fail where no late check does
+pub full_passes : (least : ℤ) (greatest : ℕ) (image : List ℕ) → says_empty image ≡ false → late_fault least greatest image ≡ None
+    → (first_failing (total_checks least greatest (total_at least image)) ≡ None) × (first_failing (cells_checks least greatest (unsigned_abs (total_at least image)) (cells_at least image)) ≡ None)
+full_passes least greatest image full passes =
+    let totals = total_checks least greatest (total_at least image) in
+    let cells = cells_checks least greatest (unsigned_abs (total_at least image)) (cells_at least image) in
+    let late : first_failing (totals ++ cells) ≡ None = rw full at passes in
+    neither (first_failing totals) (first_failing cells) (sym (first_failing-append totals cells) ∙ late)
+
 -- where no check of a list of bytes fails, what it says is a sketch
 pub state_at : (least : ℤ) (greatest seed : ℕ) (image : List ℕ) → All (λ byte. byte < 2 ^ 8) image → first_fault least greatest seed image ≡ None → IsCountState greatest (value_at least seed image)
 state_at least greatest seed image bytes passes = by_flag (says_empty image) refl
@@ -276,10 +285,7 @@ state_at least greatest seed image bytes passes = by_flag (says_empty image) ref
       bounded = λ r b. rw (zeros_at (hashes_at image) (buckets_at image) r b) (omega arith);
     })
     by_flag false e =
-        let late : first_failing (total_checks least greatest (total_at least image) ++ cells_checks least greatest (unsigned_abs (total_at least image)) (cells_at least image)) ≡ None = rw e at parts.1 in
-        let totals = total_checks least greatest (total_at least image) in
-        let cells = cells_checks least greatest (unsigned_abs (total_at least image)) (cells_at least image) in
-        let both : (first_failing totals ≡ None) × (first_failing cells ≡ None) = neither (first_failing totals) (first_failing cells) (sym (first_failing-append totals cells) ∙ late) in
+        let both = full_passes least greatest image e parts.1 in
         rw e (record {
           some_hashes = omega (arith, early.some_hashes);
           few_hashes = few_hashes;

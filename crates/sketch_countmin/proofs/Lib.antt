@@ -1,6 +1,9 @@
 mod PartUpdates
 pub mod Places
 pub mod Numbers
+pub mod Nearest
+pub mod ByteCells
+pub mod Views
 pub mod Reading
 pub mod RoundTrips
 pub mod Writing

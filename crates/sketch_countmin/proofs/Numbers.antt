@@ -33,7 +33,7 @@ pub quotient_is : (q : ℕ) → q < 2 ^ 64 → to_z w128 q ≡ pos q
 quotient_is q small = omega (arith, ints)
 
 -- a number of 127 bits and a sign fits 128 bits
-small_fits : (z : ℤ) → unsigned_abs z < 2 ^ 127 → SFits w128 z
+pub small_fits : (z : ℤ) → unsigned_abs z < 2 ^ 127 → SFits w128 z
 small_fits (pos n) h = record { sfits = omega (arith, ints) }
 small_fits (negsuc n) h = record { sfits = omega (arith, ints) }
 

@@ -97,12 +97,12 @@ lesser_here num cmp a b c x y ordered ex ey chosen =
     (subst (λ (y : ℤ). IsLesser (num a) y (num c)) ey
     (subst (λ (c : _). IsLesser (num a) (num b) (num c)) (sym chosen) (lesser num a b (cmp b a) (ordered b a))))
 
-pub least_first : {T : Type 0} (num : T → ℤ) (d : ℕ) (bucket : ℕ → ℕ) (xs : List T) (k : ℕ) (x : T) → k ≡ bucket 0 → k < length xs → x ≡ get_or xs k x
-    → IsMinOf d (map num xs) bucket 1 (num x)
-least_first num d bucket xs k x index fits e =
-    let here : flat_at d (map num xs) 0 (bucket 0) ≡ num x = ap (λ (j : ℕ). get_or (map num xs) j (pos 0)) (omega (arith, index)) ∙ read_cell num xs k x fits e in
+pub least_first : {T : Type 0} (num : T → ℤ) (d : ℕ) (bucket : ℕ → ℕ) (cells : List ℤ) (k : ℕ) (x : T) → k ≡ bucket 0 → num x ≡ get_or cells k (pos 0)
+    → IsMinOf d cells bucket 1 (num x)
+least_first num d bucket cells k x index e =
+    let here : flat_at d cells 0 (bucket 0) ≡ num x = ap (λ (j : ℕ). get_or cells j (pos 0)) (omega (arith, index)) ∙ sym e in
     record {
-      below = λ r lt. let at_zero : 0 ≡ r = omega arith in subst (λ (r : ℕ). num x ≤ℤ flat_at d (map num xs) r (bucket r)) at_zero (omega (arith, ints, here));
+      below = λ r lt. let at_zero : 0 ≡ r = omega arith in subst (λ (r : ℕ). num x ≤ℤ flat_at d cells r (bucket r)) at_zero (omega (arith, ints, here));
       reached = (0, omega arith, sym here);
     }
 
@@ -113,15 +113,14 @@ least_lesser d cells bucket n x z h l = record {
   reached = ⊎_elim (λ (same : z ≡ x). let there = h.reached in (there.0, omega (arith, there.1), same ∙ there.2)) (λ (same : z ≡ flat_at d cells n (bucket n)). (n, omega arith, same)) l.either;
 }
 
-pub least_more : {T : Type 0} (num : T → ℤ) (cmp : T → T → Ordering) (d : ℕ) (bucket : ℕ → ℕ) (n : ℕ) (xs : List T) (a : T)
+pub least_more : {T : Type 0} (num : T → ℤ) (cmp : T → T → Ordering) (d : ℕ) (bucket : ℕ → ℕ) (n : ℕ) (cells : List ℤ) (a : T)
     → ((x y : T) → MatchOrdering (cmp x y) (num x <ℤ num y) (num x ≡ num y) (num y <ℤ num x))
-    → IsMinOf d (map num xs) bucket n (num a)
-    → (k : ℕ) (b c : T) → k ≡ n * d + bucket n → k < length xs → b ≡ get_or xs k b → c ≡ cond (is_lt (cmp b a)) b a
-    → IsMinOf d (map num xs) bucket (n + 1) (num c)
-least_more num cmp d bucket n xs a ordered h k b c index fits e chosen =
-    let l : IsLesser (num a) (num b) (num c) = subst (λ (c : _). IsLesser (num a) (num b) (num c)) (sym chosen) (lesser num a b (cmp b a) (ordered b a)) in
-    let here : flat_at d (map num xs) n (bucket n) ≡ num b = ap (λ (j : ℕ). get_or (map num xs) j (pos 0)) (sym index) ∙ read_cell num xs k b fits e in
-    least_lesser d (map num xs) bucket n (num a) (num c) h (subst (λ (z : ℤ). IsLesser (num a) z (num c)) (sym here) l)
+    → IsMinOf d cells bucket n (num a)
+    → (k : ℕ) (b c : T) → k ≡ n * d + bucket n → num b ≡ get_or cells k (pos 0) → c ≡ cond (is_lt (cmp b a)) b a
+    → IsMinOf d cells bucket (n + 1) (num c)
+least_more num cmp d bucket n cells a ordered h k b c index e chosen =
+    least_lesser d cells bucket n (num a) (num c) h
+    (lesser_here num cmp a b c (num a) (flat_at d cells n (bucket n)) ordered refl (e ∙ ap (λ (j : ℕ). get_or cells j (pos 0)) index) chosen)
 
 -- ---- what a new sketch is made of
 
@@ -131,6 +130,13 @@ unfolding row_seed
 seeds_more xs ys n seed x long h e pushed = below_more (λ (r : ℕ). get_or ys r 0 ≡ row_seed r seed) n
     (λ r lt. ap (λ (l : List ℕ). get_or l r 0) pushed ∙ (get_or_append_left xs (x ∷ []) 0 r (omega (arith, long, lt)) ∙ h r lt))
     (ap (λ (l : List ℕ). get_or l n 0) pushed ∙ (get_or_push xs x 0 n long ∙ e))
+
+pub seeds_set : (xs : List ℕ) (n seed x : ℕ) → n < length xs → ((r : ℕ) → r < n → get_or xs r 0 ≡ row_seed r seed) → x ≡ (murmur3_x64_128 (le64 n) seed).0
+    → (r : ℕ) → r < n + 1 → get_or (set xs n x) r 0 ≡ row_seed r seed
+unfolding row_seed
+seeds_set xs n seed x fits h e = below_more (λ (r : ℕ). get_or (set xs n x) r 0 ≡ row_seed r seed) n
+    (λ r lt. let ne : r ≢ n = omega arith in get_or-set_other xs n r x 0 ne ∙ h r lt)
+    (get_or-set_same xs n x 0 fits ∙ e)
 
 pub zeros_more : {T : Type 0} (num : T → ℤ) (xs ys : List T) (n : ℕ) (x : T) → num x ≡ pos 0 → map num xs ≡ replicate n (pos 0) → ys ≡ xs ++ x ∷ [] → map num ys ≡ replicate (n + 1) (pos 0)
 zeros_more num xs ys n x z h pushed =

@@ -17,6 +17,7 @@ mod words_and_lines;
 use crate::cells::{add_all, halve_all, row_seeds, same_cells, scale_all, zeros};
 use crate::count_min_value::CountMinValue;
 use crate::limits::{MAX_TABLE_ENTRIES, MIN_NUM_BUCKETS};
+use crate::margin::with_margin;
 use crate::rows::{HashItem, RowItem};
 use crate::unsigned_count_min_value::UnsignedCountMinValue;
 use sketch_base::{DEFAULT_UPDATE_SEED, Divisor, Error, ErrorKind, Fault, compute_seed_hash};
@@ -24,12 +25,6 @@ use std::alloc::{AllocError, Global};
 use std::fmt;
 use std::hash::Hash;
 use std::marker::Model;
-
-/// The numerator of the fraction that approximates e in an upper bound.
-const E_NUMERATOR: u128 = 2_718_281_828_459_045_235;
-
-/// The denominator of that fraction.
-const E_DENOMINATOR: u128 = 1_000_000_000_000_000_000;
 
 /// A Count-Min sketch of the weights of items (Cormode & Muthukrishnan 2005): a table with a row of cells for each
 /// hash.
@@ -320,7 +315,7 @@ impl<T: CountMinValue> CountMinSketch<T> {
             → IsMin self.now.hashes (others_share self.now.buckets self.now.seed h (R.input item.now))
             (T.number result -ℤ own_value h (R.input item.now)) }
     {
-        item.min_cell(&self.counts, self.buckets, &self.row_seeds)
+        item.min_cell(&self.counts.as_slice(), self.buckets, &self.row_seeds)
     }
 
     /// Returns the estimate. It is no lower bound of the item's true weight: collisions can raise it above that.
@@ -339,13 +334,7 @@ impl<T: CountMinValue> CountMinSketch<T> {
         ensures { (estimate : ℤ) → IsMinCell self.now (fed_bytes I.hash_input item) estimate
             → T.number result ≡ upper_bound_of T.greatest self.now estimate }
     {
-        let scale = E_DENOMINATOR * self.buckets.divisor() as u128;
-        let margin = self.total.to_number() as u128 * E_NUMERATOR / scale;
-        let bound = self.estimate(item).to_number() + margin as i128;
-        match T::from_number(bound) {
-            Some(value) => value,
-            None => T::MAX,
-        }
+        with_margin(self.estimate(item), self.total, self.buckets)
     }
 
     /// Adds the cells and the total of another sketch of the same shape and seed. Does not allocate.

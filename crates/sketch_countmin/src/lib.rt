@@ -5,13 +5,16 @@
 //! and read from one.
 #![tactic(auto)]
 
+mod cell_list;
 mod cells;
 mod count_min_sketch;
 mod count_min_value;
+mod count_min_view;
 mod fraction;
 mod image;
 pub mod laws;
 mod limits;
+mod margin;
 mod number_types;
 mod rows;
 mod sizes;
@@ -19,6 +22,7 @@ mod unsigned_count_min_value;
 
 pub use count_min_sketch::CountMinSketch;
 pub use count_min_value::CountMinValue;
+pub use count_min_view::CountMinView;
 pub use sizes::{suggest_num_buckets, suggest_num_hashes};
 pub use sketch_base::{Error, ErrorKind, Fault};
 pub use unsigned_count_min_value::UnsignedCountMinValue;

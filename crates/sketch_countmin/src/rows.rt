@@ -11,6 +11,7 @@ ghost use Rattle.sketch_base.specs.Hashes.{fed_bytes};
 ghost use Rattle.sketch_countmin.specs.Cells.{cell_in, RowsAdded, IsMinOf};
 ghost use Rattle.sketch_countmin.specs.Buckets.{buckets_by};
 
+use crate::cell_list::CellList;
 use crate::cells::add_at;
 use crate::count_min_value::CountMinValue;
 use sketch_base::{Divisor, Rehashable, RehashableItem, RehashableStr, murmur3_of};
@@ -29,10 +30,11 @@ pub trait RowItem<T: CountMinValue> {
             (length row_seeds.now) (map T.number counts.old) (map T.number counts.new) };
 
     /// Returns the minimum of the item's cells.
-    fn min_cell(&self, counts: &[T], buckets: Divisor, row_seeds: &[u64]) -> T
-        requires shape { length counts.now ≡ length row_seeds.now * buckets }
+    fn min_cell<C: CellList<T>>(&self, counts: &C, buckets: Divisor, row_seeds: &[u64]) -> T
+        requires shape { length (C.list counts.now) ≡ length row_seeds.now * buckets }
         requires rows { 0 < length row_seeds.now }
-        ensures { IsMinOf buckets (map T.number counts.now) (buckets_by buckets row_seeds.now (input self.now))
+        requires fits { length row_seeds.now * buckets < 2 ^ 64 }
+        ensures { IsMinOf buckets (C.list counts.now) (buckets_by buckets row_seeds.now (input self.now))
             (length row_seeds.now) (T.number result) };
 }
 
@@ -51,7 +53,7 @@ impl<'a, T: CountMinValue, I: Hash> RowItem<T> for HashItem<'a, I> {
     }
 
     #[inline(always)]
-    fn min_cell(&self, counts: &[T], buckets: Divisor, row_seeds: &[u64]) -> T {
+    fn min_cell<C: CellList<T>>(&self, counts: &C, buckets: Divisor, row_seeds: &[u64]) -> T {
         min_of_item(counts, buckets, row_seeds, self.item)
     }
 }
@@ -78,7 +80,7 @@ impl<'a, T: CountMinValue> RowItem<T> for StrItem<'a> {
     }
 
     #[inline(always)]
-    fn min_cell(&self, counts: &[T], buckets: Divisor, row_seeds: &[u64]) -> T {
+    fn min_cell<C: CellList<T>>(&self, counts: &C, buckets: Divisor, row_seeds: &[u64]) -> T {
         let item = RehashableStr::new(self.item);
         if !buckets.is_power_of_two() {
             min_of_each(counts, buckets, false, row_seeds, &item)
@@ -227,15 +229,16 @@ fn index_in<R: Rehashable>(
 
 /// Returns the minimum of the item's cells.
 #[inline(always)]
-fn min_of_item<T: CountMinValue, I: Hash>(
-    counts: &[T],
+fn min_of_item<T: CountMinValue, C: CellList<T>, I: Hash>(
+    counts: &C,
     buckets: Divisor,
     row_seeds: &[u64],
     item: &I,
 ) -> T
-    requires shape { length counts.now ≡ length row_seeds.now * buckets }
+    requires shape { length (C.list counts.now) ≡ length row_seeds.now * buckets }
+    requires fits { length row_seeds.now * buckets < 2 ^ 64 }
     requires rows { 0 < length row_seeds.now }
-    ensures { IsMinOf buckets (map T.number counts.now)
+    ensures { IsMinOf buckets (C.list counts.now)
         (buckets_by buckets row_seeds.now (fed_bytes I.hash_input item.now))
         (length row_seeds.now) (T.number result) }
 {
@@ -252,24 +255,25 @@ fn min_of_item<T: CountMinValue, I: Hash>(
 
 /// Does the same as `min_of_item` for an item of many bytes, which is fed again for each row.
 #[inline(never)]
-fn min_long<T: CountMinValue, I: Hash>(
-    counts: &[T],
+fn min_long<T: CountMinValue, C: CellList<T>, I: Hash>(
+    counts: &C,
     buckets: Divisor,
     row_seeds: &[u64],
     item: &I,
 ) -> T
-    requires shape { length counts.now ≡ length row_seeds.now * buckets }
+    requires shape { length (C.list counts.now) ≡ length row_seeds.now * buckets }
+    requires fits { length row_seeds.now * buckets < 2 ^ 64 }
     requires rows { 0 < length row_seeds.now }
-    ensures { IsMinOf buckets (map T.number counts.now)
+    ensures { IsMinOf buckets (C.list counts.now)
         (buckets_by buckets row_seeds.now (fed_bytes I.hash_input item.now))
         (length row_seeds.now) (T.number result) }
 {
     let columns = buckets.divisor() as usize;
     let first = buckets.rem(murmur3_of(item, row_seeds[0]).0) as usize;
-    let mut least = counts[first];
+    let mut least = counts.cell(first);
     for row in 1..row_seeds.len() {
         let index = row * columns + buckets.rem(murmur3_of(item, row_seeds[row]).0) as usize;
-        let cell = counts[index];
+        let cell = counts.cell(index);
         least = least.min(cell);
     }
     least
@@ -277,8 +281,8 @@ fn min_long<T: CountMinValue, I: Hash>(
 
 /// Does the same as `min_of_item` for hashed bytes, four rows, and a power of two of buckets.
 #[inline(always)]
-fn min_of_four<T: CountMinValue, R: Rehashable>(
-    counts: &[T],
+fn min_of_four<T: CountMinValue, C: CellList<T>, R: Rehashable>(
+    counts: &C,
     buckets: Divisor,
     row_seeds: &[u64],
     bytes: &R,
@@ -286,24 +290,25 @@ fn min_of_four<T: CountMinValue, R: Rehashable>(
     requires power { IsTrue (is_power_of_two buckets) }
     requires hashable { R.can_hash bytes.now }
     requires four { length row_seeds.now ≡ 4 }
-    requires shape { length counts.now ≡ length row_seeds.now * buckets }
-    ensures { IsMinOf buckets (map T.number counts.now) (buckets_by buckets row_seeds.now (R.bytes bytes.now))
+    requires shape { length (C.list counts.now) ≡ length row_seeds.now * buckets }
+    requires fits { length row_seeds.now * buckets < 2 ^ 64 }
+    ensures { IsMinOf buckets (C.list counts.now) (buckets_by buckets row_seeds.now (R.bytes bytes.now))
         (length row_seeds.now) (T.number result) }
 {
     let first = index_in(buckets, true, row_seeds, bytes, 0);
     let second = index_in(buckets, true, row_seeds, bytes, 1);
     let third = index_in(buckets, true, row_seeds, bytes, 2);
     let fourth = index_in(buckets, true, row_seeds, bytes, 3);
-    let one = counts[first];
-    let two = one.min(counts[second]);
-    let three = two.min(counts[third]);
-    three.min(counts[fourth])
+    let one = counts.cell(first);
+    let two = one.min(counts.cell(second));
+    let three = two.min(counts.cell(third));
+    three.min(counts.cell(fourth))
 }
 
 /// Does the same as `min_of_item` for hashed bytes, row by row. `masked` requires a power of two of buckets.
 #[inline(always)]
-fn min_of_each<T: CountMinValue, R: Rehashable>(
-    counts: &[T],
+fn min_of_each<T: CountMinValue, C: CellList<T>, R: Rehashable>(
+    counts: &C,
     buckets: Divisor,
     masked: bool,
     row_seeds: &[u64],
@@ -312,15 +317,16 @@ fn min_of_each<T: CountMinValue, R: Rehashable>(
     requires masked { IsTrue masked → IsTrue (is_power_of_two buckets) }
     requires hashable { R.can_hash bytes.now }
     requires rows { 0 < length row_seeds.now }
-    requires shape { length counts.now ≡ length row_seeds.now * buckets }
-    ensures { IsMinOf buckets (map T.number counts.now) (buckets_by buckets row_seeds.now (R.bytes bytes.now))
+    requires shape { length (C.list counts.now) ≡ length row_seeds.now * buckets }
+    requires fits { length row_seeds.now * buckets < 2 ^ 64 }
+    ensures { IsMinOf buckets (C.list counts.now) (buckets_by buckets row_seeds.now (R.bytes bytes.now))
         (length row_seeds.now) (T.number result) }
 {
     let first = index_in(buckets, masked, row_seeds, bytes, 0);
-    let mut least = counts[first];
+    let mut least = counts.cell(first);
     for row in 1..row_seeds.len() {
         let index = index_in(buckets, masked, row_seeds, bytes, row);
-        let cell = counts[index];
+        let cell = counts.cell(index);
         least = least.min(cell);
     }
     least

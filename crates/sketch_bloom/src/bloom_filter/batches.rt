@@ -99,7 +99,7 @@ impl BloomFilter {
         ensures { answers.new ≡ map (contains_item self.now) (B.inputs batch.now) }
     {
         contains_items(
-            &self.words,
+            &self.words.as_slice(),
             self.capacity,
             self.num_hashes,
             self.seed,

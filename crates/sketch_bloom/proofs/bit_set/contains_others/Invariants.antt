@@ -5,4 +5,4 @@ use Rattle.sketch_bloom.specs.Positions.{positions}
 use Rattle.sketch_bloom.proofs.bit_set.contains_others.Given as goal
 
 abbrev pub invariant-probes : goal.invariant-probes
-invariant-probes l = (l.hash ≡ (l.h0 + l._i * l.h1) % 2 ^ 64) × (set.is_subset (positions l.capacity l._i l.h0 l.h1) (set_of l.words) ≡ true)
+invariant-probes g l = (l.hash ≡ (l.h0 + l._i * l.h1) % 2 ^ 64) × (set.is_subset (positions l.capacity l._i l.h0 l.h1) (set_of (g.W.Words.list l.words)) ≡ true)

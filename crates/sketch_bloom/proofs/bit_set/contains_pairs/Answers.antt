@@ -7,17 +7,17 @@ use Rattle.sketch_bloom.proofs.Pairs.{contains_first_of}
 use Rattle.sketch_bloom.proofs.bit_set.contains_pairs.Goals as goal
 
 pub firsts-init : goal.firsts-init
-firsts-init c = refl
+firsts-init g c = refl
 
 pub firsts-preserved : goal.firsts-preserved
-firsts-preserved c =
-    let f : ℕ × ℕ → Bool = contains_first_of c.args.capacity (set_of c.args.words.now) in
+firsts-preserved g c =
+    let f : ℕ × ℕ → Bool = contains_first_of c.args.capacity (set_of (g.W.Words.list c.args.words.now)) in
     ap (λ b. take (c.firsts.i + 1) (set c.firsts.answers c.firsts.i b)) c.contains_first.ensures
     ∙ written_more f c.args.pairs.now c.firsts.answers c.firsts.i (0, 0) c.firsts-test.true (omega arith) c.firsts.invariant
 
 pub others-init : goal.others-init
-others-init c =
-    let f : ℕ × ℕ → Bool = contains_first_of c.args.capacity (set_of c.args.words.now) in
+others-init g c =
+    let f : ℕ × ℕ → Bool = contains_first_of c.args.capacity (set_of (g.W.Words.list c.args.words.now)) in
     let all : c.firsts.answers ≡ map f c.args.pairs.now = written_all f c.args.pairs.now c.firsts.answers c.firsts.i c.firsts-test.false (omega arith) c.firsts.invariant in
     record {
       done = refl;
@@ -25,11 +25,11 @@ others-init c =
     }
 
 pub contains_behind-requires-clause-found : goal.contains_behind-requires-clause-found
-contains_behind-requires-clause-found c = c.others.invariant.left c.others.i (omega arith) c.others-test.true
+contains_behind-requires-clause-found g c = c.others.invariant.left c.others.i (omega arith) c.others-test.true
 
 pub others-preserved : goal.others-preserved
-others-preserved c =
-    let f : ℕ × ℕ → Bool = contains_pair c.args.capacity c.args.num_hashes (set_of c.args.words.now) in
+others-preserved g c =
+    let f : ℕ × ℕ → Bool = contains_pair c.args.capacity c.args.num_hashes (set_of (g.W.Words.list c.args.words.now)) in
     record {
       done = ap (λ b. take (c.others.i + 1) (set c.others.answers c.others.i b)) c.contains_behind.ensures
           ∙ written_more f c.args.pairs.now c.others.answers c.others.i (0, 0) c.others-test.true (omega arith) c.others.invariant.done;
@@ -37,5 +37,5 @@ others-preserved c =
     }
 
 pub returns : goal.returns
-returns c =
-    written_all (contains_pair c.args.capacity c.args.num_hashes (set_of c.args.words.now)) c.args.pairs.now c.others.answers c.others.i c.others-test.false (omega arith) c.others.invariant.done
+returns g c =
+    written_all (contains_pair c.args.capacity c.args.num_hashes (set_of (g.W.Words.list c.args.words.now))) c.args.pairs.now c.others.answers c.others.i c.others-test.false (omega arith) c.others.invariant.done

@@ -6,11 +6,11 @@ use Rattle.sketch_bloom.proofs.bit_set.contains_pairs.Given as goal
 
 -- the first positions so far were found in the set
 abbrev pub invariant-firsts : goal.invariant-firsts
-invariant-firsts l = take l.i l.answers ≡ map (contains_first_of l.capacity (set_of l.words)) (take l.i l.pairs)
+invariant-firsts g l = take l.i l.answers ≡ map (contains_first_of l.capacity (set_of (g.W.Words.list l.words))) (take l.i l.pairs)
 
 -- and then all of the pairs so far
 abbrev pub invariant-others : goal.invariant-others
-invariant-others l = record {
-  done : take l.i l.answers ≡ map (contains_pair l.capacity l.num_hashes (set_of l.words)) (take l.i l.pairs);
-  left : (k : ℕ) → l.i ≤ k → k < length l.pairs → get_or l.answers k false ≡ contains_first_of l.capacity (set_of l.words) (get_or l.pairs k (0, 0));
+invariant-others g l = record {
+  done : take l.i l.answers ≡ map (contains_pair l.capacity l.num_hashes (set_of (g.W.Words.list l.words))) (take l.i l.pairs);
+  left : (k : ℕ) → l.i ≤ k → k < length l.pairs → get_or l.answers k false ≡ contains_first_of l.capacity (set_of (g.W.Words.list l.words)) (get_or l.pairs k (0, 0));
 }

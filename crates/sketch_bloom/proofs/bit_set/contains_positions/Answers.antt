@@ -6,5 +6,5 @@ use Rattle.sketch_bloom.proofs.Placing.{positions-zero}
 use Rattle.sketch_bloom.proofs.bit_set.contains_positions.Goals as goal
 
 pub contains_others-requires-clause-found : goal.contains_others-requires-clause-found
-contains_others-requires-clause-found c =
-    ap (λ s. set.is_subset s (set_of c.args.words.now)) (positions-zero c.args.capacity c.args.h0 c.args.h1) ∙ is_subset-empty (set_of c.args.words.now)
+contains_others-requires-clause-found g c =
+    ap (λ s. set.is_subset s (set_of (g.W.Words.list c.args.words.now))) (positions-zero c.args.capacity c.args.h0 c.args.h1) ∙ is_subset-empty (set_of (g.W.Words.list c.args.words.now))

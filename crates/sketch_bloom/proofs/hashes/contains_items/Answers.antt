@@ -13,17 +13,17 @@ pub each-preserved : goal.each-preserved
 each-preserved g c =
     let from : ℕ = 16 * c.each.b in
     let to : ℕ = from + c.min.result in
-    let answer = λ (input : List ℕ). contains_pair c.args.capacity c.args.num_hashes (set_of c.args.words.now) (pair_of c.args.seed input) in
+    let answer = λ (input : List ℕ). contains_pair c.args.capacity c.args.num_hashes (set_of (g.W.Words.list c.args.words.now)) (pair_of c.args.seed input) in
     let inputs = g.B.Batch.inputs c.args.batch.now in
     let block = take (to - from) (drop from inputs) in
     let hashed : c.hash_block.new.pairs ≡ map (pair_of c.args.seed) block = block_hashed (pair_of c.args.seed) inputs c.each.pairs c.hash_block.new.pairs from (to - from) (omega arith) c.hash_block.ensures in
     written_block answer inputs c.each.answers c.contains_pairs.new.answers from to (16 * (c.each.b + 1)) (to - from)
     (omega arith) (omega arith) (λ l. omega arith) (omega arith) (omega arith) refl
-    (c.contains_pairs.ensures ∙ (ap (map (contains_pair c.args.capacity c.args.num_hashes (set_of c.args.words.now))) hashed ∙ map-map _ _ block))
+    (c.contains_pairs.ensures ∙ (ap (map (contains_pair c.args.capacity c.args.num_hashes (set_of (g.W.Words.list c.args.words.now)))) hashed ∙ map-map _ _ block))
     c.each.invariant
 
 pub returns : goal.returns
 returns g c =
-    let answer = λ (input : List ℕ). contains_pair c.args.capacity c.args.num_hashes (set_of c.args.words.now) (pair_of c.args.seed input) in
+    let answer = λ (input : List ℕ). contains_pair c.args.capacity c.args.num_hashes (set_of (g.W.Words.list c.args.words.now)) (pair_of c.args.seed input) in
     let inputs = g.B.Batch.inputs c.args.batch.now in
     written_all answer inputs c.each.answers (16 * c.each.b) (omega arith) (omega arith) c.each.invariant
