@@ -364,6 +364,7 @@ impl BloomFilter {
         ensures some { (image : List ℕ) × IsSpelled image self.now }
         ensures each { (image : List ℕ) → IsSpelled image self.now → length image ≡ result }
     {
+        // For the prover: this read brings in the range of the seed.
         let _seed = self.seed;
         image_length(&self.words, self.bits_used)
     }
