@@ -225,8 +225,8 @@ int32_t ds_bloom_reset(ds_sketch *handle);
 /* Writes the filter's numbers. */
 int32_t ds_bloom_get_status(ds_sketch *handle, ds_bloom_status *status);
 
-/* Writes the length in bytes of the filter's image, in constant time: 24 if no bit is set, and otherwise 32 and a byte for each 8
- * bits. */
+/* Writes the length in bytes of the filter's image, in constant time: 24 if no bit is set, and otherwise 32 and 8 for each word
+ * of 64 bits. */
 int32_t ds_bloom_serialized_bytes(ds_sketch *handle, size_t *bytes);
 
 /* Writes the filter's image to the front of `out`, and the image's length in bytes to `written`. The rest of `out` stays as it

@@ -376,6 +376,7 @@ impl BloomFilter {
         ensures some { (image : List ℕ) × IsSpelled image self.now }
         ensures each { (image : List ℕ) → IsSpelled image self.now → length image ≡ result }
     {
+        // For the prover: this read brings in the range of the seed.
         let _seed = self.seed;
         image_length(&self.words, self.bits_used)
     }
@@ -401,17 +402,6 @@ impl BloomFilter {
     /// [`serialized_size`](Self::serialized_size). The rest of `out` is unchanged. Does not allocate.
     ///
     /// Returns `None` if the image is longer than `out`, which is then unchanged.
-    ///
-    /// # Examples
-    ///
-    /// ```
-    /// use sketch_bloom::BloomFilter;
-    ///
-    /// fn image_in_page<'a>(filter: &BloomFilter, page: &'a mut [u8]) -> Option<&'a [u8]> {
-    ///     let length = filter.serialize_into(page)?;
-    ///     Some(&page[..length])
-    /// }
-    /// ```
     pub fn serialize_into(&self, out: &mut [u8]) -> Option<usize>
         ensures image { IfSome result (λ n. IsSpelled (take n out.new) self.now) }
         ensures length { IfSome result (λ n. n ≡ image_bytes self.now) }

@@ -56,17 +56,6 @@ impl<T: CountMinValue> CountMinSketch<T> {
     /// allocate.
     ///
     /// Returns `None` if the image is longer than `out`, which is then unchanged.
-    ///
-    /// # Examples
-    ///
-    /// ```
-    /// use sketch_countmin::CountMinSketch;
-    ///
-    /// fn image_in_page<'a>(counts: &CountMinSketch<u64>, page: &'a mut [u8]) -> Option<&'a [u8]> {
-    ///     let length = counts.serialize_into(page)?;
-    ///     Some(&page[..length])
-    /// }
-    /// ```
     pub fn serialize_into(&self, out: &mut [u8]) -> Option<usize>
         ensures image { IfSome result (λ n. IsSpelled T.least T.greatest (take n out.new) self.now) }
         ensures length { IfSome result (λ n. n ≡ image_bytes self.now) }
