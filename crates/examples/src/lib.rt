@@ -30,4 +30,6 @@ mod table_keys;
 #[cfg(test)]
 mod tests;
 #[cfg(test)]
+mod views;
+#[cfg(test)]
 mod windows;
