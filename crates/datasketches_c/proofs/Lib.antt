@@ -6,6 +6,7 @@ pub mod EqualityLemmas
 pub mod FilterLemmas
 pub mod GhostStrings
 pub mod Handles
+pub mod ImageAnswers
 pub mod KindLemmas
 pub mod ManyHandleLemmas
 pub mod ManyJoinLemmas

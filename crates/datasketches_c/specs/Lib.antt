@@ -15,6 +15,7 @@ pub mod FrequentStringImages
 pub mod FrequentStringRows
 pub mod FrequentStrings
 pub mod Holding
+pub mod ImageViews
 pub mod Images
 pub mod Joining
 pub mod Kinds
