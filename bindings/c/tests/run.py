@@ -338,6 +338,11 @@ class Tests:
         for word in [b"yes", b"no", b"estimate"]:
             self.check(f"some line in a run gets {word.decode()}", any(reply.startswith(word) for reply in wanted))
 
+    def includes(self, header, *command):
+        """Returns whether a source that includes only this header compiles."""
+        ran = subprocess.run([*command, "-fsyntax-only", "-"], input=f'#include "{header}"\n', text=True)
+        return ran.returncode == 0
+
     def installed(self):
         """Builds and runs the page's example with the files that `install.sh` installed and the flags of the pkg-config file."""
         prefix = os.path.join(self.work, "prefix")
@@ -355,12 +360,11 @@ class Tests:
         self.check("the name of the shared object", "libdatasketches.so.0" in needed)
         headers = ["datasketches.h", "datasketches_checks.h", "datasketches.hpp"]
         for name in headers[:2]:
-            whole = [COMPILER, *STRICT, "-x", "c", "-fsyntax-only", f"{prefix}/include/{name}"]
-            self.check(f"{name} in C", subprocess.run(whole).returncode == 0)
+            self.check(f"{name} in C", self.includes(f"{prefix}/include/{name}", COMPILER, "-x", "c", *STRICT))
         for compiler in CPP_COMPILERS:
             for name in headers:
-                whole = [compiler, "-std=c++17", "-x", "c++", *WARNINGS, "-fsyntax-only", f"{prefix}/include/{name}"]
-                self.check(f"{name} with {compiler}", subprocess.run(whole, stderr=subprocess.DEVNULL).returncode == 0)
+                path = f"{prefix}/include/{name}"
+                self.check(f"{name}, {compiler}", self.includes(path, compiler, "-x", "c++", "-std=c++17", *WARNINGS))
             subprocess.run([compiler, "-std=c++17", *WARNINGS, f"{C}/example.cpp", "-o", example, *flags], check=True)
             ran = self.run([example], b"to be or not to be", LD_LIBRARY_PATH=f"{prefix}/lib")
             shown = re.findall(r"^ \*     (?!\$)(.*)$", read(f"{C}/example.cpp"), re.MULTILINE)
