@@ -260,6 +260,9 @@ static void ranges_of_strings()
     FAILS(DS_BAD_OFFSETS, made.insert_all(ds::offset_strings("", nullptr, 0)));
     FAILS(DS_BAD_ARGUMENT, made.insert_all(ds::offset_strings("", nullptr, 3)));
     FAILS(DS_BAD_ARGUMENT, made.insert_all(ds::span(static_cast<const ds_string *>(nullptr), 1)));
+    DONE(made.insert_all(std::vector<std::string_view>{std::string_view()}));
+    CHECK(take(made.contains("")));
+    made = new_filter();
     DONE(made.insert_all({"pear", ""}));
     DONE(made.insert_all({std::string("plum")}));
     CHECK(take(made.contains_all({"pear", "", "plum", "apple"})) == std::vector<bool>{true, true, true, false});
@@ -491,8 +494,8 @@ template <class W> void count_min()
     FAILS(DS_INVALID_UTF8, a.upper_bound("\xff"));
 
     DONE(b.update_words("apple pear apple"));
-    DONE(b.update_lines("apple\nplum"));
-    CHECK(take(b.estimate_all({"apple", "pear", "plum", ""})) == std::vector<W>{3, 1, 1, 0});
+    DONE(b.update_lines("apple\nplum tree"));
+    CHECK(take(b.estimate_all({"apple", "pear", "plum tree", "plum"})) == std::vector<W>{3, 1, 1, 0});
     CHECK(!take(a.equal(b)) && take(take(b.clone()).equal(b)));
     DONE(a.merge(b));
     CHECK(take(a.estimate("apple")) == 93 && take(b.estimate("apple")) == 3 && take(a.status()).total_weight == 98);
@@ -691,6 +694,10 @@ template <class T> void frequent()
     sketch other = take(sketch::deserialize(of_first, 1 << 20, {KEY.k1, KEY.k0}));
     sketch drawn = take(sketch::deserialize(of_first, 1 << 20)), drawn_too = take(sketch::create(1 << 10));
     CHECK(take(read.serialize()) != take(other.serialize()) && take(drawn.serialize()) != take(read.serialize()));
+    sketch by_c;
+    CHECK(ds::detail::frequent_items_calls<T>::deserialize_with_key(by_c.get(), of_first.data(), of_first.size(), 1 << 20, KEY.k0,
+                                                                    KEY.k1) == DS_OK);
+    CHECK(take(read.serialize()) == take(by_c.serialize()));
     CHECK(take(read.serialize()) == take(take(sketch::deserialize(of_first, 1 << 20, KEY)).serialize()));
     CHECK(take(drawn.bounds(item_of<T>(299))).lower_bound == 1 && take(drawn_too.status()).num_active_items == 0);
 
@@ -703,15 +710,16 @@ static void frequent_strings()
     const std::uint64_t ends[4] = {0, 1, 2, 3}, weights[3] = {5, 6, 7};
     ds_frequent_items_bounds found[3];
     DONE(made.update_words("to be or not to be"));
-    DONE(made.update_lines("to\nbe"));
+    DONE(made.update_lines("to\nbe here"));
     CHECK(take(made.bounds("to")).estimate == 3 && take(made.bounds(std::string_view("or"))).estimate == 1);
+    CHECK(take(made.bounds("be here")).estimate == 1 && take(made.bounds("here")).estimate == 0);
     FAILS(DS_INVALID_UTF8, made.update_words("\xff"));
     FAILS(DS_INVALID_UTF8, made.update("\xff"));
     FAILS(DS_INVALID_UTF8, made.bounds("\xff"));
     DONE(made.update_all(ds::offset_strings("aba", ends, 4)));
     DONE(made.update_all(ds::offset_strings("aba", ends, 4), weights));
     DONE(made.bounds_all(ds::offset_strings("aba", ends, 4), found));
-    CHECK(found[0].estimate == 14 && found[1].estimate == 7 && take(made.bounds_all({"a", "be"}))[1].estimate == 3);
+    CHECK(found[0].estimate == 14 && found[1].estimate == 7 && take(made.bounds_all({"a", "be"}))[1].estimate == 2);
     const ds_string pairs[2] = {{reinterpret_cast<const std::uint8_t *>("a"), 1}, {reinterpret_cast<const std::uint8_t *>("c"), 1}};
     DONE(made.update_all(pairs));
     CHECK(take(made.bounds("a")).estimate == 15 && take(made.bounds("c")).estimate == 1 && take(made.bounds("")).estimate == 0);

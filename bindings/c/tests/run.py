@@ -367,6 +367,11 @@ class Tests:
         for word in [b"yes", b"no", b"estimate"]:
             self.check(f"some line in a run gets {word.decode()}", any(reply.startswith(word) for reply in wanted))
 
+    def includes(self, header, *command):
+        """Returns whether a source that includes only this header compiles."""
+        ran = subprocess.run([*command, "-fsyntax-only", "-"], input=f'#include "{header}"\n', text=True)
+        return ran.returncode == 0
+
     def installed(self):
         """Installs in each way. Builds the page's example with the flags of the pkg-config file, runs it, and uninstalls."""
         version = read(f"{TOP}/VERSION").strip()
@@ -414,12 +419,11 @@ class Tests:
         flags = [f"-I{prefix}/include", f"-L{prefix}/lib", "-ldatasketches"]
         headers = ["datasketches.h", "datasketches_checks.h", "datasketches.hpp"]
         for name in headers[:2]:
-            whole = [COMPILER, *STRICT, "-x", "c", "-fsyntax-only", f"{prefix}/include/{name}"]
-            self.check(f"{name} in C", subprocess.run(whole).returncode == 0)
+            self.check(f"{name} in C", self.includes(f"{prefix}/include/{name}", COMPILER, "-x", "c", *STRICT))
         for compiler in CPP_COMPILERS:
             for name in headers:
-                whole = [compiler, "-std=c++17", "-x", "c++", *WARNINGS, "-fsyntax-only", f"{prefix}/include/{name}"]
-                self.check(f"{name} with {compiler}", subprocess.run(whole, stderr=subprocess.DEVNULL).returncode == 0)
+                path = f"{prefix}/include/{name}"
+                self.check(f"{name}, {compiler}", self.includes(path, compiler, "-x", "c++", "-std=c++17", *WARNINGS))
             subprocess.run([compiler, "-std=c++17", *WARNINGS, f"{C}/example.cpp", "-o", example, *flags], check=True)
             ran = self.run([example], b"to be or not to be", LD_LIBRARY_PATH=f"{prefix}/lib")
             shown = re.findall(r"^ \*     (?!\$)(.*)$", read(f"{C}/example.cpp"), re.MULTILINE)
