@@ -6,7 +6,6 @@ set -euo pipefail
 here="$(cd "$(dirname "$0")" && pwd)"
 out="${1:?the folder to build into}"
 crate="$here/../../crates/datasketches_c"
-heap="$(dirname "$(rt doc)")/c/liblibc_c.a"
 archive="${2:-}"
 mkdir -p "$out"
 out="$(cd "$out" && pwd)"
@@ -27,7 +26,7 @@ for source in "$here"/src/*.c; do
 done
 
 # One object, whose global symbols are the calls. So two static libraries that contain the same runtime can be in one program.
-"${LD:-ld}" -r --force-group-allocation -o "$work/all" "$work"/*.o --whole-archive "$archive" "$heap"
+"${LD:-ld}" -r --force-group-allocation -o "$work/all" "$work"/*.o --whole-archive "$archive"
 "${OBJCOPY:-objcopy}" --wildcard --keep-global-symbol='ds_*' "$work/all" "$work/datasketches.o"
 rm -f "$out/libdatasketches.a"
 "${AR:-ar}" rcsD "$out/libdatasketches.a" "$work/datasketches.o"

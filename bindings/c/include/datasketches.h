@@ -35,7 +35,7 @@
  *  3. One call at a time uses a handle. Another thread may use it later if a lock, a thread's start or a join lies between.
  *     Two threads may use two handles at once.
  *  4. No call is made from a signal handler, or by the child of a `fork` that was made while a call ran.
- *  5. The program has one `malloc`, `realloc` and `free`, which the library calls.
+ *  5. The program has one `malloc`, `realloc` and `free`, which the library calls, or those of `ds_set_allocator` do as it says.
  *  6. A `bool` that the library reads is 0 or 1.
  *
  * `datasketches_checks.h`, which this header includes, checks parts of rule 2, at next to no cost. The same handle twice, a handle
@@ -157,6 +157,23 @@ int32_t ds_clone(ds_sketch *handle, ds_sketch *other);
  * sketch takes 8 for each cell and each row. A frequent-items sketch takes 28 for each slot of a table of numbers, or 44 for
  * each slot of a table of strings and the bytes of the strings. Returns DS_NO_SKETCH if the handle has none. */
 int32_t ds_memory_bytes(ds_sketch *handle, size_t *bytes);
+
+/* --- The heap. --- */
+
+/* The functions from which the library allocates, and a pointer that they get. Blocks are aligned as those of `malloc`, and sizes
+ * are above 0. `reallocate` keeps the first `kept` bytes of the block, which may move. On failure, `allocate` and `reallocate`
+ * return null, and the old block stays. Threads call these functions at once. They call nothing of this library. */
+typedef struct ds_allocator {
+    void *(*allocate)(void *context, size_t size);
+    void *(*reallocate)(void *context, void *block, size_t kept, size_t size);
+    void (*deallocate)(void *context, void *block);
+    void *context;
+} ds_allocator;
+
+/* Sets the allocator, in place of `malloc`, `realloc` and `free`, for the rest of the process. The structure is copied. Call it
+ * before all other calls, and while no other thread makes one. Returns DS_BAD_ARGUMENT if a function is null, or if the library
+ * has asked for memory before. Then nothing changes. */
+int32_t ds_set_allocator(const ds_allocator *allocator);
 
 /* --- Bloom filters: sets of items. An item that was inserted is contained, unless a later intersection, difference or reset
  * removed some of its positions. An item that was not inserted may be contained too: a false positive. --- */

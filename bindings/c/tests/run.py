@@ -285,6 +285,11 @@ class Tests:
         ran = self.run([checked])
         self.check("sizes", ran.returncode == 0 and b"checks hold" in ran.stdout, ran)
 
+    def allocator(self):
+        """Runs the library on an allocator that the program sets."""
+        ran = self.run([self.compile(f"{HERE}/allocator.c", *SANITIZED)])
+        self.check("an allocator that is set", ran.returncode == 0 and b"checks hold" in ran.stdout, ran)
+
     def version(self):
         """Compares the version of the header and of the library with the repository's."""
         version = read(f"{TOP}/VERSION").strip()
@@ -521,6 +526,7 @@ def main():
         tests.without_checks()
         tests.cplusplus()
         tests.sizes()
+        tests.allocator()
         tests.version()
         tests.two_libraries()
         tests.keys_drawn()
