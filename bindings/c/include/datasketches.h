@@ -291,7 +291,7 @@ int32_t ds_bloom_deserialize(ds_sketch *handle, const uint8_t *image, size_t len
 
 /* Returns DS_YES if the filter in an image contains the item, and DS_NO otherwise. The image is read in place, at any address, as
  * in a mapped file. Nothing changes it during the call. Returns the error of the image's first failed check: each of
- * `ds_bloom_deserialize` but DS_BAD_BIT_COUNT, in constant time. Does not allocate. */
+ * `ds_bloom_deserialize` but those of `max_bytes` and of the number of set bits, in constant time. Does not allocate. */
 int32_t ds_bloom_image_contains_u64(const uint8_t *image, size_t length, uint64_t item);
 int32_t ds_bloom_image_contains_i64(const uint8_t *image, size_t length, int64_t item);
 int32_t ds_bloom_image_contains_string(const uint8_t *image, size_t length, const uint8_t *item, size_t item_length);
@@ -408,8 +408,8 @@ int32_t ds_count_min_u64_deserialize(ds_sketch *handle, const uint8_t *image, si
 
 /* Writes the estimate of the item's weight by the sketch in an image, which was written under this seed. The image is read in
  * place, at any address, as in a mapped file. Nothing changes it during the call. Returns the error of the image's first failed
- * check: each of `ds_count_min_u64_deserialize` but those of the cells, in constant time. A cell that it rejects is read as the
- * nearest that it accepts. Does not allocate. */
+ * check: each of `ds_count_min_u64_deserialize` but those of `max_bytes` and of the cells, in constant time. A cell that it rejects
+ * is read as the nearest that it accepts. Does not allocate. */
 int32_t ds_count_min_u64_image_estimate_u64(const uint8_t *image, size_t length, uint64_t seed, uint64_t item,
                                             uint64_t *estimate);
 int32_t ds_count_min_u64_image_estimate_i64(const uint8_t *image, size_t length, uint64_t seed, int64_t item, uint64_t *estimate);
@@ -474,7 +474,8 @@ int32_t ds_count_min_i64_image_estimate_string(const uint8_t *image, size_t leng
 /* --- Frequent items: the items of the largest weights, in at most three quarters of `max_map_size` counters.
  *
  * A sketch's table hashes items by SipHash-1-3 under a key of two words. No way is known to choose items that slow the sketch
- * down, for a caller who has neither the key nor rows or images of sketches under it. A clone has the key of its original. A merge keeps the handle's own key. An image has no key.
+ * down, for a caller who has neither the key nor rows or images of sketches under it. A clone has the key of its original. A merge
+ * keeps the handle's own key. An image has no key.
  *
  * `new` and `deserialize` draw a key. The first call of a process asks the system for two random words. Each call counts the
  * first word up, so no two sketches of a process get the same key. After a `fork`, parent and child count on from the same words,

@@ -522,6 +522,7 @@ def main():
         tests.calls(f"{HERE}/keys.c")
         tests.calls(f"{HERE}/table_keys.c")
         tests.calls(f"{HERE}/many.c")
+        tests.calls(f"{HERE}/images.c")
         tests.calls(f"{HERE}/checks.c")
         tests.without_checks()
         tests.cplusplus()
