@@ -241,6 +241,12 @@ class Tests:
             ran = self.run(command)
             self.check(f"{os.path.basename(source)}, {name}", ran.returncode == 0 and b"checks hold" in ran.stdout, ran)
 
+    def races(self):
+        """Looks for races of threads that read one sketch."""
+        helgrind = ["valgrind", "-q", "--tool=helgrind", "--error-exitcode=9"]
+        ran = self.run([*helgrind, self.compile(f"{HERE}/sharing.c", "-g", "-O1", static=False), "joined"])
+        self.check("sharing.c, races", ran.returncode == 0 and b"checks hold" in ran.stdout and not ran.stderr, ran)
+
     def without_checks(self):
         """Runs the calls of `checks.c` that need no check, with a header that has none."""
         ran = self.run([self.compile(f"{HERE}/checks.c", *SANITIZED, "-DDS_NO_CHECKS")])
@@ -523,6 +529,8 @@ def main():
         tests.calls(f"{HERE}/table_keys.c")
         tests.calls(f"{HERE}/many.c")
         tests.calls(f"{HERE}/images.c")
+        tests.calls(f"{HERE}/sharing.c")
+        tests.races()
         tests.calls(f"{HERE}/checks.c")
         tests.without_checks()
         tests.cplusplus()
