@@ -1,6 +1,6 @@
-/* Shared sketches: threads that read one at once, calls that change it, merges from it, and its thaw. Prints the checks that failed,
- * and exits with 1 if there is any. With the argument `joined`, no sketch is thawed while threads read it: then each access of
- * the program is ordered by locks, starts and joins of threads alone, as tools that look for races expect. */
+/* Shared sketches: threads that read one at once, calls that change it, merges from it, and its thaw. Prints the checks that
+ * failed, and exits with 1 if there is any. With the argument `joined`, no sketch is thawed before the threads that read it are
+ * joined, since tools that look for races do not know the order that counts of shares make. */
 #include <datasketches.h>
 #include <pthread.h>
 #include <stdio.h>
