@@ -161,8 +161,8 @@ int32_t ds_clone(ds_sketch *handle, ds_sketch *other);
 int32_t ds_memory_bytes(ds_sketch *handle, size_t *bytes);
 
 /* --- Sharing: several handles of one sketch, as for threads that read it at once. Calls that read a sketch take a shared one:
- * questions, statuses, images, rows, clones and comparisons, and merges as one of the others. They need no lock. Calls that change
- * a shared sketch return DS_WRONG_KIND. `ds_free` gives up a handle's share, and frees the sketch with the last one. --- */
+ * queries, statuses, images, rows, clones and comparisons, and merges as one of the others. They need no lock. Calls that change a
+ * shared sketch return DS_WRONG_KIND. `ds_free` drops the handle's share, and frees the sketch with the last one. --- */
 
 /* Makes the handle's sketch shared, so that `ds_share` takes it and no call changes it until `ds_thaw`. Does nothing to a shared
  * sketch. Returns DS_NO_SKETCH, or DS_NO_MEMORY. */

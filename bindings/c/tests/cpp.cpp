@@ -425,7 +425,7 @@ static void images()
     }
 }
 
-/* Images in place: the answers of the sketches that are read from them, from each kind of range, and at an odd address. */
+/* Images in place: the results of the sketches that are read from them, from each kind of range, and at an odd address. */
 static void images_in_place()
 {
     filter made = new_filter(), empty = new_filter();
@@ -480,7 +480,7 @@ template <class W> static void counts_in_place()
     CHECK(empty.size() == 16 && take(ds::count_min_image<W>(empty).estimate("abc")) == 0);
 }
 
-/* Inserts that return whether the item was there: as a question and an insert, in each form of items. */
+/* Inserts that return whether the item was there: as a query and an insert, in each form of items. */
 static void contains_and_inserts()
 {
     filter loop = take(filter::create(640, 3)), one = take(loop.clone());

@@ -1,5 +1,5 @@
-/* Questions to images in place, compared with the sketches that are read from them, and inserts that return whether the item was
- * there, compared with a question and an insert. Prints the checks that failed, and exits with 1 if there is any. */
+/* Queries of images in place, compared with the sketches that are read from them, and inserts that return whether the item was
+ * there, compared with a query and an insert. Prints the checks that failed, and exits with 1 if there is any. */
 #include <datasketches.h>
 #include <stdio.h>
 #include <stdlib.h>
@@ -50,7 +50,7 @@ static uint8_t *placed(const uint8_t *image, size_t length, size_t shift, uint8_
 
 /* --- Filters in place. --- */
 
-/* Compares the answers of a filter and of its image, at eight addresses. */
+/* Compares the results of a filter and of its image, at eight addresses. */
 static void filter_in_place(ds_sketch *filter)
 {
     ds_sketch read = DS_NONE;
@@ -73,7 +73,7 @@ static void filter_in_place(ds_sketch *filter)
         CHECK(ds_bloom_contains_all_u64(&read, numbers, ITEMS, wanted, ITEMS) == DS_OK && !memcmp(got, wanted, sizeof got));
         CHECK(ds_bloom_image_contains_all_i64(at, length, with_sign, ITEMS, got, ITEMS) == DS_OK);
         CHECK(ds_bloom_contains_all_i64(&read, with_sign, ITEMS, wanted, ITEMS) == DS_OK && !memcmp(got, wanted, sizeof got));
-        /* an answer is not written without room, and not for a bad image */
+        /* no result is written without room, or for a bad image */
         memset(got, true, sizeof got);
         CHECK(ds_bloom_image_contains_all_u64(at, length, numbers, ITEMS, got, ITEMS - 1) == DS_NO_ROOM);
         CHECK(ds_bloom_image_contains_all_i64(at, length - 1, with_sign, ITEMS, got, ITEMS) == DS_INSUFFICIENT_DATA);
@@ -318,7 +318,7 @@ COUNTS_IN_PLACE(i64, int64_t, -20)
 
 /* --- Inserts that return whether the item was there. --- */
 
-/* Three filters get the same items: `loop` by a question and an insert each, `one` by one call each, `all` by one call. */
+/* Three filters get the same items: `loop` by a query and an insert each, `one` by one call each, `all` by one call. */
 #define IN_A_LOOP(form, contains, insert, contains_and_insert, contains_and_insert_all) \
     static void inserted_##form(uint64_t num_bits) \
     { \
