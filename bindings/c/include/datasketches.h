@@ -393,7 +393,8 @@ typedef struct ds_count_min_status {
 /* Writes the sketch's numbers. */
 int32_t ds_count_min_u64_get_status(ds_sketch *handle, ds_count_min_status *status);
 
-/* Writes the length in bytes of the sketch's image, in constant time: 16 if the total is 0, and otherwise 24 and 8 for each cell. */
+/* Writes the length in bytes of the sketch's image, in constant time: 16 if the total is 0, and otherwise 24 and 8 for each
+ * cell. */
 int32_t ds_count_min_u64_serialized_bytes(ds_sketch *handle, size_t *bytes);
 
 /* Writes the sketch's image to the front of `out`, and the image's length in bytes to `written`. The rest of `out` stays as it
