@@ -396,6 +396,24 @@ static void merges_of_shares(void)
     ds_free(&all);
 }
 
+/* Errors of arguments come before DS_WRONG_KIND, and that of a shared handle comes before those of the other. */
+static void first_errors(void)
+{
+    ds_sketch shared = DS_NONE, none = DS_NONE;
+    bool result;
+    CHECK(make(&shared, 0) && ds_freeze(&shared) == DS_OK);
+    CHECK(ds_bloom_union(&shared, &none) == DS_WRONG_KIND && ds_bloom_union(&none, &shared) == DS_NO_SKETCH);
+    CHECK(ds_bloom_union_all(&shared, &none, 1) == DS_WRONG_KIND && ds_bloom_equal(&shared, &none) == DS_NO_SKETCH);
+    CHECK(ds_bloom_contains_and_insert_all_u64(&shared, numbers, 1, &result, 0) == DS_NO_ROOM);
+    CHECK(ds_bloom_insert_string(&shared, (const uint8_t *)"\xff", 1) == DS_INVALID_UTF8);
+    CHECK(ds_count_min_u64_update_u64(&shared, 1, 1) == DS_WRONG_KIND);
+    CHECK(make(&shared, 1) && ds_freeze(&shared) == DS_OK && ds_count_min_u64_decay(&shared, 3, 2) == DS_BAD_FRACTION);
+    CHECK(ds_count_min_i64_merge(&shared, &none) == DS_WRONG_KIND && ds_count_min_u64_merge(&shared, &none) == DS_WRONG_KIND);
+    CHECK(make(&shared, 3) && ds_freeze(&shared) == DS_OK);
+    CHECK(ds_frequent_items_u64_set_sample_size(&shared, 7) == DS_WRONG_KIND);
+    ds_free(&shared);
+}
+
 int main(int count, char **words)
 {
     bool joined = count > 1 && strcmp(words[1], "joined") == 0;
@@ -403,6 +421,7 @@ int main(int count, char **words)
     changes();
     each_kind();
     merges_of_shares();
+    first_errors();
     threads(!joined);
     printf("%d of %d checks hold\n", checks - failures, checks);
     return failures != 0;
