@@ -410,7 +410,8 @@ int32_t ds_count_min_u64_deserialize(ds_sketch *handle, const uint8_t *image, si
 /* Writes the estimate of the item's weight by the sketch in an image, which was written under this seed. The image is read in
  * place, at any address, as in a mapped file. Nothing changes it during the call. Returns the error of the image's first failed
  * check: each of `ds_count_min_u64_deserialize` but those of `max_bytes` and of the cells, in constant time. A cell that it rejects
- * is read as the nearest that it accepts. Does not allocate. */
+ * is read as the nearest that it accepts. Each call hashes a number for each row first, so many estimates are faster from a sketch
+ * that was read. Does not allocate. */
 int32_t ds_count_min_u64_image_estimate_u64(const uint8_t *image, size_t length, uint64_t seed, uint64_t item,
                                             uint64_t *estimate);
 int32_t ds_count_min_u64_image_estimate_i64(const uint8_t *image, size_t length, uint64_t seed, int64_t item, uint64_t *estimate);
