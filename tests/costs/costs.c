@@ -69,7 +69,16 @@ static void filters(void)
     COST("bloom_contains_all_string", , ds_bloom_contains_all_string(&sketch, words, WORD * n, offsets, n + 1, answers, n))
     COST("bloom_insert_all_string_pairs", , ds_bloom_insert_all_string_pairs(&sketch, strings, n))
     COST("bloom_contains_all_string_pairs", , ds_bloom_contains_all_string_pairs(&sketch, strings, n, answers, n))
+    COST("bloom_contains_and_insert_all_u64", , ds_bloom_contains_and_insert_all_u64(&sketch, numbers, n, answers, n))
+    COST("bloom_contains_and_insert_all_string", ,
+         ds_bloom_contains_and_insert_all_string(&sketch, words, WORD * n, offsets, n + 1, answers, n))
+    COST("bloom_contains_and_insert_all_string_pairs", ,
+         ds_bloom_contains_and_insert_all_string_pairs(&sketch, strings, n, answers, n))
+    COST("bloom_image_contains_all_u64", check(!ds_bloom_serialize(&sketch, image, sizeof image, &length), "image"),
+         ds_bloom_image_contains_all_u64(image, length, numbers, n, answers, n))
     COST("bloom_insert_string", , ds_bloom_insert_string(&sketch, one_word, WORD * n))
+    COST_OF("bloom_image_contains_string", check(!ds_bloom_serialize(&sketch, image, sizeof image, &length), "image"),
+            ds_bloom_image_contains_string(image, length, one_word, WORD * n) >= 0, true)
     COST("bloom_insert_words", , ds_bloom_insert_words(&sketch, words, WORD * n))
     COST("bloom_insert_words of spaces", , ds_bloom_insert_words(&sketch, spaces, WORD * n))
     COST("bloom_insert_words of one word", , ds_bloom_insert_words(&sketch, one_word, WORD * n))
@@ -102,6 +111,8 @@ static void counts(void)
          ds_count_min_u64_estimate_all_string(&sketch, words, WORD * n, offsets, n + 1, estimates, n))
     COST("count_min_update_all_string_pairs", , ds_count_min_u64_update_all_string_pairs(&sketch, strings, n))
     COST("count_min_update_string", , ds_count_min_u64_update_string(&sketch, one_word, WORD * n, 1))
+    COST("count_min_image_estimate_string", check(!ds_count_min_u64_serialize(&sketch, image, sizeof image, &length), "image"),
+         ds_count_min_u64_image_estimate_string(image, length, 9001, one_word, WORD * n, estimates))
     COST("count_min_update_words", , ds_count_min_u64_update_words(&sketch, words, WORD * n))
     COST("count_min_update_words of spaces", , ds_count_min_u64_update_words(&sketch, spaces, WORD * n))
     COST("count_min_update_lines", , ds_count_min_u64_update_lines(&sketch, lines, WORD * n))

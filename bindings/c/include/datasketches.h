@@ -18,10 +18,11 @@
  *  1. DS_BAD_ARGUMENT, by the checks of `datasketches_checks.h` (see below).
  *  2. Errors of arguments: DS_BAD_OFFSETS, DS_NO_ROOM if items and their weights or results differ in number,
  *     DS_INVALID_UTF8, DS_BAD_FRACTION.
- *  3. Errors of handles: DS_NO_SKETCH if the handle has no sketch, DS_WRONG_KIND if its sketch is of a kind without this call;
- *     of several handles, the first one's that has such an error, in the order of arguments and of an array. All calls return
- *     these but `ds_free`, those whose names end in `_new`, `_deserialize` or `_with_key`, and the calls for sizes at the end.
- *     `ds_clone` and `ds_memory_bytes` take any kind.
+ *  3. Errors of handles: DS_NO_SKETCH if the handle has no sketch, DS_WRONG_KIND if its sketch is of a kind without this call,
+ *     or is shared and the call changes it; of several handles, the first one's that has such an error, in the order of arguments
+ *     and of an array. All calls return these but `ds_free`, those whose names end in `_new`, `_deserialize` or `_with_key`, those
+ *     on images in place, and the calls for sizes at the end. `ds_clone`, `ds_memory_bytes`, `ds_freeze`, `ds_share` and
+ *     `ds_thaw` take any kind.
  *  4. The errors in the call's comment, in their order there. DS_NO_MEMORY comes when an allocation fails, which may be earlier.
  *     DS_NO_ROOM of `serialize` and `rows` comes last.
  *
@@ -33,7 +34,8 @@
  *     these values, and write them where there is no `const`. No two arguments of a call overlap. The strings of pairs may
  *     overlap one another, but not the array of pairs or another argument. The pointer of an empty string is not null either.
  *  3. One call at a time uses a handle. Another thread may use it later if a lock, a thread's start or a join lies between.
- *     Two threads may use two handles at once.
+ *     Two threads may use two handles at once, also two of one shared sketch. So threads that read one sketch at once have a
+ *     handle each: see `ds_share`.
  *  4. No call is made from a signal handler, or by the child of a `fork` that was made while a call ran.
  *  5. The program has one `malloc`, `realloc` and `free`, which the library calls, or those of `ds_set_allocator` do as it says.
  *  6. A `bool` that the library reads is 0 or 1.
@@ -91,7 +93,7 @@ enum {
     DS_NO = 0,             /* no, as the result of a test */
     DS_YES = 1,            /* yes */
     DS_NO_SKETCH = -1,     /* the handle has no sketch */
-    DS_WRONG_KIND = -2,    /* the sketch is of a kind without this call */
+    DS_WRONG_KIND = -2,    /* the sketch is of a kind without this call, or is shared and the call changes it */
     DS_NO_ROOM = -3,       /* a buffer of the caller has not the length that the call needs */
     DS_BAD_FRACTION = -4,  /* a fraction is not above 0 and at most 1 */
     DS_BAD_ARGUMENT = -5,  /* from checks alone: the same handle twice, null with a count above 0, or null in a pair */
@@ -149,14 +151,30 @@ const char *ds_result_message(int32_t result);
  * nothing. */
 void ds_free(ds_sketch *handle);
 
-/* Puts a copy of the other handle's sketch, of any kind, into this handle. The other handle keeps its own. Returns DS_NO_SKETCH
- * if the other handle has none, and DS_NO_MEMORY if memory runs out. */
+/* Puts a copy of the other handle's sketch, of any kind, into this handle. The other handle keeps its own. The copy of a shared
+ * sketch is not shared. Returns DS_NO_SKETCH if the other handle has none, and DS_NO_MEMORY if memory runs out. */
 int32_t ds_clone(ds_sketch *handle, ds_sketch *other);
 
 /* Writes how many bytes the handle's sketch takes, of any kind, by a formula. A filter takes 8 for each 64 bits. A Count-Min
  * sketch takes 8 for each cell and each row. A frequent-items sketch takes 28 for each slot of a table of numbers, or 44 for
  * each slot of a table of strings and the bytes of the strings. Returns DS_NO_SKETCH if the handle has none. */
 int32_t ds_memory_bytes(ds_sketch *handle, size_t *bytes);
+
+/* --- Sharing: several handles of one sketch, as for threads that read it at once. Calls that read a sketch take a shared one:
+ * queries, statuses, images, rows, clones and comparisons, and merges as one of the others. They need no lock. Calls that change a
+ * shared sketch return DS_WRONG_KIND. `ds_free` drops the handle's share, and frees the sketch with the last one. --- */
+
+/* Makes the handle's sketch shared, so that `ds_share` takes it and no call changes it until `ds_thaw`. Does nothing to a shared
+ * sketch. Returns DS_NO_SKETCH, or DS_NO_MEMORY. */
+int32_t ds_freeze(ds_sketch *handle);
+
+/* Puts one more share of the sketch of `shared` into the handle, without a copy. The handle may then go to another thread. Returns
+ * DS_NO_SKETCH if `shared` has no sketch, DS_WRONG_KIND if its sketch is not shared, and DS_NO_MEMORY. */
+int32_t ds_share(ds_sketch *handle, ds_sketch *shared);
+
+/* Returns DS_YES if no other handle shares the handle's sketch: calls may then change it again. Returns DS_NO if another one
+ * shares it: then nothing changes. A sketch that is not shared stays so, with DS_YES. Returns DS_NO_SKETCH. Does not allocate. */
+int32_t ds_thaw(ds_sketch *handle);
 
 /* --- The heap. --- */
 
@@ -223,6 +241,22 @@ int32_t ds_bloom_contains_all_string(ds_sketch *handle, const uint8_t *bytes, si
 int32_t ds_bloom_contains_all_string_pairs(ds_sketch *handle, const ds_string *strings, size_t count, bool *results,
                                            size_t num_results);
 
+/* Inserts an item. Returns DS_YES if the filter contained it before, and DS_NO otherwise. */
+int32_t ds_bloom_contains_and_insert_u64(ds_sketch *handle, uint64_t item);
+int32_t ds_bloom_contains_and_insert_i64(ds_sketch *handle, int64_t item);
+int32_t ds_bloom_contains_and_insert_string(ds_sketch *handle, const uint8_t *item, size_t length);
+
+/* Inserts many items, as one after another. Writes for each whether the filter contained it before, so also whether an earlier one
+ * of the same call put it there. Returns DS_NO_ROOM unless `num_results` is the number of items. */
+int32_t ds_bloom_contains_and_insert_all_u64(ds_sketch *handle, const uint64_t *items, size_t count, bool *results,
+                                             size_t num_results);
+int32_t ds_bloom_contains_and_insert_all_i64(ds_sketch *handle, const int64_t *items, size_t count, bool *results,
+                                             size_t num_results);
+int32_t ds_bloom_contains_and_insert_all_string(ds_sketch *handle, const uint8_t *bytes, size_t num_bytes,
+                                                const uint64_t *offsets, size_t num_offsets, bool *results, size_t num_results);
+int32_t ds_bloom_contains_and_insert_all_string_pairs(ds_sketch *handle, const ds_string *strings, size_t count, bool *results,
+                                                      size_t num_results);
+
 /* Adds the other filter's positions, keeps those that both have, or removes the other's. The other filter stays as it was.
  * Returns DS_MISMATCH if bits, hashes or seeds differ. */
 int32_t ds_bloom_union(ds_sketch *handle, ds_sketch *other);
@@ -254,6 +288,20 @@ int32_t ds_bloom_serialize(ds_sketch *handle, uint8_t *out, size_t capacity, siz
  * DS_TABLE_TOO_LARGE if the words, of 8 bytes each, take more than `max_bytes`, and DS_NO_MEMORY. Before both come the checks of
  * the image's length and fields. DS_BAD_BIT_COUNT comes after them. */
 int32_t ds_bloom_deserialize(ds_sketch *handle, const uint8_t *image, size_t length, size_t max_bytes);
+
+/* Returns DS_YES if the filter in an image contains the item, and DS_NO otherwise. The image is read in place, at any address, as
+ * in a mapped file. Nothing changes it during the call. Returns the error of the image's first failed check: each of
+ * `ds_bloom_deserialize` but those of `max_bytes` and of the number of set bits, in constant time. Does not allocate. */
+int32_t ds_bloom_image_contains_u64(const uint8_t *image, size_t length, uint64_t item);
+int32_t ds_bloom_image_contains_i64(const uint8_t *image, size_t length, int64_t item);
+int32_t ds_bloom_image_contains_string(const uint8_t *image, size_t length, const uint8_t *item, size_t item_length);
+
+/* Writes for each number whether the filter in an image contains it. Returns DS_NO_ROOM unless `num_results` is the number of
+ * items, and then the errors of the calls above. Does not allocate. */
+int32_t ds_bloom_image_contains_all_u64(const uint8_t *image, size_t length, const uint64_t *items, size_t count, bool *results,
+                                        size_t num_results);
+int32_t ds_bloom_image_contains_all_i64(const uint8_t *image, size_t length, const int64_t *items, size_t count, bool *results,
+                                        size_t num_results);
 
 /* --- Count-Min sketches with weights in uint64_t. An estimate is at most the total, and at least the item's own weight: what
  * was added for the item, halved and decayed as often as the sketch, and rounded down each time. --- */
@@ -345,7 +393,8 @@ typedef struct ds_count_min_status {
 /* Writes the sketch's numbers. */
 int32_t ds_count_min_u64_get_status(ds_sketch *handle, ds_count_min_status *status);
 
-/* Writes the length in bytes of the sketch's image, in constant time: 16 if the total is 0, and otherwise 24 and 8 for each cell. */
+/* Writes the length in bytes of the sketch's image, in constant time: 16 if the total is 0, and otherwise 24 and 8 for each
+ * cell. */
 int32_t ds_count_min_u64_serialized_bytes(ds_sketch *handle, size_t *bytes);
 
 /* Writes the sketch's image to the front of `out`, and the image's length in bytes to `written`. The rest of `out` stays as it
@@ -357,6 +406,17 @@ int32_t ds_count_min_u64_serialize(ds_sketch *handle, uint8_t *out, size_t capac
  * `max_bytes`, and DS_NO_MEMORY. Before both come the checks of the image's length and fields. The checks of the total and the
  * cells come after them. */
 int32_t ds_count_min_u64_deserialize(ds_sketch *handle, const uint8_t *image, size_t length, uint64_t seed, size_t max_bytes);
+
+/* Writes the estimate of the item's weight by the sketch in an image, which was written under this seed. The image is read in
+ * place, at any address, as in a mapped file. Nothing changes it during the call. Returns the error of the image's first failed
+ * check: each of `ds_count_min_u64_deserialize` but those of `max_bytes` and of the cells, in constant time. A cell that it rejects
+ * is read as the nearest that it accepts. Each call hashes a number for each row first, so many estimates are faster from a sketch
+ * that was read. Does not allocate. */
+int32_t ds_count_min_u64_image_estimate_u64(const uint8_t *image, size_t length, uint64_t seed, uint64_t item,
+                                            uint64_t *estimate);
+int32_t ds_count_min_u64_image_estimate_i64(const uint8_t *image, size_t length, uint64_t seed, int64_t item, uint64_t *estimate);
+int32_t ds_count_min_u64_image_estimate_string(const uint8_t *image, size_t length, uint64_t seed, const uint8_t *item,
+                                               size_t item_length, uint64_t *estimate);
 
 /* --- Count-Min sketches with weights in int64_t, which may be below 0. --- */
 
@@ -408,11 +468,16 @@ int32_t ds_count_min_i64_get_status(ds_sketch *handle, ds_count_min_status *stat
 int32_t ds_count_min_i64_serialized_bytes(ds_sketch *handle, size_t *bytes);
 int32_t ds_count_min_i64_serialize(ds_sketch *handle, uint8_t *out, size_t capacity, size_t *written);
 int32_t ds_count_min_i64_deserialize(ds_sketch *handle, const uint8_t *image, size_t length, uint64_t seed, size_t max_bytes);
+int32_t ds_count_min_i64_image_estimate_u64(const uint8_t *image, size_t length, uint64_t seed, uint64_t item, int64_t *estimate);
+int32_t ds_count_min_i64_image_estimate_i64(const uint8_t *image, size_t length, uint64_t seed, int64_t item, int64_t *estimate);
+int32_t ds_count_min_i64_image_estimate_string(const uint8_t *image, size_t length, uint64_t seed, const uint8_t *item,
+                                               size_t item_length, int64_t *estimate);
 
 /* --- Frequent items: the items of the largest weights, in at most three quarters of `max_map_size` counters.
  *
  * A sketch's table hashes items by SipHash-1-3 under a key of two words. No way is known to choose items that slow the sketch
- * down, for a caller who has neither the key nor rows or images of sketches under it. A clone has the key of its original. A merge keeps the handle's own key. An image has no key.
+ * down, for a caller who has neither the key nor rows or images of sketches under it. A clone has the key of its original. A merge
+ * keeps the handle's own key. An image has no key.
  *
  * `new` and `deserialize` draw a key. The first call of a process asks the system for two random words. Each call counts the
  * first word up, so no two sketches of a process get the same key. After a `fork`, parent and child count on from the same words,

@@ -25,7 +25,8 @@
  *
  * Results and weights are contiguous ranges of the sketch's type. `span(pointer, count)` makes a range of a pointer and a count.
  *
- * One call at a time uses a sketch, also a query. So no member of a sketch is const. */
+ * One call at a time uses an object, also a query. So no member of a sketch is const. Threads that read one sketch at once have an
+ * object each: `share()` of a sketch after `freeze()`. */
 #ifndef DATASKETCHES_HPP
 #define DATASKETCHES_HPP
 
@@ -485,6 +486,13 @@ template <class Image> span<const std::uint8_t> image_of(const Image &image)
     return {reinterpret_cast<const std::uint8_t *>(std::data(image)), std::size(image)};
 }
 
+template <class T> inline constexpr bool is_span = std::is_same_v<T, std::string_view>;
+template <class T> inline constexpr bool is_span<span<T>> = true;
+
+/* Whether a range of bytes is there when the expression ends: it is no temporary, or a span. */
+template <class Image>
+inline constexpr bool stays = is_contiguous<const bare<Image>> && (std::is_lvalue_reference_v<Image> || is_span<bare<Image>>);
+
 /* --- What all sketches have. --- */
 
 template <class Sketch> class owner {
@@ -519,6 +527,24 @@ public:
         return done(code, std::move(copy));
     }
 
+    /* Makes the sketch shared, so that no call changes it until `thaw()`: `ds_freeze`. */
+    outcome<> freeze() { return done(ds_freeze(&handle_)); }
+
+    /* Returns another object of the same shared sketch, for another thread: `ds_share`. It copies no sketch. */
+    outcome<Sketch> share()
+    {
+        Sketch made;
+        std::int32_t code = (ds_share)(made.get(), &handle_);
+        return done(code, std::move(made));
+    }
+
+    /* Returns whether no other object shares the sketch. Then calls may change it again: `ds_thaw`. */
+    outcome<bool> thaw()
+    {
+        std::int32_t code = ds_thaw(&handle_);
+        return done(code, code == DS_YES);
+    }
+
     /* Returns how many bytes the sketch takes: `ds_memory_bytes`. */
     outcome<std::size_t> memory_bytes()
     {
@@ -530,9 +556,20 @@ public:
 protected:
     using serialize_call = std::int32_t (*)(ds_sketch *, std::uint8_t *, std::size_t, std::size_t *);
 
+    using bytes_call = std::int32_t (*)(ds_sketch *, std::size_t *);
+
+    outcome<std::vector<std::uint8_t>> serialize_by(serialize_call call, bytes_call bytes_of_image)
+    {
+        std::size_t bytes = 0, written = 0;
+        std::int32_t code = bytes_of_image(&handle_, &bytes);
+        std::vector<std::uint8_t> image(bytes);
+        if (code >= 0) code = call(&handle_, image.data(), image.size(), &written);
+        return done(code, std::move(image));
+    }
+
     outcome<std::vector<std::uint8_t>> serialize_by(serialize_call call)
     {
-        /* room for the image of each kind, so that it is made once; else the first call returns the length */
+        /* room for most images, so that it is made once; else the first call returns the length */
         std::size_t bytes = 0, written = 0;
         ds_memory_bytes(&handle_, &bytes);
         std::vector<std::uint8_t> image(bytes + 64);
@@ -550,6 +587,13 @@ protected:
         std::size_t written = 0;
         std::int32_t code = ds_check_buffer(call, &handle_, out, capacity, &written);
         return done(code, written);
+    }
+
+    outcome<std::size_t> size_by(bytes_call call)
+    {
+        std::size_t bytes = 0;
+        std::int32_t code = call(&handle_, &bytes);
+        return done(code, bytes);
     }
 
     outcome<std::size_t> size_by(serialize_call call)
@@ -699,6 +743,35 @@ public:
         return contains_all(span<const Item>(items.begin(), items.size()));
     }
 
+    /* Inserts an item, and returns whether the filter contained it before: `ds_bloom_contains_and_insert_u64`, `_i64` and
+     * `_string`. */
+    template <class Item> outcome<bool> contains_and_insert(const Item &item)
+    {
+        std::int32_t code = join_one(detail::to_item<detail::any_item>(item));
+        return detail::done(code, code == DS_YES);
+    }
+
+    /* Inserts the items of a range, and writes for each whether the filter contained it before, to a range of as many `bool`:
+     * `ds_bloom_contains_and_insert_all_u64`, `_i64`, `_string` and `_string_pairs`. An error in a block leaves the blocks before
+     * it inserted and their results written. */
+    template <class Items, class Results> outcome<> contains_and_insert_all(Items &&items, Results &&results)
+    {
+        return detail::done(join_each(items, detail::span_of<bool>(results)));
+    }
+
+    /* Inserts the items of a range, and returns for each whether the filter contained it before. */
+    template <class Items> outcome<std::vector<bool>> contains_and_insert_all(Items &&items)
+    {
+        std::size_t count = detail::count_of<detail::any_item>(items);
+        std::unique_ptr<bool[]> results(new bool[count]());
+        std::int32_t code = join_each(items, span<bool>(results.get(), count));
+        return detail::done(code, std::vector<bool>(results.get(), results.get() + count));
+    }
+    template <class Item> outcome<std::vector<bool>> contains_and_insert_all(std::initializer_list<Item> items)
+    {
+        return contains_and_insert_all(span<const Item>(items.begin(), items.size()));
+    }
+
     /* Adds the other filter's positions, keeps those that both have, or removes the other's: `ds_bloom_union`,
      * `ds_bloom_intersect` and `ds_bloom_difference`. The filter itself as the other is DS_BAD_ARGUMENT. */
     outcome<> union_with(bloom_filter &other)
@@ -739,13 +812,14 @@ public:
         return detail::done(code, numbers);
     }
 
-    /* Returns the image, writes it to a buffer and returns its length, or returns its length alone: `ds_bloom_serialize`. */
-    outcome<std::vector<std::uint8_t>> serialize() { return serialize_by(ds_bloom_serialize); }
+    /* Returns the image, writes it to a buffer and returns its length, or returns its length alone: `ds_bloom_serialize` and
+     * `ds_bloom_serialized_bytes`. */
+    outcome<std::vector<std::uint8_t>> serialize() { return serialize_by(ds_bloom_serialize, ds_bloom_serialized_bytes); }
     outcome<std::size_t> serialize(std::uint8_t *out, std::size_t capacity)
     {
         return serialize_by(ds_bloom_serialize, out, capacity);
     }
-    outcome<std::size_t> serialized_size() { return size_by(ds_bloom_serialize); }
+    outcome<std::size_t> serialized_size() { return size_by(ds_bloom_serialized_bytes); }
 
 private:
     std::int32_t insert_one(std::uint64_t item) { return ds_bloom_insert_u64(&handle_, item); }
@@ -786,6 +860,72 @@ private:
         return detail::pass_with<detail::any_item>(items, results,
                                                    [this](auto part, auto found) { return this->contains_many(part, found); });
     }
+
+    std::int32_t join_one(std::uint64_t item) { return ds_bloom_contains_and_insert_u64(&handle_, item); }
+    std::int32_t join_one(std::int64_t item) { return ds_bloom_contains_and_insert_i64(&handle_, item); }
+    std::int32_t join_one(std::string_view item) { return detail::call_on(ds_bloom_contains_and_insert_string, &handle_, item); }
+
+    std::int32_t join_many(span<const std::uint64_t> items, span<bool> results)
+    {
+        return detail::call_with(ds_bloom_contains_and_insert_all_u64, &handle_, items, results);
+    }
+    std::int32_t join_many(span<const std::int64_t> items, span<bool> results)
+    {
+        return detail::call_with(ds_bloom_contains_and_insert_all_i64, &handle_, items, results);
+    }
+    std::int32_t join_many(span<const ds_string> items, span<bool> results)
+    {
+        return detail::call_with(ds_bloom_contains_and_insert_all_string_pairs, &handle_, items, results);
+    }
+    std::int32_t join_many(offset_strings items, span<bool> results)
+    {
+        return detail::call_with(ds_bloom_contains_and_insert_all_string, &handle_, items, results);
+    }
+
+    template <class Items> std::int32_t join_each(Items &items, span<bool> results)
+    {
+        return detail::pass_with<detail::any_item>(items, results,
+                                                   [this](auto part, auto found) { return this->join_many(part, found); });
+    }
+};
+
+/* A filter in the bytes of its image, which it neither owns nor copies: they must stay as they are while it is used. Each call
+ * checks the image in constant time, allocates nothing, and may run in many threads at once. */
+class bloom_filter_image {
+public:
+    constexpr bloom_filter_image(const std::uint8_t *image, std::size_t length) noexcept : image_(image, length) {}
+
+    /* The image is a contiguous range of bytes, and no temporary but a span. */
+    template <class Image, class = std::enable_if_t<detail::stays<Image>>>
+    explicit bloom_filter_image(Image &&image) noexcept : image_(detail::image_of(image))
+    {
+    }
+
+    /* Returns whether the filter contains the item: `ds_bloom_image_contains_u64`, `_i64` and `_string`. */
+    template <class Item> outcome<bool> contains(const Item &item) const
+    {
+        std::int32_t code = contains_one(detail::to_item<detail::any_item>(item));
+        return detail::done(code, code == DS_YES);
+    }
+
+    constexpr span<const std::uint8_t> bytes() const noexcept { return image_; }
+
+private:
+    std::int32_t contains_one(std::uint64_t item) const
+    {
+        return ds_check_image_u64(ds_bloom_image_contains_u64, image_.data(), image_.size(), item);
+    }
+    std::int32_t contains_one(std::int64_t item) const
+    {
+        return ds_check_image_i64(ds_bloom_image_contains_i64, image_.data(), image_.size(), item);
+    }
+    std::int32_t contains_one(std::string_view item) const
+    {
+        return ds_check_image_string(ds_bloom_image_contains_string, image_.data(), image_.size(), detail::bytes_of(item),
+                                     item.size());
+    }
+
+    span<const std::uint8_t> image_;
 };
 
 /* --- Count-Min sketches. --- */
@@ -825,8 +965,12 @@ template <class W> struct count_min_calls {};
         static constexpr auto merge_all = ds_count_min_##word##_merge_all; \
         static constexpr auto equal = ds_count_min_##word##_equal; \
         static constexpr auto get_status = ds_count_min_##word##_get_status; \
+        static constexpr auto serialized_bytes = ds_count_min_##word##_serialized_bytes; \
         static constexpr auto serialize = ds_count_min_##word##_serialize; \
         static constexpr auto deserialize = ds_count_min_##word##_deserialize; \
+        static constexpr auto image_estimate_u64 = ds_count_min_##word##_image_estimate_u64; \
+        static constexpr auto image_estimate_i64 = ds_count_min_##word##_image_estimate_i64; \
+        static constexpr auto image_estimate_string = ds_count_min_##word##_image_estimate_string; \
     };
 DATASKETCHES_COUNT_MIN(std::uint64_t, u64)
 DATASKETCHES_COUNT_MIN(std::int64_t, i64)
@@ -999,13 +1143,14 @@ public:
         return detail::done(code, numbers);
     }
 
-    /* Returns the image, writes it to a buffer and returns its length, or returns its length alone: `.._serialize`. */
-    outcome<std::vector<std::uint8_t>> serialize() { return this->serialize_by(calls::serialize); }
+    /* Returns the image, writes it to a buffer and returns its length, or returns its length alone: `.._serialize` and
+     * `.._serialized_bytes`. */
+    outcome<std::vector<std::uint8_t>> serialize() { return this->serialize_by(calls::serialize, calls::serialized_bytes); }
     outcome<std::size_t> serialize(std::uint8_t *out, std::size_t capacity)
     {
         return this->serialize_by(calls::serialize, out, capacity);
     }
-    outcome<std::size_t> serialized_size() { return this->size_by(calls::serialize); }
+    outcome<std::size_t> serialized_size() { return this->size_by(calls::serialized_bytes); }
 
 private:
     std::int32_t update_one(std::uint64_t item, W weight) { return detail::call_and(calls::update_u64, &handle_, item, weight); }
@@ -1073,6 +1218,57 @@ private:
         return detail::pass_with<detail::any_item>(items, found,
                                                    [this](auto part, auto some) { return this->estimate_many(part, some); });
     }
+};
+
+/* A Count-Min sketch in the bytes of its image, which it neither owns nor copies: see `bloom_filter_image`. */
+template <class W> class count_min_image {
+    static_assert(std::is_same_v<W, std::int64_t> || std::is_same_v<W, std::uint64_t>,
+                  "the weights of count_min_image are std::int64_t or std::uint64_t");
+
+    using calls = detail::count_min_calls<W>;
+
+public:
+    constexpr count_min_image(const std::uint8_t *image, std::size_t length, std::uint64_t seed = default_seed) noexcept
+        : image_(image, length), seed_(seed)
+    {
+    }
+
+    /* The image is a contiguous range of bytes, and no temporary but a span. It was written under this seed. */
+    template <class Image, class = std::enable_if_t<detail::stays<Image>>>
+    explicit count_min_image(Image &&image, std::uint64_t seed = default_seed) noexcept
+        : image_(detail::image_of(image)), seed_(seed)
+    {
+    }
+
+    /* Returns the estimate of the item's weight: `.._image_estimate_u64`, `_i64` and `_string`. */
+    template <class Item> outcome<W> estimate(const Item &item) const
+    {
+        W found = 0;
+        std::int32_t code = estimate_one(detail::to_item<detail::any_item>(item), &found);
+        return detail::done(code, found);
+    }
+
+    constexpr span<const std::uint8_t> bytes() const noexcept { return image_; }
+
+private:
+    const std::uint8_t *place() const { return detail::place(image_); }
+
+    template <class Item> std::int32_t estimate_one(Item item, W *found) const
+    {
+        if (detail::is_missing(image_)) return DS_BAD_ARGUMENT;
+        if constexpr (std::is_same_v<Item, std::string_view>) {
+            span<const std::uint8_t> bytes(detail::bytes_of(item), item.size());
+            if (detail::is_missing(bytes)) return DS_BAD_ARGUMENT;
+            return calls::image_estimate_string(place(), image_.size(), seed_, detail::place(bytes), bytes.size(), found);
+        } else if constexpr (std::is_same_v<Item, std::uint64_t>) {
+            return calls::image_estimate_u64(place(), image_.size(), seed_, item, found);
+        } else {
+            return calls::image_estimate_i64(place(), image_.size(), seed_, item, found);
+        }
+    }
+
+    span<const std::uint8_t> image_;
+    std::uint64_t seed_;
 };
 
 /* --- Frequent items. --- */

@@ -84,6 +84,58 @@ static inline int32_t ds_check_image_and_key(int32_t (*call)(ds_sketch *, const 
     return call(handle, image ? image : (const uint8_t *)ds_no_values(), length, max_bytes, k0, k1);
 }
 
+/* An image in place, and an item or many numbers. */
+#define DS_CHECK_IMAGE(item_form, type) \
+    static inline int32_t ds_check_image_##item_form(int32_t (*call)(const uint8_t *, size_t, type), const uint8_t *image, \
+                                                     size_t length, type item) \
+    { \
+        if (!image && length) return DS_BAD_ARGUMENT; \
+        return call(image ? image : (const uint8_t *)ds_no_values(), length, item); \
+    } \
+    static inline int32_t ds_check_image_##item_form##s( \
+        int32_t (*call)(const uint8_t *, size_t, const type *, size_t, bool *, size_t), const uint8_t *image, size_t length, \
+        const type *items, size_t count, bool *results, size_t num_results) \
+    { \
+        if ((!image && length) || (!items && count) || (!results && num_results)) return DS_BAD_ARGUMENT; \
+        return call(image ? image : (const uint8_t *)ds_no_values(), length, items ? items : (const type *)ds_no_values(), count, \
+                    results ? results : (bool *)ds_no_values(), num_results); \
+    }
+DS_CHECK_IMAGE(u64, uint64_t)
+DS_CHECK_IMAGE(i64, int64_t)
+#undef DS_CHECK_IMAGE
+
+static inline int32_t ds_check_image_string(int32_t (*call)(const uint8_t *, size_t, const uint8_t *, size_t),
+                                            const uint8_t *image, size_t length, const uint8_t *item, size_t item_length)
+{
+    if ((!image && length) || (!item && item_length)) return DS_BAD_ARGUMENT;
+    return call(image ? image : (const uint8_t *)ds_no_values(), length, item ? item : (const uint8_t *)ds_no_values(),
+                item_length);
+}
+
+/* An image in place with its seed, an item, and the estimate. */
+#define DS_CHECK_COUNT_IMAGE_OF(form, weight, type) \
+    static inline int32_t ds_check_##form(int32_t (*call)(const uint8_t *, size_t, uint64_t, type, weight *), \
+                                          const uint8_t *image, size_t length, uint64_t seed, type item, weight *estimate) \
+    { \
+        if (!image && length) return DS_BAD_ARGUMENT; \
+        return call(image ? image : (const uint8_t *)ds_no_values(), length, seed, item, estimate); \
+    }
+#define DS_CHECK_COUNT_IMAGE(form, weight) \
+    DS_CHECK_COUNT_IMAGE_OF(form##_u64, weight, uint64_t) \
+    DS_CHECK_COUNT_IMAGE_OF(form##_i64, weight, int64_t) \
+    static inline int32_t ds_check_##form##_string( \
+        int32_t (*call)(const uint8_t *, size_t, uint64_t, const uint8_t *, size_t, weight *), const uint8_t *image, \
+        size_t length, uint64_t seed, const uint8_t *item, size_t item_length, weight *estimate) \
+    { \
+        if ((!image && length) || (!item && item_length)) return DS_BAD_ARGUMENT; \
+        return call(image ? image : (const uint8_t *)ds_no_values(), length, seed, \
+                    item ? item : (const uint8_t *)ds_no_values(), item_length, estimate); \
+    }
+DS_CHECK_COUNT_IMAGE(u64_image, uint64_t)
+DS_CHECK_COUNT_IMAGE(i64_image, int64_t)
+#undef DS_CHECK_COUNT_IMAGE
+#undef DS_CHECK_COUNT_IMAGE_OF
+
 /* Returns 0 at null, whatever the length. */
 static inline size_t ds_check_text(size_t (*call)(const uint8_t *, size_t), const uint8_t *text, size_t length)
 {
@@ -218,6 +270,7 @@ static inline int32_t ds_check_string_rows(int32_t (*call)(ds_sketch *, bool, ui
 #ifndef DS_NO_CHECKS
 #define ds_free(...) ds_check_free(ds_free, __VA_ARGS__)
 #define ds_clone(...) ds_check_two_handles(ds_clone, __VA_ARGS__)
+#define ds_share(...) ds_check_two_handles(ds_share, __VA_ARGS__)
 #define ds_bloom_insert_string(...) ds_check_bytes(ds_bloom_insert_string, __VA_ARGS__)
 #define ds_bloom_insert_all_u64(...) ds_check_u64s(ds_bloom_insert_all_u64, __VA_ARGS__)
 #define ds_bloom_insert_all_i64(...) ds_check_i64s(ds_bloom_insert_all_i64, __VA_ARGS__)
@@ -230,6 +283,13 @@ static inline int32_t ds_check_string_rows(int32_t (*call)(ds_sketch *, bool, ui
 #define ds_bloom_contains_all_i64(...) ds_check_i64s_with_bools(ds_bloom_contains_all_i64, __VA_ARGS__)
 #define ds_bloom_contains_all_string(...) ds_check_offsets_with_bools(ds_bloom_contains_all_string, __VA_ARGS__)
 #define ds_bloom_contains_all_string_pairs(...) ds_check_pairs_with_bools(ds_bloom_contains_all_string_pairs, __VA_ARGS__)
+#define ds_bloom_contains_and_insert_string(...) ds_check_bytes(ds_bloom_contains_and_insert_string, __VA_ARGS__)
+#define ds_bloom_contains_and_insert_all_u64(...) ds_check_u64s_with_bools(ds_bloom_contains_and_insert_all_u64, __VA_ARGS__)
+#define ds_bloom_contains_and_insert_all_i64(...) ds_check_i64s_with_bools(ds_bloom_contains_and_insert_all_i64, __VA_ARGS__)
+#define ds_bloom_contains_and_insert_all_string(...) \
+    ds_check_offsets_with_bools(ds_bloom_contains_and_insert_all_string, __VA_ARGS__)
+#define ds_bloom_contains_and_insert_all_string_pairs(...) \
+    ds_check_pairs_with_bools(ds_bloom_contains_and_insert_all_string_pairs, __VA_ARGS__)
 #define ds_bloom_union(...) ds_check_two_handles(ds_bloom_union, __VA_ARGS__)
 #define ds_bloom_intersect(...) ds_check_two_handles(ds_bloom_intersect, __VA_ARGS__)
 #define ds_bloom_difference(...) ds_check_two_handles(ds_bloom_difference, __VA_ARGS__)
@@ -237,6 +297,11 @@ static inline int32_t ds_check_string_rows(int32_t (*call)(ds_sketch *, bool, ui
 #define ds_bloom_equal(...) ds_check_two_handles(ds_bloom_equal, __VA_ARGS__)
 #define ds_bloom_serialize(...) ds_check_buffer(ds_bloom_serialize, __VA_ARGS__)
 #define ds_bloom_deserialize(...) ds_check_bytes_and_size(ds_bloom_deserialize, __VA_ARGS__)
+#define ds_bloom_image_contains_u64(...) ds_check_image_u64(ds_bloom_image_contains_u64, __VA_ARGS__)
+#define ds_bloom_image_contains_i64(...) ds_check_image_i64(ds_bloom_image_contains_i64, __VA_ARGS__)
+#define ds_bloom_image_contains_string(...) ds_check_image_string(ds_bloom_image_contains_string, __VA_ARGS__)
+#define ds_bloom_image_contains_all_u64(...) ds_check_image_u64s(ds_bloom_image_contains_all_u64, __VA_ARGS__)
+#define ds_bloom_image_contains_all_i64(...) ds_check_image_i64s(ds_bloom_image_contains_all_i64, __VA_ARGS__)
 #define ds_count_min_u64_update_string(...) ds_check_bytes_and_u64(ds_count_min_u64_update_string, __VA_ARGS__)
 #define ds_count_min_u64_update_all_u64(...) ds_check_u64s(ds_count_min_u64_update_all_u64, __VA_ARGS__)
 #define ds_count_min_u64_update_all_i64(...) ds_check_i64s(ds_count_min_u64_update_all_i64, __VA_ARGS__)
@@ -264,6 +329,9 @@ static inline int32_t ds_check_string_rows(int32_t (*call)(ds_sketch *, bool, ui
 #define ds_count_min_u64_equal(...) ds_check_two_handles(ds_count_min_u64_equal, __VA_ARGS__)
 #define ds_count_min_u64_serialize(...) ds_check_buffer(ds_count_min_u64_serialize, __VA_ARGS__)
 #define ds_count_min_u64_deserialize(...) ds_check_image_and_seed(ds_count_min_u64_deserialize, __VA_ARGS__)
+#define ds_count_min_u64_image_estimate_u64(...) ds_check_u64_image_u64(ds_count_min_u64_image_estimate_u64, __VA_ARGS__)
+#define ds_count_min_u64_image_estimate_i64(...) ds_check_u64_image_i64(ds_count_min_u64_image_estimate_i64, __VA_ARGS__)
+#define ds_count_min_u64_image_estimate_string(...) ds_check_u64_image_string(ds_count_min_u64_image_estimate_string, __VA_ARGS__)
 #define ds_count_min_i64_update_string(...) ds_check_bytes_and_i64(ds_count_min_i64_update_string, __VA_ARGS__)
 #define ds_count_min_i64_update_all_u64(...) ds_check_u64s(ds_count_min_i64_update_all_u64, __VA_ARGS__)
 #define ds_count_min_i64_update_all_i64(...) ds_check_i64s(ds_count_min_i64_update_all_i64, __VA_ARGS__)
@@ -291,6 +359,9 @@ static inline int32_t ds_check_string_rows(int32_t (*call)(ds_sketch *, bool, ui
 #define ds_count_min_i64_equal(...) ds_check_two_handles(ds_count_min_i64_equal, __VA_ARGS__)
 #define ds_count_min_i64_serialize(...) ds_check_buffer(ds_count_min_i64_serialize, __VA_ARGS__)
 #define ds_count_min_i64_deserialize(...) ds_check_image_and_seed(ds_count_min_i64_deserialize, __VA_ARGS__)
+#define ds_count_min_i64_image_estimate_u64(...) ds_check_i64_image_u64(ds_count_min_i64_image_estimate_u64, __VA_ARGS__)
+#define ds_count_min_i64_image_estimate_i64(...) ds_check_i64_image_i64(ds_count_min_i64_image_estimate_i64, __VA_ARGS__)
+#define ds_count_min_i64_image_estimate_string(...) ds_check_i64_image_string(ds_count_min_i64_image_estimate_string, __VA_ARGS__)
 #define ds_frequent_items_string_update(...) ds_check_bytes_and_u64(ds_frequent_items_string_update, __VA_ARGS__)
 #define ds_frequent_items_string_update_words(...) ds_check_bytes(ds_frequent_items_string_update_words, __VA_ARGS__)
 #define ds_frequent_items_string_update_lines(...) ds_check_bytes(ds_frequent_items_string_update_lines, __VA_ARGS__)

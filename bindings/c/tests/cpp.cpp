@@ -16,6 +16,7 @@
 #include <sstream>
 #include <string>
 #include <sys/wait.h>
+#include <thread>
 #include <unistd.h>
 #include <vector>
 
@@ -422,6 +423,152 @@ static void images()
         FAILS(DS_TABLE_TOO_LARGE, strings::deserialize(written.data(), written.size(), 10));
         FAILS(DS_TABLE_TOO_LARGE, strings::deserialize(written.data(), written.size(), 10, KEY));
     }
+}
+
+/* Images in place: the results of the sketches that are read from them, from each kind of range, and at an odd address. */
+static void images_in_place()
+{
+    filter made = new_filter(), empty = new_filter();
+    DONE(made.insert_all({1, 2, 3}));
+    DONE(made.insert_all({"a", "bc"}));
+    image written = take(made.serialize()), nothing = take(empty.serialize());
+    image shifted(written.size() + 1);
+    std::copy(written.begin(), written.end(), shifted.begin() + 1);
+    const ds::bloom_filter_image one(written), two(shifted.data() + 1, written.size());
+    const ds::bloom_filter_image of_span(ds::span(written.data(), written.size()));
+    const std::string chars(written.begin(), written.end());
+    const ds::bloom_filter_image of_chars(chars), of_view{std::string_view(chars)}, of_empty(nothing);
+    for (const auto *it : {&one, &two, &of_span, &of_chars, &of_view}) {
+        for (int i = -20; i < 20; i++) CHECK(take(it->contains(i)) == take(made.contains(i)));
+        for (unsigned i = 0; i < 20; i++) CHECK(take(it->contains(i)) == take(made.contains(i)));
+        for (const char *string : {"", "a", "b", "bc", "c"}) CHECK(take(it->contains(string)) == take(made.contains(string)));
+    }
+    CHECK(take(one.contains(std::string_view())) == take(made.contains("")) && !take(of_empty.contains(1)));
+    CHECK(one.bytes().data() == written.data() && one.bytes().size() == written.size());
+    FAILS(DS_INVALID_UTF8, one.contains("\xff"));
+    FAILS(DS_INSUFFICIENT_DATA, ds::bloom_filter_image(written.data(), written.size() - 1).contains(1));
+    FAILS(DS_INSUFFICIENT_DATA, ds::bloom_filter_image(nullptr, 0).contains(1));
+    FAILS(DS_BAD_ARGUMENT, ds::bloom_filter_image(nullptr, 1).contains(1));
+    FAILS(DS_BAD_ARGUMENT, ds::bloom_filter_image(nullptr, 1).contains(1u));
+    FAILS(DS_BAD_ARGUMENT, ds::bloom_filter_image(nullptr, 1).contains("a"));
+    written[2] = 0;
+    FAILS(DS_BAD_FAMILY, one.contains(1));
+}
+
+template <class W> static void counts_in_place()
+{
+    using sketch = ds::count_min_sketch<W>;
+    sketch made = take(sketch::create(3, 16, 7));
+    for (W i = 0; i < 9; i++) DONE(made.update(i, i));
+    DONE(made.update(-3, W{4}));
+    DONE(made.update("abc", W{5}));
+    image written = take(made.serialize()), shifted(written.size() + 1);
+    std::copy(written.begin(), written.end(), shifted.begin() + 1);
+    const ds::count_min_image<W> one(written, 7), two(shifted.data() + 1, written.size(), 7);
+    for (const auto *it : {&one, &two}) {
+        for (int i = -20; i < 20; i++) CHECK(take(it->estimate(i)) == take(made.estimate(i)));
+        for (unsigned i = 0; i < 20; i++) CHECK(take(it->estimate(i)) == take(made.estimate(i)));
+        for (const char *string : {"", "abc", "b"}) CHECK(take(it->estimate(string)) == take(made.estimate(string)));
+    }
+    CHECK(one.bytes().data() == written.data() && two.bytes().size() == written.size());
+    FAILS(DS_SEED_HASH_MISMATCH, ds::count_min_image<W>(written).estimate(1));
+    FAILS(DS_INVALID_UTF8, one.estimate("\xff"));
+    FAILS(DS_INSUFFICIENT_DATA, ds::count_min_image<W>(nullptr, 0).estimate(1));
+    FAILS(DS_BAD_ARGUMENT, ds::count_min_image<W>(nullptr, 1).estimate("a"));
+    sketch other = take(sketch::create(3, 16));
+    image empty = take(other.serialize());
+    CHECK(empty.size() == 16 && take(ds::count_min_image<W>(empty).estimate("abc")) == 0);
+}
+
+/* Inserts that return whether the item was there: as a query and an insert, in each form of items. */
+static void contains_and_inserts()
+{
+    filter loop = take(filter::create(640, 3)), one = take(loop.clone());
+    auto is_as_loop = [&](const auto &item) {
+        bool there = take(loop.contains(item));
+        DONE(loop.insert(item));
+        return take(one.contains_and_insert(item)) == there;
+    };
+    for (int i = -30; i < 30; i++) CHECK(is_as_loop(i * i % 17) && is_as_loop(i));
+    for (const char *string : {"a", "b", "a", ""}) CHECK(is_as_loop(string));
+    CHECK(take(loop.equal(one)));
+    std::vector<std::string> words;
+    std::vector<std::uint64_t> items;
+    std::list<std::int16_t> small;
+    for (int i = 0; i < 2500; i++) {
+        words.push_back("word " + std::to_string(i % 700));
+        items.push_back(static_cast<std::uint64_t>(i) % 900);
+        small.push_back(static_cast<std::int16_t>(i % 1200 - 40));
+    }
+    auto are_as_loop = [](const auto &range) {
+        filter a = take(filter::create(1 << 14, 3)), b = take(a.clone()), c = take(a.clone());
+        std::vector<bool> wanted;
+        for (const auto &item : range) wanted.push_back(take(a.contains_and_insert(item)));
+        std::unique_ptr<bool[]> results(new bool[wanted.size()]);
+        DONE(b.contains_and_insert_all(range, ds::span(results.get(), wanted.size())));
+        CHECK(take(c.contains_and_insert_all(range)) == wanted && std::equal(wanted.begin(), wanted.end(), results.get()));
+        CHECK(take(a.equal(b)) && take(a.equal(c)) && wanted.back() && !wanted.front());
+        FAILS(DS_NO_ROOM, b.contains_and_insert_all(range, ds::span(results.get(), wanted.size() - 1)));
+    };
+    are_as_loop(words);
+    are_as_loop(items);
+    are_as_loop(small);
+    filter a = take(filter::create(640, 3));
+    CHECK(take(a.contains_and_insert_all({7, 8, 7})) == std::vector<bool>{false, false, true});
+    const std::uint64_t offsets[] = {0, 2, 4, 5};
+    CHECK(take(a.contains_and_insert_all(ds::offset_strings("abab", offsets, 3))) == std::vector<bool>{false, true});
+    FAILS(DS_BAD_OFFSETS, a.contains_and_insert_all(ds::offset_strings("abab", offsets, 4)));
+    FAILS(DS_INVALID_UTF8, a.contains_and_insert("\xff"));
+    FAILS(DS_NO_SKETCH, filter().contains_and_insert(1));
+}
+
+/* --- Shares. --- */
+
+template <class Sketch, class Create> void shares(Create create)
+{
+    Sketch a = create(), none, other = create();
+    DONE(a.update_all({1u, 1u, 2u}));
+    image before = take(a.serialize());
+    FAILS(DS_WRONG_KIND, a.share());
+    CHECK(take(a.thaw()));
+    DONE(a.freeze());
+    Sketch b = take(a.share()), c = take(b.share());
+    CHECK(take(b.serialize()) == before && take(c.serialize()) == before);
+    FAILS(DS_WRONG_KIND, a.update(1u));
+    FAILS(DS_WRONG_KIND, b.merge(other));
+    DONE(other.merge(b));
+    CHECK(!take(a.thaw()) && take(take(b.clone()).serialize()) == before);
+    Sketch copy = take(c.clone());
+    DONE(copy.update(1u));
+    a = std::move(c);
+    CHECK(!take(a.thaw()) && take(a.serialize()) == before);
+    b = create();
+    CHECK(take(a.thaw()) && take(a.serialize()) == before);
+    DONE(a.update(1u));
+    CHECK(take(a.serialize()) == take(copy.serialize()));
+    FAILS(DS_NO_SKETCH, none.freeze());
+    FAILS(DS_NO_SKETCH, none.share());
+    FAILS(DS_NO_SKETCH, none.thaw());
+}
+
+/* Four threads read one filter, an object each. */
+static void threads_of_shares()
+{
+    filter made = new_filter();
+    for (int i = 0; i < 100; i++) DONE(made.insert(7 * i));
+    std::vector<bool> wanted, got[4];
+    for (int i = 0; i < 800; i++) wanted.push_back(take(made.contains(i)));
+    DONE(made.freeze());
+    FAILS(DS_WRONG_KIND, made.insert(1));
+    std::vector<std::thread> threads;
+    for (auto &found : got)
+        threads.emplace_back([&found](filter own) {
+            for (int i = 0; i < 800; i++) found.push_back(take(own.contains(i)));
+        }, take(made.share()));
+    for (auto &thread : threads) thread.join();
+    for (auto &found : got) CHECK(found == wanted);
+    CHECK(take(made.thaw()));
+    DONE(made.insert(1));
 }
 
 /* --- Moves. --- */
@@ -836,10 +983,19 @@ int main()
     c_calls();
     filters();
     images();
+    images_in_place();
+    counts_in_place<std::uint64_t>();
+    counts_in_place<std::int64_t>();
+    contains_and_inserts();
     moves<counts>([] { return take(counts::create(3, 64)); });
     moves<signed_counts>([] { return take(signed_counts::create(3, 64)); });
     moves<numbers>([] { return take(numbers::create(64, 48, KEY)); });
     moves<signed_numbers>([] { return take(signed_numbers::create(64, 48, KEY)); });
+    shares<counts>([] { return take(counts::create(3, 64)); });
+    shares<signed_counts>([] { return take(signed_counts::create(3, 64)); });
+    shares<numbers>([] { return take(numbers::create(64, 48, KEY)); });
+    shares<signed_numbers>([] { return take(signed_numbers::create(64, 48, KEY)); });
+    threads_of_shares();
     count_min<std::uint64_t>();
     count_min<std::int64_t>();
     weights();

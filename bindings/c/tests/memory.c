@@ -136,6 +136,32 @@ static int combine_many(void)
     return 0;
 }
 
+/* Freezes a sketch and shares it. If an allocation fails, the sketch is as before, shared or not, and each handle keeps its own. */
+static int share_one(ds_sketch *one)
+{
+    ds_sketch share = DS_NONE, other = DS_NONE;
+    uint64_t weight = weight_of(one);
+    DONE(&other, ds_bloom_new(&other, 64, 1, 9001));
+    int32_t answer = ds_freeze(one);
+    if (!is_due(answer, one, weight)) return 1;
+    if (answer < 0 && (ds_share(&share, one) != DS_WRONG_KIND || ds_freeze(one) != DS_OK)) return 1;
+    answer = ds_share(&share, one);
+    if (!is_due(answer, one, weight)) return 1;
+    if (answer < 0) {
+        /* no share was counted */
+        if (share.sketch || ds_thaw(one) != DS_YES || ds_freeze(one) != DS_OK || ds_share(&share, one) != DS_OK) return 1;
+    }
+    /* over a handle that has a sketch */
+    answer = ds_share(&other, one);
+    if (answer < 0) {
+        if (answer != DS_NO_MEMORY || ds_bloom_insert_u64(&other, 1) != DS_OK || ds_share(&other, one) != DS_OK) return 1;
+    }
+    if (weight_of(&share) != weight || ds_thaw(one) != DS_NO) return 1;
+    ds_free(&share);
+    ds_free(&other);
+    return ds_thaw(one) != DS_YES || !is_due(DS_NO_MEMORY, one, weight);
+}
+
 int main(void)
 {
     ds_sketch filter = DS_NONE, other = DS_NONE, count = DS_NONE, second = DS_NONE;
@@ -188,6 +214,9 @@ int main(void)
         if (!tells_of_strings(&frequent)) return 1;
     }
     if (combine_many()) return 1;
+    DONE(&filter, ds_bloom_insert_all_u64(&filter, items, 64));
+    keep(&filter);
+    if (share_one(&filter) || share_one(&count) || share_one(&frequent) || share_one(&many)) return 1;
     size_t rows = 0, num_bytes = 0;
     DONE(&frequent,
          ds_frequent_items_string_rows(&frequent, true, 0, shown, sizeof shown, starts, 65, bounds, 64, &rows, &num_bytes));

@@ -116,6 +116,13 @@ static void filters(void)
     FREE(DS_OK, ds_bloom_contains_all_string(&filter, STRINGS, 5, OFFSETS, 3, answers, 2));
     FREE(DS_OK, ds_bloom_contains_all_string_pairs(&filter, PAIRS, 2, answers, 2));
     FREE(DS_NO_ROOM, ds_bloom_contains_all_u64(&filter, ITEMS, 3, answers, 2));
+    FREE(DS_NO, ds_bloom_contains_and_insert_u64(&filter, 77));
+    FREE(DS_NO, ds_bloom_contains_and_insert_i64(&filter, -77));
+    FREE(DS_YES, ds_bloom_contains_and_insert_string(&filter, STRINGS, 2));
+    FREE(DS_OK, ds_bloom_contains_and_insert_all_u64(&filter, ITEMS, 3, answers, 3));
+    FREE(DS_OK, ds_bloom_contains_and_insert_all_i64(&filter, SIGNED, 3, answers, 3));
+    FREE(DS_OK, ds_bloom_contains_and_insert_all_string(&filter, STRINGS, 5, OFFSETS, 3, answers, 2));
+    FREE(DS_OK, ds_bloom_contains_and_insert_all_string_pairs(&filter, PAIRS, 2, answers, 2));
     FREE(DS_OK, ds_bloom_union(&same, &filter));
     FREE(DS_OK, ds_bloom_intersect(&same, &filter));
     FREE(DS_OK, ds_bloom_difference(&same, &filter));
@@ -128,6 +135,14 @@ static void filters(void)
     FREE(DS_OK, ds_bloom_serialize(&same, image, sizeof image, &written));
     FREE(DS_NO_ROOM, ds_bloom_serialize(&same, image, written - 1, &written));
     FREE(DS_OK, ds_bloom_serialized_bytes(&same, &written));
+    FREE(DS_OK, ds_bloom_serialize(&filter, image, sizeof image, &written));
+    FREE(DS_YES, ds_bloom_image_contains_u64(image, written, 5));
+    FREE(DS_YES, ds_bloom_image_contains_i64(image, written, -1));
+    FREE(DS_YES, ds_bloom_image_contains_string(image, written, STRINGS, 2));
+    FREE(DS_OK, ds_bloom_image_contains_all_u64(image, written, ITEMS, 3, answers, 3));
+    FREE(DS_OK, ds_bloom_image_contains_all_i64(image, written, SIGNED, 3, answers, 3));
+    FREE(DS_NO, ds_bloom_image_contains_u64(FILTER, sizeof FILTER, 5));
+    FREE(DS_INSUFFICIENT_DATA, ds_bloom_image_contains_u64(image, written - 1, 5));
     FREE(DS_OK, ds_bloom_reset(&filter));
     FREE(DS_YES, ds_bloom_equal(&filter, &same));
     FREE(DS_NO, ds_bloom_contains_u64(&filter, 5));
@@ -190,6 +205,11 @@ static void counts(void)
     FREE(DS_OK, ds_count_min_u64_serialize(&count, image, sizeof image, &written));
     FREE(DS_NO_ROOM, ds_count_min_u64_serialize(&count, image, written - 1, &written));
     FREE(DS_OK, ds_count_min_u64_serialized_bytes(&count, &written));
+    FREE(DS_OK, ds_count_min_u64_image_estimate_u64(image, written, 9001, 5, &estimate));
+    FREE(DS_OK, ds_count_min_u64_image_estimate_i64(image, written, 9001, -1, &estimate));
+    FREE(DS_OK, ds_count_min_u64_image_estimate_string(image, written, 9001, STRINGS, 2, &estimate));
+    FREE(DS_OK, ds_count_min_u64_image_estimate_u64(COUNTS, sizeof COUNTS, 9001, 5, &estimate));
+    FREE(DS_SEED_HASH_MISMATCH, ds_count_min_u64_image_estimate_u64(image, written, 9002, 5, &estimate));
     FREE(DS_WEIGHT_OVERFLOW, ds_count_min_u64_update_u64(&count, 3, UINT64_MAX));
     FREE(DS_OK, ds_count_min_u64_update_u64(&unlike, 3, UINT64_MAX));
     FREE(DS_WEIGHT_OVERFLOW, ds_count_min_u64_update_all_u64(&unlike, ITEMS, 3));
@@ -245,6 +265,9 @@ static void signed_counts(void)
     FREE(DS_OK, ds_count_min_i64_serialize(&count, image, sizeof image, &written));
     FREE(DS_NO_ROOM, ds_count_min_i64_serialize(&count, image, written - 1, &written));
     FREE(DS_OK, ds_count_min_i64_serialized_bytes(&count, &written));
+    FREE(DS_OK, ds_count_min_i64_image_estimate_u64(image, written, 9001, 5, &estimate));
+    FREE(DS_OK, ds_count_min_i64_image_estimate_i64(image, written, 9001, -1, &estimate));
+    FREE(DS_OK, ds_count_min_i64_image_estimate_string(image, written, 9001, STRINGS, 2, &estimate));
     FREE(DS_OK, ds_count_min_i64_update_u64(&heavy, 3, INT64_MAX));
     FREE(DS_WEIGHT_OVERFLOW, ds_count_min_i64_update_u64(&count, 3, INT64_MIN));
     FREE(DS_WEIGHT_OVERFLOW, ds_count_min_i64_update_all_u64(&heavy, ITEMS, 3));
@@ -256,6 +279,38 @@ static void signed_counts(void)
     ds_free(&same);
     ds_free(&heavy);
     ds_free(&unlike);
+}
+
+/* A shared sketch is in a block of its own, and each handle has a block. */
+static void shares(void)
+{
+    ds_sketch filter = DS_NONE, share = DS_NONE, copy = DS_NONE, none = DS_NONE;
+    uint8_t image[64];
+    size_t written;
+    DO(ds_bloom_new(&filter, 256, 3, 9001));
+    FREE(DS_WRONG_KIND, ds_share(&share, &filter));
+    FREE(DS_YES, ds_thaw(&filter));
+    ROW(1, 0, DS_OK, ds_freeze(&filter));
+    FREE(DS_OK, ds_freeze(&filter));
+    ROW(1, 0, DS_OK, ds_share(&share, &filter));
+    FREE(DS_NO, ds_bloom_contains_u64(&share, 3));
+    FREE(DS_OK, ds_bloom_serialize(&share, image, sizeof image, &written));
+    FREE(DS_WRONG_KIND, ds_bloom_insert_u64(&share, 3));
+    FREE(DS_NO, ds_thaw(&filter));
+    /* the handle's block and the words */
+    ROW(2, 0, DS_OK, ds_clone(&copy, &share));
+    ROW(0, 1, DS_OK, (ds_free(&share), DS_OK));
+    ROW(0, 1, DS_YES, ds_thaw(&filter));
+    FREE(DS_OK, ds_bloom_insert_u64(&filter, 3));
+    ROW(1, 0, DS_OK, ds_freeze(&filter));
+    FREE(DS_NO_SKETCH, ds_freeze(&none));
+    FREE(DS_NO_SKETCH, ds_thaw(&none));
+    FREE(DS_NO_SKETCH, ds_share(&filter, &none));
+    /* the words of the sketch that the share replaces */
+    ROW(1, 2, DS_OK, ds_share(&copy, &filter));
+    ROW(0, 1, DS_OK, (ds_free(&filter), DS_OK));
+    /* the last share: its handle's block, the sketch's and the words */
+    ROW(0, 3, DS_OK, (ds_free(&copy), DS_OK));
 }
 
 /* A sketch of six numbers: its table of 8 slots has no room for a seventh. */
@@ -419,6 +474,7 @@ int main(void)
     filters();
     counts();
     signed_counts();
+    shares();
     frequent_numbers();
     full();
     frequent_strings();

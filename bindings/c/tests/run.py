@@ -95,6 +95,12 @@ NOT_CPP = [
     ("with_sign.halve();", "only weights in std::uint64_t are halved", []),
     ("with_sign.decay(1, 2);", "only weights in std::uint64_t decay", []),
     ('numbers.update_words("a b");', "only a sketch of strings counts words", []),
+    ("filter.contains_and_insert(true);", "an item is a string, or an integer", []),
+    ("filter.contains_and_insert_all(words, bits);", "a contiguous range", []),
+    ("auto share(filter.share()); auto copy = share;", "deleted", []),
+    ("bloom_filter_image image(std::vector<std::uint8_t>(40));", "no matching", []),
+    ("count_min_image<std::uint64_t> image(std::array<std::uint8_t, 40>{});", "no matching", []),
+    ("count_min_image<int> image(nullptr, 0);", "weights of count_min_image are std::int64_t or std::uint64_t", []),
     ("filter.insert(1);", "nodiscard|unused", NO_EXCEPTIONS),
     ("if (filter.contains(1)) return;", "convert|bool", NO_EXCEPTIONS),
     ("bloom_filter made(64, 1);", "no matching", NO_EXCEPTIONS),
@@ -241,6 +247,12 @@ class Tests:
             ran = self.run(command)
             self.check(f"{os.path.basename(source)}, {name}", ran.returncode == 0 and b"checks hold" in ran.stdout, ran)
 
+    def races(self):
+        """Looks for races of threads that read one sketch."""
+        helgrind = ["valgrind", "-q", "--tool=helgrind", "--error-exitcode=9"]
+        ran = self.run([*helgrind, self.compile(f"{HERE}/sharing.c", "-g", "-O1", static=False), "joined"])
+        self.check("sharing.c, races", ran.returncode == 0 and b"checks hold" in ran.stdout and not ran.stderr, ran)
+
     def without_checks(self):
         """Runs the calls of `checks.c` that need no check, with a header that has none."""
         ran = self.run([self.compile(f"{HERE}/checks.c", *SANITIZED, "-DDS_NO_CHECKS")])
@@ -255,7 +267,7 @@ class Tests:
             for name, flags in runs:
                 out = os.path.join(self.work, f"cpp{len(os.listdir(self.work))}")
                 command = [compiler, *WARNINGS, *flags, "-I", f"{C}/include", f"{HERE}/cpp.cpp", "-o", out]
-                subprocess.run([*command, f"{self.built}/libdatasketches.a"], check=True)
+                subprocess.run([*command, f"{self.built}/libdatasketches.a", "-lpthread"], check=True)
                 ran = self.run([out])
                 self.check(f"{name}, {compiler}", ran.returncode == 0 and b"checks hold" in ran.stdout, ran)
             objects = []
@@ -522,6 +534,9 @@ def main():
         tests.calls(f"{HERE}/keys.c")
         tests.calls(f"{HERE}/table_keys.c")
         tests.calls(f"{HERE}/many.c")
+        tests.calls(f"{HERE}/images.c")
+        tests.calls(f"{HERE}/sharing.c")
+        tests.races()
         tests.calls(f"{HERE}/checks.c")
         tests.without_checks()
         tests.cplusplus()
