@@ -9,6 +9,10 @@
 #define LISTENS 100000000
 #define QUICK 1000000
 
+/* A call of at most so many numbers keeps the interpreter's lock, as a call of one item does: it would take longer to give the lock
+ * to another thread. */
+#define FEW 16
+
 /* The longest time for which the chunks of an iterator keep the interpreter's lock: Python's own switch interval. */
 #define TURN 5000000
 
@@ -35,7 +39,7 @@ static void batch_leave(Batch *batch)
     batch->in_use = false;
 }
 
-/* Does the same for a quick chunk, which keeps the interpreter's lock. */
+/* Does the same for work that keeps the interpreter's lock. */
 static bool batch_ready(Batch *batch)
 {
     if (batch->self == NULL)
@@ -50,7 +54,8 @@ static bool batch_begin(Batch *batch, const Items *items)
     uint64_t time = items->held != NULL ? now() : 0;
     if (batch->turn == 0)
         batch->turn = time;
-    bool keeps_lock = items->held != NULL && batch->took < QUICK && time - batch->turn < TURN;
+    bool is_quick = items->held != NULL && batch->took < QUICK && time - batch->turn < TURN;
+    bool keeps_lock = is_quick || (items->count <= FEW && !items->with_texts);
     if (keeps_lock ? !batch_ready(batch) : !batch_enter(batch))
         return false;
     batch->began = items->held != NULL ? now() : 0;

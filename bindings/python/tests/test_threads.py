@@ -1,6 +1,7 @@
 """Many threads on one sketch, and on two in both orders."""
 import array
 import copy
+import os
 import resource
 import sys
 import threading
@@ -153,9 +154,10 @@ class Readers(unittest.TestCase):
         return steps
 
     def test_two_read_at_once(self):
-        seen, same, few = ds.BloomFilter(1 << 26, 20), ds.BloomFilter(1 << 26, 20), array.array("q", range(10))
+        seen, same, few = ds.BloomFilter(1 << 26, 20), ds.BloomFilter(1 << 26, 20), array.array("q", range(100))
         seen.insert(range(1_000_000))
-        for call in (lambda: seen.contains(few), lambda: 5 in seen, lambda: seen.bits_used, lambda: sys.getsizeof(seen)):
+        for call in (lambda: seen.contains(few), lambda: seen.contains(few[:10]), lambda: 5 in seen, lambda: seen.bits_used,
+                     lambda: sys.getsizeof(seen)):
             self.assertGreater(self.while_reading(seen, call), 10)
         self.assertGreater(self.while_reading(seen, lambda: same.union_all([seen])), 1)
 
@@ -202,7 +204,9 @@ class Readers(unittest.TestCase):
             try:
                 for number in range(20):
                     seen.insert(number)
+                    seen.insert(numbers[:5])
                     seen.insert(numbers[:100])
+                    seen.contains_and_insert(numbers[:100])
             finally:
                 ended.set()
 
@@ -221,6 +225,7 @@ class Readers(unittest.TestCase):
             try:
                 for _ in range(10):
                     seen.contains(numbers[:100])
+                    self.assertEqual(len(seen.contains(numbers[:5])), 5)
                     self.assertIn(seen.contains(5), (False, True))
             finally:
                 ended.set()
@@ -229,12 +234,14 @@ class Readers(unittest.TestCase):
 
     def test_changes_between_reads(self):
         for whole, change, look in [
-            (ds.BloomFilter(1 << 10, 3), lambda whole: whole.insert(7), lambda whole: whole.contains([7])),
-            (ds.CountMinSketch(3, 64), lambda whole: whole.update(7), lambda whole: whole.estimate([7])),
-            (ds.CountMinSketch(3, 64, signed=True), lambda whole: whole.update(7, -1), lambda whole: whole.estimate([7])),
+            (ds.BloomFilter(1 << 10, 3), lambda whole: whole.insert(7), lambda whole: whole.contains([7] * 99)),
+            (ds.CountMinSketch(3, 64), lambda whole: whole.update(7), lambda whole: whole.estimate([7] * 99)),
+            (ds.CountMinSketch(3, 64, signed=True), lambda whole: whole.update(7, -1), lambda whole: whole.estimate([7] * 99)),
             (ds.FrequentItemsSketch(8), lambda whole: whole.update(7), lambda whole: whole.rows()),
             (ds.FrequentItemsSketch(8, item="u64"), lambda whole: whole.update(7), lambda whole: whole.rows()),
             (ds.FrequentItemsSketch(8, item=str), lambda whole: whole.update("7"), lambda whole: whole.rows()),
+            (ds.FrequentItemsSketch(8), lambda whole: whole.update([7, 8]), lambda whole: whole.bounds([7] * 99)),
+            (ds.FrequentItemsSketch(8, item=str), lambda whole: whole.update(["7", "8"]), lambda whole: whole.bounds(["7", "8"])),
         ]:
             with self.subTest(repr(whole)):
                 plain = type(whole)._unpickle(*whole.__reduce__()[1])
@@ -285,8 +292,9 @@ class Readers(unittest.TestCase):
 
         self.assertEqual(run(use), [])
 
+    @unittest.skipIf("asan" in os.environ.get("LD_PRELOAD", ""), "freed memory stays in this run")
     def test_nothing_is_left(self):
-        seen, other, few = ds.BloomFilter(1 << 10, 3), ds.BloomFilter(1 << 10, 3), array.array("q", [7])
+        seen, other, few = ds.BloomFilter(1 << 10, 3), ds.BloomFilter(1 << 10, 3), array.array("q", [7] * 100)
 
         def use(times):
             for _ in range(times):
