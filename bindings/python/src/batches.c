@@ -381,7 +381,7 @@ static PyObject *ask_source(Batch *batch, const Source *source, const Question *
     }
     room_release(&room);
     items_release(&items);
-    if (result == NULL && question->changes && batch->done > 0)
+    if (result == NULL && batch->done > 0)
         note_taken(batch->done);
     return result;
 }

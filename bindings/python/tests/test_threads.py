@@ -5,6 +5,7 @@ import os
 import resource
 import sys
 import threading
+import time
 import unittest
 
 import datasketches_rattle as ds
@@ -231,6 +232,24 @@ class Readers(unittest.TestCase):
                 ended.set()
 
         self.assertEqual(run(write, write, read), [])
+
+    def order_of_ends(self):
+        """Returns the order in which a long change ends, and a long and a short read that begin soon after it."""
+        seen, numbers, ended, workers = ds.BloomFilter(1 << 26, 32767), array.array("q", range(2000)), [], []
+        for name, call in [("write", lambda: seen.insert(numbers)), ("long", lambda: seen.contains(numbers)),
+                           ("short", lambda: seen.contains(numbers[:20]))]:
+            began = threading.Event()
+            workers.append(threading.Thread(target=lambda name=name, call=call, began=began: (began.set(), call(), ended.append(name))))
+            workers[-1].start()
+            began.wait()
+            time.sleep(0.02)
+        for worker in workers:
+            worker.join()
+        return ended
+
+    def test_readers_behind_a_writer_read_at_once(self):
+        # A busy machine may begin a read too late.
+        self.assertTrue(any(self.order_of_ends() == ["write", "short", "long"] for _ in range(5)))
 
     def test_changes_between_reads(self):
         for whole, change, look in [
