@@ -9,9 +9,10 @@
 #define LISTENS 100000000
 #define QUICK 1000000
 
-/* A call of at most so many numbers keeps the interpreter's lock, as a call of one item does: it would take longer to give the lock
- * to another thread. */
+/* A call of at most FEW items, with strings of at most SHORT bytes in all, keeps the interpreter's lock, as a call of one item does:
+ * it would take longer to give the lock to another thread. */
 #define FEW 16
+#define SHORT 1024
 
 /* The longest time for which the chunks of an iterator keep the interpreter's lock: Python's own switch interval. */
 #define TURN 5000000
@@ -48,6 +49,16 @@ static bool batch_ready(Batch *batch)
     return batch->use.changes ? sketch_ready_to_change(batch->self) : sketch_ready(batch->self);
 }
 
+static bool are_few(const Items *items)
+{
+    size_t bytes = 0;
+    if (items->count > FEW || (items->with_texts && items->items == NULL))
+        return false;
+    for (size_t i = 0; items->with_texts && i < items->count; i++)
+        bytes += items->items[i].text != NULL && bytes <= SHORT ? items->items[i].value : 0;
+    return bytes <= SHORT;
+}
+
 /* Begins work on all items, or on the next chunk of an iterator. */
 static bool batch_begin(Batch *batch, const Items *items)
 {
@@ -55,7 +66,7 @@ static bool batch_begin(Batch *batch, const Items *items)
     if (batch->turn == 0)
         batch->turn = time;
     bool is_quick = items->held != NULL && batch->took < QUICK && time - batch->turn < TURN;
-    bool keeps_lock = is_quick || (items->count <= FEW && !items->with_texts);
+    bool keeps_lock = is_quick || are_few(items);
     if (keeps_lock ? !batch_ready(batch) : !batch_enter(batch))
         return false;
     batch->began = items->held != NULL ? now() : 0;

@@ -260,7 +260,7 @@ class Readers(unittest.TestCase):
             (ds.FrequentItemsSketch(8, item="u64"), lambda whole: whole.update(7), lambda whole: whole.rows()),
             (ds.FrequentItemsSketch(8, item=str), lambda whole: whole.update("7"), lambda whole: whole.rows()),
             (ds.FrequentItemsSketch(8), lambda whole: whole.update([7, 8]), lambda whole: whole.bounds([7] * 99)),
-            (ds.FrequentItemsSketch(8, item=str), lambda whole: whole.update(["7", "8"]), lambda whole: whole.bounds(["7", "8"])),
+            (ds.FrequentItemsSketch(8, item=str), lambda whole: whole.update(["7", "8"]), lambda whole: whole.bounds(["7"] * 99)),
         ]:
             with self.subTest(repr(whole)):
                 plain = type(whole)._unpickle(*whole.__reduce__()[1])
