@@ -25,8 +25,8 @@ int32_t ds_bloom_contains_and_insert_all_string_pairs(ds_sketch *handle, const d
 
 typedef struct Waiter Waiter;
 
-/* A sketch of any kind. A call of one item keeps the interpreter's lock and uses the object's handle. A long call (of many items,
- * or of whole sketches) lets other Python threads run. While it changes the sketch, no other call uses the sketch. While it reads,
+/* A sketch of any kind. A call of one or a few items keeps the interpreter's lock and uses the object's handle. A long call (of many
+ * items, or of whole sketches) lets other Python threads run. While it changes the sketch, no other call uses the sketch. While it reads,
  * it has a handle of its own that shares the sketch, so many such calls run at once. See `use_begin`.
  *
  * Only a thread with the interpreter's lock reads or changes the fields after `handle`, and only such a thread or a long call that
