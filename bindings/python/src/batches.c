@@ -1,4 +1,4 @@
-/* Calls for many items: their locks, Ctrl-C, and their errors. */
+/* Calls for many items: their use of the sketch, Ctrl-C, and their errors. */
 #include "sketches.h"
 
 #include <signal.h>
@@ -8,6 +8,11 @@
  * chunk keeps the interpreter's lock, since a thread that releases it waits for its turn. */
 #define LISTENS 100000000
 #define QUICK 1000000
+
+/* A call of at most FEW items, with strings of at most SHORT bytes in all, keeps the interpreter's lock, as a call of one item does:
+ * it would take longer to give the lock to another thread. */
+#define FEW 16
+#define SHORT 1024
 
 /* The longest time for which the chunks of an iterator keep the interpreter's lock: Python's own switch interval. */
 #define TURN 5000000
@@ -19,23 +24,39 @@ static uint64_t now(void)
     return (uint64_t)time.tv_sec * 1000000000 + (uint64_t)time.tv_nsec;
 }
 
-static bool batch_lock(Batch *batch)
+/* Begins to use the sketch, if any, while other Python threads run. */
+static bool batch_enter(Batch *batch)
+{
+    batch->use.sketch = batch->self;
+    batch->in_use = batch->self != NULL && use_begin(&batch->use);
+    batch->handle = use_handle(&batch->use);
+    return batch->in_use || batch->self == NULL;
+}
+
+static void batch_leave(Batch *batch)
+{
+    if (batch->in_use)
+        use_end(&batch->use);
+    batch->in_use = false;
+}
+
+/* Does the same for work that keeps the interpreter's lock. */
+static bool batch_ready(Batch *batch)
 {
     if (batch->self == NULL)
         return true;
-    batch->locked = sketch_lock(batch->self);
-    if (batch->locked)
-        batch->self->busy = true;
-    return batch->locked;
+    batch->handle = &batch->self->handle;
+    return batch->use.changes ? sketch_ready_to_change(batch->self) : sketch_ready(batch->self);
 }
 
-static void batch_unlock(Batch *batch)
+static bool are_few(const Items *items)
 {
-    if (!batch->locked)
-        return;
-    batch->locked = false;
-    batch->self->busy = false;
-    sketch_unlock(batch->self);
+    size_t bytes = 0;
+    if (items->count > FEW || (items->with_texts && items->items == NULL))
+        return false;
+    for (size_t i = 0; items->with_texts && i < items->count; i++)
+        bytes += items->items[i].text != NULL && bytes <= SHORT ? items->items[i].value : 0;
+    return bytes <= SHORT;
 }
 
 /* Begins work on all items, or on the next chunk of an iterator. */
@@ -44,8 +65,9 @@ static bool batch_begin(Batch *batch, const Items *items)
     uint64_t time = items->held != NULL ? now() : 0;
     if (batch->turn == 0)
         batch->turn = time;
-    bool keeps_lock = items->held != NULL && batch->took < QUICK && time - batch->turn < TURN;
-    if (keeps_lock && batch->self != NULL ? !sketch_ready(batch->self) : !batch_lock(batch))
+    bool is_quick = items->held != NULL && batch->took < QUICK && time - batch->turn < TURN;
+    bool keeps_lock = is_quick || are_few(items);
+    if (keeps_lock ? !batch_ready(batch) : !batch_enter(batch))
         return false;
     batch->began = items->held != NULL ? now() : 0;
     batch->due = 0;
@@ -62,7 +84,7 @@ static void batch_end(Batch *batch)
         batch->turn = 0;
     }
     batch->thread = NULL;
-    batch_unlock(batch);
+    batch_leave(batch);
 }
 
 /* Calls the handler of Ctrl-C. Returns false if it raises. */
@@ -80,8 +102,8 @@ static bool handle_interrupt(void)
     return !PyErr_Occurred();
 }
 
-/* Checks for Ctrl-C between two chunks, from time to time. Returns false, with an error set, if the batch ends. Releases the
- * sketch's lock for the handler, which may use the sketch. Handlers of other signals run after the batch. */
+/* Checks for Ctrl-C between two chunks, from time to time. Returns false, with an error set, if the batch ends. Ends the use of
+ * the sketch for the handler, which may use it. Handlers of other signals run after the batch. */
 static bool batch_goes_on(Batch *batch)
 {
     bool goes_on = true;
@@ -94,8 +116,8 @@ static bool batch_goes_on(Batch *batch)
         return true;
     PyEval_RestoreThread(batch->thread);
     if (PyOS_InterruptOccurred()) {
-        batch_unlock(batch);
-        goes_on = handle_interrupt() && batch_lock(batch);
+        batch_leave(batch);
+        goes_on = handle_interrupt() && batch_enter(batch);
     }
     batch->due = 0;
     batch->thread = PyEval_SaveThread();
@@ -121,6 +143,11 @@ void note_taken(size_t done)
     PyErr_Restore(type, error, trace);
 }
 
+static void set_changed(void)
+{
+    PyErr_SetString(PyExc_RuntimeError, "another thread changed a buffer during the call");
+}
+
 static void set_error(int32_t answer, const Batch *batch, const Items *items)
 {
     if (answer == DS_NO_MEMORY && items->held == NULL)
@@ -128,7 +155,7 @@ static void set_error(int32_t answer, const Batch *batch, const Items *items)
     else if (answer == DS_NO_MEMORY)
         PyErr_Format(PyExc_MemoryError, "memory ended when %zu items were counted", batch->done);
     else if (answer == CHANGED || answer == DS_INVALID_UTF8) /* all strings were checked before */
-        PyErr_SetString(PyExc_RuntimeError, "another thread changed a buffer during the call");
+        set_changed();
     else if (answer != STOPPED)
         refuse(answer);
     if (batch->done > 0 && answer != DS_NO_MEMORY)
@@ -184,7 +211,7 @@ static int32_t take_items(Batch *batch, const Weights *weights, const Updates *u
 
 PyObject *update_all(Sketch *self, Items *items, Weights *weights, const Updates *updates)
 {
-    Batch batch = {.self = self, .items = items, .took = QUICK};
+    Batch batch = {.self = self, .use = {.changes = true}, .items = items, .took = QUICK};
     int32_t answer;
     do {
         answer = STOPPED;
@@ -260,6 +287,7 @@ static int32_t ask_chunk(Batch *batch, Chunk *chunk, const Question *question, c
             answer = question->strings(batch, chunk->strings + i, count, place);
         else
             answer = question->numbers(batch, chunk->numbers + i, count, place);
+        batch->done += answer >= 0 && question->changes ? count : 0;
     }
     return answer;
 }
@@ -289,7 +317,7 @@ static bool ask(Batch *batch, const Question *question, const Items *items, void
     int32_t answer = ask_items(batch, question, answers);
     batch_end(batch);
     if (answer == CHANGED || answer == DS_INVALID_UTF8)
-        set_error(CHANGED, batch, items);
+        set_changed();
     else if (answer < 0 && answer != STOPPED)
         refuse(answer);
     return answer >= 0;
@@ -364,12 +392,14 @@ static PyObject *ask_source(Batch *batch, const Source *source, const Question *
     }
     room_release(&room);
     items_release(&items);
+    if (result == NULL && batch->done > 0)
+        note_taken(batch->done);
     return result;
 }
 
 PyObject *ask_all(Sketch *self, PyObject *given, const Question *question)
 {
-    Batch batch = {.self = self, .context = question->context, .took = QUICK};
+    Batch batch = {.self = self, .use = {.changes = question->changes}, .context = question->context, .took = QUICK};
     Source source;
     PyObject *result = NULL;
     if (is_masked(given))

@@ -16,14 +16,15 @@ PyObject *sketch_like(const Sketch *self, ds_sketch *made)
 
 static PyObject *copy_of(Sketch *self)
 {
+    Use use = {.sketch = self};
     ds_sketch made = DS_NONE;
     int32_t answer;
-    if (!sketch_lock(self))
+    if (!use_begin(&use))
         return NULL;
-    BATCH_BEGIN(self)
-    answer = ds_clone(&made, &self->handle);
-    BATCH_END(self)
-    sketch_unlock(self);
+    Py_BEGIN_ALLOW_THREADS
+    answer = ds_clone(&made, &use.share);
+    Py_END_ALLOW_THREADS
+    use_end(&use);
     return answer < 0 ? refuse(answer) : sketch_like(self, &made);
 }
 

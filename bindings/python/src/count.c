@@ -82,17 +82,18 @@ PyDoc_STRVAR(decay_doc,
 static PyObject *count_decay(PyObject *object, PyObject *const *args, Py_ssize_t count)
 {
     Sketch *self = (Sketch *)object;
+    Use use = {.sketch = self, .changes = true};
     uint64_t numerator, denominator;
     if (count != 2)
         return PyErr_Format(PyExc_TypeError, "decay takes a numerator and a denominator, not %zd arguments", count);
     if (!ages(self) || !natural_of(args[0], "numerator", &numerator) || !natural_of(args[1], "denominator", &denominator) ||
-        !sketch_lock(self))
+        !use_begin(&use))
         return NULL;
     int32_t answer;
-    BATCH_BEGIN(self)
+    Py_BEGIN_ALLOW_THREADS
     answer = ds_count_min_u64_decay(&self->handle, numerator, denominator);
-    BATCH_END(self)
-    sketch_unlock(self);
+    Py_END_ALLOW_THREADS
+    use_end(&use);
     if (answer < 0)
         return refuse(answer);
     Py_RETURN_NONE;
@@ -161,11 +162,10 @@ static PyObject *count_merge_all(PyObject *self, PyObject *given)
 static PyObject *count_repr(PyObject *object)
 {
     Sketch *self = (Sketch *)object;
-    if (!sketch_lock(self)) {
+    if (!sketch_ready(self)) {
         PyErr_Clear();
         return PyUnicode_FromString("<CountMinSketch, closed>");
     }
-    sketch_unlock(self);
     return PyUnicode_FromFormat("<CountMinSketch num_hashes=%d num_buckets=%llu seed=%llu%s>", (int)self->hashes,
                                 (unsigned long long)self->buckets, (unsigned long long)self->seed,
                                 self->with_sign ? " signed=True" : "");
@@ -174,9 +174,8 @@ static PyObject *count_repr(PyObject *object)
 static PyObject *count_number(PyObject *object, void *which)
 {
     Sketch *self = (Sketch *)object;
-    if (!sketch_lock(self))
+    if (!sketch_ready(self))
         return NULL;
-    sketch_unlock(self);
     uint64_t fields[] = {self->hashes, self->buckets, self->seed};
     return PyLong_FromUnsignedLongLong(fields[(uintptr_t)which]);
 }
@@ -188,10 +187,9 @@ static PyObject *count_signed(PyObject *object, void *Py_UNUSED(unused))
 
 static bool count_numbers_of(Sketch *self, ds_count_min_status *numbers)
 {
-    if (!sketch_lock(self))
+    if (!sketch_ready(self))
         return false;
     int32_t answer = BY_SIGN(self->with_sign, get_status, &self->handle, numbers);
-    sketch_unlock(self);
     return answer >= 0 || refuse(answer) != NULL;
 }
 
@@ -204,13 +202,9 @@ PyDoc_STRVAR(count_serialize_doc,
 
 static PyObject *count_serialize(PyObject *object, PyObject *Py_UNUSED(unused))
 {
-    ds_count_min_status numbers;
-    if (!count_numbers_of((Sketch *)object, &numbers))
-        return NULL;
-    size_t cells = (size_t)numbers.num_hashes * numbers.num_buckets;
-    return sketch_image((Sketch *)object,
-                        ((Sketch *)object)->with_sign ? (ds_count_min_i64_serialize) : (ds_count_min_u64_serialize),
-                        numbers.total_weight == 0 ? 16 : 24 + 8 * cells);
+    Sketch *self = (Sketch *)object;
+    return self->with_sign ? sketch_image(self, (ds_count_min_i64_serialized_bytes), (ds_count_min_i64_serialize))
+                           : sketch_image(self, (ds_count_min_u64_serialized_bytes), (ds_count_min_u64_serialize));
 }
 
 PyDoc_STRVAR(count_deserialize_doc,

@@ -63,7 +63,7 @@ static uint64_t room(Sketch *self)
 
 static int32_t update_strings(Batch *batch, const ds_string *strings, const uint64_t *weights, size_t count)
 {
-    ds_sketch *handle = &batch->self->handle;
+    ds_sketch *handle = batch->handle;
     const int64_t *with_sign = (const int64_t *)weights;
     if (batch->self->with_sign)
         return weights == NULL
@@ -76,7 +76,7 @@ static int32_t update_strings(Batch *batch, const ds_string *strings, const uint
 /* A number below 0 is the same item as its unsigned number of the same bytes. */
 static int32_t update_numbers(Batch *batch, const uint64_t *numbers, const uint64_t *weights, size_t count)
 {
-    ds_sketch *handle = &batch->self->handle;
+    ds_sketch *handle = batch->handle;
     const int64_t *with_sign = (const int64_t *)weights;
     if (batch->self->with_sign)
         return weights == NULL ? ds_count_min_i64_update_all_u64(handle, numbers, count)
@@ -123,7 +123,7 @@ PyObject *count_update(PyObject *object, PyObject *const *args, Py_ssize_t count
         return opened ? update_all(self, &items, &weights, &updates) : NULL;
     }
     if ((given != NULL && !number_of_kind(given, "weight", self->with_sign, &weight)) || !item_of(args[0], &item) ||
-        !sketch_ready(self))
+        !sketch_ready_to_change(self))
         return NULL;
     int32_t answer = update_one(self, &item, weight);
     if (answer < 0)
@@ -157,14 +157,14 @@ PyObject *count_at(PyObject *object, PyObject *item)
 
 static int32_t estimate_strings(Batch *batch, const ds_string *strings, size_t count, void *answers)
 {
-    ds_sketch *handle = &batch->self->handle;
+    ds_sketch *handle = batch->handle;
     return batch->self->with_sign ? (ds_count_min_i64_estimate_all_string_pairs)(handle, strings, count, answers, count)
                                   : (ds_count_min_u64_estimate_all_string_pairs)(handle, strings, count, answers, count);
 }
 
 static int32_t estimate_numbers(Batch *batch, const uint64_t *numbers, size_t count, void *answers)
 {
-    ds_sketch *handle = &batch->self->handle;
+    ds_sketch *handle = batch->handle;
     return batch->self->with_sign ? ds_count_min_i64_estimate_all_u64(handle, numbers, count, answers, count)
                                   : ds_count_min_u64_estimate_all_u64(handle, numbers, count, answers, count);
 }

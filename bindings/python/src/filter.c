@@ -4,10 +4,9 @@
 /* Reads the filter's status. Returns false, with an error set, if the filter is closed. */
 static bool numbers_of(Sketch *self, ds_bloom_status *numbers)
 {
-    if (!sketch_lock(self))
+    if (!sketch_ready(self))
         return false;
     int32_t answer = ds_bloom_get_status(&self->handle, numbers);
-    sketch_unlock(self);
     return answer >= 0 || refuse(answer) != NULL;
 }
 
@@ -103,11 +102,7 @@ PyDoc_STRVAR(serialize_doc,
 
 static PyObject *filter_serialize(PyObject *object, PyObject *Py_UNUSED(unused))
 {
-    ds_bloom_status numbers;
-    if (!numbers_of((Sketch *)object, &numbers))
-        return NULL;
-    size_t guess = numbers.bits_used == 0 ? 24 : 32 + (size_t)(numbers.capacity / 8);
-    return sketch_image((Sketch *)object, (ds_bloom_serialize), guess);
+    return sketch_image((Sketch *)object, (ds_bloom_serialized_bytes), (ds_bloom_serialize));
 }
 
 PyDoc_STRVAR(deserialize_doc,
@@ -197,6 +192,7 @@ static PyMethodDef filter_methods[] = {
     WITH_KEYWORDS("insert_words", filter_insert_words),
     WITH_KEYWORDS("insert_lines", filter_insert_lines),
     {"contains", filter_contains, METH_O, filter_contains_doc},
+    {"contains_and_insert", filter_contains_and_insert, METH_O, filter_contains_and_insert_doc},
     {"union_all", filter_union_all, METH_O, union_all_doc},
     {"reset", filter_reset, METH_NOARGS, reset_doc},
     {"serialize", filter_serialize, METH_NOARGS, serialize_doc},

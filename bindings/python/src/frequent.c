@@ -179,10 +179,9 @@ static Py_hash_t frequent_hash(PyObject *object)
 
 bool frequent_status(Sketch *self, ds_frequent_items_status *numbers)
 {
-    if (!sketch_lock(self))
+    if (!sketch_ready(self))
         return false;
     int32_t answer = kind_of(self)->status(&self->handle, numbers);
-    sketch_unlock(self);
     return answer >= 0 || refuse(answer) != NULL;
 }
 
@@ -213,16 +212,36 @@ PyDoc_STRVAR(serialize_doc,
 ">>> len(ds.FrequentItemsSketch(64).serialize())\n"
 "8\n");
 
+static int32_t measure(const Kind *kind, ds_sketch *handle, size_t *bytes)
+{
+    ds_frequent_items_status numbers;
+    int32_t answer = kind->status(handle, &numbers);
+    if (answer >= 0)
+        *bytes = numbers.total_weight == 0 ? 8 : 32 + 16 * (size_t)numbers.num_active_items;
+    return answer;
+}
+
+static int32_t measure_with_sign(ds_sketch *handle, size_t *bytes)
+{
+    return measure(&numbers_with_sign, handle, bytes);
+}
+
+static int32_t measure_without_sign(ds_sketch *handle, size_t *bytes)
+{
+    return measure(&numbers_without_sign, handle, bytes);
+}
+
+static int32_t assume_texts(ds_sketch *Py_UNUSED(handle), size_t *bytes)
+{
+    *bytes = TEXTS_GUESS;
+    return DS_OK;
+}
+
 static PyObject *frequent_serialize(PyObject *object, PyObject *Py_UNUSED(unused))
 {
     Sketch *self = (Sketch *)object;
-    ds_frequent_items_status numbers;
-    if (self->with_texts)
-        return sketch_image(self, texts.serialize, TEXTS_GUESS);
-    if (!numbers_of(object, &numbers))
-        return NULL;
-    size_t guess = numbers.total_weight == 0 ? 8 : 32 + 16 * (size_t)numbers.num_active_items;
-    return sketch_image(self, kind_of(self)->serialize, guess);
+    return sketch_image(self, self->with_texts ? assume_texts : self->with_sign ? measure_with_sign : measure_without_sign,
+                        kind_of(self)->serialize);
 }
 
 PyDoc_STRVAR(deserialize_doc,

@@ -145,7 +145,7 @@ static int32_t note_counted(Batch *batch, int32_t answer, const uint64_t *weight
 
 static int32_t update_strings(Batch *batch, const ds_string *strings, const uint64_t *weights, size_t count)
 {
-    ds_sketch *handle = &batch->self->handle;
+    ds_sketch *handle = batch->handle;
     uint64_t was = total_of(batch->self);
     int32_t answer = weights == NULL
                          ? (ds_frequent_items_string_update_all_pairs)(handle, strings, count)
@@ -155,7 +155,7 @@ static int32_t update_strings(Batch *batch, const ds_string *strings, const uint
 
 static int32_t update_numbers(Batch *batch, const uint64_t *numbers, const uint64_t *weights, size_t count)
 {
-    ds_sketch *handle = &batch->self->handle;
+    ds_sketch *handle = batch->handle;
     const int64_t *with_sign = (const int64_t *)numbers;
     uint64_t was = total_of(batch->self);
     int32_t answer;
@@ -187,7 +187,7 @@ PyObject *frequent_update(PyObject *object, PyObject *const *args, Py_ssize_t co
         return opened ? update_all(self, &items, &weights, &updates) : NULL;
     }
     if ((given != NULL && !natural_of(given, "weight", &weight)) || !item_of(args[0], &item) ||
-        !counts(self, item.text != NULL, item.value, item.negative) || !sketch_ready(self))
+        !counts(self, item.text != NULL, item.value, item.negative) || !sketch_ready_to_change(self))
         return NULL;
     int32_t answer = update_one(self, &item, weight);
     if (answer < 0)
@@ -209,12 +209,12 @@ static bool bounds_of(PyObject *object, PyObject *given, ds_frequent_items_bound
 
 static int32_t bounds_strings(Batch *batch, const ds_string *strings, size_t count, void *answers)
 {
-    return (ds_frequent_items_string_bounds_all_pairs)(&batch->self->handle, strings, count, answers, count);
+    return (ds_frequent_items_string_bounds_all_pairs)(batch->handle, strings, count, answers, count);
 }
 
 static int32_t bounds_numbers(Batch *batch, const uint64_t *numbers, size_t count, void *answers)
 {
-    ds_sketch *handle = &batch->self->handle;
+    ds_sketch *handle = batch->handle;
     if (other_sign(batch->self, batch->items) && !below_top(numbers, count))
         return CHANGED;
     return batch->self->with_sign ? ds_frequent_items_i64_bounds_all(handle, (const int64_t *)numbers, count, answers, count)

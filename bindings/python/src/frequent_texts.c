@@ -79,15 +79,16 @@ PyObject *texts_rows(Sketch *self, const Wanted *wanted)
     size_t rows = 64, bytes = 1024;
     for (;;) {
         RowRoom room;
-        bool ready = row_room_alloc(&room, rows, bytes) && sketch_lock(self);
+        Use use = {.sketch = self};
+        bool ready = row_room_alloc(&room, rows, bytes) && use_begin(&use);
         int32_t answer = DS_NO_SKETCH;
         size_t count = 0, num_bytes = 0;
         if (ready) {
-            BATCH_BEGIN(self)
-            answer = ds_frequent_items_string_rows(&self->handle, wanted->no_false_negatives, wanted->threshold, room.bytes,
+            Py_BEGIN_ALLOW_THREADS
+            answer = ds_frequent_items_string_rows(&use.share, wanted->no_false_negatives, wanted->threshold, room.bytes,
                                                    bytes, room.offsets, rows + 1, room.bounds, rows, &count, &num_bytes);
-            BATCH_END(self)
-            sketch_unlock(self);
+            Py_END_ALLOW_THREADS
+            use_end(&use);
             list = answer >= 0 ? list_of(&room, count, wanted) : answer == DS_NO_ROOM ? NULL : refuse(answer);
         }
         row_room_free(&room);

@@ -48,33 +48,38 @@ void image_release(Image *image)
     PyBuffer_Release(&image->view);
 }
 
-PyObject *sketch_image(Sketch *self, image_writer write, size_t guess)
+/* Writes the image into new bytes. If these are too few, sets `bytes` to the number that it needs. */
+static int32_t write_image(Use *use, image_writer write, size_t *bytes, PyObject **image)
 {
-    size_t room = guess;
-    for (;;) {
-        if (room > PY_SSIZE_T_MAX)
-            return PyErr_NoMemory();
-        PyObject *image = PyBytes_FromStringAndSize(NULL, (Py_ssize_t)room);
-        if (image == NULL)
-            return NULL;
-        if (!sketch_lock(self)) {
-            Py_DECREF(image);
-            return NULL;
-        }
-        size_t written = 0;
-        int32_t answer;
-        BATCH_BEGIN(self)
-        answer = write(&self->handle, (uint8_t *)PyBytes_AS_STRING(image), room, &written);
-        BATCH_END(self)
-        sketch_unlock(self);
-        if (answer >= 0) {
-            if (written != room)
-                _PyBytes_Resize(&image, (Py_ssize_t)written);
-            return image;
-        }
-        Py_DECREF(image);
-        if (answer != DS_NO_ROOM)
-            return refuse(answer);
-        room = written;
+    size_t room = *bytes;
+    int32_t answer;
+    *image = room <= PY_SSIZE_T_MAX ? PyBytes_FromStringAndSize(NULL, (Py_ssize_t)room) : NULL;
+    if (*image == NULL) {
+        PyErr_Clear();
+        return DS_NO_MEMORY;
     }
+    Py_BEGIN_ALLOW_THREADS
+    answer = write(use_handle(use), (uint8_t *)PyBytes_AS_STRING(*image), room, bytes);
+    Py_END_ALLOW_THREADS
+    if (answer < 0)
+        Py_CLEAR(*image);
+    else if (*bytes != room)
+        _PyBytes_Resize(image, (Py_ssize_t)*bytes);
+    return answer;
+}
+
+PyObject *sketch_image(Sketch *self, image_measure measure, image_writer write)
+{
+    Use use = {.sketch = self};
+    PyObject *image = NULL;
+    size_t bytes = 0;
+    if (!use_begin(&use))
+        return NULL;
+    int32_t answer = measure(use_handle(&use), &bytes);
+    if (answer >= 0)
+        answer = write_image(&use, write, &bytes, &image);
+    if (answer == DS_NO_ROOM)
+        answer = write_image(&use, write, &bytes, &image);
+    use_end(&use);
+    return answer < 0 ? refuse(answer) : image;
 }

@@ -38,26 +38,21 @@ static int by_address(const void *first, const void *second)
     return a->index < b->index ? -1 : a->index > b->index;
 }
 
-/* The sketches of a call. `places` are in the order of addresses, and those of one sketch in the order of indices. `sketches` has
- * each sketch once, in the same order. `handles` has a handle for each place. The first place of a sketch takes the sketch's own
- * handle during the call. Each further place has a copy, since the library takes no handle twice. */
+/* The sketches of a call. `places` are in the order of addresses, and those of one sketch in the order of indices. `uses` has each
+ * sketch once, in the same order. `handles` has a handle for each place: the first one is that of the sketch that is changed, moved
+ * here for the call. If this sketch is also among the others, each such place has a copy, since the library takes no handle twice.
+ * Each place of another sketch has a share. */
 typedef struct {
     size_t count, num_sketches;
     Place *places;
-    Sketch **sketches;
+    Use *uses;
     ds_sketch *handles;
 } Group;
-
-/* Returns whether a place is the first one of its sketch. */
-static bool is_first(const Group *group, size_t at)
-{
-    return at == 0 || group->places[at].sketch != group->places[at - 1].sketch;
-}
 
 static void group_release(Group *group)
 {
     PyMem_Free(group->places);
-    PyMem_Free(group->sketches);
+    PyMem_Free(group->uses);
     PyMem_Free(group->handles);
 }
 
@@ -66,9 +61,9 @@ static bool group_open(Group *group, Sketch *self, PyObject *others)
 {
     group->count = (size_t)PyTuple_GET_SIZE(others) + 1;
     group->places = PyMem_Calloc(group->count, sizeof *group->places);
-    group->sketches = PyMem_Calloc(group->count, sizeof *group->sketches);
+    group->uses = PyMem_Calloc(group->count, sizeof *group->uses);
     group->handles = PyMem_Calloc(group->count, sizeof *group->handles);
-    if (group->places == NULL || group->sketches == NULL || group->handles == NULL) {
+    if (group->places == NULL || group->uses == NULL || group->handles == NULL) {
         PyErr_NoMemory();
         return false;
     }
@@ -76,56 +71,52 @@ static bool group_open(Group *group, Sketch *self, PyObject *others)
     for (size_t i = 1; i < group->count; i++)
         group->places[i] = (Place){(Sketch *)PyTuple_GET_ITEM(others, i - 1), i};
     qsort(group->places, group->count, sizeof *group->places, by_address);
-    for (size_t i = 0; i < group->count; i++)
-        if (is_first(group, i))
-            group->sketches[group->num_sketches++] = group->places[i].sketch;
+    for (size_t i = 0; i < group->count; i++) {
+        Sketch *sketch = group->places[i].sketch;
+        if (i == 0 || sketch != group->places[i - 1].sketch)
+            group->uses[group->num_sketches++] = (Use){.sketch = sketch, .changes = sketch == self};
+    }
     return true;
 }
 
-/* Takes the sketches out of their objects, which are locked, or puts them back. */
-static void group_move(Group *group, bool out)
-{
-    for (size_t i = 0; i < group->count; i++) {
-        if (!is_first(group, i))
-            continue;
-        ds_sketch *own = &group->places[i].sketch->handle, *moved = &group->handles[group->places[i].index];
-        *(out ? moved : own) = *(out ? own : moved);
-        *(out ? own : moved) = (ds_sketch)DS_NONE;
-        group->places[i].sketch->busy = out;
-    }
-}
-
-/* Copies the sketches that have several places, combines all into the first one, and frees the copies. */
+/* Fills the handles of the other places, combines all into the first, and frees the others. */
 static int32_t group_join(Group *group, of_many join)
 {
     int32_t answer = DS_OK;
-    size_t first = 0;
+    Use *use = group->uses;
     for (size_t i = 0; i < group->count && answer >= 0; i++) {
-        if (is_first(group, i))
-            first = group->places[i].index;
-        else
-            answer = ds_clone(&group->handles[group->places[i].index], &group->handles[first]);
+        size_t index = group->places[i].index;
+        use += use->sketch != group->places[i].sketch;
+        if (index > 0)
+            answer = use->changes ? ds_clone(&group->handles[index], &group->handles[0])
+                                  : ds_share(&group->handles[index], &use->share);
     }
     if (answer >= 0)
         answer = join(&group->handles[0], &group->handles[1], group->count - 1);
-    for (size_t i = 0; i < group->count; i++)
-        if (!is_first(group, i))
-            ds_free(&group->handles[group->places[i].index]);
+    for (size_t i = 1; i < group->count; i++)
+        ds_free(&group->handles[i]);
     return answer;
+}
+
+static void move(ds_sketch *to, ds_sketch *from)
+{
+    *to = *from;
+    *from = (ds_sketch)DS_NONE;
 }
 
 PyObject *sketch_join_all(PyObject *self, PyObject *others, of_many join)
 {
     Group group = {0};
+    ds_sketch *own = &((Sketch *)self)->handle;
     int32_t answer = DS_OK;
-    bool done = group_open(&group, (Sketch *)self, others) && sketch_lock_all(group.sketches, group.num_sketches);
+    bool done = group_open(&group, (Sketch *)self, others) && uses_begin(group.uses, group.num_sketches);
     if (done) {
-        group_move(&group, true);
+        move(&group.handles[0], own);
         Py_BEGIN_ALLOW_THREADS
         answer = group_join(&group, join);
         Py_END_ALLOW_THREADS
-        group_move(&group, false);
-        sketch_unlock_all(group.sketches, group.num_sketches);
+        move(own, &group.handles[0]);
+        uses_end(group.uses, group.num_sketches);
     }
     group_release(&group);
     Py_DECREF(others);

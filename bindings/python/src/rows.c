@@ -58,12 +58,12 @@ typedef struct {
     ds_frequent_items_bounds *bounds;
 } Rows;
 
-static int32_t rows_of(Sketch *self, const Wanted *wanted, Rows *rows, size_t room, size_t *count)
+static int32_t rows_of(Use *use, const Wanted *wanted, Rows *rows, size_t room, size_t *count)
 {
-    return self->with_sign
-               ? ds_frequent_items_i64_rows(&self->handle, wanted->no_false_negatives, wanted->threshold, (int64_t *)rows->items,
+    return use->sketch->with_sign
+               ? ds_frequent_items_i64_rows(&use->share, wanted->no_false_negatives, wanted->threshold, (int64_t *)rows->items,
                                             room, rows->bounds, room, count)
-               : ds_frequent_items_u64_rows(&self->handle, wanted->no_false_negatives, wanted->threshold, rows->items, room,
+               : ds_frequent_items_u64_rows(&use->share, wanted->no_false_negatives, wanted->threshold, rows->items, room,
                                             rows->bounds, room, count);
 }
 
@@ -83,6 +83,7 @@ static PyObject *list_of(const Sketch *self, const Rows *rows, size_t count, con
 static PyObject *number_rows(Sketch *self, const Wanted *wanted)
 {
     ds_frequent_items_status numbers;
+    Use use = {.sketch = self};
     Rows rows = {NULL, NULL};
     size_t room, count = 0;
     int32_t answer;
@@ -96,11 +97,11 @@ static PyObject *number_rows(Sketch *self, const Wanted *wanted)
         rows.bounds = PyMem_New(ds_frequent_items_bounds, room);
         if (rows.items == NULL || rows.bounds == NULL) {
             answer = DS_NO_MEMORY;
-        } else if (sketch_lock(self)) {
-            BATCH_BEGIN(self)
-            answer = rows_of(self, wanted, &rows, room, &count);
-            BATCH_END(self)
-            sketch_unlock(self);
+        } else if (use_begin(&use)) {
+            Py_BEGIN_ALLOW_THREADS
+            answer = rows_of(&use, wanted, &rows, room, &count);
+            Py_END_ALLOW_THREADS
+            use_end(&use);
             room = answer == DS_NO_ROOM ? count : room;
         } else {
             answer = DS_NO_SKETCH;

@@ -1,5 +1,7 @@
-/* The module `datasketches_rattle._sketches`: errors, locks, and functions for all kinds of sketches. */
+/* The module `datasketches_rattle._sketches`: errors, uses of sketches by threads, and functions for all kinds of sketches. */
 #include "sketches.h"
+
+#include <pthread.h>
 
 PyObject *sketch_error;
 
@@ -12,12 +14,6 @@ Sketch *sketch_of(PyTypeObject *type, ds_sketch *made)
     }
     self->handle = *made;
     *made = (ds_sketch)DS_NONE;
-    self->lock = PyThread_allocate_lock();
-    if (self->lock == NULL) {
-        Py_DECREF(self);
-        PyErr_NoMemory();
-        return NULL;
-    }
     return self;
 }
 
@@ -25,23 +21,86 @@ void sketch_dealloc(PyObject *self)
 {
     Sketch *sketch = (Sketch *)self;
     ds_free(&sketch->handle);
-    if (sketch->lock != NULL)
-        PyThread_free_lock(sketch->lock);
     Py_TYPE(self)->tp_free(self);
 }
 
-static void acquire(Sketch *self)
+/* A thread that waits for a sketch, on its own stack. */
+struct Waiter {
+    Waiter *next;
+    bool changes;
+    bool is_in; /* whether it may use the sketch; guarded by `mutex` */
+    pthread_mutex_t mutex;
+    pthread_cond_t let_in;
+};
+
+static bool can_enter(const Sketch *self, bool changes)
 {
-    if (PyThread_acquire_lock(self->lock, NOWAIT_LOCK))
+    return !self->changing && (!changes || self->readers == 0);
+}
+
+static void let_in(Sketch *self, bool changes)
+{
+    if (changes)
+        self->changing = true;
+    else
+        self->readers++;
+}
+
+static void wait_for_turn(Waiter *waiter)
+{
+    pthread_mutex_lock(&waiter->mutex);
+    while (!waiter->is_in)
+        pthread_cond_wait(&waiter->let_in, &waiter->mutex);
+    pthread_mutex_unlock(&waiter->mutex);
+}
+
+/* The waiter's stack stays until this thread releases the interpreter's lock. */
+static void wake(Waiter *waiter)
+{
+    pthread_mutex_lock(&waiter->mutex);
+    waiter->is_in = true;
+    pthread_cond_signal(&waiter->let_in);
+    pthread_mutex_unlock(&waiter->mutex);
+}
+
+/* Waits until a long call may use the sketch: one that changes it alone, and those that read it together.
+ *
+ * Threads wait in a queue, and nobody overtakes: a call enters at once only if the queue is empty. A call that leaves lets in the
+ * first waiting call that changes, or all waiting calls that read up to the next that changes. So a waiting thread waits for the
+ * calls that came before it and for no others, and each of those ends: no thread starves.
+ *
+ * All this is done with the interpreter's lock, and a thread waits without it. So what the calls that are inside need to end, that
+ * lock and those of other sketches, is never held by a thread that waits here. Calls of several sketches enter them in the order of
+ * addresses: a call that is inside one waits only for sketches of higher addresses. So no threads wait for each other. */
+static void enter(Sketch *self, bool changes)
+{
+    if (self->first == NULL && can_enter(self, changes)) {
+        let_in(self, changes);
         return;
+    }
+    Waiter waiter = {.changes = changes, .mutex = PTHREAD_MUTEX_INITIALIZER, .let_in = PTHREAD_COND_INITIALIZER};
+    if (self->first == NULL)
+        self->first = &waiter;
+    else
+        self->last->next = &waiter;
+    self->last = &waiter;
     Py_BEGIN_ALLOW_THREADS
-    PyThread_acquire_lock(self->lock, WAIT_LOCK);
+    wait_for_turn(&waiter);
     Py_END_ALLOW_THREADS
 }
 
-void sketch_unlock(Sketch *self)
+static void leave(Sketch *self, bool changes)
 {
-    PyThread_release_lock(self->lock);
+    if (changes)
+        self->changing = false;
+    else
+        self->readers--;
+    while (self->first != NULL && can_enter(self, self->first->changes)) {
+        Waiter *waiter = self->first;
+        self->first = waiter->next;
+        let_in(self, waiter->changes);
+        wake(waiter);
+    }
 }
 
 static bool set_closed(void)
@@ -50,66 +109,99 @@ static bool set_closed(void)
     return false;
 }
 
+/* A thread that `leave` lets in uses the sketch when it has the interpreter's lock again, which this thread keeps. */
 bool sketch_ready(Sketch *self)
 {
-    if (self->busy) {
-        acquire(self);
-        sketch_unlock(self);
+    if (self->changing) {
+        enter(self, false);
+        leave(self, false);
     }
     return self->handle.sketch != NULL || set_closed();
 }
 
-/* Takes the lock if the sketch is open. Sets no error: creating one with a lock held could run Python code. */
-static bool lock_if_open(Sketch *self)
+/* Lets the library change the sketch again. No call that reads it is inside, so no other handle shares it. */
+static void thaw(Sketch *self)
 {
-    acquire(self);
-    if (self->handle.sketch != NULL)
-        return true;
-    sketch_unlock(self);
-    return false;
+    ds_thaw(&self->handle);
+    self->frozen = false;
 }
 
-bool sketch_lock(Sketch *self)
+static bool wait_to_change(Sketch *self)
 {
-    return lock_if_open(self) || set_closed();
-}
-
-/* Takes the locks in the order of addresses, so that two threads never wait for each other. */
-bool sketch_lock_both(Sketch *self, Sketch *other)
-{
-    Sketch *first = (uintptr_t)self < (uintptr_t)other ? self : other;
-    Sketch *second = first == self ? other : self;
-    if (!lock_if_open(first))
-        return set_closed();
-    if (first == second || lock_if_open(second))
-        return true;
-    sketch_unlock(first);
-    return set_closed();
-}
-
-void sketch_unlock_both(Sketch *self, Sketch *other)
-{
-    sketch_unlock(self);
-    if (self != other)
-        sketch_unlock(other);
-}
-
-/* All threads take locks in the order of addresses, so none waits forever. */
-bool sketch_lock_all(Sketch *const *sketches, size_t count)
-{
-    for (size_t i = 0; i < count; i++) {
-        if (!lock_if_open(sketches[i])) {
-            sketch_unlock_all(sketches, i);
-            return set_closed();
-        }
+    if (self->changing || self->readers > 0) {
+        enter(self, true);
+        leave(self, true);
     }
+    if (self->handle.sketch == NULL)
+        return set_closed();
+    if (self->frozen)
+        thaw(self);
     return true;
 }
 
-void sketch_unlock_all(Sketch *const *sketches, size_t count)
+bool sketch_ready_to_change(Sketch *self)
+{
+    return (!self->changing && !self->frozen && self->handle.sketch != NULL) || wait_to_change(self);
+}
+
+/* Puts a share of the sketch into the call's own handle. */
+static int32_t take_share(Use *use)
+{
+    Sketch *self = use->sketch;
+    int32_t answer = self->frozen ? DS_OK : ds_freeze(&self->handle);
+    self->frozen |= answer >= 0;
+    return answer >= 0 ? ds_share(&use->share, &self->handle) : answer;
+}
+
+/* Does the work of `use_begin`, and returns an error as a number: creating one during a long call could run Python code. */
+static int32_t begin(Use *use)
+{
+    Sketch *self = use->sketch;
+    int32_t answer = DS_OK;
+    enter(self, use->changes);
+    if (self->handle.sketch == NULL)
+        answer = DS_NO_SKETCH;
+    else if (!use->changes)
+        answer = take_share(use);
+    else if (self->frozen)
+        thaw(self);
+    if (answer < 0)
+        leave(self, use->changes);
+    return answer;
+}
+
+static bool began(int32_t answer)
+{
+    return answer == DS_NO_SKETCH ? set_closed() : answer >= 0 || refuse(answer) != NULL;
+}
+
+bool use_begin(Use *use)
+{
+    return began(begin(use));
+}
+
+/* The object's handle keeps the sketch, so this frees a share and no sketch. */
+void use_end(Use *use)
+{
+    ds_free(&use->share);
+    leave(use->sketch, use->changes);
+}
+
+bool uses_begin(Use *uses, size_t count)
+{
+    int32_t answer = DS_OK;
+    size_t i = 0;
+    for (; i < count && answer >= 0; i++)
+        answer = begin(&uses[i]);
+    if (answer < 0)
+        uses_end(uses, i - 1);
+    return began(answer);
+}
+
+void uses_end(Use *uses, size_t count)
 {
     for (size_t i = 0; i < count; i++)
-        sketch_unlock(sketches[i]);
+        use_end(&uses[i]);
 }
 
 static PyObject *refuse_as(int32_t answer, const char *kind)
@@ -167,67 +259,100 @@ static PyObject *none_or_refuse(int32_t answer)
 
 PyObject *sketch_change(Sketch *self, int32_t (*change)(ds_sketch *))
 {
+    Use use = {.sketch = self, .changes = true};
     int32_t answer;
-    if (!sketch_lock(self))
+    if (!use_begin(&use))
         return NULL;
-    BATCH_BEGIN(self)
+    Py_BEGIN_ALLOW_THREADS
     answer = change(&self->handle);
-    BATCH_END(self)
-    sketch_unlock(self);
+    Py_END_ALLOW_THREADS
+    use_end(&use);
     return none_or_refuse(answer);
 }
 
-/* Combines a sketch with a copy of itself: no call of the library takes the same handle twice. */
-static int32_t join_itself(ds_sketch *handle, of_two join)
+/* The uses of two sketches, which may be one, in the order of addresses. */
+typedef struct {
+    Use uses[2];
+    size_t count;
+    Use *first, *second;
+} Pair;
+
+/* Begins to use two sketches. Only the first may be changed. */
+static bool pair_begin(Pair *pair, Sketch *self, Sketch *other, bool changes)
 {
-    ds_sketch twin = DS_NONE;
-    int32_t answer = ds_clone(&twin, handle);
+    size_t at = (uintptr_t)self > (uintptr_t)other;
+    *pair = (Pair){.count = self == other ? 1 : 2};
+    pair->first = &pair->uses[at];
+    pair->second = self == other ? pair->first : &pair->uses[1 - at];
+    pair->second->sketch = other;
+    *pair->first = (Use){.sketch = self, .changes = changes};
+    return uses_begin(pair->uses, pair->count);
+}
+
+static void pair_end(Pair *pair)
+{
+    uses_end(pair->uses, pair->count);
+}
+
+/* Combines the second sketch of the pair into the handle's. If the handle is the sketch's own, it combines a copy: no call of the
+ * library takes the same handle twice. */
+static int32_t pair_join(ds_sketch *handle, Pair *pair, of_two join)
+{
+    ds_sketch twin = DS_NONE, *other = use_handle(pair->second);
+    int32_t answer = DS_OK;
+    if (handle == other) {
+        answer = ds_clone(&twin, handle);
+        other = &twin;
+    }
     if (answer >= 0)
-        answer = join(handle, &twin);
+        answer = join(handle, other);
     ds_free(&twin);
     return answer;
 }
 
 PyObject *sketch_join(Sketch *self, Sketch *other, of_two join)
 {
+    Pair pair;
     int32_t answer;
-    if (!sketch_lock_both(self, other))
+    if (!pair_begin(&pair, self, other, true))
         return NULL;
-    BOTH_BEGIN(self, other)
-    answer = self == other ? join_itself(&self->handle, join) : join(&self->handle, &other->handle);
-    BOTH_END(self, other)
-    sketch_unlock_both(self, other);
+    Py_BEGIN_ALLOW_THREADS
+    answer = pair_join(&self->handle, &pair, join);
+    Py_END_ALLOW_THREADS
+    pair_end(&pair);
     return answer < 0 ? refuse(answer) : Py_NewRef((PyObject *)self);
 }
 
 PyObject *sketch_joined(Sketch *self, Sketch *other, of_two join)
 {
     ds_sketch made = DS_NONE;
+    Pair pair;
     int32_t answer;
-    if (!sketch_lock_both(self, other))
+    if (!pair_begin(&pair, self, other, false))
         return NULL;
-    BOTH_BEGIN(self, other)
-    answer = ds_clone(&made, &self->handle);
+    Py_BEGIN_ALLOW_THREADS
+    answer = ds_clone(&made, use_handle(pair.first));
     if (answer >= 0)
-        answer = join(&made, &other->handle);
+        answer = pair_join(&made, &pair, join);
     if (answer < 0)
         ds_free(&made);
-    BOTH_END(self, other)
-    sketch_unlock_both(self, other);
+    Py_END_ALLOW_THREADS
+    pair_end(&pair);
     return answer < 0 ? refuse(answer) : sketch_like(self, &made);
 }
 
 PyObject *sketch_equal(Sketch *self, Sketch *other, of_two equal, int operation)
 {
+    Pair pair;
     int32_t answer = DS_YES;
-    if (!sketch_lock_both(self, other))
+    if (!pair_begin(&pair, self, other, false))
         return NULL;
     if (self != other) {
-        BOTH_BEGIN(self, other)
-        answer = equal(&self->handle, &other->handle);
-        BOTH_END(self, other)
+        Py_BEGIN_ALLOW_THREADS
+        answer = equal(use_handle(pair.first), use_handle(pair.second));
+        Py_END_ALLOW_THREADS
     }
-    sketch_unlock_both(self, other);
+    pair_end(&pair);
     return answer < 0 ? refuse(answer) : PyBool_FromLong((answer == DS_YES) == (operation == Py_EQ));
 }
 
@@ -238,13 +363,15 @@ const char sketch_sizeof_doc[] = PyDoc_STR(
 PyObject *sketch_sizeof(PyObject *object, PyObject *Py_UNUSED(unused))
 {
     Sketch *self = (Sketch *)object;
+    Use use = {.sketch = self};
     size_t bytes = 0;
-    int32_t answer;
-    acquire(self);
-    BATCH_BEGIN(self)
-    answer = ds_memory_bytes(&self->handle, &bytes);
-    BATCH_END(self)
-    sketch_unlock(self);
+    int32_t answer = begin(&use);
+    if (answer >= 0) {
+        Py_BEGIN_ALLOW_THREADS
+        answer = ds_memory_bytes(&use.share, &bytes);
+        Py_END_ALLOW_THREADS
+        use_end(&use);
+    }
     if (answer < 0 && answer != DS_NO_SKETCH)
         return refuse(answer);
     PyObject *own = PyObject_CallMethod((PyObject *)&PyBaseObject_Type, "__sizeof__", "O", object);
@@ -262,20 +389,18 @@ const char sketch_close_doc[] = PyDoc_STR(
 PyObject *sketch_close(PyObject *self, PyObject *Py_UNUSED(unused))
 {
     Sketch *sketch = (Sketch *)self;
-    acquire(sketch);
-    BATCH_BEGIN(sketch)
+    enter(sketch, true);
+    Py_BEGIN_ALLOW_THREADS
     ds_free(&sketch->handle);
-    BATCH_END(sketch)
-    sketch_unlock(sketch);
+    Py_END_ALLOW_THREADS
+    sketch->frozen = false;
+    leave(sketch, true);
     Py_RETURN_NONE;
 }
 
 PyObject *sketch_enter(PyObject *self, PyObject *Py_UNUSED(unused))
 {
-    if (!sketch_lock((Sketch *)self))
-        return NULL;
-    sketch_unlock((Sketch *)self);
-    return Py_NewRef(self);
+    return sketch_ready((Sketch *)self) ? Py_NewRef(self) : NULL;
 }
 
 PyObject *sketch_exit(PyObject *self, PyObject *Py_UNUSED(arguments))

@@ -4,22 +4,28 @@
 
 #define PY_SSIZE_T_CLEAN
 #include <Python.h>
-#include <pythread.h>
 
 #include "datasketches.h"
 
 #define DEFAULT_SEED 9001
 #define DEFAULT_LIMIT ((size_t)1 << 30)
 
-/* A sketch of any kind. At most one call of the library at a time uses it. A call of one item keeps the interpreter's lock, and
- * waits while `busy` is true. A longer call (of many items, or of one or two whole sketches) takes the sketch's lock, sets `busy`
- * and lets other Python threads run. Only a thread with both locks changes `busy`. No Python code runs in a thread that has a
- * sketch's lock. A new sketch is created in its own handle. Its object is created last, so no other thread sees it before. */
+typedef struct Waiter Waiter;
+
+/* A sketch of any kind. A call of one or a few items keeps the interpreter's lock and uses the object's handle. A long call (of many
+ * items, or of whole sketches) lets other Python threads run. While it changes the sketch, no other call uses the sketch. While it reads,
+ * it has a handle of its own that shares the sketch, so many such calls run at once. `enter` in `sketches.c` has the order.
+ *
+ * Only a thread with the interpreter's lock reads or changes the fields after `handle`, and only such a thread or a long call that
+ * changes the sketch uses `handle`. No Python code runs during a long call. A new sketch is created in its own handle. Its object
+ * is created last, so no other thread sees it before. */
 typedef struct {
     PyObject_HEAD
     ds_sketch handle;
-    PyThread_type_lock lock;
-    bool busy;
+    bool changing; /* whether a long call changes the sketch */
+    bool frozen; /* whether the library does not change the sketch, since handles may share it */
+    size_t readers; /* the number of long calls that read the sketch */
+    Waiter *first, *last; /* the threads that wait for the sketch, in the order of their calls */
     uint64_t seed;
     uint32_t buckets;
     uint8_t hashes;
@@ -35,37 +41,33 @@ extern PyObject *sketch_error;
 Sketch *sketch_of(PyTypeObject *type, ds_sketch *made);
 void sketch_dealloc(PyObject *self);
 
-/* Waits until no long call runs, for a call that keeps the interpreter's lock. Returns false, with an error set, if the sketch is
- * closed. The result holds until the interpreter's lock is released. */
+/* Waits until the sketch can be read by its handle, in a call that keeps the interpreter's lock. Returns false, with an error set,
+ * if the sketch is closed. The result holds until the interpreter's lock is released. */
 bool sketch_ready(Sketch *self);
 
-/* Takes the lock. Returns false, with an error set and no lock held, if the sketch is closed. */
-bool sketch_lock(Sketch *self);
-void sketch_unlock(Sketch *self);
+/* Does the same until the sketch can be changed. */
+bool sketch_ready_to_change(Sketch *self);
 
-/* Does the same for two sketches, which may be one. */
-bool sketch_lock_both(Sketch *self, Sketch *other);
-void sketch_unlock_both(Sketch *self, Sketch *other);
+/* A long call's use of a sketch. */
+typedef struct {
+    Sketch *sketch;
+    bool changes;
+    ds_sketch share; /* if it reads: the call's own handle of the sketch */
+} Use;
 
-/* Does the same for many different sketches, which are in the order of their addresses. */
-bool sketch_lock_all(Sketch *const *sketches, size_t count);
-void sketch_unlock_all(Sketch *const *sketches, size_t count);
+/* Waits for the sketch. Returns false, with an error set, if the sketch is closed, or if it is read and memory runs out. */
+bool use_begin(Use *use);
+void use_end(Use *use);
 
-/* Begin and end a long call, with the lock held. */
-#define BATCH_BEGIN(self) \
-    (self)->busy = true; \
-    Py_BEGIN_ALLOW_THREADS
-#define BATCH_END(self) \
-    Py_END_ALLOW_THREADS \
-    (self)->busy = false;
+/* Do the same for different sketches, which are in the order of their addresses. */
+bool uses_begin(Use *uses, size_t count);
+void uses_end(Use *uses, size_t count);
 
-/* The same with the locks of two sketches held. */
-#define BOTH_BEGIN(self, other) \
-    (other)->busy = true; \
-    BATCH_BEGIN(self)
-#define BOTH_END(self, other) \
-    BATCH_END(self) \
-    (other)->busy = false;
+/* Returns the handle that the call uses. */
+static inline ds_sketch *use_handle(Use *use)
+{
+    return use->changes ? &use->sketch->handle : &use->share;
+}
 
 /* Sets the Python error of a rejected call, and returns NULL. */
 PyObject *refuse(int32_t answer);
@@ -134,9 +136,10 @@ bool image_take(Image *image, size_t limit);
 int32_t image_answer(const Image *image, int32_t answer);
 void image_release(Image *image);
 
-/* Returns the image that a call writes, as bytes. `guess` is the assumed number of bytes. */
+/* Returns the image that a call writes, as bytes. `measure` writes its number of bytes, or what is assumed as that. */
 typedef int32_t (*image_writer)(ds_sketch *, uint8_t *, size_t, size_t *);
-PyObject *sketch_image(Sketch *self, image_writer write, size_t guess);
+typedef int32_t (*image_measure)(ds_sketch *, size_t *);
+PyObject *sketch_image(Sketch *self, image_measure measure, image_writer write);
 
 /* --- copies.c --- */
 
@@ -423,10 +426,12 @@ int32_t weights_fit(const Items *items, const Weights *weights, uint64_t room);
 /* A running call for many items. */
 typedef struct {
     Sketch *self; /* NULL if the call uses no sketch */
+    Use use;
+    ds_sketch *handle; /* that of the work on the items that were read */
     const void *context; /* that of the question */
     const Items *items;
     PyThreadState *thread; /* while the interpreter's lock is released */
-    bool locked; /* whether it has the sketch's lock */
+    bool in_use; /* whether `use` has begun */
     uint64_t due; /* the time of the next check for Ctrl-C, in nanoseconds, or 0 */
     uint64_t began, took; /* start and duration of an iterator's chunk, in nanoseconds */
     uint64_t turn; /* the time from which its chunks keep the interpreter's lock, or 0 */
@@ -463,6 +468,7 @@ typedef struct {
     const char *kind;
     int width;
     const void *context; /* what the functions below read besides the sketch */
+    bool changes; /* whether the query also changes the sketch */
     PyObject *(*object)(const Sketch *self, const void *answers, size_t index);
     items_check check;
     size_t (*longest)(const Sketch *self);
@@ -477,8 +483,10 @@ PyObject *ask_all(Sketch *self, PyObject *given, const Question *question);
 
 extern const char filter_insert_doc[];
 extern const char filter_contains_doc[];
+extern const char filter_contains_and_insert_doc[];
 PyObject *filter_insert(PyObject *object, PyObject *given);
 PyObject *filter_contains(PyObject *object, PyObject *given);
+PyObject *filter_contains_and_insert(PyObject *object, PyObject *given);
 int filter_has(PyObject *object, PyObject *given);
 
 /* --- count_items.c --- */

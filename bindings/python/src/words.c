@@ -171,15 +171,16 @@ static void refuse_piece(Sketch *self, Text *text, const Method *method, int32_t
 /* Takes all words or lines. Returns false, with an error set, if a piece is rejected or Ctrl-C ends the call. */
 static bool take_text(Sketch *self, Text *text, const Method *method)
 {
+    Use use = {.sketch = self, .changes = true};
     for (size_t from = 0, end; from < text->length; from = end) {
         int32_t answer;
         end = piece_end(text, method->of_lines, from);
-        if (!sketch_lock(self))
+        if (!use_begin(&use))
             return false;
-        BATCH_BEGIN(self)
+        Py_BEGIN_ALLOW_THREADS
         answer = take_piece(self, text, method->of_lines, from, end);
-        BATCH_END(self)
-        sketch_unlock(self);
+        Py_END_ALLOW_THREADS
+        use_end(&use);
         if (answer < 0 || (end < text->length && PyErr_CheckSignals() < 0)) {
             refuse_piece(self, text, method, answer, from, end);
             return false;

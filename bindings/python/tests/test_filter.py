@@ -103,6 +103,38 @@ class Items(unittest.TestCase):
         self.assertTrue(all(answers[3000:6000]))
         self.assertLess(sum(answers), 3100)
 
+    def test_contains_and_insert(self):
+        for items in ([1, 2, 1, 3, 2], ["a", "b", "a"], [1, "a", "a", 1, -1, 2**64 - 1], [], list(range(3000)) * 2,
+                      [str(number % 700) for number in range(5000)]):
+            one, many, by_iterator, plain = made(bits=1 << 10), made(bits=1 << 10), made(bits=1 << 10), made(bits=1 << 10)
+            expected = []
+            for item in items:
+                expected.append(item in plain)
+                plain.insert(item)
+            self.assertEqual([one.contains_and_insert(item) for item in items], expected)
+            self.assertEqual(many.contains_and_insert(items), expected)
+            self.assertEqual(by_iterator.contains_and_insert(iter(items)), expected)
+            self.assertEqual((one, many, by_iterator), (plain,) * 3)
+        seen = made()
+        self.assertEqual(seen.contains_and_insert(array.array("i", [7, -7, 7])), [False, False, True])
+        self.assertIs(seen.contains_and_insert(-7), True)
+        self.assertIs(seen.contains_and_insert(8), False)
+
+    def test_errors_of_contains_and_insert(self):
+        seen = made()
+        for bad, error in ((1.5, TypeError), ([1, 2.5], TypeError), ({1: 2}, TypeError), (2**64, OverflowError),
+                           ("\ud800", UnicodeEncodeError), ([1, None], TypeError)):
+            with self.assertRaises(error):
+                seen.contains_and_insert(bad)
+        self.assertEqual(seen, made())
+        with self.assertRaises(TypeError) as raised:
+            seen.contains_and_insert(iter([*range(5000), None]))
+        self.assertEqual(raised.exception.__notes__, ["items taken before this error: 4096"])
+        self.assertEqual(seen, made(range(4096)))
+        with self.assertRaises(TypeError) as raised:
+            seen.contains(iter([*range(5000), None]))
+        self.assertFalse(hasattr(raised.exception, "__notes__"))
+
     def test_numpy_is_answered_by_an_array(self):
         class Array(array.array):
             """A stand-in for a numpy array."""
@@ -126,6 +158,10 @@ class Items(unittest.TestCase):
         self.assertEqual(answers.dtype, numpy.bool_)
         self.assertTrue(answers[:50].all())
         self.assertIn(numpy.int64(7), seen)
+        told = seen.contains_and_insert(numpy.array([7, 100, 100]))
+        self.assertEqual((told.dtype, told.tolist()), (numpy.bool_, [True, False, True]))
+        with self.assertRaisesRegex(TypeError, "contains_and_insert takes no masked array"):
+            seen.contains_and_insert(numpy.ma.array([1, 2], mask=[True, False]))
 
 
 class Refusals(unittest.TestCase):

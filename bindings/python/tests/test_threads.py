@@ -1,6 +1,11 @@
 """Many threads on one sketch, and on two in both orders."""
 import array
+import copy
+import os
+import resource
+import sys
 import threading
+import time
 import unittest
 
 import datasketches_rattle as ds
@@ -126,6 +131,215 @@ class Threads(unittest.TestCase):
             steps += 1
         worker.join()
         self.assertGreater(steps, 0)
+
+
+def resident():
+    """Returns the bytes of memory that the process has."""
+    with open("/proc/self/statm", encoding="ascii") as file:
+        return int(file.read().split()[1]) * resource.getpagesize()
+
+
+class Readers(unittest.TestCase):
+    def while_reading(self, seen, call):
+        """Returns how often a call was done while a thread read the filter in one call."""
+        numbers = array.array("q", range(1_000_000))
+        began, ended = threading.Event(), threading.Event()
+        worker = threading.Thread(target=lambda: (began.set(), seen.contains(numbers), ended.set()))
+        worker.start()
+        began.wait()
+        steps = 0
+        while not ended.is_set():
+            call()
+            steps += 1
+        worker.join()
+        return steps
+
+    def test_two_read_at_once(self):
+        seen, same, few = ds.BloomFilter(1 << 26, 20), ds.BloomFilter(1 << 26, 20), array.array("q", range(100))
+        seen.insert(range(1_000_000))
+        for call in (lambda: seen.contains(few), lambda: seen.contains(few[:10]), lambda: 5 in seen, lambda: seen.bits_used,
+                     lambda: sys.getsizeof(seen)):
+            self.assertGreater(self.while_reading(seen, call), 10)
+        self.assertGreater(self.while_reading(seen, lambda: same.union_all([seen])), 1)
+
+    def test_a_reader_sees_all_of_a_change_or_nothing(self):
+        seen, load, heavy = ds.BloomFilter(1 << 22, 20), ds.CountMinSketch(4, 1 << 10), ds.FrequentItemsSketch(1 << 15)
+        parts = [array.array("q", range(n * 2000, (n + 1) * 2000)) for n in range(30)]
+        ended = threading.Event()
+
+        def write():
+            try:
+                for part in parts:
+                    seen.insert(part)
+                    load.update(part)
+                    heavy.update(part[:500])
+                    self.assertTrue(all(seen.contains(part)))
+            finally:
+                ended.set()
+
+        def read():
+            found = 0
+            while not ended.is_set():
+                counts = [sum(seen.contains(part)) for part in parts[found:]]
+                self.assertLessEqual(set(counts), {0, 2000})
+                self.assertEqual(counts, sorted(counts, reverse=True))
+                found += sum(count > 0 for count in counts)
+                whole = copy.copy(seen)
+                self.assertTrue(all(all(whole.contains(part)) for part in parts[:found]))
+                self.assertIn(ds.CountMinSketch.deserialize(bytes(load)).total_weight, range(0, 60001, 2000))
+                self.assertEqual(len(heavy.rows()) % 500, 0)
+
+        self.assertEqual(run(write, read, read, read), [])
+        self.assertEqual(sum(sum(seen.contains(part)) for part in parts), 60000)
+        self.assertEqual((load.total_weight, heavy.total_weight), (60000, 15000))
+
+    def test_a_writer_has_its_turn(self):
+        seen, numbers = ds.BloomFilter(1 << 20, 10), array.array("q", range(100_000))
+        ended = threading.Event()
+
+        def read():
+            while not ended.is_set():
+                seen.contains(numbers)
+
+        def write():
+            try:
+                for number in range(20):
+                    seen.insert(number)
+                    seen.insert(numbers[:5])
+                    seen.insert(numbers[:100])
+                    seen.contains_and_insert(numbers[:100])
+            finally:
+                ended.set()
+
+        self.assertEqual(run(write, read, read, read), [])
+        self.assertEqual(sum(seen.contains(range(100))), 100)
+
+    def test_a_reader_has_its_turn(self):
+        seen, numbers = ds.BloomFilter(1 << 20, 10), array.array("q", range(100_000))
+        ended = threading.Event()
+
+        def write():
+            while not ended.is_set():
+                seen.insert(numbers)
+
+        def read():
+            try:
+                for _ in range(10):
+                    seen.contains(numbers[:100])
+                    self.assertEqual(len(seen.contains(numbers[:5])), 5)
+                    self.assertIn(seen.contains(5), (False, True))
+            finally:
+                ended.set()
+
+        self.assertEqual(run(write, write, read), [])
+
+    def order_of_ends(self):
+        """Returns the order in which a long change ends, and a long and a short read that begin soon after it."""
+        seen, numbers, ended, workers = ds.BloomFilter(1 << 26, 32767), array.array("q", range(2000)), [], []
+        for name, call in [("write", lambda: seen.insert(numbers)), ("long", lambda: seen.contains(numbers)),
+                           ("short", lambda: seen.contains(numbers[:20]))]:
+            began = threading.Event()
+            workers.append(threading.Thread(target=lambda name=name, call=call, began=began: (began.set(), call(), ended.append(name))))
+            workers[-1].start()
+            began.wait()
+            time.sleep(0.02)
+        for worker in workers:
+            worker.join()
+        return ended
+
+    def test_readers_behind_a_writer_read_at_once(self):
+        # A busy machine may begin a read too late.
+        self.assertTrue(any(self.order_of_ends() == ["write", "short", "long"] for _ in range(5)))
+
+    def test_changes_between_reads(self):
+        for whole, change, look in [
+            (ds.BloomFilter(1 << 10, 3), lambda whole: whole.insert(7), lambda whole: whole.contains([7] * 99)),
+            (ds.CountMinSketch(3, 64), lambda whole: whole.update(7), lambda whole: whole.estimate([7] * 99)),
+            (ds.CountMinSketch(3, 64, signed=True), lambda whole: whole.update(7, -1), lambda whole: whole.estimate([7] * 99)),
+            (ds.FrequentItemsSketch(8), lambda whole: whole.update(7), lambda whole: whole.rows()),
+            (ds.FrequentItemsSketch(8, item="u64"), lambda whole: whole.update(7), lambda whole: whole.rows()),
+            (ds.FrequentItemsSketch(8, item=str), lambda whole: whole.update("7"), lambda whole: whole.rows()),
+            (ds.FrequentItemsSketch(8), lambda whole: whole.update([7, 8]), lambda whole: whole.bounds([7] * 99)),
+            (ds.FrequentItemsSketch(8, item=str), lambda whole: whole.update(["7", "8"]), lambda whole: whole.bounds(["7"] * 99)),
+        ]:
+            with self.subTest(repr(whole)):
+                plain = type(whole)._unpickle(*whole.__reduce__()[1])
+                for _ in range(3):
+                    change(plain)
+                answers = []
+                for _ in range(3):
+                    change(whole)
+                    answers.append(look(whole))
+                    answers.append(look(copy.copy(whole)))
+                    bytes(whole)
+                    sys.getsizeof(whole)
+                self.assertEqual(answers[-2:], [look(plain)] * 2)
+                self.assertEqual(answers[:2], answers[:1] * 2)
+                if not isinstance(whole, ds.BloomFilter):
+                    self.assertNotEqual(answers[0], answers[-1])
+
+    def test_errors_end_the_use(self):
+        seen, load, heavy = ds.BloomFilter(1 << 10, 3), ds.CountMinSketch(3, 64), ds.FrequentItemsSketch(8, item=str)
+
+        def raising():
+            yield from range(10000)
+            raise KeyError("of the iterator")
+
+        for call, error in [
+            (lambda: seen.contains([1, 2.5]), TypeError), (lambda: seen.contains(raising()), KeyError),
+            (lambda: seen.contains_and_insert(raising()), KeyError), (lambda: load.estimate(raising()), KeyError),
+            (lambda: heavy.bounds(["a", 1]), TypeError), (lambda: heavy.bounds(raising()), TypeError),
+            (lambda: seen.union_all([ds.BloomFilter(1 << 10, 3), ds.BloomFilter(1 << 11, 3)]), ds.SketchError),
+            (lambda: seen.__ior__(ds.BloomFilter(1 << 11, 3)), ds.SketchError),
+            (lambda: seen | ds.BloomFilter(1 << 11, 3), ds.SketchError),
+            (lambda: load.update([1, 2], [1 << 63, 1 << 63]), ds.SketchError),
+            (lambda: load.decay(3, 2), ds.SketchError),
+        ]:
+            with self.assertRaises(error):
+                call()
+
+        def use():
+            seen.insert(1)
+            seen.insert([1])
+            load.update(1)
+            load.update([1])
+            heavy.update("a")
+            heavy.update(["a"])
+            seen.reset()
+            load.halve()
+            heavy.reset()
+
+        self.assertEqual(run(use), [])
+
+    @unittest.skipIf("asan" in os.environ.get("LD_PRELOAD", ""), "freed memory stays in this run")
+    def test_nothing_is_left(self):
+        seen, other, few = ds.BloomFilter(1 << 10, 3), ds.BloomFilter(1 << 10, 3), array.array("q", [7] * 100)
+
+        def use(times):
+            for _ in range(times):
+                seen.contains(few)
+                seen.insert(7)
+                other.union_all([seen, seen, other])
+                self.assertEqual(other == seen, True)
+
+        use(1000)
+        before = resident()
+        use(100_000)
+        for _ in range(50):
+            large = ds.BloomFilter(1 << 25, 3)
+            large.insert(range(10_000))
+            large.contains(few)
+            copy.copy(large).contains(few)
+            large.close()
+        self.assertLess(resident() - before, 6 << 20)
+
+    def test_closed_under_readers(self):
+        for _ in range(20):
+            seen, numbers = ds.BloomFilter(1 << 20, 5), array.array("q", range(100_000))
+            calls = [lambda: seen.contains(numbers), lambda: bytes(seen), lambda: copy.copy(seen), lambda: seen == seen]
+            errors = run(*calls, seen.close, *calls)
+            self.assertTrue(all(isinstance(error, ValueError) for error in errors), errors)
+            self.assertLess(sys.getsizeof(seen), 1000)
 
 
 if __name__ == "__main__":

@@ -4,7 +4,7 @@ use Rattle.std.specs.Arc.{arc_value}
 use Rattle.sketch_base.specs.declared.fault.Fault.TheVariants.{NoMemory}
 use Rattle.datasketches_c.specs.Numbers.{no_sketch, refusal_number, wrong_kind}
 use Rattle.datasketches_c.specs.declared.any_sketch.AnySketch.{AnySketch}
-use Rattle.datasketches_c.specs.declared.any_sketch.AnySketch.TheVariants.{Filter, CountI64, CountU64, FrequentI64, FrequentU64, FrequentStrings, SharedFilter, SharedCountI64, SharedCountU64, SharedFrequentI64, SharedFrequentU64, SharedFrequentStrings}
+use Rattle.datasketches_c.specs.declared.any_sketch.AnySketch.TheVariants.{Filter, CountI64, CountU64, FrequentI64, FrequentU64, FrequentStrings, SharedFilter, SharedCountI64, SharedCountU64, SharedFrequentI64, SharedFrequentU64, SharedFrequentStrings, Moved}
 
 -- the sketch as one that is not shared
 abbrev pub unshared : AnySketch → AnySketch
@@ -39,7 +39,12 @@ abbrev pub IsOwnOf : Option AnySketch → Option AnySketch → Type 0
 IsOwnOf (Some held) (Some own) = (unshared own ≡ unshared held) × (is_shared own ≡ false)
 IsOwnOf held own = ⊥
 
--- why a call that shares a sketch is refused: there is none, it cannot be shared, or memory ran out
+-- why a sketch is not frozen: there is none, a call is moving it, or memory ran out
+abbrev pub IsFreezeRefusal : Option AnySketch → ℤ → Type 0
+IsFreezeRefusal None result = result ≡ no_sketch
+IsFreezeRefusal (Some held) result = ((result ≡ wrong_kind) × (held ≡ Moved)) ⊎ (result ≡ refusal_number NoMemory)
+
+-- why a sketch is not shared: there is none, it is not frozen, or memory ran out
 abbrev pub IsShareRefusal : Option AnySketch → ℤ → Type 0
 IsShareRefusal None result = result ≡ no_sketch
-IsShareRefusal (Some held) result = (result ≡ wrong_kind) ⊎ (result ≡ refusal_number NoMemory)
+IsShareRefusal (Some held) result = ((result ≡ wrong_kind) × (is_shared held ≡ false)) ⊎ (result ≡ refusal_number NoMemory)

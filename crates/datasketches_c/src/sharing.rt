@@ -2,7 +2,8 @@
 ghost use Rattle.std.specs.Prelude.{◌≡◌, ◌⊎◌, true, false, IfOk, IfErr, not};
 ghost use Rattle.std.specs.Arc.{arc_value};
 ghost use Rattle.datasketches_c.specs.Numbers.{OnDone, OnRefused, ok, no, yes, no_sketch, wrong_kind, refusal_number};
-ghost use Rattle.datasketches_c.specs.Sharing.{is_shared, unshared, IsShareOf, IsOwnOf, IsShareRefusal};
+ghost use Rattle.datasketches_c.specs.Sharing.{is_shared, unshared, IsFreezeRefusal, IsShareOf, IsOwnOf, IsShareRefusal};
+ghost use Rattle.datasketches_c.specs.declared.any_sketch.AnySketch.TheVariants.{Moved};
 
 use crate::any_sketch::AnySketch;
 use crate::handle::SketchHandle;
@@ -11,21 +12,6 @@ use crate::status_code::{NO, NO_SKETCH, OK, WRONG_KIND, YES, refusal_number};
 use sketch_base::Fault;
 use std::alloc::Global;
 use std::sync::Arc;
-
-/// Returns whether the sketch is shared.
-fn is_shared(sketch: &AnySketch) -> bool
-    ensures { result ≡ is_shared sketch.now }
-{
-    match sketch {
-        AnySketch::SharedFrequentStrings(_) => true,
-        AnySketch::SharedFrequentI64(_) => true,
-        AnySketch::SharedFrequentU64(_) => true,
-        AnySketch::SharedCountI64(_) => true,
-        AnySketch::SharedCountU64(_) => true,
-        AnySketch::SharedFilter(_) => true,
-        _ => false,
-    }
-}
 
 /// Moves a sketch to where handles can share it. Returns it as it was, with `NoMemory`, if an allocation fails.
 fn freeze<K: Kind>(alloc: Global, sketch: K) -> (AnySketch, i32)
@@ -38,13 +24,13 @@ fn freeze<K: Kind>(alloc: Global, sketch: K) -> (AnySketch, i32)
     }
 }
 
-/// Moves a sketch of any kind to where handles can share it. Returns it as it was, with `WRONG_KIND` if it is shared, and with
-/// `NoMemory` if an allocation fails.
+/// Moves a sketch of any kind to where handles can share it, unless it is there. Returns it as it was, with `NoMemory`, if an
+/// allocation fails.
 fn freeze_any(alloc: Global, sketch: AnySketch) -> (AnySketch, i32)
     ensures done { OnDone result.1
         ((result.1 ≡ ok) × (unshared result.0 ≡ unshared sketch) × (is_shared result.0 ≡ true)) }
-    ensures refused { OnRefused result.1
-        (((result.1 ≡ wrong_kind) ⊎ (result.1 ≡ refusal_number Fault.NoMemory)) × (result.0 ≡ sketch)) }
+    ensures refused { OnRefused result.1 ((result.0 ≡ sketch)
+        × (((result.1 ≡ wrong_kind) × (sketch ≡ Moved)) ⊎ (result.1 ≡ refusal_number Fault.NoMemory))) }
 {
     match sketch {
         AnySketch::FrequentStrings(sketch) => freeze(alloc, sketch),
@@ -53,7 +39,8 @@ fn freeze_any(alloc: Global, sketch: AnySketch) -> (AnySketch, i32)
         AnySketch::CountI64(sketch) => freeze(alloc, sketch),
         AnySketch::CountU64(sketch) => freeze(alloc, sketch),
         AnySketch::Filter(sketch) => freeze(alloc, sketch),
-        there => (there, WRONG_KIND),
+        AnySketch::Moved => (AnySketch::Moved, WRONG_KIND),
+        shared => (shared, OK),
     }
 }
 
@@ -68,11 +55,10 @@ fn thaw<K: Kind>(shared: Arc<K>) -> (AnySketch, i32)
     }
 }
 
-/// Returns the shared sketch of any kind alone, with `YES`, if no other handle shares it. Otherwise returns it as it was, with
-/// `NO`.
+/// Returns the sketch of any kind alone, with `YES`, if no other handle shares it. Otherwise returns it as it was, with `NO`.
 fn thaw_any(sketch: AnySketch) -> (AnySketch, i32)
     ensures { ((result.1 ≡ yes) × (unshared result.0 ≡ unshared sketch) × (is_shared result.0 ≡ false))
-        ⊎ ((result.1 ≡ no) × (result.0 ≡ sketch)) }
+        ⊎ ((result.1 ≡ no) × (result.0 ≡ sketch) × (is_shared sketch ≡ true)) }
 {
     match sketch {
         AnySketch::SharedFrequentStrings(shared) => thaw(shared),
@@ -81,7 +67,7 @@ fn thaw_any(sketch: AnySketch) -> (AnySketch, i32)
         AnySketch::SharedCountI64(shared) => thaw(shared),
         AnySketch::SharedCountU64(shared) => thaw(shared),
         AnySketch::SharedFilter(shared) => thaw(shared),
-        there => (there, NO),
+        own => (own, YES),
     }
 }
 
@@ -99,7 +85,8 @@ fn share<K: Kind>(shared: &Arc<K>) -> Result<AnySketch, i32>
 /// Returns one more share of a sketch of any kind. Returns `WRONG_KIND` if it is not shared.
 fn share_any(sketch: &AnySketch) -> Result<AnySketch, i32>
     ensures ok { IfOk result (λ any. (unshared any ≡ unshared sketch.now) × (is_shared any ≡ true)) }
-    ensures err { IfErr result (λ e. (e ≡ wrong_kind) ⊎ (e ≡ refusal_number Fault.NoMemory)) }
+    ensures err { IfErr result (λ e.
+        ((e ≡ wrong_kind) × (is_shared sketch.now ≡ false)) ⊎ (e ≡ refusal_number Fault.NoMemory)) }
 {
     match sketch {
         AnySketch::SharedFrequentStrings(shared) => share(shared),
@@ -124,15 +111,11 @@ fn share_any(sketch: &AnySketch) -> Result<AnySketch, i32>
 #[unsafe(no_mangle)]
 pub extern "C" fn ds_freeze(alloc: Global, handle: &mut SketchHandle) -> i32
     ensures done { OnDone result ((result ≡ ok) × IsShareOf handle.old.value handle.new.value) }
-    ensures refused { OnRefused result (IsShareRefusal handle.old.value result × (handle.new.value ≡ handle.old.value)) }
+    ensures refused { OnRefused result (IsFreezeRefusal handle.old.value result × (handle.new.value ≡ handle.old.value)) }
 {
     let Some(mut boxed) = handle.take(alloc) else {
         return NO_SKETCH;
     };
-    if is_shared(&boxed) {
-        handle.give(boxed);
-        return OK;
-    }
     let sketch = Box::replace(&mut boxed, AnySketch::Moved);
     let (after, answer) = freeze_any(alloc, sketch);
     *boxed = after;
@@ -174,17 +157,14 @@ pub extern "C" fn ds_share(
 /// Returns `NO_SKETCH` if the handle has no sketch. `NO` and this error change nothing.
 #[unsafe(no_mangle)]
 pub extern "C" fn ds_thaw(alloc: Global, handle: &mut SketchHandle) -> i32
+    ensures answer { OnDone result ((result ≡ yes) ⊎ (result ≡ no)) }
     ensures thawed { result ≡ yes → IsOwnOf handle.old.value handle.new.value }
-    ensures shared { result ≡ no → handle.new.value ≡ handle.old.value }
+    ensures shared { result ≡ no → (handle.new.value ≡ handle.old.value) × IsShareOf handle.old.value handle.new.value }
     ensures refused { OnRefused result ((result ≡ no_sketch) × (handle.old.value ≡ None) × (handle.new.value ≡ None)) }
 {
     let Some(mut boxed) = handle.take(alloc) else {
         return NO_SKETCH;
     };
-    if !is_shared(&boxed) {
-        handle.give(boxed);
-        return YES;
-    }
     let sketch = Box::replace(&mut boxed, AnySketch::Moved);
     let (after, answer) = thaw_any(sketch);
     *boxed = after;
