@@ -902,7 +902,7 @@ class Interrupts(unittest.TestCase):
             for call in calls:
                 before = 0 if isinstance(sketch, ds.BloomFilter) else sketch.total_weight
                 with self.assertRaises(KeyboardInterrupt) as raised:
-                    self.interrupted(lambda: call(data), 0.1)
+                    self.interrupted(lambda: call(data), 0.05)
                 counted = taken(raised.exception)
                 self.assertTrue(0 < counted < len(data), counted)
                 if not isinstance(sketch, ds.BloomFilter):
