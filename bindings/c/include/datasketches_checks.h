@@ -4,9 +4,9 @@
  * checks arguments of that form, and each argument is evaluated once. So `ds_bloom_union(a, b)` is checked, and arguments may have
  * commas: `ds_bloom_insert_all_u64(&seen, (uint64_t[]){1, 2, 3}, 3)`.
  *
- * The checks return DS_BAD_ARGUMENT for the same handle twice, a handle that is also in the array of others, a null pointer with a
- * count above 0, and a null pointer in a pair. They pass a pointer to no values in place of null with the count 0. They do nothing
- * for `ds_free(NULL)`.
+ * The checks return DS_BAD_ARGUMENT for the same handle twice and for a handle that is also in the array of others. They return it
+ * for a null pointer with a count above 0, and for a null pointer in a pair. They pass a pointer to no values in place of null with
+ * the count 0. They do nothing for `ds_free(NULL)`.
  *
  * To leave out the check of one call, put its name in brackets: `(ds_bloom_union)(a, b)`. To leave out all, define `DS_NO_CHECKS`
  * before `datasketches.h`. A pointer to a function, as `&ds_bloom_union`, is to the call without checks. */
