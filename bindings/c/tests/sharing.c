@@ -1,10 +1,13 @@
 /* Shared sketches: threads that read one at once, calls that change it, merges from it, and its thaw. Prints the checks that
  * failed, and exits with 1 if there is any. With the argument `joined`, no sketch is thawed before the threads that read it are
  * joined, since tools that look for races do not know the order that counts of shares make. */
+#define _POSIX_C_SOURCE 200809L
+
 #include <datasketches.h>
 #include <pthread.h>
 #include <stdio.h>
 #include <string.h>
+#include <time.h>
 
 enum { THREADS = 8, ITEMS = 600, KINDS = 6 };
 
@@ -150,8 +153,13 @@ static void threads(bool thaws_early)
         if (round % 2) {
             free_reader(&first);
         } else if (thaws_early) {
+            /* It sleeps between trials: under valgrind one thread runs at a time, and one that never waits can keep the others out. */
+            const struct timespec pause = {.tv_nsec = 1000000};
             int32_t result;
-            while ((result = ds_thaw(&first.filter)) == DS_NO) CHECK(ds_bloom_contains_u64(&first.filter, numbers[0]) == DS_YES);
+            while ((result = ds_thaw(&first.filter)) == DS_NO) {
+                CHECK(ds_bloom_contains_u64(&first.filter, numbers[0]) == DS_YES);
+                nanosleep(&pause, NULL);
+            }
             CHECK(result == DS_YES && ds_bloom_reset(&first.filter) == DS_OK);
         } else {
             CHECK(read_all(&first) && memcmp(&first.got, &alone, sizeof alone) == 0);
