@@ -1,11 +1,9 @@
--- Numbers that calls hand on, images that are copied, and rows that are written one by one.
-use Rattle.std.proofs.Common.{◌≡◌, ◌+◌, ◌<◌, ◌≤◌, ℤ, ℕ, List, length, map, take, drop, set, get_or, ap, ◌∙◌, sym, subst, inl, inr}
-use Rattle.std.proofs.lemmas.Bool.{cases_lt}
+-- Numbers that calls hand on, and rows that are written one by one.
+use Rattle.std.proofs.Common.{◌≡◌, ◌+◌, ◌<◌, ℤ, ℕ, List, length, map, take, set, get_or, ap, ◌∙◌, sym, subst}
 use lib.Signed.{mag}
 use mir.Syntax.{w32}
 use mir.Val.{of_z, to_z}
 use Rattle.sketch_base.specs.Batches.{written_more}
-use Rattle.datasketches_c.specs.Numbers.{OnRefused, ok, no_room}
 use Rattle.datasketches_c.proofs.Refusals.{same_answer}
 
 -- what is said of a call's number is said of that number handed on
@@ -15,17 +13,6 @@ handed_on P answer small said = subst P (sym (same_answer answer small)) said
 -- a number that is known is handed on as it is
 pub number_handed_on : {z : ℤ} (answer : ℤ) → answer ≡ z → to_z w32 (of_z w32 answer) ≡ to_z w32 (of_z w32 z)
 number_handed_on answer is = ap (λ (x : ℤ). to_z w32 (of_z w32 x)) is
-
--- a buffer is as it was where an image was not copied to it
-pub not_copied : (image out new : List ℕ) (answer : ℤ) → mag answer < 2147483648
-    → (length image ≤ length out → (answer ≡ ok) × (take (length image) new ≡ image) × (drop (length image) new ≡ drop (length image) out))
-    → (length out < length image → (answer ≡ no_room) × (new ≡ out)) → OnRefused (to_z w32 (of_z w32 answer)) (new ≡ out)
-not_copied image out new answer small copied few =
-    let Left : ℤ → Type 0 = λ z. OnRefused z (new ≡ out) in
-    handed_on Left answer small (elim (cases_lt (length out) (length image)) as (λ _. Left answer) [
-      | inl short ↦ subst Left (sym (few short).0) (few short).1
-      | inr fits ↦ subst Left (sym (copied fits).0) tt
-    ])
 
 -- one place more is written
 pub place_written : {A B : Type 0} (f : A → B) (xs : List A) (ys : List B) (i : ℕ) (x : A) (y : B) → i < length xs → i < length ys → x ≡ get_or xs i x → y ≡ f x

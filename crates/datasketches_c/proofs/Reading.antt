@@ -1,5 +1,5 @@
 -- Images that are read, and refusals to write one.
-use Rattle.std.proofs.Common.{◌≡◌, ℕ, ◌*◌, ◌^◌, ◌<◌, ◌≤◌, Bool, true, false, List, length, take, drop, Option, Some, None, ℤ, pos, negsuc, cond, ap, sym, subst, inl, inr, refl}
+use Rattle.std.proofs.Common.{◌≡◌, ℕ, ◌*◌, ◌^◌, ◌≤◌, Bool, true, false, List, length, Option, Some, None, ℤ, pos, negsuc, cond, ap, sym, subst, inl, inr, refl}
 use Rattle.std.specs.Prelude.{nat_lt, Result, Ok, Err, MatchResult, IfOk, IfErr, IsOk}
 use Rattle.std.specs.Global.{Global}
 use Rattle.std.specs.Str.{is_utf8}
@@ -17,9 +17,9 @@ use Rattle.sketch_frequencies.specs.Image as frequent
 use Rattle.sketch_frequencies.specs.Items.{Codec, text_codec, text_encoding}
 use Rattle.sketch_frequencies.specs.State.{FrequentState}
 use denote.RattleType.{RattleType}
-use Rattle.datasketches_c.specs.FrequentStringImages.{WritesFrequentStrings}
-use Rattle.datasketches_c.specs.Images.{WritesImage, IsRefusedImage}
-use Rattle.datasketches_c.specs.Numbers.{OnRefused, ok, no_room, refusal_number}
+use Rattle.datasketches_c.specs.FrequentStringImages.{TellsStringsLength, WritesFrequentStrings}
+use Rattle.datasketches_c.specs.Images.{IsRefusedImage}
+use Rattle.datasketches_c.specs.Numbers.{OnRefused, refusal_number}
 
 -- where neither an image nor the limit has a fault, none comes before memory
 pub none_before : (early limit late : Option Fault) → or_else early late ≡ None → limit ≡ None → or_else early limit ≡ None
@@ -33,22 +33,6 @@ no_early_fault max_bytes image s is within =
     let in_image : 8 * num_words_at image ≤ max_bytes = subst (λ (n : ℕ). 8 * n ≤ max_bytes) (ap (λ (t : FilterState). t.num_words) is.value) within in
     none_before (early_fault image) (limit_fault max_bytes image) _ is.no_fault
     (ap (λ (t : Bool). cond t (Some TableTooLarge) None) (le-ltb max_bytes (8 * num_words_at image) in_image))
-
--- an image that was made and copied out was written
-pub copied_image : (Spelled : List ℕ → Type 0) (image out new : List ℕ) (written : ℕ) (result : ℤ) → Spelled image → written ≡ length image
-    → (length image ≤ length out → (result ≡ ok) × (take (length image) new ≡ image) × (drop (length image) new ≡ drop (length image) out))
-    → (length out < length image → (result ≡ no_room) × (new ≡ out)) → WritesImage Spelled out new written result
-copied_image Spelled image out new written result is counted copied few = elim (cases_lt (length out) (length image)) as (λ _. WritesImage Spelled out new written result) [
-  | inl short ↦ inr (inl ((few short).0, subst (λ (n : ℕ). length out < n) (sym counted) short, (image, is, sym counted)))
-  | inr fits ↦
-      let said = copied fits in
-      inl (
-        said.0,
-        subst (λ (n : ℕ). n ≤ length out) (sym counted) fits,
-        subst (λ (n : ℕ). Spelled (take n new)) (sym counted) (subst Spelled (sym said.1) is),
-        subst (λ (n : ℕ). drop n new ≡ drop n out) (sym counted) said.2,
-      )
-]
 
 -- a string that has no bytes in an image is too long
 too_long : (string : String Global) (fault : Fault) → text_encoding (string_bytes string) ≡ Err fault → (fault ≡ ItemTooLong) × (2 ^ 32 ≤ length (string_bytes string))
@@ -65,6 +49,14 @@ pub strings_not_written : (s : FrequentState (String Global)) (old new : List �
     → frequent.IsImageWritingRefusal text_codec (λ (item : String Global). string_bytes item) s.counters e → WritesFrequentStrings s old new written (refusal_number e.fault)
 strings_not_written s old new written e (inl is) = inl (inr (inr (ap (λ (x : ErrorValue). refusal_number x.fault) is)))
 strings_not_written s old new written e (inr (is, (k, counter, there, at, none))) =
+    let why = too_long counter.0 e.fault none in
+    inr (ap refusal_number why.0, (k, counter, there, at, why.1))
+
+-- a refusal to count its bytes
+pub strings_not_counted : (s : FrequentState (String Global)) (bytes : ℕ) (e : ErrorValue)
+    → frequent.IsImageWritingRefusal text_codec (λ (item : String Global). string_bytes item) s.counters e → TellsStringsLength s bytes (refusal_number e.fault)
+strings_not_counted s bytes e (inl is) = inl (inr (ap (λ (x : ErrorValue). refusal_number x.fault) is))
+strings_not_counted s bytes e (inr (is, (k, counter, there, at, none))) =
     let why = too_long counter.0 e.fault none in
     inr (ap refusal_number why.0, (k, counter, there, at, why.1))
 
@@ -92,14 +84,22 @@ if_done : {S E : Type 0} (read : Result S E) (P : Type 0) → (IsOk read → P) 
 if_done (Ok s) P holds = holds refl
 if_done (Err e) P holds = tt
 
--- the same of a sketch of frequent items
-pub items_not_read : {T C : Type 0} (item : RattleType) (codec : Codec C) (content : T → C) (max_bytes : ℕ) (image : List ℕ) (read : Result (FrequentState T) ErrorValue) (result : ℤ) (Kept : Type 0)
-    → IfOk read (λ s. frequent.IsImageOf codec content image s) → (IsOk read → frequent.limit_fault item max_bytes codec image ≡ None)
-    → IfErr read (IsImageRefusal (frequent.early_fault_within item max_bytes codec image) (frequent.first_fault_within item max_bytes codec image))
-    → OnRefused result (Kept × WhyNotRead read result)
-    → OnRefused result (Kept × IsRefusedImage (frequent.early_fault_within item max_bytes codec image) (frequent.first_fault_within item max_bytes codec image) result)
-items_not_read item codec content max_bytes image read result Kept of accepted =
-    let limit = frequent.limit_fault item max_bytes codec image in
-    was_not_read read (λ s. frequent.IsImageOf codec content image s) (λ s. limit ≡ None) (frequent.early_fault_within item max_bytes codec image)
-    (frequent.first_fault_within item max_bytes codec image) result Kept
-    (λ s is within. none_before (frequent.early_fault image) limit _ is.no_fault within) of (if_done read (limit ≡ None) accepted)
+module _ {T C : Type 0} (item : RattleType) (codec : Codec C) (content : T → C) (max_bytes : ℕ) (image : List ℕ) where
+  -- the same of a sketch of frequent items, of which a result may have more than the state
+  pub items_not_read_with : {S : Type 0} (state : S → FrequentState T) (read : Result S ErrorValue) (result : ℤ) (Kept : Type 0)
+      → IfOk read (λ s. frequent.IsImageOf codec content image (state s)) → (IsOk read → frequent.limit_fault item max_bytes codec image ≡ None)
+      → IfErr read (IsImageRefusal (frequent.early_fault_within item max_bytes codec image) (frequent.first_fault_within item max_bytes codec image))
+      → OnRefused result (Kept × WhyNotRead read result)
+      → OnRefused result (Kept × IsRefusedImage (frequent.early_fault_within item max_bytes codec image) (frequent.first_fault_within item max_bytes codec image) result)
+  items_not_read_with state read result Kept of accepted =
+      let limit = frequent.limit_fault item max_bytes codec image in
+      was_not_read read (λ s. frequent.IsImageOf codec content image (state s)) (λ s. limit ≡ None) (frequent.early_fault_within item max_bytes codec image)
+      (frequent.first_fault_within item max_bytes codec image) result Kept
+      (λ s is within. none_before (frequent.early_fault image) limit _ is.no_fault within) of (if_done read (limit ≡ None) accepted)
+
+  pub items_not_read : (read : Result (FrequentState T) ErrorValue) (result : ℤ) (Kept : Type 0)
+      → IfOk read (λ s. frequent.IsImageOf codec content image s) → (IsOk read → frequent.limit_fault item max_bytes codec image ≡ None)
+      → IfErr read (IsImageRefusal (frequent.early_fault_within item max_bytes codec image) (frequent.first_fault_within item max_bytes codec image))
+      → OnRefused result (Kept × WhyNotRead read result)
+      → OnRefused result (Kept × IsRefusedImage (frequent.early_fault_within item max_bytes codec image) (frequent.first_fault_within item max_bytes codec image) result)
+  items_not_read read result Kept of accepted = items_not_read_with (λ s. s) read result Kept of accepted

@@ -27,13 +27,21 @@ no_early_fault_of_counts least greatest size max_bytes seed image s is within =
     none_before (counts.early_fault seed image) (counts.limit_fault size max_bytes image) _ is.no_fault
     (ap (λ (t : Bool). cond t (Some TableTooLarge) None) (le-ltb max_bytes here in_image))
 
--- a sketch that was to be read was refused for its image, or for memory
-pub counts_not_read : (least : ℤ) (greatest size max_bytes seed : ℕ) (image : List ℕ) (read : Result CountState ErrorValue) (result : ℤ) (Kept : Type 0)
-    → IfOk read (λ s. counts.IsImage least greatest seed image s) → IfOk read (λ s. s.hashes * s.buckets * size + 8 * s.hashes ≤ max_bytes)
-    → IfErr read (IsImageRefusal (counts.early_fault_within size max_bytes seed image) (counts.first_fault_within least greatest size max_bytes seed image))
-    → OnRefused result (Kept × WhyNotRead read result)
-    → OnRefused result (Kept × IsRefusedImage (counts.early_fault_within size max_bytes seed image) (counts.first_fault_within least greatest size max_bytes seed image) result)
-counts_not_read least greatest size max_bytes seed image read result Kept =
-    was_not_read read (λ s. counts.IsImage least greatest seed image s) (λ s. s.hashes * s.buckets * size + 8 * s.hashes ≤ max_bytes)
-    (counts.early_fault_within size max_bytes seed image) (counts.first_fault_within least greatest size max_bytes seed image) result Kept
-    (no_early_fault_of_counts least greatest size max_bytes seed image)
+module _ (least : ℤ) (greatest size max_bytes seed : ℕ) (image : List ℕ) where
+  -- a sketch that was to be read was refused for its image, or for memory. A result may have more than the state
+  pub counts_not_read_with : {S : Type 0} (state : S → CountState) (read : Result S ErrorValue) (result : ℤ) (Kept : Type 0)
+      → IfOk read (λ s. counts.IsImage least greatest seed image (state s)) → IfOk read (λ s. (state s).hashes * (state s).buckets * size + 8 * (state s).hashes ≤ max_bytes)
+      → IfErr read (IsImageRefusal (counts.early_fault_within size max_bytes seed image) (counts.first_fault_within least greatest size max_bytes seed image))
+      → OnRefused result (Kept × WhyNotRead read result)
+      → OnRefused result (Kept × IsRefusedImage (counts.early_fault_within size max_bytes seed image) (counts.first_fault_within least greatest size max_bytes seed image) result)
+  counts_not_read_with state read result Kept =
+      was_not_read read (λ s. counts.IsImage least greatest seed image (state s)) (λ s. (state s).hashes * (state s).buckets * size + 8 * (state s).hashes ≤ max_bytes)
+      (counts.early_fault_within size max_bytes seed image) (counts.first_fault_within least greatest size max_bytes seed image) result Kept
+      (λ s. no_early_fault_of_counts least greatest size max_bytes seed image (state s))
+
+  pub counts_not_read : (read : Result CountState ErrorValue) (result : ℤ) (Kept : Type 0)
+      → IfOk read (λ s. counts.IsImage least greatest seed image s) → IfOk read (λ s. s.hashes * s.buckets * size + 8 * s.hashes ≤ max_bytes)
+      → IfErr read (IsImageRefusal (counts.early_fault_within size max_bytes seed image) (counts.first_fault_within least greatest size max_bytes seed image))
+      → OnRefused result (Kept × WhyNotRead read result)
+      → OnRefused result (Kept × IsRefusedImage (counts.early_fault_within size max_bytes seed image) (counts.first_fault_within least greatest size max_bytes seed image) result)
+  counts_not_read read result Kept = counts_not_read_with (λ s. s) read result Kept

@@ -1,13 +1,15 @@
 -- Images of frequent items sketches, for any item type.
-use Rattle.std.specs.Prelude.{◌≡◌, ℕ, ℤ, ◌≤◌, Bool, List, None}
+use Rattle.std.specs.Prelude.{◌≡◌, ◌⊎◌, ℕ, ℤ, ◌≤◌, Bool, List, None}
 use denote.Builtin as builtin
 use denote.RattleType.{RattleType}
+use Rattle.sketch_base.specs.declared.fault.Fault.TheVariants.{NoMemory}
 use Rattle.counter_table.specs.Bytes.{table_bytes}
 use Rattle.sketch_frequencies.specs.Image.{IsImageOf, IsSpelledFor, Restores, RestoresBudget, limit_fault}
 use Rattle.sketch_frequencies.specs.Items.{Codec}
 use Rattle.sketch_frequencies.specs.Memory.{memory_bytes, owned_by}
 use Rattle.sketch_frequencies.specs.State.{FrequentState, max_sample_size}
-use Rattle.datasketches_c.specs.Images.{WritesImage}
+use Rattle.datasketches_c.specs.Images.{TellsLength, WritesImage}
+use Rattle.datasketches_c.specs.Numbers.{refusal_number}
 
 -- the memory layouts of `u64` and `i64` items
 abbrev pub u64_row : RattleType
@@ -21,6 +23,11 @@ module _ {T C : Type 0} (codec : Codec C) (content : T → C) where
   abbrev pub WritesFrequent : FrequentState T → (old new : List ℕ) → ℕ → ℤ → Type 0
   WritesFrequent s old new written result =
       WritesImage (λ image. IsSpelledFor codec content image s) old new written result
+
+  -- the call wrote the length of the sketch's image. Or the result is `NoMemory`
+  abbrev pub TellsFrequentLength : FrequentState T → ℕ → ℤ → Type 0
+  TellsFrequentLength s bytes result =
+      TellsLength (λ image. IsSpelledFor codec content image s) bytes result ⊎ (result ≡ refusal_number NoMemory)
 
 -- the sketch was restored from the image. It takes at most `max_bytes`, with the bytes that its items own
 pub record IsRestored

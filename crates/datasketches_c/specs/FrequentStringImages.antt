@@ -10,7 +10,7 @@ use Rattle.std.specs.contracts.string.String as string
 use Rattle.sketch_base.specs.declared.fault.Fault.TheVariants.{ItemTooLong}
 use Rattle.sketch_frequencies.specs.Items.{text_codec}
 use Rattle.sketch_frequencies.specs.State.{FrequentState}
-use Rattle.datasketches_c.specs.FrequentImages.{WritesFrequent}
+use Rattle.datasketches_c.specs.FrequentImages.{TellsFrequentLength, WritesFrequent}
 use Rattle.datasketches_c.specs.Numbers.{refusal_number}
 
 abbrev pub string_row : RattleType
@@ -21,4 +21,11 @@ string_row = string.the_row heap.the_row ghosts
 abbrev pub WritesFrequentStrings : FrequentState (String Global) → (old new : List ℕ) → ℕ → ℤ → Type 0
 WritesFrequentStrings s old new written result =
     WritesFrequent text_codec (λ item. string_bytes item) s old new written result
+    ⊎ ((result ≡ refusal_number ItemTooLong) × Any (λ counter. 2 ^ 32 ≤ length (string_bytes counter.0)) s.counters)
+
+-- the call wrote the length of the sketch's image. Or the result is `NoMemory`, or it is `ItemTooLong`, and some string has 2^32
+-- bytes or more
+abbrev pub TellsStringsLength : FrequentState (String Global) → ℕ → ℤ → Type 0
+TellsStringsLength s bytes result =
+    TellsFrequentLength text_codec (λ item. string_bytes item) s bytes result
     ⊎ ((result ≡ refusal_number ItemTooLong) × Any (λ counter. 2 ^ 32 ≤ length (string_bytes counter.0)) s.counters)

@@ -24,6 +24,13 @@ abbrev pub WritesSizedImage : (List ℕ → Type 0) → (size : ℕ) → (old ne
 WritesSizedImage IsImage size old new written result =
     WritesImage IsImage old new written result × TellsRoom size (length old) written result
 
+-- the result is `ok`, there is an image, and each has this length
+abbrev pub TellsLength : (List ℕ → Type 0) → ℕ → ℤ → Type 0
+TellsLength IsImage bytes result =
+    (result ≡ ok)
+    × ((image : List ℕ) × IsImage image × (length image ≡ bytes))
+    × ((image : List ℕ) → IsImage image → length image ≡ bytes)
+
 -- the image is rejected with its first fault, or with `NoMemory` if no check before the allocation fails
 abbrev pub IsRefusedImage : (before whole : Option Fault) → ℤ → Type 0
 IsRefusedImage before whole result =

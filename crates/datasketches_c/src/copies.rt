@@ -77,9 +77,9 @@ pub extern "C" fn ds_clone(
     answer
 }
 
-/// Frees the handle's sketch, if any. Then the handle has no sketch.
+/// Frees the handle's sketch, if any. Then the handle has no sketch. `ds_free` of C is this call for a pointer that is not null.
 #[unsafe(no_mangle)]
-pub extern "C" fn ds_free(alloc: Global, handle: &mut SketchHandle)
+pub extern "C" fn ds_free_handle(alloc: Global, handle: &mut SketchHandle)
     ensures { handle.new.value ≡ None }
 {
     *handle = SketchHandle::none(alloc);

@@ -2,7 +2,7 @@
 ghost use Rattle.std.specs.Prelude.{None, Some, pos, length, ◌<◌, ◌≡◌, ◌≢◌, ◌≤◌};
 ghost use Rattle.sketch_base.specs.Errors.{refusal_of};
 ghost use Rattle.sketch_countmin.specs.History.CountHistory.{Decay, Halve, New};
-ghost use Rattle.sketch_countmin.specs.Image.{IsSpelled, image_bytes, early_fault_within, first_fault_within};
+ghost use Rattle.sketch_countmin.specs.Image.{IsSpelled, image_bytes, prefix_bytes, early_fault_within, first_fault_within};
 ghost use Rattle.sketch_countmin.specs.Shapes.{shape_fault};
 ghost use Rattle.sketch_countmin.specs.Stands.{Extends, StandsFor};
 ghost use Rattle.sketch_countmin.specs.State.{decayed_state, empty_state, halved_state};
@@ -19,7 +19,7 @@ use crate::count_images;
 use crate::handle::SketchHandle;
 use crate::images::to_bytes;
 use crate::kind::on_kind;
-use crate::making::put_made;
+use crate::making::{put_made, put_read};
 use crate::status_code::{BAD_FRACTION, OK};
 use sketch_countmin::CountMinSketch;
 use std::alloc::Global;
@@ -346,4 +346,54 @@ pub extern "C" fn ds_count_min_i64_deserialize(
         alloc, image, seed, max_bytes,
     );
     put_made(alloc, handle, read)
+}
+
+/// Reads a sketch from the image at the front of `image`, as `ds_count_min_u64_deserialize` does, and writes the number of
+/// bytes that the image takes to `used`. What follows is not read.
+///
+/// Returns the errors of `ds_count_min_u64_deserialize`. Then nothing changes.
+#[unsafe(no_mangle)]
+pub extern "C" fn ds_count_min_u64_deserialize_prefix(
+    alloc: Global,
+    handle: &mut SketchHandle,
+    image: &[u8],
+    seed: u64,
+    max_bytes: usize,
+    used: &mut usize,
+) -> i32
+    ensures done { OnDone result ((result ≡ ok) × HoldsCountU64 handle.new.value
+        (IsRestored (pos 0) max_u64 seed image.now max_bytes)) }
+    ensures used { OnDone result ((used.new ≡ prefix_bytes image.now) × (used.new ≤ length image.now)) }
+    ensures refused { OnRefused result ((handle.new.value ≡ handle.old.value) × IsRefusedImage
+        (early_fault_within 8 max_bytes seed image.now)
+        (first_fault_within (pos 0) max_u64 8 max_bytes seed image.now) result) }
+    ensures untouched { OnRefused result (used.new ≡ used.old) }
+{
+    let read = CountMinSketch::<u64>::deserialize_prefix(alloc, image, seed, max_bytes);
+    put_read(alloc, handle, read, used)
+}
+
+/// Reads a sketch from the image at the front of `image`, as `ds_count_min_i64_deserialize` does, and writes the number of
+/// bytes that the image takes to `used`. What follows is not read.
+///
+/// Returns the errors of `ds_count_min_i64_deserialize`. Then nothing changes.
+#[unsafe(no_mangle)]
+pub extern "C" fn ds_count_min_i64_deserialize_prefix(
+    alloc: Global,
+    handle: &mut SketchHandle,
+    image: &[u8],
+    seed: u64,
+    max_bytes: usize,
+    used: &mut usize,
+) -> i32
+    ensures done { OnDone result ((result ≡ ok) × HoldsCountI64 handle.new.value
+        (IsRestored min_i64 max_i64 seed image.now max_bytes)) }
+    ensures used { OnDone result ((used.new ≡ prefix_bytes image.now) × (used.new ≤ length image.now)) }
+    ensures refused { OnRefused result ((handle.new.value ≡ handle.old.value) × IsRefusedImage
+        (early_fault_within 8 max_bytes seed image.now)
+        (first_fault_within min_i64 max_i64 8 max_bytes seed image.now) result) }
+    ensures untouched { OnRefused result (used.new ≡ used.old) }
+{
+    let read = CountMinSketch::<i64>::deserialize_prefix(alloc, image, seed, max_bytes);
+    put_read(alloc, handle, read, used)
 }

@@ -1,14 +1,14 @@
 //! Calls on filters: create, insert, look up, combine, reset, describe, write and read.
 ghost use Rattle.std.specs.FinSet as set;
 ghost use Rattle.std.specs.Hash as fed;
-ghost use Rattle.std.specs.Prelude.{◌≡◌, ◌≢◌, Some, None, length, map, if◌then◌else◌};
+ghost use Rattle.std.specs.Prelude.{◌≡◌, ◌≢◌, ◌≤◌, Some, None, length, map, if◌then◌else◌};
 ghost use Rattle.std.specs.Str.{IsUtf8};
 ghost use Rattle.sketch_base.specs.Errors.{refusal_of};
 ghost use Rattle.sketch_base.specs.Hashes.{fed_bytes};
 ghost use Rattle.sketch_bloom.specs.Building.{request_fault, words_for};
 ghost use Rattle.sketch_bloom.specs.History.{all_inserted_after};
 ghost use Rattle.sketch_bloom.specs.History.BloomHistory.{Difference, Insert, Intersection, New, Reset, Union};
-ghost use Rattle.sketch_bloom.specs.Image.{IsSpelled, image_bytes, early_fault_within, first_fault_within};
+ghost use Rattle.sketch_bloom.specs.Image.{IsSpelled, image_bytes, prefix_bytes, early_fault_within, first_fault_within};
 ghost use Rattle.sketch_bloom.specs.Stands.{Extends, ExtendsBoth, StandsFor};
 ghost use Rattle.sketch_bloom.specs.State.{empty_state, contains_item, inserted, all_inserted, IsCompatible, united, intersected, subtracted, capacity_of, cleared};
 ghost use Rattle.datasketches_c.specs.Images.{WritesImage, WritesSizedImage, TellsRoom, IsRefusedImage};
@@ -22,7 +22,7 @@ use crate::handle::SketchHandle;
 use crate::images::{HasImage, to_bytes};
 use crate::join::{Joins, join};
 use crate::kind::{on_kind, reading_kind};
-use crate::making::put_made;
+use crate::making::{put_made, put_read};
 use crate::status_code::{NO, NO_ROOM, OK, YES, refusal_number};
 use crate::strings::on_string;
 use sketch_base::Fault;
@@ -551,4 +551,26 @@ pub extern "C" fn ds_bloom_deserialize(
 {
     let read = BloomFilter::deserialize_with_limit(alloc, image, max_bytes);
     put_made(alloc, handle, read)
+}
+
+/// Reads a filter from the image at the front of `image`, as `ds_bloom_deserialize` does, and writes the number of bytes
+/// that the image takes to `used`. What follows is not read.
+///
+/// Returns the errors of `ds_bloom_deserialize`. Then nothing changes.
+#[unsafe(no_mangle)]
+pub extern "C" fn ds_bloom_deserialize_prefix(
+    alloc: Global,
+    handle: &mut SketchHandle,
+    image: &[u8],
+    max_bytes: usize,
+    used: &mut usize,
+) -> i32
+    ensures done { OnDone result ((result ≡ ok) × HoldsFilter handle.new.value (IsRestored image.now max_bytes)) }
+    ensures used { OnDone result ((used.new ≡ prefix_bytes image.now) × (used.new ≤ length image.now)) }
+    ensures refused { OnRefused result ((handle.new.value ≡ handle.old.value) × IsRefusedImage
+        (early_fault_within max_bytes image.now) (first_fault_within max_bytes image.now) result) }
+    ensures untouched { OnRefused result (used.new ≡ used.old) }
+{
+    let read = BloomFilter::deserialize_prefix(alloc, image, max_bytes);
+    put_read(alloc, handle, read, used)
 }

@@ -1,12 +1,13 @@
 //! Calls on sketches of frequent items in handles, for any type of items.
 ghost use Rattle.std.specs.Ordering.{int_eq};
-ghost use Rattle.std.specs.Prelude.{◌≡◌, ◌≢◌, IsTrue, length, nat_eq};
+ghost use Rattle.std.specs.Prelude.{◌≡◌, ◌≢◌, ◌⊎◌, ℕ, ℤ, IfOk, IfErr, OnErr, IsTrue, length, nat_eq};
+ghost use Rattle.sketch_frequencies.specs.Image.{IsImageWritingRefusal};
 ghost use Rattle.sketch_frequencies.specs.Items.{i64_codec, u64_codec};
 ghost use Rattle.datasketches_c.specs.FrequentBatches.{AreBoundsOfAll};
 ghost use Rattle.datasketches_c.specs.FrequentCalls.{Updates, UpdatesMany, WeighsMany, MergesInto, Empties, Resamples, AreBounds, AreNumbers};
-ghost use Rattle.datasketches_c.specs.FrequentImages.{WritesFrequent};
+ghost use Rattle.datasketches_c.specs.FrequentImages.{TellsFrequentLength, WritesFrequent};
 ghost use Rattle.datasketches_c.specs.FrequentRows.{LeavesRows, WritesRows, error_type};
-ghost use Rattle.datasketches_c.specs.FrequentStringImages.{WritesFrequentStrings};
+ghost use Rattle.datasketches_c.specs.FrequentStringImages.{TellsStringsLength, WritesFrequentStrings};
 ghost use Rattle.datasketches_c.specs.FrequentStrings.{strings_eq};
 ghost use Rattle.datasketches_c.specs.Kinds.{OnKind, HoldsKind, WritesDown, WritesDownEach};
 ghost use Rattle.datasketches_c.specs.Numbers.{OnRefused, ok, no_room, refusal_number};
@@ -14,11 +15,11 @@ ghost use Rattle.datasketches_c.specs.Sharing.{reads};
 
 use crate::frequent_rows::write_rows;
 use crate::handle::SketchHandle;
-use crate::images::{HasImage, copy_out};
+use crate::images::HasImage;
 use crate::join::Joins;
 use crate::kind::{Kind, on_kind, reading_kind};
 use crate::status_code::{NO_ROOM, OK, refusal_number};
-use sketch_base::Fault;
+use sketch_base::{Error, Fault};
 use sketch_frequencies::{FrequentItemValue, FrequentItemsSketch, ItemBounds};
 use std::alloc::Global;
 use std::hash::Hash;
@@ -323,6 +324,31 @@ where
     })
 }
 
+/// Writes the image of a sketch to the front of the caller's buffer, or its length if the buffer is too short.
+fn write_image<T: FrequentItemValue + Drop>(
+    sketch: &FrequentItemsSketch<T>,
+    out: &mut [u8],
+    written: &mut usize,
+) -> Result<i32, Error>
+    ensures image { IfOk result (WritesFrequent T.codec T.content sketch.now out.old out.new written.new) }
+    ensures no_room { IfOk result (λ z. OnRefused z (out.new ≡ out.old)) }
+    ensures counted { IfOk result (λ z. (z ≡ ok) ⊎ (z ≡ no_room)) }
+    ensures err { IfErr result (IsImageWritingRefusal T.codec T.content sketch.now.counters) }
+    ensures untouched { OnErr result (out.new ≡ out.old) }
+    ensures uncounted { OnErr result (written.new ≡ written.old) }
+{
+    match sketch.serialize_into(out)? {
+        Some(length) => {
+            *written = length;
+            Ok(OK)
+        }
+        None => {
+            *written = sketch.serialized_size()?;
+            Ok(NO_ROOM)
+        }
+    }
+}
+
 /// Writes the image of a sketch of numbers to the front of the caller's buffer. Each number can be written, so the only
 /// error of the library is `NoMemory`.
 fn write_numbers<T: FrequentItemValue + Drop>(
@@ -334,8 +360,8 @@ fn write_numbers<T: FrequentItemValue + Drop>(
     ensures untouched { OnRefused result (out.new ≡ out.old) }
     ensures uncounted { result ≢ ok → result ≢ no_room → written.new ≡ written.old }
 {
-    match sketch.serialize() {
-        Ok(image) => copy_out(&image, out, written),
+    match write_image(sketch, out, written) {
+        Ok(result) => result,
         Err(_) => refusal_number(Fault::NoMemory),
     }
 }
@@ -360,9 +386,80 @@ impl HasImage for FrequentItemsSketch<String> {
     ghost writes = { WritesFrequentStrings };
 
     fn write_to(&self, out: &mut [u8], written: &mut usize) -> i32 {
-        match self.serialize() {
-            Ok(image) => copy_out(&image, out, written),
+        match write_image(self, out, written) {
+            Ok(result) => result,
             Err(error) => refusal_number(error.fault()),
         }
     }
+}
+
+/// A kind of frequent-items sketches, whose images have a length that is counted.
+pub(crate) trait HasImageLength: Kind {
+    ghost tells: { Self → ℕ → ℤ → Type 0 };
+
+    /// Writes the length of the sketch's image. Returns the result's number.
+    fn length_to(&self, bytes: &mut usize) -> i32
+        ensures length { tells self.now bytes.new result }
+        ensures untouched { OnRefused result (bytes.new ≡ bytes.old) };
+}
+
+/// Writes the length of the image of a sketch of numbers. Each number can be written, so the only error of the library
+/// is `NoMemory`.
+fn tell_length<T: FrequentItemValue + Drop>(
+    sketch: &FrequentItemsSketch<T>,
+    bytes: &mut usize,
+) -> i32
+    ensures length { TellsFrequentLength T.codec T.content sketch.now bytes.new result }
+    ensures untouched { OnRefused result (bytes.new ≡ bytes.old) }
+{
+    match sketch.serialized_size() {
+        Ok(length) => {
+            *bytes = length;
+            OK
+        }
+        Err(_) => refusal_number(Fault::NoMemory),
+    }
+}
+
+impl HasImageLength for FrequentItemsSketch<i64> {
+    ghost tells = { TellsFrequentLength i64_codec (λ n. n) };
+
+    fn length_to(&self, bytes: &mut usize) -> i32 {
+        tell_length(self, bytes)
+    }
+}
+
+impl HasImageLength for FrequentItemsSketch<u64> {
+    ghost tells = { TellsFrequentLength u64_codec (λ n. n) };
+
+    fn length_to(&self, bytes: &mut usize) -> i32 {
+        tell_length(self, bytes)
+    }
+}
+
+impl HasImageLength for FrequentItemsSketch<String> {
+    ghost tells = { TellsStringsLength };
+
+    fn length_to(&self, bytes: &mut usize) -> i32 {
+        match self.serialized_size() {
+            Ok(length) => {
+                *bytes = length;
+                OK
+            }
+            Err(error) => refusal_number(error.fault()),
+        }
+    }
+}
+
+/// Writes the length of the image of a handle's sketch.
+pub(crate) fn serialized_bytes<K: HasImageLength>(
+    alloc: Global,
+    handle: &mut SketchHandle,
+    bytes: &mut usize,
+) -> i32
+    ensures length { OnKind (reads K.part) handle.old.value handle.new.value result (λ s. K.tells s bytes.new result) }
+    ensures untouched { OnRefused result (bytes.new ≡ bytes.old) }
+    ensures kept { handle.new.value ≡ handle.old.value }
+{
+    reading_kind!(alloc, handle, K, sketch => sketch.length_to(bytes))
 }

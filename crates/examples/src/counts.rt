@@ -42,6 +42,19 @@ pub fn sent_counts(
     CountMinSketch::deserialize_with_seed_and_limit(alloc, &image, counts.seed(), 1 << 20)
 }
 
+/// Returns the sum of the sketches of two images that stand one after the other.
+pub fn sum_of_two_images(
+    alloc: Global,
+    images: &[u8],
+    seed: u64,
+) -> Result<CountMinSketch<u64>, Error> {
+    let (mut first, used) = CountMinSketch::deserialize_prefix(alloc, images, seed, 1 << 20)?;
+    let rest = &images[used..];
+    let (second, _) = CountMinSketch::deserialize_prefix(alloc, rest, seed, 1 << 20)?;
+    first.merge(&second)?;
+    Ok(first)
+}
+
 /// Returns the weight of the apples that are left.
 pub fn apples_in_store(alloc: Global) -> Result<i64, Error> {
     let mut store: CountMinSketch<i64> = CountMinSketch::new(alloc, 4, 128)?;

@@ -42,6 +42,10 @@ set_at image = set_of (words_in (num_words_at image) (drop 32 image))
 abbrev pub has_right_count : List ℕ → Bool
 has_right_count image = (bit_count_at image == uncounted) || (bit_count_at image == set.len (set_at image))
 
+-- how many bytes the image at the front takes: what follows is not part of it
+abbrev pub prefix_bytes : List ℕ → ℕ
+prefix_bytes image = if says_empty image then 24 else 32 + 8 * num_words_at image
+
 -- ---- the checks: a test, and the fault if it fails
 
 -- the checks before any allocation

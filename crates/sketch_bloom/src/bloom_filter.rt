@@ -8,7 +8,7 @@ ghost use Rattle.sketch_base.specs.Hashes.{fed_bytes};
 ghost use Rattle.sketch_base.specs.Xxh64.{xxh64};
 ghost use Rattle.sketch_bloom.specs.History.{BloomHistory};
 ghost use Rattle.sketch_bloom.specs.History.BloomHistory.{Insert, Union, Intersection, Difference, Reset};
-ghost use Rattle.sketch_bloom.specs.Image.{IsImage, IsSpelled, Restores, image_bytes, early_fault, first_fault, early_fault_within, first_fault_within};
+ghost use Rattle.sketch_bloom.specs.Image.{IsImage, IsSpelled, Restores, image_bytes, early_fault, first_fault, early_fault_within, first_fault_within, prefix_bytes};
 ghost use Rattle.sketch_bloom.specs.Operations.{on_sets};
 ghost use Rattle.sketch_bloom.specs.Stands.{Extends, ExtendsBoth};
 ghost use Rattle.sketch_bloom.specs.State.{IsFilterState, IsCompatible, capacity_of, empty_state, contains_item, inserted, cleared, united, intersected, subtracted};
@@ -516,6 +516,53 @@ impl BloomFilter {
             seed: preamble.seed,
             bits_used,
         })
+    }
+
+    /// Reads a filter from the image at the front of `image`, as [`deserialize_with_limit`](Self::deserialize_with_limit)
+    /// does, and returns the number of bytes that the image takes with it.
+    ///
+    /// So images can be read that stand one after another.
+    ///
+    /// # Errors
+    ///
+    /// The errors of `deserialize_with_limit`.
+    ///
+    /// # Examples
+    ///
+    /// ```
+    /// use sketch_base::Error;
+    /// use sketch_bloom::BloomFilter;
+    /// use std::alloc::Global;
+    ///
+    /// fn union_of_two_images(alloc: Global, images: &[u8]) -> Result<BloomFilter, Error> {
+    ///     let (mut first, used) = BloomFilter::deserialize_prefix(alloc, images, 1 << 20)?;
+    ///     let (second, _) = BloomFilter::deserialize_prefix(alloc, &images[used..], 1 << 20)?;
+    ///     first.union(&second)?;
+    ///     Ok(first)
+    /// }
+    /// ```
+    pub fn deserialize_prefix(
+        alloc: Global,
+        image: &[u8],
+        max_bytes: usize,
+    ) -> Result<(Self, usize), Error>
+        ensures image { IfOk result (λ r. IsImage image.now r.0) }
+        ensures state { IfOk result (λ r. IsFilterState r.0) }
+        ensures stands { IfOk result (λ r. Restores image.now r.0) }
+        ensures within { IfOk result (λ r. 8 * r.0.num_words ≤ max_bytes) }
+        ensures used { IfOk result (λ r. r.1 ≡ prefix_bytes image.now) }
+        ensures there { IfOk result (λ r. r.1 ≤ length image.now) }
+        ensures err { IfErr result
+            (IsImageRefusal (early_fault_within max_bytes image.now) (first_fault_within max_bytes image.now)) }
+    {
+        let preamble = read_preamble(image)?;
+        let filter = Self::deserialize_with_limit(alloc, image, max_bytes)?;
+        let used = if preamble.is_empty {
+            24
+        } else {
+            32 + 8 * preamble.num_words
+        };
+        Ok((filter, used))
     }
 
     /// Clones the filter with memory of its own, as [`clone`](Clone::clone) does.

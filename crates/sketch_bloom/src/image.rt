@@ -38,6 +38,7 @@ pub struct Preamble {
 pub fn read_preamble(image: &[u8]) -> Result<Preamble, Error>
     ensures checks { OnOk result (early_fault image.now ≡ None) }
     ensures fields { IfOk result (IsPreamble image.now) }
+    ensures long { OnOk result (24 ≤ length image.now) }
     ensures words { IfOk result (λ p. p.is_empty ≡ false → 32 + 8 * p.num_words ≤ length image.now) }
     ensures some_words { IfOk result (λ p. 1 ≤ p.num_words) }
     ensures few_words { IfOk result (λ p. p.num_words ≤ MAX_NUM_WORDS) }

@@ -50,6 +50,10 @@ total_at least image = number_at least image 16
 abbrev pub cells_at : ℤ → List ℕ → List ℤ
 cells_at least image = numbers_in least (num_cells_at image) (drop 24 image)
 
+-- how many bytes the image at the front takes: what follows is not part of it
+abbrev pub prefix_bytes : List ℕ → ℕ
+prefix_bytes image = if says_empty image then 16 else 24 + 8 * num_cells_at image
+
 -- ---- the checks: a test, and the fault if it fails
 
 -- the checks before any allocation

@@ -32,6 +32,7 @@ pub struct Preamble {
 pub fn read_preamble(image: &[u8], seed: u64) -> Result<Preamble, Error>
     ensures checks { OnOk result (early_fault seed image.now ≡ None) }
     ensures fields { IfOk result (IsPreamble image.now) }
+    ensures long { OnOk result (16 ≤ length image.now) }
     ensures cells { IfOk result (λ p. p.is_empty ≡ false
         → 24 + 8 * (p.num_hashes * p.num_buckets) ≤ length image.now) }
     ensures some_hashes { IfOk result (λ p. 1 ≤ p.num_hashes) }

@@ -9,6 +9,7 @@ pub mod Existence
 pub mod ImageCounting
 pub mod ImageGathering
 pub mod ImageLimits
+pub mod ImageSizes
 pub mod ImageWeights
 pub mod Images
 pub mod Joins
@@ -31,6 +32,7 @@ pub mod SameMapsByCounts
 pub mod SameStates
 pub mod SampleSizes
 pub mod SlotEntries
+pub mod SpelledSizes
 pub mod Spellings
 pub mod StepsByKey
 pub mod StringUpdates

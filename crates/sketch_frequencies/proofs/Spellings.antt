@@ -4,14 +4,14 @@ use Rattle.std.specs.Int.{w64, to_le_bytes}
 use Rattle.std.specs.List.{Any}
 use Rattle.std.specs.Result.{IsOkAnd}
 use Rattle.std.proofs.Math.Seq.{get_or-append_seam}
-use Rattle.std.proofs.lemmas.List.{append-nil, length-map, map-append, take-append-drop}
+use Rattle.std.proofs.lemmas.List.{append-nil, length-map, take-append-drop}
 use Rattle.std.proofs.lemmas.List.Elements.{filter_map-append}
 use Rattle.std.proofs.lemmas.List.Sorted.{IsPermutation-refl}
-use Rattle.sketch_frequencies.specs.Image.{AreEncoded, IsSpelledFor, contents_of, encoded_weights, header, preamble}
+use Rattle.sketch_frequencies.specs.Image.{AreEncoded, IsSpelledFor, contents_of, encoded_weights, header}
 use Rattle.sketch_frequencies.specs.Items.{Codec}
 use Rattle.counter_table.specs.Slots.{entries_of, slot_entry}
 use Rattle.sketch_frequencies.specs.State.{FrequentState, IsState}
-use Rattle.sketch_frequencies.specs.Writing.{WritesItems}
+use Rattle.sketch_frequencies.specs.Writing.{IsWhole}
 use Rattle.counter_table.specs.declared.slot.Slot.{Slot}
 use Rattle.counter_table.specs.declared.slot.Slot.TheVariants.{Taken}
 use Rattle.sketch_frequencies.proofs.Images.{contents_state}
@@ -34,19 +34,10 @@ pub weights_push : {T : Type 0} (es : List (T × ℕ)) (e : T × ℕ) → encode
 weights_push [] e = append-nil (to_le_bytes w64 e.1)
 weights_push (d ∷ es) e = ap (λ (l : List ℕ). to_le_bytes w64 d.1 ++ l) (weights_push es e) ∙ sym (append_assoc (to_le_bytes w64 d.1) (encoded_weights es) (to_le_bytes w64 e.1))
 
-encoded_push : {C : Type 0} (codec : Codec C) (es : List (C × ℕ)) (e : C × ℕ) (bytes first : List ℕ) → AreEncoded codec es bytes → codec.encoding e.0 ≡ Ok first → AreEncoded codec (es ++ e ∷ []) (bytes ++ first)
+-- one item more
+pub encoded_push : {C : Type 0} (codec : Codec C) (es : List (C × ℕ)) (e : C × ℕ) (bytes first : List ℕ) → AreEncoded codec es bytes → codec.encoding e.0 ≡ Ok first → AreEncoded codec (es ++ e ∷ []) (bytes ++ first)
 encoded_push codec [] e bytes first h enc = (first, [], enc, ap (λ (l : List ℕ). l ++ first) h ∙ sym (append-nil first), refl)
 encoded_push codec (x ∷ es) e bytes first h enc = (h.0, h.1 ++ first, h.2, ap (λ (l : List ℕ). l ++ first) h.3 ∙ append_assoc h.0 h.1 first, encoded_push codec es e h.1 first h.4 enc)
-
--- one item more
-pub items_push : {T C : Type 0} (codec : Codec C) (content : T → C) (es : List (T × ℕ)) (e : T × ℕ) (old mid new first : List ℕ) → WritesItems codec (contents_of content es) old mid → codec.encoding (content e.0) ≡ Ok first → new ≡ mid ++ first → WritesItems codec (contents_of content (es ++ e ∷ [])) old new
-items_push {T} {C} codec content es e old mid new first before enc is =
-    let f : T × ℕ → C × ℕ = λ p. (content p.0, p.1) in
-    record {
-      items = before.items ++ first;
-      encoded = rw (map-append f es (e ∷ [])) (encoded_push codec (contents_of content es) (f e) before.items first before.encoded enc);
-      bytes = is ∙ ap (λ (l : List ℕ). l ++ first) before.bytes ∙ append_assoc old before.items first;
-    }
 
 encoded_weights-contents : {T C : Type 0} (content : T → C) (es : List (T × ℕ)) → encoded_weights (contents_of content es) ≡ encoded_weights es
 encoded_weights-contents content [] = refl
@@ -63,11 +54,10 @@ module _ {T C : Type 0} (codec : Codec C) (content : T → C) (eq : T → T → 
   }
 
   -- any other
-  pub spelled_full : (image begun weights : List ℕ) (s : FrequentState T) (lg_max lg_cur active : ℕ) → IsState eq s → s.total < 2 ^ 64 → 0 < s.total → 2 ^ lg_max ≡ s.max_size → 2 ^ lg_cur ≡ s.size → active ≡ length s.counters
-      → begun ≡ preamble lg_max lg_cur active s.total s.error → weights ≡ begun ++ encoded_weights s.counters → WritesItems codec (contents_of content s.counters) weights image → IsSpelledFor codec content image s
-  spelled_full image begun weights s lg_max lg_cur active state fits some max_size size active_is begun_is weights_is written =
+  pub spelled_full : (image : List ℕ) (s : FrequentState T) (lg_max lg_cur : ℕ) → IsState eq s → s.total < 2 ^ 64 → 0 < s.total → 2 ^ lg_max ≡ s.max_size → 2 ^ lg_cur ≡ s.size → IsWhole codec content lg_max lg_cur s.total s.error s.counters image → IsSpelledFor codec content image s
+  spelled_full image s lg_max lg_cur state fits some max_size size whole =
       let f : T × ℕ → C × ℕ = λ p. (content p.0, p.1) in
-      let many : length (contents_of content s.counters) ≡ active = length-map s.counters f ∙ sym active_is in
+      let many : length (contents_of content s.counters) ≡ length s.counters = length-map s.counters f in
       record {
         state = contents_state codec content eq alike s state;
         total = fits;
@@ -79,8 +69,8 @@ module _ {T C : Type 0} (codec : Codec C) (content : T → C) (eq : T → T → 
           lg_cur = lg_cur;
           max_size = sym max_size;
           size = sym size;
-          items = written.items;
-          encoded = written.encoded;
-          bytes = written.bytes ∙ rw (many, encoded_weights-contents content s.counters, weights_is, begun_is) refl;
+          items = whole.items;
+          encoded = whole.encoded;
+          bytes = whole.bytes ∙ rw (many, encoded_weights-contents content s.counters) refl;
         };
       }

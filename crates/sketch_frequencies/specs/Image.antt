@@ -67,6 +67,23 @@ items_in codec (suc n) bytes = do
 abbrev pub items_at : {C : Type 0} → Codec C → List ℕ → Result (List C) Fault
 items_at codec image = items_in codec (active_at image) (drop (32 + 8 * active_at image) image)
 
+-- how many bytes the item at the front takes, or 0 if it cannot be read
+abbrev pub used_by : {C : Type 0} → Result (C × ℕ) Fault → ℕ
+used_by (Ok first) = first.1
+used_by (Err fault) = 0
+
+-- how many bytes the first n items take
+unfoldable pub items_bytes : {C : Type 0} → Codec C → ℕ → List ℕ → ℕ
+items_bytes codec zero bytes = 0
+items_bytes codec (suc n) bytes =
+    used_by (codec.reading bytes) + items_bytes codec n (drop (used_by (codec.reading bytes)) bytes)
+
+-- how many bytes the image at the front takes: what follows is not part of it
+abbrev pub prefix_bytes : {C : Type 0} → Codec C → List ℕ → ℕ
+prefix_bytes codec image =
+    if says_empty image then 8
+    else 32 + 8 * active_at image + items_bytes codec (active_at image) (drop (32 + 8 * active_at image) image)
+
 -- the number of bytes after the weights, including those after the items
 abbrev pub bytes_for_items : List ℕ → ℕ
 bytes_for_items image = if says_empty image then 0 else length image - (32 + 8 * active_at image)

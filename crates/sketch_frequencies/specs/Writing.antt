@@ -1,10 +1,22 @@
--- The part of an image that was written. No public clause cites this module.
-use Rattle.std.specs.Prelude.{◌≡◌, ℕ, List, ◌++◌}
-use Rattle.sketch_frequencies.specs.Image.{AreEncoded}
+-- The length of an image that is to be written. No public clause cites this module.
+use Rattle.std.specs.Prelude.{◌≡◌, ℕ, ◌+◌, ◌*◌, ◌<◌, List, ◌++◌, length}
+use Rattle.sketch_frequencies.specs.Image.{AreEncoded, encoded_weights, preamble, contents_of}
 use Rattle.sketch_frequencies.specs.Items.{Codec}
+use Rattle.sketch_frequencies.specs.State.{FrequentState}
 
--- the bytes of the items were written after the old bytes
-pub record WritesItems {C : Type 0} (codec : Codec C) (counters : List (C × ℕ)) (old new : List ℕ) : Type 0 where
+-- the items have an encoding, and it takes n bytes
+abbrev pub TakeBytes : {C : Type 0} → Codec C → List (C × ℕ) → ℕ → Type 0
+TakeBytes codec counters n = (items : List ℕ) × AreEncoded codec counters items × (n ≡ length items)
+
+-- the sketch has an image, and it takes n bytes
+pub record IsImageSize {T C : Type 0} (codec : Codec C) (content : T → C) (s : FrequentState T) (n : ℕ) : Type 0 where
+  pub empty : s.total ≡ 0 → n ≡ 8
+  pub full : 0 < s.total →
+      (size : ℕ) × TakeBytes codec (contents_of content s.counters) size × (n ≡ 32 + 8 * length s.counters + size)
+
+-- the bytes are a preamble, and then the weights and the items of these counters
+pub record IsWhole {T C : Type 0} (codec : Codec C) (content : T → C) (lg_max lg_cur total error : ℕ) (counters : List (T × ℕ)) (image : List ℕ) : Type 0 where
   pub items : List ℕ
-  pub encoded : AreEncoded codec counters items
-  pub bytes : new ≡ old ++ items
+  pub encoded : AreEncoded codec (contents_of content counters) items
+  pub bytes :
+      image ≡ preamble lg_max lg_cur (length counters) total error ++ encoded_weights counters ++ items

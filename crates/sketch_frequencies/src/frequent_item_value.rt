@@ -1,5 +1,6 @@
 //! Items that a sketch of frequent items can write to its image, and read from one.
 ghost use Rattle.std.specs.Prelude.{◌≡◌, ◌+◌, ◌^◌, ◌≤◌, length, IfOk, IfErr, IsOk, IsErrOf, OnOk, OnErr, Err, Ok};
+ghost use Rattle.std.specs.Result.{IsOkAnd};
 ghost use Rattle.std.specs.String.{string_bytes};
 ghost use Rattle.sketch_base.specs.Errors.{no_memory, invalid_argument, invalid_data};
 ghost use Rattle.sketch_frequencies.specs.Items.{Codec, IsLawful, Writes, Reads, IsWritingRefusal, IsReadingRefusal, AddsBytes, TakesBytes, text_codec, text_encoding, text_reading, text_taken, IsTextRefusal};
@@ -41,6 +42,22 @@ pub trait FrequentItemValue: Sized + Eq + Hash {
     /// The result is arbitrary if that call rejects the item.
     fn serialize_size(item: &Self) -> usize
         ensures { IfOk (codec.encoding (content item.now)) (λ bytes. result ≡ length bytes) };
+
+    /// Returns the number of bytes that [`serialize_value`](Self::serialize_value) writes.
+    ///
+    /// # Errors
+    ///
+    /// Returns the fault with which that call rejects the item, of the kind `InvalidArgument`.
+    fn checked_serialize_size(item: &Self) -> Result<usize, Error>
+        ensures ok { IfOk result (λ n. IsOkAnd (codec.encoding (content item.now)) (λ bytes. n ≡ length bytes)) }
+        ensures err { IfErr result (λ e. (e ≡ invalid_argument e.fault) × (codec.encoding (content item.now) ≡ Err e.fault)) };
+
+    /// Writes the bytes that [`serialize_value`](Self::serialize_value) writes to `out`, which has just as many.
+    ///
+    /// No call is possible for an item that is rejected. Does not allocate.
+    fn serialize_into(&self, out: &mut [u8])
+        requires { IsOkAnd (codec.encoding (content self.now)) (λ bytes. length out.old ≡ length bytes) }
+        ensures { codec.encoding (content self.now) ≡ Ok out.new };
 
     /// Writes the item at the end of `out`.
     ///
@@ -109,6 +126,18 @@ impl FrequentItemValue for u64 {
     }
 
     #[inline]
+    fn checked_serialize_size(item: &u64) -> Result<usize, Error> {
+        // For the prover: this read brings in the range of the number.
+        let _number = *item;
+        Ok(8)
+    }
+
+    #[inline]
+    fn serialize_into(&self, out: &mut [u8]) {
+        out.copy_from_slice(&self.to_le_bytes());
+    }
+
+    #[inline]
     fn serialize_value(&self, out: &mut SketchBytes) -> Result<(), Error> {
         out.write_u64_le(*self)
     }
@@ -149,6 +178,18 @@ impl FrequentItemValue for i64 {
     #[inline]
     fn serialize_size(_item: &i64) -> usize {
         8
+    }
+
+    #[inline]
+    fn checked_serialize_size(item: &i64) -> Result<usize, Error> {
+        // For the prover: this read brings in the range of the number.
+        let _number = *item;
+        Ok(8)
+    }
+
+    #[inline]
+    fn serialize_into(&self, out: &mut [u8]) {
+        out.copy_from_slice(&self.to_le_bytes());
     }
 
     #[inline]
@@ -195,6 +236,21 @@ impl FrequentItemValue for String {
     #[inline]
     fn serialize_size(item: &String) -> usize {
         4 + item.len()
+    }
+
+    #[inline]
+    fn checked_serialize_size(item: &String) -> Result<usize, Error> {
+        if item.len() > u32::MAX as usize {
+            return Err(Error::invalid_argument(Fault::ItemTooLong));
+        }
+        Ok(4 + item.len())
+    }
+
+    #[inline]
+    fn serialize_into(&self, out: &mut [u8]) {
+        let text = self.as_bytes();
+        out[..4].copy_from_slice(&(text.len() as u32).to_le_bytes());
+        out[4..].copy_from_slice(text);
     }
 
     #[inline(always)]

@@ -1,23 +1,23 @@
 //! The images of sketches: how they are read and written.
-ghost use Rattle.std.specs.Prelude.{◌≡◌, ◌+◌, ◌-◌, ◌*◌, ◌<◌, ◌≤◌, ◌^◌, ◌++◌, [], None, Some, length, take, slice_index, sum, IfOk, IfErr, IfNone, OnOk, IsTrue};
+ghost use Rattle.std.specs.Prelude.{◌≡◌, ℕ, ◌+◌, ◌-◌, ◌*◌, ◌<◌, ◌≤◌, ◌^◌, ◌++◌, [], None, Some, length, take, drop, slice_index, sum, IfOk, IfErr, IfNone, OnOk, IsTrue};
 ghost use Rattle.std.specs.Int.{is_power_of_two};
 ghost use Rattle.sketch_base.specs.Checks.{first_failing};
 ghost use Rattle.sketch_base.specs.Errors.{invalid_data, no_memory};
 ghost use Rattle.sketch_base.specs.Fields.{byte_at};
 ghost use Rattle.counter_table.specs.Bytes.{table_bytes};
-ghost use Rattle.sketch_frequencies.specs.Image.{header_checks, count_checks, weight_checks, active_at, weights_at, header, preamble, encoded_weights, contents_of, IsImageWritingRefusal};
+ghost use Rattle.sketch_frequencies.specs.Image.{items_bytes, header_checks, count_checks, weight_checks, active_at, weights_at, header, preamble, encoded_weights, contents_of, AreEncoded, IsImageWritingRefusal};
 ghost use Rattle.sketch_frequencies.specs.Items.{max_owned};
 ghost use Rattle.sketch_frequencies.specs.Memory.{owned_by, memory_bytes};
 ghost use Rattle.sketch_frequencies.specs.Reading.{IsHeader, AreNumbers, AreCounters, IsItemsRefusal};
 ghost use Rattle.counter_table.specs.Slots.{entries_of};
 ghost use Rattle.sketch_frequencies.specs.State.{capacity};
-ghost use Rattle.sketch_frequencies.specs.Writing.{WritesItems};
+ghost use Rattle.sketch_frequencies.specs.Writing.{TakeBytes, IsWhole};
 
 use crate::frequent_item_value::FrequentItemValue;
 use counter_table::{ReversePurgeItemHashMap, Slot, TableKey, bytes_of_table, capacity_of};
 use sketch_base::image::{SERIAL_VERSION, opening_fault, u32_at, u64_at};
-use sketch_base::{Error, Family, Fault, SketchBytes, SketchSlice};
-use std::alloc::Global;
+use sketch_base::{Error, Family, Fault, SketchSlice};
+use std::alloc::{AllocError, Global};
 
 /// The number of 8-byte words in the preamble of an empty sketch.
 pub const PREAMBLE_LONGS_EMPTY: u8 = 1;
@@ -205,14 +205,15 @@ fn weight_at(image: &[u8], i: usize) -> u64
     u64_at(image, 32 + 8 * i)
 }
 
-/// Reads the items, each with its weight, into a new table of `size` slots with a key.
+/// Reads the items, each with its weight, into a new table of `size` slots with a key. Returns the table and the number of bytes
+/// up to the end of the items.
 pub(crate) fn read_counters<T: FrequentItemValue + Drop>(
     alloc: Global,
     image: &[u8],
     active: u32,
     size: usize,
     key: TableKey,
-) -> Result<ReversePurgeItemHashMap<T>, Error>
+) -> Result<(ReversePurgeItemHashMap<T>, usize), Error>
     requires active { active ≡ active_at image.now }
     requires weights { 32 + 8 * active ≤ length image.now }
     requires fits { sum (weights_at image.now) < 2 ^ 64 }
@@ -220,10 +221,12 @@ pub(crate) fn read_counters<T: FrequentItemValue + Drop>(
     requires least { 8 ≤ size }
     requires power { IsTrue (is_power_of_two size) }
     requires limit { size ≤ 2 ^ 30 }
-    ensures counters { IfOk result (λ map. AreCounters T.codec T.content T.eq image.now map.entries) }
-    ensures size { IfOk result (λ map. map.size ≡ size) }
-    ensures owned { IfOk result (λ map. owned_by T.codec T.content map.entries
+    ensures counters { IfOk result (λ r. AreCounters T.codec T.content T.eq image.now r.0.entries) }
+    ensures size { IfOk result (λ r. r.0.size ≡ size) }
+    ensures owned { IfOk result (λ r. owned_by T.codec T.content r.0.entries
         ≤ max_owned T.codec (length image.now - (32 + 8 * active))) }
+    ensures used { IfOk result (λ r. r.1 ≡ 32 + 8 * active + items_bytes T.codec active (drop (32 + 8 * active) image.now)) }
+    ensures within { IfOk result (λ r. r.1 ≤ length image.now) }
     ensures err { IfErr result (IsItemsRefusal T.codec image.now) }
 {
     let mut slice = SketchSlice::new(image);
@@ -236,7 +239,8 @@ pub(crate) fn read_counters<T: FrequentItemValue + Drop>(
             map.adjust_or_put_value(item, weight);
         }
     }
-    Ok(map)
+    let used = image.len() - slice.remaining().len();
+    Ok((map, used))
 }
 
 /// Returns the bytes of a table plus those that the items in its slots own, or `usize::MAX` if the sum exceeds it.
@@ -264,58 +268,31 @@ pub(crate) fn table_size(lg: u8) -> usize
     1usize << lg
 }
 
-/// Returns the item in the first taken slot, if any.
-fn first_item<T>(slots: &[Slot<T>]) -> Option<&T>
-    ensures { IfNone result (entries_of slots.now ≡ []) }
+/// Returns the number of bytes that the items in the slots take in an image.
+///
+/// Returns the error of the first item that cannot be written, or `NoMemory` if there is no such item and the sum is `usize::MAX` or more.
+pub(crate) fn items_size<T: FrequentItemValue>(slots: &[Slot<T>]) -> Result<usize, Error>
+    ensures ok { IfOk result (TakeBytes T.codec (contents_of T.content (entries_of slots.now))) }
+    ensures err { IfErr result (IsImageWritingRefusal T.codec T.content (entries_of slots.now)) }
 {
+    let mut size = 0usize;
     for slot in slots {
         if let Slot::Taken { item, .. } = slot {
-            return Some(item);
+            size = size.saturating_add(T::checked_serialize_size(item)?);
         }
     }
-    None
-}
-
-/// Returns whether each item in the slots takes `size` bytes.
-///
-/// If all items of a type take the same number of bytes, as numbers do, the compiler removes the loop.
-fn take_each<T: FrequentItemValue>(slots: &[Slot<T>], size: usize) -> bool {
-    for slot in slots {
-        if let Slot::Taken { item, .. } = slot {
-            if T::serialize_size(item) != size {
-                return false;
-            }
-        }
+    if size == usize::MAX {
+        return Err(Error::from(AllocError));
     }
-    true
+    Ok(size)
 }
 
-/// Returns the number of bytes to allocate first for the image of a sketch with these slots and `active` counters.
-///
-/// These are the bytes of the preamble and of the weights, and those of the items if all take the same number. Otherwise
-/// [`write_weights`] allocates the items' bytes.
-pub(crate) fn first_room<T: FrequentItemValue>(slots: &[Slot<T>], active: usize) -> usize
-    requires { active ≤ 2 ^ 30 }
+/// Writes the image of an empty sketch to `out`, which has 8 bytes.
+pub(crate) fn write_empty(out: &mut [u8], lg_max: u8)
+    requires { length out.old ≡ 8 }
+    ensures { out.new ≡ header PREAMBLE_LONGS_EMPTY lg_max MIN_LG_SIZE EMPTY_FLAG_MASK }
 {
-    let weights = 32 + 8 * active;
-    let Some(item) = first_item(slots) else {
-        return weights;
-    };
-    let each = T::serialize_size(item);
-    if take_each(slots, each) {
-        weights.saturating_add(each.saturating_mul(active))
-    } else {
-        weights
-    }
-}
-
-/// Returns the image of an empty sketch.
-pub(crate) fn empty_image(alloc: Global, lg_max: u8) -> Result<SketchBytes, Error>
-    ensures ok { IfOk result (λ out. out.bytes ≡ header PREAMBLE_LONGS_EMPTY lg_max MIN_LG_SIZE EMPTY_FLAG_MASK) }
-    ensures err { IfErr result (λ e. e ≡ no_memory) }
-{
-    let mut out = SketchBytes::with_capacity(alloc, 8)?;
-    out.write(&[
+    out.copy_from_slice(&[
         PREAMBLE_LONGS_EMPTY,
         SERIAL_VERSION,
         Family::FREQUENCY.id,
@@ -324,28 +301,29 @@ pub(crate) fn empty_image(alloc: Global, lg_max: u8) -> Result<SketchBytes, Erro
         EMPTY_FLAG_MASK,
         0,
         0,
-    ])?;
-    Ok(out)
+    ]);
 }
 
-/// Allocates a buffer of `room` bytes, and writes the preamble of an image to it.
-pub(crate) fn begin_image(
-    alloc: Global,
-    room: usize,
+/// Writes the preamble of an image, and the counters in the slots, to `out`, which has the image's length.
+pub(crate) fn write_full<T: FrequentItemValue>(
+    out: &mut [u8],
     lg_max: u8,
     lg_cur: u8,
     numbers: &Numbers,
-) -> Result<SketchBytes, Error>
-    ensures ok { IfOk result (λ out.
-        out.bytes ≡ preamble lg_max lg_cur numbers.now.active numbers.now.total numbers.now.error) }
-    ensures err { IfErr result (λ e. e ≡ no_memory) }
+    slots: &[Slot<T>],
+)
+    requires active { numbers.now.active ≡ length (entries_of slots.now) }
+    requires size { (size : ℕ) × TakeBytes T.codec (contents_of T.content (entries_of slots.now)) size
+        × (length out.old ≡ 32 + 8 * numbers.now.active + size) }
+    ensures whole { IsWhole T.codec T.content lg_max lg_cur numbers.now.total numbers.now.error (entries_of slots.now) out.new }
 
     // What the type says, for the caller's proof.
-    ensures total_fits { OnOk result (numbers.now.total < 2 ^ 64) }
+    ensures total_fits { numbers.now.total < 2 ^ 64 }
 {
-    let mut out = SketchBytes::with_capacity(alloc, room)?;
-    out.write(&preamble_bytes(lg_max, lg_cur, numbers))?;
-    Ok(out)
+    let (front, rest) = out.split_at_mut(32);
+    let (weights, items) = rest.split_at_mut(8 * numbers.active as usize);
+    front.copy_from_slice(&preamble_bytes(lg_max, lg_cur, numbers));
+    write_counters(slots, weights, items);
 }
 
 /// Returns the bytes of the preamble of an image.
@@ -369,82 +347,22 @@ fn preamble_bytes(lg_max: u8, lg_cur: u8, numbers: &Numbers) -> [u8; 32]
     ]
 }
 
-/// The number of slots whose weights are written at once.
-const BLOCK: usize = 64;
-
-/// Copies the weights of the counters in the slots to `bytes`. Returns the size of the weights and that of the items.
-///
-/// So that no branch depends on the slot, a free slot writes `none`, which the next weight overwrites, and adds the size of
-/// `other`. The compiler adds a branch if `none` is a number of its own: so it is a reference, and the function is not
-/// inlined. The items' bytes are counted modulo 2^64, since no image can be longer.
-#[inline(never)]
-fn gather_weights<T: FrequentItemValue>(
-    slots: &[Slot<T>],
-    none: &u64,
-    other: &T,
-    bytes: &mut [u8],
-) -> (usize, usize)
-    requires { 8 * length slots.now ≤ length bytes.old }
-    ensures weights { take result.0 bytes.new ≡ encoded_weights (entries_of slots.now) }
-    ensures few { result.0 ≤ 8 * length slots.now }
+/// Writes the weights of the counters in the slots to `weights`, and their items to `items`, in the same order.
+fn write_counters<T: FrequentItemValue>(slots: &[Slot<T>], weights: &mut [u8], items: &mut [u8])
+    requires weights { length weights.old ≡ 8 * length (entries_of slots.now) }
+    requires items { TakeBytes T.codec (contents_of T.content (entries_of slots.now)) (length items.old) }
+    ensures weights { weights.new ≡ encoded_weights (entries_of slots.now) }
+    ensures items { AreEncoded T.codec (contents_of T.content (entries_of slots.now)) items.new }
 {
-    let mut size = 0;
-    let mut items = 0usize;
+    let mut i = 0;
+    let mut at = 0;
     for slot in slots {
-        let (count, taken, item) = match slot {
-            Slot::Taken { count, item, .. } => (count, 8, item),
-            Slot::Free => (none, 0, other),
-        };
-        bytes[size..size + 8].copy_from_slice(&count.to_le_bytes());
-        size += taken;
-        items = items.wrapping_add(T::serialize_size(item));
-    }
-    (size, items)
-}
-
-/// Writes the weights of the `active` counters in the slots, and reserves room for their items.
-pub(crate) fn write_weights<T: FrequentItemValue>(
-    out: &mut SketchBytes,
-    slots: &[Slot<T>],
-    active: usize,
-) -> Result<(), Error>
-    ensures ok { OnOk result (out.new.bytes ≡ out.old.bytes ++ encoded_weights (entries_of slots.now)) }
-    ensures err { IfErr result (λ e. e ≡ no_memory) }
-{
-    let Some(other) = first_item(slots) else {
-        return Ok(());
-    };
-    let mut bytes = [0; 8 * BLOCK];
-    let blocks = slots.len() / BLOCK;
-    let mut all = 0usize;
-    // The label names the loop for its proof.
-    'whole: for b in 0..blocks {
-        let at = BLOCK * b;
-        let (size, items) = gather_weights(&slots[at..at + BLOCK], &0, other, &mut bytes);
-        out.write(&bytes[..size])?;
-        all = all.wrapping_add(items);
-    }
-    let (last, items) = gather_weights(&slots[BLOCK * blocks..], &0, other, &mut bytes);
-    out.write(&bytes[..last])?;
-    let free = slots.len().wrapping_sub(active);
-    let of_free = free.wrapping_mul(T::serialize_size(other));
-    out.reserve(all.wrapping_add(items).wrapping_sub(of_free))?;
-    Ok(())
-}
-
-/// Writes the items of the counters in the slots, in the order of their weights.
-pub(crate) fn write_items<T: FrequentItemValue>(
-    out: &mut SketchBytes,
-    slots: &[Slot<T>],
-) -> Result<(), Error>
-    ensures ok { OnOk result
-        (WritesItems T.codec (contents_of T.content (entries_of slots.now)) out.old.bytes out.new.bytes) }
-    ensures err { IfErr result (IsImageWritingRefusal T.codec T.content (entries_of slots.now)) }
-{
-    for slot in slots {
-        if let Slot::Taken { item, .. } = slot {
-            item.serialize_value(out)?;
+        if let Slot::Taken { count, item, .. } = slot {
+            weights[i..i + 8].copy_from_slice(&count.to_le_bytes());
+            i += 8;
+            let size = T::serialize_size(item);
+            item.serialize_into(&mut items[at..at + size]);
+            at += size;
         }
     }
-    Ok(())
 }

@@ -113,6 +113,17 @@ impl<const KIND: u8> FrequentItemValue for Item<KIND> {
         8
     }
 
+    fn checked_serialize_size(item: &Self) -> Result<usize, Error> {
+        if KIND == UNWRITABLE && item.0 == MARKED {
+            return Err(Error::invalid_argument(Fault::BadItem));
+        }
+        Ok(8)
+    }
+
+    fn serialize_into(&self, out: &mut [u8]) {
+        out.copy_from_slice(&self.0.to_le_bytes());
+    }
+
     fn serialize_value(&self, out: &mut SketchBytes) -> Result<(), Error> {
         if KIND == UNWRITABLE && self.0 == MARKED {
             return Err(Error::invalid_argument(Fault::BadItem));

@@ -3,7 +3,7 @@ ghost use Rattle.std.specs.Prelude.{◌≡◌, ◌≢◌, ℕ, List, ◌+◌, �
 ghost use Rattle.sketch_base.specs.Checks.{IsImageRefusal};
 ghost use Rattle.sketch_base.specs.Errors.{no_memory};
 ghost use Rattle.sketch_base.specs.Hashes.{seed_hash};
-ghost use Rattle.sketch_countmin.specs.Image.{early_fault, late_fault, first_fault, early_fault_within, first_fault_within, value_at, image_bytes, IsImage, IsSpelled, Restores};
+ghost use Rattle.sketch_countmin.specs.Image.{early_fault, late_fault, first_fault, early_fault_within, first_fault_within, value_at, image_bytes, IsImage, IsSpelled, Restores, prefix_bytes};
 ghost use Rattle.sketch_countmin.specs.Preamble.{IsPreamble};
 ghost use Rattle.sketch_countmin.specs.State.{IsCountState};
 
@@ -215,6 +215,62 @@ impl<T: CountMinValue> CountMinSketch<T> {
         } else {
             Self::with_cells_of(alloc, image, preamble, seed)
         }
+    }
+
+    /// Reads a sketch from the image at the front of `image`, as
+    /// [`deserialize_with_seed_and_limit`](Self::deserialize_with_seed_and_limit) does, and returns the number of bytes
+    /// that the image takes with it.
+    ///
+    /// So images can be read that stand one after another.
+    ///
+    /// # Errors
+    ///
+    /// The errors of `deserialize_with_seed_and_limit`.
+    ///
+    /// # Examples
+    ///
+    /// ```
+    /// use sketch_base::Error;
+    /// use sketch_countmin::CountMinSketch;
+    /// use std::alloc::Global;
+    ///
+    /// fn sum_of_two_images(
+    ///     alloc: Global,
+    ///     images: &[u8],
+    ///     seed: u64,
+    /// ) -> Result<CountMinSketch<u64>, Error> {
+    ///     let (mut first, used) = CountMinSketch::deserialize_prefix(alloc, images, seed, 1 << 20)?;
+    ///     let rest = &images[used..];
+    ///     let (second, _) = CountMinSketch::deserialize_prefix(alloc, rest, seed, 1 << 20)?;
+    ///     first.merge(&second)?;
+    ///     Ok(first)
+    /// }
+    /// ```
+    pub fn deserialize_prefix(
+        alloc: Global,
+        image: &[u8],
+        seed: u64,
+        max_bytes: usize,
+    ) -> Result<(Self, usize), Error>
+        ensures image { IfOk result (λ r. IsImage T.least T.greatest seed image.now r.0) }
+        ensures state { IfOk result (λ r. IsCountState T.greatest r.0) }
+        ensures stands { IfOk result (λ r. Restores T.least T.greatest seed image.now r.0) }
+        ensures within { IfOk result
+            (λ r. r.0.hashes * r.0.buckets * T.SIZE + 8 * r.0.hashes ≤ max_bytes) }
+        ensures used { IfOk result (λ r. r.1 ≡ prefix_bytes image.now) }
+        ensures there { IfOk result (λ r. r.1 ≤ length image.now) }
+        ensures err { IfErr result
+            (IsImageRefusal (early_fault_within T.SIZE max_bytes seed image.now)
+            (first_fault_within T.least T.greatest T.SIZE max_bytes seed image.now)) }
+    {
+        let preamble = read_preamble(image, seed)?;
+        let sketch = Self::deserialize_with_seed_and_limit(alloc, image, seed, max_bytes)?;
+        let used = if preamble.is_empty {
+            16
+        } else {
+            24 + 8 * (preamble.num_hashes as usize * preamble.num_buckets as usize)
+        };
+        Ok((sketch, used))
     }
 
     /// Reads the total and the cells of an image that is not marked empty.

@@ -1,28 +1,47 @@
 //! Images of sketches.
-ghost use Rattle.std.specs.Prelude.{◌≡◌, ◌<◌, ◌≤◌, None, IfOk, IfErr, IsOk};
+ghost use Rattle.std.specs.Prelude.{◌≡◌, ◌<◌, ◌≤◌, ℕ, List, None, length, take, drop, IfOk, IfErr, IfSome, IsOk, OnErr};
 ghost use Rattle.sketch_base.specs.Checks.{IsImageRefusal};
 ghost use Rattle.counter_table.specs.Bytes.{table_bytes};
-ghost use Rattle.sketch_frequencies.specs.Image.{IsImageOf, IsSpelledFor, IsImageWritingRefusal, Restores, RestoresBudget, early_fault, first_fault, limit_fault, early_fault_within, first_fault_within};
+ghost use Rattle.sketch_frequencies.specs.Image.{IsImageOf, IsSpelledFor, IsImageWritingRefusal, Restores, RestoresBudget, early_fault, first_fault, limit_fault, early_fault_within, first_fault_within, prefix_bytes};
 ghost use Rattle.sketch_frequencies.specs.Memory.{owned_by, memory_bytes};
 ghost use Rattle.sketch_frequencies.specs.State.{IsState, max_sample_size};
+ghost use Rattle.sketch_frequencies.specs.Writing.{IsImageSize};
 
 use crate::frequent_item_value::FrequentItemValue;
 use crate::frequent_items_sketch::FrequentItemsSketch;
 use crate::image::{
-    Numbers, begin_image, bytes_with_items, check_limit, check_weights, empty_image, first_room,
-    read_counters, read_header, read_numbers, table_size, write_items, write_weights,
+    Numbers, bytes_with_items, check_limit, check_weights, items_size, read_counters, read_header,
+    read_numbers, table_size, write_empty, write_full,
 };
 use crate::sizes::{MIN_MAP_SIZE, max_sample_of};
 use counter_table::{ReversePurgeItemHashMap, TableKey};
 use sketch_base::Error;
-use std::alloc::Global;
+use std::alloc::{AllocError, Global};
 
 impl<T: FrequentItemValue + Drop> FrequentItemsSketch<T> {
+    /// Returns the number of bytes of the sketch's image, in one pass over the table. Nothing is allocated.
+    ///
+    /// It is 8 if the sketch is empty. Otherwise it is 32, 8 for each counter, and the bytes of the items.
+    ///
+    /// # Errors
+    ///
+    /// Returns a fault of the kind `InvalidArgument` if an item cannot be written, such as `ItemTooLong` for a string of more than
+    /// 2^32 - 1 bytes. Returns `NoMemory` if the bytes of the items are 2^64 - 1 or more.
+    pub fn serialized_size(&self) -> Result<usize, Error>
+        // There is an image, and each has this length.
+        ensures some { IfOk result (λ n.
+            (image : List ℕ) × IsSpelledFor T.codec T.content image self.now × (length image ≡ n)) }
+        ensures each { IfOk result (λ n.
+            (image : List ℕ) → IsSpelledFor T.codec T.content image self.now → length image ≡ n) }
+        ensures err { IfErr result (IsImageWritingRefusal T.codec T.content self.now.counters) }
+    {
+        self.image_size()
+    }
+
     /// Returns an image of the sketch.
     ///
-    /// It has 8 bytes if the sketch is empty. Otherwise it has 32 bytes, 8 for each counter, and the bytes of the items. The
-    /// order of the items is unspecified. The image does not contain the sample size. Allocates once if all items take the same
-    /// number of bytes, and at most twice otherwise.
+    /// It has [`serialized_size`](Self::serialized_size) bytes, and is allocated once. The order of the items is unspecified. The
+    /// image does not contain the sample size.
     ///
     /// # Errors
     ///
@@ -33,22 +52,81 @@ impl<T: FrequentItemValue + Drop> FrequentItemsSketch<T> {
         ensures err { IfErr result (IsImageWritingRefusal T.codec T.content self.now.counters) }
     {
         let alloc = self.map.allocator();
+        let mut image = vec![in alloc; 0; self.image_size()?]?;
+        self.write_image(&mut image);
+        Ok(image)
+    }
+
+    /// Writes an image of the sketch, as [`serialize`](Self::serialize) does, to the front of `out`, and returns its length. The
+    /// rest of `out` is unchanged. Does not allocate.
+    ///
+    /// Returns `None` if the image, of [`serialized_size`](Self::serialized_size) bytes, is longer than `out`, which is then unchanged.
+    ///
+    /// # Errors
+    ///
+    /// Returns those of `serialized_size`. `out` is then unchanged.
+    pub fn serialize_into(&self, out: &mut [u8]) -> Result<Option<usize>, Error>
+        ensures image { IfOk result (λ r. IfSome r (λ n. IsSpelledFor T.codec T.content (take n out.new) self.now)) }
+        ensures length { IfOk result (λ r. IfSome r (λ n. n ≤ length out.old)) }
+        ensures rest { IfOk result (λ r. IfSome r (λ n. drop n out.new ≡ drop n out.old)) }
+
+        // There is none only if `out` is too short for each image.
+        ensures room { IfOk result (λ r. r ≡ None →
+            (image : List ℕ) → IsSpelledFor T.codec T.content image self.now → length out.old < length image) }
+        ensures none { IfOk result (λ r. r ≡ None → out.new ≡ out.old) }
+        ensures err { IfErr result (IsImageWritingRefusal T.codec T.content self.now.counters) }
+        ensures unchanged { OnErr result (out.new ≡ out.old) }
+    {
+        let length = self.image_size()?;
+        if length > out.len() {
+            return Ok(None);
+        }
+        self.write_image(&mut out[..length]);
+        Ok(Some(length))
+    }
+
+    /// Returns the number of bytes of the sketch's image.
+    fn image_size(&self) -> Result<usize, Error>
+        ensures size { IfOk result (IsImageSize T.codec T.content self.now) }
+        ensures some { IfOk result (λ n.
+            (image : List ℕ) × IsSpelledFor T.codec T.content image self.now × (length image ≡ n)) }
+        ensures each { IfOk result (λ n.
+            (image : List ℕ) → IsSpelledFor T.codec T.content image self.now → length image ≡ n) }
+        ensures err { IfErr result (IsImageWritingRefusal T.codec T.content self.now.counters) }
+    {
+        if self.total == 0 {
+            return Ok(8);
+        }
+        let items = items_size(self.map.slots())?;
+        let front = 32 + 8 * self.map.num_active();
+        if items > usize::MAX - front {
+            return Err(Error::from(AllocError));
+        }
+        Ok(front + items)
+    }
+
+    /// Writes an image of the sketch to `out`, which has the image's length.
+    fn write_image(&self, out: &mut [u8])
+        requires { IsImageSize T.codec T.content self.now (length out.old) }
+        ensures { IsSpelledFor T.codec T.content out.new self.now }
+    {
         let lg_max = self.lg_max_map_size();
         if self.total == 0 {
-            return Ok(empty_image(alloc, lg_max)?.into_bytes());
+            write_empty(out, lg_max);
+        } else {
+            let numbers = Numbers {
+                active: self.map.num_active() as u32,
+                total: self.total,
+                error: self.error,
+            };
+            write_full(
+                out,
+                lg_max,
+                self.map.lg_length(),
+                &numbers,
+                self.map.slots(),
+            );
         }
-        let slots = self.map.slots();
-        let active = self.map.num_active();
-        let numbers = Numbers {
-            active: active as u32,
-            total: self.total,
-            error: self.error,
-        };
-        let room = first_room(slots, active);
-        let mut out = begin_image(alloc, room, lg_max, self.map.lg_length(), &numbers)?;
-        write_weights(&mut out, slots, active)?;
-        write_items(&mut out, slots)?;
-        Ok(out.into_bytes())
     }
 
     /// Returns the sketch of an image.
@@ -97,7 +175,7 @@ impl<T: FrequentItemValue + Drop> FrequentItemsSketch<T> {
     ///
     /// ```
     /// use sketch_frequencies::{Error, FrequentItemsSketch};
-    /// use std::alloc::Global;
+    /// use std::alloc::{AllocError, Global};
     ///
     /// fn sent_pages(
     ///     alloc: Global,
@@ -140,7 +218,7 @@ impl<T: FrequentItemValue + Drop> FrequentItemsSketch<T> {
     ///
     /// ```
     /// use sketch_frequencies::{Error, FrequentItemsSketch, TableKey};
-    /// use std::alloc::Global;
+    /// use std::alloc::{AllocError, Global};
     ///
     /// fn received(
     ///     alloc: Global,
@@ -167,33 +245,87 @@ impl<T: FrequentItemValue + Drop> FrequentItemsSketch<T> {
         ensures err { IfErr result (IsImageRefusal (early_fault_within T.row max_bytes T.codec image.now)
             (first_fault_within T.row max_bytes T.codec image.now)) }
     {
+        let (sketch, _) = Self::deserialize_prefix(alloc, image, max_bytes, key)?;
+        Ok(sketch)
+    }
+
+    /// Returns the sketch of the image at the front of `image`, as
+    /// [`deserialize_with_limit_and_key`](Self::deserialize_with_limit_and_key) does, and the number of bytes that the image takes.
+    ///
+    /// So images can be read that stand one after another. The limit counts all bytes after the weights if items own memory.
+    ///
+    /// # Errors
+    ///
+    /// Returns those of `deserialize_with_limit`.
+    ///
+    /// # Examples
+    ///
+    /// ```
+    /// use sketch_frequencies::{Error, FrequentItemsSketch, TableKey};
+    /// use std::alloc::Global;
+    ///
+    /// fn pages_of_two_images(
+    ///     alloc: Global,
+    ///     images: &[u8],
+    ///     key: TableKey,
+    /// ) -> Result<FrequentItemsSketch<u64>, Error> {
+    ///     let max_bytes = 1 << 20;
+    ///     let (mut first, used) =
+    ///         FrequentItemsSketch::deserialize_prefix(alloc, images, max_bytes, key)?;
+    ///     let rest = &images[used..];
+    ///     let (second, _) = FrequentItemsSketch::deserialize_prefix(alloc, rest, max_bytes, key)?;
+    ///     first.merge(&second)?;
+    ///     Ok(first)
+    /// }
+    /// ```
+    pub fn deserialize_prefix(
+        alloc: Global,
+        image: &[u8],
+        max_bytes: usize,
+        key: TableKey,
+    ) -> Result<(Self, usize), Error>
+        ensures image { IfOk result (λ r. IsImageOf T.codec T.content image.now r.0) }
+        ensures state { IfOk result (λ r. IsState T.eq r.0) }
+        ensures sample { IfOk result (λ r. r.0.sample_size ≡ max_sample_size r.0.max_size) }
+        ensures stands { IfOk result (λ r. Restores T.codec T.content T.eq image.now r.0) }
+        ensures budget { IfOk result (λ r. RestoresBudget T.codec T.content T.eq image.now r.0) }
+        ensures used { IfOk result (λ r. r.1 ≡ prefix_bytes T.codec image.now) }
+        ensures there { IfOk result (λ r. r.1 ≤ length image.now) }
+        ensures within { IfOk result (λ r.
+            memory_bytes (table_bytes T.row r.0.size) (owned_by T.codec T.content r.0.counters) ≤ max_bytes) }
+        ensures accepted { IsOk result → limit_fault T.row max_bytes T.codec image.now ≡ None }
+        ensures err { IfErr result (IsImageRefusal (early_fault_within T.row max_bytes T.codec image.now)
+            (first_fault_within T.row max_bytes T.codec image.now)) }
+    {
         let header = read_header(image)?;
         let max_size = table_size(header.lg_max);
         let sample_size = max_sample_of(max_size);
         if header.is_empty {
             check_limit::<T>(MIN_MAP_SIZE, 0, max_bytes)?;
             let map = ReversePurgeItemHashMap::with_key(alloc, MIN_MAP_SIZE, key)?;
-            return Ok(FrequentItemsSketch {
+            let sketch = FrequentItemsSketch {
                 map,
                 error: 0,
                 total: 0,
                 max_size,
                 sample_size,
-            });
+            };
+            return Ok((sketch, 8));
         }
         let size = table_size(header.lg_cur);
         let numbers = read_numbers(image, header.lg_cur)?;
         let item_bytes = image.len() - (32 + 8 * numbers.active as usize);
         check_limit::<T>(size, item_bytes, max_bytes)?;
         check_weights(image, &numbers)?;
-        let map = read_counters(alloc, image, numbers.active, size, key)?;
-        Ok(FrequentItemsSketch {
+        let (map, used) = read_counters(alloc, image, numbers.active, size, key)?;
+        let sketch = FrequentItemsSketch {
             map,
             error: numbers.error,
             total: numbers.total,
             max_size,
             sample_size,
-        })
+        };
+        Ok((sketch, used))
     }
 
     /// Returns the number of bytes that the sketch takes: its [`estimated_size`](Self::estimated_size) and the bytes that its

@@ -10,19 +10,19 @@ use Rattle.sketch_frequencies.proofs.Powers.{eight_is_power}
 use Rattle.sketch_frequencies.proofs.Refusals.{none_of_empty, counts_of_full, size_of_empty, size_of_full, room_of_empty, room_of_full, is_within, first_of, early_refused, limit_refused, memory_refused, weights_refused, items_refused}
 use Rattle.sketch_frequencies.proofs.SampleSizes.{usual_sample}
 use Rattle.sketch_frequencies.proofs.ImageWeights.{length-weights_at}
-use Rattle.sketch_frequencies.proofs.frequent_items_sketch.FrequentItemsSketch.deserialize_with_limit_and_key.Goals as goal
+use Rattle.sketch_frequencies.proofs.frequent_items_sketch.FrequentItemsSketch.deserialize_prefix.Goals as goal
 
 pub with_key-requires-clause-power : goal.with_key-requires-clause-power
 with_key-requires-clause-power g c = eight_is_power
 
-pub invariant_of-result : goal.invariant_of-result
-invariant_of-result g c =
+pub invariant_of-sketch : goal.invariant_of-sketch
+invariant_of-sketch g c =
     let size = c.table_size-max_size.ensures in
     let h = c.in_ok-header.ensures in
     rw c.in_ok-map.ensures.ok (restored_empty g.T.PartialEq.eq c.in_ok-header.header.lg_max c.table_size-max_size.result _ (omega (arith, h.least, h.within)) size.value size.limit size.power c.max_sample_of-sample_size.ensures)
 
 pub returns-then-header-clause-state : goal.returns-then-header-clause-state
-returns-then-header-clause-state g c = invariant_of-result g c
+returns-then-header-clause-state g c = invariant_of-sketch g c
 
 pub returns-then-header-clause-image : goal.returns-then-header-clause-image
 returns-then-header-clause-image g c =
@@ -44,8 +44,8 @@ read_counters-requires-clause-least g c =
     let least : 2 ^ 3 ≤ 2 ^ c.in_ok-header.header.lg_cur = pow_mono c.in_ok-header.ensures.least in
     omega (arith, least, c.table_size-size.ensures.value)
 
-pub invariant_of-result-2 : goal.invariant_of-result-2
-invariant_of-result-2 g c =
+pub invariant_of-sketch-2 : goal.invariant_of-sketch-2
+invariant_of-sketch-2 g c =
     let h = c.in_ok-header.ensures in
     let n = c.in_ok-numbers.ensures in
     let image = c.args.image.now in
@@ -65,14 +65,14 @@ invariant_of-result-2 g c =
     (subst (λ (k : ℕ). IsSampleSize c.table_size-max_size.result k) (sym c.max_sample_of-sample_size.ensures) (usual_sample c.table_size-max_size.result (omega (arith, least, below, c.table_size-max_size.ensures.value)) c.table_size-max_size.ensures.power))
 
 pub returns-clause-state : goal.returns-clause-state
-returns-clause-state g c = invariant_of-result-2 g c
+returns-clause-state g c = invariant_of-sketch-2 g c
 
 pub returns-clause-image : goal.returns-clause-image
 returns-clause-image g c =
     let h = c.in_ok-header.ensures in
     let n = c.in_ok-numbers.ensures in
     let s : FrequentState g.row.T.Denot = record { counters = c.in_ok-map-2.map.entries; error = c.in_ok-numbers.numbers.error; total = c.in_ok-numbers.numbers.total; max_size = c.table_size-max_size.result; size = c.in_ok-map-2.map.size; sample_size = c.max_sample_of-sample_size.result } in
-    image_of_counters g.T.FrequentItemValue.codec g.T.FrequentItemValue.content g.T.PartialEq.eq g.met.T.FrequentItemValue.alike c.args.image.now s (invariant_of-result-2 g c) c.in_ok-map-2.ensures.counters h.checks (sym h.fields.is_empty ∙ c.if-header.false) n.checks c.in_ok-check_weights.ensures.checks n.fields.error n.fields.total
+    image_of_counters g.T.FrequentItemValue.codec g.T.FrequentItemValue.content g.T.PartialEq.eq g.met.T.FrequentItemValue.alike c.args.image.now s (invariant_of-sketch-2 g c) c.in_ok-map-2.ensures.counters h.checks (sym h.fields.is_empty ∙ c.if-header.false) n.checks c.in_ok-check_weights.ensures.checks n.fields.error n.fields.total
     (c.table_size-max_size.ensures.value ∙ ap (λ (k : ℕ). 2 ^ k) h.fields.lg_max)
     (c.in_ok-map-2.ensures.size ∙ c.table_size-size.ensures.value ∙ ap (λ (k : ℕ). 2 ^ k) h.fields.lg_cur)
 
@@ -85,43 +85,43 @@ returns-clause-budget g c = λ old was h stands keeps. restores_budget g.T.Frequ
 pub returns-in_err-header : goal.returns-in_err-header
 returns-in_err-header g c =
     let p = err_from_is_err_and c.from_residual.result c.from_residual.ensures.1 in
-    rw (p.1, p.2) (record { image = tt; state = tt; sample = tt; stands = tt; budget = tt; within = tt; accepted = λ ok. absurd cc; err = early_refused _ c.args.max_bytes g.T.FrequentItemValue.codec c.args.image.now _ (c.in_err-header.ensures.err.0, first_of _ _ c.in_err-header.ensures.err.1) })
+    rw (p.1, p.2) (record { image = tt; state = tt; sample = tt; stands = tt; budget = tt; used = tt; there = tt; within = tt; accepted = λ ok. absurd cc; err = early_refused _ c.args.max_bytes g.T.FrequentItemValue.codec c.args.image.now _ (c.in_err-header.ensures.err.0, first_of _ _ c.in_err-header.ensures.err.1) })
 
 pub returns-in_err-check_limit : goal.returns-in_err-check_limit
 returns-in_err-check_limit g c =
     let p = err_from_is_err_and c.from_residual-in_err-check_limit.result c.from_residual-in_err-check_limit.ensures.1 in
     let empty = sym c.in_ok-header.ensures.fields.is_empty ∙ c.if-header.true in
-    rw (p.1, p.2) (record { image = tt; state = tt; sample = tt; stands = tt; budget = tt; within = tt; accepted = λ ok. absurd cc; err = limit_refused _ c.args.max_bytes g.T.FrequentItemValue.codec c.args.image.now _ (none_of_empty c.args.image.now c.in_ok-header.ensures.checks empty) (size_of_empty c.args.image.now empty) (room_of_empty c.args.image.now empty) c.in_err-check_limit.ensures.err })
+    rw (p.1, p.2) (record { image = tt; state = tt; sample = tt; stands = tt; budget = tt; used = tt; there = tt; within = tt; accepted = λ ok. absurd cc; err = limit_refused _ c.args.max_bytes g.T.FrequentItemValue.codec c.args.image.now _ (none_of_empty c.args.image.now c.in_ok-header.ensures.checks empty) (size_of_empty c.args.image.now empty) (room_of_empty c.args.image.now empty) c.in_err-check_limit.ensures.err })
 
 pub returns-in_err-map : goal.returns-in_err-map
 returns-in_err-map g c =
     let p = err_from_is_err_and c.from_residual-in_err-map.result c.from_residual-in_err-map.ensures.1 in
     let empty = sym c.in_ok-header.ensures.fields.is_empty ∙ c.if-header.true in
-    rw (p.1, p.2) (record { image = tt; state = tt; sample = tt; stands = tt; budget = tt; within = tt; accepted = λ ok. absurd cc; err = memory_refused _ c.args.max_bytes g.T.FrequentItemValue.codec c.args.image.now _ (none_of_empty c.args.image.now c.in_ok-header.ensures.checks empty) (is_within _ c.args.max_bytes g.T.FrequentItemValue.codec c.args.image.now (size_of_empty c.args.image.now empty) (room_of_empty c.args.image.now empty) c.in_ok-check_limit.ensures.within) c.in_err-map.ensures.err })
+    rw (p.1, p.2) (record { image = tt; state = tt; sample = tt; stands = tt; budget = tt; used = tt; there = tt; within = tt; accepted = λ ok. absurd cc; err = memory_refused _ c.args.max_bytes g.T.FrequentItemValue.codec c.args.image.now _ (none_of_empty c.args.image.now c.in_ok-header.ensures.checks empty) (is_within _ c.args.max_bytes g.T.FrequentItemValue.codec c.args.image.now (size_of_empty c.args.image.now empty) (room_of_empty c.args.image.now empty) c.in_ok-check_limit.ensures.within) c.in_err-map.ensures.err })
 
 pub returns-in_err-numbers : goal.returns-in_err-numbers
 returns-in_err-numbers g c =
     let p = err_from_is_err_and c.from_residual-in_err-numbers.result c.from_residual-in_err-numbers.ensures.1 in
     let full = sym c.in_ok-header.ensures.fields.is_empty ∙ c.if-header.false in
-    rw (p.1, p.2) (record { image = tt; state = tt; sample = tt; stands = tt; budget = tt; within = tt; accepted = λ ok. absurd cc; err = early_refused _ c.args.max_bytes g.T.FrequentItemValue.codec c.args.image.now _ (c.in_err-numbers.ensures.err.0, counts_of_full c.args.image.now c.in_ok-header.ensures.checks full c.in_err-numbers.ensures.err.1) })
+    rw (p.1, p.2) (record { image = tt; state = tt; sample = tt; stands = tt; budget = tt; used = tt; there = tt; within = tt; accepted = λ ok. absurd cc; err = early_refused _ c.args.max_bytes g.T.FrequentItemValue.codec c.args.image.now _ (c.in_err-numbers.ensures.err.0, counts_of_full c.args.image.now c.in_ok-header.ensures.checks full c.in_err-numbers.ensures.err.1) })
 
 pub returns-in_err-check_limit-2 : goal.returns-in_err-check_limit-2
 returns-in_err-check_limit-2 g c =
     let p = err_from_is_err_and c.from_residual-in_err-check_limit-2.result c.from_residual-in_err-check_limit-2.ensures.1 in
     let full = sym c.in_ok-header.ensures.fields.is_empty ∙ c.if-header.false in
-    rw (p.1, p.2) (record { image = tt; state = tt; sample = tt; stands = tt; budget = tt; within = tt; accepted = λ ok. absurd cc; err = limit_refused _ c.args.max_bytes g.T.FrequentItemValue.codec c.args.image.now _ (counts_of_full c.args.image.now c.in_ok-header.ensures.checks full c.in_ok-numbers.ensures.checks) (size_of_full c.args.image.now full (c.table_size-size.ensures.value ∙ ap (λ (k : ℕ). 2 ^ k) c.in_ok-header.ensures.fields.lg_cur)) (room_of_full c.args.image.now full c.in_ok-numbers.ensures.fields.active refl) c.in_err-check_limit-2.ensures.err })
+    rw (p.1, p.2) (record { image = tt; state = tt; sample = tt; stands = tt; budget = tt; used = tt; there = tt; within = tt; accepted = λ ok. absurd cc; err = limit_refused _ c.args.max_bytes g.T.FrequentItemValue.codec c.args.image.now _ (counts_of_full c.args.image.now c.in_ok-header.ensures.checks full c.in_ok-numbers.ensures.checks) (size_of_full c.args.image.now full (c.table_size-size.ensures.value ∙ ap (λ (k : ℕ). 2 ^ k) c.in_ok-header.ensures.fields.lg_cur)) (room_of_full c.args.image.now full c.in_ok-numbers.ensures.fields.active refl) c.in_err-check_limit-2.ensures.err })
 
 pub returns-in_err-check_weights : goal.returns-in_err-check_weights
 returns-in_err-check_weights g c =
     let p = err_from_is_err_and c.from_residual-in_err-check_weights.result c.from_residual-in_err-check_weights.ensures.1 in
     let full = sym c.in_ok-header.ensures.fields.is_empty ∙ c.if-header.false in
-    rw (p.1, p.2) (record { image = tt; state = tt; sample = tt; stands = tt; budget = tt; within = tt; accepted = λ ok. absurd cc; err = weights_refused _ c.args.max_bytes g.T.FrequentItemValue.codec c.args.image.now _ (counts_of_full c.args.image.now c.in_ok-header.ensures.checks full c.in_ok-numbers.ensures.checks) (is_within _ c.args.max_bytes g.T.FrequentItemValue.codec c.args.image.now (size_of_full c.args.image.now full (c.table_size-size.ensures.value ∙ ap (λ (k : ℕ). 2 ^ k) c.in_ok-header.ensures.fields.lg_cur)) (room_of_full c.args.image.now full c.in_ok-numbers.ensures.fields.active refl) c.in_ok-check_limit-2.ensures.within) full c.in_err-check_weights.ensures.err })
+    rw (p.1, p.2) (record { image = tt; state = tt; sample = tt; stands = tt; budget = tt; used = tt; there = tt; within = tt; accepted = λ ok. absurd cc; err = weights_refused _ c.args.max_bytes g.T.FrequentItemValue.codec c.args.image.now _ (counts_of_full c.args.image.now c.in_ok-header.ensures.checks full c.in_ok-numbers.ensures.checks) (is_within _ c.args.max_bytes g.T.FrequentItemValue.codec c.args.image.now (size_of_full c.args.image.now full (c.table_size-size.ensures.value ∙ ap (λ (k : ℕ). 2 ^ k) c.in_ok-header.ensures.fields.lg_cur)) (room_of_full c.args.image.now full c.in_ok-numbers.ensures.fields.active refl) c.in_ok-check_limit-2.ensures.within) full c.in_err-check_weights.ensures.err })
 
 pub returns-in_err-map-2 : goal.returns-in_err-map-2
 returns-in_err-map-2 g c =
     let p = err_from_is_err_and c.from_residual-in_err-map-2.result c.from_residual-in_err-map-2.ensures.1 in
     let full = sym c.in_ok-header.ensures.fields.is_empty ∙ c.if-header.false in
-    rw (p.1, p.2) (record { image = tt; state = tt; sample = tt; stands = tt; budget = tt; within = tt; accepted = λ ok. absurd cc; err = items_refused _ c.args.max_bytes g.T.FrequentItemValue.codec c.args.image.now _ (counts_of_full c.args.image.now c.in_ok-header.ensures.checks full c.in_ok-numbers.ensures.checks) (is_within _ c.args.max_bytes g.T.FrequentItemValue.codec c.args.image.now (size_of_full c.args.image.now full (c.table_size-size.ensures.value ∙ ap (λ (k : ℕ). 2 ^ k) c.in_ok-header.ensures.fields.lg_cur)) (room_of_full c.args.image.now full c.in_ok-numbers.ensures.fields.active refl) c.in_ok-check_limit-2.ensures.within) full c.in_ok-check_weights.ensures.checks c.in_err-map-2.ensures.err })
+    rw (p.1, p.2) (record { image = tt; state = tt; sample = tt; stands = tt; budget = tt; used = tt; there = tt; within = tt; accepted = λ ok. absurd cc; err = items_refused _ c.args.max_bytes g.T.FrequentItemValue.codec c.args.image.now _ (counts_of_full c.args.image.now c.in_ok-header.ensures.checks full c.in_ok-numbers.ensures.checks) (is_within _ c.args.max_bytes g.T.FrequentItemValue.codec c.args.image.now (size_of_full c.args.image.now full (c.table_size-size.ensures.value ∙ ap (λ (k : ℕ). 2 ^ k) c.in_ok-header.ensures.fields.lg_cur)) (room_of_full c.args.image.now full c.in_ok-numbers.ensures.fields.active refl) c.in_ok-check_limit-2.ensures.within) full c.in_ok-check_weights.ensures.checks c.in_err-map-2.ensures.err })
 
 pub returns-then-header-clause-sample : goal.returns-then-header-clause-sample
 returns-then-header-clause-sample g c = c.max_sample_of-sample_size.ensures

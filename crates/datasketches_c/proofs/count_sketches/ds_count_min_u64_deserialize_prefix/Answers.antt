@@ -1,0 +1,11 @@
+use Rattle.std.proofs.Common.{pos, rules}
+use Rattle.datasketches_c.specs.Numbers.{max_u64}
+use Rattle.datasketches_c.proofs.ReadingCounts.{counts_not_read_with}
+use Rattle.datasketches_c.proofs.count_sketches.ds_count_min_u64_deserialize_prefix.Goals as goal
+
+-- the image was refused, or the handle found no memory
+pub returns-clause-refused : goal.returns-clause-refused
+returns-clause-refused c =
+    let read = c.deserialize_prefix-read in
+    let said = counts_not_read_with (pos 0) max_u64 8 c.args.max_bytes c.args.seed c.args.image.now (λ r. r.0) read.result c.put_read.result _ read.ensures.image read.ensures.within read.ensures.err c.put_read.ensures.refused in
+    search rules
