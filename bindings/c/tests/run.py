@@ -544,6 +544,7 @@ def main():
         tests.calls(f"{HERE}/table_keys.c")
         tests.calls(f"{HERE}/many.c")
         tests.calls(f"{HERE}/images.c")
+        tests.calls(f"{HERE}/prefixes.c")
         tests.calls(f"{HERE}/sharing.c")
         tests.races()
         tests.calls(f"{HERE}/checks.c")
