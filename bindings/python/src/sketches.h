@@ -12,9 +12,10 @@
 
 typedef struct Waiter Waiter;
 
-/* A sketch of any kind. A call of one or a few items keeps the interpreter's lock and uses the object's handle. A long call, of many
- * items or of whole sketches, lets other Python threads run. While it changes the sketch, no other call uses the sketch. While it
- * reads, it has a handle of its own that shares the sketch, so many such calls run at once. `enter` in `sketches.c` has the order.
+/* A sketch of any kind. A call of one or a few items keeps the interpreter's lock and uses the object's handle. A long call, of
+ * many items or of whole sketches, lets other Python threads run. While it changes the sketch, no other call uses the sketch.
+ * While it reads, it has a handle of its own that shares the sketch, so many such calls run at once. `enter` in `sketches.c` has
+ * the order.
  *
  * Only a thread with the interpreter's lock reads or changes the fields after `handle`, and only such a thread or a long call that
  * changes the sketch uses `handle`. No Python code runs during a long call. A new sketch is created in its own handle. Its object

@@ -1,4 +1,4 @@
-"""Images at the front of bytes: `deserialize_prefix` beside `deserialize`, and images of frequent items, which are written in place."""
+"""Images at the front of bytes, by `deserialize_prefix` beside `deserialize`, and the memory that an image takes."""
 import array
 import functools
 import mmap
