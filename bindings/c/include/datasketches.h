@@ -149,7 +149,7 @@ const char *ds_result_name(int32_t result);
 const char *ds_result_message(int32_t result);
 
 /* Frees the handle's sketch, of any kind, if any. The handle is then DS_NONE, and may be freed again. `ds_free(NULL)` does
- * nothing, for each caller. */
+ * nothing. */
 void ds_free(ds_sketch *handle);
 
 /* Puts a copy of the other handle's sketch, of any kind, into this handle. The other handle keeps its own. The copy of a shared
