@@ -291,8 +291,7 @@ int32_t ds_bloom_serialize(ds_sketch *handle, uint8_t *out, size_t capacity, siz
 int32_t ds_bloom_deserialize(ds_sketch *handle, const uint8_t *image, size_t length, size_t max_bytes);
 
 /* Reads a filter from the image at the front of `image` and puts it into the handle, as `ds_bloom_deserialize` does. Writes the
- * number of bytes that the image takes to `used`. The bytes after it are ignored, so images can stand one after another. After an
- * error `used` stays as it was. */
+ * number of bytes that the image takes to `used`. The bytes after it are ignored, so images can stand one after another. */
 int32_t ds_bloom_deserialize_prefix(ds_sketch *handle, const uint8_t *image, size_t length, size_t max_bytes, size_t *used);
 
 /* Returns DS_YES if the filter in an image contains the item, and DS_NO otherwise. The image is read in place, at any address, as
@@ -414,8 +413,7 @@ int32_t ds_count_min_u64_serialize(ds_sketch *handle, uint8_t *out, size_t capac
 int32_t ds_count_min_u64_deserialize(ds_sketch *handle, const uint8_t *image, size_t length, uint64_t seed, size_t max_bytes);
 
 /* Reads a sketch from the image at the front of `image` and puts it into the handle, as `ds_count_min_u64_deserialize` does. Writes
- * the number of bytes that the image takes to `used`. The bytes after it are ignored, so images can stand one after another. After
- * an error `used` stays as it was. */
+ * the number of bytes that the image takes to `used`. The bytes after it are ignored, so images can stand one after another. */
 int32_t ds_count_min_u64_deserialize_prefix(ds_sketch *handle, const uint8_t *image, size_t length, uint64_t seed,
                                             size_t max_bytes, size_t *used);
 
@@ -652,8 +650,7 @@ int32_t ds_frequent_items_string_deserialize_with_key(ds_sketch *handle, const u
 
 /* Reads a sketch from the image at the front of `image` and puts it into the handle, under a drawn key, as the calls without
  * `prefix` do. Writes the number of bytes that the image takes to `used`. The bytes after it are ignored, so images can stand one
- * after another. But with strings, all bytes of `image` after the weights count for `max_bytes`. After an error `used` stays as it
- * was. */
+ * after another. But with strings, all bytes of `image` after the weights count for `max_bytes`. */
 int32_t ds_frequent_items_u64_deserialize_prefix(ds_sketch *handle, const uint8_t *image, size_t length, size_t max_bytes,
                                                  size_t *used);
 int32_t ds_frequent_items_i64_deserialize_prefix(ds_sketch *handle, const uint8_t *image, size_t length, size_t max_bytes,
