@@ -80,7 +80,7 @@ static struct library opened(const char *path, const char *program)
         }
     }
     library.clone = function(object, "ds_clone");
-    library.free = function(object, "ds_free");
+    library.free = function(object, dlsym(object, "ds_free") ? "ds_free" : "ds_free_handle");
     return library;
 }
 

@@ -72,6 +72,12 @@ def new_strings():
     return ds.FrequentItemsSketch(16384, item=str)
 
 
+def read_images(images):
+    while images:
+        _, used = ds.FrequentItemsSketch.deserialize_prefix(images, item=str)
+        images = images[used:]
+
+
 def main():
     seen, count = ds.BloomFilter(num_bits=1 << 20, num_hashes=7), ds.CountMinSketch(num_hashes=4, num_buckets=4096)
     kinds = {"a list of numbers": numbers, "an array": lambda n: array.array("Q", numbers(n)), "a list of strings": strings}
@@ -100,6 +106,7 @@ def main():
          lambda image: ds.FrequentItemsSketch.deserialize(image, item=str))
     cost("deserialize of a filter", lambda n: filter_of(n).serialize(), ds.BloomFilter.deserialize)
     cost("deserialize of Count-Min", lambda n: count_of(n).serialize(), ds.CountMinSketch.deserialize)
+    cost("deserialize_prefix of each image", lambda n: memoryview(n * sketch_of(1, str).serialize()), read_images)
     cost("a pickle", lambda n: pickle.dumps(sketch_of(n)), pickle.loads)
     print("all calls made")
 

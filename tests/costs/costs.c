@@ -59,6 +59,32 @@ static void new_signed(size_t buckets) { check(!ds_count_min_i64_new(&sketch, 4,
 static void new_numbers(ds_sketch *handle) { check(!ds_frequent_items_u64_new(handle, SLOTS, SAMPLE), "numbers"); }
 static void new_strings(ds_sketch *handle) { check(!ds_frequent_items_string_new(handle, SLOTS, SAMPLE), "strings"); }
 
+typedef int32_t (*writer)(ds_sketch *, uint8_t *, size_t, size_t *);
+typedef int32_t (*prefix_reader)(ds_sketch *, const uint8_t *, size_t, size_t, size_t *);
+
+/* Writes the image of `other` n times, one after another, and returns the length of all. */
+static size_t images_of(writer serialize, size_t n)
+{
+    size_t at = 0, written;
+    for (size_t i = 0; i < n; i++, at += written)
+        check(!serialize(&other, image + at, sizeof image - at, &written), "images");
+    return at;
+}
+
+/* Reads images one after another, each from the front of all that is left, and returns their number. */
+static size_t read_images(prefix_reader read, size_t length)
+{
+    size_t count = 0, used;
+    for (size_t at = 0; at < length; at += used, count++)
+        check(!read(&sketch, image + at, length - at, SIZE_MAX, &used), "images");
+    return count;
+}
+
+static int32_t count_prefix(ds_sketch *handle, const uint8_t *bytes, size_t length, size_t max_bytes, size_t *used)
+{
+    return ds_count_min_u64_deserialize_prefix(handle, bytes, length, 9001, max_bytes, used);
+}
+
 static void filters(void)
 {
     size_t length = 0;
@@ -92,6 +118,8 @@ static void filters(void)
     COST_OF("bloom_deserialize, rejected at the end", new_filter(&other, 64 * n); ds_bloom_insert_u64(&other, 1);
             check(!ds_bloom_serialize(&other, image, sizeof image, &length), "image"); image[24]++,
             ds_bloom_deserialize(&sketch, image, length, SIZE_MAX), DS_BAD_BIT_COUNT)
+    COST_OF("bloom_deserialize_prefix of each image", new_filter(&other, 64); ds_bloom_insert_u64(&other, 1);
+            length = images_of(ds_bloom_serialize, n), read_images(ds_bloom_deserialize_prefix, length), n)
     COST("bloom_union", new_filter(&sketch, 64 * n); new_filter(&other, 64 * n), ds_bloom_union(&sketch, &other))
     COST("bloom_union_all", new_filter(&sketch, 64); for (size_t i = 0; i < n; i++) new_filter(&others[i], 64),
          ds_bloom_union_all(&sketch, others, n))
@@ -125,6 +153,8 @@ static void counts(void)
     COST_OF("count_min_deserialize, rejected at the end", new_count(&other, n); ds_count_min_u64_update_u64(&other, 1, 1);
             check(!ds_count_min_u64_serialize(&other, image, sizeof image, &length), "image"); image[length - 8] = 9,
             ds_count_min_u64_deserialize(&sketch, image, length, 9001, SIZE_MAX), DS_CELL_ABOVE_TOTAL)
+    COST_OF("count_min_deserialize_prefix of each image", new_count(&other, 3); ds_count_min_u64_update_u64(&other, 1, 1);
+            length = images_of(ds_count_min_u64_serialize, n), read_images(count_prefix, length), n)
     COST("count_min_merge", new_count(&sketch, n); new_count(&other, n); ds_count_min_u64_update_u64(&other, 1, 1),
          ds_count_min_u64_merge(&sketch, &other))
     COST("count_min_merge_all", new_count(&sketch, 3); for (size_t i = 0; i < n; i++) new_count(&others[i], 3),
@@ -157,6 +187,10 @@ static void frequent_numbers(const char *kind, const uint64_t *items)
     COST(NAMED("bounds_all"), , ds_frequent_items_u64_bounds_all(&sketch, items, n, bounds, n))
     COST(NAMED("deserialize"), size_t length = image_of(items, n),
          ds_frequent_items_u64_deserialize(&sketch, image, length, SIZE_MAX))
+    COST(NAMED("serialized_bytes"), size_t length; new_numbers(&sketch); ds_frequent_items_u64_update_all(&sketch, items, n),
+         ds_frequent_items_u64_serialized_bytes(&sketch, &length))
+    COST(NAMED("serialize"), size_t length; new_numbers(&sketch); ds_frequent_items_u64_update_all(&sketch, items, n),
+         ds_frequent_items_u64_serialize(&sketch, image, sizeof image, &length))
     COST(NAMED("merge"), new_numbers(&sketch); new_numbers(&other);
          ds_frequent_items_u64_update_all(&sketch, items, n / 2);
          ds_frequent_items_u64_update_all(&other, items + n / 2, n / 2), ds_frequent_items_u64_merge(&sketch, &other))
@@ -186,6 +220,18 @@ static void frequent_items(void)
          ds_frequent_items_string_update_all(&other, words, WORD * n, offsets, n + 1);
          check(!ds_frequent_items_string_serialize(&other, image, sizeof image, &length), "image"),
          ds_frequent_items_string_deserialize(&sketch, image, length, SIZE_MAX))
+    COST_OF("frequent_items_deserialize_prefix of each image, numbers", new_numbers(&other);
+            ds_frequent_items_u64_update(&other, 7, 1); length = images_of(ds_frequent_items_u64_serialize, n),
+            read_images(ds_frequent_items_u64_deserialize_prefix, length), n)
+    COST_OF("frequent_items_deserialize_prefix of each image, strings", new_strings(&other);
+            ds_frequent_items_string_update(&other, words, WORD, 1); length = images_of(ds_frequent_items_string_serialize, n),
+            read_images(ds_frequent_items_string_deserialize_prefix, length), n)
+    COST("frequent_items_serialized_bytes, strings", new_strings(&other);
+         ds_frequent_items_string_update_all(&other, words, WORD * n, offsets, n + 1),
+         ds_frequent_items_string_serialized_bytes(&other, &length))
+    COST("frequent_items_serialize, strings", new_strings(&other);
+         ds_frequent_items_string_update_all(&other, words, WORD * n, offsets, n + 1),
+         ds_frequent_items_string_serialize(&other, image, sizeof image, &length))
     COST_OF("frequent_items_deserialize, rejected at the end", new_strings(&other);
             ds_frequent_items_string_update_all(&other, words, WORD * n, offsets, n + 1);
             check(!ds_frequent_items_string_serialize(&other, image, sizeof image, &length), "image"); image[length - 1] = 0xff,

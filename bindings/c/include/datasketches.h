@@ -20,9 +20,9 @@
  *     DS_INVALID_UTF8, DS_BAD_FRACTION.
  *  3. Errors of handles: DS_NO_SKETCH if the handle has no sketch, DS_WRONG_KIND if its sketch is of a kind without this call,
  *     or is shared and the call changes it; of several handles, the first one's that has such an error, in the order of arguments
- *     and of an array. All calls return these but `ds_free`, those whose names end in `_new`, `_deserialize` or `_with_key`, those
- *     on images in place, and the calls for sizes at the end. `ds_clone`, `ds_memory_bytes`, `ds_freeze`, `ds_share` and
- *     `ds_thaw` take any kind.
+ *     and of an array. All calls return these but `ds_free`, those whose names end in `_new`, `_deserialize`,
+ *     `_deserialize_prefix` or `_with_key`, those on images in place, and the calls for sizes at the end. `ds_clone`,
+ *     `ds_memory_bytes`, `ds_freeze`, `ds_share` and `ds_thaw` take any kind.
  *  4. The errors in the call's comment, in their order there. DS_NO_MEMORY comes when an allocation fails, which may be earlier.
  *     DS_NO_ROOM of `serialize` and `rows` comes last.
  *
@@ -30,9 +30,10 @@
  *
  *  1. A handle is created as `DS_NONE`, is changed by these calls alone, and is not copied. What it holds belongs to the
  *     library: `ds_free` frees it, and so does a call that puts another sketch into the handle.
- *  2. Pointers are not null, are aligned for their type, and point to as many values as their count says. A caller may read
- *     these values, and write them where there is no `const`. No two arguments of a call overlap. The strings of pairs may
- *     overlap one another, but not the array of pairs or another argument. The pointer of an empty string is not null either.
+ *  2. Pointers are not null, but for that of `ds_free`, are aligned for their type, and point to as many values as their count
+ *     says. A caller may read these values, and write them where there is no `const`. No two arguments of a call overlap. The
+ *     strings of pairs may overlap one another, but not the array of pairs or another argument. The pointer of an empty string is
+ *     not null either.
  *  3. One call at a time uses a handle. Another thread may use it later if a lock, a thread's start or a join lies between.
  *     Two threads may use two handles at once, also two of one shared sketch. So threads that read one sketch at once have a
  *     handle each: see `ds_share`.
@@ -42,9 +43,9 @@
  *
  * `datasketches_checks.h`, which this header includes, checks parts of rule 2, at next to no cost. The same handle twice, a handle
  * that is also in the array of others, a null pointer with a count above 0, or a null pointer in a pair returns DS_BAD_ARGUMENT. A
- * null pointer with the count 0 means no values. `ds_free(NULL)` does nothing. These checks are macros of the calls' names, so
- * callers from other languages have none. `(ds_bloom_union)(a, b)`, in brackets, is the call without them. Define `DS_NO_CHECKS`
- * before this header to leave all out.
+ * null pointer with the count 0 means no values. These checks are macros of the calls' names, so callers from other languages have
+ * none. `(ds_bloom_union)(a, b)`, in brackets, is the call without them. Define `DS_NO_CHECKS` before this header to leave all
+ * out.
  *
  * The interface of the library file is fixed within a soname (`libdatasketches.so.0`). A call keeps its name, its result and its
  * parameters, with their types and order. A result keeps its number. A structure keeps its members, their types and order, and
@@ -289,6 +290,10 @@ int32_t ds_bloom_serialize(ds_sketch *handle, uint8_t *out, size_t capacity, siz
  * the image's length and fields. DS_BAD_BIT_COUNT comes after them. */
 int32_t ds_bloom_deserialize(ds_sketch *handle, const uint8_t *image, size_t length, size_t max_bytes);
 
+/* Reads a filter from the image at the front of `image` and puts it into the handle, as `ds_bloom_deserialize` does. Writes the
+ * number of bytes that the image takes to `used`. The bytes after it are ignored, so images can stand one after another. */
+int32_t ds_bloom_deserialize_prefix(ds_sketch *handle, const uint8_t *image, size_t length, size_t max_bytes, size_t *used);
+
 /* Returns DS_YES if the filter in an image contains the item, and DS_NO otherwise. The image is read in place, at any address, as
  * in a mapped file. Nothing changes it during the call. Returns the error of the image's first failed check: each of
  * `ds_bloom_deserialize` but those of `max_bytes` and of the number of set bits, in constant time. Does not allocate. */
@@ -407,6 +412,11 @@ int32_t ds_count_min_u64_serialize(ds_sketch *handle, uint8_t *out, size_t capac
  * cells come after them. */
 int32_t ds_count_min_u64_deserialize(ds_sketch *handle, const uint8_t *image, size_t length, uint64_t seed, size_t max_bytes);
 
+/* Reads a sketch from the image at the front of `image` and puts it into the handle, as `ds_count_min_u64_deserialize` does. Writes
+ * the number of bytes that the image takes to `used`. The bytes after it are ignored, so images can stand one after another. */
+int32_t ds_count_min_u64_deserialize_prefix(ds_sketch *handle, const uint8_t *image, size_t length, uint64_t seed,
+                                            size_t max_bytes, size_t *used);
+
 /* Writes the estimate of the item's weight by the sketch in an image, which was written under this seed. The image is read in
  * place, at any address, as in a mapped file. Nothing changes it during the call. Returns the error of the image's first failed
  * check: each of `ds_count_min_u64_deserialize` but those of `max_bytes` and of the cells, in constant time. A cell that it rejects
@@ -468,6 +478,8 @@ int32_t ds_count_min_i64_get_status(ds_sketch *handle, ds_count_min_status *stat
 int32_t ds_count_min_i64_serialized_bytes(ds_sketch *handle, size_t *bytes);
 int32_t ds_count_min_i64_serialize(ds_sketch *handle, uint8_t *out, size_t capacity, size_t *written);
 int32_t ds_count_min_i64_deserialize(ds_sketch *handle, const uint8_t *image, size_t length, uint64_t seed, size_t max_bytes);
+int32_t ds_count_min_i64_deserialize_prefix(ds_sketch *handle, const uint8_t *image, size_t length, uint64_t seed,
+                                            size_t max_bytes, size_t *used);
 int32_t ds_count_min_i64_image_estimate_u64(const uint8_t *image, size_t length, uint64_t seed, uint64_t item, int64_t *estimate);
 int32_t ds_count_min_i64_image_estimate_i64(const uint8_t *image, size_t length, uint64_t seed, int64_t item, int64_t *estimate);
 int32_t ds_count_min_i64_image_estimate_string(const uint8_t *image, size_t length, uint64_t seed, const uint8_t *item,
@@ -479,12 +491,13 @@ int32_t ds_count_min_i64_image_estimate_string(const uint8_t *image, size_t leng
  * down, for a caller who has neither the key nor rows or images of sketches under it. A clone has the key of its original. A merge
  * keeps the handle's own key. An image has no key.
  *
- * `new` and `deserialize` draw a key. The first call of a process asks the system for two random words. Each call counts the
- * first word up, so no two sketches of a process get the same key. After a `fork`, parent and child count on from the same words,
- * which stay secret. If the system has no random bytes, these calls return DS_NO_RANDOM. Only DS_BAD_ARGUMENT comes before.
+ * `new`, `deserialize` and `deserialize_prefix` draw a key. The first call of a process asks the system for two random words. Each
+ * call counts the first word up, so no two sketches of a process get the same key. After a `fork`, parent and child count on from
+ * the same words, which stay secret. If the system has no random bytes, these calls return DS_NO_RANDOM. Only DS_BAD_ARGUMENT comes
+ * before.
  *
- * `new_with_key` and `deserialize_with_key` take the key from the caller. With the same keys a run is reproducible: the same calls
- * have the same results. Runs with drawn keys may differ in the counters that purges remove, so in bounds and rows, within the
+ * Calls whose names end in `_with_key` take the key from the caller. With the same keys a run is reproducible: the same calls have
+ * the same results. Runs with drawn keys may differ in the counters that purges remove, so in bounds and rows, within the
  * same guarantees. They also differ in the order of rows of equal estimates and of the items in an image. If others choose the
  * items, choose both words at random and keep them secret. --- */
 
@@ -604,9 +617,16 @@ int32_t ds_frequent_items_u64_get_status(ds_sketch *handle, ds_frequent_items_st
 int32_t ds_frequent_items_i64_get_status(ds_sketch *handle, ds_frequent_items_status *status);
 int32_t ds_frequent_items_string_get_status(ds_sketch *handle, ds_frequent_items_status *status);
 
+/* Writes the length in bytes of the sketch's image, in one pass over its table: 8 if the total is 0, and otherwise 32, and for each
+ * counter 16 for a number, or 12 and the bytes of a string. Returns DS_ITEM_TOO_LONG if a string has 2^32 bytes or more, and
+ * DS_NO_MEMORY if the length is too large for `size_t`. Does not allocate. */
+int32_t ds_frequent_items_u64_serialized_bytes(ds_sketch *handle, size_t *bytes);
+int32_t ds_frequent_items_i64_serialized_bytes(ds_sketch *handle, size_t *bytes);
+int32_t ds_frequent_items_string_serialized_bytes(ds_sketch *handle, size_t *bytes);
+
 /* Writes the sketch's image, without its sample size, to the front of `out`, and the image's length in bytes to `written`. The
- * rest of `out` stays as it was. Returns DS_NO_MEMORY, DS_ITEM_TOO_LONG if a string has 2^32 bytes or more, or DS_NO_ROOM if the
- * image is longer than `capacity`: then `written` is its length. */
+ * rest of `out` stays as it was. Returns the errors of the calls above, or DS_NO_ROOM if the image is longer than `capacity`: then
+ * `written` is its length. Does not allocate. */
 int32_t ds_frequent_items_u64_serialize(ds_sketch *handle, uint8_t *out, size_t capacity, size_t *written);
 int32_t ds_frequent_items_i64_serialize(ds_sketch *handle, uint8_t *out, size_t capacity, size_t *written);
 int32_t ds_frequent_items_string_serialize(ds_sketch *handle, uint8_t *out, size_t capacity, size_t *written);
@@ -627,6 +647,25 @@ int32_t ds_frequent_items_i64_deserialize_with_key(ds_sketch *handle, const uint
                                                    uint64_t k0, uint64_t k1);
 int32_t ds_frequent_items_string_deserialize_with_key(ds_sketch *handle, const uint8_t *image, size_t length, size_t max_bytes,
                                                       uint64_t k0, uint64_t k1);
+
+/* Reads a sketch from the image at the front of `image` and puts it into the handle, under a drawn key, as the calls without
+ * `prefix` do. Writes the number of bytes that the image takes to `used`. The bytes after it are ignored, so images can stand one
+ * after another. But with strings, all bytes of `image` after the weights count for `max_bytes`. */
+int32_t ds_frequent_items_u64_deserialize_prefix(ds_sketch *handle, const uint8_t *image, size_t length, size_t max_bytes,
+                                                 size_t *used);
+int32_t ds_frequent_items_i64_deserialize_prefix(ds_sketch *handle, const uint8_t *image, size_t length, size_t max_bytes,
+                                                 size_t *used);
+int32_t ds_frequent_items_string_deserialize_prefix(ds_sketch *handle, const uint8_t *image, size_t length, size_t max_bytes,
+                                                    size_t *used);
+
+/* Reads a sketch from the image at the front of `image` and puts it into the handle, under the key of two words. Otherwise as the
+ * calls without a key. */
+int32_t ds_frequent_items_u64_deserialize_prefix_with_key(ds_sketch *handle, const uint8_t *image, size_t length,
+                                                          size_t max_bytes, uint64_t k0, uint64_t k1, size_t *used);
+int32_t ds_frequent_items_i64_deserialize_prefix_with_key(ds_sketch *handle, const uint8_t *image, size_t length,
+                                                          size_t max_bytes, uint64_t k0, uint64_t k1, size_t *used);
+int32_t ds_frequent_items_string_deserialize_prefix_with_key(ds_sketch *handle, const uint8_t *image, size_t length,
+                                                             size_t max_bytes, uint64_t k0, uint64_t k1, size_t *used);
 
 /* Writes the items whose bound exceeds both the threshold and the sketch's error, in rows of descending estimates: an item and
  * its bounds each, at the front of both buffers, and the number of rows to `count`. The rest of the buffers stays as it was.

@@ -505,13 +505,13 @@ public:
     owner &operator=(owner &&other) noexcept
     {
         if (this != &other) {
-            (ds_free)(&handle_);
+            ds_free(&handle_);
             handle_ = std::exchange(other.handle_, ds_sketch DS_NONE);
         }
         return *this;
     }
 
-    ~owner() { (ds_free)(&handle_); }
+    ~owner() { ds_free(&handle_); }
 
     void swap(Sketch &other) noexcept { std::swap(handle_, static_cast<owner &>(other).handle_); }
     friend void swap(Sketch &a, Sketch &b) noexcept { a.swap(b); }
@@ -555,7 +555,6 @@ public:
 
 protected:
     using serialize_call = std::int32_t (*)(ds_sketch *, std::uint8_t *, std::size_t, std::size_t *);
-
     using bytes_call = std::int32_t (*)(ds_sketch *, std::size_t *);
 
     outcome<std::vector<std::uint8_t>> serialize_by(serialize_call call, bytes_call bytes_of_image)
@@ -564,21 +563,6 @@ protected:
         std::int32_t code = bytes_of_image(&handle_, &bytes);
         std::vector<std::uint8_t> image(bytes);
         if (code >= 0) code = call(&handle_, image.data(), image.size(), &written);
-        return done(code, std::move(image));
-    }
-
-    outcome<std::vector<std::uint8_t>> serialize_by(serialize_call call)
-    {
-        /* room for most images, so that it is made once; else the first call returns the length */
-        std::size_t bytes = 0, written = 0;
-        ds_memory_bytes(&handle_, &bytes);
-        std::vector<std::uint8_t> image(bytes + 64);
-        std::int32_t code = call(&handle_, image.data(), image.size(), &written);
-        if (code == DS_NO_ROOM) {
-            image.resize(written);
-            code = call(&handle_, image.data(), image.size(), &written);
-        }
-        if (code >= 0) image.resize(written);
         return done(code, std::move(image));
     }
 
@@ -596,13 +580,6 @@ protected:
         return done(code, bytes);
     }
 
-    outcome<std::size_t> size_by(serialize_call call)
-    {
-        std::size_t written = 0;
-        std::int32_t code = ds_check_buffer(call, &handle_, nullptr, 0, &written);
-        return done(code == DS_NO_ROOM ? DS_OK : code, written);
-    }
-
     template <class Others> std::int32_t join(std::int32_t (*call)(ds_sketch *, ds_sketch *, std::size_t), Others &others)
     {
         static_assert(std::is_standard_layout_v<Sketch> && sizeof(Sketch) == sizeof(ds_sketch));
@@ -614,6 +591,12 @@ protected:
 };
 
 } /* namespace detail */
+
+/* A sketch that was read from the front of bytes, and the number of bytes that its image takes. */
+template <class Sketch> struct prefix {
+    Sketch sketch;
+    std::size_t used;
+};
 
 /* --- Keys, hashes and text. --- */
 
@@ -680,6 +663,22 @@ public:
     {
         auto bytes = detail::image_of(image);
         return deserialize(bytes.data(), bytes.size(), max_bytes);
+    }
+
+    /* Returns the filter of the image at the front of bytes, and the image's length: `ds_bloom_deserialize_prefix`.
+     *
+     *     auto [filter, used] = bloom_filter::deserialize_prefix(bytes, max_bytes); */
+    static outcome<prefix<bloom_filter>> deserialize_prefix(const std::uint8_t *bytes, std::size_t length, std::size_t max_bytes)
+    {
+        prefix<bloom_filter> made = {};
+        std::int32_t code = ds_check_prefix(ds_bloom_deserialize_prefix, made.sketch.get(), bytes, length, max_bytes, &made.used);
+        return detail::done(code, std::move(made));
+    }
+    template <class Bytes>
+    static outcome<prefix<bloom_filter>> deserialize_prefix(const Bytes &bytes, std::size_t max_bytes)
+    {
+        auto all = detail::image_of(bytes);
+        return deserialize_prefix(all.data(), all.size(), max_bytes);
     }
 
     /* Return sizes from targets: `ds_bloom_suggest_num_bits` and `ds_bloom_suggest_num_hashes`. */
@@ -968,6 +967,7 @@ template <class W> struct count_min_calls {};
         static constexpr auto serialized_bytes = ds_count_min_##word##_serialized_bytes; \
         static constexpr auto serialize = ds_count_min_##word##_serialize; \
         static constexpr auto deserialize = ds_count_min_##word##_deserialize; \
+        static constexpr auto deserialize_prefix = ds_count_min_##word##_deserialize_prefix; \
         static constexpr auto image_estimate_u64 = ds_count_min_##word##_image_estimate_u64; \
         static constexpr auto image_estimate_i64 = ds_count_min_##word##_image_estimate_i64; \
         static constexpr auto image_estimate_string = ds_count_min_##word##_image_estimate_string; \
@@ -1020,6 +1020,22 @@ public:
     {
         auto bytes = detail::image_of(image);
         return deserialize(bytes.data(), bytes.size(), seed, max_bytes);
+    }
+
+    /* Returns the sketch of the image at the front of bytes, and the image's length: `.._deserialize_prefix`. */
+    static outcome<prefix<count_min_sketch>> deserialize_prefix(const std::uint8_t *bytes, std::size_t length, std::uint64_t seed,
+                                                                std::size_t max_bytes)
+    {
+        prefix<count_min_sketch> made = {};
+        std::int32_t code = ds_check_prefix_and_seed(calls::deserialize_prefix, made.sketch.get(), bytes, length, seed, max_bytes,
+                                                     &made.used);
+        return detail::done(code, std::move(made));
+    }
+    template <class Bytes>
+    static outcome<prefix<count_min_sketch>> deserialize_prefix(const Bytes &bytes, std::uint64_t seed, std::size_t max_bytes)
+    {
+        auto all = detail::image_of(bytes);
+        return deserialize_prefix(all.data(), all.size(), seed, max_bytes);
     }
 
     /* Return sizes from targets: `ds_count_min_suggest_num_buckets` and `ds_count_min_suggest_num_hashes`. */
@@ -1327,9 +1343,12 @@ template <class T> struct frequent_items_calls {};
     static constexpr auto reset = ds_frequent_items_##word##_reset; \
     static constexpr auto set_sample_size = ds_frequent_items_##word##_set_sample_size; \
     static constexpr auto get_status = ds_frequent_items_##word##_get_status; \
+    static constexpr auto serialized_bytes = ds_frequent_items_##word##_serialized_bytes; \
     static constexpr auto serialize = ds_frequent_items_##word##_serialize; \
     static constexpr auto deserialize = ds_frequent_items_##word##_deserialize; \
     static constexpr auto deserialize_with_key = ds_frequent_items_##word##_deserialize_with_key; \
+    static constexpr auto deserialize_prefix = ds_frequent_items_##word##_deserialize_prefix; \
+    static constexpr auto deserialize_prefix_with_key = ds_frequent_items_##word##_deserialize_prefix_with_key; \
     static constexpr auto rows = ds_frequent_items_##word##_rows;
 #define DATASKETCHES_FREQUENT_NUMBERS(T, word) \
     template <> struct frequent_items_calls<T> { \
@@ -1439,6 +1458,34 @@ public:
     {
         auto bytes = detail::image_of(image);
         return deserialize(bytes.data(), bytes.size(), max_bytes, words);
+    }
+
+    /* Returns the sketch of the image at the front of bytes, under a drawn key or a given one, and the image's length:
+     * `.._deserialize_prefix` and `.._deserialize_prefix_with_key`. */
+    static outcome<prefix<frequent_items>> deserialize_prefix(const std::uint8_t *bytes, std::size_t length, std::size_t max_bytes)
+    {
+        prefix<frequent_items> made = {};
+        std::int32_t code = ds_check_prefix(calls::deserialize_prefix, made.sketch.get(), bytes, length, max_bytes, &made.used);
+        return detail::done(code, std::move(made));
+    }
+    static outcome<prefix<frequent_items>> deserialize_prefix(const std::uint8_t *bytes, std::size_t length, std::size_t max_bytes,
+                                                              key words)
+    {
+        prefix<frequent_items> made = {};
+        std::int32_t code = ds_check_prefix_and_key(calls::deserialize_prefix_with_key, made.sketch.get(), bytes, length, max_bytes,
+                                                    words.k0, words.k1, &made.used);
+        return detail::done(code, std::move(made));
+    }
+    template <class Bytes> static outcome<prefix<frequent_items>> deserialize_prefix(const Bytes &bytes, std::size_t max_bytes)
+    {
+        auto all = detail::image_of(bytes);
+        return deserialize_prefix(all.data(), all.size(), max_bytes);
+    }
+    template <class Bytes>
+    static outcome<prefix<frequent_items>> deserialize_prefix(const Bytes &bytes, std::size_t max_bytes, key words)
+    {
+        auto all = detail::image_of(bytes);
+        return deserialize_prefix(all.data(), all.size(), max_bytes, words);
     }
 
     /* Adds 1, or a weight, to the item's: `.._update`. */
@@ -1582,13 +1629,14 @@ public:
         return detail::done(code, numbers);
     }
 
-    /* Returns the image, writes it to a buffer and returns its length, or returns its length alone: `.._serialize`. */
-    outcome<std::vector<std::uint8_t>> serialize() { return this->serialize_by(calls::serialize); }
+    /* Returns the image, writes it to a buffer and returns its length, or returns its length alone: `.._serialize` and
+     * `.._serialized_bytes`. */
+    outcome<std::vector<std::uint8_t>> serialize() { return this->serialize_by(calls::serialize, calls::serialized_bytes); }
     outcome<std::size_t> serialize(std::uint8_t *out, std::size_t capacity)
     {
         return this->serialize_by(calls::serialize, out, capacity);
     }
-    outcome<std::size_t> serialized_size() { return this->size_by(calls::serialize); }
+    outcome<std::size_t> serialized_size() { return this->size_by(calls::serialized_bytes); }
 
 private:
     /* what a string is passed as, or a number */

@@ -6,7 +6,7 @@
  *
  * The checks return DS_BAD_ARGUMENT for the same handle twice and for a handle that is also in the array of others. They return it
  * for a null pointer with a count above 0, and for a null pointer in a pair. They pass a pointer to no values in place of null with
- * the count 0. They do nothing for `ds_free(NULL)`.
+ * the count 0.
  *
  * To leave out the check of one call, put its name in brackets: `(ds_bloom_union)(a, b)`. To leave out all, define `DS_NO_CHECKS`
  * before `datasketches.h`. A pointer to a function, as `&ds_bloom_union`, is to the call without checks. */
@@ -44,11 +44,6 @@ static inline bool ds_have_handle(const ds_sketch *others, size_t count, const d
 
 /* --- The checks of each form of arguments: the call, and its arguments. --- */
 
-static inline void ds_check_free(void (*call)(ds_sketch *), ds_sketch *handle)
-{
-    if (handle) call(handle);
-}
-
 static inline int32_t ds_check_two_handles(int32_t (*call)(ds_sketch *, ds_sketch *), ds_sketch *handle, ds_sketch *other)
 {
     return handle == other ? DS_BAD_ARGUMENT : call(handle, other);
@@ -82,6 +77,31 @@ static inline int32_t ds_check_image_and_key(int32_t (*call)(ds_sketch *, const 
 {
     if (!image && length) return DS_BAD_ARGUMENT;
     return call(handle, image ? image : (const uint8_t *)ds_no_values(), length, max_bytes, k0, k1);
+}
+
+/* An image at the front of bytes, and the number of bytes that it takes. */
+static inline int32_t ds_check_prefix(int32_t (*call)(ds_sketch *, const uint8_t *, size_t, size_t, size_t *), ds_sketch *handle,
+                                      const uint8_t *image, size_t length, size_t max_bytes, size_t *used)
+{
+    if (!image && length) return DS_BAD_ARGUMENT;
+    return call(handle, image ? image : (const uint8_t *)ds_no_values(), length, max_bytes, used);
+}
+
+static inline int32_t ds_check_prefix_and_seed(int32_t (*call)(ds_sketch *, const uint8_t *, size_t, uint64_t, size_t, size_t *),
+                                               ds_sketch *handle, const uint8_t *image, size_t length, uint64_t seed,
+                                               size_t max_bytes, size_t *used)
+{
+    if (!image && length) return DS_BAD_ARGUMENT;
+    return call(handle, image ? image : (const uint8_t *)ds_no_values(), length, seed, max_bytes, used);
+}
+
+static inline int32_t ds_check_prefix_and_key(int32_t (*call)(ds_sketch *, const uint8_t *, size_t, size_t, uint64_t, uint64_t,
+                                                              size_t *),
+                                              ds_sketch *handle, const uint8_t *image, size_t length, size_t max_bytes,
+                                              uint64_t k0, uint64_t k1, size_t *used)
+{
+    if (!image && length) return DS_BAD_ARGUMENT;
+    return call(handle, image ? image : (const uint8_t *)ds_no_values(), length, max_bytes, k0, k1, used);
 }
 
 /* An image in place, and an item or many numbers. */
@@ -268,7 +288,6 @@ static inline int32_t ds_check_string_rows(int32_t (*call)(ds_sketch *, bool, ui
 /* --- The calls with checks. --- */
 
 #ifndef DS_NO_CHECKS
-#define ds_free(...) ds_check_free(ds_free, __VA_ARGS__)
 #define ds_clone(...) ds_check_two_handles(ds_clone, __VA_ARGS__)
 #define ds_share(...) ds_check_two_handles(ds_share, __VA_ARGS__)
 #define ds_bloom_insert_string(...) ds_check_bytes(ds_bloom_insert_string, __VA_ARGS__)
@@ -297,6 +316,7 @@ static inline int32_t ds_check_string_rows(int32_t (*call)(ds_sketch *, bool, ui
 #define ds_bloom_equal(...) ds_check_two_handles(ds_bloom_equal, __VA_ARGS__)
 #define ds_bloom_serialize(...) ds_check_buffer(ds_bloom_serialize, __VA_ARGS__)
 #define ds_bloom_deserialize(...) ds_check_bytes_and_size(ds_bloom_deserialize, __VA_ARGS__)
+#define ds_bloom_deserialize_prefix(...) ds_check_prefix(ds_bloom_deserialize_prefix, __VA_ARGS__)
 #define ds_bloom_image_contains_u64(...) ds_check_image_u64(ds_bloom_image_contains_u64, __VA_ARGS__)
 #define ds_bloom_image_contains_i64(...) ds_check_image_i64(ds_bloom_image_contains_i64, __VA_ARGS__)
 #define ds_bloom_image_contains_string(...) ds_check_image_string(ds_bloom_image_contains_string, __VA_ARGS__)
@@ -329,6 +349,7 @@ static inline int32_t ds_check_string_rows(int32_t (*call)(ds_sketch *, bool, ui
 #define ds_count_min_u64_equal(...) ds_check_two_handles(ds_count_min_u64_equal, __VA_ARGS__)
 #define ds_count_min_u64_serialize(...) ds_check_buffer(ds_count_min_u64_serialize, __VA_ARGS__)
 #define ds_count_min_u64_deserialize(...) ds_check_image_and_seed(ds_count_min_u64_deserialize, __VA_ARGS__)
+#define ds_count_min_u64_deserialize_prefix(...) ds_check_prefix_and_seed(ds_count_min_u64_deserialize_prefix, __VA_ARGS__)
 #define ds_count_min_u64_image_estimate_u64(...) ds_check_u64_image_u64(ds_count_min_u64_image_estimate_u64, __VA_ARGS__)
 #define ds_count_min_u64_image_estimate_i64(...) ds_check_u64_image_i64(ds_count_min_u64_image_estimate_i64, __VA_ARGS__)
 #define ds_count_min_u64_image_estimate_string(...) ds_check_u64_image_string(ds_count_min_u64_image_estimate_string, __VA_ARGS__)
@@ -359,6 +380,7 @@ static inline int32_t ds_check_string_rows(int32_t (*call)(ds_sketch *, bool, ui
 #define ds_count_min_i64_equal(...) ds_check_two_handles(ds_count_min_i64_equal, __VA_ARGS__)
 #define ds_count_min_i64_serialize(...) ds_check_buffer(ds_count_min_i64_serialize, __VA_ARGS__)
 #define ds_count_min_i64_deserialize(...) ds_check_image_and_seed(ds_count_min_i64_deserialize, __VA_ARGS__)
+#define ds_count_min_i64_deserialize_prefix(...) ds_check_prefix_and_seed(ds_count_min_i64_deserialize_prefix, __VA_ARGS__)
 #define ds_count_min_i64_image_estimate_u64(...) ds_check_i64_image_u64(ds_count_min_i64_image_estimate_u64, __VA_ARGS__)
 #define ds_count_min_i64_image_estimate_i64(...) ds_check_i64_image_i64(ds_count_min_i64_image_estimate_i64, __VA_ARGS__)
 #define ds_count_min_i64_image_estimate_string(...) ds_check_i64_image_string(ds_count_min_i64_image_estimate_string, __VA_ARGS__)
@@ -401,6 +423,15 @@ static inline int32_t ds_check_string_rows(int32_t (*call)(ds_sketch *, bool, ui
     ds_check_image_and_key(ds_frequent_items_i64_deserialize_with_key, __VA_ARGS__)
 #define ds_frequent_items_string_deserialize_with_key(...) \
     ds_check_image_and_key(ds_frequent_items_string_deserialize_with_key, __VA_ARGS__)
+#define ds_frequent_items_u64_deserialize_prefix(...) ds_check_prefix(ds_frequent_items_u64_deserialize_prefix, __VA_ARGS__)
+#define ds_frequent_items_i64_deserialize_prefix(...) ds_check_prefix(ds_frequent_items_i64_deserialize_prefix, __VA_ARGS__)
+#define ds_frequent_items_string_deserialize_prefix(...) ds_check_prefix(ds_frequent_items_string_deserialize_prefix, __VA_ARGS__)
+#define ds_frequent_items_u64_deserialize_prefix_with_key(...) \
+    ds_check_prefix_and_key(ds_frequent_items_u64_deserialize_prefix_with_key, __VA_ARGS__)
+#define ds_frequent_items_i64_deserialize_prefix_with_key(...) \
+    ds_check_prefix_and_key(ds_frequent_items_i64_deserialize_prefix_with_key, __VA_ARGS__)
+#define ds_frequent_items_string_deserialize_prefix_with_key(...) \
+    ds_check_prefix_and_key(ds_frequent_items_string_deserialize_prefix_with_key, __VA_ARGS__)
 #define ds_frequent_items_u64_rows(...) ds_check_u64_rows(ds_frequent_items_u64_rows, __VA_ARGS__)
 #define ds_frequent_items_i64_rows(...) ds_check_i64_rows(ds_frequent_items_i64_rows, __VA_ARGS__)
 #define ds_frequent_items_string_rows(...) ds_check_string_rows(ds_frequent_items_string_rows, __VA_ARGS__)

@@ -50,9 +50,12 @@ static void damaged_images(void)
     for (size_t i = 0; i < sizeof ALTERATIONS / sizeof *ALTERATIONS; i++) {
         const struct alteration *it = &ALTERATIONS[i];
         uint8_t image[40];
+        size_t used = 77;
         memcpy(image, TWO_BITS, sizeof image);
         image[it->place] = it->byte;
         CHECK(ds_bloom_deserialize(&filter, image, it->length, it->max_bytes) == it->answer);
+        CHECK(ds_bloom_deserialize_prefix(&filter, image, it->length, it->max_bytes, &used) == it->answer);
+        CHECK(used == (it->answer == DS_OK ? 40 : 77));
         /* after an error the handle keeps its filter */
         CHECK(ds_bloom_get_status(&filter, &numbers) == DS_OK && numbers.bits_used == 2 && numbers.capacity == 64);
     }
@@ -193,7 +196,10 @@ static void images_of_counts(void)
         const struct alteration *it = &COUNTS_ALTERED[i];
         memcpy(image, FIVE, sizeof image);
         image[it->place] = it->byte;
+        length = 77;
         CHECK(ds_count_min_u64_deserialize(&count, image, it->length, 9001, it->max_bytes) == it->answer);
+        CHECK(ds_count_min_u64_deserialize_prefix(&count, image, it->length, 9001, it->max_bytes, &length) == it->answer);
+        CHECK(length == (it->answer == DS_OK ? 48 : 77));
         CHECK(ds_count_min_u64_get_status(&count, &numbers) == DS_OK && numbers.total_weight == 5 && numbers.num_buckets == 3);
     }
     CHECK(ds_count_min_u64_deserialize(&count, FIVE, 48, 1, 32) == DS_SEED_HASH_MISMATCH);
@@ -243,7 +249,10 @@ static void more_counts(void)
     CHECK(ds_count_min_i64_serialize(&b, image, length, &length) == DS_OK && length == 24 + 8 * 512 && image[length] == 7);
     ds_free(&a);
     CHECK(ds_count_min_i64_serialized_bytes(&a, &length) == DS_NO_SKETCH && length == 24 + 8 * 512);
-    CHECK(ds_count_min_i64_deserialize(&a, image, length, 9001, 1 << 14) == DS_OK && ds_count_min_i64_merge(&b, &a) == DS_OK);
+    CHECK(ds_count_min_i64_deserialize_prefix(&a, image, length - 1, 9001, 1 << 14, &length) == DS_INSUFFICIENT_DATA);
+    CHECK(!a.sketch && ds_count_min_i64_deserialize_prefix(&a, image, sizeof image, 9001, 1 << 14, &length) == DS_OK);
+    CHECK(length == 24 + 8 * 512 && ds_count_min_i64_deserialize(&a, image, length, 9001, 1 << 14) == DS_OK);
+    CHECK(ds_count_min_i64_merge(&b, &a) == DS_OK);
     CHECK(ds_count_min_i64_estimate_u64(&b, 4, &estimate) == DS_OK && estimate == -6);
     ds_free(&b);
     CHECK(ds_count_min_i64_new(&b, 4, 128, 9001) == DS_OK && ds_count_min_i64_update_string(&b, apple, 5, -90) == DS_OK);
@@ -301,12 +310,17 @@ static const struct alteration FREQUENT_ALTERED[] = {
         CHECK(prefix##_rows(a, false, 2, found, 2, rows, 3, &length) == DS_OK && length == 1 && found[0] == 8); \
         CHECK(prefix##_reset(a) == DS_OK && prefix##_update(a, 7, 5) == DS_OK); \
         CHECK(prefix##_serialize(a, NULL, 0, &length) == DS_NO_ROOM && length == 48); \
+        length = 0; \
+        CHECK(prefix##_serialized_bytes(a, &length) == DS_OK && length == 48); \
         CHECK(prefix##_serialize(a, image, 48, &length) == DS_OK && memcmp(image, OF_SEVEN, 48) == 0); \
         for (size_t i = 0; i < sizeof FREQUENT_ALTERED / sizeof *FREQUENT_ALTERED; i++) { \
             const struct alteration *it = &FREQUENT_ALTERED[i]; \
             memcpy(image, OF_SEVEN, sizeof image); \
             image[it->place] = it->byte; \
+            length = 77; \
             CHECK(prefix##_deserialize(a, image, it->length, it->max_bytes) == it->answer); \
+            CHECK(prefix##_deserialize_prefix(a, image, it->length, it->max_bytes, &length) == it->answer); \
+            CHECK(length == (it->answer == DS_OK ? 48 : 77)); \
             CHECK(prefix##_bounds(a, 7, &bounds) == DS_OK && bounds.lower_bound == 5 && bounds.upper_bound == 5); \
         } \
     }
@@ -364,8 +378,10 @@ static void frequent_strings(void)
     CHECK(ds_frequent_items_string_update(&a, NULL, 0, 2) == DS_OK &&
           ds_frequent_items_string_update(&a, NULL, 1, 2) == DS_BAD_ARGUMENT);
     CHECK(ds_frequent_items_u64_update(&a, 1, 1) == DS_WRONG_KIND && ds_frequent_items_string_merge(&a, &a) == DS_BAD_ARGUMENT);
+    CHECK(ds_frequent_items_string_serialized_bytes(&copy, &length) == DS_OK && length == 32 + 8 + 5);
     CHECK(ds_frequent_items_string_serialize(&copy, image, sizeof image, &length) == DS_OK && length == 32 + 8 + 5);
     CHECK(ds_frequent_items_string_deserialize(&b, image, length - 1, 1 << 20) == DS_INSUFFICIENT_DATA);
+    CHECK(ds_frequent_items_string_deserialize_prefix(&b, image, sizeof image, 1 << 20, &length) == DS_OK && length == 32 + 8 + 5);
     image[length - 1] = 0xff;
     CHECK(ds_frequent_items_string_deserialize(&b, image, length, 1 << 20) == DS_INVALID_UTF8);
     image[length - 1] = 'z';
@@ -693,6 +709,8 @@ static void bytes_taken(void)
     CHECK(ds_frequent_items_string_deserialize(&a, image, length, 8 * 44 + 12) == DS_TABLE_TOO_LARGE);
     CHECK(ds_frequent_items_string_deserialize(&a, image, length, 8 * 44 + 13) == DS_OK);
     CHECK(ds_frequent_items_string_deserialize(&a, image, length + 1, 8 * 44 + 13) == DS_TABLE_TOO_LARGE);
+    CHECK(ds_frequent_items_string_deserialize_prefix(&a, image, length + 1, 8 * 44 + 13, &bytes) == DS_TABLE_TOO_LARGE);
+    CHECK(ds_frequent_items_string_deserialize_prefix(&a, image, length + 1, 8 * 44 + 14, &bytes) == DS_OK && bytes == length);
     CHECK(ds_memory_bytes(&a, &bytes) == DS_OK && bytes == 8 * 44 + 5);
     CHECK(ds_frequent_items_string_reset(&a) == DS_OK && ds_memory_bytes(&a, &bytes) == DS_OK && bytes == 8 * 44);
     CHECK(ds_frequent_items_u64_deserialize(&a, OF_SEVEN, 48, 8 * 28 - 1) == DS_TABLE_TOO_LARGE);

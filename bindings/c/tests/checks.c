@@ -54,7 +54,7 @@ static void commas(void)
     int64_t of_signs[2] = {0, 0};
     ds_frequent_items_bounds bounds[2];
     uint8_t image[4200], bytes[8];
-    size_t length = 0, rows = 0;
+    size_t length = 0, rows = 0, used = 0;
 
     CHECK(ds_bloom_new(&sketches[0], 959, 7, 9001) == DS_OK && ds_clone(&sketches[1], &sketches[0]) == DS_OK);
     CHECK(ds_bloom_insert_all_u64(&sketches[0], (const uint64_t[]){1, 2, 3}, 3) == DS_OK);
@@ -74,6 +74,9 @@ static void commas(void)
     CHECK(ds_bloom_equal(&sketches[1], (ds_sketch *[2]){&sketches[0], NULL}[0]) == DS_YES);
     CHECK(ds_bloom_serialize(&sketches[0], (uint8_t *[2]){image, NULL}[0], sizeof image, &length) == DS_OK && length == 152);
     CHECK(ds_bloom_deserialize(&sketches[1], (const uint8_t *[2]){image, NULL}[0], length, (size_t[2]){120, 0}[0]) == DS_OK);
+    CHECK(ds_bloom_deserialize_prefix(&sketches[1], (const uint8_t *[2]){image, NULL}[0], sizeof image, 120,
+                                      (size_t *[2]){&used, NULL}[0]) == DS_OK);
+    CHECK(used == 152);
 
     CHECK(ds_count_min_u64_new(&count, 4, 128, 9001) == DS_OK && ds_count_min_i64_new(&signs, 4, 128, 9001) == DS_OK);
     CHECK(ds_count_min_u64_update_all_weighted_u64(&count, (const uint64_t[]){1, 2}, 2, (const uint64_t[]){5, 6}, 2) == DS_OK);
@@ -87,6 +90,8 @@ static void commas(void)
     CHECK(of_signs[0] == 6 && of_signs[1] == -5);
     CHECK(ds_count_min_u64_serialize(&count, image, sizeof image, &length) == DS_OK);
     CHECK(ds_count_min_u64_deserialize(&count, image, length, (uint64_t[2]){9001, 1}[0], 1 << 14) == DS_OK);
+    CHECK(ds_count_min_u64_deserialize_prefix(&count, image, sizeof image, (uint64_t[2]){9001, 1}[0], 1 << 14, &used) == DS_OK);
+    CHECK(used == 24 + 4 * 128 * 8);
 
     CHECK(ds_frequent_items_string_new_with_key(&heavy, 64, 48, K0, K1) == DS_OK);
     CHECK(ds_frequent_items_string_update(&heavy, (const uint8_t[]){'x', 'y'}, 2, (uint64_t[2]){9, 0}[0]) == DS_OK);
@@ -102,6 +107,10 @@ static void commas(void)
     CHECK(ds_frequent_items_u64_serialize(&numbers, image, sizeof image, &length) == DS_OK);
     CHECK(ds_frequent_items_u64_deserialize_with_key(&numbers, (const uint8_t *[2]){image, NULL}[0], length, 1 << 14, K0, K1) ==
           DS_OK);
+    CHECK(ds_frequent_items_u64_deserialize_prefix_with_key(&numbers, (const uint8_t *[2]){image, NULL}[0], sizeof image, 1 << 14,
+                                                            K0, K1, &used) == DS_OK);
+    CHECK(used == length && length == 32 + 2 * 16);
+    CHECK(ds_frequent_items_u64_deserialize_prefix(&numbers, image, sizeof image, (size_t[2]){1 << 14, 0}[0], &used) == DS_OK);
     CHECK(ds_finished_words((const uint8_t[]){'a', ' ', 'b'}, 3) == 2 && ds_valid_utf8((const uint8_t[]){'a', 0xff}, 2) == 1);
     /* a call within the arguments of the same call */
     CHECK(ds_keyed_hash((const uint8_t[]){0, 1}, 2, K0 ^ ds_keyed_hash((const uint8_t[]){1, 2}, 2, K0, K1), K1) ==
@@ -113,7 +122,7 @@ static void commas(void)
     ds_free(&numbers);
 }
 
-/* The call in brackets is the function, and so is its name as a value. */
+/* The call in brackets is the function, and so is its name as a value. `ds_free` takes null in each form. */
 static void functions(void)
 {
     ds_sketch a = DS_NONE, b = DS_NONE;
@@ -126,6 +135,9 @@ static void functions(void)
     (ds_free)(&a);
     release(&b);
     CHECK(ds_bloom_reset(&a) == DS_NO_SKETCH && ds_bloom_reset(&b) == DS_NO_SKETCH);
+    ds_free(NULL);
+    (ds_free)(NULL);
+    release(NULL);
 }
 
 /* Names and messages as calls of the library. */
@@ -147,7 +159,7 @@ static void names(void)
 
 #ifdef DS_NO_CHECKS
 
-#if defined ds_free || defined ds_bloom_union || defined ds_frequent_items_string_rows || defined ds_keyed_hash
+#if defined ds_clone || defined ds_bloom_union || defined ds_frequent_items_string_rows || defined ds_keyed_hash
 #error "a check is left"
 #endif
 
@@ -217,6 +229,7 @@ static const ds_string NULLS[2] = {{B, 1}, {NULL, 0}};
     MAKES(call(&none, NULLS, 1, &(type){0}, 1)); \
     MAKES(call(&none, NULL, 0, NULL, 0));
 
+/* Calls for an image, with the arguments after it. */
 #define IMAGES(call, ...) \
     REJECTS(call(&none, NULL, 1, __VA_ARGS__)); \
     CHECK(call(&none, NULL, 0, __VA_ARGS__) == DS_INSUFFICIENT_DATA);
@@ -227,7 +240,7 @@ static const ds_string NULLS[2] = {{B, 1}, {NULL, 0}};
 static void filters(void)
 {
     ds_sketch others[3] = {DS_NONE, DS_NONE, DS_NONE};
-    size_t length = 0;
+    size_t length = 0, used = 77;
     JOINS(ds_clone)
     JOINS(ds_bloom_union)
     JOINS(ds_bloom_intersect)
@@ -248,13 +261,15 @@ static void filters(void)
     PAIRS_WITH(ds_bloom_contains_all_string_pairs, bool)
     BUFFERS(ds_bloom_serialize)
     IMAGES(ds_bloom_deserialize, 8)
+    IMAGES(ds_bloom_deserialize_prefix, 8, &used)
+    CHECK(used == 77);
 }
 
 #define COUNTS(kind, weight) \
     static void counts_##kind(void) \
     { \
         ds_sketch others[3] = {DS_NONE, DS_NONE, DS_NONE}; \
-        size_t length = 0; \
+        size_t length = 0, used = 77; \
         weight found = 7; \
         JOINS(ds_count_min_##kind##_merge) \
         JOINS(ds_count_min_##kind##_equal) \
@@ -278,7 +293,8 @@ static void filters(void)
         PAIRS_WITH(ds_count_min_##kind##_estimate_all_string_pairs, weight) \
         BUFFERS(ds_count_min_##kind##_serialize) \
         IMAGES(ds_count_min_##kind##_deserialize, 9001, 8) \
-        CHECK(found == 7); \
+        IMAGES(ds_count_min_##kind##_deserialize_prefix, 9001, 8, &used) \
+        CHECK(found == 7 && used == 77); \
     }
 COUNTS(u64, uint64_t)
 COUNTS(i64, int64_t)
@@ -288,13 +304,16 @@ COUNTS(i64, int64_t)
     MANY_JOINS(ds_frequent_items_##kind##_merge_all) \
     BUFFERS(ds_frequent_items_##kind##_serialize) \
     IMAGES(ds_frequent_items_##kind##_deserialize, 8) \
-    IMAGES(ds_frequent_items_##kind##_deserialize_with_key, 8, K0, K1)
+    IMAGES(ds_frequent_items_##kind##_deserialize_with_key, 8, K0, K1) \
+    IMAGES(ds_frequent_items_##kind##_deserialize_prefix, 8, &used) \
+    IMAGES(ds_frequent_items_##kind##_deserialize_prefix_with_key, 8, K0, K1, &used) \
+    CHECK(used == 77);
 
 #define FREQUENT_NUMBERS(kind, item) \
     static void frequent_##kind(void) \
     { \
         ds_sketch others[3] = {DS_NONE, DS_NONE, DS_NONE}; \
-        size_t length = 0; \
+        size_t length = 0, used = 77; \
         FREQUENT(kind) \
         NUMBERS(ds_frequent_items_##kind##_update_all) \
         NUMBERS_WITH(ds_frequent_items_##kind##_update_all_weighted, item, uint64_t) \
@@ -310,7 +329,7 @@ static void frequent_strings(void)
 {
     ds_sketch others[3] = {DS_NONE, DS_NONE, DS_NONE};
     ds_frequent_items_bounds bounds[1];
-    size_t length = 0, count = 0;
+    size_t length = 0, count = 0, used = 77;
     uint64_t offsets[1];
     uint8_t bytes[1];
     FREQUENT(string)
@@ -353,7 +372,6 @@ static void once(void)
     ds_free((evaluated++, &a));
     ds_free((evaluated++, &b));
     CHECK(evaluated == 4);
-    ds_free(NULL);
 }
 
 #endif

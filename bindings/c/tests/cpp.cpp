@@ -425,6 +425,78 @@ static void images()
     }
 }
 
+/* Appends a copy of some bytes. */
+static void append(image &all, const image &more) { all.insert(all.end(), more.begin(), more.end()); }
+
+/* Images one after another, of two sketches of items and of an empty one, each read from the front of the rest. */
+template <class T> static void frequent_prefixes(const T &first, const T &second)
+{
+    using sketch = ds::frequent_items<T>;
+    sketch one = take(sketch::create(64)), two = take(sketch::create(8)), none = take(sketch::create(8));
+    image all;
+    DONE(one.update(first, 5u));
+    DONE(one.update(second, 7u));
+    DONE(two.update(second, 9u));
+    for (sketch *it : {&one, &none, &two}) {
+        image written = take(it->serialize());
+        CHECK(take(it->serialized_size()) == written.size());
+        append(all, written);
+    }
+    auto [read, used] = take(sketch::deserialize_prefix(all, 1 << 20));
+    CHECK(used == take(one.serialized_size()) && take(read.bounds(first)).lower_bound == 5);
+    CHECK(take(read.bounds(second)).upper_bound == 7 && take(read.status()).total_weight == 12);
+    auto [empty, more] = take(sketch::deserialize_prefix(all.data() + used, all.size() - used, 1 << 20));
+    CHECK(more == 8 && take(empty.status()).total_weight == 0 && take(empty.status()).max_map_size == 8);
+    const ds::span rest(all.data() + used + more, all.size() - used - more);
+    auto [last, end] = take(sketch::deserialize_prefix(rest, 1 << 20, KEY));
+    CHECK(end == rest.size() && take(last.bounds(second)).upper_bound == 9);
+    CHECK(take(last.serialize()) == take(take(sketch::deserialize(rest, 1 << 20, KEY)).serialize()));
+    FAILS(DS_INSUFFICIENT_DATA, sketch::deserialize_prefix(rest.data(), rest.size() - 1, 1 << 20, KEY));
+    FAILS(DS_INSUFFICIENT_DATA, sketch::deserialize_prefix(image(), 1 << 20));
+    FAILS(DS_TABLE_TOO_LARGE, sketch::deserialize_prefix(all, 10));
+    FAILS(DS_TABLE_TOO_LARGE, sketch::deserialize_prefix(all, 10, KEY));
+    FAILS(DS_BAD_ARGUMENT, sketch::deserialize_prefix(nullptr, 1, 1 << 20));
+    FAILS(DS_BAD_ARGUMENT, sketch::deserialize_prefix(nullptr, 1, 1 << 20, KEY));
+    FAILS(DS_NO_SKETCH, sketch().serialize());
+    FAILS(DS_NO_SKETCH, sketch().serialized_size());
+}
+
+/* The same for filters and counts. */
+static void prefixes()
+{
+    filter one = new_filter(), none = take(filter::create(64, 1));
+    DONE(one.insert_all({1, 2, 3}));
+    image all = take(none.serialize());
+    append(all, take(one.serialize()));
+    append(all, image(9, 0xff));
+    ds::prefix<filter> found = take(filter::deserialize_prefix(all, 8));
+    CHECK(found.used == 24 && take(found.sketch.equal(none)));
+    auto [read, used] = take(filter::deserialize_prefix(all.data() + 24, all.size() - 24, 4096));
+    CHECK(used == 32 + 4096 && take(read.equal(one)));
+    FAILS(DS_TABLE_TOO_LARGE, filter::deserialize_prefix(all.data() + 24, all.size() - 24, 4095));
+    FAILS(DS_INSUFFICIENT_DATA, filter::deserialize_prefix(all.data() + 24, 32 + 4095, 4096));
+    FAILS(DS_INSUFFICIENT_DATA, filter::deserialize_prefix(std::string(), 4096));
+    FAILS(DS_BAD_ARGUMENT, filter::deserialize_prefix(nullptr, 1, 4096));
+
+    counts count = take(counts::create(3, 64, 7));
+    signed_counts below = take(signed_counts::create(2, 8, 7));
+    DONE(count.update("a", 5u));
+    DONE(below.update("a", -5));
+    all = take(count.serialize());
+    append(all, take(below.serialize()));
+    auto [first, length] = take(counts::deserialize_prefix(all, 7, 1 << 14));
+    CHECK(length == 24 + 3 * 64 * 8 && take(first.equal(count)));
+    auto [second, rest] = take(signed_counts::deserialize_prefix(all.data() + length, all.size() - length, 7, 1 << 14));
+    CHECK(rest == all.size() - length && take(second.equal(below)));
+    FAILS(DS_SEED_HASH_MISMATCH, counts::deserialize_prefix(all, 9001, 1 << 14));
+    FAILS(DS_TABLE_TOO_LARGE, counts::deserialize_prefix(all, 7, 3 * 64 * 8));
+    FAILS(DS_BAD_ARGUMENT, signed_counts::deserialize_prefix(nullptr, 1, 7, 1 << 14));
+
+    frequent_prefixes<std::string>("apple", "");
+    frequent_prefixes<std::uint64_t>(1, UINT64_MAX);
+    frequent_prefixes<std::int64_t>(1, INT64_MIN);
+}
+
 /* Images in place: the results of the sketches that are read from them, from each kind of range, and at an odd address. */
 static void images_in_place()
 {
@@ -983,6 +1055,7 @@ int main()
     c_calls();
     filters();
     images();
+    prefixes();
     images_in_place();
     counts_in_place<std::uint64_t>();
     counts_in_place<std::int64_t>();

@@ -1,7 +1,7 @@
-/* Checks how keys are drawn: the keys that `new` and `deserialize` pass on, and what they return if the system has no random
- * bytes. Prints the checks that failed. Exits with 1 if there is any.
+/* Checks how keys are drawn: the keys that `new`, `deserialize` and `deserialize_prefix` pass on, and what these return if the
+ * system has no random bytes. Prints the checks that failed. Exits with 1 if there is any.
  *
- * It is linked with `--wrap` for getrandom, open and the six calls that take a key. Each check that needs a process that has drawn
+ * It is linked with `--wrap` for getrandom, open and the nine calls that take a key. Each check that needs a process that has drawn
  * nothing runs in a child. */
 #define _POSIX_C_SOURCE 200809L
 
@@ -81,6 +81,10 @@ static void note(uint64_t k0, uint64_t k1)
                                                                    uint64_t); \
     int32_t __wrap_ds_frequent_items_##kind##_deserialize_with_key(ds_sketch *, const uint8_t *, size_t, size_t, uint64_t, \
                                                                    uint64_t); \
+    int32_t __real_ds_frequent_items_##kind##_deserialize_prefix_with_key(ds_sketch *, const uint8_t *, size_t, size_t, uint64_t, \
+                                                                          uint64_t, size_t *); \
+    int32_t __wrap_ds_frequent_items_##kind##_deserialize_prefix_with_key(ds_sketch *, const uint8_t *, size_t, size_t, uint64_t, \
+                                                                          uint64_t, size_t *); \
     int32_t __wrap_ds_frequent_items_##kind##_new_with_key(ds_sketch *handle, size_t max_map_size, size_t sample_size, \
                                                            uint64_t k0, uint64_t k1) \
     { \
@@ -92,22 +96,35 @@ static void note(uint64_t k0, uint64_t k1)
     { \
         note(k0, k1); \
         return __real_ds_frequent_items_##kind##_deserialize_with_key(handle, image, length, max_bytes, k0, k1); \
+    } \
+    int32_t __wrap_ds_frequent_items_##kind##_deserialize_prefix_with_key(ds_sketch *handle, const uint8_t *image, size_t length, \
+                                                                          size_t max_bytes, uint64_t k0, uint64_t k1, \
+                                                                          size_t *used) \
+    { \
+        note(k0, k1); \
+        return __real_ds_frequent_items_##kind##_deserialize_prefix_with_key(handle, image, length, max_bytes, k0, k1, used); \
     }
 
 NOTED(u64)
 NOTED(i64)
 NOTED(string)
 
-/* Makes the call of this number, of the six that draw a key. */
+enum { CALLS = 9 };
+
+/* Makes the call of this number, of those that draw a key. */
 static int32_t draw(int which, ds_sketch *handle, size_t max_map_size)
 {
+    size_t used;
     switch (which) {
     case 0: return ds_frequent_items_u64_new(handle, max_map_size, 6);
     case 1: return ds_frequent_items_i64_new(handle, max_map_size, 6);
     case 2: return ds_frequent_items_string_new(handle, max_map_size, 6);
     case 3: return ds_frequent_items_u64_deserialize(handle, EMPTY, sizeof EMPTY, 1 << 20);
     case 4: return ds_frequent_items_i64_deserialize(handle, EMPTY, sizeof EMPTY, 1 << 20);
-    default: return ds_frequent_items_string_deserialize(handle, EMPTY, sizeof EMPTY, 1 << 20);
+    case 5: return ds_frequent_items_string_deserialize(handle, EMPTY, sizeof EMPTY, 1 << 20);
+    case 6: return ds_frequent_items_u64_deserialize_prefix(handle, EMPTY, sizeof EMPTY, 1 << 20, &used);
+    case 7: return ds_frequent_items_i64_deserialize_prefix(handle, EMPTY, sizeof EMPTY, 1 << 20, &used);
+    default: return ds_frequent_items_string_deserialize_prefix(handle, EMPTY, sizeof EMPTY, 1 << 20, &used);
     }
 }
 
@@ -116,8 +133,9 @@ static void in_turn(void)
 {
     ds_sketch sketch = DS_NONE;
     ds_frequent_items_status status;
-    for (int i = 0; i < 12; i++) {
-        CHECK(draw(i % 6, &sketch, 8) == DS_OK && num_keys == (size_t)i + 1);
+    size_t used = 77;
+    for (int i = 0; i < 2 * CALLS; i++) {
+        CHECK(draw(i % CALLS, &sketch, 8) == DS_OK && num_keys == (size_t)i + 1);
         CHECK(keys[i].k0 == keys[0].k0 + (uint64_t)i && keys[i].k1 == keys[0].k1);
     }
     CHECK(asked == 2 && opened == 0);
@@ -127,6 +145,9 @@ static void in_turn(void)
     CHECK(status.max_map_size == 64 && ds_frequent_items_u64_deserialize(&sketch, NULL, 1, 8) == DS_BAD_ARGUMENT);
     CHECK(ds_frequent_items_string_deserialize(&sketch, EMPTY, 8, 351) == DS_TABLE_TOO_LARGE);
     CHECK(ds_frequent_items_string_deserialize(&sketch, NULL, 0, 8) == DS_INSUFFICIENT_DATA);
+    CHECK(ds_frequent_items_string_deserialize_prefix(&sketch, EMPTY, 8, 351, &used) == DS_TABLE_TOO_LARGE && used == 77);
+    CHECK(ds_frequent_items_string_deserialize_prefix(&sketch, EMPTY, 8, 352, &used) == DS_OK && used == 8);
+    CHECK(ds_frequent_items_i64_deserialize_prefix(&sketch, NULL, 0, 8, &used) == DS_INSUFFICIENT_DATA && used == 8);
     ds_free(&sketch);
 }
 
@@ -139,9 +160,9 @@ static void no_random_bytes(void)
     before = sketch.sketch;
     num_keys = 0;
     has_call = has_device = false;
-    for (int i = 0; i < 12; i++) {
-        CHECK(draw(i % 6, &none, 9) == DS_NO_RANDOM && !none.sketch);
-        CHECK(draw(i % 6, &sketch, 8) == DS_NO_RANDOM && sketch.sketch == before);
+    for (int i = 0; i < 2 * CALLS; i++) {
+        CHECK(draw(i % CALLS, &none, 9) == DS_NO_RANDOM && !none.sketch);
+        CHECK(draw(i % CALLS, &sketch, 8) == DS_NO_RANDOM && sketch.sketch == before);
     }
     CHECK(num_keys == 0 && strcmp(ds_result_name(DS_NO_RANDOM), "NoRandom") == 0);
     CHECK(strcmp(ds_result_message(DS_NO_RANDOM), "the system has no random bytes for a key") == 0);
@@ -175,7 +196,7 @@ static void *create(void *argument)
 {
     ds_sketch sketch = DS_NONE;
     for (int i = 0; i < CREATED; i++)
-        if (draw(i % 6, &sketch, 8) != DS_OK) return argument;
+        if (draw(i % CALLS, &sketch, 8) != DS_OK) return argument;
     ds_free(&sketch);
     return NULL;
 }

@@ -168,7 +168,7 @@ int main(void)
     ds_sketch frequent = DS_NONE, many = DS_NONE, copy = DS_NONE;
     ds_frequent_items_status numbers;
     uint8_t image[1 << 12];
-    size_t length = 0;
+    size_t length = 0, used = 0;
     uint64_t items[64], estimate = 0;
     for (uint64_t i = 0; i < 64; i++) items[i] = i;
 
@@ -180,6 +180,8 @@ int main(void)
     keep(&filter);
     DONE(&filter, ds_bloom_serialize(&filter, image, sizeof image, &length));
     DONE(&filter, ds_bloom_deserialize(&filter, image, length, 1 << 12));
+    DONE(&filter, ds_bloom_deserialize_prefix(&filter, image, sizeof image, 1 << 12, &used));
+    if (used != length) return 1;
     if (ds_bloom_contains_u64(&filter, 63) != DS_YES) return 1;
     keep(&filter);
     DONE(&copy, ds_clone(&copy, &filter));
@@ -201,6 +203,8 @@ int main(void)
     DONE(&copy, ds_clone(&copy, &frequent));
     DONE(&frequent, ds_frequent_items_u64_merge(&frequent, &copy));
     DONE(&copy, ds_frequent_items_u64_deserialize(&copy, image, length, 1 << 14));
+    DONE(&copy, ds_frequent_items_u64_deserialize_prefix(&copy, image, sizeof image, 1 << 14, &used));
+    if (used != length) return 1;
     if (ds_frequent_items_u64_get_status(&frequent, &numbers) != DS_OK || numbers.total_weight != 2 * 2080) return 1;
     if (ds_frequent_items_u64_get_status(&copy, &numbers) != DS_OK || numbers.total_weight != 2080) return 1;
     write_strings();
@@ -212,6 +216,9 @@ int main(void)
         if (!adds_strings(&frequent, NULL) || !adds_strings(&frequent, NULL)) return 1;
         if (!adds_strings(&frequent, items)) return 1;
         if (!tells_of_strings(&frequent)) return 1;
+        DONE(&frequent, ds_frequent_items_string_serialize(&frequent, image, sizeof image, &length));
+        DONE(&copy, ds_frequent_items_string_deserialize_prefix_with_key(&copy, image, length, 1 << 14, 7, 8, &used));
+        if (used != length) return 1;
     }
     if (combine_many()) return 1;
     DONE(&filter, ds_bloom_insert_all_u64(&filter, items, 64));

@@ -149,6 +149,10 @@ static void filters(void)
     FREE(DS_TABLE_TOO_LARGE, ds_bloom_deserialize(&filter, FILTER, sizeof FILTER, 31));
     FREE(DS_BAD_FAMILY, ds_bloom_deserialize(&filter, COUNTS, sizeof COUNTS, 1 << 20));
     FREE(DS_INSUFFICIENT_DATA, ds_bloom_deserialize(&filter, FILTER, 0, 1 << 20));
+    FREE(DS_TABLE_TOO_LARGE, ds_bloom_deserialize_prefix(&filter, FILTER, sizeof FILTER, 31, &written));
+    FREE(DS_INSUFFICIENT_DATA, ds_bloom_deserialize_prefix(&filter, FILTER, 23, 1 << 20, &written));
+    /* the words, in place of the words that were there */
+    ROW(1, 1, DS_OK, ds_bloom_deserialize_prefix(&filter, FILTER, sizeof FILTER, 32, &written));
     FREE(DS_NO_SKETCH, ds_bloom_insert_u64(&none, 3));
     FREE(DS_NO_SKETCH, ds_bloom_union(&filter, &none));
     FREE(DS_NO_SKETCH, ds_bloom_serialize(&none, image, sizeof image, &written));
@@ -217,6 +221,8 @@ static void counts(void)
     FREE(DS_TABLE_TOO_LARGE, ds_count_min_u64_deserialize(&count, COUNTS, sizeof COUNTS, 9001, 1559));
     FREE(DS_SEED_HASH_MISMATCH, ds_count_min_u64_deserialize(&count, COUNTS, sizeof COUNTS, 9002, 1 << 20));
     FREE(DS_INSUFFICIENT_DATA, ds_count_min_u64_deserialize(&count, COUNTS, 0, 9001, 1 << 20));
+    FREE(DS_TABLE_TOO_LARGE, ds_count_min_u64_deserialize_prefix(&count, COUNTS, sizeof COUNTS, 9001, 1559, &written));
+    FREE(DS_INSUFFICIENT_DATA, ds_count_min_u64_deserialize_prefix(&count, COUNTS, 15, 9001, 1 << 20, &written));
     FREE(DS_NO_SKETCH, ds_count_min_u64_update_u64(&none, 3, 1));
     FREE(DS_NO_SKETCH, ds_count_min_u64_merge(&count, &none));
     FREE(DS_WRONG_KIND, ds_count_min_u64_update_u64(&filter, 3, 1));
@@ -275,6 +281,7 @@ static void signed_counts(void)
     FREE(DS_TABLE_TOO_LARGE, ds_count_min_i64_deserialize(&count, COUNTS, sizeof COUNTS, 9001, 1559));
     FREE(DS_SEED_HASH_MISMATCH, ds_count_min_i64_deserialize(&count, COUNTS, sizeof COUNTS, 9002, 1 << 20));
     FREE(DS_INSUFFICIENT_DATA, ds_count_min_i64_deserialize(&count, COUNTS, 0, 9001, 1 << 20));
+    FREE(DS_SEED_HASH_MISMATCH, ds_count_min_i64_deserialize_prefix(&count, COUNTS, sizeof COUNTS, 9002, 1 << 20, &written));
     ds_free(&count);
     ds_free(&same);
     ds_free(&heavy);
@@ -335,7 +342,9 @@ static void frequent_numbers(void)
     FREE(DS_NO_ROOM, ds_frequent_items_u64_bounds_all(&six, ITEMS, 3, bounds, 2));
     FREE(DS_OK, ds_frequent_items_u64_merge(&six, &empty));
     FREE(DS_OK, ds_frequent_items_u64_get_status(&six, &numbers));
-    ROW(1, 1, DS_OK, ds_frequent_items_u64_serialize(&six, image, sizeof image, &written));
+    FREE(DS_OK, ds_frequent_items_u64_serialized_bytes(&six, &written));
+    FREE(DS_OK, ds_frequent_items_u64_serialize(&six, image, sizeof image, &written));
+    FREE(DS_NO_ROOM, ds_frequent_items_u64_serialize(&six, image, written - 1, &written));
     FREE(DS_OK, ds_frequent_items_u64_update(&heavy, 3, UINT64_MAX));
     FREE(DS_WEIGHT_OVERFLOW, ds_frequent_items_u64_update(&six, 3, UINT64_MAX));
     FREE(DS_WEIGHT_OVERFLOW, ds_frequent_items_u64_update(&heavy, 5, 1));
@@ -345,6 +354,8 @@ static void frequent_numbers(void)
     FREE(DS_TABLE_TOO_LARGE, ds_frequent_items_u64_deserialize(&six, FREQUENT, sizeof FREQUENT, 223));
     FREE(DS_BAD_FAMILY, ds_frequent_items_u64_deserialize(&six, FILTER, sizeof FILTER, 1 << 20));
     FREE(DS_INSUFFICIENT_DATA, ds_frequent_items_u64_deserialize(&six, FREQUENT, 0, 1 << 20));
+    FREE(DS_TABLE_TOO_LARGE, ds_frequent_items_u64_deserialize_prefix(&six, FREQUENT, sizeof FREQUENT, 223, &written));
+    FREE(DS_INSUFFICIENT_DATA, ds_frequent_items_u64_deserialize_prefix(&six, FREQUENT, 7, 1 << 20, &written));
     /* slots and fingerprints of a table of 16 replace those of 8 */
     ROW(2, 2, DS_OK, ds_frequent_items_u64_update(&six, 7, 1));
     FREE(DS_OK, ds_frequent_items_u64_reset(&six));
@@ -416,11 +427,16 @@ static void frequent_strings(void)
     FREE(DS_OK, ds_frequent_items_string_get_status(&sketch, &numbers));
     FREE(DS_OK, ds_memory_bytes(&sketch, &written));
     FREE(DS_OK, ds_frequent_items_string_merge(&sketch, &empty));
-    ROW(1, 1, DS_OK, ds_frequent_items_string_serialize(&sketch, image, sizeof image, &written));
+    FREE(DS_OK, ds_frequent_items_string_serialized_bytes(&sketch, &written));
+    FREE(DS_OK, ds_frequent_items_string_serialize(&sketch, image, sizeof image, &written));
+    FREE(DS_NO_ROOM, ds_frequent_items_string_serialize(&sketch, image, written - 1, &written));
+    FREE(DS_WRONG_KIND, ds_frequent_items_i64_serialized_bytes(&sketch, &written));
     FREE(DS_TABLE_TOO_LARGE, ds_frequent_items_string_deserialize(&sketch, FREQUENT, sizeof FREQUENT, 223));
     FREE(DS_INSUFFICIENT_DATA, ds_frequent_items_string_deserialize(&sketch, FREQUENT, 0, 1 << 20));
     /* only the table is allocated, and nothing for the string */
     ROW(2, 2, DS_INSUFFICIENT_DATA, ds_frequent_items_string_deserialize(&sketch, HOSTILE, sizeof HOSTILE, 1 << 20));
+    ROW(2, 2, DS_INSUFFICIENT_DATA,
+        ds_frequent_items_string_deserialize_prefix(&sketch, HOSTILE, sizeof HOSTILE, 1 << 20, &written));
     FREE(DS_OK, ds_frequent_items_string_reset(&empty));
     ds_free(&sketch);
     ds_free(&empty);

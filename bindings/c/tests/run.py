@@ -41,6 +41,9 @@ CROSSES |= {"usize": "size_t", "bool": "bool", "SketchHandle": "ds_sketch", "Fil
 CROSSES |= {"CountStatus": "ds_count_min_status", "ItemBounds": "ds_frequent_items_bounds"}
 CROSSES |= {"FrequentStatus": "ds_frequent_items_status"}
 
+# The exports of the sources that only the library's own C calls.
+INTERNAL = {"ds_free_handle"}
+
 # The start of a function in C++, in which each line of `NOT_CPP` does not compile: the line, the compiler's message, and flags.
 CPP_BEFORE = """#include <datasketches.hpp>
 #include <list>
@@ -139,9 +142,12 @@ def exported():
 
 def without_key(sources):
     """Returns the functions of `src/keys.c`, as `exported` does: each has the parameters of the export but the key."""
-    words = ["uint64_t", "uint64_t"]
-    return {name.removesuffix("_with_key"): (result, kinds[:-2] if kinds[-2:] == words else None)
-            for name, (result, kinds) in sources.items() if name.endswith("_with_key")}
+    found = {}
+    for name, (result, kinds) in sources.items():
+        if name.endswith("_with_key"):
+            at = next(i for i in range(len(kinds)) if kinds[i:i + 2] == ["uint64_t", "uint64_t"])
+            found[name.removesuffix("_with_key")] = (result, kinds[:at] + kinds[at + 2:])
+    return found
 
 
 def functions(path, end):
@@ -167,10 +173,10 @@ def declared():
     return functions(f"{C}/include/datasketches.h", ";")
 
 
-def needs_check(name, kinds):
-    """Returns whether a call needs a check of its arguments: it frees, or takes two handles, or a pointer with a count."""
+def needs_check(kinds):
+    """Returns whether a call needs a check of its arguments: it takes two handles, or a pointer with a count."""
     counted = any(kind.endswith("*") and kind != "ds_sketch *" and count == "size_t" for kind, count in zip(kinds, kinds[1:]))
-    return name == "ds_free" or kinds.count("ds_sketch *") > 1 or counted
+    return kinds.count("ds_sketch *") > 1 or counted
 
 
 def global_names(path, *flags):
@@ -211,9 +217,11 @@ class Tests:
     def header(self):
         """Compares prototypes with exports, and the header's error numbers, names and strings with the sources."""
         sources, header, in_c = exported(), declared(), in_c_sources()
-        calls = sources | without_key(sources) | in_c
-        self.check("there are exports", len(sources) > 30 and len(calls) == len(sources) + 6 + len(in_c))
-        self.check("there are calls in C", {"ds_result_name", "ds_result_message"} <= set(in_c), in_c)
+        called = {name: form for name, form in sources.items() if name not in INTERNAL}
+        calls = called | without_key(sources) | in_c
+        self.check("there are exports", len(sources) > 30 and len(calls) == len(called) + 9 + len(in_c))
+        self.check("there are internal exports", INTERNAL <= set(sources))
+        self.check("there are calls in C", {"ds_free", "ds_result_name", "ds_result_message"} <= set(in_c), in_c)
         for name in sorted(calls | header):
             self.check(f"the prototype of {name}", calls.get(name) == header.get(name), (calls.get(name), header.get(name)))
         for path, flags, wanted in [(self.archive, [], set(sources)), (f"{self.built}/libdatasketches.a", [], set(calls)),
@@ -222,7 +230,7 @@ class Tests:
             self.check(f"what {os.path.basename(path)} exports", names - {"DATASKETCHES_0"} == wanted, names ^ wanted)
         checked = re.findall(r"^#define (ds_\w+)\(\.\.\.\)(?: \\\n   )? ds_check_\w+\((\w+), __VA_ARGS__\)$",
                              read(f"{C}/include/datasketches_checks.h"), re.MULTILINE)
-        needed = {name for name, (_, kinds) in header.items() if needs_check(name, kinds)}
+        needed = {name for name, (_, kinds) in header.items() if needs_check(kinds)}
         self.check("the calls with checks", {name for name, _ in checked} == needed, {name for name, _ in checked} ^ needed)
         self.check("each check makes its call", all(name == made for name, made in checked) and len(checked) == len(needed))
         numbers = re.findall(r"Fault::(\w+) => (-\d+)", read(f"{CRATE}/src/status_code.rt"))
@@ -325,7 +333,8 @@ class Tests:
 
     def keys_drawn(self):
         """Checks which keys are passed on, also if the system has no random bytes or interrupts the call for them."""
-        calls = [f"ds_frequent_items_{kind}_{call}_with_key" for kind in ["u64", "i64", "string"] for call in ["new", "deserialize"]]
+        forms = ["new", "deserialize", "deserialize_prefix"]
+        calls = [f"ds_frequent_items_{kind}_{form}_with_key" for kind in ["u64", "i64", "string"] for form in forms]
         wraps = [f"-Wl,--wrap={name}" for name in ["getrandom", "open", *calls]]
         ran = self.run([self.compile(f"{HERE}/draws.c", "-O2", f"{C}/src/keys.c", *wraps, static=False)])
         self.check("keys drawn", ran.returncode == 0 and b"checks hold" in ran.stdout, ran)
@@ -535,6 +544,7 @@ def main():
         tests.calls(f"{HERE}/table_keys.c")
         tests.calls(f"{HERE}/many.c")
         tests.calls(f"{HERE}/images.c")
+        tests.calls(f"{HERE}/prefixes.c")
         tests.calls(f"{HERE}/sharing.c")
         tests.races()
         tests.calls(f"{HERE}/checks.c")

@@ -63,6 +63,8 @@ class BloomFilter:
     @classmethod
     def deserialize(cls: type[_F], image: Bytes, max_bytes: SupportsIndex | None = 1073741824) -> _F: ...
     @classmethod
+    def deserialize_prefix(cls: type[_F], image: Bytes, max_bytes: SupportsIndex | None = 1073741824) -> tuple[_F, int]: ...
+    @classmethod
     def suggest_num_bits(cls, num_items: SupportsIndex, questions: SupportsIndex) -> int: ...
     @classmethod
     def suggest_num_hashes(cls, num_bits: SupportsIndex, num_items: SupportsIndex) -> int: ...
@@ -122,6 +124,14 @@ class CountMinSketch:
         max_bytes: SupportsIndex | None = 1073741824,
         signed: bool = False,
     ) -> _C: ...
+    @classmethod
+    def deserialize_prefix(
+        cls: type[_C],
+        image: Bytes,
+        seed: SupportsIndex = 9001,
+        max_bytes: SupportsIndex | None = 1073741824,
+        signed: bool = False,
+    ) -> tuple[_C, int]: ...
     @classmethod
     def suggest_num_buckets(cls, parts: SupportsIndex) -> int: ...
     @classmethod
@@ -204,6 +214,15 @@ class FrequentItemsSketch:
         sample_size: SupportsIndex | None = None,
         key: Bytes | None = None,
     ) -> _I: ...
+    @classmethod
+    def deserialize_prefix(
+        cls: type[_I],
+        image: Bytes,
+        item: type[int] | type[str] | str = ...,
+        max_bytes: SupportsIndex | None = 1073741824,
+        sample_size: SupportsIndex | None = None,
+        key: Bytes | None = None,
+    ) -> tuple[_I, int]: ...
     @classmethod
     def suggest_max_map_size(cls, parts: SupportsIndex) -> int: ...
     def close(self) -> None: ...

@@ -219,7 +219,8 @@ PyDoc_STRVAR(count_deserialize_doc,
 ">>> ds.CountMinSketch.deserialize(bytes(load))[7]\n"
 "30\n");
 
-static PyObject *count_deserialize(PyObject *type, PyObject *args, PyObject *keywords)
+/* Reads the image at the front of the argument's bytes. */
+static PyObject *count_read(PyObject *type, PyObject *args, PyObject *keywords, const char *format, size_t *used)
 {
     static char *names[] = {"image", "seed", "max_bytes", "signed", NULL};
     Image image = {0};
@@ -227,8 +228,7 @@ static PyObject *count_deserialize(PyObject *type, PyObject *args, PyObject *key
     uint64_t seed = DEFAULT_SEED;
     size_t limit = DEFAULT_LIMIT;
     int with_sign = false;
-    if (!PyArg_ParseTupleAndKeywords(args, keywords, "y*|OOp:deserialize", names, &image.view, &seed_object, &limit_object,
-                                     &with_sign))
+    if (!PyArg_ParseTupleAndKeywords(args, keywords, format, names, &image.view, &seed_object, &limit_object, &with_sign))
         return NULL;
     bool ready = (seed_object == NULL || natural_of(seed_object, "seed", &seed)) && limit_of(limit_object, &limit) &&
                  image_take(&image, limit);
@@ -237,7 +237,7 @@ static PyObject *count_deserialize(PyObject *type, PyObject *args, PyObject *key
     int32_t answer = DS_OK;
     if (ready) {
         Py_BEGIN_ALLOW_THREADS
-        answer = BY_SIGN(with_sign, deserialize, &made, image.bytes, image.length, seed, limit);
+        answer = BY_SIGN(with_sign, deserialize_prefix, &made, image.bytes, image.length, seed, limit, used);
         if (answer >= 0)
             answer = BY_SIGN(with_sign, get_status, &made, &numbers);
         Py_END_ALLOW_THREADS
@@ -247,6 +247,30 @@ static PyObject *count_deserialize(PyObject *type, PyObject *args, PyObject *key
     if (answer < 0)
         return refuse_image(answer);
     return ready ? count_of((PyTypeObject *)type, &made, with_sign != 0, &numbers) : NULL;
+}
+
+static PyObject *count_deserialize(PyObject *type, PyObject *args, PyObject *keywords)
+{
+    size_t used = 0;
+    return count_read(type, args, keywords, "y*|OOp:deserialize", &used);
+}
+
+PyDoc_STRVAR(count_deserialize_prefix_doc,
+"deserialize_prefix($type, image, seed=9001, max_bytes=1073741824, signed=False)\n--\n\n"
+"Return the sketch of the image at the front of `image`, and the number of bytes that it takes. Bytes after it are ignored, so\n"
+"images can stand one after another. Otherwise as `deserialize`.\n\n"
+">>> import datasketches_rattle as ds\n"
+">>> load = ds.CountMinSketch(num_hashes=4, num_buckets=128)\n"
+">>> load.update(7, 30)\n"
+">>> first, used = ds.CountMinSketch.deserialize_prefix(bytes(load) + b'more')\n"
+">>> first[7], used\n"
+"(30, 4120)\n");
+
+static PyObject *count_deserialize_prefix(PyObject *type, PyObject *args, PyObject *keywords)
+{
+    size_t used = 0;
+    PyObject *sketch = count_read(type, args, keywords, "y*|OOp:deserialize_prefix", &used);
+    return with_used(sketch, used);
 }
 
 static PyObject *count_reduce(PyObject *object, PyObject *Py_UNUSED(unused))
@@ -306,6 +330,7 @@ static PyMethodDef count_methods[] = {
     {"decay", FAST(count_decay), METH_FASTCALL, decay_doc},
     {"serialize", count_serialize, METH_NOARGS, count_serialize_doc},
     {"deserialize", FAST(count_deserialize), METH_CLASS | METH_VARARGS | METH_KEYWORDS, count_deserialize_doc},
+    CLASS_METHOD("deserialize_prefix", count_deserialize_prefix),
     {"__bytes__", count_serialize, METH_NOARGS, NULL},
     {"__reduce__", count_reduce, METH_NOARGS, NULL},
     {"_unpickle", count_unpickle, METH_CLASS | METH_VARARGS, NULL},

@@ -116,20 +116,21 @@ PyDoc_STRVAR(deserialize_doc,
 ">>> 'apple' in ds.BloomFilter.deserialize(bytes(seen), max_bytes=128)\n"
 "True\n");
 
-static PyObject *filter_deserialize(PyObject *type, PyObject *args, PyObject *keywords)
+/* Reads the image at the front of the argument's bytes. */
+static PyObject *filter_read(PyObject *type, PyObject *args, PyObject *keywords, const char *format, size_t *used)
 {
     static char *names[] = {"image", "max_bytes", NULL};
     Image image = {0};
     PyObject *limit_object = NULL;
     size_t limit = DEFAULT_LIMIT;
-    if (!PyArg_ParseTupleAndKeywords(args, keywords, "y*|O:deserialize", names, &image.view, &limit_object))
+    if (!PyArg_ParseTupleAndKeywords(args, keywords, format, names, &image.view, &limit_object))
         return NULL;
     bool ready = limit_of(limit_object, &limit) && image_take(&image, limit);
     ds_sketch made = DS_NONE;
     int32_t answer = DS_OK;
     if (ready) {
         Py_BEGIN_ALLOW_THREADS
-        answer = ds_bloom_deserialize(&made, image.bytes, image.length, limit);
+        answer = ds_bloom_deserialize_prefix(&made, image.bytes, image.length, limit, used);
         Py_END_ALLOW_THREADS
         answer = image_answer(&image, answer);
     }
@@ -137,6 +138,33 @@ static PyObject *filter_deserialize(PyObject *type, PyObject *args, PyObject *ke
     if (answer < 0)
         return refuse_image(answer);
     return ready ? (PyObject *)sketch_of((PyTypeObject *)type, &made) : NULL;
+}
+
+static PyObject *filter_deserialize(PyObject *type, PyObject *args, PyObject *keywords)
+{
+    size_t used = 0;
+    return filter_read(type, args, keywords, "y*|O:deserialize", &used);
+}
+
+PyDoc_STRVAR(filter_deserialize_prefix_doc,
+"deserialize_prefix($type, image, max_bytes=1073741824)\n--\n\n"
+"Return the filter of the image at the front of `image`, and the number of bytes that it takes. Bytes after it are ignored, so\n"
+"images can stand one after another. Otherwise as `deserialize`.\n\n"
+">>> import datasketches_rattle as ds\n"
+">>> images = bytes(ds.BloomFilter(num_bits=64, num_hashes=1)) + bytes(ds.BloomFilter(num_bits=128, num_hashes=1))\n"
+">>> rest = memoryview(images)\n"
+">>> while rest:\n"
+"...     seen, used = ds.BloomFilter.deserialize_prefix(rest)\n"
+"...     print(seen.capacity, used)\n"
+"...     rest = rest[used:]\n"
+"64 24\n"
+"128 24\n");
+
+static PyObject *filter_deserialize_prefix(PyObject *type, PyObject *args, PyObject *keywords)
+{
+    size_t used = 0;
+    PyObject *sketch = filter_read(type, args, keywords, "y*|O:deserialize_prefix", &used);
+    return with_used(sketch, used);
 }
 
 static PyObject *filter_reduce(PyObject *object, PyObject *Py_UNUSED(unused))
@@ -197,6 +225,7 @@ static PyMethodDef filter_methods[] = {
     {"reset", filter_reset, METH_NOARGS, reset_doc},
     {"serialize", filter_serialize, METH_NOARGS, serialize_doc},
     {"deserialize", (PyCFunction)(void (*)(void))filter_deserialize, METH_CLASS | METH_VARARGS | METH_KEYWORDS, deserialize_doc},
+    CLASS_METHOD("deserialize_prefix", filter_deserialize_prefix),
     CLASS_METHOD("suggest_num_bits", filter_suggest_bits),
     CLASS_METHOD("suggest_num_hashes", filter_suggest_hashes),
     {"close", sketch_close, METH_NOARGS, sketch_close_doc},

@@ -13,16 +13,18 @@ typedef struct {
     int32_t (*reset)(ds_sketch *);
     int32_t (*set_sample_size)(ds_sketch *, size_t);
     int32_t (*status)(ds_sketch *, ds_frequent_items_status *);
+    image_measure serialized_bytes;
     image_writer serialize;
-    int32_t (*deserialize)(ds_sketch *, const uint8_t *, size_t, size_t);
-    int32_t (*deserialize_with_key)(ds_sketch *, const uint8_t *, size_t, size_t, uint64_t, uint64_t);
+    int32_t (*deserialize)(ds_sketch *, const uint8_t *, size_t, size_t, size_t *);
+    int32_t (*deserialize_with_key)(ds_sketch *, const uint8_t *, size_t, size_t, uint64_t, uint64_t, size_t *);
 } Kind;
 
 #define KIND(name, with_sign, with_texts, call) \
     {name, with_sign, with_texts, ds_frequent_items_##call##_new, ds_frequent_items_##call##_new_with_key, \
      ds_frequent_items_##call##_merge, ds_frequent_items_##call##_merge_all, ds_frequent_items_##call##_reset, \
-     ds_frequent_items_##call##_set_sample_size, ds_frequent_items_##call##_get_status, ds_frequent_items_##call##_serialize, \
-     ds_frequent_items_##call##_deserialize, ds_frequent_items_##call##_deserialize_with_key}
+     ds_frequent_items_##call##_set_sample_size, ds_frequent_items_##call##_get_status, \
+     ds_frequent_items_##call##_serialized_bytes, ds_frequent_items_##call##_serialize, \
+     ds_frequent_items_##call##_deserialize_prefix, ds_frequent_items_##call##_deserialize_prefix_with_key}
 
 static const Kind numbers_with_sign = KIND("i64", true, false, i64);
 static const Kind numbers_without_sign = KIND("u64", false, false, u64);
@@ -66,10 +68,10 @@ static int32_t make_sketch(const Kind *kind, ds_sketch *made, size_t size, size_
     return key->given ? kind->make_with_key(made, size, sample, key->words[0], key->words[1]) : kind->make(made, size, sample);
 }
 
-static int32_t read_sketch(const Kind *kind, ds_sketch *made, const Image *image, size_t limit, const Key *key)
+static int32_t read_sketch(const Kind *kind, ds_sketch *made, const Image *image, size_t limit, const Key *key, size_t *used)
 {
-    return key->given ? kind->deserialize_with_key(made, image->bytes, image->length, limit, key->words[0], key->words[1])
-                      : kind->deserialize(made, image->bytes, image->length, limit);
+    return key->given ? kind->deserialize_with_key(made, image->bytes, image->length, limit, key->words[0], key->words[1], used)
+                      : kind->deserialize(made, image->bytes, image->length, limit, used);
 }
 
 /* Returns a new object that owns the handle's sketch, or NULL. */
@@ -212,36 +214,10 @@ PyDoc_STRVAR(serialize_doc,
 ">>> len(ds.FrequentItemsSketch(64).serialize())\n"
 "8\n");
 
-static int32_t measure(const Kind *kind, ds_sketch *handle, size_t *bytes)
-{
-    ds_frequent_items_status numbers;
-    int32_t answer = kind->status(handle, &numbers);
-    if (answer >= 0)
-        *bytes = numbers.total_weight == 0 ? 8 : 32 + 16 * (size_t)numbers.num_active_items;
-    return answer;
-}
-
-static int32_t measure_with_sign(ds_sketch *handle, size_t *bytes)
-{
-    return measure(&numbers_with_sign, handle, bytes);
-}
-
-static int32_t measure_without_sign(ds_sketch *handle, size_t *bytes)
-{
-    return measure(&numbers_without_sign, handle, bytes);
-}
-
-static int32_t assume_texts(ds_sketch *Py_UNUSED(handle), size_t *bytes)
-{
-    *bytes = TEXTS_GUESS;
-    return DS_OK;
-}
-
 static PyObject *frequent_serialize(PyObject *object, PyObject *Py_UNUSED(unused))
 {
     Sketch *self = (Sketch *)object;
-    return sketch_image(self, self->with_texts ? assume_texts : self->with_sign ? measure_with_sign : measure_without_sign,
-                        kind_of(self)->serialize);
+    return sketch_image(self, kind_of(self)->serialized_bytes, kind_of(self)->serialize);
 }
 
 PyDoc_STRVAR(deserialize_doc,
@@ -256,7 +232,8 @@ PyDoc_STRVAR(deserialize_doc,
 ">>> ds.FrequentItemsSketch.deserialize(bytes(heavy))[7]\n"
 "30\n");
 
-static PyObject *frequent_deserialize(PyObject *type, PyObject *args, PyObject *keywords)
+/* Reads the image at the front of the argument's bytes. */
+static PyObject *frequent_read(PyObject *type, PyObject *args, PyObject *keywords, const char *format, size_t *used)
 {
     static char *names[] = {"image", "item", "max_bytes", "sample_size", "key", NULL};
     Image image = {0};
@@ -264,8 +241,8 @@ static PyObject *frequent_deserialize(PyObject *type, PyObject *args, PyObject *
     size_t limit = DEFAULT_LIMIT;
     uint64_t sample = 0;
     Key key;
-    if (!PyArg_ParseTupleAndKeywords(args, keywords, "y*|OOOO:deserialize", names, &image.view, &item, &limit_object,
-                                     &sample_object, &key_object))
+    if (!PyArg_ParseTupleAndKeywords(args, keywords, format, names, &image.view, &item, &limit_object, &sample_object,
+                                     &key_object))
         return NULL;
     const Kind *kind = kind_named(item);
     bool ready = kind != NULL && limit_of(limit_object, &limit) &&
@@ -275,7 +252,7 @@ static PyObject *frequent_deserialize(PyObject *type, PyObject *args, PyObject *
     int32_t answer = DS_OK, sampled = DS_OK;
     if (ready) {
         Py_BEGIN_ALLOW_THREADS
-        answer = read_sketch(kind, &made, &image, limit, &key);
+        answer = read_sketch(kind, &made, &image, limit, &key, used);
         if (answer >= 0 && sample_object != Py_None)
             sampled = kind->set_sample_size(&made, sample);
         if (sampled < 0)
@@ -289,6 +266,31 @@ static PyObject *frequent_deserialize(PyObject *type, PyObject *args, PyObject *
     if (sampled < 0)
         return refuse(sampled);
     return ready ? frequent_of((PyTypeObject *)type, &made, kind) : NULL;
+}
+
+static PyObject *frequent_deserialize(PyObject *type, PyObject *args, PyObject *keywords)
+{
+    size_t used = 0;
+    return frequent_read(type, args, keywords, "y*|OOOO:deserialize", &used);
+}
+
+PyDoc_STRVAR(frequent_deserialize_prefix_doc,
+"deserialize_prefix($type, image, item=int, max_bytes=1073741824, sample_size=None, key=None)\n--\n\n"
+"Return the sketch of the image at the front of `image`, and the number of bytes that it takes. Bytes after it are ignored, so\n"
+"images can stand one after another. But with strings, all bytes of `image` after the weights count for `max_bytes`. Otherwise\n"
+"as `deserialize`.\n\n"
+">>> import datasketches_rattle as ds\n"
+">>> heavy = ds.FrequentItemsSketch(64, item=str)\n"
+">>> heavy.update('apple', 30)\n"
+">>> first, used = ds.FrequentItemsSketch.deserialize_prefix(bytes(heavy) + b'more', item=str)\n"
+">>> first['apple'], used\n"
+"(30, 49)\n");
+
+static PyObject *frequent_deserialize_prefix(PyObject *type, PyObject *args, PyObject *keywords)
+{
+    size_t used = 0;
+    PyObject *sketch = frequent_read(type, args, keywords, "y*|OOOO:deserialize_prefix", &used);
+    return with_used(sketch, used);
 }
 
 static PyObject *frequent_reduce(PyObject *object, PyObject *Py_UNUSED(unused))
@@ -385,6 +387,7 @@ static PyMethodDef frequent_methods[] = {
     {"serialize", frequent_serialize, METH_NOARGS, serialize_doc},
     {"deserialize", (PyCFunction)(void (*)(void))frequent_deserialize, METH_CLASS | METH_VARARGS | METH_KEYWORDS,
      deserialize_doc},
+    CLASS_METHOD("deserialize_prefix", frequent_deserialize_prefix),
     {"__bytes__", frequent_serialize, METH_NOARGS, NULL},
     {"__reduce__", frequent_reduce, METH_NOARGS, NULL},
     {"_unpickle", frequent_unpickle, METH_CLASS | METH_VARARGS, NULL},
@@ -409,8 +412,9 @@ PyDoc_STRVAR(frequent_doc,
 "strings. `sample_size` is the number of counters that a purge samples: an even number, by default the largest. `+` merges\n"
 "two sketches, and `+=` merges another one into this. `heavy += heavy` doubles all weights.\n\n"
 "The table hashes items under a secret key. No way is known to choose items that slow it down, for a caller who sees no rows or\n"
-"images of this sketch. By default each sketch gets a drawn key. `key`, 16 bytes, fixes it: runs with the same key are reproducible. Other runs may purge other counters, within\n"
-"the same bounds. A copy keeps the key, and `+` and `+=` that of the first sketch. An image and a pickle have no key.\n\n"
+"images of this sketch. By default each sketch gets a drawn key. `key`, 16 bytes, fixes it: runs with the same key are\n"
+"reproducible. Other runs may purge other counters, within the same bounds. A copy keeps the key, and `+` and `+=` that of the\n"
+"first sketch. An image and a pickle have no key.\n\n"
 ">>> import datasketches_rattle as ds\n"
 ">>> heavy = ds.FrequentItemsSketch(1024, item=int)\n"
 ">>> heavy.update(-7, 30)\n"

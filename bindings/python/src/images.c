@@ -48,23 +48,26 @@ void image_release(Image *image)
     PyBuffer_Release(&image->view);
 }
 
-/* Writes the image into new bytes. If these are too few, sets `bytes` to the number that it needs. */
-static int32_t write_image(Use *use, image_writer write, size_t *bytes, PyObject **image)
+PyObject *with_used(PyObject *sketch, size_t used)
 {
-    size_t room = *bytes;
+    return sketch != NULL ? Py_BuildValue("(Nn)", sketch, (Py_ssize_t)used) : NULL;
+}
+
+/* Writes an image of `length` bytes into a new object. */
+static int32_t write_image(Use *use, image_writer write, size_t length, PyObject **image)
+{
+    size_t written;
     int32_t answer;
-    *image = room <= PY_SSIZE_T_MAX ? PyBytes_FromStringAndSize(NULL, (Py_ssize_t)room) : NULL;
+    *image = length <= PY_SSIZE_T_MAX ? PyBytes_FromStringAndSize(NULL, (Py_ssize_t)length) : NULL;
     if (*image == NULL) {
         PyErr_Clear();
         return DS_NO_MEMORY;
     }
     Py_BEGIN_ALLOW_THREADS
-    answer = write(use_handle(use), (uint8_t *)PyBytes_AS_STRING(*image), room, bytes);
+    answer = write(use_handle(use), (uint8_t *)PyBytes_AS_STRING(*image), length, &written);
     Py_END_ALLOW_THREADS
     if (answer < 0)
         Py_CLEAR(*image);
-    else if (*bytes != room)
-        _PyBytes_Resize(image, (Py_ssize_t)*bytes);
     return answer;
 }
 
@@ -72,14 +75,15 @@ PyObject *sketch_image(Sketch *self, image_measure measure, image_writer write)
 {
     Use use = {.sketch = self};
     PyObject *image = NULL;
-    size_t bytes = 0;
+    size_t length = 0;
+    int32_t answer;
     if (!use_begin(&use))
         return NULL;
-    int32_t answer = measure(use_handle(&use), &bytes);
+    Py_BEGIN_ALLOW_THREADS
+    answer = measure(use_handle(&use), &length);
+    Py_END_ALLOW_THREADS
     if (answer >= 0)
-        answer = write_image(&use, write, &bytes, &image);
-    if (answer == DS_NO_ROOM)
-        answer = write_image(&use, write, &bytes, &image);
+        answer = write_image(&use, write, length, &image);
     use_end(&use);
     return answer < 0 ? refuse(answer) : image;
 }

@@ -12,9 +12,10 @@
 
 typedef struct Waiter Waiter;
 
-/* A sketch of any kind. A call of one or a few items keeps the interpreter's lock and uses the object's handle. A long call (of many
- * items, or of whole sketches) lets other Python threads run. While it changes the sketch, no other call uses the sketch. While it reads,
- * it has a handle of its own that shares the sketch, so many such calls run at once. `enter` in `sketches.c` has the order.
+/* A sketch of any kind. A call of one or a few items keeps the interpreter's lock and uses the object's handle. A long call, of
+ * many items or of whole sketches, lets other Python threads run. While it changes the sketch, no other call uses the sketch.
+ * While it reads, it has a handle of its own that shares the sketch, so many such calls run at once. `enter` in `sketches.c` has
+ * the order.
  *
  * Only a thread with the interpreter's lock reads or changes the fields after `handle`, and only such a thread or a long call that
  * changes the sketch uses `handle`. No Python code runs during a long call. A new sketch is created in its own handle. Its object
@@ -136,7 +137,10 @@ bool image_take(Image *image, size_t limit);
 int32_t image_answer(const Image *image, int32_t answer);
 void image_release(Image *image);
 
-/* Returns the image that a call writes, as bytes. `measure` writes its number of bytes, or what is assumed as that. */
+/* Takes a sketch, which may be NULL, and returns it with the number of bytes that its image takes. */
+PyObject *with_used(PyObject *sketch, size_t used);
+
+/* Returns the image that a call writes, as bytes. `measure` writes its number of bytes. */
 typedef int32_t (*image_writer)(ds_sketch *, uint8_t *, size_t, size_t *);
 typedef int32_t (*image_measure)(ds_sketch *, size_t *);
 PyObject *sketch_image(Sketch *self, image_measure measure, image_writer write);
@@ -567,9 +571,6 @@ bool row_list_append(RowList *list, PyObject *item, const ds_frequent_items_boun
 PyObject *row_list_close(RowList *list, bool good);
 
 /* --- frequent_texts.c --- */
-
-/* The number of bytes that an image of strings is first assumed to have. */
-#define TEXTS_GUESS 4096
 
 PyObject *texts_rows(Sketch *self, const Wanted *wanted);
 

@@ -74,6 +74,7 @@ for round in range(60):
     load = ds.CountMinSketch(4, 1 << 18)
     load.update(range(10))
     load = ds.CountMinSketch.deserialize(bytes(load + load))
+    load, used = ds.CountMinSketch.deserialize_prefix(bytearray(bytes(load) + b"more"))
     load.update(many, many)
     load.estimate(many)
     for weights in (few, minus, listed, array.array("d", bytes(1 << 21))):

@@ -109,7 +109,8 @@ class OthersRun(unittest.TestCase):
         shared = bytearray(image)
         self.each(
             creation=lambda: ds.BloomFilter(1 << 27, 3), image=lambda: bytes(a), read=lambda: ds.BloomFilter.deserialize(image),
-            read_shared=lambda: ds.BloomFilter.deserialize(shared), copy=lambda: copy.copy(a), deepcopy=lambda: copy.deepcopy(a),
+            read_shared=lambda: ds.BloomFilter.deserialize(shared), read_prefix=lambda: ds.BloomFilter.deserialize_prefix(image),
+            copy=lambda: copy.copy(a), deepcopy=lambda: copy.deepcopy(a),
             equal=lambda: a == twin, unequal=lambda: a != twin, union=lambda: a | b, intersection=lambda: a & b,
             difference=lambda: a - b, union_into=lambda: a.__ior__(b), intersection_into=lambda: twin.__iand__(a),
             difference_into=lambda: twin.__isub__(b), with_itself=lambda: a.__iand__(a), union_all=lambda: a.union_all([b, twin]),
@@ -510,8 +511,8 @@ class Named(ds.BloomFilter):
 FIELDS = {ds.BloomFilter: ["capacity", "num_hashes", "seed", "bits_used"],
           ds.CountMinSketch: ["num_hashes", "num_buckets", "seed", "signed", "total_weight"],
           ds.FrequentItemsSketch: ["total_weight", "maximum_error", "num_active_items", "max_map_size", "sample_size"]}
-OF_A_CLASS = {"deserialize", "suggest_num_bits", "suggest_num_hashes", "suggest_num_buckets", "suggest_max_map_size",
-              "unpickle_max_bytes", "from_file"}
+OF_A_CLASS = {"deserialize", "deserialize_prefix", "suggest_num_bits", "suggest_num_hashes", "suggest_num_buckets",
+              "suggest_max_map_size", "unpickle_max_bytes", "from_file"}
 
 
 class Closed(unittest.TestCase):
