@@ -1,5 +1,6 @@
 """Builds the packages in two folders and compares them byte by byte. Then installs each in a fresh Debian without the toolchain,
-runs the first examples of the pages, and removes it again. It needs root, for `debootstrap` and `chroot`.
+runs the first examples of the pages, and removes it again. It needs root, for `debootstrap` and `chroot`. A server of PostgreSQL
+runs in that Debian on a unix socket alone, and is stopped.
 
     python3 release/tests/run.py [--after 'N passed, M failed'] PROGRAM ARCHIVE
 
