@@ -48,23 +48,7 @@ class Tests:
         self.build(self.tree)
 
     def build(self, tree, **settings):
-        """Builds the extension from a copy of its sources, with settings of `make`, and installs it in a tree."""
-        sources = tempfile.mkdtemp(dir=self.work)
-        for name in ["src", "Makefile", "sketches_rattle.control"]:
-            copy = shutil.copytree if name == "src" else shutil.copy
-            copy(f"{EXTENSION}/{name}", f"{sources}/{name}")
-        for name in os.listdir(EXTENSION):
-            if name.endswith(".sql"):
-                shutil.copy(f"{EXTENSION}/{name}", sources)
-        for name in os.listdir(f"{sources}/src"):
-            if not name.endswith((".c", ".h")):
-                os.remove(f"{sources}/src/{name}")
-        words = {"PG_CONFIG": server.CONFIG, "INCLUDE": f"{BINDINGS}/c/include", "ARCHIVE": f"{self.built}/libdatasketches.a",
-                 "DESTDIR": tree, **settings}
-        made = subprocess.run(["make", "-s", "-j2", "-C", sources, *[f"{name}={value}" for name, value in words.items()], "install"],
-                              capture_output=True, text=True)
-        if made.returncode:
-            raise RuntimeError(f"make: {made.stdout[-2000:]}\n{made.stderr[-4000:]}")
+        server.install(tree, f"{self.built}/libdatasketches.a", self.work, **settings)
 
     def check(self, name, holds, said=""):
         if holds:

@@ -7,10 +7,13 @@ import pwd
 import shutil
 import signal
 import subprocess
+import tempfile
 import time
 
 import psycopg2
 
+HERE = os.path.dirname(os.path.abspath(__file__))
+EXTENSION = os.path.dirname(HERE)
 CONFIG = os.environ.get("PG_CONFIG", "/usr/lib/postgresql/15/bin/pg_config")
 SETTINGS = {
     "listen_addresses": "''", "fsync": "off", "full_page_writes": "off", "autovacuum": "off", "jit": "off",
@@ -58,15 +61,34 @@ def copy_programs(tree):
                 os.symlink(os.path.join(folder, name), os.path.join(tree + folder, name))
 
 
+def install(tree, archive, work, **settings):
+    """Builds the extension from a copy of its sources, with settings of `make`, and installs it in a tree."""
+    sources = tempfile.mkdtemp(dir=work)
+    os.mkdir(f"{sources}/src")
+    for name in os.listdir(EXTENSION):
+        if name == "Makefile" or name.endswith((".control", ".sql")):
+            shutil.copy(f"{EXTENSION}/{name}", sources)
+    for name in os.listdir(f"{EXTENSION}/src"):
+        if name.endswith((".c", ".h")):
+            shutil.copy(f"{EXTENSION}/src/{name}", f"{sources}/src")
+    words = {"PG_CONFIG": CONFIG, "INCLUDE": f"{os.path.dirname(EXTENSION)}/c/include", "ARCHIVE": archive, "DESTDIR": tree,
+             **settings}
+    made = subprocess.run(["make", "-s", "-j2", "-C", sources, *[f"{name}={value}" for name, value in words.items()], "install"],
+                          capture_output=True, text=True)
+    if made.returncode:
+        raise RuntimeError(f"make: {made.stdout[-2000:]}\n{made.stderr[-4000:]}")
+
+
 def _end_with_parent():
     ctypes.CDLL(None).prctl(1, int(signal.SIGQUIT))
 
 
 class Server:
-    """A server over the programs of a tree, with its files in `folder`. It is stopped at the end of a `with`."""
+    """A server over the programs of a tree, with its files in `folder`. It is stopped at the end of a `with`. `before` is a command
+    under which it runs."""
 
-    def __init__(self, tree, folder, locale="C.UTF-8", encoding="UTF8", env=None, **settings):
-        self.tree, self.folder = tree, folder
+    def __init__(self, tree, folder, locale="C.UTF-8", encoding="UTF8", env=None, before=(), **settings):
+        self.tree, self.folder, self.before = tree, folder, list(before)
         self.bin = tree + asked("--bindir")
         self.data = os.path.join(folder, "data")
         self.env = {"PATH": f"{self.bin}:/usr/bin:/bin", "LANG": "C.UTF-8", "HOME": folder}
@@ -98,9 +120,9 @@ class Server:
 
     def start(self):
         with open(f"{self.folder}/log", "ab") as log:
-            self.process = subprocess.Popen([f"{self.bin}/postgres", "-D", self.data], stdin=subprocess.DEVNULL, stdout=log,
-                                            stderr=log, cwd=self.folder, env=self.server_env, start_new_session=True,
-                                            preexec_fn=_end_with_parent, **self.as_owner())
+            self.process = subprocess.Popen(
+                [*self.before, f"{self.bin}/postgres", "-D", self.data], stdin=subprocess.DEVNULL, stdout=log, stderr=log,
+                cwd=self.folder, env=self.server_env, start_new_session=True, preexec_fn=_end_with_parent, **self.as_owner())
         self.wait()
 
     def wait(self, seconds=60):
