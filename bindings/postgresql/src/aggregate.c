@@ -7,13 +7,27 @@
 
 #include "utils/memutils.h"
 
+/* Stored sketches are merged in batches, of at most so many and not much more bytes. A merge of frequent items copies the table, so
+ * one merge of many sketches costs less than many of one. */
+#define MAX_IN_BATCH 16
+#define BYTES_IN_BATCH (1024 * 1024)
+
+/* Sketches that are read and not yet merged. */
+typedef struct Batch {
+    size_t count;
+    size_t bytes;
+    ds_sketch handles[MAX_IN_BATCH];
+} Batch;
+
 /* A sketch that takes rows. A state from a worker has no sketch yet: it keeps an image until it is combined. */
 typedef struct State {
     ds_sketch handle;
     MemoryContext context;
     uint8 kind;
     uint8 items;
+    bool has_sketch;
     Datum sizes[2];      /* the size arguments of the first row */
+    Batch *batch;        /* in unions, after the first sketch */
     const void *image;
     size_t image_bytes;
 } State;
@@ -190,6 +204,7 @@ static State *begin(FunctionCallInfo fcinfo, Kind kind, uint8 items, int number,
         state->sizes[i - number] = PG_GETARG_DATUM(i);
     }
     make(fcinfo, state, number);
+    state->has_sketch = true;
     return state;
 }
 
@@ -306,13 +321,37 @@ ROWS_OF_BIGINTS(bloom_filter_add_bigint, BLOOM_FILTER, filter, filter_bigint)
 
 /* --- Unions. --- */
 
-/* Merges another sketch into a state's. */
-static void merge_into(State *state, ds_sketch *other)
+/* Merges the sketches of a state's batch, if any, into its sketch. */
+static void flush(State *state)
 {
-    MemoryContext before = MemoryContextSwitchTo(state->context);
-    int32_t result = merge(state->kind, &state->handle, other);
+    Batch *batch = state->batch;
+    MemoryContext before;
+    int32_t result;
+    if (batch == NULL || batch->count == 0) return;
+    before = MemoryContextSwitchTo(state->context);
+    result = merge_all(state->kind, &state->handle, batch->handles, batch->count);
     MemoryContextSwitchTo(before);
     check_result(result);
+    for (size_t i = 0; i < batch->count; i++) ds_free(&batch->handles[i]);
+    batch->count = batch->bytes = 0;
+}
+
+/* Reads an image into a state that has no sketch, or else into its batch. */
+static void add_image(State *state, const void *image, size_t bytes, size_t max_bytes)
+{
+    MemoryContext before = MemoryContextSwitchTo(state->context);
+    if (!state->has_sketch) {
+        read_image(state->kind, &state->handle, image, bytes, max_bytes);
+        state->has_sketch = true;
+    } else {
+        Batch *batch = state->batch;
+        if (batch == NULL) batch = state->batch = palloc0(sizeof(Batch));
+        read_image(state->kind, &batch->handles[batch->count], image, bytes, max_bytes);
+        batch->count++;
+        batch->bytes += bytes;
+        if (batch->count == MAX_IN_BATCH || batch->bytes >= BYTES_IN_BATCH) flush(state);
+    }
+    MemoryContextSwitchTo(before);
 }
 
 /* Adds a stored sketch to the state, or begins a state with it. A null is ignored. */
@@ -322,19 +361,9 @@ static Datum add_sketch(FunctionCallInfo fcinfo, Kind kind)
     Sketch *sketch;
     if (PG_ARGISNULL(1)) return state_result(fcinfo, state);
     sketch = detoast_sketch(PG_GETARG_DATUM(1), kind);
-    if (state == NULL) {
-        MemoryContext before;
-        state = new_state(fcinfo, kind, sketch->items);
-        before = MemoryContextSwitchTo(state->context);
-        load(sketch, &state->handle);
-        MemoryContextSwitchTo(before);
-    } else {
-        ds_sketch other = DS_NONE;
-        load(sketch, &other);
-        merge_into(state, &other);
-        ds_free(&other);
-        state->items |= sketch->items;
-    }
+    if (state == NULL) state = new_state(fcinfo, kind, sketch->items);
+    add_image(state, sketch->image, IMAGE_BYTES(sketch), max_image_bytes);
+    state->items |= sketch->items;
     PG_FREE_IF_COPY(sketch, 1);
     PG_RETURN_POINTER(state);
 }
@@ -362,6 +391,7 @@ Datum state_final(PG_FUNCTION_ARGS)
     State *state = state_argument(fcinfo, 0);
     aggregate_context(fcinfo);
     if (state == NULL) PG_RETURN_NULL();
+    flush(state);
     PG_RETURN_POINTER(store(state->kind, state->items, &state->handle));
 }
 
@@ -373,6 +403,7 @@ Datum state_serial(PG_FUNCTION_ARGS)
     State *state = (State *) PG_GETARG_POINTER(0);
     Message *message;
     aggregate_context(fcinfo);
+    flush(state);
     message = (Message *) write_image(state->kind, &state->handle, offsetof(Message, image));
     message->kind = state->kind;
     message->items = state->items;
@@ -408,19 +439,12 @@ Datum state_combine(PG_FUNCTION_ARGS)
     if (other == NULL) return state_result(fcinfo, state);
     if (other->image == NULL) elog(ERROR, "a state was combined that no worker passed on");
     if (state == NULL) {
-        MemoryContext before;
         state = new_state(fcinfo, other->kind, other->items);
         memcpy(state->sizes, other->sizes, sizeof state->sizes);
-        before = MemoryContextSwitchTo(state->context);
-        read_image(state->kind, &state->handle, other->image, other->image_bytes, SIZE_MAX);
-        MemoryContextSwitchTo(before);
-    } else {
-        if (state->kind != other->kind) elog(ERROR, "states of different kinds were combined");
-        if (memcmp(state->sizes, other->sizes, sizeof state->sizes) != 0) raise_sizes();
-        read_image(other->kind, &other->handle, other->image, other->image_bytes, SIZE_MAX);
-        merge_into(state, &other->handle);
-        ds_free(&other->handle);
-        state->items |= other->items;
     }
+    if (state->kind != other->kind) elog(ERROR, "states of different kinds were combined");
+    if (memcmp(state->sizes, other->sizes, sizeof state->sizes) != 0) raise_sizes();
+    add_image(state, other->image, other->image_bytes, SIZE_MAX);
+    state->items |= other->items;
     PG_RETURN_POINTER(state);
 }

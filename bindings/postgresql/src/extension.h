@@ -6,6 +6,9 @@
 
 #include "access/tupdesc.h"
 #include "fmgr.h"
+#if PG_VERSION_NUM >= 160000
+#include "varatt.h"
+#endif
 
 #include "datasketches.h"
 
@@ -94,8 +97,8 @@ void read_image(Kind kind, ds_sketch *handle, const void *image, size_t length, 
 /* Writes the image of a handle's sketch after a header of so many bytes. Returns the whole as a new varlena. */
 struct varlena *write_image(Kind kind, ds_sketch *handle, size_t header);
 
-/* Merges another sketch of the kind into the handle's. Allocates in the current context. Returns the library's result. */
-int32_t merge(Kind kind, ds_sketch *handle, ds_sketch *other);
+/* Merges other sketches of the kind into the handle's. Allocates in the current context. Returns the library's result. */
+int32_t merge_all(Kind kind, ds_sketch *handle, ds_sketch *others, size_t count);
 
 /* Returns a stored sketch from a handle. Raises an error if the sketch exceeds the limit. */
 Sketch *store(Kind kind, uint8 items, ds_sketch *handle);
@@ -114,13 +117,14 @@ void check_collation(FunctionCallInfo fcinfo);
 
 /* --- kept.c --- */
 
-/* A sketch that a function keeps from row to row. `handle` has a sketch only after `kept_handle`. */
+/* A sketch that a function keeps from row to row. `handle` has it only if `is_loaded`. */
 typedef struct Kept {
     MemoryContext context;
     const void *address;
     size_t key_bytes;
     void *key;
     Sketch *sketch;
+    bool is_loaded;
     ds_sketch handle;
 } Kept;
 

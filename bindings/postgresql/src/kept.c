@@ -48,7 +48,8 @@ static void keep(FunctionCallInfo fcinfo, Kept *kept, struct varlena *datum, siz
 {
     MemoryContext before;
     kept->key_bytes = 0;
-    kept->handle.sketch = NULL;
+    kept->is_loaded = false;
+    kept->handle = (ds_sketch) DS_NONE;
     if (kept->context == NULL)
         kept->context = AllocSetContextCreate(fcinfo->flinfo->fn_mcxt, "kept sketch", ALLOCSET_SMALL_SIZES);
     MemoryContextReset(kept->context);
@@ -65,7 +66,10 @@ Kept *kept_argument(FunctionCallInfo fcinfo, Kind kind)
 {
     Cache *cache = cache_of(fcinfo);
     struct varlena *datum = (struct varlena *) PG_GETARG_POINTER(0);
-    size_t bytes = VARSIZE_ANY(datum);
+    size_t bytes;
+    /* A pointer to memory is no key. */
+    if (VARATT_IS_EXTERNAL(datum) && !VARATT_IS_EXTERNAL_ONDISK(datum)) datum = PG_DETOAST_DATUM(PointerGetDatum(datum));
+    bytes = VARSIZE_ANY(datum);
     for (int i = 0; i < NUM_KEPT; i++) {
         int place = (cache->last + i) % NUM_KEPT;
         Kept *kept = &cache->kept[place];
@@ -83,10 +87,11 @@ Kept *kept_argument(FunctionCallInfo fcinfo, Kind kind)
 Kept *kept_handle(FunctionCallInfo fcinfo, Kind kind)
 {
     Kept *kept = kept_argument(fcinfo, kind);
-    if (kept->handle.sketch == NULL) {
+    if (unlikely(!kept->is_loaded)) {
         MemoryContext before = MemoryContextSwitchTo(kept->context);
         load(kept->sketch, &kept->handle);
         MemoryContextSwitchTo(before);
+        kept->is_loaded = true;
     }
     return kept;
 }

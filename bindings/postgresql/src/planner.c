@@ -72,7 +72,7 @@ static double known_share(SupportRequestSelectivity *request, Const *filter)
     VariableStatData column;
     FmgrInfo contains;
     double share;
-    load(sketch, &handle);
+    read_image(BLOOM_FILTER, &handle, sketch->image, IMAGE_BYTES(sketch), SIZE_MAX);
     check_result(ds_bloom_get_status(&handle, &status));
     ds_free(&handle);
     fmgr_info(request->funcid, &contains);

@@ -60,14 +60,14 @@ static int32_t serialized_bytes(Kind kind, ds_sketch *handle, size_t *bytes)
     return DS_WRONG_KIND;
 }
 
-int32_t merge(Kind kind, ds_sketch *handle, ds_sketch *other)
+int32_t merge_all(Kind kind, ds_sketch *handle, ds_sketch *others, size_t count)
 {
     switch (kind) {
-    case FREQUENT_STRINGS: return ds_frequent_items_string_merge(handle, other);
-    case FREQUENT_BIGINTS: return ds_frequent_items_i64_merge(handle, other);
-    case COUNT_MIN: return ds_count_min_u64_merge(handle, other);
-    case SIGNED_COUNT_MIN: return ds_count_min_i64_merge(handle, other);
-    case BLOOM_FILTER: return ds_bloom_union(handle, other);
+    case FREQUENT_STRINGS: return ds_frequent_items_string_merge_all(handle, others, count);
+    case FREQUENT_BIGINTS: return ds_frequent_items_i64_merge_all(handle, others, count);
+    case COUNT_MIN: return ds_count_min_u64_merge_all(handle, others, count);
+    case SIGNED_COUNT_MIN: return ds_count_min_i64_merge_all(handle, others, count);
+    case BLOOM_FILTER: return ds_bloom_union_all(handle, others, count);
     }
     return DS_WRONG_KIND;
 }
@@ -385,7 +385,7 @@ static Datum union_of(FunctionCallInfo fcinfo, Kind kind)
     ds_sketch handle = DS_NONE, other = DS_NONE;
     uint8 items = argument(fcinfo, 0, kind, &handle)->items | argument(fcinfo, 1, kind, &other)->items;
     Sketch *sketch;
-    check_result(merge(kind, &handle, &other));
+    check_result(merge_all(kind, &handle, &other, 1));
     ds_free(&other);
     sketch = store(kind, items, &handle);
     ds_free(&handle);
