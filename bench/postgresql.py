@@ -107,7 +107,7 @@ class Watch:
         self.thread.start()
 
     def run(self):
-        with self.on.connect() as session, session.cursor() as cursor:
+        with self.on.session() as session, session.cursor() as cursor:
             while not self.ended:
                 cursor.execute("SELECT pid FROM pg_stat_activity WHERE leader_pid = %s", (self.process,))
                 processes = {self.process, *[row[0] for row in cursor.fetchall()]}
@@ -121,7 +121,7 @@ class Watch:
 
 
 def temporary(on):
-    with on.connect() as session, session.cursor() as cursor:
+    with on.session() as session, session.cursor() as cursor:
         cursor.execute("SELECT temp_bytes FROM pg_stat_database WHERE datname = 'postgres'")
         return cursor.fetchone()[0]
 
@@ -130,7 +130,7 @@ def measured(on, settings, statement):
     """Returns the least time of some rounds, the most memory, and the bytes of temporary files of one."""
     least, memory, files = float("inf"), 0, 0
     for _ in range(ROUNDS):
-        with on.connect(**settings) as session, session.cursor() as cursor:
+        with on.session(**settings) as session, session.cursor() as cursor:
             cursor.execute("SELECT pg_backend_pid()")
             process = cursor.fetchone()[0]
             before = temporary(on)
@@ -149,7 +149,7 @@ def measured(on, settings, statement):
 def cost(on, expression):
     """Returns the processor time of a query over all rows, the least of some rounds, in seconds."""
     least = float("inf")
-    with on.connect(**SERIAL) as session, session.cursor() as cursor:
+    with on.session(**SERIAL) as session, session.cursor() as cursor:
         cursor.execute("SELECT pg_backend_pid()")
         process = cursor.fetchone()[0]
         for _ in range(2 * ROUNDS):
@@ -214,7 +214,7 @@ def main():
         server.install(f"{work}/tree", f"{work}/built/libdatasketches.a", work)
         with server.Server(f"{work}/tree", f"{work}/server", shared_buffers="'2GB'", max_parallel_workers="3") as on:
             print("making the tables", flush=True)
-            with on.connect() as session, session.cursor() as cursor:
+            with on.session() as session, session.cursor() as cursor:
                 cursor.execute("CREATE EXTENSION sketches_rattle")
                 for statement in TABLES.format(rows=rows).split(";"):
                     if statement.strip():

@@ -91,7 +91,7 @@ def compare(tests, ask, run, sketches):
 
 def every_key(tests):
     """Bounds of every key, serial and parallel."""
-    with tests.main.connect() as session, session.cursor() as cursor:
+    with tests.main.session() as session, session.cursor() as cursor:
         def ask(query):
             cursor.execute(query)
             return cursor.fetchall()

@@ -14,7 +14,7 @@ def damaged_bytes(tests):
     """Every byte of a stored sketch of each type, and bytes of sketches that are stored apart."""
     with tests.server("damaged") as on:
         places = {}
-        with on.connect() as session, session.cursor() as cursor:
+        with on.session() as session, session.cursor() as cursor:
             cursor.execute("CREATE EXTENSION sketches_rattle")
             for name, aggregate in SHORT.items():
                 cursor.execute(f"SELECT {aggregate}::bytea FROM generate_series(1::bigint, 10) AS j")
@@ -36,7 +36,7 @@ def damaged_bytes(tests):
         changed = {name: change_short(f"{on.data}/{places[name]}") for name in SHORT}
         apart = change_apart(f"{on.data}/{places['apart']}", images)
         on.start()
-        with on.connect() as session, session.cursor() as cursor:
+        with on.session() as session, session.cursor() as cursor:
             for name in SHORT:
                 cursor.execute(f"SELECT count(*) FROM of_{name}")
                 rows = cursor.fetchone()[0]

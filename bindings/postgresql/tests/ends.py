@@ -51,7 +51,7 @@ def code_of(cursor, statement):
 
 
 def prepare(tests):
-    with tests.main.connect() as session, session.cursor() as cursor:
+    with tests.main.session() as session, session.cursor() as cursor:
         cursor.execute("SET max_parallel_workers_per_gather = 0")
         cursor.execute(TABLES)
 
@@ -69,7 +69,7 @@ def cancels(tests):
     """A cancel in the middle of each kind of statement."""
     prepare(tests)
     for name, statement in LONG.items():
-        with tests.main.connect(**(WORKERS if name == "workers" else {"max_parallel_workers_per_gather": 0})) as session:
+        with tests.main.session(**(WORKERS if name == "workers" else {"max_parallel_workers_per_gather": 0})) as session:
             with session.cursor() as cursor:
                 if name == "workers":
                     cursor.execute("EXPLAIN " + statement)
@@ -89,7 +89,7 @@ def cancels(tests):
 def many_cancels(tests):
     """1,000 cancelled statements leave no memory."""
     prepare(tests)
-    with tests.main.connect(max_parallel_workers_per_gather=0) as session, session.cursor() as cursor:
+    with tests.main.session(max_parallel_workers_per_gather=0) as session, session.cursor() as cursor:
         def cancelled(count):
             codes = []
             for number in range(count):
@@ -114,7 +114,7 @@ def killed(tests):
     """`kill -9` of a worker, and of a session."""
     prepare(tests)
     for kind in ["parallel worker", "client backend"]:
-        with tests.main.connect() as session, session.cursor() as cursor:
+        with tests.main.session() as session, session.cursor() as cursor:
             cursor.execute("DROP TABLE IF EXISTS kept; CREATE TABLE kept AS SELECT * FROM many WHERE part <= 3")
             cursor.execute("SELECT md5(string_agg(strings::text || filter::text || counts::text, ',' ORDER BY part)) FROM kept")
             kept = cursor.fetchone()
@@ -129,7 +129,7 @@ def killed(tests):
         thread = threading.Thread(target=run)
         thread.start()
         process = None
-        with tests.main.connect() as watch, watch.cursor() as cursor:
+        with tests.main.session() as watch, watch.cursor() as cursor:
             for _ in range(200):
                 cursor.execute("SELECT pid FROM pg_stat_activity WHERE backend_type = %s AND query LIKE %s AND pid <> "
                                "pg_backend_pid()", (kind, "SELECT frequent_strings_agg%"))
@@ -145,7 +145,7 @@ def killed(tests):
         thread.join(timeout=60)
         tests.check(f"the statement of a killed {kind} ends", len(lost) == 1 and lost[0] is not None, lost)
         tests.main.wait()
-        with tests.main.connect() as again, again.cursor() as cursor:
+        with tests.main.session() as again, again.cursor() as cursor:
             cursor.execute("SELECT md5(string_agg(strings::text || filter::text || counts::text, ',' ORDER BY part)) FROM kept")
             tests.check(f"stored sketches after a killed {kind}", cursor.fetchone() == kept)
             cursor.execute(ANSWER)
@@ -171,7 +171,7 @@ def out_of_memory(tests):
         "a sketch of a text": "SELECT status(filter::text::bloom_filter) FROM large",
         "a query": "SELECT count(*) FROM large WHERE contains(filter, 7::bigint)",
     }
-    with tests.main.connect(max_parallel_workers_per_gather=0) as session, session.cursor() as cursor:
+    with tests.main.session(max_parallel_workers_per_gather=0) as session, session.cursor() as cursor:
         cursor.execute("CREATE TABLE large AS SELECT bloom_filter_agg(i, 160000000, 5) AS filter "
                        "FROM generate_series(1::bigint, 9) AS i")
         cursor.execute("SELECT pg_backend_pid()")

@@ -32,7 +32,7 @@ def interfaces(tests):
 
     folder = f"{tests.work}/exchanged"
     os.mkdir(folder)
-    with tests.main.connect() as session, session.cursor() as cursor:
+    with tests.main.session() as session, session.cursor() as cursor:
         cursor.execute(MAKE)
         cursor.execute(f"SELECT {', '.join(f'sketch_image({name})' for name in TYPES)} FROM exchanged")
         images = dict(zip(TYPES, [bytes(image) for image in cursor.fetchone()]))

@@ -137,7 +137,7 @@ def main():
         tests = Tests(work, program, archive, passed, failed)
         print(f"PostgreSQL: built in {time.monotonic() - began:.0f} s", flush=True)
         with tests.server("main") as tests.main:
-            with tests.main.connect() as session, session.cursor() as cursor:
+            with tests.main.session() as session, session.cursor() as cursor:
                 cursor.execute("CREATE EXTENSION sketches_rattle")
             for group in GROUPS:
                 if only and group.__name__ not in only:

@@ -1,6 +1,7 @@
 """A PostgreSQL server of one's own, for tests and timings: on a unix socket alone, in a folder of its own, as a user that is not
 root. Its programs are copies of Debian's, which find their other files by their own place. So the extension is installed there,
 and the system stays as it is."""
+import contextlib
 import ctypes
 import os
 import pwd
@@ -153,14 +154,18 @@ class Server:
         with open(f"{self.folder}/log", encoding="utf-8", errors="replace") as file:
             return file.read()
 
-    def connect(self, database="postgres", autocommit=True, **settings):
+    def connect(self, database="postgres", **settings):
         """Opens a session, with settings as by SET."""
         session = psycopg2.connect(host=self.folder, user="postgres", dbname=database)
-        session.autocommit = autocommit
+        session.autocommit = True
         for name, value in settings.items():
             with session.cursor() as cursor:
                 cursor.execute("SELECT set_config(%s, %s, false)", (name.replace("__", "."), str(value)))
         return session
+
+    def session(self, database="postgres", **settings):
+        """Opens a session for a `with`, at whose end it is closed. Each statement is a transaction of its own."""
+        return contextlib.closing(self.connect(database, **settings))
 
     def __enter__(self):
         self.start()

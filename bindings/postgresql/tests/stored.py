@@ -32,10 +32,9 @@ def database(on, name, *words):
     """Makes a database with the extension, and opens a session in it."""
     on.run("dropdb", "--if-exists", name)
     on.run("createdb", *words, name)
-    session = on.connect(name, client_encoding="UTF8")
-    with session.cursor() as cursor:
+    with on.session(name) as session, session.cursor() as cursor:
         cursor.execute("CREATE EXTENSION IF NOT EXISTS sketches_rattle")
-    return session
+    return on.session(name, client_encoding="UTF8")
 
 
 def dump_and_restore(tests):
@@ -53,7 +52,7 @@ def dump_and_restore(tests):
             tests.main.run("psql", "-X", "-q", "-v", "ON_ERROR_STOP=1", "-d", f"restored_{name}", "-f", path)
         else:
             tests.main.run("pg_restore", "--exit-on-error", "-d", f"restored_{name}", path)
-        with tests.main.connect(f"restored_{name}") as session, session.cursor() as cursor:
+        with tests.main.session(f"restored_{name}") as session, session.cursor() as cursor:
             after = everything(cursor)
             tests.check(f"a dump ({name}) keeps each sketch", after == before)
             cursor.execute("SELECT lower_bound(strings, 'é€😀 8'), upper_bound(bigints, -7), contains(filter, 10::bigint) "
@@ -120,18 +119,18 @@ def encodings(tests):
                 tests.check(f"{name}: the items", items == {item.encode(code) for item in wanted}, items)
                 images[f"{name} text"] = row[2]
     tests.check("equal images in all encodings", images["UTF8"] == images["LATIN1"] == images["SQL_ASCII"], images)
-    with tests.main.connect("in_utf8") as session, session.cursor() as cursor:
+    with tests.main.session("in_utf8") as session, session.cursor() as cursor:
         cursor.execute("SELECT frequent_strings_agg('日本')::text, bloom_filter_agg('日本', 640, 5)::text")
         of_japan, filter_of_japan = cursor.fetchone()
         cursor.execute(f"SELECT item FROM frequent_rows('{images['LATIN1 text']}'::frequent_strings) ORDER BY item COLLATE \"C\"")
         tests.check("a sketch of LATIN1 in UTF8", cursor.fetchall() == [("Köln",), ("a",), ("é",)])
-    with tests.main.connect("in_latin1", client_encoding="UTF8") as session, session.cursor() as cursor:
+    with tests.main.session("in_latin1", client_encoding="UTF8") as session, session.cursor() as cursor:
         code = code_of(cursor, f"SELECT * FROM frequent_rows('{of_japan}'::frequent_strings)")
         tests.check("an item without a place in LATIN1", code == "22P05", code)
         cursor.execute(f"SELECT (status('{of_japan}'::frequent_strings)).total_weight, "
                        f"contains('{filter_of_japan}'::bloom_filter, 'é')")
         tests.check("the rest of such a sketch", cursor.fetchone() == (1, False))
-    with tests.main.connect("in_sql_ascii") as session, session.cursor() as cursor:
+    with tests.main.session("in_sql_ascii") as session, session.cursor() as cursor:
         session.set_client_encoding("SQL_ASCII")
         for statement in ["SELECT frequent_strings_agg(E'\\xff')", "SELECT bloom_filter_agg(E'a\\xc3', 640, 5)",
                           "SELECT count_min_agg(E'\\xed\\xa0\\x80', 1, 3, 50)",
