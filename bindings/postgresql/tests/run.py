@@ -75,6 +75,8 @@ class Tests:
                      "--dbname=regression", *words, *files, check=False, seconds=seconds)
         lines = ran.stdout.decode(errors="replace").splitlines()
         good = {re.split(r"\s+", line)[1] for line in lines if re.match(r"test .*\.\.\. ok", line)}
+        if os.environ.get("KEEP"):
+            subprocess.run(["cp", "-r", inside, os.environ["KEEP"]])
         differences = f"{inside}/regression.diffs"
         if not os.path.exists(differences):
             differences = f"{inside}/output_iso/regression.diffs"

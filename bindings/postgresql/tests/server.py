@@ -154,10 +154,11 @@ class Server:
         with open(f"{self.folder}/log", encoding="utf-8", errors="replace") as file:
             return file.read()
 
-    def connect(self, database="postgres", **settings):
+    def connect(self, database="postgres", encoding="UTF8", **settings):
         """Opens a session, with settings as by SET."""
         session = psycopg2.connect(host=self.folder, user="postgres", dbname=database)
         session.autocommit = True
+        session.set_client_encoding(encoding)
         for name, value in settings.items():
             with session.cursor() as cursor:
                 cursor.execute("SELECT set_config(%s, %s, false)", (name.replace("__", "."), str(value)))

@@ -34,7 +34,7 @@ def database(on, name, *words):
     on.run("createdb", *words, name)
     with on.session(name) as session, session.cursor() as cursor:
         cursor.execute("CREATE EXTENSION IF NOT EXISTS sketches_rattle")
-    return on.session(name, client_encoding="UTF8")
+    return on.session(name)
 
 
 def dump_and_restore(tests):
@@ -105,9 +105,7 @@ def encodings(tests):
             with session.cursor() as cursor:
                 cursor.execute("SHOW server_encoding")
                 tests.check(f"{name}: a database", cursor.fetchone() == (name,))
-                if name == "SQL_ASCII":
-                    session.set_client_encoding("SQL_ASCII")
-                cursor.execute(query.encode())
+                cursor.execute(query)
                 row = cursor.fetchone()
                 images[name] = [bytes(value) for value in row[:2]]
                 tests.check(f"{name}: the item is contained", row[3] is True)
@@ -124,14 +122,13 @@ def encodings(tests):
         of_japan, filter_of_japan = cursor.fetchone()
         cursor.execute(f"SELECT item FROM frequent_rows('{images['LATIN1 text']}'::frequent_strings) ORDER BY item COLLATE \"C\"")
         tests.check("a sketch of LATIN1 in UTF8", cursor.fetchall() == [("Köln",), ("a",), ("é",)])
-    with tests.main.session("in_latin1", client_encoding="UTF8") as session, session.cursor() as cursor:
+    with tests.main.session("in_latin1") as session, session.cursor() as cursor:
         code = code_of(cursor, f"SELECT * FROM frequent_rows('{of_japan}'::frequent_strings)")
         tests.check("an item without a place in LATIN1", code == "22P05", code)
         cursor.execute(f"SELECT (status('{of_japan}'::frequent_strings)).total_weight, "
                        f"contains('{filter_of_japan}'::bloom_filter, 'é')")
         tests.check("the rest of such a sketch", cursor.fetchone() == (1, False))
-    with tests.main.session("in_sql_ascii") as session, session.cursor() as cursor:
-        session.set_client_encoding("SQL_ASCII")
+    with tests.main.session("in_sql_ascii", encoding="SQL_ASCII") as session, session.cursor() as cursor:
         for statement in ["SELECT frequent_strings_agg(E'\\xff')", "SELECT bloom_filter_agg(E'a\\xc3', 640, 5)",
                           "SELECT count_min_agg(E'\\xed\\xa0\\x80', 1, 3, 50)",
                           "SELECT contains(bloom_filter_agg('a', 640, 5), E'\\xff')"]:
