@@ -6,6 +6,7 @@
 
 #include "access/tupdesc.h"
 #include "fmgr.h"
+#include "mb/pg_wchar.h"
 #if PG_VERSION_NUM >= 160000
 #include "varatt.h"
 #endif
@@ -109,8 +110,22 @@ Sketch *detoast_sketch(Datum datum, Kind kind);
 /* Reads a stored sketch, whose checksum was verified, into a handle that has no sketch. */
 void load(Sketch *sketch, ds_sketch *handle);
 
+/* The encoding of the database, or -1 if no string was read yet. */
+extern int database_encoding;
+
+/* Returns a string of the database in UTF-8. */
+ds_string converted(ds_string string);
+
 /* Returns an argument's string in UTF-8, whatever the database's encoding is. */
-ds_string string_argument(FunctionCallInfo fcinfo, int number);
+static inline ds_string string_argument(FunctionCallInfo fcinfo, int number)
+{
+    struct varlena *argument = PG_GETARG_RAW_VARLENA_P(number);
+    ds_string string;
+    if (unlikely(VARATT_IS_COMPRESSED(argument) || VARATT_IS_EXTERNAL(argument))) argument = PG_DETOAST_DATUM_PACKED(argument);
+    string.bytes = (const uint8_t *) VARDATA_ANY(argument);
+    string.length = VARSIZE_ANY_EXHDR(argument);
+    return likely(database_encoding == PG_UTF8) ? string : converted(string);
+}
 
 /* Raises an error if the call's collation takes different bytes for equal, since sketches compare strings by their bytes. */
 void check_collation(FunctionCallInfo fcinfo);

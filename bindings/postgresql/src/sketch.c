@@ -1,11 +1,9 @@
 /* Stored sketches: the calls of each kind, the header with its checksum, and the text, binary and bytea forms. */
 #include "extension.h"
 
-#include "catalog/pg_collation.h"
 #include "common/base64.h"
 #include "common/hashfn.h"
 #include "libpq/pqformat.h"
-#include "mb/pg_wchar.h"
 #include "miscadmin.h"
 #include "port/pg_crc32c.h"
 #include "utils/builtins.h"
@@ -335,18 +333,15 @@ FORMS(bloom_filter, BLOOM_FILTER)
 
 /* --- Arguments. --- */
 
-ds_string string_argument(FunctionCallInfo fcinfo, int number)
+int database_encoding = -1;
+
+ds_string converted(ds_string string)
 {
-    text *argument = PG_GETARG_TEXT_PP(number);
-    ds_string string = {(const uint8_t *) VARDATA_ANY(argument), VARSIZE_ANY_EXHDR(argument)};
-    if (GetDatabaseEncoding() != PG_UTF8) {
-        char *converted = pg_server_to_any((const char *) string.bytes, (int) string.length, PG_UTF8);
-        if (converted != (const char *) string.bytes) {
-            string.bytes = (const uint8_t *) converted;
-            string.length = strlen(converted);
-        }
-    }
-    return string;
+    char *utf8;
+    database_encoding = GetDatabaseEncoding();
+    utf8 = pg_server_to_any((const char *) string.bytes, (int) string.length, PG_UTF8);
+    if (utf8 == (const char *) string.bytes) return string;
+    return (ds_string) {(const uint8_t *) utf8, strlen(utf8)};
 }
 
 void check_collation(FunctionCallInfo fcinfo)
