@@ -18,7 +18,7 @@ def output_of(text):
     return "\n".join(line.rstrip() for line in text.rstrip().split("\n"))
 
 
-def queries(tests):
+def page_queries(tests):
     """The page's queries."""
     found = examples()
     tests.check("the page has queries", len(found) >= 6 and sum(bool(output) for _, output in found) >= 5, len(found))

@@ -118,7 +118,7 @@ def valgrind(tests):
 
 GROUPS = [queries, isolation, bounds.every_key, ends.cancels, ends.many_cancels, ends.killed, ends.out_of_memory,
           stored.dump_and_restore, stored.copied, stored.encodings, stored.collations, stored.versions, exchange.interfaces,
-          page.queries, damage.damaged_bytes, valgrind]
+          page.page_queries, damage.damaged_bytes, valgrind]
 
 
 def main():
