@@ -1,7 +1,8 @@
 -- sketches_rattle 0.2.0: frequent items, Count-Min sketches and Bloom filters.
 \echo Use "CREATE EXTENSION sketches_rattle" to load this file. \quit
 
--- States of aggregates, of all types.
+-- States of aggregates, of all types. SSPACE is the number of bytes from which the planner and a hash of groups foresee their
+-- memory: for frequent items those of a full sketch of the default size, so that groups that come early leave room to grow.
 
 CREATE FUNCTION sketch_combine(internal, internal) RETURNS internal
     LANGUAGE C IMMUTABLE PARALLEL SAFE AS 'MODULE_PATHNAME', 'state_combine';
@@ -49,22 +50,22 @@ CREATE FUNCTION frequent_strings_add(internal, text, bigint, integer) RETURNS in
 CREATE FUNCTION frequent_strings_add(internal, text, bigint, double precision) RETURNS internal
     LANGUAGE C IMMUTABLE PARALLEL SAFE AS 'MODULE_PATHNAME', 'frequent_strings_add_by_error';
 CREATE AGGREGATE frequent_strings_agg(item text) (
-    SFUNC = frequent_strings_add, STYPE = internal, SSPACE = 8192, FINALFUNC = frequent_strings_final,
+    SFUNC = frequent_strings_add, STYPE = internal, SSPACE = 75776, FINALFUNC = frequent_strings_final,
     COMBINEFUNC = sketch_combine, SERIALFUNC = sketch_serial, DESERIALFUNC = sketch_deserial, PARALLEL = SAFE);
 CREATE AGGREGATE frequent_strings_agg(item text, weight bigint) (
-    SFUNC = frequent_strings_add, STYPE = internal, SSPACE = 8192, FINALFUNC = frequent_strings_final,
+    SFUNC = frequent_strings_add, STYPE = internal, SSPACE = 75776, FINALFUNC = frequent_strings_final,
     COMBINEFUNC = sketch_combine, SERIALFUNC = sketch_serial, DESERIALFUNC = sketch_deserial, PARALLEL = SAFE);
 CREATE AGGREGATE frequent_strings_agg(item text, weight bigint, max_map_size integer) (
-    SFUNC = frequent_strings_add, STYPE = internal, SSPACE = 8192, FINALFUNC = frequent_strings_final,
+    SFUNC = frequent_strings_add, STYPE = internal, SSPACE = 75776, FINALFUNC = frequent_strings_final,
     COMBINEFUNC = sketch_combine, SERIALFUNC = sketch_serial, DESERIALFUNC = sketch_deserial, PARALLEL = SAFE);
 CREATE AGGREGATE frequent_strings_agg(item text, weight bigint, relative_error double precision) (
-    SFUNC = frequent_strings_add, STYPE = internal, SSPACE = 8192, FINALFUNC = frequent_strings_final,
+    SFUNC = frequent_strings_add, STYPE = internal, SSPACE = 75776, FINALFUNC = frequent_strings_final,
     COMBINEFUNC = sketch_combine, SERIALFUNC = sketch_serial, DESERIALFUNC = sketch_deserial, PARALLEL = SAFE);
 
 CREATE FUNCTION frequent_strings_add_sketch(internal, frequent_strings) RETURNS internal
     LANGUAGE C IMMUTABLE PARALLEL SAFE AS 'MODULE_PATHNAME', 'frequent_strings_add_sketch';
 CREATE AGGREGATE frequent_strings_union(frequent_strings) (
-    SFUNC = frequent_strings_add_sketch, STYPE = internal, SSPACE = 8192, FINALFUNC = frequent_strings_final,
+    SFUNC = frequent_strings_add_sketch, STYPE = internal, SSPACE = 75776, FINALFUNC = frequent_strings_final,
     COMBINEFUNC = sketch_combine, SERIALFUNC = sketch_serial, DESERIALFUNC = sketch_deserial, PARALLEL = SAFE);
 CREATE FUNCTION sketch_union(frequent_strings, frequent_strings) RETURNS frequent_strings
     LANGUAGE C IMMUTABLE STRICT PARALLEL SAFE COST 100 AS 'MODULE_PATHNAME', 'frequent_strings_union';
@@ -124,22 +125,22 @@ CREATE FUNCTION frequent_bigints_add(internal, bigint, bigint, integer) RETURNS 
 CREATE FUNCTION frequent_bigints_add(internal, bigint, bigint, double precision) RETURNS internal
     LANGUAGE C IMMUTABLE PARALLEL SAFE AS 'MODULE_PATHNAME', 'frequent_bigints_add_by_error';
 CREATE AGGREGATE frequent_bigints_agg(item bigint) (
-    SFUNC = frequent_bigints_add, STYPE = internal, SSPACE = 8192, FINALFUNC = frequent_bigints_final,
+    SFUNC = frequent_bigints_add, STYPE = internal, SSPACE = 40960, FINALFUNC = frequent_bigints_final,
     COMBINEFUNC = sketch_combine, SERIALFUNC = sketch_serial, DESERIALFUNC = sketch_deserial, PARALLEL = SAFE);
 CREATE AGGREGATE frequent_bigints_agg(item bigint, weight bigint) (
-    SFUNC = frequent_bigints_add, STYPE = internal, SSPACE = 8192, FINALFUNC = frequent_bigints_final,
+    SFUNC = frequent_bigints_add, STYPE = internal, SSPACE = 40960, FINALFUNC = frequent_bigints_final,
     COMBINEFUNC = sketch_combine, SERIALFUNC = sketch_serial, DESERIALFUNC = sketch_deserial, PARALLEL = SAFE);
 CREATE AGGREGATE frequent_bigints_agg(item bigint, weight bigint, max_map_size integer) (
-    SFUNC = frequent_bigints_add, STYPE = internal, SSPACE = 8192, FINALFUNC = frequent_bigints_final,
+    SFUNC = frequent_bigints_add, STYPE = internal, SSPACE = 40960, FINALFUNC = frequent_bigints_final,
     COMBINEFUNC = sketch_combine, SERIALFUNC = sketch_serial, DESERIALFUNC = sketch_deserial, PARALLEL = SAFE);
 CREATE AGGREGATE frequent_bigints_agg(item bigint, weight bigint, relative_error double precision) (
-    SFUNC = frequent_bigints_add, STYPE = internal, SSPACE = 8192, FINALFUNC = frequent_bigints_final,
+    SFUNC = frequent_bigints_add, STYPE = internal, SSPACE = 40960, FINALFUNC = frequent_bigints_final,
     COMBINEFUNC = sketch_combine, SERIALFUNC = sketch_serial, DESERIALFUNC = sketch_deserial, PARALLEL = SAFE);
 
 CREATE FUNCTION frequent_bigints_add_sketch(internal, frequent_bigints) RETURNS internal
     LANGUAGE C IMMUTABLE PARALLEL SAFE AS 'MODULE_PATHNAME', 'frequent_bigints_add_sketch';
 CREATE AGGREGATE frequent_bigints_union(frequent_bigints) (
-    SFUNC = frequent_bigints_add_sketch, STYPE = internal, SSPACE = 8192, FINALFUNC = frequent_bigints_final,
+    SFUNC = frequent_bigints_add_sketch, STYPE = internal, SSPACE = 40960, FINALFUNC = frequent_bigints_final,
     COMBINEFUNC = sketch_combine, SERIALFUNC = sketch_serial, DESERIALFUNC = sketch_deserial, PARALLEL = SAFE);
 CREATE FUNCTION sketch_union(frequent_bigints, frequent_bigints) RETURNS frequent_bigints
     LANGUAGE C IMMUTABLE STRICT PARALLEL SAFE COST 100 AS 'MODULE_PATHNAME', 'frequent_bigints_union';
@@ -195,26 +196,26 @@ CREATE FUNCTION count_min_add(internal, text, bigint, integer, integer) RETURNS 
 CREATE FUNCTION count_min_add(internal, text, bigint, double precision, double precision) RETURNS internal
     LANGUAGE C IMMUTABLE PARALLEL SAFE AS 'MODULE_PATHNAME', 'count_min_add_string_by_error';
 CREATE AGGREGATE count_min_agg(item text, weight bigint, num_hashes integer, num_buckets integer) (
-    SFUNC = count_min_add, STYPE = internal, SSPACE = 16384, FINALFUNC = count_min_final,
+    SFUNC = count_min_add, STYPE = internal, SSPACE = 32768, FINALFUNC = count_min_final,
     COMBINEFUNC = sketch_combine, SERIALFUNC = sketch_serial, DESERIALFUNC = sketch_deserial, PARALLEL = SAFE);
 CREATE AGGREGATE count_min_agg(item text, weight bigint, relative_error double precision, confidence double precision) (
-    SFUNC = count_min_add, STYPE = internal, SSPACE = 16384, FINALFUNC = count_min_final,
+    SFUNC = count_min_add, STYPE = internal, SSPACE = 32768, FINALFUNC = count_min_final,
     COMBINEFUNC = sketch_combine, SERIALFUNC = sketch_serial, DESERIALFUNC = sketch_deserial, PARALLEL = SAFE);
 CREATE FUNCTION count_min_add(internal, bigint, bigint, integer, integer) RETURNS internal
     LANGUAGE C IMMUTABLE PARALLEL SAFE AS 'MODULE_PATHNAME', 'count_min_add_bigint';
 CREATE FUNCTION count_min_add(internal, bigint, bigint, double precision, double precision) RETURNS internal
     LANGUAGE C IMMUTABLE PARALLEL SAFE AS 'MODULE_PATHNAME', 'count_min_add_bigint_by_error';
 CREATE AGGREGATE count_min_agg(item bigint, weight bigint, num_hashes integer, num_buckets integer) (
-    SFUNC = count_min_add, STYPE = internal, SSPACE = 16384, FINALFUNC = count_min_final,
+    SFUNC = count_min_add, STYPE = internal, SSPACE = 32768, FINALFUNC = count_min_final,
     COMBINEFUNC = sketch_combine, SERIALFUNC = sketch_serial, DESERIALFUNC = sketch_deserial, PARALLEL = SAFE);
 CREATE AGGREGATE count_min_agg(item bigint, weight bigint, relative_error double precision, confidence double precision) (
-    SFUNC = count_min_add, STYPE = internal, SSPACE = 16384, FINALFUNC = count_min_final,
+    SFUNC = count_min_add, STYPE = internal, SSPACE = 32768, FINALFUNC = count_min_final,
     COMBINEFUNC = sketch_combine, SERIALFUNC = sketch_serial, DESERIALFUNC = sketch_deserial, PARALLEL = SAFE);
 
 CREATE FUNCTION count_min_add_sketch(internal, count_min) RETURNS internal
     LANGUAGE C IMMUTABLE PARALLEL SAFE AS 'MODULE_PATHNAME', 'count_min_add_sketch';
 CREATE AGGREGATE count_min_union(count_min) (
-    SFUNC = count_min_add_sketch, STYPE = internal, SSPACE = 16384, FINALFUNC = count_min_final,
+    SFUNC = count_min_add_sketch, STYPE = internal, SSPACE = 32768, FINALFUNC = count_min_final,
     COMBINEFUNC = sketch_combine, SERIALFUNC = sketch_serial, DESERIALFUNC = sketch_deserial, PARALLEL = SAFE);
 CREATE FUNCTION sketch_union(count_min, count_min) RETURNS count_min
     LANGUAGE C IMMUTABLE STRICT PARALLEL SAFE COST 100 AS 'MODULE_PATHNAME', 'count_min_union';
@@ -283,26 +284,26 @@ CREATE FUNCTION signed_count_min_add(internal, text, bigint, integer, integer) R
 CREATE FUNCTION signed_count_min_add(internal, text, bigint, double precision, double precision) RETURNS internal
     LANGUAGE C IMMUTABLE PARALLEL SAFE AS 'MODULE_PATHNAME', 'signed_count_min_add_string_by_error';
 CREATE AGGREGATE signed_count_min_agg(item text, weight bigint, num_hashes integer, num_buckets integer) (
-    SFUNC = signed_count_min_add, STYPE = internal, SSPACE = 16384, FINALFUNC = signed_count_min_final,
+    SFUNC = signed_count_min_add, STYPE = internal, SSPACE = 32768, FINALFUNC = signed_count_min_final,
     COMBINEFUNC = sketch_combine, SERIALFUNC = sketch_serial, DESERIALFUNC = sketch_deserial, PARALLEL = SAFE);
 CREATE AGGREGATE signed_count_min_agg(item text, weight bigint, relative_error double precision, confidence double precision) (
-    SFUNC = signed_count_min_add, STYPE = internal, SSPACE = 16384, FINALFUNC = signed_count_min_final,
+    SFUNC = signed_count_min_add, STYPE = internal, SSPACE = 32768, FINALFUNC = signed_count_min_final,
     COMBINEFUNC = sketch_combine, SERIALFUNC = sketch_serial, DESERIALFUNC = sketch_deserial, PARALLEL = SAFE);
 CREATE FUNCTION signed_count_min_add(internal, bigint, bigint, integer, integer) RETURNS internal
     LANGUAGE C IMMUTABLE PARALLEL SAFE AS 'MODULE_PATHNAME', 'signed_count_min_add_bigint';
 CREATE FUNCTION signed_count_min_add(internal, bigint, bigint, double precision, double precision) RETURNS internal
     LANGUAGE C IMMUTABLE PARALLEL SAFE AS 'MODULE_PATHNAME', 'signed_count_min_add_bigint_by_error';
 CREATE AGGREGATE signed_count_min_agg(item bigint, weight bigint, num_hashes integer, num_buckets integer) (
-    SFUNC = signed_count_min_add, STYPE = internal, SSPACE = 16384, FINALFUNC = signed_count_min_final,
+    SFUNC = signed_count_min_add, STYPE = internal, SSPACE = 32768, FINALFUNC = signed_count_min_final,
     COMBINEFUNC = sketch_combine, SERIALFUNC = sketch_serial, DESERIALFUNC = sketch_deserial, PARALLEL = SAFE);
 CREATE AGGREGATE signed_count_min_agg(item bigint, weight bigint, relative_error double precision, confidence double precision) (
-    SFUNC = signed_count_min_add, STYPE = internal, SSPACE = 16384, FINALFUNC = signed_count_min_final,
+    SFUNC = signed_count_min_add, STYPE = internal, SSPACE = 32768, FINALFUNC = signed_count_min_final,
     COMBINEFUNC = sketch_combine, SERIALFUNC = sketch_serial, DESERIALFUNC = sketch_deserial, PARALLEL = SAFE);
 
 CREATE FUNCTION signed_count_min_add_sketch(internal, signed_count_min) RETURNS internal
     LANGUAGE C IMMUTABLE PARALLEL SAFE AS 'MODULE_PATHNAME', 'signed_count_min_add_sketch';
 CREATE AGGREGATE signed_count_min_union(signed_count_min) (
-    SFUNC = signed_count_min_add_sketch, STYPE = internal, SSPACE = 16384, FINALFUNC = signed_count_min_final,
+    SFUNC = signed_count_min_add_sketch, STYPE = internal, SSPACE = 32768, FINALFUNC = signed_count_min_final,
     COMBINEFUNC = sketch_combine, SERIALFUNC = sketch_serial, DESERIALFUNC = sketch_deserial, PARALLEL = SAFE);
 CREATE FUNCTION sketch_union(signed_count_min, signed_count_min) RETURNS signed_count_min
     LANGUAGE C IMMUTABLE STRICT PARALLEL SAFE COST 100 AS 'MODULE_PATHNAME', 'signed_count_min_union';
@@ -371,26 +372,26 @@ CREATE FUNCTION bloom_filter_add(internal, text, bigint, integer) RETURNS intern
 CREATE FUNCTION bloom_filter_add(internal, text, bigint, double precision) RETURNS internal
     LANGUAGE C IMMUTABLE PARALLEL SAFE AS 'MODULE_PATHNAME', 'bloom_filter_add_string_by_error';
 CREATE AGGREGATE bloom_filter_agg(key text, num_bits bigint, num_hashes integer) (
-    SFUNC = bloom_filter_add, STYPE = internal, SSPACE = 16384, FINALFUNC = bloom_filter_final,
+    SFUNC = bloom_filter_add, STYPE = internal, SSPACE = 32768, FINALFUNC = bloom_filter_final,
     COMBINEFUNC = sketch_combine, SERIALFUNC = sketch_serial, DESERIALFUNC = sketch_deserial, PARALLEL = SAFE);
 CREATE AGGREGATE bloom_filter_agg(key text, expected_items bigint, false_positive_rate double precision) (
-    SFUNC = bloom_filter_add, STYPE = internal, SSPACE = 16384, FINALFUNC = bloom_filter_final,
+    SFUNC = bloom_filter_add, STYPE = internal, SSPACE = 32768, FINALFUNC = bloom_filter_final,
     COMBINEFUNC = sketch_combine, SERIALFUNC = sketch_serial, DESERIALFUNC = sketch_deserial, PARALLEL = SAFE);
 CREATE FUNCTION bloom_filter_add(internal, bigint, bigint, integer) RETURNS internal
     LANGUAGE C IMMUTABLE PARALLEL SAFE AS 'MODULE_PATHNAME', 'bloom_filter_add_bigint';
 CREATE FUNCTION bloom_filter_add(internal, bigint, bigint, double precision) RETURNS internal
     LANGUAGE C IMMUTABLE PARALLEL SAFE AS 'MODULE_PATHNAME', 'bloom_filter_add_bigint_by_error';
 CREATE AGGREGATE bloom_filter_agg(key bigint, num_bits bigint, num_hashes integer) (
-    SFUNC = bloom_filter_add, STYPE = internal, SSPACE = 16384, FINALFUNC = bloom_filter_final,
+    SFUNC = bloom_filter_add, STYPE = internal, SSPACE = 32768, FINALFUNC = bloom_filter_final,
     COMBINEFUNC = sketch_combine, SERIALFUNC = sketch_serial, DESERIALFUNC = sketch_deserial, PARALLEL = SAFE);
 CREATE AGGREGATE bloom_filter_agg(key bigint, expected_items bigint, false_positive_rate double precision) (
-    SFUNC = bloom_filter_add, STYPE = internal, SSPACE = 16384, FINALFUNC = bloom_filter_final,
+    SFUNC = bloom_filter_add, STYPE = internal, SSPACE = 32768, FINALFUNC = bloom_filter_final,
     COMBINEFUNC = sketch_combine, SERIALFUNC = sketch_serial, DESERIALFUNC = sketch_deserial, PARALLEL = SAFE);
 
 CREATE FUNCTION bloom_filter_add_sketch(internal, bloom_filter) RETURNS internal
     LANGUAGE C IMMUTABLE PARALLEL SAFE AS 'MODULE_PATHNAME', 'bloom_filter_add_sketch';
 CREATE AGGREGATE bloom_filter_union(bloom_filter) (
-    SFUNC = bloom_filter_add_sketch, STYPE = internal, SSPACE = 16384, FINALFUNC = bloom_filter_final,
+    SFUNC = bloom_filter_add_sketch, STYPE = internal, SSPACE = 32768, FINALFUNC = bloom_filter_final,
     COMBINEFUNC = sketch_combine, SERIALFUNC = sketch_serial, DESERIALFUNC = sketch_deserial, PARALLEL = SAFE);
 CREATE FUNCTION sketch_union(bloom_filter, bloom_filter) RETURNS bloom_filter
     LANGUAGE C IMMUTABLE STRICT PARALLEL SAFE COST 100 AS 'MODULE_PATHNAME', 'bloom_filter_union';
