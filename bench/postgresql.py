@@ -194,7 +194,7 @@ def plots(folder, table):
         axes.set_yticks([place + 0.4 - height / 2 for place in range(len(table))], names, fontsize=8)
         axes.invert_yaxis()
         axes.set_xscale("log")
-        axes.margins(x=0.12)
+        axes.margins(x=0.12, y=0.01)
         axes.set_title(title, fontsize=10)
         if len(bars) > 1:
             handles = [pyplot.Rectangle((0, 0), 1, 1, color=colour) for colour in ["tab:gray", "tab:blue", "tab:orange"]]

@@ -26,7 +26,8 @@ def damaged_bytes(tests):
                                "generate_series(1::bigint, 10) AS j GROUP BY i ORDER BY i")
                 places[name] = file_of(cursor, f"of_{name}")
             cursor.execute("CREATE TABLE apart AS SELECT i AS id, bloom_filter_agg(j, 80000, 5) AS sketch "
-                           "FROM generate_series(1, 60) AS i, generate_series(i::bigint, i + 2000) AS j GROUP BY i ORDER BY i")
+                           "FROM generate_series(1, 60) AS i, generate_series(i * 10000::bigint, i * 10000 + 2000) AS j "
+                           "GROUP BY i ORDER BY i")
             cursor.execute("SELECT reltoastrelid::regclass FROM pg_class WHERE relname = 'apart'")
             places["apart"] = file_of(cursor, cursor.fetchone()[0])
             cursor.execute("SELECT sketch_image(sketch) FROM apart ORDER BY id")
@@ -49,7 +50,7 @@ def damaged_bytes(tests):
                     tests.check(f"damaged {name}: damaged rows, {use}", set(damaged) == {"XX001"}, set(damaged))
             tests.check("filters stored apart are damaged", len(apart) > 10, len(apart))
             for number in range(1, 61):
-                code = code_of(cursor, f"SELECT contains(sketch, {number + 7}) FROM apart WHERE id = {number}")
+                code = code_of(cursor, f"SELECT contains(sketch, {number * 10000 + 7}) FROM apart WHERE id = {number}")
                 wanted = "XX001" if number in apart else None
                 tests.check(f"a filter stored apart, row {number}", code == wanted, code)
         tests.check("the server ran on", "was terminated by signal" not in on.log(), on.log()[-2000:])

@@ -1,7 +1,6 @@
 """Statements that end early: by a cancel, by a killed process, by a limit of memory. What they held is freed, and the server goes
 on."""
 import os
-import resource
 import signal
 import threading
 import time
@@ -50,8 +49,8 @@ def code_of(cursor, statement):
     return None
 
 
-def prepare(tests):
-    with tests.main.session() as session, session.cursor() as cursor:
+def prepare(on):
+    with on.session() as session, session.cursor() as cursor:
         cursor.execute("SET max_parallel_workers_per_gather = 0")
         cursor.execute(TABLES)
 
@@ -67,7 +66,7 @@ def held(cursor):
 
 def cancels(tests):
     """A cancel in the middle of each kind of statement."""
-    prepare(tests)
+    prepare(tests.main)
     for name, statement in LONG.items():
         with tests.main.session(**(WORKERS if name == "workers" else {"max_parallel_workers_per_gather": 0})) as session:
             with session.cursor() as cursor:
@@ -88,7 +87,7 @@ def cancels(tests):
 
 def many_cancels(tests):
     """1,000 cancelled statements leave no memory."""
-    prepare(tests)
+    prepare(tests.main)
     with tests.main.session(max_parallel_workers_per_gather=0) as session, session.cursor() as cursor:
         def cancelled(count):
             codes = []
@@ -112,44 +111,49 @@ def many_cancels(tests):
 
 def killed(tests):
     """`kill -9` of a worker, and of a session."""
-    prepare(tests)
-    for kind in ["parallel worker", "client backend"]:
-        with tests.main.session() as session, session.cursor() as cursor:
-            cursor.execute("DROP TABLE IF EXISTS kept; CREATE TABLE kept AS SELECT * FROM many WHERE part <= 3")
-            cursor.execute("SELECT md5(string_agg(strings::text || filter::text || counts::text, ',' ORDER BY part)) FROM kept")
+    sketches = "SELECT md5(string_agg(strings::text || filter::text || counts::text, ',' ORDER BY part)) FROM many"
+    with tests.server("killed") as on:
+        with on.session() as session, session.cursor() as cursor:
+            cursor.execute("CREATE EXTENSION sketches_rattle")
+        prepare(on)
+        with on.session() as session, session.cursor() as cursor:
+            cursor.execute(sketches)
             kept = cursor.fetchone()
-            cursor.execute("CHECKPOINT")
-        session = tests.main.connect(**WORKERS)
-        lost = []
+        for number, kind in enumerate(["parallel worker", "client backend"], 1):
+            lost = []
 
-        def run():
-            with session.cursor() as cursor:
-                lost.append(code_of(cursor, LONG["workers"]))
+            def run():
+                with on.session(**WORKERS) as session, session.cursor() as cursor:
+                    lost.append(code_of(cursor, LONG["workers"]))
 
-        thread = threading.Thread(target=run)
-        thread.start()
-        process = None
-        with tests.main.session() as watch, watch.cursor() as cursor:
-            for _ in range(200):
-                cursor.execute("SELECT pid FROM pg_stat_activity WHERE backend_type = %s AND query LIKE %s AND pid <> "
-                               "pg_backend_pid()", (kind, "SELECT frequent_strings_agg%"))
-                found = cursor.fetchall()
-                if found:
-                    process = found[0][0]
-                    break
-                time.sleep(0.02)
-        time.sleep(0.3)
-        tests.check(f"there is a {kind}", process is not None)
-        if process is not None:
+            thread = threading.Thread(target=run)
+            thread.start()
+            process = process_of(on, kind)
+            tests.check(f"there is a {kind}", process is not None)
+            time.sleep(0.3)
             os.kill(process, signal.SIGKILL)
-        thread.join(timeout=60)
-        tests.check(f"the statement of a killed {kind} ends", len(lost) == 1 and lost[0] is not None, lost)
-        tests.main.wait()
-        with tests.main.session() as again, again.cursor() as cursor:
-            cursor.execute("SELECT md5(string_agg(strings::text || filter::text || counts::text, ',' ORDER BY part)) FROM kept")
-            tests.check(f"stored sketches after a killed {kind}", cursor.fetchone() == kept)
-            cursor.execute(ANSWER)
-            tests.check(f"an answer after a killed {kind}", cursor.fetchone() == (400000,))
+            thread.join(timeout=60)
+            tests.check(f"the statement of a killed {kind} ends", len(lost) == 1 and lost[0] is not None, lost)
+            while on.log().count("all server processes terminated; reinitializing") < number:
+                time.sleep(0.05)
+            on.wait()
+            with on.session() as again, again.cursor() as cursor:
+                cursor.execute(sketches)
+                tests.check(f"stored sketches after a killed {kind}", cursor.fetchone() == kept)
+                cursor.execute(ANSWER)
+                tests.check(f"an answer after a killed {kind}", cursor.fetchone() == (400000,))
+
+
+def process_of(on, kind):
+    """Returns a process of some kind that runs the statement with workers."""
+    with on.session() as watch, watch.cursor() as cursor:
+        for _ in range(500):
+            cursor.execute("SELECT pid FROM pg_stat_activity WHERE backend_type = %s AND query = %s", (kind, LONG["workers"]))
+            found = cursor.fetchall()
+            if found:
+                return found[0][0]
+            time.sleep(0.02)
+    return None
 
 
 def address_space(process):
@@ -157,45 +161,56 @@ def address_space(process):
         return next(int(line.split()[1]) * 1024 for line in file if line.startswith("VmSize"))
 
 
+def limit_memory(on, process, limit):
+    on.run("/usr/bin/prlimit", "--pid", str(process), f"--as={limit}:unlimited")
+
+
 def out_of_memory(tests):
     """Limits of memory: the system's, lower and lower, and the extension's own."""
-    prepare(tests)
+    prepare(tests.main)
     statements = {
         "a filter": "SELECT length(sketch_image(bloom_filter_agg(i, 160000000, 5))) FROM generate_series(1::bigint, 9) AS i",
         "counts": "SELECT length(sketch_image(count_min_agg(i, 1, 5, 500000))) FROM generate_series(1::bigint, 9) AS i",
-        "frequent bigints": "SELECT status(frequent_bigints_agg(number, 1, 524288)) FROM rows",
-        "frequent strings": "SELECT status(frequent_strings_agg(string || 'long' || i, 1, 262144)) FROM rows WHERE i <= 100000",
+        "frequent bigints": "SELECT (status(frequent_bigints_agg(i, 1, 1048576))).total_weight FROM rows",
+        "frequent strings": "SELECT (status(frequent_strings_agg(string || 'long' || i, 1, 262144))).total_weight "
+                            "FROM rows WHERE i <= 100000",
         "a union": "SELECT status(bloom_filter_union(filter)) FROM large",
         "a union of two": "SELECT status(filter | filter) FROM large",
         "a text": "SELECT length(filter::text) FROM large",
         "a sketch of a text": "SELECT status(filter::text::bloom_filter) FROM large",
         "a query": "SELECT count(*) FROM large WHERE contains(filter, 7::bigint)",
     }
-    with tests.main.session(max_parallel_workers_per_gather=0) as session, session.cursor() as cursor:
+    with tests.main.session() as session, session.cursor() as cursor:
         cursor.execute("CREATE TABLE large AS SELECT bloom_filter_agg(i, 160000000, 5) AS filter "
                        "FROM generate_series(1::bigint, 9) AS i")
-        cursor.execute("SELECT pg_backend_pid()")
-        process = cursor.fetchone()[0]
-        for name, statement in statements.items():
-            cursor.execute(statement)
-            wanted = cursor.fetchall()
-            codes = []
+    for name, statement in statements.items():
+        wanted = answer_of(tests.main, statement)
+        with tests.main.session(max_parallel_workers_per_gather=0) as session, session.cursor() as cursor:
+            cursor.execute("SELECT pg_backend_pid(), estimate(count_min_agg(1, 1, 1, 9), 1)")
+            process = cursor.fetchone()[0]
+            codes, answers = [], []
             for room in [1, 4, 8, 12, 16, 20, 24, 32, 40, 48, 64, 100, 200, 400]:
-                limit = address_space(process) + room * MB
-                resource.prlimit(process, resource.RLIMIT_AS, (limit, resource.RLIM_INFINITY))
+                limit_memory(tests.main, process, address_space(process) + room * MB)
                 codes.append(code_of(cursor, statement))
-                got = cursor.fetchall() if codes[-1] is None else wanted
-                resource.prlimit(process, resource.RLIMIT_AS, (resource.RLIM_INFINITY, resource.RLIM_INFINITY))
-                if got != wanted and not name.startswith("frequent"):
-                    tests.check(f"{name} with {room} MB", False, (got, wanted))
+                if codes[-1] is None:
+                    answers.append(cursor.fetchall())
+                limit_memory(tests.main, process, "unlimited")
             tests.check(f"{name} within limits of memory", set(codes) == {None, "53200"} and codes[0] == "53200"
                         and codes[-1] is None, codes)
+            tests.check(f"answers of {name} within limits", all(answer == wanted for answer in answers), answers)
             cursor.execute("SELECT pg_backend_pid()")
             tests.check(f"the session after {name}", cursor.fetchone() == (process,))
-        cursor.execute("SET sketches_rattle.max_image_bytes = '1MB'")
-        for name in ["a filter", "counts", "frequent bigints", "frequent strings", "a union", "a sketch of a text", "a query"]:
-            code = code_of(cursor, statements[name])
-            tests.check(f"{name} above the extension's limit", code == "54000", code)
-        cursor.execute("RESET sketches_rattle.max_image_bytes; DROP TABLE large")
+            if name not in ("a query", "a text"):
+                cursor.execute("SET sketches_rattle.max_image_bytes = '1MB'")
+                code = code_of(cursor, statement)
+                tests.check(f"{name} above the extension's limit", code == "54000", code)
+    with tests.main.session() as session, session.cursor() as cursor:
+        cursor.execute("DROP TABLE large")
         cursor.execute(ANSWER)
         tests.check("an answer after limits", cursor.fetchone() == (400000,))
+
+
+def answer_of(on, statement):
+    with on.session(max_parallel_workers_per_gather=0) as session, session.cursor() as cursor:
+        cursor.execute(statement)
+        return cursor.fetchall()
