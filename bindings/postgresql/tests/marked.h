@@ -25,7 +25,7 @@ static void unmark(void *mark)
 }
 
 /* Returns a block of the context, with a mark after it, or null if there is no memory and the flags allow that. */
-static void *__attribute__((unused)) marked_alloc(MemoryContext context, Size size, int flags)
+static inline void *marked_alloc(MemoryContext context, Size size, int flags)
 {
     char *block = MemoryContextAllocExtended(context, size + MARKED_BYTES, flags & ~MCXT_ALLOC_ZERO);
     Mark *mark;
@@ -43,7 +43,7 @@ static void *__attribute__((unused)) marked_alloc(MemoryContext context, Size si
 }
 
 /* Returns a copy of a block, of another length. The old one has `kept` bytes or more. */
-static void *__attribute__((unused)) marked_realloc(void *block, Size kept, Size size, int flags)
+static inline void *marked_realloc(void *block, Size kept, Size size, int flags)
 {
     void *copy = marked_alloc(GetMemoryChunkContext(block), size, flags);
     if (copy != NULL) memcpy(copy, block, Min(kept, size));

@@ -77,6 +77,7 @@ class Tests:
         good = {re.split(r"\s+", line)[1] for line in lines if re.match(r"test .*\.\.\. ok", line)}
         if os.environ.get("KEEP"):
             subprocess.run(["cp", "-r", inside, os.environ["KEEP"]])
+            print("\n".join(lines))
         differences = f"{inside}/regression.diffs"
         if not os.path.exists(differences):
             differences = f"{inside}/output_iso/regression.diffs"
