@@ -33,7 +33,8 @@ FROM generate_series(1, 100000) AS i;
 SELECT bool_and(e.rows BETWEEN lower_bound(s.sketch, e.item) AND upper_bound(s.sketch, e.item)) AS within,
     bool_and(upper_bound(s.sketch, e.item) - lower_bound(s.sketch, e.item) <= (status(s.sketch)).maximum_error) AS narrow,
     max((status(s.sketch)).total_weight) AS total
-FROM (SELECT frequent_bigints_agg(item, 1, 256) AS sketch FROM many) AS s, (SELECT item, count(*) AS rows FROM many GROUP BY item) AS e;
+FROM (SELECT frequent_bigints_agg(item, 1, 256) AS sketch FROM many) AS s,
+    (SELECT item, count(*) AS rows FROM many GROUP BY item) AS e;
 SELECT bool_and(e.total BETWEEN lower_bound(s.sketch, e.string) AND upper_bound(s.sketch, e.string)) AS within,
     bool_and(upper_bound(s.sketch, e.string) - lower_bound(s.sketch, e.string) <= (status(s.sketch)).maximum_error) AS narrow,
     max((status(s.sketch)).total_weight) AS total
@@ -44,7 +45,8 @@ FROM (SELECT count_min_agg(item, weight, 3, 100) AS sketch FROM many) AS s,
     (SELECT item, sum(weight) AS total FROM many GROUP BY item) AS e;
 
 -- Rows whose item or weight is null are ignored. Without rows the result is null.
-SELECT (status(frequent_strings_agg(item))).total_weight AS strings, (status(frequent_strings_agg(item, weight))).total_weight AS weights
+SELECT (status(frequent_strings_agg(item))).total_weight AS strings,
+    (status(frequent_strings_agg(item, weight))).total_weight AS weights
 FROM (VALUES ('a', 1), (NULL, 2), ('b', NULL), ('c', 4)) AS v(item, weight);
 SELECT frequent_strings_agg(item) IS NULL AS strings, frequent_bigints_agg(item::bigint) IS NULL AS bigints,
     count_min_agg(item, 1, 3, 64) IS NULL AS counts, signed_count_min_agg(item, 1, 3, 64) IS NULL AS signed_counts,
@@ -63,11 +65,13 @@ SELECT count(*) AS items, bool_and(f.estimate = e.rows) AS exact
 FROM (SELECT frequent_strings_union(s) AS s FROM (SELECT frequent_strings_agg(page) AS s FROM visits GROUP BY seconds) AS g) AS u,
     frequent_rows(u.s) AS f JOIN (SELECT page, count(*) AS rows FROM visits GROUP BY page) AS e ON e.page = f.item;
 SELECT count(*) AS items, bool_and(f.estimate = e.rows) AS exact
-FROM (SELECT frequent_bigints_union(s) AS s FROM (SELECT frequent_bigints_agg(visitor) AS s FROM visits GROUP BY seconds) AS g) AS u,
+FROM (SELECT frequent_bigints_union(s) AS s
+    FROM (SELECT frequent_bigints_agg(visitor) AS s FROM visits GROUP BY seconds) AS g) AS u,
     frequent_rows(u.s) AS f JOIN (SELECT visitor, count(*) AS rows FROM visits GROUP BY visitor) AS e ON e.visitor = f.item;
 SELECT (SELECT count_min_union(s) FROM (SELECT count_min_agg(page, seconds, 5, 1024) AS s FROM visits GROUP BY visitor) AS g)
     = count_min_agg(page, seconds, 5, 1024) AS counts,
-    (SELECT signed_count_min_union(s) FROM (SELECT signed_count_min_agg(page, -seconds, 5, 1024) AS s FROM visits GROUP BY visitor) AS g)
+    (SELECT signed_count_min_union(s)
+    FROM (SELECT signed_count_min_agg(page, -seconds, 5, 1024) AS s FROM visits GROUP BY visitor) AS g)
     = signed_count_min_agg(page, -seconds, 5, 1024) AS signed_counts,
     (SELECT bloom_filter_union(s) FROM (SELECT bloom_filter_agg(page, 1024, 5) AS s FROM visits GROUP BY visitor) AS g)
     = bloom_filter_agg(page, 1024, 5) AS filter

@@ -6,7 +6,8 @@ SET parallel_setup_cost = 0;
 SET parallel_tuple_cost = 0;
 SET min_parallel_table_scan_size = 0;
 SET max_parallel_workers_per_gather = 2;
-EXPLAIN (COSTS off) SELECT frequent_strings_agg(string), frequent_bigints_agg(number, weight, 1024), count_min_agg(number, weight, 4, 4096),
+EXPLAIN (COSTS off)
+SELECT frequent_strings_agg(string), frequent_bigints_agg(number, weight, 1024), count_min_agg(number, weight, 4, 4096),
     signed_count_min_agg(string, -weight, 4, 4096), bloom_filter_agg(string, 1000, 0.01)
 FROM facts;
 CREATE TABLE parallel AS
@@ -36,7 +37,8 @@ SELECT bool_and(rows BETWEEN lower_bound(sketch, number) AND upper_bound(sketch,
 FROM s, e;
 
 -- Groups, and unions of stored sketches, in workers.
-CREATE TABLE stored AS SELECT number % 1000 AS part, bloom_filter_agg(number, 5000, 4) AS filter, frequent_bigints_agg(number) AS bigints
+CREATE TABLE stored AS
+SELECT number % 1000 AS part, bloom_filter_agg(number, 5000, 4) AS filter, frequent_bigints_agg(number) AS bigints
 FROM spread GROUP BY number % 1000;
 ANALYZE stored;
 EXPLAIN (COSTS off) SELECT bloom_filter_union(filter), frequent_bigints_union(bigints) FROM stored;

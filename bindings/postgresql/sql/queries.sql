@@ -15,7 +15,8 @@ SELECT day, estimate(seconds, 'page 7'), upper_bound(seconds, 'page 7') - estima
     floor(2.718281828459045 * (status(seconds)).total_weight / 1024) AS margin_by_formula,
     estimate(refunds, 207), upper_bound(refunds, 207) >= estimate(refunds, 207) AS above
 FROM days ORDER BY day;
-SELECT day, contains(seen, 107) AS is_first, contains(seen, 207) AS is_second, contains(seen, 307) AS is_third FROM days ORDER BY day;
+SELECT day, contains(seen, 107) AS is_first, contains(seen, 207) AS is_second, contains(seen, 307) AS is_third
+FROM days ORDER BY day;
 
 -- Rows come in descending order of estimates.
 CREATE TABLE words AS

@@ -1,6 +1,6 @@
 CREATE TABLE sets AS
-SELECT name, frequent_strings_agg('item ' || i) AS strings, frequent_bigints_agg(i) AS bigints, count_min_agg(i, 1, 4, 1024) AS counts,
-    signed_count_min_agg(i, -1, 4, 1024) AS signed_counts, bloom_filter_agg(i, 10000, 7) AS filter
+SELECT name, frequent_strings_agg('item ' || i) AS strings, frequent_bigints_agg(i) AS bigints,
+    count_min_agg(i, 1, 4, 1024) AS counts, signed_count_min_agg(i, -1, 4, 1024) AS signed_counts, bloom_filter_agg(i, 10000, 7) AS filter
 FROM (VALUES ('low', 1, 60), ('high', 41, 100), ('all', 1, 100)) AS v(name, first, last), generate_series(first, last) AS i
 GROUP BY name;
 
@@ -12,7 +12,8 @@ SELECT (status(a.strings | b.strings)).total_weight, (status(a.bigints | b.bigin
 FROM sets AS a, sets AS b, sets AS c WHERE a.name = 'low' AND b.name = 'high' AND c.name = 'all';
 
 -- The intersection of two filters contains what both contain.
-SELECT bool_and(contains(a.filter & b.filter, i)) AS contained, bool_and(contains(sketch_intersection(a.filter, b.filter), i)) AS by_name
+SELECT bool_and(contains(a.filter & b.filter, i)) AS contained,
+    bool_and(contains(sketch_intersection(a.filter, b.filter), i)) AS by_name
 FROM sets AS a, sets AS b, generate_series(41, 60) AS i WHERE a.name = 'low' AND b.name = 'high';
 
 -- Filters and counts are equal if their states are.

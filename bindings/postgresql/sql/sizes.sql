@@ -54,13 +54,14 @@ SELECT bloom_filter_agg(i, 1000, 0.1 / i) FROM generate_series(1, 2) AS i;
 SELECT bloom_filter_agg(i, CASE i WHEN 1 THEN 64 END, 3) FROM generate_series(1, 2) AS i;
 SELECT i, (status(bloom_filter_agg(i, 64 * i, 3))).capacity FROM generate_series(1, 2) AS i GROUP BY i ORDER BY i;
 
--- A sketch is within the limit, with its strings.
+-- A sketch is within the limits, with its strings.
 SET sketches_rattle.max_image_bytes = '64kB';
 SELECT bloom_filter_agg(1, 1000000, 3);
 SELECT count_min_agg(1, 1, 5, 10000);
 SELECT frequent_bigints_agg(1, 1, 4096);
 SELECT (status(frequent_strings_agg(repeat('x', 1000) || i))).num_active_items FROM generate_series(1, 10) AS i;
 SELECT frequent_strings_agg(repeat('x', 1000) || i) FROM generate_series(1, 100) AS i;
+SELECT (status(frequent_strings_agg(repeat('x', 1000) || i % 3))).num_active_items FROM generate_series(1, 1000) AS i;
 RESET sketches_rattle.max_image_bytes;
 CREATE TABLE long AS SELECT frequent_strings_agg(repeat('x', 1000) || i) AS strings, bloom_filter_agg(i, 1000000, 3) AS filter
 FROM generate_series(1, 100) AS i;
@@ -71,6 +72,14 @@ SELECT strings::text::frequent_strings FROM long;
 SELECT frequent_strings_from_image(sketch_image(strings)) FROM long;
 SELECT filter | filter FROM long;
 RESET sketches_rattle.max_image_bytes;
+SELECT (status(frequent_bigints_agg(1, 1, 262144))).max_map_size;
+SELECT frequent_bigints_agg(1, 1, 524288);
+SET sketches_rattle.max_frequent_bytes = '16MB';
+SELECT (status(frequent_bigints_agg(1, 1, 524288))).max_map_size;
+SET sketches_rattle.max_frequent_bytes = '64kB';
+SELECT status(strings) FROM long;
+SELECT contains(filter | filter, 7) FROM long;
+RESET sketches_rattle.max_frequent_bytes;
 SET sketches_rattle.max_image_bytes = 0;
 SET sketches_rattle.max_image_bytes = '2GB';
 SET sketches_rattle.unknown = 1;

@@ -28,6 +28,7 @@ typedef struct State {
     bool has_sketch;
     Datum sizes[2];      /* the size arguments of the first row */
     Batch *batch;        /* in unions, after the first sketch */
+    size_t unchecked;    /* the bytes of strings that came after the limit was checked */
     const void *image;
     size_t image_bytes;
 } State;
@@ -100,7 +101,7 @@ static void make_frequent(State *state, int64 max_map_size)
     MemoryContext before;
     int32_t result;
     if (max_map_size < 0) check_result(DS_MAP_SIZE_TOO_SMALL);
-    check_bytes((uint64) max_map_size * (state->kind == FREQUENT_STRINGS ? 44 : 28));
+    check_bytes(state->kind, (uint64) max_map_size * (state->kind == FREQUENT_STRINGS ? 44 : 28));
     before = MemoryContextSwitchTo(state->context);
     result = state->kind == FREQUENT_STRINGS ? ds_frequent_items_string_new(&state->handle, max_map_size, sample)
                                              : ds_frequent_items_i64_new(&state->handle, max_map_size, sample);
@@ -115,7 +116,7 @@ static void make_count(State *state, int64 num_hashes, int64 num_buckets)
     int32_t result;
     if (num_hashes < 0 || num_hashes > UINT8_MAX) check_result(DS_BAD_NUM_HASHES);
     if (num_buckets < 0) check_result(DS_BAD_NUM_BUCKETS);
-    check_bytes((uint64) num_hashes * (num_buckets + 1) * 8);
+    check_bytes(state->kind, (uint64) num_hashes * (num_buckets + 1) * 8);
     before = MemoryContextSwitchTo(state->context);
     result = state->kind == COUNT_MIN
                  ? ds_count_min_u64_new(&state->handle, (uint8_t) num_hashes, (uint32_t) num_buckets, DEFAULT_SEED)
@@ -131,7 +132,7 @@ static void make_filter(State *state, int64 num_bits, int64 num_hashes)
     int32_t result;
     if (num_bits < 0) check_result(DS_BAD_NUM_BITS);
     if (num_hashes < 0 || num_hashes > UINT16_MAX) check_result(DS_BAD_NUM_HASHES);
-    check_bytes((uint64) num_bits / 8);
+    check_bytes(state->kind, (uint64) num_bits / 8);
     before = MemoryContextSwitchTo(state->context);
     result = ds_bloom_new(&state->handle, num_bits, (uint16_t) num_hashes, DEFAULT_SEED);
     MemoryContextSwitchTo(before);
@@ -263,6 +264,15 @@ static inline int32_t filter_bigint(ds_sketch *handle, int64 item, int64 weight)
     return ds_bloom_insert_i64(handle, item);
 }
 
+/* Checks the limit of a state of strings now and then, so that it is not much exceeded before the group ends. */
+static inline void check_strings(State *state, size_t length)
+{
+    state->unchecked += length;
+    if (likely(state->unchecked < limit_of(FREQUENT_STRINGS) / 4)) return;
+    check_limit(FREQUENT_STRINGS, &state->handle);
+    state->unchecked = 0;
+}
+
 /* The parts of a call that adds a row, known when the file is compiled. */
 typedef struct Row {
     Kind kind;
@@ -294,6 +304,7 @@ static pg_attribute_always_inline Datum add_row(FunctionCallInfo fcinfo, Row row
     else result = row.add_bigint(&state->handle, PG_GETARG_INT64(1), weight);
     MemoryContextSwitchTo(before);
     check_result(result);
+    if (row.kind == FREQUENT_STRINGS) check_strings(state, string.length);
     PG_RETURN_POINTER(state);
 }
 
@@ -362,7 +373,7 @@ static Datum add_sketch(FunctionCallInfo fcinfo, Kind kind)
     if (PG_ARGISNULL(1)) return state_result(fcinfo, state);
     sketch = detoast_sketch(PG_GETARG_DATUM(1), kind);
     if (state == NULL) state = new_state(fcinfo, kind, sketch->items);
-    add_image(state, sketch->image, IMAGE_BYTES(sketch), max_image_bytes);
+    add_image(state, sketch->image, IMAGE_BYTES(sketch), limit_of(kind));
     state->items |= sketch->items;
     PG_FREE_IF_COPY(sketch, 1);
     PG_RETURN_POINTER(state);

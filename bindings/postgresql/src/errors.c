@@ -15,7 +15,7 @@
  * | 22023 | a size, a fraction, a threshold or a mode is out of range |
  * | 22P02, 22P03 | the text or the binary form is damaged |
  * | 53200 | out of memory |
- * | 54000 | a sketch takes more than `sketches_rattle.max_image_bytes`, or a stored sketch more than 1 GB |
+ * | 54000 | a sketch takes more than `sketches_rattle.max_image_bytes` or `sketches_rattle.max_frequent_bytes`, or more than 1 GB |
  * | 58000 | the system has no random bytes for a key |
  * | XX000 | an error of the extension itself |
  * | XX001 | a stored sketch is damaged: its checksum is wrong |
@@ -54,11 +54,13 @@ static int state_of(int32_t result)
     return ERRCODE_INTERNAL_ERROR;
 }
 
+#define LIMITS "The limits are sketches_rattle.max_image_bytes and sketches_rattle.max_frequent_bytes."
+
 void raise_result(int32_t result)
 {
     ereport(ERROR, (errcode(state_of(result)), errmsg("%s", ds_result_message(result)),
                     errdetail("The library returned %s.", ds_result_name(result)),
-                    result == DS_TABLE_TOO_LARGE ? errhint("See sketches_rattle.max_image_bytes.") : 0));
+                    result == DS_TABLE_TOO_LARGE ? errhint(LIMITS) : 0));
     pg_unreachable();
 }
 
@@ -90,7 +92,7 @@ void raise_limit(uint64 bytes)
 {
     ereport(ERROR, (errcode(ERRCODE_PROGRAM_LIMIT_EXCEEDED),
                     errmsg("a sketch of " UINT64_FORMAT " bytes exceeds the limit", bytes),
-                    errhint("The limit is sketches_rattle.max_image_bytes.")));
+                    errhint(LIMITS)));
     pg_unreachable();
 }
 

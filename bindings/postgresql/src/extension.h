@@ -45,7 +45,7 @@ void raise_kind(const char *message) pg_attribute_noreturn();
 /* Raises the error of sizes that differ between rows of a group. */
 void raise_sizes(void) pg_attribute_noreturn();
 
-/* Raises the error of a sketch that takes more than `sketches_rattle.max_image_bytes`. */
+/* Raises the error of a sketch that takes more than its limit, or more than PostgreSQL stores. */
 void raise_limit(uint64 bytes) pg_attribute_noreturn();
 
 static inline void check_result(int32_t result)
@@ -83,13 +83,22 @@ typedef struct Sketch {
 
 #define IMAGE_BYTES(sketch) (VARSIZE(sketch) - offsetof(Sketch, image))
 
-/* The most bytes that a sketch may take, by the formula of `ds_memory_bytes`, which counts strings. */
+/* The most bytes that a sketch may take, by the formula of `ds_memory_bytes`, which counts strings. Frequent items keep to both
+ * limits. No interrupt is checked during a call of the library, and their calls take longer: the default keeps them below 100 ms. */
 extern int max_image_bytes;
+extern int max_frequent_bytes;
 
-/* Raises an error if a sketch of these bytes exceeds the limit. */
-static inline void check_bytes(uint64 bytes)
+/* Returns the limit of a kind. */
+static inline size_t limit_of(Kind kind)
 {
-    if (bytes > (uint64) max_image_bytes) raise_limit(bytes);
+    bool is_frequent = kind == FREQUENT_STRINGS || kind == FREQUENT_BIGINTS;
+    return is_frequent ? Min(max_image_bytes, max_frequent_bytes) : max_image_bytes;
+}
+
+/* Raises an error if a sketch of these bytes exceeds the limit of its kind. */
+static inline void check_bytes(Kind kind, uint64 bytes)
+{
+    if (bytes > limit_of(kind)) raise_limit(bytes);
 }
 
 /* Reads an image into a handle that has no sketch, in the current context. `max_bytes` limits what the sketch takes. */
@@ -100,6 +109,9 @@ struct varlena *write_image(Kind kind, ds_sketch *handle, size_t header);
 
 /* Merges other sketches of the kind into the handle's. Allocates in the current context. Returns the library's result. */
 int32_t merge_all(Kind kind, ds_sketch *handle, ds_sketch *others, size_t count);
+
+/* Raises an error if a handle's sketch takes more than the limit of its kind. */
+void check_limit(Kind kind, ds_sketch *handle);
 
 /* Returns a stored sketch from a handle. Raises an error if the sketch exceeds the limit. */
 Sketch *store(Kind kind, uint8 items, ds_sketch *handle);

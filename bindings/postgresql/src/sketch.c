@@ -155,17 +155,17 @@ Sketch *detoast_sketch(Datum datum, Kind kind)
 
 void load(Sketch *sketch, ds_sketch *handle)
 {
-    read_image(sketch->kind, handle, sketch->image, IMAGE_BYTES(sketch), max_image_bytes);
+    read_image(sketch->kind, handle, sketch->image, IMAGE_BYTES(sketch), limit_of(sketch->kind));
 }
 
-/* Raises an error if a sketch takes more than the limit by the count of `deserialize`, which adds the lengths of strings. */
-static void check_limit(Kind kind, ds_sketch *handle)
+/* The bytes are those that `deserialize` counts, which adds 4 for the length of each string. */
+void check_limit(Kind kind, ds_sketch *handle)
 {
     ds_frequent_items_status status = {0};
     size_t bytes = 0;
     check_result(ds_memory_bytes(handle, &bytes));
     if (kind == FREQUENT_STRINGS) check_result(ds_frequent_items_string_get_status(handle, &status));
-    check_bytes(bytes + 4 * status.num_active_items);
+    check_bytes(kind, bytes + 4 * status.num_active_items);
 }
 
 Sketch *store(Kind kind, uint8 items, ds_sketch *handle)
@@ -183,7 +183,7 @@ static Sketch *import_image(Kind kind, uint8 items, const void *image, size_t le
 {
     ds_sketch handle = DS_NONE;
     Sketch *sketch;
-    read_image(kind, &handle, image, length, max_image_bytes);
+    read_image(kind, &handle, image, length, limit_of(kind));
     sketch = store(kind, items, &handle);
     ds_free(&handle);
     if (kind != FREQUENT_STRINGS && kind != FREQUENT_BIGINTS) return sketch;
