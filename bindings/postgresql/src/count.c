@@ -17,6 +17,8 @@ typedef int32_t (*OfBigint)(ds_sketch *handle, int64_t item, uint64_t *number);
 typedef int32_t (*SignedOfString)(ds_sketch *handle, const uint8_t *item, size_t length, int64_t *number);
 typedef int32_t (*SignedOfBigint)(ds_sketch *handle, int64_t item, int64_t *number);
 
+/* These return the call's number of an item, for each type of weights and of items. */
+
 static Datum of_string(FunctionCallInfo fcinfo, OfString call)
 {
     ds_sketch *handle = counts(fcinfo, COUNT_MIN, STRINGS);
@@ -83,6 +85,7 @@ static Datum status_of(FunctionCallInfo fcinfo, Kind kind)
 
 PG_FUNCTION_INFO_V1(count_min_status);
 
+/* Returns the numbers of a sketch with weights from 0 on. */
 Datum count_min_status(PG_FUNCTION_ARGS)
 {
     return status_of(fcinfo, COUNT_MIN);
@@ -90,6 +93,7 @@ Datum count_min_status(PG_FUNCTION_ARGS)
 
 PG_FUNCTION_INFO_V1(signed_count_min_status);
 
+/* Returns the numbers of a sketch with weights that may be below 0. */
 Datum signed_count_min_status(PG_FUNCTION_ARGS)
 {
     return status_of(fcinfo, SIGNED_COUNT_MIN);

@@ -14,6 +14,8 @@
  * | 22021 | a string is not UTF-8, or has a zero byte |
  * | 22023 | a size, a fraction, a threshold or a mode is out of range |
  * | 22P02, 22P03 | the text or the binary form is damaged |
+ * | 0A000 | the collation of strings is nondeterministic |
+ * | 22P05 | a string of a sketch has a character that is not in the database's encoding |
  * | 53200 | out of memory |
  * | 54000 | a sketch takes more than `sketches_rattle.max_image_bytes` or `sketches_rattle.max_frequent_bytes`, or more than 1 GB |
  * | 58000 | the system has no random bytes for a key |

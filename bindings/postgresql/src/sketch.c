@@ -364,7 +364,7 @@ Datum items_name(const Sketch *sketch)
     return CStringGetTextDatum(names[sketch->items & (STRINGS | BIGINTS)]);
 }
 
-/* --- Unions of two, intersections and equality. --- */
+/* --- Unions of two, intersections, equality and hashes. --- */
 
 /* Reads an argument into a handle. Returns the stored sketch. */
 static Sketch *argument(FunctionCallInfo fcinfo, int number, Kind kind, ds_sketch *handle)
@@ -422,6 +422,7 @@ static bool are_equal(FunctionCallInfo fcinfo)
 
 PG_FUNCTION_INFO_V1(sketch_equal);
 
+/* Returns whether two filters or counts are equal. */
 Datum sketch_equal(PG_FUNCTION_ARGS)
 {
     PG_RETURN_BOOL(are_equal(fcinfo));
@@ -429,15 +430,15 @@ Datum sketch_equal(PG_FUNCTION_ARGS)
 
 PG_FUNCTION_INFO_V1(sketch_not_equal);
 
+/* Returns whether two filters or counts differ. */
 Datum sketch_not_equal(PG_FUNCTION_ARGS)
 {
     PG_RETURN_BOOL(!are_equal(fcinfo));
 }
 
-/* The hash functions of filters and counts: of the image, as equality is. */
-
 PG_FUNCTION_INFO_V1(sketch_hash);
 
+/* Returns a hash of a filter or of counts: of the image, since equality compares images. */
 Datum sketch_hash(PG_FUNCTION_ARGS)
 {
     Sketch *sketch = any_sketch(fcinfo);
@@ -448,6 +449,7 @@ Datum sketch_hash(PG_FUNCTION_ARGS)
 
 PG_FUNCTION_INFO_V1(sketch_hash_extended);
 
+/* Returns a hash of 64 bits under a seed. */
 Datum sketch_hash_extended(PG_FUNCTION_ARGS)
 {
     Sketch *sketch = any_sketch(fcinfo);
