@@ -1,4 +1,5 @@
 """Compares every key's bounds with exact counts: in one process, with workers, by groups and over partitions."""
+import json
 
 SERIAL = "SET max_parallel_workers_per_gather = 0"
 PARALLEL = ("SET max_parallel_workers_per_gather = 3; SET parallel_setup_cost = 0; SET parallel_tuple_cost = 0; "
@@ -97,10 +98,12 @@ def every_key(tests):
             return cursor.fetchall()
 
         cursor.execute(STREAM)
+        by_partition = "; SET enable_partitionwise_aggregate = on"
         runs = [("serial", SERIAL, "FROM stream"), ("parallel", PARALLEL.format("on"), "FROM stream"),
                 ("workers alone", PARALLEL.format("off"), "FROM stream"),
-                ("partitionwise", PARALLEL.format("on") + "; SET enable_partitionwise_aggregate = on", "FROM stream"),
-                ("one day of three", PARALLEL.format("on"), None)]
+                ("partitions", SERIAL + by_partition, "FROM stream"),
+                ("partitions by workers", PARALLEL.format("on") + by_partition, "FROM stream"),
+                ("stored parts", PARALLEL.format("on"), None)]
         for run, settings, source in runs:
             table = "sketches_" + run.replace(" ", "_")
             cursor.execute(settings)
@@ -115,8 +118,10 @@ def every_key(tests):
                 query = f"SELECT {unions} FROM parts"
             else:
                 query = f"SELECT {COLUMNS} {source}"
-                workers = launched(ask(f"EXPLAIN (ANALYZE, COSTS OFF, FORMAT JSON) {query}")[0][0][0]["Plan"])
-                tests.check(f"{run}: workers", workers == 0 if run == "serial" else workers >= 2, workers)
+                plan = ask(f"EXPLAIN (ANALYZE, COSTS OFF, FORMAT JSON) {query}")[0][0][0]["Plan"]
+                workers = launched(plan)
+                tests.check(f"{run}: workers", workers == 0 if settings.startswith(SERIAL) else workers >= 2, workers)
+                tests.check(f"{run}: parts", run == "serial" or '"Finalize"' in json.dumps(plan), plan)
             cursor.execute(f"CREATE TABLE {table} AS {query}")
             cursor.execute("RESET enable_partitionwise_aggregate")
             compare(tests, ask, run, table)

@@ -184,8 +184,11 @@ def out_of_memory(tests):
         cursor.execute("CREATE TABLE large AS SELECT bloom_filter_agg(i, 160000000, 5) AS filter "
                        "FROM generate_series(1::bigint, 9) AS i")
     for name, statement in statements.items():
-        wanted = answer_of(tests.main, statement)
-        with tests.main.session(max_parallel_workers_per_gather=0) as session, session.cursor() as cursor:
+        settings = {"max_parallel_workers_per_gather": 0, "sketches_rattle__max_frequent_bytes": "32MB"}
+        with tests.main.session(**settings) as session, session.cursor() as cursor:
+            cursor.execute(statement)
+            wanted = cursor.fetchall()
+        with tests.main.session(**settings) as session, session.cursor() as cursor:
             cursor.execute("SELECT pg_backend_pid(), estimate(count_min_agg(1, 1, 1, 9), 1)")
             process = cursor.fetchone()[0]
             codes, answers = [], []
@@ -204,13 +207,11 @@ def out_of_memory(tests):
                 cursor.execute("SET sketches_rattle.max_image_bytes = '1MB'")
                 code = code_of(cursor, statement)
                 tests.check(f"{name} above the extension's limit", code == "54000", code)
+            if name.startswith("frequent"):
+                cursor.execute("RESET sketches_rattle.max_image_bytes; RESET sketches_rattle.max_frequent_bytes")
+                code = code_of(cursor, statement)
+                tests.check(f"{name} above the limit of frequent items", code == "54000", code)
     with tests.main.session() as session, session.cursor() as cursor:
         cursor.execute("DROP TABLE large")
         cursor.execute(ANSWER)
         tests.check("an answer after limits", cursor.fetchone() == (400000,))
-
-
-def answer_of(on, statement):
-    with on.session(max_parallel_workers_per_gather=0) as session, session.cursor() as cursor:
-        cursor.execute(statement)
-        return cursor.fetchall()
