@@ -109,12 +109,12 @@ def valgrind(tests):
     with tests.server("checked", tree=tree, before=[*VALGRIND, f"--log-file={tests.work}/checked/valgrind.%p"]) as checked:
         tests.regressions("under valgrind,", checked, seconds=900, without=["parallel", "planner"])
         with checked.session("regression", **ends.WORKERS) as session, session.cursor() as cursor:
-            cursor.execute("CREATE TABLE some WITH (parallel_workers = 2) AS SELECT i, 'item ' || i AS string "
+            cursor.execute("CREATE TABLE spread_rows WITH (parallel_workers = 2) AS SELECT i, 'item ' || i AS string "
                            "FROM generate_series(1::bigint, 5000) AS i")
             cursor.execute("SELECT (status(frequent_strings_agg(string, i, 64))).total_weight, "
                            "(status(frequent_bigints_agg(i, i, 64))).total_weight, estimate(count_min_agg(i, 1, 3, 9000), 7), "
                            "estimate(signed_count_min_agg(string, -1, 3, 9000), 'item 7'), contains(bloom_filter_agg(i, 99999, 7), 7) "
-                           "FROM some")
+                           "FROM spread_rows")
             total = 5000 * 5001 // 2
             row = cursor.fetchone()
             tests.check("workers under valgrind", row[:2] == (total, total) and row[2] >= 1 and row[4] is True, row)
@@ -157,7 +157,7 @@ def main():
                 try:
                     group(tests)
                 except Exception as error:  # a group that ends so is a failed test, and the others still run
-                    tests.check(group.__name__, False, f"{type(error).__name__}: {error}\n{tests.main.log()[-2000:]}")
+                    tests.check(group.__name__, False, f"{type(error).__name__}: {error}\n{tests.main.log()[-500:]}")
                 print(f"PostgreSQL, {group.__name__.replace('_', ' ')}: {tests.passed - before[0]} passed, "
                       f"{tests.failed - before[1]} failed, {time.monotonic() - began:.0f} s", flush=True)
     print(f"{tests.passed} passed, {tests.failed} failed")
