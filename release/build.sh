@@ -3,6 +3,7 @@
 #
 #     datasketches-VERSION-linux-x86_64.tar.gz    C library and program, for any folder
 #     libdatasketches0, libdatasketches-dev, python3-datasketches-rattle, datasketches-tools    Debian packages
+#     postgresql-15-sketches-rattle    Debian package, which needs postgresql-server-dev-15 to be built
 #     datasketches_rattle-VERSION-..whl           wheel for the Python of `PYTHON`, by default /usr/bin/python3
 #     SHA256SUMS
 #
@@ -20,6 +21,11 @@ out="${1:?the folder to build into}"
 export LC_ALL=C.UTF-8 TZ=UTC PYTHON="${PYTHON:-/usr/bin/python3}" PYTHONDONTWRITEBYTECODE=1
 SOURCE_DATE_EPOCH="${SOURCE_DATE_EPOCH:-$(git -C "$top" log -1 --format=%ct)}"
 export SOURCE_DATE_EPOCH
+pg_config="${PG_CONFIG:-/usr/lib/postgresql/15/bin/pg_config}"
+[ -x "$pg_config" ] && [ -f "$("$pg_config" --pgxs)" ] || {
+    echo "the extension for PostgreSQL needs Debian's postgresql-server-dev-15: there is no $pg_config with its files" >&2
+    exit 1
+}
 mkdir -p "$out"
 out="$(cd "$out" && pwd)"
 work="$(mktemp -d)"
@@ -49,11 +55,13 @@ fi
 # What is built, without symbols that only debuggers read.
 bash "$source/bindings/c/build.sh" "$work/c" "$archive"
 bash "$source/bindings/python/build.sh" "$work/python" "$archive"
+make -s -C "$source/bindings/postgresql" PG_CONFIG="$pg_config" ARCHIVE="$work/c/libdatasketches.a" \
+    DESTDIR="$work/postgresql" install
 install -m 755 "$program" "$work/datasketches_cli"
 unneeded=(--remove-section=.comment --remove-section=.note)
 strip --strip-debug --enable-deterministic-archives "${unneeded[@]}" "$work/c/libdatasketches.a"
 strip --strip-unneeded "${unneeded[@]}" "$work/c/libdatasketches.so.0" "$work/datasketches_cli" \
-    "$work"/python/datasketches_rattle/_sketches*.so
+    "$work"/python/datasketches_rattle/_sketches*.so "$work/postgresql$("$pg_config" --pkglibdir)/sketches_rattle.so"
 
 # The licence of the toolchain's library in the program.
 install -m 644 "$(dirname "$(rt doc)")/rattle/hex/LICENSE-MIT" "$work/LICENSE.hex"

@@ -42,6 +42,11 @@ cp "$here"/python.postinst python/DEBIAN/postinst
 cp "$here"/python.prerm python/DEBIAN/prerm
 chmod 755 python/DEBIAN/{postinst,prerm}
 
+mkdir -p postgresql/DEBIAN
+cp -r "$work/postgresql/usr" postgresql/
+find postgresql/usr -type f -exec chmod 644 {} +
+install -D -m 644 "$source/bindings/postgresql/README.md" postgresql/usr/share/doc/postgresql-15-sketches-rattle/README.md
+
 pack() {
     local folder="$1" name="$2"
     local doc="$folder/usr/share/doc/$name"
@@ -74,3 +79,4 @@ pack lib libdatasketches0
 pack dev libdatasketches-dev
 pack python python3-datasketches-rattle
 pack tools datasketches-tools
+pack postgresql postgresql-15-sketches-rattle

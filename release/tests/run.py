@@ -1,5 +1,6 @@
 """Builds the packages in two folders and compares them byte by byte. Then installs each in a fresh Debian without the toolchain,
-runs the first examples of the pages, and removes it again. It needs root, for `debootstrap` and `chroot`.
+runs the first examples of the pages, and removes it again. It needs root, for `debootstrap` and `chroot`. A server of PostgreSQL
+runs in that Debian on a unix socket alone, and is stopped.
 
     python3 release/tests/run.py [--after 'N passed, M failed'] PROGRAM ARCHIVE
 
@@ -17,9 +18,14 @@ import sys
 import tempfile
 
 TOP = os.path.dirname(os.path.dirname(os.path.dirname(os.path.abspath(__file__))))
+sys.path.insert(0, f"{TOP}/bindings/postgresql/tests")
+
+import page  # noqa: E402
+
 MIRROR = os.environ.get("DEBIAN_MIRROR", "http://deb.debian.org/debian")
 TOOLS = "gcc libc6-dev pkgconf cmake make"
 ROWS = "ok\nok\nrows 1 a 5 5 5\n"
+CLUSTER = "/usr/lib/postgresql/15/bin/pg_ctl -D /etc/postgresql/15/main -w"
 STATIC = "target_link_libraries(example_static datasketches::datasketches_static)"
 
 
@@ -79,11 +85,11 @@ class Tests:
                            stdout=subprocess.DEVNULL if outs else None)
             outs.append(out)
         names = sorted(os.listdir(outs[0]))
-        self.check("the packages", len(names) == 7 and names == sorted(os.listdir(outs[1])), names)
+        self.check("the packages", len(names) == 8 and names == sorted(os.listdir(outs[1])), names)
         for name in names:
             self.check(f"two builds of {name}", filecmp.cmp(f"{outs[0]}/{name}", f"{outs[1]}/{name}", shallow=False))
         sums = subprocess.run(["sha256sum", "--strict", "-c", "SHA256SUMS"], cwd=outs[0], capture_output=True, text=True)
-        self.check("the checksums", sums.returncode == 0 and sums.stdout.count(": OK\n") == 6, sums)
+        self.check("the checksums", sums.returncode == 0 and sums.stdout.count(": OK\n") == 7, sums)
         packages = glob.glob(f"{outs[0]}/*.deb")
         lint = subprocess.run(["lintian", "--allow-root", "--fail-on", "error,warning", *packages], capture_output=True,
                               text=True)
@@ -96,7 +102,8 @@ class Tests:
         self.nothing_left(f"after {names[0]}")
 
     def nothing_left(self, name):
-        left = self.run("find / -xdev -name '*datasketches*' -not -path '/release*' -not -path '/proc/*'; ldconfig -p | "
+        left = self.run("find / -xdev \\( -name '*datasketches*' -o -name '*sketches[_-]rattle*' \\) -not -path '/release*' "
+                        "-not -path '/proc/*'; ldconfig -p | "
                         "grep datasketches || true")
         self.check(f"nothing is left {name}", left == "", left)
 
@@ -138,6 +145,27 @@ class Tests:
                         CMAKE_PREFIX_PATH=f"{files}/{folder}")
         self.check("licences of the files", {"LICENSE", "NOTICE"} < set(os.listdir(f"{self.root}{files}/{folder}")))
         self.nothing_left("beside the folder")
+
+    def postgresql(self):
+        """Debian's server with the extension runs the queries of the page. It listens on a unix socket alone."""
+        blocks = install_blocks("bindings/postgresql/README.md")
+        start = f"su postgres -c \"{CLUSTER} -l /tmp/log -o '-c listen_addresses=' start\""
+        self.run("apt-get install postgresql-15")
+        self.check("the extension is installed", self.run(blocks[0]) is not None)
+        self.check("the server starts", self.run(start) is not None)
+        try:
+            self.prints("bindings/postgresql/README.md: the extension", blocks[1], "CREATE EXTENSION\n")
+            for number, (query, wanted) in enumerate(page.examples(), 1):
+                self.write("query.sql", query)
+                got = self.run("su postgres -c 'psql -X -q -v ON_ERROR_STOP=1 -f /release/query.sql'")
+                self.check(f"bindings/postgresql/README.md, query {number}", got is not None and page.output_of(got) == wanted, got)
+        finally:
+            self.run(f"su postgres -c '{CLUSTER} -m immediate stop'")
+        self.removed("postgresql-15-sketches-rattle")
+
+    def write(self, name, text):
+        with open(f"{self.root}/release/{name}", "w", encoding="utf-8") as file:
+            file.write(text)
 
     def python(self):
         version = read(f"{TOP}/VERSION")
@@ -181,11 +209,14 @@ def main():
         if made == 0:
             shutil.copytree(built, f"{tests.root}/release")
             for path, text in [("apt/apt.conf.d/assume", 'APT::Get::Assume-Yes "true";\nAPT::Install-Recommends "false";\n'),
-                               ("dpkg/dpkg.cfg.d/quick", "force-unsafe-io\n")]:
+                               ("dpkg/dpkg.cfg.d/quick", "force-unsafe-io\n"),
+                               ("../usr/sbin/policy-rc.d", "#!/bin/sh\nexit 101\n")]:  # no package starts a server
                 with open(f"{tests.root}/etc/{path}", "w", encoding="utf-8") as file:
                     file.write(text)
+            os.chmod(f"{tests.root}/usr/sbin/policy-rc.d", 0o755)
             tests.check("there is no toolchain", tests.run("! command -v rt && ! command -v cc && ! command -v python3") == "")
             tests.tools()
+            tests.postgresql()
             tests.python()
             tests.libraries()
         print(f"{tests.passed} passed, {tests.failed} failed")

@@ -1,0 +1,427 @@
+-- sketches_rattle 0.2.0: frequent items, Count-Min sketches and Bloom filters.
+\echo Use "CREATE EXTENSION sketches_rattle" to load this file. \quit
+
+-- States of aggregates, of all types. SSPACE is the number of bytes from which the planner and a hash of groups foresee their
+-- memory: for frequent items those of a full sketch of the default size, so that groups that come early leave room to grow.
+
+CREATE FUNCTION sketch_combine(internal, internal) RETURNS internal
+    LANGUAGE C IMMUTABLE PARALLEL SAFE AS 'MODULE_PATHNAME', 'state_combine';
+CREATE FUNCTION sketch_serial(internal) RETURNS bytea
+    LANGUAGE C IMMUTABLE STRICT PARALLEL SAFE AS 'MODULE_PATHNAME', 'state_serial';
+CREATE FUNCTION sketch_deserial(bytea, internal) RETURNS internal
+    LANGUAGE C IMMUTABLE STRICT PARALLEL SAFE AS 'MODULE_PATHNAME', 'state_deserial';
+
+-- frequent_strings: the most frequent strings, with bounds of their weights.
+
+CREATE TYPE frequent_strings;
+CREATE FUNCTION frequent_strings_in(cstring) RETURNS frequent_strings
+    LANGUAGE C IMMUTABLE STRICT PARALLEL SAFE AS 'MODULE_PATHNAME', 'frequent_strings_in';
+CREATE FUNCTION frequent_strings_out(frequent_strings) RETURNS cstring
+    LANGUAGE C IMMUTABLE STRICT PARALLEL SAFE AS 'MODULE_PATHNAME', 'sketch_out';
+CREATE FUNCTION frequent_strings_recv(internal) RETURNS frequent_strings
+    LANGUAGE C IMMUTABLE STRICT PARALLEL SAFE AS 'MODULE_PATHNAME', 'frequent_strings_recv';
+CREATE FUNCTION frequent_strings_send(frequent_strings) RETURNS bytea
+    LANGUAGE C IMMUTABLE STRICT PARALLEL SAFE AS 'MODULE_PATHNAME', 'sketch_send';
+CREATE TYPE frequent_strings (
+    INPUT = frequent_strings_in, OUTPUT = frequent_strings_out, RECEIVE = frequent_strings_recv, SEND = frequent_strings_send,
+    INTERNALLENGTH = VARIABLE, ALIGNMENT = int4, STORAGE = extended);
+COMMENT ON TYPE frequent_strings IS 'the most frequent strings, with bounds of their weights';
+
+-- The bytea form has the header. The image has none: it is what the other interfaces of the library read and write.
+CREATE FUNCTION frequent_strings_to_bytea(frequent_strings) RETURNS bytea
+    LANGUAGE C IMMUTABLE STRICT PARALLEL SAFE AS 'MODULE_PATHNAME', 'sketch_send';
+CREATE FUNCTION frequent_strings_from_bytea(bytea) RETURNS frequent_strings
+    LANGUAGE C IMMUTABLE STRICT PARALLEL SAFE AS 'MODULE_PATHNAME', 'frequent_strings_from_bytea';
+CREATE CAST (frequent_strings AS bytea) WITH FUNCTION frequent_strings_to_bytea(frequent_strings);
+CREATE CAST (bytea AS frequent_strings) WITH FUNCTION frequent_strings_from_bytea(bytea);
+CREATE FUNCTION sketch_image(sketch frequent_strings) RETURNS bytea
+    LANGUAGE C IMMUTABLE STRICT PARALLEL SAFE AS 'MODULE_PATHNAME', 'sketch_image';
+CREATE FUNCTION frequent_strings_from_image(image bytea) RETURNS frequent_strings
+    LANGUAGE C IMMUTABLE STRICT PARALLEL SAFE AS 'MODULE_PATHNAME', 'frequent_strings_from_image';
+
+CREATE FUNCTION frequent_strings_final(internal) RETURNS frequent_strings
+    LANGUAGE C IMMUTABLE PARALLEL SAFE AS 'MODULE_PATHNAME', 'state_final';
+CREATE FUNCTION frequent_strings_add(internal, text) RETURNS internal
+    LANGUAGE C IMMUTABLE PARALLEL SAFE AS 'MODULE_PATHNAME', 'frequent_strings_add';
+CREATE FUNCTION frequent_strings_add(internal, text, bigint) RETURNS internal
+    LANGUAGE C IMMUTABLE PARALLEL SAFE AS 'MODULE_PATHNAME', 'frequent_strings_add';
+CREATE FUNCTION frequent_strings_add(internal, text, bigint, integer) RETURNS internal
+    LANGUAGE C IMMUTABLE PARALLEL SAFE AS 'MODULE_PATHNAME', 'frequent_strings_add';
+CREATE FUNCTION frequent_strings_add(internal, text, bigint, double precision) RETURNS internal
+    LANGUAGE C IMMUTABLE PARALLEL SAFE AS 'MODULE_PATHNAME', 'frequent_strings_add_by_error';
+CREATE AGGREGATE frequent_strings_agg(item text) (
+    SFUNC = frequent_strings_add, STYPE = internal, SSPACE = 75776, FINALFUNC = frequent_strings_final,
+    COMBINEFUNC = sketch_combine, SERIALFUNC = sketch_serial, DESERIALFUNC = sketch_deserial, PARALLEL = SAFE);
+CREATE AGGREGATE frequent_strings_agg(item text, weight bigint) (
+    SFUNC = frequent_strings_add, STYPE = internal, SSPACE = 75776, FINALFUNC = frequent_strings_final,
+    COMBINEFUNC = sketch_combine, SERIALFUNC = sketch_serial, DESERIALFUNC = sketch_deserial, PARALLEL = SAFE);
+CREATE AGGREGATE frequent_strings_agg(item text, weight bigint, max_map_size integer) (
+    SFUNC = frequent_strings_add, STYPE = internal, SSPACE = 75776, FINALFUNC = frequent_strings_final,
+    COMBINEFUNC = sketch_combine, SERIALFUNC = sketch_serial, DESERIALFUNC = sketch_deserial, PARALLEL = SAFE);
+CREATE AGGREGATE frequent_strings_agg(item text, weight bigint, relative_error double precision) (
+    SFUNC = frequent_strings_add, STYPE = internal, SSPACE = 75776, FINALFUNC = frequent_strings_final,
+    COMBINEFUNC = sketch_combine, SERIALFUNC = sketch_serial, DESERIALFUNC = sketch_deserial, PARALLEL = SAFE);
+
+CREATE FUNCTION frequent_strings_add_sketch(internal, frequent_strings) RETURNS internal
+    LANGUAGE C IMMUTABLE PARALLEL SAFE AS 'MODULE_PATHNAME', 'frequent_strings_add_sketch';
+CREATE AGGREGATE frequent_strings_union(frequent_strings) (
+    SFUNC = frequent_strings_add_sketch, STYPE = internal, SSPACE = 75776, FINALFUNC = frequent_strings_final,
+    COMBINEFUNC = sketch_combine, SERIALFUNC = sketch_serial, DESERIALFUNC = sketch_deserial, PARALLEL = SAFE);
+CREATE FUNCTION sketch_union(frequent_strings, frequent_strings) RETURNS frequent_strings
+    LANGUAGE C IMMUTABLE STRICT PARALLEL SAFE COST 100 AS 'MODULE_PATHNAME', 'frequent_strings_union';
+CREATE OPERATOR | (LEFTARG = frequent_strings, RIGHTARG = frequent_strings, FUNCTION = sketch_union, COMMUTATOR = |);
+
+CREATE FUNCTION lower_bound(sketch frequent_strings, item text) RETURNS bigint
+    LANGUAGE C IMMUTABLE STRICT PARALLEL SAFE AS 'MODULE_PATHNAME', 'frequent_strings_lower_bound';
+CREATE FUNCTION estimate(sketch frequent_strings, item text) RETURNS bigint
+    LANGUAGE C IMMUTABLE STRICT PARALLEL SAFE AS 'MODULE_PATHNAME', 'frequent_strings_estimate';
+CREATE FUNCTION upper_bound(sketch frequent_strings, item text) RETURNS bigint
+    LANGUAGE C IMMUTABLE STRICT PARALLEL SAFE AS 'MODULE_PATHNAME', 'frequent_strings_upper_bound';
+CREATE FUNCTION bounds(sketch frequent_strings, item text, OUT lower_bound bigint, OUT estimate bigint, OUT upper_bound bigint)
+    LANGUAGE C IMMUTABLE STRICT PARALLEL SAFE AS 'MODULE_PATHNAME', 'frequent_strings_bounds';
+CREATE FUNCTION frequent_rows(sketch frequent_strings, mode text DEFAULT 'no_false_negatives', threshold bigint DEFAULT 0,
+    OUT item text, OUT estimate bigint, OUT lower_bound bigint, OUT upper_bound bigint) RETURNS SETOF record
+    LANGUAGE C IMMUTABLE STRICT PARALLEL SAFE ROWS 100 AS 'MODULE_PATHNAME', 'frequent_strings_rows';
+CREATE FUNCTION status(sketch frequent_strings, OUT total_weight bigint, OUT maximum_error bigint, OUT num_active_items bigint,
+    OUT maximum_map_capacity bigint, OUT current_map_capacity bigint, OUT max_map_size bigint)
+    LANGUAGE C IMMUTABLE STRICT PARALLEL SAFE AS 'MODULE_PATHNAME', 'frequent_strings_status';
+
+-- frequent_bigints: the most frequent bigints, with bounds of their weights.
+
+CREATE TYPE frequent_bigints;
+CREATE FUNCTION frequent_bigints_in(cstring) RETURNS frequent_bigints
+    LANGUAGE C IMMUTABLE STRICT PARALLEL SAFE AS 'MODULE_PATHNAME', 'frequent_bigints_in';
+CREATE FUNCTION frequent_bigints_out(frequent_bigints) RETURNS cstring
+    LANGUAGE C IMMUTABLE STRICT PARALLEL SAFE AS 'MODULE_PATHNAME', 'sketch_out';
+CREATE FUNCTION frequent_bigints_recv(internal) RETURNS frequent_bigints
+    LANGUAGE C IMMUTABLE STRICT PARALLEL SAFE AS 'MODULE_PATHNAME', 'frequent_bigints_recv';
+CREATE FUNCTION frequent_bigints_send(frequent_bigints) RETURNS bytea
+    LANGUAGE C IMMUTABLE STRICT PARALLEL SAFE AS 'MODULE_PATHNAME', 'sketch_send';
+CREATE TYPE frequent_bigints (
+    INPUT = frequent_bigints_in, OUTPUT = frequent_bigints_out, RECEIVE = frequent_bigints_recv, SEND = frequent_bigints_send,
+    INTERNALLENGTH = VARIABLE, ALIGNMENT = int4, STORAGE = extended);
+COMMENT ON TYPE frequent_bigints IS 'the most frequent bigints, with bounds of their weights';
+
+-- The bytea form has the header. The image has none: it is what the other interfaces of the library read and write.
+CREATE FUNCTION frequent_bigints_to_bytea(frequent_bigints) RETURNS bytea
+    LANGUAGE C IMMUTABLE STRICT PARALLEL SAFE AS 'MODULE_PATHNAME', 'sketch_send';
+CREATE FUNCTION frequent_bigints_from_bytea(bytea) RETURNS frequent_bigints
+    LANGUAGE C IMMUTABLE STRICT PARALLEL SAFE AS 'MODULE_PATHNAME', 'frequent_bigints_from_bytea';
+CREATE CAST (frequent_bigints AS bytea) WITH FUNCTION frequent_bigints_to_bytea(frequent_bigints);
+CREATE CAST (bytea AS frequent_bigints) WITH FUNCTION frequent_bigints_from_bytea(bytea);
+CREATE FUNCTION sketch_image(sketch frequent_bigints) RETURNS bytea
+    LANGUAGE C IMMUTABLE STRICT PARALLEL SAFE AS 'MODULE_PATHNAME', 'sketch_image';
+CREATE FUNCTION frequent_bigints_from_image(image bytea) RETURNS frequent_bigints
+    LANGUAGE C IMMUTABLE STRICT PARALLEL SAFE AS 'MODULE_PATHNAME', 'frequent_bigints_from_image';
+
+CREATE FUNCTION frequent_bigints_final(internal) RETURNS frequent_bigints
+    LANGUAGE C IMMUTABLE PARALLEL SAFE AS 'MODULE_PATHNAME', 'state_final';
+CREATE FUNCTION frequent_bigints_add(internal, bigint) RETURNS internal
+    LANGUAGE C IMMUTABLE PARALLEL SAFE AS 'MODULE_PATHNAME', 'frequent_bigints_add';
+CREATE FUNCTION frequent_bigints_add(internal, bigint, bigint) RETURNS internal
+    LANGUAGE C IMMUTABLE PARALLEL SAFE AS 'MODULE_PATHNAME', 'frequent_bigints_add';
+CREATE FUNCTION frequent_bigints_add(internal, bigint, bigint, integer) RETURNS internal
+    LANGUAGE C IMMUTABLE PARALLEL SAFE AS 'MODULE_PATHNAME', 'frequent_bigints_add';
+CREATE FUNCTION frequent_bigints_add(internal, bigint, bigint, double precision) RETURNS internal
+    LANGUAGE C IMMUTABLE PARALLEL SAFE AS 'MODULE_PATHNAME', 'frequent_bigints_add_by_error';
+CREATE AGGREGATE frequent_bigints_agg(item bigint) (
+    SFUNC = frequent_bigints_add, STYPE = internal, SSPACE = 40960, FINALFUNC = frequent_bigints_final,
+    COMBINEFUNC = sketch_combine, SERIALFUNC = sketch_serial, DESERIALFUNC = sketch_deserial, PARALLEL = SAFE);
+CREATE AGGREGATE frequent_bigints_agg(item bigint, weight bigint) (
+    SFUNC = frequent_bigints_add, STYPE = internal, SSPACE = 40960, FINALFUNC = frequent_bigints_final,
+    COMBINEFUNC = sketch_combine, SERIALFUNC = sketch_serial, DESERIALFUNC = sketch_deserial, PARALLEL = SAFE);
+CREATE AGGREGATE frequent_bigints_agg(item bigint, weight bigint, max_map_size integer) (
+    SFUNC = frequent_bigints_add, STYPE = internal, SSPACE = 40960, FINALFUNC = frequent_bigints_final,
+    COMBINEFUNC = sketch_combine, SERIALFUNC = sketch_serial, DESERIALFUNC = sketch_deserial, PARALLEL = SAFE);
+CREATE AGGREGATE frequent_bigints_agg(item bigint, weight bigint, relative_error double precision) (
+    SFUNC = frequent_bigints_add, STYPE = internal, SSPACE = 40960, FINALFUNC = frequent_bigints_final,
+    COMBINEFUNC = sketch_combine, SERIALFUNC = sketch_serial, DESERIALFUNC = sketch_deserial, PARALLEL = SAFE);
+
+CREATE FUNCTION frequent_bigints_add_sketch(internal, frequent_bigints) RETURNS internal
+    LANGUAGE C IMMUTABLE PARALLEL SAFE AS 'MODULE_PATHNAME', 'frequent_bigints_add_sketch';
+CREATE AGGREGATE frequent_bigints_union(frequent_bigints) (
+    SFUNC = frequent_bigints_add_sketch, STYPE = internal, SSPACE = 40960, FINALFUNC = frequent_bigints_final,
+    COMBINEFUNC = sketch_combine, SERIALFUNC = sketch_serial, DESERIALFUNC = sketch_deserial, PARALLEL = SAFE);
+CREATE FUNCTION sketch_union(frequent_bigints, frequent_bigints) RETURNS frequent_bigints
+    LANGUAGE C IMMUTABLE STRICT PARALLEL SAFE COST 100 AS 'MODULE_PATHNAME', 'frequent_bigints_union';
+CREATE OPERATOR | (LEFTARG = frequent_bigints, RIGHTARG = frequent_bigints, FUNCTION = sketch_union, COMMUTATOR = |);
+
+CREATE FUNCTION lower_bound(sketch frequent_bigints, item bigint) RETURNS bigint
+    LANGUAGE C IMMUTABLE STRICT PARALLEL SAFE AS 'MODULE_PATHNAME', 'frequent_bigints_lower_bound';
+CREATE FUNCTION estimate(sketch frequent_bigints, item bigint) RETURNS bigint
+    LANGUAGE C IMMUTABLE STRICT PARALLEL SAFE AS 'MODULE_PATHNAME', 'frequent_bigints_estimate';
+CREATE FUNCTION upper_bound(sketch frequent_bigints, item bigint) RETURNS bigint
+    LANGUAGE C IMMUTABLE STRICT PARALLEL SAFE AS 'MODULE_PATHNAME', 'frequent_bigints_upper_bound';
+CREATE FUNCTION bounds(sketch frequent_bigints, item bigint, OUT lower_bound bigint, OUT estimate bigint, OUT upper_bound bigint)
+    LANGUAGE C IMMUTABLE STRICT PARALLEL SAFE AS 'MODULE_PATHNAME', 'frequent_bigints_bounds';
+CREATE FUNCTION frequent_rows(sketch frequent_bigints, mode text DEFAULT 'no_false_negatives', threshold bigint DEFAULT 0,
+    OUT item bigint, OUT estimate bigint, OUT lower_bound bigint, OUT upper_bound bigint) RETURNS SETOF record
+    LANGUAGE C IMMUTABLE STRICT PARALLEL SAFE ROWS 100 AS 'MODULE_PATHNAME', 'frequent_bigints_rows';
+CREATE FUNCTION status(sketch frequent_bigints, OUT total_weight bigint, OUT maximum_error bigint, OUT num_active_items bigint,
+    OUT maximum_map_capacity bigint, OUT current_map_capacity bigint, OUT max_map_size bigint)
+    LANGUAGE C IMMUTABLE STRICT PARALLEL SAFE AS 'MODULE_PATHNAME', 'frequent_bigints_status';
+
+-- count_min: estimates of weights of strings or bigints, with weights from 0 on (Count-Min).
+
+CREATE TYPE count_min;
+CREATE FUNCTION count_min_in(cstring) RETURNS count_min
+    LANGUAGE C IMMUTABLE STRICT PARALLEL SAFE AS 'MODULE_PATHNAME', 'count_min_in';
+CREATE FUNCTION count_min_out(count_min) RETURNS cstring
+    LANGUAGE C IMMUTABLE STRICT PARALLEL SAFE AS 'MODULE_PATHNAME', 'sketch_out';
+CREATE FUNCTION count_min_recv(internal) RETURNS count_min
+    LANGUAGE C IMMUTABLE STRICT PARALLEL SAFE AS 'MODULE_PATHNAME', 'count_min_recv';
+CREATE FUNCTION count_min_send(count_min) RETURNS bytea
+    LANGUAGE C IMMUTABLE STRICT PARALLEL SAFE AS 'MODULE_PATHNAME', 'sketch_send';
+CREATE TYPE count_min (
+    INPUT = count_min_in, OUTPUT = count_min_out, RECEIVE = count_min_recv, SEND = count_min_send,
+    INTERNALLENGTH = VARIABLE, ALIGNMENT = int4, STORAGE = extended);
+COMMENT ON TYPE count_min IS 'estimates of weights of strings or bigints, with weights from 0 on (Count-Min)';
+
+-- The bytea form has the header. The image has none: it is what the other interfaces of the library read and write.
+CREATE FUNCTION count_min_to_bytea(count_min) RETURNS bytea
+    LANGUAGE C IMMUTABLE STRICT PARALLEL SAFE AS 'MODULE_PATHNAME', 'sketch_send';
+CREATE FUNCTION count_min_from_bytea(bytea) RETURNS count_min
+    LANGUAGE C IMMUTABLE STRICT PARALLEL SAFE AS 'MODULE_PATHNAME', 'count_min_from_bytea';
+CREATE CAST (count_min AS bytea) WITH FUNCTION count_min_to_bytea(count_min);
+CREATE CAST (bytea AS count_min) WITH FUNCTION count_min_from_bytea(bytea);
+CREATE FUNCTION sketch_image(sketch count_min) RETURNS bytea
+    LANGUAGE C IMMUTABLE STRICT PARALLEL SAFE AS 'MODULE_PATHNAME', 'sketch_image';
+CREATE FUNCTION count_min_from_image(image bytea) RETURNS count_min
+    LANGUAGE C IMMUTABLE STRICT PARALLEL SAFE AS 'MODULE_PATHNAME', 'count_min_from_image';
+
+CREATE FUNCTION count_min_final(internal) RETURNS count_min
+    LANGUAGE C IMMUTABLE PARALLEL SAFE AS 'MODULE_PATHNAME', 'state_final';
+CREATE FUNCTION count_min_add(internal, text, bigint, integer, integer) RETURNS internal
+    LANGUAGE C IMMUTABLE PARALLEL SAFE AS 'MODULE_PATHNAME', 'count_min_add_string';
+CREATE FUNCTION count_min_add(internal, text, bigint, double precision, double precision) RETURNS internal
+    LANGUAGE C IMMUTABLE PARALLEL SAFE AS 'MODULE_PATHNAME', 'count_min_add_string_by_error';
+CREATE AGGREGATE count_min_agg(item text, weight bigint, num_hashes integer, num_buckets integer) (
+    SFUNC = count_min_add, STYPE = internal, SSPACE = 32768, FINALFUNC = count_min_final,
+    COMBINEFUNC = sketch_combine, SERIALFUNC = sketch_serial, DESERIALFUNC = sketch_deserial, PARALLEL = SAFE);
+CREATE AGGREGATE count_min_agg(item text, weight bigint, relative_error double precision, confidence double precision) (
+    SFUNC = count_min_add, STYPE = internal, SSPACE = 32768, FINALFUNC = count_min_final,
+    COMBINEFUNC = sketch_combine, SERIALFUNC = sketch_serial, DESERIALFUNC = sketch_deserial, PARALLEL = SAFE);
+CREATE FUNCTION count_min_add(internal, bigint, bigint, integer, integer) RETURNS internal
+    LANGUAGE C IMMUTABLE PARALLEL SAFE AS 'MODULE_PATHNAME', 'count_min_add_bigint';
+CREATE FUNCTION count_min_add(internal, bigint, bigint, double precision, double precision) RETURNS internal
+    LANGUAGE C IMMUTABLE PARALLEL SAFE AS 'MODULE_PATHNAME', 'count_min_add_bigint_by_error';
+CREATE AGGREGATE count_min_agg(item bigint, weight bigint, num_hashes integer, num_buckets integer) (
+    SFUNC = count_min_add, STYPE = internal, SSPACE = 32768, FINALFUNC = count_min_final,
+    COMBINEFUNC = sketch_combine, SERIALFUNC = sketch_serial, DESERIALFUNC = sketch_deserial, PARALLEL = SAFE);
+CREATE AGGREGATE count_min_agg(item bigint, weight bigint, relative_error double precision, confidence double precision) (
+    SFUNC = count_min_add, STYPE = internal, SSPACE = 32768, FINALFUNC = count_min_final,
+    COMBINEFUNC = sketch_combine, SERIALFUNC = sketch_serial, DESERIALFUNC = sketch_deserial, PARALLEL = SAFE);
+
+CREATE FUNCTION count_min_add_sketch(internal, count_min) RETURNS internal
+    LANGUAGE C IMMUTABLE PARALLEL SAFE AS 'MODULE_PATHNAME', 'count_min_add_sketch';
+CREATE AGGREGATE count_min_union(count_min) (
+    SFUNC = count_min_add_sketch, STYPE = internal, SSPACE = 32768, FINALFUNC = count_min_final,
+    COMBINEFUNC = sketch_combine, SERIALFUNC = sketch_serial, DESERIALFUNC = sketch_deserial, PARALLEL = SAFE);
+CREATE FUNCTION sketch_union(count_min, count_min) RETURNS count_min
+    LANGUAGE C IMMUTABLE STRICT PARALLEL SAFE COST 100 AS 'MODULE_PATHNAME', 'count_min_union';
+CREATE OPERATOR | (LEFTARG = count_min, RIGHTARG = count_min, FUNCTION = sketch_union, COMMUTATOR = |);
+
+CREATE FUNCTION count_min_eq(count_min, count_min) RETURNS boolean
+    LANGUAGE C IMMUTABLE STRICT PARALLEL SAFE COST 10 AS 'MODULE_PATHNAME', 'sketch_equal';
+CREATE FUNCTION count_min_ne(count_min, count_min) RETURNS boolean
+    LANGUAGE C IMMUTABLE STRICT PARALLEL SAFE COST 10 AS 'MODULE_PATHNAME', 'sketch_not_equal';
+CREATE FUNCTION count_min_hash(count_min) RETURNS integer
+    LANGUAGE C IMMUTABLE STRICT PARALLEL SAFE COST 10 AS 'MODULE_PATHNAME', 'sketch_hash';
+CREATE FUNCTION count_min_hash_extended(count_min, bigint) RETURNS bigint
+    LANGUAGE C IMMUTABLE STRICT PARALLEL SAFE COST 10 AS 'MODULE_PATHNAME', 'sketch_hash_extended';
+CREATE OPERATOR = (LEFTARG = count_min, RIGHTARG = count_min, FUNCTION = count_min_eq,
+    COMMUTATOR = =, NEGATOR = <>, RESTRICT = eqsel, JOIN = eqjoinsel, HASHES);
+CREATE OPERATOR <> (LEFTARG = count_min, RIGHTARG = count_min, FUNCTION = count_min_ne,
+    COMMUTATOR = <>, NEGATOR = =, RESTRICT = neqsel, JOIN = neqjoinsel);
+CREATE OPERATOR CLASS count_min_ops DEFAULT FOR TYPE count_min USING hash AS
+    OPERATOR 1 =, FUNCTION 1 count_min_hash(count_min),
+    FUNCTION 2 count_min_hash_extended(count_min, bigint);
+
+CREATE FUNCTION estimate(sketch count_min, item text) RETURNS bigint
+    LANGUAGE C IMMUTABLE STRICT PARALLEL SAFE AS 'MODULE_PATHNAME', 'count_min_estimate_string';
+CREATE FUNCTION upper_bound(sketch count_min, item text) RETURNS bigint
+    LANGUAGE C IMMUTABLE STRICT PARALLEL SAFE AS 'MODULE_PATHNAME', 'count_min_upper_bound_string';
+CREATE FUNCTION estimate(sketch count_min, item bigint) RETURNS bigint
+    LANGUAGE C IMMUTABLE STRICT PARALLEL SAFE AS 'MODULE_PATHNAME', 'count_min_estimate_bigint';
+CREATE FUNCTION upper_bound(sketch count_min, item bigint) RETURNS bigint
+    LANGUAGE C IMMUTABLE STRICT PARALLEL SAFE AS 'MODULE_PATHNAME', 'count_min_upper_bound_bigint';
+CREATE FUNCTION status(sketch count_min, OUT total_weight bigint, OUT num_hashes integer, OUT num_buckets bigint,
+    OUT items text)
+    LANGUAGE C IMMUTABLE STRICT PARALLEL SAFE AS 'MODULE_PATHNAME', 'count_min_status';
+
+-- signed_count_min: estimates of weights of strings or bigints, with weights that may be below 0 (Count-Min).
+
+CREATE TYPE signed_count_min;
+CREATE FUNCTION signed_count_min_in(cstring) RETURNS signed_count_min
+    LANGUAGE C IMMUTABLE STRICT PARALLEL SAFE AS 'MODULE_PATHNAME', 'signed_count_min_in';
+CREATE FUNCTION signed_count_min_out(signed_count_min) RETURNS cstring
+    LANGUAGE C IMMUTABLE STRICT PARALLEL SAFE AS 'MODULE_PATHNAME', 'sketch_out';
+CREATE FUNCTION signed_count_min_recv(internal) RETURNS signed_count_min
+    LANGUAGE C IMMUTABLE STRICT PARALLEL SAFE AS 'MODULE_PATHNAME', 'signed_count_min_recv';
+CREATE FUNCTION signed_count_min_send(signed_count_min) RETURNS bytea
+    LANGUAGE C IMMUTABLE STRICT PARALLEL SAFE AS 'MODULE_PATHNAME', 'sketch_send';
+CREATE TYPE signed_count_min (
+    INPUT = signed_count_min_in, OUTPUT = signed_count_min_out, RECEIVE = signed_count_min_recv, SEND = signed_count_min_send,
+    INTERNALLENGTH = VARIABLE, ALIGNMENT = int4, STORAGE = extended);
+COMMENT ON TYPE signed_count_min IS 'estimates of weights of strings or bigints, with weights that may be below 0 (Count-Min)';
+
+-- The bytea form has the header. The image has none: it is what the other interfaces of the library read and write.
+CREATE FUNCTION signed_count_min_to_bytea(signed_count_min) RETURNS bytea
+    LANGUAGE C IMMUTABLE STRICT PARALLEL SAFE AS 'MODULE_PATHNAME', 'sketch_send';
+CREATE FUNCTION signed_count_min_from_bytea(bytea) RETURNS signed_count_min
+    LANGUAGE C IMMUTABLE STRICT PARALLEL SAFE AS 'MODULE_PATHNAME', 'signed_count_min_from_bytea';
+CREATE CAST (signed_count_min AS bytea) WITH FUNCTION signed_count_min_to_bytea(signed_count_min);
+CREATE CAST (bytea AS signed_count_min) WITH FUNCTION signed_count_min_from_bytea(bytea);
+CREATE FUNCTION sketch_image(sketch signed_count_min) RETURNS bytea
+    LANGUAGE C IMMUTABLE STRICT PARALLEL SAFE AS 'MODULE_PATHNAME', 'sketch_image';
+CREATE FUNCTION signed_count_min_from_image(image bytea) RETURNS signed_count_min
+    LANGUAGE C IMMUTABLE STRICT PARALLEL SAFE AS 'MODULE_PATHNAME', 'signed_count_min_from_image';
+
+CREATE FUNCTION signed_count_min_final(internal) RETURNS signed_count_min
+    LANGUAGE C IMMUTABLE PARALLEL SAFE AS 'MODULE_PATHNAME', 'state_final';
+CREATE FUNCTION signed_count_min_add(internal, text, bigint, integer, integer) RETURNS internal
+    LANGUAGE C IMMUTABLE PARALLEL SAFE AS 'MODULE_PATHNAME', 'signed_count_min_add_string';
+CREATE FUNCTION signed_count_min_add(internal, text, bigint, double precision, double precision) RETURNS internal
+    LANGUAGE C IMMUTABLE PARALLEL SAFE AS 'MODULE_PATHNAME', 'signed_count_min_add_string_by_error';
+CREATE AGGREGATE signed_count_min_agg(item text, weight bigint, num_hashes integer, num_buckets integer) (
+    SFUNC = signed_count_min_add, STYPE = internal, SSPACE = 32768, FINALFUNC = signed_count_min_final,
+    COMBINEFUNC = sketch_combine, SERIALFUNC = sketch_serial, DESERIALFUNC = sketch_deserial, PARALLEL = SAFE);
+CREATE AGGREGATE signed_count_min_agg(item text, weight bigint, relative_error double precision, confidence double precision) (
+    SFUNC = signed_count_min_add, STYPE = internal, SSPACE = 32768, FINALFUNC = signed_count_min_final,
+    COMBINEFUNC = sketch_combine, SERIALFUNC = sketch_serial, DESERIALFUNC = sketch_deserial, PARALLEL = SAFE);
+CREATE FUNCTION signed_count_min_add(internal, bigint, bigint, integer, integer) RETURNS internal
+    LANGUAGE C IMMUTABLE PARALLEL SAFE AS 'MODULE_PATHNAME', 'signed_count_min_add_bigint';
+CREATE FUNCTION signed_count_min_add(internal, bigint, bigint, double precision, double precision) RETURNS internal
+    LANGUAGE C IMMUTABLE PARALLEL SAFE AS 'MODULE_PATHNAME', 'signed_count_min_add_bigint_by_error';
+CREATE AGGREGATE signed_count_min_agg(item bigint, weight bigint, num_hashes integer, num_buckets integer) (
+    SFUNC = signed_count_min_add, STYPE = internal, SSPACE = 32768, FINALFUNC = signed_count_min_final,
+    COMBINEFUNC = sketch_combine, SERIALFUNC = sketch_serial, DESERIALFUNC = sketch_deserial, PARALLEL = SAFE);
+CREATE AGGREGATE signed_count_min_agg(item bigint, weight bigint, relative_error double precision, confidence double precision) (
+    SFUNC = signed_count_min_add, STYPE = internal, SSPACE = 32768, FINALFUNC = signed_count_min_final,
+    COMBINEFUNC = sketch_combine, SERIALFUNC = sketch_serial, DESERIALFUNC = sketch_deserial, PARALLEL = SAFE);
+
+CREATE FUNCTION signed_count_min_add_sketch(internal, signed_count_min) RETURNS internal
+    LANGUAGE C IMMUTABLE PARALLEL SAFE AS 'MODULE_PATHNAME', 'signed_count_min_add_sketch';
+CREATE AGGREGATE signed_count_min_union(signed_count_min) (
+    SFUNC = signed_count_min_add_sketch, STYPE = internal, SSPACE = 32768, FINALFUNC = signed_count_min_final,
+    COMBINEFUNC = sketch_combine, SERIALFUNC = sketch_serial, DESERIALFUNC = sketch_deserial, PARALLEL = SAFE);
+CREATE FUNCTION sketch_union(signed_count_min, signed_count_min) RETURNS signed_count_min
+    LANGUAGE C IMMUTABLE STRICT PARALLEL SAFE COST 100 AS 'MODULE_PATHNAME', 'signed_count_min_union';
+CREATE OPERATOR | (LEFTARG = signed_count_min, RIGHTARG = signed_count_min, FUNCTION = sketch_union, COMMUTATOR = |);
+
+CREATE FUNCTION signed_count_min_eq(signed_count_min, signed_count_min) RETURNS boolean
+    LANGUAGE C IMMUTABLE STRICT PARALLEL SAFE COST 10 AS 'MODULE_PATHNAME', 'sketch_equal';
+CREATE FUNCTION signed_count_min_ne(signed_count_min, signed_count_min) RETURNS boolean
+    LANGUAGE C IMMUTABLE STRICT PARALLEL SAFE COST 10 AS 'MODULE_PATHNAME', 'sketch_not_equal';
+CREATE FUNCTION signed_count_min_hash(signed_count_min) RETURNS integer
+    LANGUAGE C IMMUTABLE STRICT PARALLEL SAFE COST 10 AS 'MODULE_PATHNAME', 'sketch_hash';
+CREATE FUNCTION signed_count_min_hash_extended(signed_count_min, bigint) RETURNS bigint
+    LANGUAGE C IMMUTABLE STRICT PARALLEL SAFE COST 10 AS 'MODULE_PATHNAME', 'sketch_hash_extended';
+CREATE OPERATOR = (LEFTARG = signed_count_min, RIGHTARG = signed_count_min, FUNCTION = signed_count_min_eq,
+    COMMUTATOR = =, NEGATOR = <>, RESTRICT = eqsel, JOIN = eqjoinsel, HASHES);
+CREATE OPERATOR <> (LEFTARG = signed_count_min, RIGHTARG = signed_count_min, FUNCTION = signed_count_min_ne,
+    COMMUTATOR = <>, NEGATOR = =, RESTRICT = neqsel, JOIN = neqjoinsel);
+CREATE OPERATOR CLASS signed_count_min_ops DEFAULT FOR TYPE signed_count_min USING hash AS
+    OPERATOR 1 =, FUNCTION 1 signed_count_min_hash(signed_count_min),
+    FUNCTION 2 signed_count_min_hash_extended(signed_count_min, bigint);
+
+CREATE FUNCTION estimate(sketch signed_count_min, item text) RETURNS bigint
+    LANGUAGE C IMMUTABLE STRICT PARALLEL SAFE AS 'MODULE_PATHNAME', 'signed_count_min_estimate_string';
+CREATE FUNCTION upper_bound(sketch signed_count_min, item text) RETURNS bigint
+    LANGUAGE C IMMUTABLE STRICT PARALLEL SAFE AS 'MODULE_PATHNAME', 'signed_count_min_upper_bound_string';
+CREATE FUNCTION estimate(sketch signed_count_min, item bigint) RETURNS bigint
+    LANGUAGE C IMMUTABLE STRICT PARALLEL SAFE AS 'MODULE_PATHNAME', 'signed_count_min_estimate_bigint';
+CREATE FUNCTION upper_bound(sketch signed_count_min, item bigint) RETURNS bigint
+    LANGUAGE C IMMUTABLE STRICT PARALLEL SAFE AS 'MODULE_PATHNAME', 'signed_count_min_upper_bound_bigint';
+CREATE FUNCTION status(sketch signed_count_min, OUT total_weight bigint, OUT num_hashes integer, OUT num_buckets bigint,
+    OUT items text)
+    LANGUAGE C IMMUTABLE STRICT PARALLEL SAFE AS 'MODULE_PATHNAME', 'signed_count_min_status';
+
+-- bloom_filter: a set of strings or bigints, with false positives (Bloom filter).
+
+CREATE TYPE bloom_filter;
+CREATE FUNCTION bloom_filter_in(cstring) RETURNS bloom_filter
+    LANGUAGE C IMMUTABLE STRICT PARALLEL SAFE AS 'MODULE_PATHNAME', 'bloom_filter_in';
+CREATE FUNCTION bloom_filter_out(bloom_filter) RETURNS cstring
+    LANGUAGE C IMMUTABLE STRICT PARALLEL SAFE AS 'MODULE_PATHNAME', 'sketch_out';
+CREATE FUNCTION bloom_filter_recv(internal) RETURNS bloom_filter
+    LANGUAGE C IMMUTABLE STRICT PARALLEL SAFE AS 'MODULE_PATHNAME', 'bloom_filter_recv';
+CREATE FUNCTION bloom_filter_send(bloom_filter) RETURNS bytea
+    LANGUAGE C IMMUTABLE STRICT PARALLEL SAFE AS 'MODULE_PATHNAME', 'sketch_send';
+CREATE TYPE bloom_filter (
+    INPUT = bloom_filter_in, OUTPUT = bloom_filter_out, RECEIVE = bloom_filter_recv, SEND = bloom_filter_send,
+    INTERNALLENGTH = VARIABLE, ALIGNMENT = int4, STORAGE = external);
+COMMENT ON TYPE bloom_filter IS 'a set of strings or bigints, with false positives (Bloom filter)';
+
+-- The bytea form has the header. The image has none: it is what the other interfaces of the library read and write.
+CREATE FUNCTION bloom_filter_to_bytea(bloom_filter) RETURNS bytea
+    LANGUAGE C IMMUTABLE STRICT PARALLEL SAFE AS 'MODULE_PATHNAME', 'sketch_send';
+CREATE FUNCTION bloom_filter_from_bytea(bytea) RETURNS bloom_filter
+    LANGUAGE C IMMUTABLE STRICT PARALLEL SAFE AS 'MODULE_PATHNAME', 'bloom_filter_from_bytea';
+CREATE CAST (bloom_filter AS bytea) WITH FUNCTION bloom_filter_to_bytea(bloom_filter);
+CREATE CAST (bytea AS bloom_filter) WITH FUNCTION bloom_filter_from_bytea(bytea);
+CREATE FUNCTION sketch_image(sketch bloom_filter) RETURNS bytea
+    LANGUAGE C IMMUTABLE STRICT PARALLEL SAFE AS 'MODULE_PATHNAME', 'sketch_image';
+CREATE FUNCTION bloom_filter_from_image(image bytea) RETURNS bloom_filter
+    LANGUAGE C IMMUTABLE STRICT PARALLEL SAFE AS 'MODULE_PATHNAME', 'bloom_filter_from_image';
+
+CREATE FUNCTION bloom_filter_final(internal) RETURNS bloom_filter
+    LANGUAGE C IMMUTABLE PARALLEL SAFE AS 'MODULE_PATHNAME', 'state_final';
+CREATE FUNCTION bloom_filter_add(internal, text, bigint, integer) RETURNS internal
+    LANGUAGE C IMMUTABLE PARALLEL SAFE AS 'MODULE_PATHNAME', 'bloom_filter_add_string';
+CREATE FUNCTION bloom_filter_add(internal, text, bigint, double precision) RETURNS internal
+    LANGUAGE C IMMUTABLE PARALLEL SAFE AS 'MODULE_PATHNAME', 'bloom_filter_add_string_by_error';
+CREATE AGGREGATE bloom_filter_agg(key text, num_bits bigint, num_hashes integer) (
+    SFUNC = bloom_filter_add, STYPE = internal, SSPACE = 32768, FINALFUNC = bloom_filter_final,
+    COMBINEFUNC = sketch_combine, SERIALFUNC = sketch_serial, DESERIALFUNC = sketch_deserial, PARALLEL = SAFE);
+CREATE AGGREGATE bloom_filter_agg(key text, expected_items bigint, false_positive_rate double precision) (
+    SFUNC = bloom_filter_add, STYPE = internal, SSPACE = 32768, FINALFUNC = bloom_filter_final,
+    COMBINEFUNC = sketch_combine, SERIALFUNC = sketch_serial, DESERIALFUNC = sketch_deserial, PARALLEL = SAFE);
+CREATE FUNCTION bloom_filter_add(internal, bigint, bigint, integer) RETURNS internal
+    LANGUAGE C IMMUTABLE PARALLEL SAFE AS 'MODULE_PATHNAME', 'bloom_filter_add_bigint';
+CREATE FUNCTION bloom_filter_add(internal, bigint, bigint, double precision) RETURNS internal
+    LANGUAGE C IMMUTABLE PARALLEL SAFE AS 'MODULE_PATHNAME', 'bloom_filter_add_bigint_by_error';
+CREATE AGGREGATE bloom_filter_agg(key bigint, num_bits bigint, num_hashes integer) (
+    SFUNC = bloom_filter_add, STYPE = internal, SSPACE = 32768, FINALFUNC = bloom_filter_final,
+    COMBINEFUNC = sketch_combine, SERIALFUNC = sketch_serial, DESERIALFUNC = sketch_deserial, PARALLEL = SAFE);
+CREATE AGGREGATE bloom_filter_agg(key bigint, expected_items bigint, false_positive_rate double precision) (
+    SFUNC = bloom_filter_add, STYPE = internal, SSPACE = 32768, FINALFUNC = bloom_filter_final,
+    COMBINEFUNC = sketch_combine, SERIALFUNC = sketch_serial, DESERIALFUNC = sketch_deserial, PARALLEL = SAFE);
+
+CREATE FUNCTION bloom_filter_add_sketch(internal, bloom_filter) RETURNS internal
+    LANGUAGE C IMMUTABLE PARALLEL SAFE AS 'MODULE_PATHNAME', 'bloom_filter_add_sketch';
+CREATE AGGREGATE bloom_filter_union(bloom_filter) (
+    SFUNC = bloom_filter_add_sketch, STYPE = internal, SSPACE = 32768, FINALFUNC = bloom_filter_final,
+    COMBINEFUNC = sketch_combine, SERIALFUNC = sketch_serial, DESERIALFUNC = sketch_deserial, PARALLEL = SAFE);
+CREATE FUNCTION sketch_union(bloom_filter, bloom_filter) RETURNS bloom_filter
+    LANGUAGE C IMMUTABLE STRICT PARALLEL SAFE COST 100 AS 'MODULE_PATHNAME', 'bloom_filter_union';
+CREATE OPERATOR | (LEFTARG = bloom_filter, RIGHTARG = bloom_filter, FUNCTION = sketch_union, COMMUTATOR = |);
+CREATE FUNCTION sketch_intersection(bloom_filter, bloom_filter) RETURNS bloom_filter
+    LANGUAGE C IMMUTABLE STRICT PARALLEL SAFE COST 100 AS 'MODULE_PATHNAME', 'bloom_filter_intersection';
+CREATE OPERATOR & (LEFTARG = bloom_filter, RIGHTARG = bloom_filter, FUNCTION = sketch_intersection, COMMUTATOR = &);
+
+CREATE FUNCTION bloom_filter_eq(bloom_filter, bloom_filter) RETURNS boolean
+    LANGUAGE C IMMUTABLE STRICT PARALLEL SAFE COST 10 AS 'MODULE_PATHNAME', 'sketch_equal';
+CREATE FUNCTION bloom_filter_ne(bloom_filter, bloom_filter) RETURNS boolean
+    LANGUAGE C IMMUTABLE STRICT PARALLEL SAFE COST 10 AS 'MODULE_PATHNAME', 'sketch_not_equal';
+CREATE FUNCTION bloom_filter_hash(bloom_filter) RETURNS integer
+    LANGUAGE C IMMUTABLE STRICT PARALLEL SAFE COST 10 AS 'MODULE_PATHNAME', 'sketch_hash';
+CREATE FUNCTION bloom_filter_hash_extended(bloom_filter, bigint) RETURNS bigint
+    LANGUAGE C IMMUTABLE STRICT PARALLEL SAFE COST 10 AS 'MODULE_PATHNAME', 'sketch_hash_extended';
+CREATE OPERATOR = (LEFTARG = bloom_filter, RIGHTARG = bloom_filter, FUNCTION = bloom_filter_eq,
+    COMMUTATOR = =, NEGATOR = <>, RESTRICT = eqsel, JOIN = eqjoinsel, HASHES);
+CREATE OPERATOR <> (LEFTARG = bloom_filter, RIGHTARG = bloom_filter, FUNCTION = bloom_filter_ne,
+    COMMUTATOR = <>, NEGATOR = =, RESTRICT = neqsel, JOIN = neqjoinsel);
+CREATE OPERATOR CLASS bloom_filter_ops DEFAULT FOR TYPE bloom_filter USING hash AS
+    OPERATOR 1 =, FUNCTION 1 bloom_filter_hash(bloom_filter),
+    FUNCTION 2 bloom_filter_hash_extended(bloom_filter, bigint);
+
+CREATE FUNCTION contains_support(internal) RETURNS internal
+    LANGUAGE C IMMUTABLE STRICT PARALLEL SAFE AS 'MODULE_PATHNAME', 'bloom_filter_contains_support';
+CREATE FUNCTION contains(filter bloom_filter, item text) RETURNS boolean
+    LANGUAGE C IMMUTABLE STRICT PARALLEL SAFE SUPPORT contains_support AS 'MODULE_PATHNAME', 'bloom_filter_contains_string';
+CREATE FUNCTION contains(filter bloom_filter, item bigint) RETURNS boolean
+    LANGUAGE C IMMUTABLE STRICT PARALLEL SAFE SUPPORT contains_support AS 'MODULE_PATHNAME', 'bloom_filter_contains_bigint';
+CREATE FUNCTION status(filter bloom_filter, OUT bits_used bigint, OUT capacity bigint, OUT num_hashes integer, OUT seed numeric,
+    OUT items text)
+    LANGUAGE C IMMUTABLE STRICT PARALLEL SAFE AS 'MODULE_PATHNAME', 'bloom_filter_status';

@@ -1,0 +1,93 @@
+CREATE TABLE days (day integer, pages frequent_strings, visitors frequent_bigints, seconds count_min, refunds signed_count_min,
+    seen bloom_filter);
+INSERT INTO days
+SELECT i / 100, frequent_strings_agg('page ' || i % 100), frequent_bigints_agg(i), count_min_agg('page ' || i % 100, i, 4, 1024),
+    signed_count_min_agg(i, -i, 4, 1024), bloom_filter_agg(i, 100, 0.001)
+FROM generate_series(100, 399) AS i GROUP BY i / 100;
+
+-- Bounds, estimates and rows.
+SELECT day, lower_bound(pages, 'page 7'), estimate(pages, 'page 7'), upper_bound(pages, 'page 7'), bounds(pages, 'no page')
+FROM days ORDER BY day;
+SELECT day, lower_bound(visitors, 207), estimate(visitors, 207), upper_bound(visitors, 207), bounds(visitors, 207)
+FROM days ORDER BY day;
+SELECT day, (bounds(pages, 'page 7')).*, (bounds(visitors, day * 100)).upper_bound FROM days ORDER BY day;
+SELECT day, estimate(seconds, 'page 7'), upper_bound(seconds, 'page 7') - estimate(seconds, 'page 7') AS margin,
+    floor(2.718281828459045 * (status(seconds)).total_weight / 1024) AS margin_by_formula,
+    estimate(refunds, 207), upper_bound(refunds, 207) >= estimate(refunds, 207) AS above
+FROM days ORDER BY day;
+SELECT day, contains(seen, 107) AS is_first, contains(seen, 207) AS is_second, contains(seen, 307) AS is_third
+FROM days ORDER BY day;
+
+-- Rows come in descending order of estimates.
+CREATE TABLE words AS
+SELECT frequent_strings_agg(word, weight) AS strings, frequent_bigints_agg(length(word)::bigint, weight) AS bigints
+FROM (VALUES ('be', 2), ('or', 1), ('not', 4), ('to', 9), ('question', 3), (E'\u00fc\u4e2d', 7)) AS v(word, weight);
+SELECT f.* FROM words, frequent_rows(strings) AS f;
+SELECT f.* FROM words, frequent_rows(strings, 'no_false_positives') AS f;
+SELECT f.* FROM words, frequent_rows(strings, 'no_false_negatives', 3) AS f;
+SELECT f.* FROM words, frequent_rows(bigints, threshold => 8) AS f;
+SELECT (frequent_rows(strings)).item FROM words LIMIT 2;
+SELECT count(*) FROM frequent_rows(NULL::frequent_strings);
+
+-- With an error, rows of one mode have no false negatives, and rows of the other mode no false positives.
+CREATE TABLE stream AS SELECT (i % (i % 37 + 1))::bigint AS item FROM generate_series(1, 20000) AS i;
+CREATE TABLE small AS SELECT frequent_bigints_agg(item, 1, 16) AS sketch FROM stream;
+CREATE VIEW exact AS SELECT item, count(*) AS rows FROM stream GROUP BY item;
+SELECT (status(sketch)).maximum_error > 0 AS has_error, (status(sketch)).num_active_items <= 12 AS has_few FROM small;
+SELECT bool_and(e.item IN (SELECT (frequent_rows(sketch, 'no_false_negatives')).item FROM small)) AS all_found
+FROM exact AS e WHERE e.rows > (SELECT (status(sketch)).maximum_error FROM small);
+SELECT coalesce(bool_and(e.rows > (status(s.sketch)).maximum_error), true) AS all_frequent
+FROM small AS s, frequent_rows(s.sketch, 'no_false_positives') AS f JOIN exact AS e ON e.item = f.item;
+
+-- Status. A filter of 100 items, 10 hashes and 1472 bits has about 1472 * (1 - exp(-1000 / 1472)) = 726 set bits.
+SELECT (status(strings)).*, (status(bigints)).num_active_items FROM words;
+SELECT day, (status(seconds)).*, (status(refunds)).total_weight FROM days ORDER BY day;
+SELECT day, (status(seen)).capacity, (status(seen)).num_hashes, (status(seen)).bits_used BETWEEN 650 AND 800 AS has_bits,
+    (status(seen)).seed, (status(seen)).items FROM days ORDER BY day;
+
+-- A question has items of the sketch's type.
+\set VERBOSITY sqlstate
+SELECT contains(seen, 'page 7') FROM days;
+SELECT estimate(seconds, 7) FROM days;
+SELECT estimate(refunds, 'page 7') FROM days;
+SELECT estimate(pages, 7) FROM days;
+SELECT frequent_rows(strings, 'all') FROM words;
+SELECT frequent_rows(strings, 'no_false_positives', -1) FROM words;
+\set VERBOSITY default
+SELECT contains(bloom_filter_from_image(sketch_image(seen)), 207), contains(bloom_filter_from_image(sketch_image(seen)), '207')
+FROM days WHERE day = 2;
+SELECT contains(seen, NULL::bigint) IS NULL AS no_item, contains(NULL, 7) IS NULL AS no_filter FROM days WHERE day = 2;
+
+-- A function that keeps sketches from row to row answers for the sketch of its row: in a nested loop over more sketches than are
+-- kept, for large sketches that are stored apart, and for parameters.
+CREATE TABLE filters AS
+SELECT part, bloom_filter_agg(i, 20000, 5) AS filter, count_min_agg(i, part + 1, 2, 2000) AS counts
+FROM generate_series(0, 999) AS i, LATERAL (SELECT i % 10 AS part) AS p GROUP BY part;
+ALTER TABLE filters ALTER filter SET STORAGE external;
+SET enable_hashjoin = off;
+SET enable_mergejoin = off;
+SELECT count(*) AS pairs, count(*) FILTER (WHERE contains(f.filter, i)) >= 1000 AS found,
+    bool_and(contains(f.filter, i)) FILTER (WHERE i % 10 = f.part) AS all_found,
+    bool_and(estimate(f.counts, i) >= f.part + 1) FILTER (WHERE i % 10 = f.part) AS all_counted,
+    count(*) FILTER (WHERE contains(f.filter, i) AND i % 10 <> f.part) < 90 AS few_false_positives
+FROM generate_series(0::bigint, 999) AS i, filters AS f;
+RESET enable_hashjoin;
+RESET enable_mergejoin;
+DO $$
+DECLARE
+    filter bloom_filter;
+    number integer;
+    wrong integer := 0;
+BEGIN
+    FOR round IN 1 .. 3 LOOP
+        FOR number, filter IN SELECT f.part, f.filter FROM filters AS f ORDER BY part LOOP
+            FOR i IN 0 .. 9 LOOP
+                IF NOT contains(filter, 100 * round + 10 * i + number) THEN wrong := wrong + 1; END IF;
+            END LOOP;
+        END LOOP;
+    END LOOP;
+    RAISE NOTICE 'wrong: %', wrong;
+END $$;
+WITH built AS MATERIALIZED (SELECT bloom_filter_agg(i * 2, 50000, 0.001) AS even FROM generate_series(1, 50000) AS i)
+SELECT count(*) FILTER (WHERE i % 2 = 0) AS even, count(*) FILTER (WHERE i % 2 = 1) < 150 AS few_odd
+FROM generate_series(1, 100000) AS i WHERE contains((SELECT even FROM built), i);

@@ -1,0 +1,49 @@
+CREATE TABLE sets AS
+SELECT name, frequent_strings_agg('item ' || i) AS strings, frequent_bigints_agg(i) AS bigints,
+    count_min_agg(i, 1, 4, 1024) AS counts, signed_count_min_agg(i, -1, 4, 1024) AS signed_counts, bloom_filter_agg(i, 10000, 7) AS filter
+FROM (VALUES ('low', 1, 60), ('high', 41, 100), ('all', 1, 100)) AS v(name, first, last), generate_series(first, last) AS i
+GROUP BY name;
+
+-- The union of two sketches.
+SELECT (status(a.strings | b.strings)).total_weight, (status(a.bigints | b.bigints)).num_active_items,
+    estimate(a.strings | b.strings, 'item 50'), estimate(a.bigints | b.bigints, 1), estimate(a.counts | b.counts, 50),
+    estimate(a.signed_counts | b.signed_counts, 50), a.filter | b.filter = c.filter AS is_all,
+    sketch_union(a.filter, b.filter) = a.filter | b.filter AS is_union
+FROM sets AS a, sets AS b, sets AS c WHERE a.name = 'low' AND b.name = 'high' AND c.name = 'all';
+
+-- The intersection of two filters contains what both contain.
+SELECT bool_and(contains(a.filter & b.filter, i)) AS contained,
+    bool_and(contains(sketch_intersection(a.filter, b.filter), i)) AS by_name
+FROM sets AS a, sets AS b, generate_series(41, 60) AS i WHERE a.name = 'low' AND b.name = 'high';
+
+-- Filters and counts are equal if their states are.
+SELECT a.name, b.name, a.filter = b.filter AS filters, a.filter <> b.filter AS not_filters, a.counts = b.counts AS counts,
+    a.counts <> b.counts AS not_counts, a.signed_counts = b.signed_counts AS signed_counts,
+    a.signed_counts <> b.signed_counts AS not_signed_counts
+FROM sets AS a, sets AS b WHERE a.name <= b.name ORDER BY a.name, b.name;
+INSERT INTO sets SELECT 'also ' || name, strings, bigints, counts, signed_counts, filter FROM sets;
+SELECT count(*) AS rows, count(DISTINCT name) AS names, (SELECT count(*) FROM (SELECT DISTINCT filter FROM sets) AS s) AS filters,
+    (SELECT count(*) FROM (SELECT counts FROM sets GROUP BY counts) AS s) AS counts,
+    (SELECT count(*) FROM (SELECT signed_counts FROM sets GROUP BY signed_counts) AS s) AS signed_counts
+FROM sets;
+SELECT a.name, b.name FROM sets AS a JOIN sets AS b ON a.filter = b.filter AND a.name < b.name ORDER BY a.name;
+
+-- A union of filters of strings and of bigints has both. Their intersection has neither.
+SELECT (status(strings | bigints)).items, contains(strings | bigints, 'a') AS string, contains(strings | bigints, 2) AS bigint,
+    (status((strings | bigints) & strings)).items AS intersection
+FROM (SELECT bloom_filter_agg(string, 1000, 5) AS strings, bloom_filter_agg(number, 1000, 5) AS bigints
+    FROM (VALUES ('a', 1), ('b', 2)) AS v(string, number)) AS f;
+SELECT (status(strings | bigints)).items, (status(strings | bigints)).total_weight
+FROM (SELECT count_min_agg(string, 1, 3, 64) AS strings, count_min_agg(number, 1, 3, 64) AS bigints
+    FROM (VALUES ('a', 1), ('b', 2)) AS v(string, number)) AS f;
+
+\set VERBOSITY sqlstate
+SELECT bloom_filter_agg('a', 1000, 5) & bloom_filter_agg(1, 1000, 5);
+SELECT bloom_filter_agg('a', 1000, 5) | bloom_filter_agg('a', 1000, 6);
+SELECT bloom_filter_agg('a', 1000, 5) & bloom_filter_agg('a', 2000, 5);
+SELECT count_min_agg('a', 1, 3, 64) | count_min_agg('a', 1, 3, 65);
+SELECT signed_count_min_agg('a', 1, 3, 64) | signed_count_min_agg('a', 1, 4, 64);
+SELECT bloom_filter_union(f) FROM (SELECT bloom_filter_agg(i, 64 * i, 5) AS f FROM generate_series(1, 2) AS i GROUP BY i) AS f;
+SELECT filter | counts FROM sets;
+SELECT strings | bigints FROM sets;
+\set VERBOSITY default

@@ -1,0 +1,461 @@
+/* Aggregates: states, their rows, and how workers pass them on.
+ *
+ * A state lives in the memory context of its aggregate, and so does all that the library allocates for it. */
+#include "extension.h"
+
+#include <math.h>
+
+#include "utils/memutils.h"
+
+/* Stored sketches are merged in batches, of at most so many and not much more bytes. A merge of frequent items copies the table, so
+ * one merge of many sketches costs less than many of one. */
+#define MAX_IN_BATCH 16
+#define BYTES_IN_BATCH (1024 * 1024)
+
+/* Sketches that are read and not yet merged. */
+typedef struct Batch {
+    size_t count;
+    size_t bytes;
+    ds_sketch handles[MAX_IN_BATCH];
+} Batch;
+
+/* A sketch that takes rows. A state from a worker has no sketch yet: it keeps an image until it is combined. */
+typedef struct State {
+    ds_sketch handle;
+    MemoryContext context;
+    uint8 kind;
+    uint8 items;
+    bool has_sketch;
+    Datum sizes[2];      /* the size arguments of the first row */
+    Batch *batch;        /* in unions, after the first sketch */
+    size_t unchecked;    /* the bytes of strings that came after the limit was checked */
+    const void *image;
+    size_t image_bytes;
+} State;
+
+/* What a worker passes on: a state as a bytea. */
+typedef struct Message {
+    int32 length; /* PostgreSQL's own: of the whole */
+    uint8 kind;
+    uint8 items;
+    uint8 zero[2];
+    Datum sizes[2];
+    uint8 image[FLEXIBLE_ARRAY_MEMBER];
+} Message;
+
+/* Returns the context of the aggregate that calls. */
+static MemoryContext aggregate_context(FunctionCallInfo fcinfo)
+{
+    MemoryContext context;
+    if (!AggCheckCallContext(fcinfo, &context)) elog(ERROR, "the function was not called as part of an aggregate");
+    return context;
+}
+
+/* Returns the state in an argument, or NULL. */
+static inline State *state_argument(FunctionCallInfo fcinfo, int number)
+{
+    return PG_ARGISNULL(number) ? NULL : (State *) PG_GETARG_POINTER(number);
+}
+
+/* Returns a state, or null, as the result of the call. */
+static inline Datum state_result(FunctionCallInfo fcinfo, State *state)
+{
+    if (state == NULL) PG_RETURN_NULL();
+    PG_RETURN_POINTER(state);
+}
+
+/* Returns a new state without a sketch. */
+static State *new_state(FunctionCallInfo fcinfo, Kind kind, uint8 items)
+{
+    MemoryContext context = aggregate_context(fcinfo);
+    State *state = MemoryContextAllocZero(context, sizeof(State));
+    state->context = context;
+    state->kind = kind;
+    state->items = items;
+    return state;
+}
+
+/* --- Sizes, from arguments of the first row. --- */
+
+/* Returns 1 / `fraction` as a whole number, rounded up, unless rounding alone put it above a whole number. */
+static uint64 inverse(double fraction, const char *message)
+{
+    double number, nearest;
+    if (!(fraction > 0 && fraction < 1)) raise_argument(message);
+    number = 1 / fraction;
+    nearest = rint(number);
+    if (fabs(number - nearest) > nearest * 1e-9) nearest = ceil(number);
+    return nearest < 9.2e18 ? (uint64) nearest : PG_INT64_MAX;
+}
+
+/* Returns 1 / `relative_error` as a whole number. */
+static uint64 parts_argument(FunctionCallInfo fcinfo, int number)
+{
+    return inverse(PG_GETARG_FLOAT8(number), "relative_error must be above 0 and below 1");
+}
+
+/* Makes the sketch of frequent items. */
+static void make_frequent(State *state, int64 max_map_size)
+{
+    size_t sample = ds_frequent_items_max_sample_size(max_map_size);
+    MemoryContext before;
+    int32_t result;
+    if (max_map_size < 0) check_result(DS_MAP_SIZE_TOO_SMALL);
+    check_bytes(state->kind, (uint64) max_map_size * (state->kind == FREQUENT_STRINGS ? 44 : 28));
+    before = MemoryContextSwitchTo(state->context);
+    result = state->kind == FREQUENT_STRINGS ? ds_frequent_items_string_new(&state->handle, max_map_size, sample)
+                                             : ds_frequent_items_i64_new(&state->handle, max_map_size, sample);
+    MemoryContextSwitchTo(before);
+    check_result(result);
+}
+
+/* Makes a Count-Min sketch. */
+static void make_count(State *state, int64 num_hashes, int64 num_buckets)
+{
+    MemoryContext before;
+    int32_t result;
+    if (num_hashes < 0 || num_hashes > UINT8_MAX) check_result(DS_BAD_NUM_HASHES);
+    if (num_buckets < 0) check_result(DS_BAD_NUM_BUCKETS);
+    check_bytes(state->kind, (uint64) num_hashes * (num_buckets + 1) * 8);
+    before = MemoryContextSwitchTo(state->context);
+    result = state->kind == COUNT_MIN
+                 ? ds_count_min_u64_new(&state->handle, (uint8_t) num_hashes, (uint32_t) num_buckets, DEFAULT_SEED)
+                 : ds_count_min_i64_new(&state->handle, (uint8_t) num_hashes, (uint32_t) num_buckets, DEFAULT_SEED);
+    MemoryContextSwitchTo(before);
+    check_result(result);
+}
+
+/* Makes a filter. */
+static void make_filter(State *state, int64 num_bits, int64 num_hashes)
+{
+    MemoryContext before;
+    int32_t result;
+    if (num_bits < 0) check_result(DS_BAD_NUM_BITS);
+    if (num_hashes < 0 || num_hashes > UINT16_MAX) check_result(DS_BAD_NUM_HASHES);
+    check_bytes(state->kind, (uint64) num_bits / 8);
+    before = MemoryContextSwitchTo(state->context);
+    result = ds_bloom_new(&state->handle, num_bits, (uint16_t) num_hashes, DEFAULT_SEED);
+    MemoryContextSwitchTo(before);
+    check_result(result);
+}
+
+/* Each of these makes a state's sketch from the sizes in the arguments from a number on. */
+typedef void (*Make)(FunctionCallInfo fcinfo, State *state, int number);
+
+static void frequent_by_size(FunctionCallInfo fcinfo, State *state, int number)
+{
+    make_frequent(state, PG_NARGS() > number ? PG_GETARG_INT32(number) : DEFAULT_MAX_MAP_SIZE);
+}
+
+static void frequent_by_error(FunctionCallInfo fcinfo, State *state, int number)
+{
+    size_t max_map_size = 0;
+    check_result(ds_frequent_items_suggest_max_map_size(parts_argument(fcinfo, number), &max_map_size));
+    make_frequent(state, max_map_size);
+}
+
+static void count_by_size(FunctionCallInfo fcinfo, State *state, int number)
+{
+    make_count(state, PG_GETARG_INT32(number), PG_GETARG_INT32(number + 1));
+}
+
+static void count_by_error(FunctionCallInfo fcinfo, State *state, int number)
+{
+    uint64 questions = inverse(1 - PG_GETARG_FLOAT8(number + 1), "confidence must be above 0 and below 1");
+    uint32_t num_buckets = 0;
+    uint8_t num_hashes = 0;
+    check_result(ds_count_min_suggest_num_buckets(parts_argument(fcinfo, number), &num_buckets));
+    check_result(ds_count_min_suggest_num_hashes(questions, &num_hashes));
+    make_count(state, num_hashes, num_buckets);
+}
+
+static void filter_by_size(FunctionCallInfo fcinfo, State *state, int number)
+{
+    make_filter(state, PG_GETARG_INT64(number), PG_GETARG_INT32(number + 1));
+}
+
+static void filter_by_error(FunctionCallInfo fcinfo, State *state, int number)
+{
+    int64 items = PG_GETARG_INT64(number);
+    uint64 questions = inverse(PG_GETARG_FLOAT8(number + 1), "false_positive_rate must be above 0 and below 1");
+    uint64_t num_bits = 0;
+    uint16_t num_hashes = 0;
+    if (items < 1) raise_argument("expected_items must be above 0");
+    check_result(ds_bloom_suggest_num_bits(items, questions, &num_bits));
+    check_result(ds_bloom_suggest_num_hashes(num_bits, items, &num_hashes));
+    make_filter(state, num_bits, num_hashes);
+}
+
+/* --- Rows. --- */
+
+/* Raises an error if a size is null. */
+static inline void check_size(FunctionCallInfo fcinfo, int number)
+{
+    if (unlikely(PG_ARGISNULL(number)))
+        ereport(ERROR, (errcode(ERRCODE_NULL_VALUE_NOT_ALLOWED), errmsg("a size of a sketch must not be null")));
+}
+
+/* Returns the state of the first row of a group, with an empty sketch. */
+static State *begin(FunctionCallInfo fcinfo, Kind kind, uint8 items, int number, Make make)
+{
+    State *state = new_state(fcinfo, kind, items);
+    check_collation(fcinfo);
+    for (int i = number; i < PG_NARGS(); i++) {
+        check_size(fcinfo, i);
+        state->sizes[i - number] = PG_GETARG_DATUM(i);
+    }
+    make(fcinfo, state, number);
+    state->has_sketch = true;
+    return state;
+}
+
+/* Raises an error if the sizes differ from those of the first row. */
+static inline void check_sizes(FunctionCallInfo fcinfo, const State *state, int number)
+{
+    for (int i = number; i < PG_NARGS(); i++) {
+        check_size(fcinfo, i);
+        if (unlikely(PG_GETARG_DATUM(i) != state->sizes[i - number])) raise_sizes();
+    }
+}
+
+/* Each of these adds a row's item and weight to a sketch. They return the library's result. */
+typedef int32_t (*AddString)(ds_sketch *handle, ds_string item, int64 weight);
+typedef int32_t (*AddBigint)(ds_sketch *handle, int64 item, int64 weight);
+
+static inline int32_t frequent_string(ds_sketch *handle, ds_string item, int64 weight)
+{
+    return ds_frequent_items_string_update(handle, item.bytes, item.length, weight);
+}
+
+static inline int32_t frequent_bigint(ds_sketch *handle, int64 item, int64 weight)
+{
+    return ds_frequent_items_i64_update(handle, item, weight);
+}
+
+static inline int32_t count_string(ds_sketch *handle, ds_string item, int64 weight)
+{
+    return ds_count_min_u64_update_string(handle, item.bytes, item.length, weight);
+}
+
+static inline int32_t count_bigint(ds_sketch *handle, int64 item, int64 weight)
+{
+    return ds_count_min_u64_update_i64(handle, item, weight);
+}
+
+static inline int32_t signed_count_string(ds_sketch *handle, ds_string item, int64 weight)
+{
+    return ds_count_min_i64_update_string(handle, item.bytes, item.length, weight);
+}
+
+static inline int32_t signed_count_bigint(ds_sketch *handle, int64 item, int64 weight)
+{
+    return ds_count_min_i64_update_i64(handle, item, weight);
+}
+
+static inline int32_t filter_string(ds_sketch *handle, ds_string item, int64 weight)
+{
+    (void) weight;
+    return ds_bloom_insert_string(handle, item.bytes, item.length);
+}
+
+static inline int32_t filter_bigint(ds_sketch *handle, int64 item, int64 weight)
+{
+    (void) weight;
+    return ds_bloom_insert_i64(handle, item);
+}
+
+/* Checks the limit of a state of strings now and then, so that it is not much exceeded before the group ends. */
+static inline void check_strings(State *state, size_t length)
+{
+    state->unchecked += length;
+    if (likely(state->unchecked < limit_of(FREQUENT_STRINGS) / 4)) return;
+    check_limit(FREQUENT_STRINGS, &state->handle);
+    state->unchecked = 0;
+}
+
+/* The parts of a call that adds a row, known when the file is compiled. */
+typedef struct Row {
+    Kind kind;
+    uint8 items;
+    Make make;
+    AddString add_string;
+    AddBigint add_bigint;
+} Row;
+
+/* Adds a row to the state, or begins a state. A row whose item or weight is null is ignored. */
+static pg_attribute_always_inline Datum add_row(FunctionCallInfo fcinfo, Row row)
+{
+    State *state = state_argument(fcinfo, 0);
+    bool has_weights = row.kind != BLOOM_FILTER && PG_NARGS() > 2;
+    int number = row.kind == BLOOM_FILTER ? 2 : 3;
+    int64 weight = 1;
+    ds_string string = {NULL, 0};
+    MemoryContext before;
+    int32_t result;
+    if (PG_ARGISNULL(1) || (has_weights && PG_ARGISNULL(2))) return state_result(fcinfo, state);
+    if (unlikely(state == NULL)) state = begin(fcinfo, row.kind, row.items, number, row.make);
+    else check_sizes(fcinfo, state, number);
+    if (has_weights) weight = PG_GETARG_INT64(2);
+    if (row.kind != SIGNED_COUNT_MIN && unlikely(weight < 0))
+        ereport(ERROR, (errcode(ERRCODE_NUMERIC_VALUE_OUT_OF_RANGE), errmsg("the weight must not be below 0")));
+    if (row.items == STRINGS) string = string_argument(fcinfo, 1);
+    before = MemoryContextSwitchTo(state->context);
+    if (row.items == STRINGS) result = row.add_string(&state->handle, string, weight);
+    else result = row.add_bigint(&state->handle, PG_GETARG_INT64(1), weight);
+    MemoryContextSwitchTo(before);
+    check_result(result);
+    if (row.kind == FREQUENT_STRINGS) check_strings(state, string.length);
+    PG_RETURN_POINTER(state);
+}
+
+#define ROW(name, ...) \
+    PG_FUNCTION_INFO_V1(name); \
+    Datum name(PG_FUNCTION_ARGS) \
+    { \
+        return add_row(fcinfo, (Row) {__VA_ARGS__}); \
+    }
+#define ROWS_OF_STRINGS(name, kind, prefix, add) \
+    ROW(name, kind, STRINGS, prefix##_by_size, add, NULL) \
+    ROW(name##_by_error, kind, STRINGS, prefix##_by_error, add, NULL)
+#define ROWS_OF_BIGINTS(name, kind, prefix, add) \
+    ROW(name, kind, BIGINTS, prefix##_by_size, NULL, add) \
+    ROW(name##_by_error, kind, BIGINTS, prefix##_by_error, NULL, add)
+
+ROWS_OF_STRINGS(frequent_strings_add, FREQUENT_STRINGS, frequent, frequent_string)
+ROWS_OF_BIGINTS(frequent_bigints_add, FREQUENT_BIGINTS, frequent, frequent_bigint)
+ROWS_OF_STRINGS(count_min_add_string, COUNT_MIN, count, count_string)
+ROWS_OF_BIGINTS(count_min_add_bigint, COUNT_MIN, count, count_bigint)
+ROWS_OF_STRINGS(signed_count_min_add_string, SIGNED_COUNT_MIN, count, signed_count_string)
+ROWS_OF_BIGINTS(signed_count_min_add_bigint, SIGNED_COUNT_MIN, count, signed_count_bigint)
+ROWS_OF_STRINGS(bloom_filter_add_string, BLOOM_FILTER, filter, filter_string)
+ROWS_OF_BIGINTS(bloom_filter_add_bigint, BLOOM_FILTER, filter, filter_bigint)
+
+/* --- Unions. --- */
+
+/* Merges the sketches of a state's batch, if any, into its sketch. */
+static void flush(State *state)
+{
+    Batch *batch = state->batch;
+    MemoryContext before;
+    int32_t result;
+    if (batch == NULL || batch->count == 0) return;
+    before = MemoryContextSwitchTo(state->context);
+    result = merge_all(state->kind, &state->handle, batch->handles, batch->count);
+    MemoryContextSwitchTo(before);
+    check_result(result);
+    for (size_t i = 0; i < batch->count; i++) ds_free(&batch->handles[i]);
+    batch->count = batch->bytes = 0;
+}
+
+/* Reads an image into a state that has no sketch, or else into its batch. */
+static void add_image(State *state, const void *image, size_t bytes, size_t max_bytes)
+{
+    MemoryContext before = MemoryContextSwitchTo(state->context);
+    if (!state->has_sketch) {
+        read_image(state->kind, &state->handle, image, bytes, max_bytes);
+        state->has_sketch = true;
+    } else {
+        Batch *batch = state->batch;
+        if (batch == NULL) batch = state->batch = palloc0(sizeof(Batch));
+        read_image(state->kind, &batch->handles[batch->count], image, bytes, max_bytes);
+        batch->count++;
+        batch->bytes += bytes;
+        if (batch->count == MAX_IN_BATCH || batch->bytes >= BYTES_IN_BATCH) flush(state);
+    }
+    MemoryContextSwitchTo(before);
+}
+
+/* Adds a stored sketch to the state, or begins a state with it. A null is ignored. */
+static Datum add_sketch(FunctionCallInfo fcinfo, Kind kind)
+{
+    State *state = state_argument(fcinfo, 0);
+    Sketch *sketch;
+    if (PG_ARGISNULL(1)) return state_result(fcinfo, state);
+    sketch = detoast_sketch(PG_GETARG_DATUM(1), kind);
+    if (state == NULL) state = new_state(fcinfo, kind, sketch->items);
+    add_image(state, sketch->image, IMAGE_BYTES(sketch), limit_of(kind));
+    state->items |= sketch->items;
+    PG_FREE_IF_COPY(sketch, 1);
+    PG_RETURN_POINTER(state);
+}
+
+#define SKETCHES(name, kind) \
+    PG_FUNCTION_INFO_V1(name); \
+    Datum name(PG_FUNCTION_ARGS) \
+    { \
+        return add_sketch(fcinfo, kind); \
+    }
+
+SKETCHES(frequent_strings_add_sketch, FREQUENT_STRINGS)
+SKETCHES(frequent_bigints_add_sketch, FREQUENT_BIGINTS)
+SKETCHES(count_min_add_sketch, COUNT_MIN)
+SKETCHES(signed_count_min_add_sketch, SIGNED_COUNT_MIN)
+SKETCHES(bloom_filter_add_sketch, BLOOM_FILTER)
+
+/* --- The end of a group, and workers. --- */
+
+PG_FUNCTION_INFO_V1(state_final);
+
+/* Returns the state's sketch, which stays as it was, or null if there were no rows. */
+Datum state_final(PG_FUNCTION_ARGS)
+{
+    State *state = state_argument(fcinfo, 0);
+    aggregate_context(fcinfo);
+    if (state == NULL) PG_RETURN_NULL();
+    flush(state);
+    PG_RETURN_POINTER(store(state->kind, state->items, &state->handle));
+}
+
+PG_FUNCTION_INFO_V1(state_serial);
+
+/* Returns a worker's state as bytes. */
+Datum state_serial(PG_FUNCTION_ARGS)
+{
+    State *state = (State *) PG_GETARG_POINTER(0);
+    Message *message;
+    aggregate_context(fcinfo);
+    flush(state);
+    message = (Message *) write_image(state->kind, &state->handle, offsetof(Message, image));
+    message->kind = state->kind;
+    message->items = state->items;
+    memset(message->zero, 0, sizeof message->zero);
+    memcpy(message->sizes, state->sizes, sizeof message->sizes);
+    PG_RETURN_BYTEA_P(message);
+}
+
+PG_FUNCTION_INFO_V1(state_deserial);
+
+/* Returns a state that keeps a worker's bytes, which outlive it. So no sketch is made in a context that ends before the group. */
+Datum state_deserial(PG_FUNCTION_ARGS)
+{
+    Message *message = (Message *) PG_DETOAST_DATUM(PG_GETARG_DATUM(0));
+    State *state = palloc0(sizeof(State));
+    aggregate_context(fcinfo);
+    if (VARSIZE(message) < offsetof(Message, image)) elog(ERROR, "the state of a worker is too short");
+    state->kind = message->kind;
+    state->items = message->items;
+    memcpy(state->sizes, message->sizes, sizeof state->sizes);
+    state->image = message->image;
+    state->image_bytes = VARSIZE(message) - offsetof(Message, image);
+    PG_RETURN_POINTER(state);
+}
+
+PG_FUNCTION_INFO_V1(state_combine);
+
+/* Merges the state of a worker into the group's state, or begins one with it. What a worker wrote is under no limit. */
+Datum state_combine(PG_FUNCTION_ARGS)
+{
+    State *state = state_argument(fcinfo, 0), *other = state_argument(fcinfo, 1);
+    aggregate_context(fcinfo);
+    if (other == NULL) return state_result(fcinfo, state);
+    if (other->image == NULL) elog(ERROR, "a state was combined that no worker passed on");
+    if (state == NULL) {
+        state = new_state(fcinfo, other->kind, other->items);
+        memcpy(state->sizes, other->sizes, sizeof state->sizes);
+    }
+    if (state->kind != other->kind) elog(ERROR, "states of different kinds were combined");
+    if (memcmp(state->sizes, other->sizes, sizeof state->sizes) != 0) raise_sizes();
+    add_image(state, other->image, other->image_bytes, SIZE_MAX);
+    state->items |= other->items;
+    PG_RETURN_POINTER(state);
+}

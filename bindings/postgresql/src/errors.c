@@ -1,0 +1,105 @@
+/* The errors of the extension, each with its SQLSTATE.
+ *
+ * A standard SQLSTATE is used where one fits. The others are of the class SK:
+ *
+ * | SQLSTATE | error |
+ * |---|---|
+ * | SK001 | the value is no sketch, or is one of another type |
+ * | SK002 | the sketch has items of another type |
+ * | SK003 | sizes differ between rows of a group |
+ * | SK016 | two filters or two counts differ in shape or seed |
+ * | SK022 to SK041 | an image fails the check of this number in `datasketches.h`, without the sign |
+ * | 22003 | a weight is below 0, a total weight or a result is out of range |
+ * | 22004 | a size is null |
+ * | 22021 | a string is not UTF-8, or has a zero byte |
+ * | 22023 | a size, a fraction, a threshold or a mode is out of range |
+ * | 22P02, 22P03 | the text or the binary form is damaged |
+ * | 0A000 | the collation of strings is nondeterministic |
+ * | 22P05 | a string of a sketch has a character that is not in the database's encoding |
+ * | 53200 | out of memory |
+ * | 54000 | a sketch takes more than `sketches_rattle.max_image_bytes` or `sketches_rattle.max_frequent_bytes`, or more than 1 GB |
+ * | 58000 | the system has no random bytes for a key |
+ * | XX000 | an error of the extension itself |
+ * | XX001 | a stored sketch is damaged: its checksum is wrong |
+ */
+#include "extension.h"
+
+/* Returns the SQLSTATE of the class SK with this number. */
+#define SK(number) MAKE_SQLSTATE('S', 'K', '0', '0' + (number) / 10, '0' + (number) % 10)
+
+/* Results of the library with a standard SQLSTATE. */
+static const struct {
+    int32_t result;
+    int state;
+} states[] = {
+    {DS_NO_MEMORY, ERRCODE_OUT_OF_MEMORY},
+    {DS_NO_RANDOM, ERRCODE_SYSTEM_ERROR},
+    {DS_TABLE_TOO_LARGE, ERRCODE_PROGRAM_LIMIT_EXCEEDED},
+    {DS_ITEM_TOO_LONG, ERRCODE_PROGRAM_LIMIT_EXCEEDED},
+    {DS_WEIGHT_OVERFLOW, ERRCODE_NUMERIC_VALUE_OUT_OF_RANGE},
+    {DS_INVALID_UTF8, ERRCODE_CHARACTER_NOT_IN_REPERTOIRE},
+    {DS_BAD_NUM_BITS, ERRCODE_INVALID_PARAMETER_VALUE},
+    {DS_BAD_NUM_HASHES, ERRCODE_INVALID_PARAMETER_VALUE},
+    {DS_BAD_NUM_BUCKETS, ERRCODE_INVALID_PARAMETER_VALUE},
+    {DS_MAP_SIZE_NOT_POWER_OF_TWO, ERRCODE_INVALID_PARAMETER_VALUE},
+    {DS_MAP_SIZE_TOO_SMALL, ERRCODE_INVALID_PARAMETER_VALUE},
+    {DS_MAP_SIZE_TOO_LARGE, ERRCODE_INVALID_PARAMETER_VALUE},
+};
+
+/* Returns the SQLSTATE of a result below 0: a standard one, one of the class SK for a mismatch and for checks of images, or
+ * that of an internal error. */
+static int state_of(int32_t result)
+{
+    for (size_t i = 0; i < lengthof(states); i++)
+        if (states[i].result == result) return states[i].state;
+    if (result == DS_MISMATCH || (result <= DS_INSUFFICIENT_DATA && result >= DS_BAD_ITEM)) return SK(-result);
+    return ERRCODE_INTERNAL_ERROR;
+}
+
+#define LIMITS "The limits are sketches_rattle.max_image_bytes and sketches_rattle.max_frequent_bytes."
+
+void raise_result(int32_t result)
+{
+    ereport(ERROR, (errcode(state_of(result)), errmsg("%s", ds_result_message(result)),
+                    errdetail("The library returned %s.", ds_result_name(result)),
+                    result == DS_TABLE_TOO_LARGE ? errhint(LIMITS) : 0));
+    pg_unreachable();
+}
+
+void raise_argument(const char *message)
+{
+    ereport(ERROR, (errcode(ERRCODE_INVALID_PARAMETER_VALUE), errmsg("%s", message)));
+    pg_unreachable();
+}
+
+void raise_items(const char *message)
+{
+    ereport(ERROR, (errcode(SK(2)), errmsg("%s", message)));
+    pg_unreachable();
+}
+
+void raise_kind(const char *message)
+{
+    ereport(ERROR, (errcode(SK(1)), errmsg("%s", message)));
+    pg_unreachable();
+}
+
+void raise_sizes(void)
+{
+    ereport(ERROR, (errcode(SK(3)), errmsg("the sizes of a sketch differ between rows of a group")));
+    pg_unreachable();
+}
+
+void raise_limit(uint64 bytes)
+{
+    ereport(ERROR, (errcode(ERRCODE_PROGRAM_LIMIT_EXCEEDED),
+                    errmsg("a sketch of " UINT64_FORMAT " bytes exceeds the limit", bytes),
+                    errhint(LIMITS)));
+    pg_unreachable();
+}
+
+int64 as_bigint(uint64 number)
+{
+    if (number > PG_INT64_MAX) ereport(ERROR, (errcode(ERRCODE_NUMERIC_VALUE_OUT_OF_RANGE), errmsg("bigint out of range")));
+    return (int64) number;
+}

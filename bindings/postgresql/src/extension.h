@@ -1,0 +1,176 @@
+/* Declarations that the files of the extension share. */
+#ifndef EXTENSION_H
+#define EXTENSION_H
+
+#include "postgres.h"
+
+#include "access/tupdesc.h"
+#include "fmgr.h"
+#include "mb/pg_wchar.h"
+#if PG_VERSION_NUM >= 160000
+#include "varatt.h"
+#endif
+
+#include "datasketches.h"
+
+/* A bigint, a number with fraction and a pointer each fit a Datum: the library is built for 64 bits. */
+StaticAssertDecl(SIZEOF_DATUM == 8, "a Datum has 64 bits");
+
+/* The seed under which filters and counts hash: the library's default. */
+#define DEFAULT_SEED 9001
+#define DEFAULT_MAX_MAP_SIZE 1024
+
+/* PostgreSQL loads libraries with RTLD_GLOBAL, so what only these files share is hidden. */
+#pragma GCC visibility push(hidden)
+
+/* --- heap.c --- */
+
+/* Makes the library allocate from memory contexts: each call from the context that is current then. */
+void set_allocator(void);
+
+/* --- errors.c --- */
+
+/* Raises the error of a result below 0. */
+void raise_result(int32_t result) pg_attribute_noreturn();
+
+/* Raises an error of an argument: 22023, with this message. */
+void raise_argument(const char *message) pg_attribute_noreturn();
+
+/* Raises an error of items: a sketch of one type of items was used as one of another type. */
+void raise_items(const char *message) pg_attribute_noreturn();
+
+/* Raises an error of a value that is no sketch of this type. */
+void raise_kind(const char *message) pg_attribute_noreturn();
+
+/* Raises the error of sizes that differ between rows of a group. */
+void raise_sizes(void) pg_attribute_noreturn();
+
+/* Raises the error of a sketch that takes more than its limit, or more than PostgreSQL stores. */
+void raise_limit(uint64 bytes) pg_attribute_noreturn();
+
+static inline void check_result(int32_t result)
+{
+    if (unlikely(result < 0)) raise_result(result);
+}
+
+/* Returns a number of the library as a bigint. Raises 22003 if it is above the greatest bigint. */
+int64 as_bigint(uint64 number);
+
+/* --- sketch.c --- */
+
+/* The kinds of sketches, a type each. The numbers are stored. */
+typedef enum Kind {
+    FREQUENT_STRINGS = 1,
+    FREQUENT_BIGINTS = 2,
+    COUNT_MIN = 3,
+    SIGNED_COUNT_MIN = 4,
+    BLOOM_FILTER = 5
+} Kind;
+
+/* The types of a sketch's items, as bits. Filters and counts may have both. The numbers are stored. */
+enum { STRINGS = 1, BIGINTS = 2 };
+
+/* A stored sketch: a header and the image that all interfaces of the library read and write. */
+typedef struct Sketch {
+    int32 length;      /* PostgreSQL's own: of the whole */
+    uint8 format[4];   /* "SKR" and the version of this format */
+    uint8 kind;
+    uint8 items;
+    uint8 zero[2];
+    uint8 checksum[4]; /* the CRC-32C of the bytes from `format` up to here, and of the image; lowest byte first */
+    uint8 image[FLEXIBLE_ARRAY_MEMBER];
+} Sketch;
+
+#define IMAGE_BYTES(sketch) (VARSIZE(sketch) - offsetof(Sketch, image))
+
+/* The most bytes that a sketch may take, by the formula of `ds_memory_bytes`, which counts strings. Frequent items keep to both
+ * limits. No interrupt is checked during a call of the library, and their calls take longer: the default keeps them below 100 ms. */
+extern int max_image_bytes;
+extern int max_frequent_bytes;
+
+/* Returns the limit of a kind. */
+static inline size_t limit_of(Kind kind)
+{
+    bool is_frequent = kind == FREQUENT_STRINGS || kind == FREQUENT_BIGINTS;
+    return is_frequent ? Min(max_image_bytes, max_frequent_bytes) : max_image_bytes;
+}
+
+/* Raises an error if a sketch of these bytes exceeds the limit of its kind. */
+static inline void check_bytes(Kind kind, uint64 bytes)
+{
+    if (bytes > limit_of(kind)) raise_limit(bytes);
+}
+
+/* Reads an image into a handle that has no sketch, in the current context. `max_bytes` limits what the sketch takes. */
+void read_image(Kind kind, ds_sketch *handle, const void *image, size_t length, size_t max_bytes);
+
+/* Writes the image of a handle's sketch after a header of so many bytes. Returns the whole as a new varlena. */
+struct varlena *write_image(Kind kind, ds_sketch *handle, size_t header);
+
+/* Merges other sketches of the kind into the handle's. Allocates in the current context. Returns the library's result. */
+int32_t merge_all(Kind kind, ds_sketch *handle, ds_sketch *others, size_t count);
+
+/* Raises an error if a handle's sketch takes more than the limit of its kind. */
+void check_limit(Kind kind, ds_sketch *handle);
+
+/* Returns a stored sketch from a handle. Raises an error if the sketch exceeds the limit. */
+Sketch *store(Kind kind, uint8 items, ds_sketch *handle);
+
+/* Returns a stored sketch, detoasted. Raises an error if its header or its checksum is wrong. */
+Sketch *detoast_sketch(Datum datum, Kind kind);
+
+/* Reads a stored sketch, whose checksum was verified, into a handle that has no sketch. */
+void load(Sketch *sketch, ds_sketch *handle);
+
+/* The encoding of the database, or -1 if no string was read yet. */
+extern int database_encoding;
+
+/* Returns a string of the database in UTF-8. */
+ds_string converted(ds_string string);
+
+/* Returns an argument's string in UTF-8, whatever the database's encoding is. */
+static inline ds_string string_argument(FunctionCallInfo fcinfo, int number)
+{
+    struct varlena *argument = PG_GETARG_RAW_VARLENA_P(number);
+    ds_string string;
+    if (unlikely(VARATT_IS_COMPRESSED(argument) || VARATT_IS_EXTERNAL(argument))) argument = PG_DETOAST_DATUM_PACKED(argument);
+    string.bytes = (const uint8_t *) VARDATA_ANY(argument);
+    string.length = VARSIZE_ANY_EXHDR(argument);
+    return likely(database_encoding == PG_UTF8) ? string : converted(string);
+}
+
+/* Raises an error if the call's collation takes different bytes for equal, since sketches compare strings by their bytes. */
+void check_collation(FunctionCallInfo fcinfo);
+
+/* --- kept.c --- */
+
+/* A sketch that a function keeps from row to row. `handle` has it only if `is_loaded`. */
+typedef struct Kept {
+    MemoryContext context;
+    const void *address;
+    size_t key_bytes;
+    void *key;
+    Sketch *sketch;
+    bool is_loaded;
+    ds_sketch handle;
+} Kept;
+
+/* Returns the sketch that is the call's first argument, verified. The function keeps its last sketches, so a sketch that comes
+ * at many rows is detoasted and verified once. */
+Kept *kept_argument(FunctionCallInfo fcinfo, Kind kind);
+
+/* The same, and its handle has the sketch. */
+Kept *kept_handle(FunctionCallInfo fcinfo, Kind kind);
+
+/* Returns a row of the call's result type. The call has called `kept_argument` before. */
+Datum kept_row(FunctionCallInfo fcinfo, Datum *values, bool *nulls);
+
+/* Raises an error unless the sketch may have items of this type. */
+void check_items(const Sketch *sketch, uint8 items);
+
+/* Returns the types of a sketch's items as a text: 'strings', 'bigints' or 'strings or bigints'. */
+Datum items_name(const Sketch *sketch);
+
+#pragma GCC visibility pop
+
+#endif

@@ -1,0 +1,206 @@
+/* Queries of frequent items: bounds, rows and status. */
+#include "extension.h"
+
+#include "funcapi.h"
+#include "miscadmin.h"
+#include "utils/builtins.h"
+#include "utils/memutils.h"
+#include "utils/tuplestore.h"
+
+/* --- Bounds of an item. --- */
+
+/* Returns the bounds of the call's item. */
+static ds_frequent_items_bounds bounds_of(FunctionCallInfo fcinfo, Kind kind)
+{
+    Kept *kept = kept_handle(fcinfo, kind);
+    ds_frequent_items_bounds bounds = {0, 0, 0};
+    int32_t result;
+    if (kind == FREQUENT_STRINGS) {
+        ds_string item = string_argument(fcinfo, 1);
+        result = ds_frequent_items_string_bounds(&kept->handle, item.bytes, item.length, &bounds);
+    } else {
+        result = ds_frequent_items_i64_bounds(&kept->handle, PG_GETARG_INT64(1), &bounds);
+    }
+    check_result(result);
+    return bounds;
+}
+
+/* Returns the bounds of an item as a row. */
+static Datum bounds_row(FunctionCallInfo fcinfo, Kind kind)
+{
+    ds_frequent_items_bounds bounds = bounds_of(fcinfo, kind);
+    bool nulls[3] = {false, false, false};
+    Datum values[3];
+    values[0] = Int64GetDatum(as_bigint(bounds.lower_bound));
+    values[1] = Int64GetDatum(as_bigint(bounds.estimate));
+    values[2] = Int64GetDatum(as_bigint(bounds.upper_bound));
+    return kept_row(fcinfo, values, nulls);
+}
+
+/* --- Rows. --- */
+
+/* Begins a result of many rows, which are stored before the call returns. */
+static Tuplestorestate *begin_rows(FunctionCallInfo fcinfo, TupleDesc *row)
+{
+    ReturnSetInfo *result = (ReturnSetInfo *) fcinfo->resultinfo;
+    MemoryContext before;
+    if (result == NULL || !IsA(result, ReturnSetInfo) || (result->allowedModes & SFRM_Materialize) == 0)
+        ereport(ERROR, (errcode(ERRCODE_FEATURE_NOT_SUPPORTED),
+                        errmsg("the function returns rows in a place that takes none")));
+    before = MemoryContextSwitchTo(result->econtext->ecxt_per_query_memory);
+    if (get_call_result_type(fcinfo, NULL, row) != TYPEFUNC_COMPOSITE) elog(ERROR, "return type must be a row type");
+    result->returnMode = SFRM_Materialize;
+    result->setDesc = *row;
+    result->setResult = tuplestore_begin_heap((result->allowedModes & SFRM_Materialize_Random) != 0, false, work_mem);
+    MemoryContextSwitchTo(before);
+    return result->setResult;
+}
+
+/* Returns whether the mode asks for no false negatives. */
+static bool no_false_negatives(FunctionCallInfo fcinfo)
+{
+    char *mode = text_to_cstring(PG_GETARG_TEXT_PP(1));
+    if (strcmp(mode, "no_false_negatives") == 0) return true;
+    if (strcmp(mode, "no_false_positives") == 0) return false;
+    raise_argument("the mode must be no_false_negatives or no_false_positives");
+}
+
+/* Returns a string of a sketch in the database's encoding. */
+static Datum string_value(const uint8_t *bytes, size_t length)
+{
+    char *own = pg_any_to_server((const char *) bytes, (int) length, PG_UTF8);
+    size_t own_length = own == (const char *) bytes ? length : strlen(own);
+    Datum value = PointerGetDatum(cstring_to_text_with_len(own, (int) own_length));
+    if (own != (const char *) bytes) pfree(own);
+    return value;
+}
+
+/* The rows of a sketch, as the library writes them. */
+typedef struct Rows {
+    size_t count;
+    ds_frequent_items_bounds *bounds;
+    int64_t *bigints;
+    uint8_t *bytes;
+    uint64_t *offsets;
+} Rows;
+
+/* Allocates room for a number of values. */
+static void *room_for(size_t count, size_t bytes)
+{
+    return palloc_extended((count + 1) * bytes, MCXT_ALLOC_HUGE);
+}
+
+/* Returns the rows of a sketch of bigints. */
+static Rows bigint_rows(ds_sketch *handle, bool negatives, uint64 threshold)
+{
+    ds_frequent_items_status status = {0};
+    Rows rows = {0};
+    check_result(ds_frequent_items_i64_get_status(handle, &status));
+    rows.bounds = room_for(status.num_active_items, sizeof *rows.bounds);
+    rows.bigints = room_for(status.num_active_items, sizeof *rows.bigints);
+    check_result(ds_frequent_items_i64_rows(handle, negatives, threshold, rows.bigints, status.num_active_items, rows.bounds,
+                                            status.num_active_items, &rows.count));
+    return rows;
+}
+
+/* Returns the rows of a sketch of strings, whose bytes take at most `num_bytes`. */
+static Rows string_rows(ds_sketch *handle, bool negatives, uint64 threshold, size_t num_bytes)
+{
+    ds_frequent_items_status status = {0};
+    Rows rows = {0};
+    check_result(ds_frequent_items_string_get_status(handle, &status));
+    rows.bounds = room_for(status.num_active_items, sizeof *rows.bounds);
+    rows.offsets = room_for(status.num_active_items + 1, sizeof *rows.offsets);
+    rows.bytes = room_for(num_bytes, 1);
+    check_result(ds_frequent_items_string_rows(handle, negatives, threshold, rows.bytes, num_bytes, rows.offsets,
+                                               status.num_active_items + 1, rows.bounds, status.num_active_items, &rows.count,
+                                               &num_bytes));
+    return rows;
+}
+
+/* Puts the rows of a sketch into the call's result, in descending order of estimates. */
+static Datum rows_of(FunctionCallInfo fcinfo, Kind kind)
+{
+    bool negatives = no_false_negatives(fcinfo), nulls[4] = {false, false, false, false};
+    int64 threshold = PG_GETARG_INT64(2);
+    ds_sketch handle = DS_NONE;
+    TupleDesc row;
+    Tuplestorestate *store;
+    Sketch *sketch;
+    Rows rows;
+    if (threshold < 0) raise_argument("the threshold must not be below 0");
+    store = begin_rows(fcinfo, &row);
+    sketch = detoast_sketch(PG_GETARG_DATUM(0), kind);
+    load(sketch, &handle);
+    rows = kind == FREQUENT_STRINGS ? string_rows(&handle, negatives, threshold, IMAGE_BYTES(sketch))
+                                    : bigint_rows(&handle, negatives, threshold);
+    ds_free(&handle);
+    for (size_t i = 0; i < rows.count; i++) {
+        Datum values[4];
+        CHECK_FOR_INTERRUPTS();
+        values[0] = kind == FREQUENT_STRINGS
+                        ? string_value(rows.bytes + rows.offsets[i], rows.offsets[i + 1] - rows.offsets[i])
+                        : Int64GetDatum(rows.bigints[i]);
+        values[1] = Int64GetDatum(as_bigint(rows.bounds[i].estimate));
+        values[2] = Int64GetDatum(as_bigint(rows.bounds[i].lower_bound));
+        values[3] = Int64GetDatum(as_bigint(rows.bounds[i].upper_bound));
+        tuplestore_putvalues(store, row, values, nulls);
+        if (kind == FREQUENT_STRINGS) pfree(DatumGetPointer(values[0]));
+    }
+    return (Datum) 0;
+}
+
+/* --- Status. --- */
+
+/* Returns a sketch's numbers as a row. */
+static Datum status_of(FunctionCallInfo fcinfo, Kind kind)
+{
+    Kept *kept = kept_handle(fcinfo, kind);
+    ds_frequent_items_status status = {0};
+    bool nulls[6] = {false, false, false, false, false, false};
+    Datum values[6];
+    if (kind == FREQUENT_STRINGS) check_result(ds_frequent_items_string_get_status(&kept->handle, &status));
+    else check_result(ds_frequent_items_i64_get_status(&kept->handle, &status));
+    values[0] = Int64GetDatum(as_bigint(status.total_weight));
+    values[1] = Int64GetDatum(as_bigint(status.maximum_error));
+    values[2] = Int64GetDatum(as_bigint(status.num_active_items));
+    values[3] = Int64GetDatum(as_bigint(status.maximum_map_capacity));
+    values[4] = Int64GetDatum(as_bigint(status.current_map_capacity));
+    values[5] = Int64GetDatum(as_bigint(status.max_map_size));
+    return kept_row(fcinfo, values, nulls);
+}
+
+#define QUERIES(type, kind) \
+    PG_FUNCTION_INFO_V1(type##_lower_bound); \
+    Datum type##_lower_bound(PG_FUNCTION_ARGS) \
+    { \
+        PG_RETURN_INT64(as_bigint(bounds_of(fcinfo, kind).lower_bound)); \
+    } \
+    PG_FUNCTION_INFO_V1(type##_estimate); \
+    Datum type##_estimate(PG_FUNCTION_ARGS) \
+    { \
+        PG_RETURN_INT64(as_bigint(bounds_of(fcinfo, kind).estimate)); \
+    } \
+    PG_FUNCTION_INFO_V1(type##_upper_bound); \
+    Datum type##_upper_bound(PG_FUNCTION_ARGS) \
+    { \
+        PG_RETURN_INT64(as_bigint(bounds_of(fcinfo, kind).upper_bound)); \
+    } \
+    PG_FUNCTION_INFO_V1(type##_bounds); \
+    Datum type##_bounds(PG_FUNCTION_ARGS) \
+    { \
+        return bounds_row(fcinfo, kind); \
+    } \
+    PG_FUNCTION_INFO_V1(type##_rows); \
+    Datum type##_rows(PG_FUNCTION_ARGS) \
+    { \
+        return rows_of(fcinfo, kind); \
+    } \
+    PG_FUNCTION_INFO_V1(type##_status); \
+    Datum type##_status(PG_FUNCTION_ARGS) \
+    { \
+        return status_of(fcinfo, kind); \
+    }
+
+QUERIES(frequent_strings, FREQUENT_STRINGS)
+QUERIES(frequent_bigints, FREQUENT_BIGINTS)

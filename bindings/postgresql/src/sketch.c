@@ -1,0 +1,459 @@
+/* Stored sketches: the calls of each kind, the header with its checksum, and the text, binary and bytea forms. */
+#include "extension.h"
+
+#include "common/base64.h"
+#include "common/hashfn.h"
+#include "libpq/pqformat.h"
+#include "miscadmin.h"
+#include "port/pg_crc32c.h"
+#include "utils/builtins.h"
+#include "utils/lsyscache.h"
+#include "utils/memutils.h"
+
+/* --- The calls of each kind. --- */
+
+/* Returns the library's result of reading an image. */
+static int32_t deserialize(Kind kind, ds_sketch *handle, const uint8_t *image, size_t length, size_t max_bytes)
+{
+    switch (kind) {
+    case FREQUENT_STRINGS: return ds_frequent_items_string_deserialize(handle, image, length, max_bytes);
+    case FREQUENT_BIGINTS: return ds_frequent_items_i64_deserialize(handle, image, length, max_bytes);
+    case COUNT_MIN: return ds_count_min_u64_deserialize(handle, image, length, DEFAULT_SEED, max_bytes);
+    case SIGNED_COUNT_MIN: return ds_count_min_i64_deserialize(handle, image, length, DEFAULT_SEED, max_bytes);
+    case BLOOM_FILTER: return ds_bloom_deserialize(handle, image, length, max_bytes);
+    }
+    return DS_WRONG_KIND;
+}
+
+/* Returns the library's result of writing an image. */
+static int32_t serialize(Kind kind, ds_sketch *handle, uint8_t *out, size_t capacity, size_t *written)
+{
+    switch (kind) {
+    case FREQUENT_STRINGS: return ds_frequent_items_string_serialize(handle, out, capacity, written);
+    case FREQUENT_BIGINTS: return ds_frequent_items_i64_serialize(handle, out, capacity, written);
+    case COUNT_MIN: return ds_count_min_u64_serialize(handle, out, capacity, written);
+    case SIGNED_COUNT_MIN: return ds_count_min_i64_serialize(handle, out, capacity, written);
+    case BLOOM_FILTER: return ds_bloom_serialize(handle, out, capacity, written);
+    }
+    return DS_WRONG_KIND;
+}
+
+/* Writes the length of the image of frequent items: the library writes it if a buffer is too short. */
+static int32_t frequent_bytes(Kind kind, ds_sketch *handle, size_t *bytes)
+{
+    int32_t result = serialize(kind, handle, NULL, 0, bytes);
+    return result == DS_NO_ROOM ? DS_OK : result;
+}
+
+/* Writes the length of a sketch's image. */
+static int32_t serialized_bytes(Kind kind, ds_sketch *handle, size_t *bytes)
+{
+    switch (kind) {
+    case FREQUENT_STRINGS:
+    case FREQUENT_BIGINTS: return frequent_bytes(kind, handle, bytes);
+    case COUNT_MIN: return ds_count_min_u64_serialized_bytes(handle, bytes);
+    case SIGNED_COUNT_MIN: return ds_count_min_i64_serialized_bytes(handle, bytes);
+    case BLOOM_FILTER: return ds_bloom_serialized_bytes(handle, bytes);
+    }
+    return DS_WRONG_KIND;
+}
+
+int32_t merge_all(Kind kind, ds_sketch *handle, ds_sketch *others, size_t count)
+{
+    switch (kind) {
+    case FREQUENT_STRINGS: return ds_frequent_items_string_merge_all(handle, others, count);
+    case FREQUENT_BIGINTS: return ds_frequent_items_i64_merge_all(handle, others, count);
+    case COUNT_MIN: return ds_count_min_u64_merge_all(handle, others, count);
+    case SIGNED_COUNT_MIN: return ds_count_min_i64_merge_all(handle, others, count);
+    case BLOOM_FILTER: return ds_bloom_union_all(handle, others, count);
+    }
+    return DS_WRONG_KIND;
+}
+
+void read_image(Kind kind, ds_sketch *handle, const void *image, size_t length, size_t max_bytes)
+{
+    check_result(deserialize(kind, handle, image, length, max_bytes));
+    CHECK_FOR_INTERRUPTS();
+}
+
+struct varlena *write_image(Kind kind, ds_sketch *handle, size_t header)
+{
+    struct varlena *whole;
+    size_t bytes = 0;
+    check_result(serialized_bytes(kind, handle, &bytes));
+    if (bytes > MaxAllocSize - header) raise_limit(bytes);
+    whole = palloc_extended(header + bytes, MCXT_ALLOC_HUGE);
+    check_result(serialize(kind, handle, (uint8_t *) whole + header, bytes, &bytes));
+    SET_VARSIZE(whole, header + bytes);
+    CHECK_FOR_INTERRUPTS();
+    return whole;
+}
+
+/* --- The header. --- */
+
+static const uint8 format[4] = {'S', 'K', 'R', 1};
+
+/* The checksum of a large sketch is computed in blocks, and interrupts are checked between them. */
+#define BLOCK (16 * 1024 * 1024)
+
+/* Returns the checksum of a sketch: the CRC-32C, for which processors have an instruction. */
+static pg_crc32c checksum_of(const Sketch *sketch)
+{
+    size_t length = IMAGE_BYTES(sketch);
+    pg_crc32c crc;
+    INIT_CRC32C(crc);
+    COMP_CRC32C(crc, sketch->format, offsetof(Sketch, checksum) - offsetof(Sketch, format));
+    for (size_t start = 0; start < length; start += BLOCK) {
+        COMP_CRC32C(crc, sketch->image + start, Min(length - start, BLOCK));
+        CHECK_FOR_INTERRUPTS();
+    }
+    FIN_CRC32C(crc);
+    return crc;
+}
+
+/* Writes the header of a sketch whose image is written. */
+static Sketch *finish(struct varlena *whole, Kind kind, uint8 items)
+{
+    Sketch *sketch = (Sketch *) whole;
+    pg_crc32c crc;
+    memcpy(sketch->format, format, sizeof format);
+    sketch->kind = kind;
+    sketch->items = items;
+    memset(sketch->zero, 0, sizeof sketch->zero);
+    crc = checksum_of(sketch);
+    for (int i = 0; i < 4; i++) sketch->checksum[i] = crc >> 8 * i & 0xff;
+    return sketch;
+}
+
+/* Returns whether a header is one that this version writes for the kind. */
+static bool has_header(const Sketch *sketch, Kind kind)
+{
+    bool has_both = kind == COUNT_MIN || kind == SIGNED_COUNT_MIN || kind == BLOOM_FILTER;
+    if (VARSIZE(sketch) < offsetof(Sketch, image)) return false;
+    if (memcmp(sketch->format, format, sizeof format) != 0 || sketch->kind != kind) return false;
+    if (sketch->zero[0] != 0 || sketch->zero[1] != 0) return false;
+    if (has_both) return sketch->items >= STRINGS && sketch->items <= (STRINGS | BIGINTS);
+    return sketch->items == (kind == FREQUENT_STRINGS ? STRINGS : BIGINTS);
+}
+
+/* Returns whether the stored checksum is that of the sketch. */
+static bool has_checksum(const Sketch *sketch)
+{
+    pg_crc32c crc = checksum_of(sketch);
+    for (int i = 0; i < 4; i++)
+        if (sketch->checksum[i] != (crc >> 8 * i & 0xff)) return false;
+    return true;
+}
+
+Sketch *detoast_sketch(Datum datum, Kind kind)
+{
+    Sketch *sketch = (Sketch *) PG_DETOAST_DATUM(datum);
+    if (!has_header(sketch, kind) || !has_checksum(sketch))
+        ereport(ERROR, (errcode(ERRCODE_DATA_CORRUPTED), errmsg("a stored sketch is damaged")));
+    return sketch;
+}
+
+void load(Sketch *sketch, ds_sketch *handle)
+{
+    read_image(sketch->kind, handle, sketch->image, IMAGE_BYTES(sketch), limit_of(sketch->kind));
+}
+
+/* The bytes are those that `deserialize` counts, which adds 4 for the length of each string. */
+void check_limit(Kind kind, ds_sketch *handle)
+{
+    ds_frequent_items_status status = {0};
+    size_t bytes = 0;
+    check_result(ds_memory_bytes(handle, &bytes));
+    if (kind == FREQUENT_STRINGS) check_result(ds_frequent_items_string_get_status(handle, &status));
+    check_bytes(kind, bytes + 4 * status.num_active_items);
+}
+
+Sketch *store(Kind kind, uint8 items, ds_sketch *handle)
+{
+    check_limit(kind, handle);
+    return finish(write_image(kind, handle, offsetof(Sketch, image)), kind, items);
+}
+
+/* --- Forms. --- */
+
+/* Returns a stored sketch from an image that may be untrusted. Frequent items keep the bytes of the image, since the order of
+ * items changes when an image is written again. Filters and counts get the bytes that the library writes, so equal ones have
+ * equal images. */
+static Sketch *import_image(Kind kind, uint8 items, const void *image, size_t length)
+{
+    ds_sketch handle = DS_NONE;
+    Sketch *sketch;
+    read_image(kind, &handle, image, length, limit_of(kind));
+    sketch = store(kind, items, &handle);
+    ds_free(&handle);
+    if (kind != FREQUENT_STRINGS && kind != FREQUENT_BIGINTS) return sketch;
+    if (IMAGE_BYTES(sketch) != length) return sketch;
+    memcpy(sketch->image, image, length);
+    return finish((struct varlena *) sketch, kind, items);
+}
+
+/* Returns a stored sketch from the bytes after a sketch's length, which may be untrusted. `damaged` is the SQLSTATE of an error. */
+static Sketch *import(Kind kind, const void *bytes, size_t length, int damaged)
+{
+    Sketch *sketch, *imported;
+    if (length > MaxAllocSize - VARHDRSZ) raise_limit(length);
+    sketch = palloc(VARHDRSZ + length);
+    SET_VARSIZE(sketch, VARHDRSZ + length);
+    memcpy(VARDATA(sketch), bytes, length);
+    if (!has_header(sketch, kind)) raise_kind("the value is not a sketch of this type");
+    if (!has_checksum(sketch)) ereport(ERROR, (errcode(damaged), errmsg("the sketch is damaged: its checksum is wrong")));
+    imported = import_image(kind, sketch->items, sketch->image, IMAGE_BYTES(sketch));
+    pfree(sketch);
+    return imported;
+}
+
+/* The text form is base64, which is converted in blocks of so many bytes, with interrupts checked between them. */
+#define BYTES_IN_BLOCK (3 * 1024 * 1024)
+#define LETTERS_IN_BLOCK (4 * 1024 * 1024)
+
+/* Returns a sketch from its text form. */
+static Datum type_in(FunctionCallInfo fcinfo, Kind kind)
+{
+    const char *text = PG_GETARG_CSTRING(0);
+    size_t length = strcspn(text, " \t\n\r"), written = 0;
+    char *bytes = palloc(length / 4 * 3 + 3);
+    Sketch *sketch;
+    if (text[length] != '\0') ereport(ERROR, (errcode(ERRCODE_INVALID_TEXT_REPRESENTATION), errmsg("the sketch is not base64")));
+    for (size_t start = 0; start < length; start += LETTERS_IN_BLOCK) {
+        int part = pg_b64_decode(text + start, (int) Min(length - start, LETTERS_IN_BLOCK), bytes + written,
+                                 (int) (length / 4 * 3 + 3 - written));
+        if (part < 0) ereport(ERROR, (errcode(ERRCODE_INVALID_TEXT_REPRESENTATION), errmsg("the sketch is not base64")));
+        written += part;
+        CHECK_FOR_INTERRUPTS();
+    }
+    sketch = import(kind, bytes, written, ERRCODE_INVALID_TEXT_REPRESENTATION);
+    pfree(bytes);
+    PG_RETURN_POINTER(sketch);
+}
+
+/* Returns the sketch of an argument for its forms: its own kind, verified. */
+static Sketch *any_sketch(FunctionCallInfo fcinfo)
+{
+    struct varlena *sketch = PG_DETOAST_DATUM(PG_GETARG_DATUM(0));
+    if (VARSIZE(sketch) < offsetof(Sketch, image))
+        ereport(ERROR, (errcode(ERRCODE_DATA_CORRUPTED), errmsg("a stored sketch is damaged")));
+    return detoast_sketch(PointerGetDatum(sketch), ((Sketch *) sketch)->kind);
+}
+
+PG_FUNCTION_INFO_V1(sketch_out);
+
+/* Returns the text form of a sketch: base64 of the bytes after its length. */
+Datum sketch_out(PG_FUNCTION_ARGS)
+{
+    Sketch *sketch = any_sketch(fcinfo);
+    const char *bytes = VARDATA(sketch);
+    size_t length = VARSIZE(sketch) - VARHDRSZ, capacity = (length + 2) / 3 * 4, written = 0;
+    char *text;
+    if (capacity >= MaxAllocSize) raise_limit(length);
+    text = palloc(capacity + 1);
+    for (size_t start = 0; start < length; start += BYTES_IN_BLOCK) {
+        int part = pg_b64_encode(bytes + start, (int) Min(length - start, BYTES_IN_BLOCK), text + written,
+                                 (int) (capacity - written));
+        if (part < 0) elog(ERROR, "base64 has no room");
+        written += part;
+        CHECK_FOR_INTERRUPTS();
+    }
+    text[written] = '\0';
+    PG_RETURN_CSTRING(text);
+}
+
+/* Returns a sketch from its binary form, which is the bytes after its length. */
+static Datum type_recv(FunctionCallInfo fcinfo, Kind kind)
+{
+    StringInfo message = (StringInfo) PG_GETARG_POINTER(0);
+    int length = message->len - message->cursor;
+    PG_RETURN_POINTER(import(kind, pq_getmsgbytes(message, length), length, ERRCODE_INVALID_BINARY_REPRESENTATION));
+}
+
+/* Returns a copy of bytes as a bytea. */
+static bytea *bytea_of(const void *bytes, size_t length)
+{
+    bytea *copy = palloc(VARHDRSZ + length);
+    SET_VARSIZE(copy, VARHDRSZ + length);
+    memcpy(VARDATA(copy), bytes, length);
+    return copy;
+}
+
+PG_FUNCTION_INFO_V1(sketch_send);
+
+/* Returns the binary form of a sketch, which is also its bytea form: the bytes after its length. */
+Datum sketch_send(PG_FUNCTION_ARGS)
+{
+    Sketch *sketch = any_sketch(fcinfo);
+    PG_RETURN_BYTEA_P(bytea_of(VARDATA(sketch), VARSIZE(sketch) - VARHDRSZ));
+}
+
+/* Returns a sketch from its bytea form. */
+static Datum type_from_bytea(FunctionCallInfo fcinfo, Kind kind)
+{
+    bytea *bytes = PG_GETARG_BYTEA_PP(0);
+    PG_RETURN_POINTER(import(kind, VARDATA_ANY(bytes), VARSIZE_ANY_EXHDR(bytes), ERRCODE_INVALID_BINARY_REPRESENTATION));
+}
+
+PG_FUNCTION_INFO_V1(sketch_image);
+
+/* Returns the image of a sketch, which all interfaces of the library read. */
+Datum sketch_image(PG_FUNCTION_ARGS)
+{
+    Sketch *sketch = any_sketch(fcinfo);
+    PG_RETURN_BYTEA_P(bytea_of(sketch->image, IMAGE_BYTES(sketch)));
+}
+
+/* Returns a sketch from an image, which may be untrusted. An image of a filter or of counts does not say the type of its items,
+ * so the sketch may have both. */
+static Datum type_from_image(FunctionCallInfo fcinfo, Kind kind)
+{
+    bytea *image = PG_GETARG_BYTEA_PP(0);
+    uint8 items = kind == FREQUENT_STRINGS ? STRINGS : kind == FREQUENT_BIGINTS ? BIGINTS : STRINGS | BIGINTS;
+    PG_RETURN_POINTER(import_image(kind, items, VARDATA_ANY(image), VARSIZE_ANY_EXHDR(image)));
+}
+
+#define FUNCTION(name, call, kind) \
+    PG_FUNCTION_INFO_V1(name); \
+    Datum name(PG_FUNCTION_ARGS) \
+    { \
+        return call(fcinfo, kind); \
+    }
+#define FORMS(type, kind) \
+    FUNCTION(type##_in, type_in, kind) \
+    FUNCTION(type##_recv, type_recv, kind) \
+    FUNCTION(type##_from_bytea, type_from_bytea, kind) \
+    FUNCTION(type##_from_image, type_from_image, kind)
+
+FORMS(frequent_strings, FREQUENT_STRINGS)
+FORMS(frequent_bigints, FREQUENT_BIGINTS)
+FORMS(count_min, COUNT_MIN)
+FORMS(signed_count_min, SIGNED_COUNT_MIN)
+FORMS(bloom_filter, BLOOM_FILTER)
+
+/* --- Arguments. --- */
+
+int database_encoding = -1;
+
+ds_string converted(ds_string string)
+{
+    char *utf8;
+    database_encoding = GetDatabaseEncoding();
+    utf8 = pg_server_to_any((const char *) string.bytes, (int) string.length, PG_UTF8);
+    if (utf8 == (const char *) string.bytes) return string;
+    return (ds_string) {(const uint8_t *) utf8, strlen(utf8)};
+}
+
+void check_collation(FunctionCallInfo fcinfo)
+{
+    Oid collation = PG_GET_COLLATION();
+    if (OidIsValid(collation) && !get_collation_isdeterministic(collation))
+        ereport(ERROR, (errcode(ERRCODE_FEATURE_NOT_SUPPORTED),
+                        errmsg("sketches do not support nondeterministic collations")));
+}
+
+void check_items(const Sketch *sketch, uint8 items)
+{
+    if ((sketch->items & items) == 0)
+        raise_items(items == STRINGS ? "the sketch has no strings as items" : "the sketch has no bigints as items");
+}
+
+Datum items_name(const Sketch *sketch)
+{
+    static const char *const names[] = {"none", "strings", "bigints", "strings or bigints"};
+    return CStringGetTextDatum(names[sketch->items & (STRINGS | BIGINTS)]);
+}
+
+/* --- Unions of two, intersections, equality and hashes. --- */
+
+/* Reads an argument into a handle. Returns the stored sketch. */
+static Sketch *argument(FunctionCallInfo fcinfo, int number, Kind kind, ds_sketch *handle)
+{
+    Sketch *sketch = detoast_sketch(PG_GETARG_DATUM(number), kind);
+    load(sketch, handle);
+    return sketch;
+}
+
+/* Returns the union of two sketches. */
+static Datum union_of(FunctionCallInfo fcinfo, Kind kind)
+{
+    ds_sketch handle = DS_NONE, other = DS_NONE;
+    uint8 items = argument(fcinfo, 0, kind, &handle)->items | argument(fcinfo, 1, kind, &other)->items;
+    Sketch *sketch;
+    check_result(merge_all(kind, &handle, &other, 1));
+    ds_free(&other);
+    sketch = store(kind, items, &handle);
+    ds_free(&handle);
+    PG_RETURN_POINTER(sketch);
+}
+
+FUNCTION(frequent_strings_union, union_of, FREQUENT_STRINGS)
+FUNCTION(frequent_bigints_union, union_of, FREQUENT_BIGINTS)
+FUNCTION(count_min_union, union_of, COUNT_MIN)
+FUNCTION(signed_count_min_union, union_of, SIGNED_COUNT_MIN)
+FUNCTION(bloom_filter_union, union_of, BLOOM_FILTER)
+
+PG_FUNCTION_INFO_V1(bloom_filter_intersection);
+
+/* Returns the intersection of two filters, which have a type of items in common. */
+Datum bloom_filter_intersection(PG_FUNCTION_ARGS)
+{
+    ds_sketch handle = DS_NONE, other = DS_NONE;
+    uint8 items = argument(fcinfo, 0, BLOOM_FILTER, &handle)->items & argument(fcinfo, 1, BLOOM_FILTER, &other)->items;
+    Sketch *sketch;
+    if (items == 0) raise_items("one filter has strings as items, the other one bigints");
+    check_result(ds_bloom_intersect(&handle, &other));
+    ds_free(&other);
+    sketch = store(BLOOM_FILTER, items, &handle);
+    ds_free(&handle);
+    PG_RETURN_POINTER(sketch);
+}
+
+/* Returns whether two filters or counts have equal states. Their images are as the library writes them, so equal images mean
+ * equal states. */
+static bool are_equal(FunctionCallInfo fcinfo)
+{
+    Sketch *left = any_sketch(fcinfo), *right = detoast_sketch(PG_GETARG_DATUM(1), left->kind);
+    bool equal = VARSIZE(left) == VARSIZE(right) && memcmp(left->image, right->image, IMAGE_BYTES(left)) == 0;
+    PG_FREE_IF_COPY(left, 0);
+    PG_FREE_IF_COPY(right, 1);
+    return equal;
+}
+
+PG_FUNCTION_INFO_V1(sketch_equal);
+
+/* Returns whether two filters or counts are equal. */
+Datum sketch_equal(PG_FUNCTION_ARGS)
+{
+    PG_RETURN_BOOL(are_equal(fcinfo));
+}
+
+PG_FUNCTION_INFO_V1(sketch_not_equal);
+
+/* Returns whether two filters or counts differ. */
+Datum sketch_not_equal(PG_FUNCTION_ARGS)
+{
+    PG_RETURN_BOOL(!are_equal(fcinfo));
+}
+
+PG_FUNCTION_INFO_V1(sketch_hash);
+
+/* Returns a hash of a filter or of counts: of the image, since equality compares images. */
+Datum sketch_hash(PG_FUNCTION_ARGS)
+{
+    Sketch *sketch = any_sketch(fcinfo);
+    Datum hash = hash_any(sketch->image, (int) IMAGE_BYTES(sketch));
+    PG_FREE_IF_COPY(sketch, 0);
+    return hash;
+}
+
+PG_FUNCTION_INFO_V1(sketch_hash_extended);
+
+/* Returns a hash of 64 bits under a seed. */
+Datum sketch_hash_extended(PG_FUNCTION_ARGS)
+{
+    Sketch *sketch = any_sketch(fcinfo);
+    Datum hash = hash_any_extended(sketch->image, (int) IMAGE_BYTES(sketch), (uint64) PG_GETARG_INT64(1));
+    PG_FREE_IF_COPY(sketch, 0);
+    return hash;
+}

@@ -1,0 +1,167 @@
+"""Builds the extension, installs it beside a copy of Debian's PostgreSQL, and tests it over a server of its own, which listens on a
+unix socket alone and is stopped at the end.
+
+    python3 bindings/postgresql/tests/run.py [--after 'N passed, M failed'] PROGRAM ARCHIVE
+
+prints the failed tests, a line for each group of tests, and then 'N passed, M failed', counted on from the numbers after `--after`.
+Words after `--only` name groups. As root, the server runs as the user `postgres` or `nobody`.
+"""
+import os
+import re
+import shutil
+import signal
+import subprocess
+import sys
+import tempfile
+import time
+
+HERE = os.path.dirname(os.path.abspath(__file__))
+EXTENSION = os.path.dirname(HERE)
+BINDINGS = os.path.dirname(EXTENSION)
+sys.path.insert(0, HERE)
+
+import bounds  # noqa: E402
+import damage  # noqa: E402
+import ends  # noqa: E402
+import exchange  # noqa: E402
+import page  # noqa: E402
+import server  # noqa: E402
+import stored  # noqa: E402
+
+PYTHON = "/usr/bin/python3"
+VALGRIND = ["valgrind", "-q", "--trace-children=yes", "--leak-check=no", "--error-limit=no", "--undef-value-errors=yes",
+            f"--suppressions={HERE}/valgrind.supp", "--gen-suppressions=all"]
+
+
+class Tests:
+    """Counts tests. `main` is the server that most groups use, with the extension in the database `postgres`."""
+
+    def __init__(self, work, program, archive, passed, failed):
+        self.work, self.program, self.passed, self.failed = work, program, passed, failed
+        self.tree = f"{work}/tree"
+        self.built = f"{work}/built"
+        self.main = None
+        subprocess.run(["bash", f"{BINDINGS}/c/build.sh", self.built, archive], check=True, stdout=subprocess.DEVNULL)
+        subprocess.run(["bash", f"{BINDINGS}/python/build.sh", self.built, archive], check=True, stdout=subprocess.DEVNULL,
+                       env={**os.environ, "PYTHON": PYTHON})
+        server.copy_programs(self.tree)
+        self.build(self.tree)
+
+    def build(self, tree, **settings):
+        server.install(tree, f"{self.built}/libdatasketches.a", self.work, **settings)
+
+    def check(self, name, holds, said=""):
+        if holds:
+            self.passed += 1
+        else:
+            self.failed += 1
+            print(f"failed: {name} {str(said)[:3000]}", flush=True)
+
+    def server(self, name, tree=None, **settings):
+        return server.Server(tree or self.tree, f"{self.work}/{name}", **settings)
+
+    def regressions(self, name, on, program="pg_regress", folder=EXTENSION, kind="sql", seconds=300, words=(), without=()):
+        """Runs the files of a folder `sql` or `specs` over a server, and compares their output with that in `expected`."""
+        files = sorted(file[:-len(kind) - 1] for file in os.listdir(f"{folder}/{'sql' if kind == 'sql' else 'specs'}"))
+        if kind == "sql":
+            files = re.search(r"^REGRESS = (.*)$", server_read(f"{EXTENSION}/Makefile"), re.MULTILINE)[1].split()
+            files = [file for file in files if file not in without]
+        inside = tempfile.mkdtemp(dir=self.work)
+        for part in ["sql" if kind == "sql" else "specs", "expected"]:
+            shutil.copytree(f"{folder}/{part}", f"{inside}/{part}")
+        server.give(inside)
+        os.chmod(inside, 0o755)
+        path = f"{server.asked('--pkglibdir')}/pgxs/src/test/{'regress' if kind == 'sql' else 'isolation'}/{program}"
+        ran = on.run(path, f"--inputdir={inside}", f"--outputdir={inside}", f"--bindir={on.bin}", f"--host={on.folder}",
+                     "--dbname=regression", *words, *files, check=False, seconds=seconds)
+        lines = ran.stdout.decode(errors="replace").splitlines()
+        good = {re.split(r"\s+", line)[1] for line in lines if re.match(r"test .*\.\.\. ok", line)}
+        differences = f"{inside}/regression.diffs"
+        if not os.path.exists(differences):
+            differences = f"{inside}/output_iso/regression.diffs"
+        said = server_read(differences) if os.path.exists(differences) else "\n".join(lines[-20:]) + ran.stderr.decode()
+        for file in files:
+            self.check(f"{name} {file}", file in good, said if file not in good else "")
+            said = ""
+
+
+def server_read(path):
+    with open(path, encoding="utf-8", errors="replace") as file:
+        return file.read()
+
+
+def queries(tests):
+    """The files that are written as users write queries."""
+    tests.regressions("sql", tests.main)
+
+
+def isolation(tests):
+    """Sessions that change one stored sketch at once."""
+    tests.regressions("isolation", tests.main, program="pg_isolation_regress", folder=HERE, kind="spec",
+                      words=["--load-extension=sketches_rattle"])
+
+
+def valgrind(tests):
+    """Most queries on a server whose processes run under valgrind, with an extension that marks the ends of its memory."""
+    tree = f"{tests.work}/checked tree"
+    server.copy_programs(tree)
+    tests.build(tree, COPT=f"-g -O1 -include {HERE}/marked.h -Wno-pedantic")
+    with tests.server("checked", tree=tree, before=[*VALGRIND, f"--log-file={tests.work}/checked/valgrind.%p"]) as checked:
+        tests.regressions("under valgrind,", checked, seconds=900, without=["parallel", "planner"])
+        with checked.session("regression", **ends.WORKERS) as session, session.cursor() as cursor:
+            cursor.execute("CREATE TABLE spread_rows WITH (parallel_workers = 2) AS SELECT i, 'item ' || i AS string "
+                           "FROM generate_series(1::bigint, 5000) AS i")
+            cursor.execute("SELECT (status(frequent_strings_agg(string, i, 64))).total_weight, "
+                           "(status(frequent_bigints_agg(i, i, 64))).total_weight, estimate(count_min_agg(i, 1, 3, 9000), 7), "
+                           "estimate(signed_count_min_agg(string, -1, 3, 9000), 'item 7'), contains(bloom_filter_agg(i, 99999, 7), 7) "
+                           "FROM spread_rows")
+            total = 5000 * 5001 // 2
+            row = cursor.fetchone()
+            tests.check("workers under valgrind", row[:2] == (total, total) and row[2] >= 1 and row[4] is True, row)
+        errors = [server_read(f"{checked.folder}/{name}") for name in os.listdir(checked.folder) if name.startswith("valgrind.")]
+        tests.check("processes ran under valgrind", len(errors) > 10, len(errors))
+        said = "".join(errors)
+        tests.check("valgrind reports nothing of the extension", "sketches_rattle" not in said and "libdatasketches" not in said,
+                    said)
+
+
+GROUPS = [queries, isolation, bounds.every_key, ends.cancels, ends.many_cancels, ends.killed, ends.out_of_memory,
+          stored.dump_and_restore, stored.copied, stored.encodings, stored.collations, stored.versions, exchange.interfaces,
+          page.page_queries, damage.damaged_bytes, valgrind]
+
+
+def main():
+    words = sys.argv[1:]
+    passed, failed = 0, 0
+    only = []
+    if "--only" in words:
+        only = words[words.index("--only") + 1:]
+        words = words[:words.index("--only")]
+    if words[0] == "--after":
+        passed, failed = [int(number) for number in re.fullmatch(r"(\d+) passed, (\d+) failed", words[1]).groups()]
+        words = words[2:]
+    signal.signal(signal.SIGTERM, lambda *_: sys.exit(1))
+    program, archive = [os.path.abspath(word) for word in words]
+    with tempfile.TemporaryDirectory() as work:
+        os.chmod(work, 0o755)
+        began = time.monotonic()
+        tests = Tests(work, program, archive, passed, failed)
+        print(f"PostgreSQL: built in {time.monotonic() - began:.0f} s", flush=True)
+        with tests.server("main") as tests.main:
+            with tests.main.session() as session, session.cursor() as cursor:
+                cursor.execute("CREATE EXTENSION sketches_rattle")
+            for group in GROUPS:
+                if only and group.__name__ not in only:
+                    continue
+                began, before = time.monotonic(), (tests.passed, tests.failed)
+                try:
+                    group(tests)
+                except Exception as error:  # a group that ends so is a failed test, and the others still run
+                    tests.check(group.__name__, False, f"{type(error).__name__}: {error}\n{tests.main.log()[-500:]}")
+                print(f"PostgreSQL, {group.__name__.replace('_', ' ')}: {tests.passed - before[0]} passed, "
+                      f"{tests.failed - before[1]} failed, {time.monotonic() - began:.0f} s", flush=True)
+    print(f"{tests.passed} passed, {tests.failed} failed")
+    sys.exit(1 if tests.failed else 0)
+
+
+main()
