@@ -151,8 +151,9 @@ static void filters(void)
     FREE(DS_INSUFFICIENT_DATA, ds_bloom_deserialize(&filter, FILTER, 0, 1 << 20));
     FREE(DS_TABLE_TOO_LARGE, ds_bloom_deserialize_prefix(&filter, FILTER, sizeof FILTER, 31, &written));
     FREE(DS_INSUFFICIENT_DATA, ds_bloom_deserialize_prefix(&filter, FILTER, 23, 1 << 20, &written));
-    /* the words, in place of the words that were there */
-    ROW(1, 1, DS_OK, ds_bloom_deserialize_prefix(&filter, FILTER, sizeof FILTER, 32, &written));
+    /* the handle's block and the words, in place of those that were there */
+    ROW(2, 2, DS_OK, ds_bloom_deserialize(&filter, FILTER, sizeof FILTER, 32));
+    ROW(2, 2, DS_OK, ds_bloom_deserialize_prefix(&filter, FILTER, sizeof FILTER, 32, &written));
     FREE(DS_NO_SKETCH, ds_bloom_insert_u64(&none, 3));
     FREE(DS_NO_SKETCH, ds_bloom_union(&filter, &none));
     FREE(DS_NO_SKETCH, ds_bloom_serialize(&none, image, sizeof image, &written));

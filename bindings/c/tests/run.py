@@ -439,7 +439,7 @@ class Tests:
         self.headers(example)
 
     def headers(self, example):
-        """Compiles each header alone in C and C++, and builds and runs the example in C++ with the files that `install.sh` installed."""
+        """Compiles each installed header alone in C and C++, and builds and runs the example in C++ with the installed files."""
         prefix = os.path.join(self.work, "installed", "for C++")
         subprocess.run(["bash", f"{C}/install.sh", self.built, prefix], check=True)
         flags = [f"-I{prefix}/include", f"-L{prefix}/lib", "-ldatasketches"]
