@@ -84,7 +84,8 @@ typedef struct Sketch {
 #define IMAGE_BYTES(sketch) (VARSIZE(sketch) - offsetof(Sketch, image))
 
 /* The most bytes that a sketch may take, by the formula of `ds_memory_bytes`, which counts strings. Frequent items keep to both
- * limits. No interrupt is checked during a call of the library, and their calls take longer: the default keeps them below 100 ms. */
+ * limits. No interrupt is checked during a call of the library. Calls of frequent items take longer than others, and the default
+ * keeps them below 100 ms. */
 extern int max_image_bytes;
 extern int max_frequent_bytes;
 
@@ -104,7 +105,7 @@ static inline void check_bytes(Kind kind, uint64 bytes)
 /* Reads an image into a handle that has no sketch, in the current context. `max_bytes` limits what the sketch takes. */
 void read_image(Kind kind, ds_sketch *handle, const void *image, size_t length, size_t max_bytes);
 
-/* Writes the image of a handle's sketch after a header of so many bytes. Returns the whole as a new varlena. */
+/* Writes the image of a handle's sketch after `header` bytes, which the caller fills. Returns the whole as a new varlena. */
 struct varlena *write_image(Kind kind, ds_sketch *handle, size_t header);
 
 /* Merges other sketches of the kind into the handle's. Allocates in the current context. Returns the library's result. */
@@ -142,11 +143,18 @@ static inline ds_string string_argument(FunctionCallInfo fcinfo, int number)
 /* Raises an error if the call's collation takes different bytes for equal, since sketches compare strings by their bytes. */
 void check_collation(FunctionCallInfo fcinfo);
 
+/* Raises an error unless the sketch may have items of this type. */
+void check_items(const Sketch *sketch, uint8 items);
+
+/* Returns the types of a sketch's items as a text: 'strings', 'bigints' or 'strings or bigints'. */
+Datum items_name(const Sketch *sketch);
+
 /* --- kept.c --- */
 
 /* A sketch that a function keeps from row to row. `handle` has it only if `is_loaded`. */
 typedef struct Kept {
     MemoryContext context;
+    size_t bytes; /* of the context */
     const void *address;
     size_t key_bytes;
     void *key;
@@ -164,12 +172,6 @@ Kept *kept_handle(FunctionCallInfo fcinfo, Kind kind);
 
 /* Returns a row of the call's result type. The call has called `kept_argument` before. */
 Datum kept_row(FunctionCallInfo fcinfo, Datum *values, bool *nulls);
-
-/* Raises an error unless the sketch may have items of this type. */
-void check_items(const Sketch *sketch, uint8 items);
-
-/* Returns the types of a sketch's items as a text: 'strings', 'bigints' or 'strings or bigints'. */
-Datum items_name(const Sketch *sketch);
 
 #pragma GCC visibility pop
 
