@@ -33,13 +33,13 @@ typedef struct State {
     size_t image_bytes;
 } State;
 
-/* What a worker passes on: a state as a bytea. */
+/* What a worker passes on: a state as a bytea, which may lie at any multiple of 4 bytes. */
 typedef struct Message {
     int32 length; /* PostgreSQL's own: of the whole */
     uint8 kind;
     uint8 items;
     uint8 zero[2];
-    Datum sizes[2];
+    uint8 sizes[2 * sizeof(Datum)];
     uint8 image[FLEXIBLE_ARRAY_MEMBER];
 } Message;
 
