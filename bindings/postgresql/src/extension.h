@@ -145,6 +145,12 @@ static inline ds_string string_argument(FunctionCallInfo fcinfo, int number)
 /* Raises an error if the call's collation takes different bytes for equal, since sketches compare strings by their bytes. */
 void check_collation(FunctionCallInfo fcinfo);
 
+/* Raises an error unless the sketch may have items of this type. */
+void check_items(const Sketch *sketch, uint8 items);
+
+/* Returns the types of a sketch's items as a text: 'strings', 'bigints' or 'strings or bigints'. */
+Datum items_name(const Sketch *sketch);
+
 /* --- kept.c --- */
 
 /* A sketch that a function keeps from row to row. `handle` has it only if `is_loaded`. */
@@ -167,12 +173,6 @@ Kept *kept_handle(FunctionCallInfo fcinfo, Kind kind);
 
 /* Returns a row of the call's result type. The call has called `kept_argument` before. */
 Datum kept_row(FunctionCallInfo fcinfo, Datum *values, bool *nulls);
-
-/* Raises an error unless the sketch may have items of this type. */
-void check_items(const Sketch *sketch, uint8 items);
-
-/* Returns the types of a sketch's items as a text: 'strings', 'bigints' or 'strings or bigints'. */
-Datum items_name(const Sketch *sketch);
 
 #pragma GCC visibility pop
 
