@@ -156,6 +156,7 @@ Datum items_name(const Sketch *sketch);
 /* A sketch that a function keeps from row to row. `handle` has it only if `is_loaded`. */
 typedef struct Kept {
     MemoryContext context;
+    size_t bytes; /* of the context */
     const void *address;
     size_t key_bytes;
     void *key;

@@ -1,22 +1,29 @@
 /* Sketches that a function keeps from row to row, in `fn_extra`.
  *
  * A sketch is known again by the bytes of its datum: those of a pointer to a toasted value, or of the value itself. So the last
- * few sketches of a function are detoasted and verified once. There are some, since a nested loop may bring several in turn. */
+ * sketches of a function are detoasted and verified once. There are many, since a nested loop may bring all sketches of a table in
+ * turn. */
 #include "extension.h"
 
+#include "access/detoast.h"
 #include "access/htup_details.h"
 #include "funcapi.h"
+#include "miscadmin.h"
 #include "utils/memutils.h"
 
-#define NUM_KEPT 4
+/* All but the last sketch take at most this many bytes, or `work_mem` if it is more. */
+#define MAX_KEPT 32
+#define KEPT_BYTES ((size_t) 16 * 1024 * 1024)
 
 /* A longer key is compared in full only if it lies at another address than before. */
 #define SHORT_KEY 1024
 #define ENDS 64
 
+/* A function's sketches, in a ring: the next sketch replaces the one after the last. */
 typedef struct Cache {
-    Kept kept[NUM_KEPT];
+    Kept kept[MAX_KEPT];
     int last; /* the one that was used last */
+    size_t bytes;
     TupleDesc row;
 } Cache;
 
@@ -43,23 +50,50 @@ static inline bool is_key(const Kept *kept, const void *datum, size_t bytes)
            memcmp((const char *) kept->key + bytes - ENDS, (const char *) datum + bytes - ENDS, ENDS) == 0;
 }
 
-/* Keeps a sketch in place of another one. After an error nothing is kept there. */
-static void keep(FunctionCallInfo fcinfo, Kept *kept, struct varlena *datum, size_t bytes, Kind kind)
+/* Forgets a kept sketch, if there is one. */
+static void forget(Cache *cache, Kept *kept)
 {
-    MemoryContext before;
-    kept->key_bytes = 0;
+    if (kept->context != NULL) MemoryContextReset(kept->context);
+    cache->bytes -= kept->bytes;
+    kept->bytes = kept->key_bytes = 0;
     kept->is_loaded = false;
     kept->handle = (ds_sketch) DS_NONE;
+}
+
+/* Forgets sketches from a place on until another one of so many bytes fits, but for the one in the place before. */
+static void make_room(Cache *cache, int place, size_t bytes)
+{
+    size_t limit = Max(KEPT_BYTES, (size_t) work_mem * 1024);
+    forget(cache, &cache->kept[place]);
+    for (int i = 1; i < MAX_KEPT && cache->bytes + bytes > limit; i++) forget(cache, &cache->kept[(place + i) % MAX_KEPT]);
+}
+
+/* Counts the bytes of a kept sketch. */
+static void count_bytes(Cache *cache, Kept *kept)
+{
+    cache->bytes -= kept->bytes;
+    kept->bytes = MemoryContextMemAllocated(kept->context, false);
+    cache->bytes += kept->bytes;
+}
+
+/* Keeps a sketch in a place. After an error nothing is kept there. */
+static Kept *keep(FunctionCallInfo fcinfo, Cache *cache, int place, struct varlena *datum, size_t bytes, Kind kind)
+{
+    Kept *kept = &cache->kept[place];
+    MemoryContext before;
+    make_room(cache, place, toast_raw_datum_size(PointerGetDatum(datum)));
     if (kept->context == NULL)
         kept->context = AllocSetContextCreate(fcinfo->flinfo->fn_mcxt, "kept sketch", ALLOCSET_SMALL_SIZES);
-    MemoryContextReset(kept->context);
     before = MemoryContextSwitchTo(kept->context);
     kept->key = palloc_extended(bytes, MCXT_ALLOC_HUGE);
     memcpy(kept->key, datum, bytes);
     kept->sketch = detoast_sketch(PointerGetDatum(kept->key), kind);
     MemoryContextSwitchTo(before);
+    count_bytes(cache, kept);
     kept->address = datum;
     kept->key_bytes = bytes;
+    cache->last = place;
+    return kept;
 }
 
 Kept *kept_argument(FunctionCallInfo fcinfo, Kind kind)
@@ -70,8 +104,8 @@ Kept *kept_argument(FunctionCallInfo fcinfo, Kind kind)
     /* A pointer to memory is no key. */
     if (VARATT_IS_EXTERNAL(datum) && !VARATT_IS_EXTERNAL_ONDISK(datum)) datum = PG_DETOAST_DATUM(PointerGetDatum(datum));
     bytes = VARSIZE_ANY(datum);
-    for (int i = 0; i < NUM_KEPT; i++) {
-        int place = (cache->last + i) % NUM_KEPT;
+    for (int i = 0; i < MAX_KEPT; i++) {
+        int place = (cache->last + i) % MAX_KEPT;
         Kept *kept = &cache->kept[place];
         if (is_key(kept, datum, bytes)) {
             kept->address = datum;
@@ -79,9 +113,7 @@ Kept *kept_argument(FunctionCallInfo fcinfo, Kind kind)
             return kept;
         }
     }
-    cache->last = (cache->last + NUM_KEPT - 1) % NUM_KEPT;
-    keep(fcinfo, &cache->kept[cache->last], datum, bytes, kind);
-    return &cache->kept[cache->last];
+    return keep(fcinfo, cache, (cache->last + 1) % MAX_KEPT, datum, bytes, kind);
 }
 
 Kept *kept_handle(FunctionCallInfo fcinfo, Kind kind)
@@ -92,6 +124,7 @@ Kept *kept_handle(FunctionCallInfo fcinfo, Kind kind)
         load(kept->sketch, &kept->handle);
         MemoryContextSwitchTo(before);
         kept->is_loaded = true;
+        count_bytes(cache_of(fcinfo), kept);
     }
     return kept;
 }
