@@ -206,6 +206,7 @@ def plots(folder, table):
 
 def main():
     archive, *sizes = sys.argv[1:]
+    load = os.getloadavg()[0]
     rows, groups = [int(word) for word in sizes] if sizes else (10_000_000, 100_000)
     with tempfile.TemporaryDirectory() as work:
         os.chmod(work, 0o755)
@@ -236,7 +237,7 @@ def main():
     head = (f"{rows:,} rows by a Zipf law, {distinct:,} different strings of 6 to 12 bytes. {os.cpu_count()} processors "
             f"({processor()}), {datetime.date.today()}. Times are the least of {ROUNDS} runs. Memory is what the session and "
             f"its workers have of their own, above the start. The sketch of a day has {of_day / 1000:.0f} kB. A row's cost is "
-            "processor time.")
+            f"processor time. The shared table of a parallel join is not counted. The load average was {load:.0f} at the start.")
     whole = sizes == []
     folder = PAGE if whole else f"{TOP}/bench/out/postgresql"
     plots(f"{folder}/plots", table)

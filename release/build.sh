@@ -56,7 +56,7 @@ fi
 bash "$source/bindings/c/build.sh" "$work/c" "$archive"
 bash "$source/bindings/python/build.sh" "$work/python" "$archive"
 make -s -C "$source/bindings/postgresql" PG_CONFIG="$pg_config" ARCHIVE="$work/c/libdatasketches.a" \
-    DESTDIR="$work/postgresql" install
+    DESTDIR="$work/postgresql" COPT=-g0 install
 install -m 755 "$program" "$work/datasketches_cli"
 unneeded=(--remove-section=.comment --remove-section=.note)
 strip --strip-debug --enable-deterministic-archives "${unneeded[@]}" "$work/c/libdatasketches.a"

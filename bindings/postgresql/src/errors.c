@@ -4,7 +4,7 @@
  *
  * | SQLSTATE | error |
  * |---|---|
- * | SK001 | the value is no sketch, or is one of another type |
+ * | SK001 | the value is no sketch, or is one of another type, or of an unknown version of the stored form |
  * | SK002 | the sketch has items of another type |
  * | SK003 | sizes differ between rows of a group |
  * | SK016 | two filters or two counts differ in shape or seed |
@@ -81,6 +81,13 @@ void raise_items(const char *message)
 void raise_kind(const char *message)
 {
     ereport(ERROR, (errcode(SK(1)), errmsg("%s", message)));
+    pg_unreachable();
+}
+
+void raise_version(int version, int read)
+{
+    ereport(ERROR, (errcode(SK(1)), errmsg("the sketch has version %d of the stored form", version),
+                    errdetail("This version of the extension reads version %d.", read)));
     pg_unreachable();
 }
 

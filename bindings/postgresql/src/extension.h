@@ -42,6 +42,9 @@ void raise_items(const char *message) pg_attribute_noreturn();
 /* Raises an error of a value that is no sketch of this type. */
 void raise_kind(const char *message) pg_attribute_noreturn();
 
+/* Raises the error of a value with another version of the stored form than the one that is read. */
+void raise_version(int version, int read) pg_attribute_noreturn();
+
 /* Raises the error of sizes that differ between rows of a group. */
 void raise_sizes(void) pg_attribute_noreturn();
 

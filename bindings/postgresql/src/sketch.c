@@ -136,6 +136,13 @@ static bool has_header(const Sketch *sketch, Kind kind)
     return sketch->items == (kind == FREQUENT_STRINGS ? STRINGS : BIGINTS);
 }
 
+/* Returns whether a header begins as one of another version of the format. */
+static bool has_other_version(const Sketch *sketch)
+{
+    if (VARSIZE(sketch) < offsetof(Sketch, image)) return false;
+    return memcmp(sketch->format, format, sizeof format - 1) == 0 && sketch->format[3] != format[3];
+}
+
 /* Returns whether the stored checksum is that of the sketch. */
 static bool has_checksum(const Sketch *sketch)
 {
@@ -148,6 +155,10 @@ static bool has_checksum(const Sketch *sketch)
 Sketch *detoast_sketch(Datum datum, Kind kind)
 {
     Sketch *sketch = (Sketch *) PG_DETOAST_DATUM(datum);
+    if (has_other_version(sketch))
+        ereport(ERROR, (errcode(ERRCODE_DATA_CORRUPTED),
+                        errmsg("a stored sketch is damaged, or has version %d of the stored form", sketch->format[3]),
+                        errdetail("This version of the extension reads version %d.", format[3])));
     if (!has_header(sketch, kind) || !has_checksum(sketch))
         ereport(ERROR, (errcode(ERRCODE_DATA_CORRUPTED), errmsg("a stored sketch is damaged")));
     return sketch;
@@ -200,6 +211,7 @@ static Sketch *import(Kind kind, const void *bytes, size_t length, int damaged)
     sketch = palloc(VARHDRSZ + length);
     SET_VARSIZE(sketch, VARHDRSZ + length);
     memcpy(VARDATA(sketch), bytes, length);
+    if (has_other_version(sketch)) raise_version(sketch->format[3], format[3]);
     if (!has_header(sketch, kind)) raise_kind("the value is not a sketch of this type");
     if (!has_checksum(sketch)) ereport(ERROR, (errcode(damaged), errmsg("the sketch is damaged: its checksum is wrong")));
     imported = import_image(kind, sketch->items, sketch->image, IMAGE_BYTES(sketch));

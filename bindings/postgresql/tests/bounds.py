@@ -129,7 +129,21 @@ def every_key(tests):
                 for name, _ in [*COUNTS, *FILTERS, ("minus_bigints", "")]:
                     same = ask(f"SELECT s.{name} = t.{name} FROM sketches_serial AS s, {table} AS t")[0][0]
                     tests.check(f"{run}, {name}: equal to the serial one", same is True)
+        unlike_sizes(tests, ask)
         groups(tests, ask, cursor)
+
+
+def unlike_sizes(tests, ask):
+    """Checks merges of frequent items of unlike sizes: both bounds and the error share of the smaller one."""
+    for item, small, large in [("string", "strings_64", "strings_4096"), ("number", "bigints_64", "bigints_65536")]:
+        for name, union, size in [("small first", f"{small} | {large}", 64), ("large first", f"{large} | {small}", None)]:
+            total, error, sized, wrong = ask(f"""SELECT (status(s)).total_weight, (status(s)).maximum_error, (status(s)).max_map_size,
+                    count(*) FILTER (WHERE NOT 2 * weight BETWEEN lower_bound(s, {item}) AND upper_bound(s, {item}))
+                FROM (SELECT {union} AS s FROM sketches_serial OFFSET 0) AS merged, exact GROUP BY 1, 2, 3""")[0]
+            first = large if size is None else small
+            tests.check(f"unlike sizes of {item}, {name}: bounds", wrong == 0, wrong)
+            tests.check(f"unlike sizes of {item}, {name}: error", 3 * 64 * error <= 8 * total, (error, total))
+            tests.check(f"unlike sizes of {item}, {name}: size", sized == int(first.split("_")[1]), sized)
 
 
 def groups(tests, ask, cursor):

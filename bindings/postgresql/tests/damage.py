@@ -1,4 +1,6 @@
 """Bytes changed in a table's file while the server is down: each damaged sketch gives an error, and no other row is touched."""
+import psycopg2
+
 from ends import code_of
 
 # Rows whose sketches lie in the table's own file, a few hundred bytes each, and rows whose sketches are stored apart.
@@ -48,12 +50,24 @@ def damaged_bytes(tests):
                     whole, damaged = codes[1::2], codes[0::2]
                     tests.check(f"damaged {name}: whole rows, {use}", set(whole) == {None}, set(whole))
                     tests.check(f"damaged {name}: damaged rows, {use}", set(damaged) == {"XX001"}, set(damaged))
+                # The fourth byte is the version of the stored form.
+                message = message_of(cursor, f"SELECT {READS[name]} FROM of_{name} WHERE id = 7")
+                tests.check(f"damaged {name}: another version", "version" in message, message)
             tests.check("filters stored apart are damaged", len(apart) > 10, len(apart))
             for number in range(1, 61):
                 code = code_of(cursor, f"SELECT contains(sketch, {number * 10000 + 7}) FROM apart WHERE id = {number}")
                 wanted = "XX001" if number in apart else None
                 tests.check(f"a filter stored apart, row {number}", code == wanted, code)
         tests.check("the server ran on", "was terminated by signal" not in on.log(), on.log()[-2000:])
+
+
+def message_of(cursor, statement):
+    """Runs a statement that returns an error. Returns its message."""
+    try:
+        cursor.execute(statement)
+    except psycopg2.Error as error:
+        return error.diag.message_primary
+    return ""
 
 
 def file_of(cursor, table):

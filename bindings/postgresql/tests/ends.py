@@ -49,6 +49,15 @@ def code_of(cursor, statement):
     return None
 
 
+def detail_of(cursor, statement):
+    """Runs a statement. Returns None, or the detail of its error."""
+    try:
+        cursor.execute(statement)
+    except psycopg2.Error as error:
+        return error.diag.message_detail
+    return None
+
+
 def prepare(on):
     with on.session() as session, session.cursor() as cursor:
         cursor.execute("SET max_parallel_workers_per_gather = 0")
@@ -200,6 +209,12 @@ def out_of_memory(tests):
                 limit_memory(tests.main, process, "unlimited")
             tests.check(f"{name} within limits of memory", set(codes) == {None, "53200"} and codes[0] == "53200"
                         and codes[-1] is None, codes)
+            if name in ("a filter", "counts"):
+                # No error jumps through the library: it returns this one.
+                limit_memory(tests.main, process, address_space(process) + MB)
+                detail = detail_of(cursor, statement)
+                limit_memory(tests.main, process, "unlimited")
+                tests.check(f"the library returns the error of {name}", detail == "The library returned NoMemory.", detail)
             tests.check(f"answers of {name} within limits", all(answer == wanted for answer in answers), answers)
             cursor.execute("SELECT pg_backend_pid()")
             tests.check(f"the session after {name}", cursor.fetchone() == (process,))

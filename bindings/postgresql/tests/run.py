@@ -23,14 +23,14 @@ sys.path.insert(0, HERE)
 import bounds  # noqa: E402
 import damage  # noqa: E402
 import ends  # noqa: E402
+import errors  # noqa: E402
 import exchange  # noqa: E402
 import page  # noqa: E402
 import server  # noqa: E402
 import stored  # noqa: E402
 
 PYTHON = "/usr/bin/python3"
-VALGRIND = ["valgrind", "-q", "--trace-children=yes", "--leak-check=no", "--error-limit=no", "--undef-value-errors=yes",
-            f"--suppressions={HERE}/valgrind.supp", "--gen-suppressions=all"]
+VALGRIND = ["valgrind", "-q", "--trace-children=yes", "--leak-check=no", "--error-limit=no", "--fullpath-after="]
 
 
 class Tests:
@@ -101,6 +101,13 @@ def isolation(tests):
                       words=["--load-extension=sketches_rattle"])
 
 
+def reports_of(log):
+    """Returns the reports of valgrind that come from the extension or the library, and not from PostgreSQL alone. The last part of a
+    report, on the block that an address is in, does not say where it comes from."""
+    stacks = [re.split(r"Address 0x|Uninitialised value was", report)[0] for report in re.split(r"^==\d+== *\n", log, flags=re.MULTILINE)]
+    return [stack for stack in stacks if re.search(r"\(/[^)]*/src/\w+\.c:\d+\)|marked\.h:|sketches_rattle\.so", stack)]
+
+
 def valgrind(tests):
     """Most queries on a server whose processes run under valgrind, with an extension that marks the ends of its memory."""
     tree = f"{tests.work}/checked tree"
@@ -118,16 +125,15 @@ def valgrind(tests):
             total = 5000 * 5001 // 2
             row = cursor.fetchone()
             tests.check("workers under valgrind", row[:2] == (total, total) and row[2] >= 1 and row[4] is True, row)
-        errors = [server_read(f"{checked.folder}/{name}") for name in os.listdir(checked.folder) if name.startswith("valgrind.")]
-        tests.check("processes ran under valgrind", len(errors) > 10, len(errors))
-        said = "".join(errors)
-        tests.check("valgrind reports nothing of the extension", "sketches_rattle" not in said and "libdatasketches" not in said,
-                    said)
+        logs = [server_read(f"{checked.folder}/{name}") for name in os.listdir(checked.folder) if name.startswith("valgrind.")]
+        tests.check("processes ran under valgrind", len(logs) > 10, len(logs))
+        said = [report for log in logs for report in reports_of(log)]
+        tests.check("valgrind reports nothing of the extension", not said, "".join(said))
 
 
 GROUPS = [queries, isolation, bounds.every_key, ends.cancels, ends.many_cancels, ends.killed, ends.out_of_memory,
           stored.dump_and_restore, stored.copied, stored.encodings, stored.collations, stored.versions, exchange.interfaces,
-          page.page_queries, damage.damaged_bytes, valgrind]
+          page.page_queries, errors.page_errors, damage.damaged_bytes, valgrind]
 
 
 def main():

@@ -1,0 +1,41 @@
+"""The page's table of errors, beside the errors that statements return."""
+import re
+
+import page
+from ends import code_of
+
+# The image of frequent strings with the item "a" and a zero byte.
+ZERO_BYTE = ("04010a0303000000" "0100000000000000" "0500000000000000" "0000000000000000" "0500000000000000" "020000006100")
+
+# A statement for each error of the page but those that other files of tests cause.
+ERRORS = {
+    "SK001": "SELECT filter::bytea::count_min FROM one",
+    "SK002": "SELECT contains(filter, 7) FROM one",
+    "SK003": "SELECT bloom_filter_agg(i, 64 * i, 3) FROM generate_series(1, 2) AS i",
+    "SK016": "SELECT filter | bloom_filter_agg('b', 128, 3) FROM one GROUP BY filter::text, filter",
+    "SK022": "SELECT bloom_filter_from_image('')",
+    "0A000": "SELECT bloom_filter_agg('a' COLLATE loose, 64, 3)",
+    "22003": "SELECT frequent_strings_agg('a', -1)",
+    "22004": "SELECT bloom_filter_agg('a', 64, NULL::integer)",
+    "22021": f"SELECT item FROM frequent_rows(frequent_strings_from_image('\\x{ZERO_BYTE}'))",
+    "22023": "SELECT frequent_strings_agg('a', 1, 100)",
+    "22P02": "SELECT '!'::bloom_filter",
+    "22P03": "SELECT set_bit(filter::bytea, 300, 1 - get_bit(filter::bytea, 300))::bloom_filter FROM one",
+    "54000": "SELECT frequent_strings_agg('a', 1, 1048576)",
+}
+ELSEWHERE = {"22P05": "stored.py", "53200": "ends.py", "57014": "ends.py", "XX001": "damage.py", "58000": "none", "SK041": "none"}
+
+
+def page_errors(tests):
+    """The page's table of errors: each is returned by a statement."""
+    with open(page.PAGE, encoding="utf-8") as file:
+        section = file.read().split("## Errors")[1].split("## ")[0]
+    first = " ".join(re.findall(r"^\| ([^|]*) \|", section, re.MULTILINE))
+    listed = set(re.findall(r"\b(?:SK\d{3}|[0-9A-Z]{5})\b", first))
+    tests.check("the errors of the page", listed == set(ERRORS) | set(ELSEWHERE), listed ^ (set(ERRORS) | set(ELSEWHERE)))
+    with tests.main.session() as session, session.cursor() as cursor:
+        cursor.execute("CREATE COLLATION loose (provider = icu, locale = 'und-u-ks-level1', deterministic = false);"
+                       "CREATE TABLE one AS SELECT bloom_filter_agg('a', 64, 3) AS filter")
+        for state, statement in ERRORS.items():
+            code = code_of(cursor, statement)
+            tests.check(f"README.md, error {state}", code == state, code)
