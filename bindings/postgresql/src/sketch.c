@@ -38,19 +38,12 @@ static int32_t serialize(Kind kind, ds_sketch *handle, uint8_t *out, size_t capa
     return DS_WRONG_KIND;
 }
 
-/* Writes the length of the image of frequent items: the library writes it if a buffer is too short. */
-static int32_t frequent_bytes(Kind kind, ds_sketch *handle, size_t *bytes)
-{
-    int32_t result = serialize(kind, handle, NULL, 0, bytes);
-    return result == DS_NO_ROOM ? DS_OK : result;
-}
-
 /* Writes the length of a sketch's image. */
 static int32_t serialized_bytes(Kind kind, ds_sketch *handle, size_t *bytes)
 {
     switch (kind) {
-    case FREQUENT_STRINGS:
-    case FREQUENT_BIGINTS: return frequent_bytes(kind, handle, bytes);
+    case FREQUENT_STRINGS: return ds_frequent_items_string_serialized_bytes(handle, bytes);
+    case FREQUENT_BIGINTS: return ds_frequent_items_i64_serialized_bytes(handle, bytes);
     case COUNT_MIN: return ds_count_min_u64_serialized_bytes(handle, bytes);
     case SIGNED_COUNT_MIN: return ds_count_min_i64_serialized_bytes(handle, bytes);
     case BLOOM_FILTER: return ds_bloom_serialized_bytes(handle, bytes);
