@@ -294,7 +294,7 @@ static const struct alteration FREQUENT_ALTERED[] = {
         const type items[3] = {7, 7, 8}; \
         type found[2]; \
         uint8_t image[48]; \
-        size_t length; \
+        size_t length = 0; \
         CHECK(prefix##_deserialize(a, NOTHING, 8, 1 << 20) == DS_OK && prefix##_get_status(a, &numbers) == DS_OK); \
         CHECK(numbers.max_map_size == 64 && numbers.sample_size == 48 && numbers.maximum_map_capacity == 48); \
         CHECK(numbers.current_map_capacity == 6 && numbers.total_weight == 0 && numbers.maximum_error == 0); \
