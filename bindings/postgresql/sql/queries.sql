@@ -58,8 +58,8 @@ SELECT contains(bloom_filter_from_image(sketch_image(seen)), 207), contains(bloo
 FROM days WHERE day = 2;
 SELECT contains(seen, NULL::bigint) IS NULL AS no_item, contains(NULL, 7) IS NULL AS no_filter FROM days WHERE day = 2;
 
--- A function that keeps sketches from row to row answers for the sketch of its row: in a nested loop over more sketches than are
--- kept, for large sketches that are stored apart, and for parameters.
+-- A function that keeps sketches from row to row uses the sketch of its row: in a nested loop over more sketches than are kept, and
+-- for parameters.
 CREATE TABLE filters AS
 SELECT part, bloom_filter_agg(i, 20000, 5) AS filter, count_min_agg(i, part + 1, 2, 2000) AS counts
 FROM generate_series(0, 999) AS i, LATERAL (SELECT i % 40 AS part) AS p GROUP BY part;

@@ -1,6 +1,7 @@
 CREATE TABLE sets AS
 SELECT name, frequent_strings_agg('item ' || i) AS strings, frequent_bigints_agg(i) AS bigints,
-    count_min_agg(i, 1, 4, 1024) AS counts, signed_count_min_agg(i, -1, 4, 1024) AS signed_counts, bloom_filter_agg(i, 10000, 7) AS filter
+    count_min_agg(i, 1, 4, 1024) AS counts, signed_count_min_agg(i, -1, 4, 1024) AS signed_counts,
+    bloom_filter_agg(i, 10000, 7) AS filter
 FROM (VALUES ('low', 1, 60), ('high', 41, 100), ('all', 1, 100)) AS v(name, first, last), generate_series(first, last) AS i
 GROUP BY name;
 

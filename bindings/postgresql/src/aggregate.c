@@ -7,8 +7,8 @@
 
 #include "utils/memutils.h"
 
-/* Stored sketches are merged in batches, of at most so many and not much more bytes. A merge of frequent items copies the table, so
- * one merge of many sketches costs less than many of one. */
+/* Stored sketches are merged in batches. A merge of frequent items copies the table, so one merge of many sketches costs less than
+ * many merges of one. A batch ends with the sketch that fills one of these limits. */
 #define MAX_IN_BATCH 16
 #define BYTES_IN_BATCH (1024 * 1024)
 
@@ -264,7 +264,8 @@ static inline int32_t filter_bigint(ds_sketch *handle, int64 item, int64 weight)
     return ds_bloom_insert_i64(handle, item);
 }
 
-/* Checks the limit of a state of strings now and then, so that it is not much exceeded before the group ends. */
+/* Checks the limit of a state of strings each time that a quarter of it has come. So a state exceeds it by little before the group
+ * ends. */
 static inline void check_strings(State *state, size_t length)
 {
     state->unchecked += length;

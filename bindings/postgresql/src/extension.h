@@ -87,7 +87,8 @@ typedef struct Sketch {
 #define IMAGE_BYTES(sketch) (VARSIZE(sketch) - offsetof(Sketch, image))
 
 /* The most bytes that a sketch may take, by the formula of `ds_memory_bytes`, which counts strings. Frequent items keep to both
- * limits. No interrupt is checked during a call of the library, and their calls take longer: the default keeps them below 100 ms. */
+ * limits. No interrupt is checked during a call of the library. Calls of frequent items take longer than others, and the default
+ * keeps them below 100 ms. */
 extern int max_image_bytes;
 extern int max_frequent_bytes;
 
@@ -107,7 +108,7 @@ static inline void check_bytes(Kind kind, uint64 bytes)
 /* Reads an image into a handle that has no sketch, in the current context. `max_bytes` limits what the sketch takes. */
 void read_image(Kind kind, ds_sketch *handle, const void *image, size_t length, size_t max_bytes);
 
-/* Writes the image of a handle's sketch after a header of so many bytes. Returns the whole as a new varlena. */
+/* Writes the image of a handle's sketch after `header` bytes, which the caller fills. Returns the whole as a new varlena. */
 struct varlena *write_image(Kind kind, ds_sketch *handle, size_t header);
 
 /* Merges other sketches of the kind into the handle's. Allocates in the current context. Returns the library's result. */

@@ -60,7 +60,7 @@ static void forget(Cache *cache, Kept *kept)
     kept->handle = (ds_sketch) DS_NONE;
 }
 
-/* Forgets sketches from a place on until another one of so many bytes fits, but for the one in the place before. */
+/* Forgets sketches from a place on until another one of `bytes` bytes fits. */
 static void make_room(Cache *cache, int place, size_t bytes)
 {
     size_t limit = Max(KEPT_BYTES, (size_t) work_mem * 1024);

@@ -1,8 +1,8 @@
-/* How many rows the planner expects to pass `contains(filter, item)`.
+/* The planner's estimate of the rows that pass `contains(filter, item)`.
  *
- * If the filter is known when the query is planned, it is asked for the most common values of the item's column and for those of
- * its histogram. Where there are too few, the filter's number of items is compared with the column's distinct values, and the
- * false-positive rate is added. Otherwise the default below is returned. */
+ * If the filter is known when the query is planned, `contains` is evaluated for the most common values of the item's column and
+ * for the values of its histogram. If there are too few, the filter's number of items is compared with the column's distinct
+ * values, and the false-positive rate is added. If the filter is not known, the default below is the estimate. */
 #include "extension.h"
 
 #include <math.h>
@@ -84,7 +84,7 @@ static double known_share(SupportRequestSelectivity *request, Const *filter)
 
 PG_FUNCTION_INFO_V1(bloom_filter_contains_support);
 
-/* Answers the planner's request for the selectivity of `contains`. */
+/* Serves the planner's request for the selectivity of `contains`. */
 Datum bloom_filter_contains_support(PG_FUNCTION_ARGS)
 {
     Node *node = (Node *) PG_GETARG_POINTER(0);

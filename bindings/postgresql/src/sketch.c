@@ -219,7 +219,7 @@ static Sketch *import(Kind kind, const void *bytes, size_t length, int damaged)
     return imported;
 }
 
-/* The text form is base64, which is converted in blocks of so many bytes, with interrupts checked between them. */
+/* The text form is base64. It is converted in blocks, and interrupts are checked between them. */
 #define BYTES_IN_BLOCK (3 * 1024 * 1024)
 #define LETTERS_IN_BLOCK (4 * 1024 * 1024)
 
