@@ -134,7 +134,7 @@ def valgrind(tests):
 
 
 GROUPS = [queries, isolation, bounds.every_key, ends.cancels, ends.many_cancels, ends.killed, ends.out_of_memory,
-          stored.dump_and_restore, stored.copied, stored.encodings, stored.collations, stored.versions, exchange.interfaces,
+          stored.dump_and_restore, stored.copied, stored.encodings, stored.collations, stored.versions, stored.owned, exchange.interfaces,
           page.page_queries, errors.page_errors, damage.damaged_bytes, valgrind]
 
 
