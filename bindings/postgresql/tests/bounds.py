@@ -137,7 +137,8 @@ def unlike_sizes(tests, ask):
     """Checks merges of frequent items of unlike sizes: both bounds and the error share of the smaller one."""
     for item, small, large in [("string", "strings_64", "strings_4096"), ("number", "bigints_64", "bigints_65536")]:
         for name, union, size in [("small first", f"{small} | {large}", 64), ("large first", f"{large} | {small}", None)]:
-            total, error, sized, wrong = ask(f"""SELECT (status(s)).total_weight, (status(s)).maximum_error, (status(s)).max_map_size,
+            total, error, sized, wrong = ask(f"""
+                SELECT (status(s)).total_weight, (status(s)).maximum_error, (status(s)).max_map_size,
                     count(*) FILTER (WHERE NOT 2 * weight BETWEEN lower_bound(s, {item}) AND upper_bound(s, {item}))
                 FROM (SELECT {union} AS s FROM sketches_serial OFFSET 0) AS merged, exact GROUP BY 1, 2, 3""")[0]
             first = large if size is None else small

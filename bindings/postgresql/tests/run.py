@@ -48,6 +48,7 @@ class Tests:
         self.build(self.tree)
 
     def build(self, tree, **settings):
+        """Builds the extension with settings of `make`, and installs it in a tree."""
         server.install(tree, f"{self.built}/libdatasketches.a", self.work, **settings)
 
     def check(self, name, holds, said=""):
@@ -102,9 +103,10 @@ def isolation(tests):
 
 
 def reports_of(log):
-    """Returns the reports of valgrind that come from the extension or the library, and not from PostgreSQL alone. The last part of a
-    report, on the block that an address is in, does not say where it comes from."""
-    stacks = [re.split(r"Address 0x|Uninitialised value was", report)[0] for report in re.split(r"^==\d+== *\n", log, flags=re.MULTILINE)]
+    """Returns the reports of valgrind that come from the extension or the library, and not from PostgreSQL alone. The last part of
+    a report is about the block that an address is in, and does not show where the report comes from."""
+    reports = re.split(r"^==\d+== *\n", log, flags=re.MULTILINE)
+    stacks = [re.split("Address 0x|Uninitialised value was", report)[0] for report in reports]
     return [stack for stack in stacks if re.search(r"\(/[^)]*/src/\w+\.c:\d+\)|marked\.h:|sketches_rattle\.so", stack)]
 
 
@@ -120,8 +122,8 @@ def valgrind(tests):
                            "FROM generate_series(1::bigint, 5000) AS i")
             cursor.execute("SELECT (status(frequent_strings_agg(string, i, 64))).total_weight, "
                            "(status(frequent_bigints_agg(i, i, 64))).total_weight, estimate(count_min_agg(i, 1, 3, 9000), 7), "
-                           "estimate(signed_count_min_agg(string, -1, 3, 9000), 'item 7'), contains(bloom_filter_agg(i, 99999, 7), 7) "
-                           "FROM spread_rows")
+                           "estimate(signed_count_min_agg(string, -1, 3, 9000), 'item 7'), "
+                           "contains(bloom_filter_agg(i, 99999, 7), 7) FROM spread_rows")
             total = 5000 * 5001 // 2
             row = cursor.fetchone()
             tests.check("workers under valgrind", row[:2] == (total, total) and row[2] >= 1 and row[4] is True, row)
@@ -132,7 +134,7 @@ def valgrind(tests):
 
 
 GROUPS = [queries, isolation, bounds.every_key, ends.cancels, ends.many_cancels, ends.killed, ends.out_of_memory,
-          stored.dump_and_restore, stored.copied, stored.encodings, stored.collations, stored.versions, exchange.interfaces,
+          stored.dump_and_restore, stored.copied, stored.encodings, stored.collations, stored.versions, stored.owned, exchange.interfaces,
           page.page_queries, errors.page_errors, damage.damaged_bytes, valgrind]
 
 

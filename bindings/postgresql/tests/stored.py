@@ -161,6 +161,20 @@ def collations(tests):
             tests.check(f"bytes instead: {statement}", code_of(cursor, statement) is None)
 
 
+def owned(tests):
+    """The owner of a database, who is no superuser, installs the extension and drops it."""
+    with tests.main.session() as session, session.cursor() as cursor:
+        cursor.execute("CREATE ROLE plain")
+        cursor.execute("CREATE DATABASE owned OWNER plain")
+    with tests.main.session("owned") as session, session.cursor() as cursor:
+        cursor.execute("SET ROLE plain; CREATE EXTENSION sketches_rattle; CREATE SCHEMA kept; CREATE TABLE kept.sketches AS "
+                       "SELECT bloom_filter_agg(1, 64, 3) AS filter")
+        tests.check("an extension in use is not dropped", code_of(cursor, "DROP EXTENSION sketches_rattle") == "2BP01")
+        cursor.execute("DROP TABLE kept.sketches; ALTER EXTENSION sketches_rattle SET SCHEMA kept; DROP EXTENSION sketches_rattle")
+        cursor.execute("SELECT count(*) FROM pg_type WHERE typname IN ('bloom_filter', '_bloom_filter')")
+        tests.check("an extension is dropped whole", cursor.fetchone() == (0,))
+
+
 def versions(tests):
     """Stored sketches of the first format, which each later version reads, and formats that this one does not know."""
     with database(tests.main, "versions") as session, session.cursor() as cursor:
