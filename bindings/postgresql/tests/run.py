@@ -6,6 +6,7 @@ unix socket alone and is stopped at the end.
 prints the failed tests, a line for each group of tests, and then 'N passed, M failed', counted on from the numbers after `--after`.
 Words after `--only` name groups. As root, the server runs as the user `postgres` or `nobody`.
 """
+import copy
 import os
 import re
 import shutil
@@ -13,6 +14,7 @@ import signal
 import subprocess
 import sys
 import tempfile
+import threading
 import time
 
 HERE = os.path.dirname(os.path.abspath(__file__))
@@ -40,7 +42,7 @@ class Tests:
         self.work, self.program, self.passed, self.failed = work, program, passed, failed
         self.tree = f"{work}/tree"
         self.built = f"{work}/built"
-        self.main = None
+        self.main = self.checked = None
         subprocess.run(["bash", f"{BINDINGS}/c/build.sh", self.built, archive], check=True, stdout=subprocess.DEVNULL)
         subprocess.run(["bash", f"{BINDINGS}/python/build.sh", self.built, archive], check=True, stdout=subprocess.DEVNULL,
                        env={**os.environ, "PYTHON": PYTHON})
@@ -58,6 +60,11 @@ class Tests:
             self.failed += 1
             print(f"failed: {name} {str(said)[:3000]}", flush=True)
 
+    def stop(self):
+        """Stops the server under valgrind, so that its tests end."""
+        if self.checked is not None:
+            self.checked.stop()
+
     def server(self, name, tree=None, **settings):
         return server.Server(tree or self.tree, f"{self.work}/{name}", **settings)
 
@@ -65,7 +72,7 @@ class Tests:
         """Runs the files of a folder `sql` or `specs` over a server, and compares their output with that in `expected`."""
         files = sorted(file[:-len(kind) - 1] for file in os.listdir(f"{folder}/{'sql' if kind == 'sql' else 'specs'}"))
         if kind == "sql":
-            files = re.search(r"^REGRESS = (.*)$", server_read(f"{EXTENSION}/Makefile"), re.MULTILINE)[1].split()
+            files = re.search(r"^REGRESS = (.*)$", text_of(f"{EXTENSION}/Makefile"), re.MULTILINE)[1].split()
             files = [file for file in files if file not in without]
         inside = tempfile.mkdtemp(dir=self.work)
         for part in ["sql" if kind == "sql" else "specs", "expected"]:
@@ -80,13 +87,13 @@ class Tests:
         differences = f"{inside}/regression.diffs"
         if not os.path.exists(differences):
             differences = f"{inside}/output_iso/regression.diffs"
-        said = server_read(differences) if os.path.exists(differences) else "\n".join(lines[-20:]) + ran.stderr.decode()
+        said = text_of(differences) if os.path.exists(differences) else "\n".join(lines[-20:]) + ran.stderr.decode()
         for file in files:
             self.check(f"{name} {file}", file in good, said if file not in good else "")
             said = ""
 
 
-def server_read(path):
+def text_of(path):
     with open(path, encoding="utf-8", errors="replace") as file:
         return file.read()
 
@@ -116,6 +123,7 @@ def valgrind(tests):
     server.copy_programs(tree)
     tests.build(tree, COPT=f"-g -O1 -include {HERE}/marked.h -Wno-pedantic")
     with tests.server("checked", tree=tree, before=[*VALGRIND, f"--log-file={tests.work}/checked/valgrind.%p"]) as checked:
+        tests.checked = checked
         tests.regressions("under valgrind,", checked, seconds=900, without=["parallel", "planner"])
         with checked.session("regression", **ends.WORKERS) as session, session.cursor() as cursor:
             cursor.execute("CREATE TABLE spread_rows WITH (parallel_workers = 2) AS SELECT i, 'item ' || i AS string "
@@ -127,15 +135,26 @@ def valgrind(tests):
             total = 5000 * 5001 // 2
             row = cursor.fetchone()
             tests.check("workers under valgrind", row[:2] == (total, total) and row[2] >= 1 and row[4] is True, row)
-        logs = [server_read(f"{checked.folder}/{name}") for name in os.listdir(checked.folder) if name.startswith("valgrind.")]
+        logs = [text_of(f"{checked.folder}/{name}") for name in os.listdir(checked.folder) if name.startswith("valgrind.")]
         tests.check("processes ran under valgrind", len(logs) > 10, len(logs))
         said = [report for log in logs for report in reports_of(log)]
         tests.check("valgrind reports nothing of the extension", not said, "".join(said))
 
 
 GROUPS = [queries, isolation, bounds.every_key, ends.cancels, ends.many_cancels, ends.killed, ends.out_of_memory,
-          stored.dump_and_restore, stored.copied, stored.encodings, stored.collations, stored.versions, stored.owned, exchange.interfaces,
-          page.page_queries, errors.page_errors, damage.damaged_bytes, valgrind]
+          stored.dump_and_restore, stored.copied, stored.encodings, stored.collations, stored.versions, stored.owned,
+          exchange.interfaces, page.page_queries, errors.page_errors, damage.damaged_bytes]
+
+
+def run_group(tests, group):
+    """Runs a group of tests, and prints how many passed and failed."""
+    began, before = time.monotonic(), (tests.passed, tests.failed)
+    try:
+        group(tests)
+    except Exception as error:  # a group that ends so is a failed test, and the others still run
+        tests.check(group.__name__, False, f"{type(error).__name__}: {error}\n{tests.main.log()[-500:]}")
+    print(f"PostgreSQL, {group.__name__.replace('_', ' ')}: {tests.passed - before[0]} passed, "
+          f"{tests.failed - before[1]} failed, {time.monotonic() - began:.0f} s", flush=True)
 
 
 def main():
@@ -158,18 +177,25 @@ def main():
         with tests.server("main") as tests.main:
             with tests.main.session() as session, session.cursor() as cursor:
                 cursor.execute("CREATE EXTENSION sketches_rattle")
-            for group in GROUPS:
-                if only and group.__name__ not in only:
-                    continue
-                began, before = time.monotonic(), (tests.passed, tests.failed)
-                try:
-                    group(tests)
-                except Exception as error:  # a group that ends so is a failed test, and the others still run
-                    tests.check(group.__name__, False, f"{type(error).__name__}: {error}\n{tests.main.log()[-500:]}")
-                print(f"PostgreSQL, {group.__name__.replace('_', ' ')}: {tests.passed - before[0]} passed, "
-                      f"{tests.failed - before[1]} failed, {time.monotonic() - began:.0f} s", flush=True)
-    print(f"{tests.passed} passed, {tests.failed} failed")
-    sys.exit(1 if tests.failed else 0)
+            # The server under valgrind takes as long as all other groups, so it runs beside them.
+            beside = copy.copy(tests)
+            beside.passed, beside.failed = 0, 0
+            thread = threading.Thread(target=run_group, args=(beside, valgrind))
+            if not only or "valgrind" in only:
+                thread.start()
+            try:
+                for group in GROUPS:
+                    if not only or group.__name__ in only:
+                        run_group(tests, group)
+            except BaseException:
+                beside.stop()
+                raise
+            finally:
+                if thread.ident is not None:
+                    thread.join()
+    passed, failed = tests.passed + beside.passed, tests.failed + beside.failed
+    print(f"{passed} passed, {failed} failed")
+    sys.exit(1 if failed else 0)
 
 
 main()

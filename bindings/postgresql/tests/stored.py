@@ -170,7 +170,10 @@ def owned(tests):
         cursor.execute("SET ROLE plain; CREATE EXTENSION sketches_rattle; CREATE SCHEMA kept; CREATE TABLE kept.sketches AS "
                        "SELECT bloom_filter_agg(1, 64, 3) AS filter")
         tests.check("an extension in use is not dropped", code_of(cursor, "DROP EXTENSION sketches_rattle") == "2BP01")
-        cursor.execute("DROP TABLE kept.sketches; ALTER EXTENSION sketches_rattle SET SCHEMA kept; DROP EXTENSION sketches_rattle")
+        cursor.execute("RESET ROLE; ALTER EXTENSION sketches_rattle SET SCHEMA kept; SET ROLE plain")
+        cursor.execute("SELECT kept.contains(filter, 1) FROM kept.sketches")
+        tests.check("an extension in another schema", cursor.fetchone() == (True,))
+        cursor.execute("DROP TABLE kept.sketches; DROP EXTENSION sketches_rattle")
         cursor.execute("SELECT count(*) FROM pg_type WHERE typname IN ('bloom_filter', '_bloom_filter')")
         tests.check("an extension is dropped whole", cursor.fetchone() == (0,))
 
