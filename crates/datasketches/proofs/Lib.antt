@@ -1,6 +1,7 @@
 pub mod Cells
 pub mod Fitting
 pub mod Joining
+pub mod Keyed
 pub mod Names
 pub mod Powers
 pub mod Promised

@@ -3,8 +3,6 @@ use Rattle.std.proofs.Common.{◌≡◌, ℕ, ℤ, ◌≤◌, Bool, List, Option
 use Rattle.std.specs.Prelude.{cond, ◌*◌}
 use Rattle.std.proofs.lemmas.Bool.{le-ltb}
 use denote.RattleType.{RattleType}
-use Rattle.std.specs.Global.{Global}
-use Rattle.std.specs.declared.vec.Vec.{Vec}
 use Rattle.counter_table.specs.Bytes.{table_bytes}
 use Rattle.sketch_base.specs.Checks.{IsImageRefusal, or_else}
 use Rattle.sketch_base.specs.Errors.{ErrorValue, no_memory}
@@ -27,8 +25,8 @@ use Rattle.datasketches.specs.Histories.History.{OfFrequent, OfCountI64, OfCount
 use Rattle.datasketches.specs.Images.{IsImageOf, IsCountImage, IsWrittenBy, IsReadFrom, IsReadRefusal, IsLoadRefusal, GivesBack, over_limit, load_fault}
 use Rattle.datasketches.specs.Replies.{min_signed, max_signed, min_unsigned, max_unsigned}
 use Rattle.datasketches.specs.Stands.{StandsFor, KeepsCounts}
-use Rattle.datasketches.specs.declared.image.Image.{Image}
-use Rattle.datasketches.specs.declared.image.Image.TheVariants as image
+use Rattle.datasketches.specs.declared.image_kind.ImageKind.{ImageKind}
+use Rattle.datasketches.specs.declared.image_kind.ImageKind.TheVariants as kind
 use Rattle.datasketches.specs.declared.sketch.Sketch.{Sketch}
 use Rattle.datasketches.specs.declared.sketch.Sketch.TheVariants.{Frequent, CountI64, CountU64, Bloom}
 
@@ -50,15 +48,15 @@ or_else_none (Some fault) late e = cc
 
 module _ {T C : Type 0} (eq : T → T → Bool) (codec : Codec C) (content : T → C) where
   -- a filter that was read from the bytes that were saved gives back what was saved
-  pub filter_back : (bytes : Vec ℕ Global) {read : List ℕ} {filter : FilterState} → read ≡ bytes.items → bloom_laws.SpelledIsImage → IsFilterState filter → bloom.Restores read filter → GivesBack eq codec content (image.Bloom bytes) (Bloom filter)
-  filter_back bytes same spelled state restores (OfBloom h) i = record { state = state; stands = restores i.filter (spelled _ i.filter (rw same i.spelled)) h i.stands }
-  filter_back bytes same spelled state restores OfStranger i = state
-  filter_back bytes same spelled state restores _ i = absurd i
+  pub filter_back : (bytes : List ℕ) {filter : FilterState} → bloom_laws.SpelledIsImage → IsFilterState filter → bloom.Restores bytes filter → GivesBack eq codec content kind.Bloom bytes (Bloom filter)
+  filter_back bytes spelled state restores (OfBloom h) i = record { state = state; stands = restores i.filter (spelled _ i.filter i.spelled) h i.stands }
+  filter_back bytes spelled state restores OfStranger i = state
+  filter_back bytes spelled state restores _ i = absurd i
 
   -- so does a sketch of frequent items
-  pub frequent_back : (bytes : Vec ℕ Global) {read : List ℕ} {new : FrequentState T} → read ≡ bytes.items → frequent_laws.SpelledIsImage codec → IsState eq new → frequent.Restores codec content eq read new → frequent.RestoresBudget codec content eq read new → GivesBack eq codec content (image.Frequent bytes) (Frequent new)
-  frequent_back bytes {new = new} same spelled state restores budgets (OfFrequent h) i =
-      let was = spelled _ _ (rw same i.spelled) in
+  pub frequent_back : (bytes : List ℕ) {new : FrequentState T} → frequent_laws.SpelledIsImage codec → IsState eq new → frequent.Restores codec content eq bytes new → frequent.RestoresBudget codec content eq bytes new → GivesBack eq codec content kind.Frequent bytes (Frequent new)
+  frequent_back bytes {new = new} spelled state restores budgets (OfFrequent h) i =
+      let was = spelled _ _ i.spelled in
       let stands = restores i.sketch was h i.encloses in
       record {
         state = state;
@@ -66,45 +64,45 @@ module _ {T C : Type 0} (eq : T → T → Bool) (codec : Codec C) (content : T �
         stands = stands;
         budget = budgets i.sketch was h i.encloses i.budget;
       }
-  frequent_back bytes same spelled state restores budgets OfStranger i = state
-  frequent_back bytes same spelled state restores budgets _ i = absurd i
+  frequent_back bytes spelled state restores budgets OfStranger i = state
+  frequent_back bytes spelled state restores budgets _ i = absurd i
 
   -- so does a Count-Min sketch
-  pub signed_back : count_laws.SpelledIsImage min_signed max_signed → (seed : ℕ) (bytes : Vec ℕ Global) (new : CountState) → IsCountState max_signed new → count.Restores min_signed max_signed seed bytes.items new → GivesBack eq codec content (image.CountI64 seed bytes) (CountI64 new)
-  signed_back spelled seed bytes new state restores (OfCountI64 h) i = count_back min_signed max_signed seed bytes.items new h spelled state restores i
+  pub signed_back : count_laws.SpelledIsImage min_signed max_signed → (seed : ℕ) (bytes : List ℕ) (new : CountState) → IsCountState max_signed new → count.Restores min_signed max_signed seed bytes new → GivesBack eq codec content (kind.CountI64 seed) bytes (CountI64 new)
+  signed_back spelled seed bytes new state restores (OfCountI64 h) i = count_back min_signed max_signed seed bytes new h spelled state restores i
   signed_back spelled seed bytes new state restores OfStranger i = state
   signed_back spelled seed bytes new state restores _ i = absurd i
 
   -- so does a Count-Min sketch
-  pub unsigned_back : count_laws.SpelledIsImage min_unsigned max_unsigned → (seed : ℕ) (bytes : Vec ℕ Global) (new : CountState) → IsCountState max_unsigned new → count.Restores min_unsigned max_unsigned seed bytes.items new → GivesBack eq codec content (image.CountU64 seed bytes) (CountU64 new)
-  unsigned_back spelled seed bytes new state restores (OfCountU64 h) i = count_back min_unsigned max_unsigned seed bytes.items new h spelled state restores i
+  pub unsigned_back : count_laws.SpelledIsImage min_unsigned max_unsigned → (seed : ℕ) (bytes : List ℕ) (new : CountState) → IsCountState max_unsigned new → count.Restores min_unsigned max_unsigned seed bytes new → GivesBack eq codec content (kind.CountU64 seed) bytes (CountU64 new)
+  unsigned_back spelled seed bytes new state restores (OfCountU64 h) i = count_back min_unsigned max_unsigned seed bytes new h spelled state restores i
   unsigned_back spelled seed bytes new state restores OfStranger i = state
   unsigned_back spelled seed bytes new state restores _ i = absurd i
 
   -- what was written for a sketch stands for what the sketch stands for
-  pub saved_stands : (sketch : Sketch T) (image : Image) (h : History T) → IsWrittenBy codec content sketch image → StandsFor eq sketch h → IsImageOf eq codec content image h
-  saved_stands (Frequent s) (image.Frequent bytes) (OfFrequent h) written stands = record { sketch = s; spelled = written; encloses = stands.stands.encloses; budget = stands.budget }
-  saved_stands (Frequent s) (image.Frequent bytes) OfStranger written stands = tt
-  saved_stands (Frequent s) (image.Frequent bytes) _ written stands = absurd stands
-  saved_stands (CountI64 s) (image.CountI64 seed bytes) (OfCountI64 h) written stands = record { sketch = s; seed_is = written.0; spelled = written.1; stands = stands.stands }
-  saved_stands (CountI64 s) (image.CountI64 seed bytes) OfStranger written stands = tt
-  saved_stands (CountI64 s) (image.CountI64 seed bytes) _ written stands = absurd stands
-  saved_stands (CountU64 s) (image.CountU64 seed bytes) (OfCountU64 h) written stands = record { sketch = s; seed_is = written.0; spelled = written.1; stands = stands.stands }
-  saved_stands (CountU64 s) (image.CountU64 seed bytes) OfStranger written stands = tt
-  saved_stands (CountU64 s) (image.CountU64 seed bytes) _ written stands = absurd stands
-  saved_stands (Bloom s) (image.Bloom bytes) (OfBloom h) written stands = record { filter = s; spelled = written; stands = stands.stands }
-  saved_stands (Bloom s) (image.Bloom bytes) OfStranger written stands = tt
-  saved_stands (Bloom s) (image.Bloom bytes) _ written stands = absurd stands
-  saved_stands _ _ _ written stands = absurd written
+  pub saved_stands : (sketch : Sketch T) (kind : ImageKind) (bytes : List ℕ) (h : History T) → IsWrittenBy codec content sketch kind bytes → StandsFor eq sketch h → IsImageOf eq codec content kind bytes h
+  saved_stands (Frequent s) kind.Frequent bytes (OfFrequent h) written stands = record { sketch = s; spelled = written; encloses = stands.stands.encloses; budget = stands.budget }
+  saved_stands (Frequent s) kind.Frequent bytes OfStranger written stands = tt
+  saved_stands (Frequent s) kind.Frequent bytes _ written stands = absurd stands
+  saved_stands (CountI64 s) (kind.CountI64 seed) bytes (OfCountI64 h) written stands = record { sketch = s; seed_is = written.0; spelled = written.1; stands = stands.stands }
+  saved_stands (CountI64 s) (kind.CountI64 seed) bytes OfStranger written stands = tt
+  saved_stands (CountI64 s) (kind.CountI64 seed) bytes _ written stands = absurd stands
+  saved_stands (CountU64 s) (kind.CountU64 seed) bytes (OfCountU64 h) written stands = record { sketch = s; seed_is = written.0; spelled = written.1; stands = stands.stands }
+  saved_stands (CountU64 s) (kind.CountU64 seed) bytes OfStranger written stands = tt
+  saved_stands (CountU64 s) (kind.CountU64 seed) bytes _ written stands = absurd stands
+  saved_stands (Bloom s) kind.Bloom bytes (OfBloom h) written stands = record { filter = s; spelled = written; stands = stands.stands }
+  saved_stands (Bloom s) kind.Bloom bytes OfStranger written stands = tt
+  saved_stands (Bloom s) kind.Bloom bytes _ written stands = absurd stands
+  saved_stands _ _ _ _ written stands = absurd written
 
 module _ {T C : Type 0} (codec : Codec C) (content : T → C) where
   -- where an image was read, memory may be refused
-  pub read_first : (saved : Image) (sketch : Sketch T) → IsReadFrom codec content saved sketch → IsReadRefusal codec saved no_memory
-  read_first (image.Frequent bytes) (Frequent s) read = inl (refl, or_else_none (frequent.early_fault bytes.items) _ read.0.no_fault)
-  read_first (image.CountI64 seed bytes) (CountI64 s) read = inl (refl, or_else_none (count.early_fault seed bytes.items) _ read.no_fault)
-  read_first (image.CountU64 seed bytes) (CountU64 s) read = inl (refl, or_else_none (count.early_fault seed bytes.items) _ read.no_fault)
-  read_first (image.Bloom bytes) (Bloom s) read = inl (refl, or_else_none (bloom.early_fault bytes.items) _ read.no_fault)
-  read_first _ _ read = absurd read
+  pub read_first : (kind : ImageKind) (bytes : List ℕ) (sketch : Sketch T) → IsReadFrom codec content kind bytes sketch → IsReadRefusal codec kind bytes no_memory
+  read_first kind.Frequent bytes (Frequent s) read = inl (refl, or_else_none (frequent.early_fault bytes) _ read.0.no_fault)
+  read_first (kind.CountI64 seed) bytes (CountI64 s) read = inl (refl, or_else_none (count.early_fault seed bytes) _ read.no_fault)
+  read_first (kind.CountU64 seed) bytes (CountU64 s) read = inl (refl, or_else_none (count.early_fault seed bytes) _ read.no_fault)
+  read_first kind.Bloom bytes (Bloom s) read = inl (refl, or_else_none (bloom.early_fault bytes) _ read.no_fault)
+  read_first _ _ _ read = absurd read
 
 -- ---- within a limit
 
@@ -122,12 +120,12 @@ bloom_accepted most bytes s image within = not_over most _ (subst (λ (n : ℕ).
 
 module _ {T C : Type 0} (slot : ℕ) (codec : Codec C) (content : T → C) where
   -- where an image was loaded, memory may be refused
-  pub load_first : (most : ℕ) (saved : Image) (sketch : Sketch T) → IsReadFrom codec content saved sketch → load_fault slot codec most saved ≡ None → IsLoadRefusal slot codec most saved no_memory
-  load_first most (image.Frequent bytes) (Frequent s) read accepted = inl (refl, none_within (frequent.early_fault bytes.items) _ _ read.0.no_fault accepted)
-  load_first most (image.CountI64 seed bytes) (CountI64 s) read accepted = inl (refl, none_within (count.early_fault seed bytes.items) _ _ read.no_fault accepted)
-  load_first most (image.CountU64 seed bytes) (CountU64 s) read accepted = inl (refl, none_within (count.early_fault seed bytes.items) _ _ read.no_fault accepted)
-  load_first most (image.Bloom bytes) (Bloom s) read accepted = inl (refl, none_within (bloom.early_fault bytes.items) _ _ read.no_fault accepted)
-  load_first most _ _ read accepted = absurd read
+  pub load_first : (most : ℕ) (kind : ImageKind) (bytes : List ℕ) (sketch : Sketch T) → IsReadFrom codec content kind bytes sketch → load_fault slot codec most kind bytes ≡ None → IsLoadRefusal slot codec most kind bytes no_memory
+  load_first most kind.Frequent bytes (Frequent s) read accepted = inl (refl, none_within (frequent.early_fault bytes) _ _ read.0.no_fault accepted)
+  load_first most (kind.CountI64 seed) bytes (CountI64 s) read accepted = inl (refl, none_within (count.early_fault seed bytes) _ _ read.no_fault accepted)
+  load_first most (kind.CountU64 seed) bytes (CountU64 s) read accepted = inl (refl, none_within (count.early_fault seed bytes) _ _ read.no_fault accepted)
+  load_first most kind.Bloom bytes (Bloom s) read accepted = inl (refl, none_within (bloom.early_fault bytes) _ _ read.no_fault accepted)
+  load_first most _ _ _ read accepted = absurd read
 
 or_else-none : (a : Option Fault) → or_else a None ≡ a
 or_else-none None = refl

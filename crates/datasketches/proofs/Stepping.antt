@@ -2,29 +2,27 @@
 use Rattle.std.proofs.Common.{◌≡◌, ℕ, Bool, true, false, cond, List, [], ◌∷◌, ◌++◌, Option, Some, None, inl, inr, refl, sym, ◌∙◌, ap, subst, append_assoc, append-nil, length, arith, ◌≤◌}
 use Rattle.std.specs.Prelude.{◌⊎◌}
 use Rattle.std.specs.Option.{option_map}
-use Rattle.std.specs.String.{string_bytes}
 use Rattle.std.proofs.lemmas.Bool.{false≢true}
 use Rattle.std.proofs.lemmas.List.{length-append}
 use Rattle.sketch_frequencies.specs.Items.{Codec}
 use Rattle.sketch_base.specs.Errors.{ErrorValue}
-use Rattle.datasketches.specs.Actions.{action_of}
+use Rattle.datasketches.specs.Actions.{action_of, Action, Action as action}
 use Rattle.datasketches.specs.Changing.{Changes}
 use Rattle.datasketches.specs.SessionStandsFor.{Paired, SessionStandsFor}
 use Rattle.datasketches.specs.Histories.{History, Assignment, put_at, changed, restored, after_action, after_action_told, after_one, after_one_told, after, after_told}
 use Rattle.datasketches.specs.Histories.History.{OfStranger}
-use Rattle.datasketches.specs.Images.{image_of, IsImageOf, IsWrittenBy, IsReadFrom, IsWriteRefusal, IsReadRefusal, IsLoadRefusal, GivesBack}
+use Rattle.datasketches.specs.Images.{Image, IsSavedOf, IsImageOf, IsWrittenBy, IsReadFrom, IsWriteRefusal, IsReadRefusal, IsLoadRefusal, GivesBack}
 use Rattle.datasketches.specs.Loading.{IsActionTold, IsTold, AreTold}
 use Rattle.datasketches.specs.Names.{at_name, Puts, AreSame}
+use Rattle.datasketches.specs.Performed.{Performed}
 use Rattle.datasketches.specs.Replies.{is_refused, refused}
 use Rattle.datasketches.specs.Running.{Midst}
 use Rattle.datasketches.specs.Stands.{StandsFor}
 use Rattle.datasketches.specs.State.{SessionState, IsUnchanged}
 use Rattle.datasketches.specs.Steps.{Refuses, MakesFrom, Writes, Reads, Saves, Restores, IsLoaded, Loads, Performs, Step, Run}
-use Rattle.datasketches.specs.declared.action.Action.{Action}
-use Rattle.datasketches.specs.declared.action.Action.TheVariants as action
 use Rattle.datasketches.specs.declared.command.Command.{Command}
-use Rattle.datasketches.specs.declared.image.Image.{Image}
-use Rattle.datasketches.specs.declared.image.Image.TheVariants as image
+use Rattle.datasketches.specs.declared.image_kind.ImageKind.{ImageKind}
+use Rattle.datasketches.specs.declared.image_kind.ImageKind.TheVariants as kind
 use Rattle.datasketches.specs.declared.reply.Reply.{Reply}
 use Rattle.datasketches.specs.declared.reply.Reply.TheVariants.{Done}
 use Rattle.datasketches.specs.declared.sketch.Sketch.{Sketch}
@@ -36,17 +34,17 @@ module _ {T C : Type 0} (eq : T → T → Bool) (codec : Codec C) (content : T �
   pub unchanged_fits : (old new : SessionState T) (a : Assignment T) → SessionStandsFor eq codec content old a → IsUnchanged old new → SessionStandsFor eq codec content new a
   unchanged_fits old new a fits same = record {
     sketches = same_pairs (StandsFor eq) old.sketches new.sketches a.sketches fits.sketches same.sketches;
-    images = same_pairs (IsImageOf eq codec content) old.images new.images a.images fits.images same.images;
+    images = same_pairs (IsSavedOf eq codec content) old.images new.images a.images fits.images same.images;
   }
 
   -- sketches changed, or the command was refused
-  sketches_fit : (r : Bool) (grown : List ℕ → Option (History T)) (new : SessionState T) (a : Assignment T) → SketchesFit eq new.sketches (cond r a.sketches grown) → AllPaired (IsImageOf eq codec content) new.images a.images → SessionStandsFor eq codec content new (cond r a (record a { sketches = grown }))
+  sketches_fit : (r : Bool) (grown : List ℕ → Option (History T)) (new : SessionState T) (a : Assignment T) → SketchesFit eq new.sketches (cond r a.sketches grown) → AllPaired (IsSavedOf eq codec content) new.images a.images → SessionStandsFor eq codec content new (cond r a (record a { sketches = grown }))
   sketches_fit true grown new a sketches images = record { sketches = sketches; images = images }
   sketches_fit false grown new a sketches images = record { sketches = sketches; images = images }
 
   after_sketches : (reply : Reply T) (grown : List ℕ → Option (History T)) (old new : SessionState T) (a : Assignment T) → SessionStandsFor eq codec content old a → AreSame old.images new.images → SketchesFit eq new.sketches (cond (is_refused reply) a.sketches grown) → SessionStandsFor eq codec content new (cond (is_refused reply) a (record a { sketches = grown }))
   after_sketches reply grown old new a fits same sketches =
-      sketches_fit (is_refused reply) grown new a sketches (same_pairs (IsImageOf eq codec content) old.images new.images a.images fits.images same)
+      sketches_fit (is_refused reply) grown new a sketches (same_pairs (IsSavedOf eq codec content) old.images new.images a.images fits.images same)
 
   -- a question
   told_fits : (r : Bool) (old new : SessionState T) (a : Assignment T) → SessionStandsFor eq codec content old a → IsUnchanged old new → SessionStandsFor eq codec content new (cond r a a)
@@ -68,16 +66,16 @@ module _ {T C : Type 0} (eq : T → T → Bool) (codec : Codec C) (content : T �
   -- an image was written, or the call refused
   wrote_fits : (sketch : Sketch T) (image : List ℕ) (history : Option (History T)) (reply : Reply T) (old new : SessionState T) (a : Assignment T) →
       Paired (StandsFor eq) (Some sketch) history → SessionStandsFor eq codec content old a → AreSame old.sketches new.sketches →
-      ((saved : Image) × (reply ≡ Done) × IsWrittenBy codec content sketch saved × Puts image saved old.images new.images) ⊎ ((e : ErrorValue) × IsWriteRefusal codec content sketch e × Refuses (refused e) old.images reply new.images) →
+      ((saved : Image) × (reply ≡ Done) × IsWrittenBy codec content sketch saved.kind saved.bytes × Puts image saved old.images new.images) ⊎ ((e : ErrorValue) × IsWriteRefusal codec content sketch e × Refuses (refused e) old.images reply new.images) →
       SessionStandsFor eq codec content new (cond (is_refused reply) a (record a { images = put_at image history a.images }))
   wrote_fits sketch image (Some h) reply old new a pair fits same (inl done) = rw done.1 (record {
     sketches = same_pairs (StandsFor eq) old.sketches new.sketches a.sketches fits.sketches same;
-    images = put_pair (IsImageOf eq codec content) image done.0 h old.images new.images a.images fits.images (saved_stands eq codec content sketch done.0 h done.2 pair) done.3;
+    images = put_pair (IsSavedOf eq codec content) image done.0 h old.images new.images a.images fits.images (saved_stands eq codec content sketch done.0.kind done.0.bytes h done.2 pair) done.3;
   })
   wrote_fits sketch image None reply old new a pair fits same (inl done) = absurd pair
   wrote_fits sketch image history reply old new a pair fits same (inr done) = rw done.2.0 (record {
     sketches = same_pairs (StandsFor eq) old.sketches new.sketches a.sketches fits.sketches same;
-    images = same_pairs (IsImageOf eq codec content) old.images new.images a.images fits.images done.2.1;
+    images = same_pairs (IsSavedOf eq codec content) old.images new.images a.images fits.images done.2.1;
   })
 
   pub save_fits : (name image : List ℕ) (reply : Reply T) (old new : SessionState T) (a : Assignment T) → SessionStandsFor eq codec content old a → Saves codec content name image old reply new →
@@ -88,7 +86,7 @@ module _ {T C : Type 0} (eq : T → T → Bool) (codec : Codec C) (content : T �
 
   -- a save that was refused
   wrote_same : (sketch : Sketch T) (image : List ℕ) (reply : Reply T) (old new : SessionState T) → is_refused reply ≡ true → AreSame old.sketches new.sketches →
-      ((saved : Image) × (reply ≡ Done) × IsWrittenBy codec content sketch saved × Puts image saved old.images new.images) ⊎ ((e : ErrorValue) × IsWriteRefusal codec content sketch e × Refuses (refused e) old.images reply new.images) →
+      ((saved : Image) × (reply ≡ Done) × IsWrittenBy codec content sketch saved.kind saved.bytes × Puts image saved old.images new.images) ⊎ ((e : ErrorValue) × IsWriteRefusal codec content sketch e × Refuses (refused e) old.images reply new.images) →
       IsUnchanged old new
   wrote_same sketch image reply old new r same (inl done) = absurd (false≢true (sym (ap is_refused done.1) ∙ r))
   wrote_same sketch image reply old new r same (inr done) = record { sketches = same; images = done.2.1 }
@@ -99,28 +97,28 @@ module _ {T C : Type 0} (eq : T → T → Bool) (codec : Codec C) (content : T �
 
   -- a sketch was read, or the call refused
   read_fits : (saved : Image) (name : List ℕ) (history : Option (History T)) (reply : Reply T) (old new : SessionState T) (a : Assignment T) →
-      Paired (IsImageOf eq codec content) (Some saved) history → SessionStandsFor eq codec content old a → AreSame old.images new.images →
-      ((sketch : Sketch T) × (reply ≡ Done) × IsReadFrom codec content saved sketch × GivesBack eq codec content saved sketch × Puts name sketch old.sketches new.sketches) ⊎ ((e : ErrorValue) × IsReadRefusal codec saved e × Refuses (refused e) old.sketches reply new.sketches) →
+      Paired (IsSavedOf eq codec content) (Some saved) history → SessionStandsFor eq codec content old a → AreSame old.images new.images →
+      ((sketch : Sketch T) × (reply ≡ Done) × IsReadFrom codec content saved.kind saved.bytes sketch × GivesBack eq codec content saved.kind saved.bytes sketch × Puts name sketch old.sketches new.sketches) ⊎ ((e : ErrorValue) × IsReadRefusal codec saved.kind saved.bytes e × Refuses (refused e) old.sketches reply new.sketches) →
       SessionStandsFor eq codec content new (cond (is_refused reply) a (record a { sketches = put_at name (option_map restored history) a.sketches }))
   read_fits saved name (Some h) reply old new a pair fits same (inl done) = rw done.1 (record {
     sketches = put_pair (StandsFor eq) name done.0 (restored h) old.sketches new.sketches a.sketches fits.sketches (done.3 h pair) done.4;
-    images = same_pairs (IsImageOf eq codec content) old.images new.images a.images fits.images same;
+    images = same_pairs (IsSavedOf eq codec content) old.images new.images a.images fits.images same;
   })
   read_fits saved name None reply old new a pair fits same (inl done) = absurd pair
   read_fits saved name history reply old new a pair fits same (inr done) = rw done.2.0 (record {
     sketches = same_pairs (StandsFor eq) old.sketches new.sketches a.sketches fits.sketches done.2.1;
-    images = same_pairs (IsImageOf eq codec content) old.images new.images a.images fits.images same;
+    images = same_pairs (IsSavedOf eq codec content) old.images new.images a.images fits.images same;
   })
 
   pub restore_fits : (image name : List ℕ) (reply : Reply T) (old new : SessionState T) (a : Assignment T) → SessionStandsFor eq codec content old a → Restores eq codec content image name old reply new →
       SessionStandsFor eq codec content new (cond (is_refused reply) a (record a { sketches = put_at name (option_map restored (a.images image)) a.sketches }))
   restore_fits image name reply old new a fits restores =
       makes_fits (at_name image old.images) (at_name name old.sketches) (λ saved. Reads eq codec content saved name old reply new) reply old new a (record a { sketches = put_at name (option_map restored (a.images image)) a.sketches }) fits
-      (λ saved e done. let pair : Paired (IsImageOf eq codec content) (Some saved) (a.images image) = rw e at (fits.images image) in read_fits saved name (a.images image) reply old new a pair fits done.images done.outcome) restores
+      (λ saved e done. let pair : Paired (IsSavedOf eq codec content) (Some saved) (a.images image) = rw e at (fits.images image) in read_fits saved name (a.images image) reply old new a pair fits done.images done.outcome) restores
 
   -- a restore that was refused
   read_same : (saved : Image) (name : List ℕ) (reply : Reply T) (old new : SessionState T) → is_refused reply ≡ true → AreSame old.images new.images →
-      ((sketch : Sketch T) × (reply ≡ Done) × IsReadFrom codec content saved sketch × GivesBack eq codec content saved sketch × Puts name sketch old.sketches new.sketches) ⊎ ((e : ErrorValue) × IsReadRefusal codec saved e × Refuses (refused e) old.sketches reply new.sketches) →
+      ((sketch : Sketch T) × (reply ≡ Done) × IsReadFrom codec content saved.kind saved.bytes sketch × GivesBack eq codec content saved.kind saved.bytes sketch × Puts name sketch old.sketches new.sketches) ⊎ ((e : ErrorValue) × IsReadRefusal codec saved.kind saved.bytes e × Refuses (refused e) old.sketches reply new.sketches) →
       IsUnchanged old new
   read_same saved name reply old new r same (inl done) = absurd (false≢true (sym (ap is_refused done.1) ∙ r))
   read_same saved name reply old new r same (inr done) = record { sketches = done.2.1; images = same }
@@ -131,60 +129,60 @@ module _ {T C : Type 0} (eq : T → T → Bool) (codec : Codec C) (content : T �
 
 module _ {T C : Type 0} (slot : ℕ) (eq : T → T → Bool) (codec : Codec C) (content : T → C) where
   -- bytes were loaded of which a history is told, or the call refused
-  brought_fits : (image : Image) (max_bytes : ℕ) (name : List ℕ) (loaded : History T) (reply : Reply T) (old new : SessionState T) (a : Assignment T) →
-      IsImageOf eq codec content image loaded → SessionStandsFor eq codec content old a → AreSame old.images new.images →
-      ((sketch : Sketch T) × (reply ≡ Done) × IsLoaded slot eq codec content image max_bytes sketch × Puts name sketch old.sketches new.sketches) ⊎ ((e : ErrorValue) × IsLoadRefusal slot codec max_bytes image e × Refuses (refused e) old.sketches reply new.sketches) →
+  brought_fits : (kind : ImageKind) (bytes : List ℕ) (max_bytes : ℕ) (name : List ℕ) (loaded : History T) (reply : Reply T) (old new : SessionState T) (a : Assignment T) →
+      IsImageOf eq codec content kind bytes loaded → SessionStandsFor eq codec content old a → AreSame old.images new.images →
+      ((sketch : Sketch T) × (reply ≡ Done) × IsLoaded slot eq codec content kind bytes max_bytes sketch × Puts name sketch old.sketches new.sketches) ⊎ ((e : ErrorValue) × IsLoadRefusal slot codec max_bytes kind bytes e × Refuses (refused e) old.sketches reply new.sketches) →
       SessionStandsFor eq codec content new (cond (is_refused reply) a (record a { sketches = put_at name (Some (restored loaded)) a.sketches }))
-  brought_fits image max_bytes name loaded reply old new a told fits same (inl done) = rw done.1 (record {
+  brought_fits kind bytes max_bytes name loaded reply old new a told fits same (inl done) = rw done.1 (record {
     sketches = put_pair (StandsFor eq) name done.0 (restored loaded) old.sketches new.sketches a.sketches fits.sketches (done.2.stands loaded told) done.3;
-    images = same_pairs (IsImageOf eq codec content) old.images new.images a.images fits.images same;
+    images = same_pairs (IsSavedOf eq codec content) old.images new.images a.images fits.images same;
   })
-  brought_fits image max_bytes name loaded reply old new a told fits same (inr done) = rw done.2.0 (record {
+  brought_fits kind bytes max_bytes name loaded reply old new a told fits same (inr done) = rw done.2.0 (record {
     sketches = same_pairs (StandsFor eq) old.sketches new.sketches a.sketches fits.sketches done.2.1;
-    images = same_pairs (IsImageOf eq codec content) old.images new.images a.images fits.images same;
+    images = same_pairs (IsSavedOf eq codec content) old.images new.images a.images fits.images same;
   })
 
-  free_fits : (image : Image) (max_bytes : ℕ) (name : List ℕ) (found : Option (Sketch T)) (loaded : History T) (reply : Reply T) (old new : SessionState T) (a : Assignment T) → at_name name old.sketches ≡ found →
-      IsImageOf eq codec content image loaded → SessionStandsFor eq codec content old a → Loads slot eq codec content image max_bytes name old reply new →
+  free_fits : (kind : ImageKind) (bytes : List ℕ) (max_bytes : ℕ) (name : List ℕ) (found : Option (Sketch T)) (loaded : History T) (reply : Reply T) (old new : SessionState T) (a : Assignment T) → at_name name old.sketches ≡ found →
+      IsImageOf eq codec content kind bytes loaded → SessionStandsFor eq codec content old a → Loads slot eq codec content kind bytes max_bytes name old reply new →
       SessionStandsFor eq codec content new (cond (is_refused reply) a (record a { sketches = put_at name (Some (restored loaded)) a.sketches }))
-  free_fits image max_bytes name (Some sketch) loaded reply old new a e told fits loads =
+  free_fits kind bytes max_bytes name (Some sketch) loaded reply old new a e told fits loads =
       let done = rw e at loads in
       rw done.1 (unchanged_fits eq codec content old new a fits done.0)
-  free_fits image max_bytes name None loaded reply old new a e told fits loads =
+  free_fits kind bytes max_bytes name None loaded reply old new a e told fits loads =
       let done = rw e at loads in
-      brought_fits image max_bytes name loaded reply old new a told fits done.images done.outcome
+      brought_fits kind bytes max_bytes name loaded reply old new a told fits done.images done.outcome
 
-  pub load_fits : (image : Image) (max_bytes : ℕ) (name : List ℕ) (loaded : History T) (reply : Reply T) (old new : SessionState T) (a : Assignment T) →
-      IsImageOf eq codec content image loaded → SessionStandsFor eq codec content old a → Loads slot eq codec content image max_bytes name old reply new →
+  pub load_fits : (kind : ImageKind) (bytes : List ℕ) (max_bytes : ℕ) (name : List ℕ) (loaded : History T) (reply : Reply T) (old new : SessionState T) (a : Assignment T) →
+      IsImageOf eq codec content kind bytes loaded → SessionStandsFor eq codec content old a → Loads slot eq codec content kind bytes max_bytes name old reply new →
       SessionStandsFor eq codec content new (cond (is_refused reply) a (record a { sketches = put_at name (Some (restored loaded)) a.sketches }))
-  load_fits image max_bytes name loaded reply old new a told fits loads = free_fits image max_bytes name (at_name name old.sketches) loaded reply old new a refl told fits loads
+  load_fits kind bytes max_bytes name loaded reply old new a told fits loads = free_fits kind bytes max_bytes name (at_name name old.sketches) loaded reply old new a refl told fits loads
 
   -- a load that was refused
-  brought_same : (image : Image) (max_bytes : ℕ) (name : List ℕ) (reply : Reply T) (old new : SessionState T) → is_refused reply ≡ true → AreSame old.images new.images →
-      ((sketch : Sketch T) × (reply ≡ Done) × IsLoaded slot eq codec content image max_bytes sketch × Puts name sketch old.sketches new.sketches) ⊎ ((e : ErrorValue) × IsLoadRefusal slot codec max_bytes image e × Refuses (refused e) old.sketches reply new.sketches) →
+  brought_same : (kind : ImageKind) (bytes : List ℕ) (max_bytes : ℕ) (name : List ℕ) (reply : Reply T) (old new : SessionState T) → is_refused reply ≡ true → AreSame old.images new.images →
+      ((sketch : Sketch T) × (reply ≡ Done) × IsLoaded slot eq codec content kind bytes max_bytes sketch × Puts name sketch old.sketches new.sketches) ⊎ ((e : ErrorValue) × IsLoadRefusal slot codec max_bytes kind bytes e × Refuses (refused e) old.sketches reply new.sketches) →
       IsUnchanged old new
-  brought_same image max_bytes name reply old new r same (inl done) = absurd (false≢true (sym (ap is_refused done.1) ∙ r))
-  brought_same image max_bytes name reply old new r same (inr done) = record { sketches = done.2.1; images = same }
+  brought_same kind bytes max_bytes name reply old new r same (inl done) = absurd (false≢true (sym (ap is_refused done.1) ∙ r))
+  brought_same kind bytes max_bytes name reply old new r same (inr done) = record { sketches = done.2.1; images = same }
 
-  free_same : (image : Image) (max_bytes : ℕ) (name : List ℕ) (found : Option (Sketch T)) (reply : Reply T) (old new : SessionState T) → at_name name old.sketches ≡ found → is_refused reply ≡ true → Loads slot eq codec content image max_bytes name old reply new → IsUnchanged old new
-  free_same image max_bytes name (Some sketch) reply old new e r loads = (rw e at loads).0
-  free_same image max_bytes name None reply old new e r loads =
+  free_same : (kind : ImageKind) (bytes : List ℕ) (max_bytes : ℕ) (name : List ℕ) (found : Option (Sketch T)) (reply : Reply T) (old new : SessionState T) → at_name name old.sketches ≡ found → is_refused reply ≡ true → Loads slot eq codec content kind bytes max_bytes name old reply new → IsUnchanged old new
+  free_same kind bytes max_bytes name (Some sketch) reply old new e r loads = (rw e at loads).0
+  free_same kind bytes max_bytes name None reply old new e r loads =
       let done = rw e at loads in
-      brought_same image max_bytes name reply old new r done.images done.outcome
+      brought_same kind bytes max_bytes name reply old new r done.images done.outcome
 
-  loaded_same : (image : Image) (max_bytes : ℕ) (name : List ℕ) (reply : Reply T) (old new : SessionState T) → is_refused reply ≡ true → Loads slot eq codec content image max_bytes name old reply new → IsUnchanged old new
-  loaded_same image max_bytes name reply old new r loads = free_same image max_bytes name (at_name name old.sketches) reply old new refl r loads
+  loaded_same : (kind : ImageKind) (bytes : List ℕ) (max_bytes : ℕ) (name : List ℕ) (reply : Reply T) (old new : SessionState T) → is_refused reply ≡ true → Loads slot eq codec content kind bytes max_bytes name old reply new → IsUnchanged old new
+  loaded_same kind bytes max_bytes name reply old new r loads = free_same kind bytes max_bytes name (at_name name old.sketches) reply old new refl r loads
 
 module _ {T C : Type 0} (eq : T → T → Bool) (codec : Codec C) (content : T → C) where
   -- a stranger may have written any image
-  pub of_stranger : (image : Image) → IsImageOf eq codec content image OfStranger
-  of_stranger (image.Frequent bytes) = tt
-  of_stranger (image.CountI64 seed bytes) = tt
-  of_stranger (image.CountU64 seed bytes) = tt
-  of_stranger (image.Bloom bytes) = tt
+  pub of_stranger : (kind : ImageKind) (bytes : List ℕ) → IsImageOf eq codec content kind bytes OfStranger
+  of_stranger kind.Frequent bytes = tt
+  of_stranger (kind.CountI64 seed) bytes = tt
+  of_stranger (kind.CountU64 seed) bytes = tt
+  of_stranger kind.Bloom bytes = tt
 
   pub stranger_told : (action : Action T) → IsActionTold eq codec content action OfStranger
-  stranger_told (action.Load name kind image max_bytes) = of_stranger (image_of kind image)
+  stranger_told (action.Load name kind bytes max_bytes) = of_stranger kind bytes
   stranger_told _ = tt
 
   nothing_told : (commands : List (Command T)) → AreTold eq codec content commands []
@@ -197,14 +195,14 @@ module _ {T C : Type 0} (slot : ℕ) (eq : T → T → Bool) (input : T → List
   -- what a session fitted, it fits after an action, with what the action made of it
   pub action_fits_told : (action : Action T) (loaded : History T) (reply : Reply T) (old new : SessionState T) (a : Assignment T) → SessionStandsFor eq codec content old a → IsActionTold eq codec content action loaded → Performs slot eq input codec content old action reply new → SessionStandsFor eq codec content new (after_action_told input a action loaded reply)
   action_fits_told (action.Create name shape) loaded reply old new a fits told step =
-      after_sketches eq codec content reply _ old new a fits step.1 (create_fits eq shape (string_bytes name) reply old.sketches new.sketches a.sketches fits.sketches step.0)
-  action_fits_told (action.Change name change) loaded reply old new a fits told step =
-      after_sketches eq codec content reply _ old new a fits step.1 (change_fits eq (Changes eq input change) (changed input change) (string_bytes name) reply old.sketches new.sketches a.sketches fits.sketches step.0)
-  action_fits_told (action.Join into other join) loaded reply old new a fits told step =
-      after_sketches eq codec content reply _ old new a fits step.1 (join_fits eq join (string_bytes into) (string_bytes other) reply old.sketches new.sketches a.sketches fits.sketches step.0)
-  action_fits_told (action.Save name image) loaded reply old new a fits told step = save_fits eq codec content (string_bytes name) (string_bytes image) reply old new a fits step
-  action_fits_told (action.Restore image name) loaded reply old new a fits told step = restore_fits eq codec content (string_bytes image) (string_bytes name) reply old new a fits step
-  action_fits_told (action.Load name kind image max_bytes) loaded reply old new a fits told step = load_fits slot eq codec content (image_of kind image) max_bytes (string_bytes name) loaded reply old new a told fits step
+      after_sketches eq codec content reply _ old new a fits step.1 (create_fits eq shape name reply old.sketches new.sketches a.sketches fits.sketches step.0)
+  action_fits_told (action.Alter name change) loaded reply old new a fits told step =
+      after_sketches eq codec content reply _ old new a fits step.1 (change_fits eq (Changes eq input change) (changed input change) name reply old.sketches new.sketches a.sketches fits.sketches step.0)
+  action_fits_told (action.Combine into other join) loaded reply old new a fits told step =
+      after_sketches eq codec content reply _ old new a fits step.1 (join_fits eq join into other reply old.sketches new.sketches a.sketches fits.sketches step.0)
+  action_fits_told (action.Save name image) loaded reply old new a fits told step = save_fits eq codec content name image reply old new a fits step
+  action_fits_told (action.Restore image name) loaded reply old new a fits told step = restore_fits eq codec content image name reply old new a fits step
+  action_fits_told (action.Load name kind bytes max_bytes) loaded reply old new a fits told step = load_fits slot eq codec content kind bytes max_bytes name loaded reply old new a told fits step
   action_fits_told (action.ShowImage image) loaded reply old new a fits told step = told_fits eq codec content (is_refused reply) old new a fits step.0
   action_fits_told (action.Ask name item) loaded reply old new a fits told step = told_fits eq codec content (is_refused reply) old new a fits step.0
   action_fits_told (action.GetStatus name) loaded reply old new a fits told step = told_fits eq codec content (is_refused reply) old new a fits step.0
@@ -216,18 +214,27 @@ module _ {T C : Type 0} (slot : ℕ) (eq : T → T → Bool) (input : T → List
   -- an action that was refused changed nothing
   pub action_same : (action : Action T) (reply : Reply T) (old new : SessionState T) → is_refused reply ≡ true → Performs slot eq input codec content old action reply new → IsUnchanged old new
   action_same (action.Create name shape) reply old new r step =
-      record { sketches = create_same eq shape (string_bytes name) reply old.sketches new.sketches r step.0; images = step.1 }
-  action_same (action.Change name change) reply old new r step =
-      record { sketches = change_same eq (Changes eq input change) (changed input change) (string_bytes name) reply old.sketches new.sketches r step.0; images = step.1 }
-  action_same (action.Join into other join) reply old new r step =
-      record { sketches = join_same eq join (string_bytes into) (string_bytes other) reply old.sketches new.sketches r step.0; images = step.1 }
-  action_same (action.Save name image) reply old new r step = saved_same eq codec content (string_bytes name) (string_bytes image) reply old new r step
-  action_same (action.Restore image name) reply old new r step = restored_same eq codec content (string_bytes image) (string_bytes name) reply old new r step
-  action_same (action.Load name kind image max_bytes) reply old new r step = loaded_same slot eq codec content (image_of kind image) max_bytes (string_bytes name) reply old new r step
+      record { sketches = create_same eq shape name reply old.sketches new.sketches r step.0; images = step.1 }
+  action_same (action.Alter name change) reply old new r step =
+      record { sketches = change_same eq (Changes eq input change) (changed input change) name reply old.sketches new.sketches r step.0; images = step.1 }
+  action_same (action.Combine into other join) reply old new r step =
+      record { sketches = join_same eq join into other reply old.sketches new.sketches r step.0; images = step.1 }
+  action_same (action.Save name image) reply old new r step = saved_same eq codec content name image reply old new r step
+  action_same (action.Restore image name) reply old new r step = restored_same eq codec content image name reply old new r step
+  action_same (action.Load name kind bytes max_bytes) reply old new r step = loaded_same slot eq codec content kind bytes max_bytes name reply old new r step
   action_same (action.ShowImage image) reply old new r step = step.0
   action_same (action.Ask name item) reply old new r step = step.0
   action_same (action.GetStatus name) reply old new r step = step.0
   action_same (action.ListRows name error_type threshold) reply old new r step = step.0
+
+  -- so the clauses of a session's call follow from what it did
+  pub performed : (action : Action T) (old new : SessionState T) (reply : Reply T) → Performs slot eq input codec content old action reply new → Performed slot eq input codec content action old reply new
+  performed action old new reply step = record {
+    step = step;
+    fits = λ a fits. action_fits action reply old new a fits step;
+    told = λ a loaded fits told. action_fits_told action loaded reply old new a fits told step;
+    refused = λ r. action_same action reply old new r step;
+  }
 
   -- the same of a command
   pub step_fits_told : (command : Command T) (loaded : History T) (reply : Reply T) (old new : SessionState T) (a : Assignment T) → SessionStandsFor eq codec content old a → IsTold eq codec content command loaded → Step slot eq input codec content old command reply new → SessionStandsFor eq codec content new (after_one_told input a command loaded reply)

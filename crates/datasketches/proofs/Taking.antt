@@ -3,24 +3,21 @@ use Rattle.std.proofs.Common.{◌≡◌, ℕ, List, [], Option, Some, None, inl,
 use Rattle.std.specs.Prelude.{ℤ, MatchOption}
 use Rattle.std.proofs.lemmas.Bool.{false≢true}
 use Rattle.std.specs.Global.{Global}
-use Rattle.std.specs.String.{string_bytes}
 use Rattle.std.specs.declared.vec.Vec.{Vec}
 use Rattle.sketch_countmin.specs.History.{CountHistory, seed_of}
 use Rattle.sketch_frequencies.specs.Items.{Codec}
+use Rattle.datasketches.specs.Actions.{Action}
 use Rattle.datasketches.specs.Clusters.{IsKindOf, or_stranger, Process, session_of, histories_of, LoadsShown, Shows, IsProcess, LoadKeepsShown}
 use Rattle.datasketches.specs.Clusters.Process.{Began, Did, Took}
 use Rattle.datasketches.specs.Histories.{History, Assignment, after_action_told}
 use Rattle.datasketches.specs.Histories.History.{OfFrequent, OfCountI64, OfCountU64, OfBloom, OfStranger}
-use Rattle.datasketches.specs.Images.{bytes_of, image_of, IsImageOf, IsCountImage}
-use Rattle.datasketches.specs.Names.{Name, at_name}
+use Rattle.datasketches.specs.Images.{Image, IsSavedOf, IsImageOf, IsCountImage}
+use Rattle.datasketches.specs.Names.{at_name}
 use Rattle.datasketches.specs.Replies.{is_refused}
 use Rattle.datasketches.specs.SessionStandsFor.{SessionStandsFor, Paired}
 use Rattle.datasketches.specs.State.{SessionState}
 use Rattle.datasketches.specs.Steps.{ShowsBytes, Performs}
-use Rattle.datasketches.specs.declared.action.Action.{Action}
-use Rattle.datasketches.specs.declared.action.Action.TheVariants.{Load}
-use Rattle.datasketches.specs.declared.image.Image.{Image}
-use Rattle.datasketches.specs.declared.image.Image.TheVariants as image
+use Rattle.datasketches.specs.Actions.Action.{Load}
 use Rattle.datasketches.specs.declared.image_kind.ImageKind.{ImageKind}
 use Rattle.datasketches.specs.declared.image_kind.ImageKind.TheVariants as kind
 use Rattle.datasketches.specs.declared.reply.Refusal.TheVariants.{NoSuchName}
@@ -40,17 +37,17 @@ count_again least greatest seed other bytes copy h i kind same = record {
 }
 
 module _ {T C : Type 0} (eq : T → T → Bool) (codec : Codec C) (content : T → C) where
-  pub read_again : (saved : Image) (h : History T) (kind : ImageKind) (bytes : Vec ℕ Global) → IsImageOf eq codec content saved h → IsKindOf kind h → bytes.items ≡ bytes_of saved → IsImageOf eq codec content (image_of kind bytes) h
-  read_again (image.Frequent saved) (OfFrequent h) kind.Frequent bytes i k same = rw same i
-  read_again (image.Frequent saved) (OfFrequent h) _ bytes i k same = absurd k
-  read_again (image.CountI64 seed saved) (OfCountI64 h) (kind.CountI64 other) bytes i k same = count_again _ _ seed other saved.items bytes.items h i k same
-  read_again (image.CountI64 seed saved) (OfCountI64 h) _ bytes i k same = absurd k
-  read_again (image.CountU64 seed saved) (OfCountU64 h) (kind.CountU64 other) bytes i k same = count_again _ _ seed other saved.items bytes.items h i k same
-  read_again (image.CountU64 seed saved) (OfCountU64 h) _ bytes i k same = absurd k
-  read_again (image.Bloom saved) (OfBloom h) kind.Bloom bytes i k same = rw same i
-  read_again (image.Bloom saved) (OfBloom h) _ bytes i k same = absurd k
-  read_again saved OfStranger kind bytes i k same = of_stranger eq codec content (image_of kind bytes)
-  read_again _ _ _ bytes i k same = absurd i
+  pub read_again : (of : ImageKind) (saved : List ℕ) (h : History T) (kind : ImageKind) (bytes : List ℕ) → IsImageOf eq codec content of saved h → IsKindOf kind h → bytes ≡ saved → IsImageOf eq codec content kind bytes h
+  read_again kind.Frequent saved (OfFrequent h) kind.Frequent bytes i k same = rw same i
+  read_again kind.Frequent saved (OfFrequent h) _ bytes i k same = absurd k
+  read_again (kind.CountI64 seed) saved (OfCountI64 h) (kind.CountI64 other) bytes i k same = count_again _ _ seed other saved bytes h i k same
+  read_again (kind.CountI64 seed) saved (OfCountI64 h) _ bytes i k same = absurd k
+  read_again (kind.CountU64 seed) saved (OfCountU64 h) (kind.CountU64 other) bytes i k same = count_again _ _ seed other saved bytes h i k same
+  read_again (kind.CountU64 seed) saved (OfCountU64 h) _ bytes i k same = absurd k
+  read_again kind.Bloom saved (OfBloom h) kind.Bloom bytes i k same = rw same i
+  read_again kind.Bloom saved (OfBloom h) _ bytes i k same = absurd k
+  read_again of saved OfStranger kind bytes i k same = of_stranger eq codec content kind bytes
+  read_again _ _ _ _ bytes i k same = absurd i
 
 -- ---- what a session shows
 
@@ -59,38 +56,38 @@ module _ {T : Type 0} where
   items_of (Shown bytes) = bytes.items
   items_of _ = []
 
-  shown_bytes : (saved : Image) (shown : Vec ℕ Global) (reply : Reply T) → reply ≡ Shown shown → ShowsBytes saved reply → shown.items ≡ bytes_of saved
+  shown_bytes : (saved : Image) (shown : Vec ℕ Global) (reply : Reply T) → reply ≡ Shown shown → ShowsBytes saved reply → shown.items ≡ saved.bytes
   shown_bytes saved shown reply e (inl said) = ap items_of (sym e ∙ said.1) ∙ said.2
   shown_bytes saved shown reply e (inr refusal) = absurd (false≢true (ap is_refused (sym e ∙ refusal)))
 
-  shown_case : (found : Option Image) (shown : Vec ℕ Global) (reply : Reply T) → reply ≡ Shown shown → MatchOption found (reply ≡ Refused NoSuchName) (λ image. ShowsBytes image reply) → (saved : Image) × (found ≡ Some saved) × (shown.items ≡ bytes_of saved)
+  shown_case : (found : Option Image) (shown : Vec ℕ Global) (reply : Reply T) → reply ≡ Shown shown → MatchOption found (reply ≡ Refused NoSuchName) (λ image. ShowsBytes image reply) → (saved : Image) × (found ≡ Some saved) × (shown.items ≡ saved.bytes)
   shown_case None shown reply e said = absurd (false≢true (ap is_refused (sym e ∙ said)))
   shown_case (Some saved) shown reply e said = (saved, refl, shown_bytes saved shown reply e said)
 
 module _ {T C : Type 0} (eq : T → T → Bool) (codec : Codec C) (content : T → C) where
-  pair_case : (saved : Image) (history : Option (History T)) → Paired (IsImageOf eq codec content) (Some saved) history → IsImageOf eq codec content saved (or_stranger history)
+  pair_case : (saved : Image) (history : Option (History T)) → Paired (IsSavedOf eq codec content) (Some saved) history → IsSavedOf eq codec content saved (or_stranger history)
   pair_case saved (Some h) pair = pair
   pair_case saved None pair = absurd pair
 
 module _ {T C : Type 0} (slot : ℕ) (eq : T → T → Bool) (input : T → List (List ℕ)) (codec : Codec C) (content : T → C) where
   -- the bytes that a session shows are an image of what it stands for
-  shown_image : (from : SessionState T) (a : Assignment T) (image : Name) (shown : Vec ℕ Global) → SessionStandsFor eq codec content from a → Shows slot eq input codec content from image shown →
-      (saved : Image) × IsImageOf eq codec content saved (or_stranger (a.images (string_bytes image))) × (shown.items ≡ bytes_of saved)
+  shown_image : (from : SessionState T) (a : Assignment T) (image : List ℕ) (shown : Vec ℕ Global) → SessionStandsFor eq codec content from a → Shows slot eq input codec content from image shown →
+      (saved : Image) × IsSavedOf eq codec content saved (or_stranger (a.images image)) × (shown.items ≡ saved.bytes)
   shown_image from a image shown fits shows =
-      let found = shown_case (at_name (string_bytes image) from.images) shown (Shown shown) refl shows.1.1 in
-      let pair = subst (λ (o : Option Image). Paired (IsImageOf eq codec content) o (a.images (string_bytes image))) found.1 (fits.images (string_bytes image)) in
-      (found.0, pair_case eq codec content found.0 (a.images (string_bytes image)) pair, found.2)
+      let found = shown_case (at_name image from.images) shown (Shown shown) refl shows.1.1 in
+      let pair = subst (λ (o : Option Image). Paired (IsSavedOf eq codec content) o (a.images image)) found.1 (fits.images image) in
+      (found.0, pair_case eq codec content found.0 (a.images image) pair, found.2)
 
   -- so another that loads these bytes stands for it
-  took : (from old new : SessionState T) (a b : Assignment T) (image : Name) (shown : Vec ℕ Global) (action : Action T) (reply : Reply T) →
+  took : (from old new : SessionState T) (a b : Assignment T) (image : List ℕ) (shown : Vec ℕ Global) (action : Action T) (reply : Reply T) →
       SessionStandsFor eq codec content from a → Shows slot eq input codec content from image shown → SessionStandsFor eq codec content old b →
-      LoadsShown shown (or_stranger (a.images (string_bytes image))) action → Performs slot eq input codec content old action reply new →
-      SessionStandsFor eq codec content new (after_action_told input b action (or_stranger (a.images (string_bytes image))) reply)
+      LoadsShown shown (or_stranger (a.images image)) action → Performs slot eq input codec content old action reply new →
+      SessionStandsFor eq codec content new (after_action_told input b action (or_stranger (a.images image)) reply)
   took from old new a b image shown (Load name kind bytes max_bytes) reply stands shows fits loads step =
       let found = shown_image from a image shown stands shows in
-      let h = or_stranger (a.images (string_bytes image)) in
+      let h = or_stranger (a.images image) in
       action_fits_told slot eq input codec content (Load name kind bytes max_bytes) h reply old new b fits
-      (read_again eq codec content found.0 h kind bytes found.1 loads.0 (loads.1 ∙ found.2)) step
+      (read_again eq codec content found.0.kind found.0.bytes h kind bytes found.1 loads.0 (loads.1 ∙ found.2)) step
   took from old new a b image shown _ reply stands shows fits loads step = absurd loads
 
   pub load_keeps_shown : LoadKeepsShown slot eq input codec content

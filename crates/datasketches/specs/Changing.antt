@@ -7,11 +7,11 @@ use Rattle.sketch_frequencies.specs.State.{FrequentState, empty_state, must_doub
 use Rattle.sketch_frequencies.specs.Steps.{Steps}
 use Rattle.sketch_countmin.specs.State.{CountState, Counts, halved_state, decayed_state}
 use Rattle.sketch_bloom.specs.State.{inserted, cleared}
+use Rattle.datasketches.specs.Actions.{Change}
 use Rattle.datasketches.specs.declared.reply.Reply.{Reply}
 use Rattle.datasketches.specs.declared.reply.Reply.TheVariants.{Done, Refused}
 use Rattle.datasketches.specs.declared.reply.Refusal.TheVariants.{BadFraction}
-use Rattle.datasketches.specs.declared.change.Change.{Change}
-use Rattle.datasketches.specs.declared.change.Change.TheVariants.{Add, AddSigned, Insert, Reset, Halve, Decay}
+use Rattle.datasketches.specs.Actions.Change.{Add, AddSigned, Insert, Reset, Halve, Decay}
 use Rattle.datasketches.specs.declared.sketch.Sketch.{Sketch}
 use Rattle.datasketches.specs.declared.sketch.Sketch.TheVariants.{Frequent, CountI64, CountU64, Bloom}
 use Rattle.datasketches.specs.Replies.{refused, IsWrongKind, Becomes, max_signed, max_unsigned}

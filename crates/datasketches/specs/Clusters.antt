@@ -2,7 +2,6 @@
 use Rattle.std.specs.Prelude.{◌≡◌, ℕ, ◌+◌, ◌-◌, ◌*◌, ◌/◌, ◌<◌, ◌≤◌, ℤ, pos, ◌+ℤ◌, Bool, true, List, [], ◌∷◌, ◌++◌, length, Option, Some, None, sum_by}
 use Rattle.std.specs.List.{Contains}
 use Rattle.std.specs.Global.{Global}
-use Rattle.std.specs.String.{string_bytes}
 use Rattle.std.specs.declared.vec.Vec.{Vec}
 use Rattle.counter_table.specs.Tables.{count_of, sum_outside}
 use Rattle.sketch_bloom.specs.History as bloom
@@ -16,16 +15,15 @@ use Rattle.sketch_frequencies.specs.History as frequent
 use Rattle.sketch_frequencies.specs.History.{FrequentHistory, true_weight, weight_outside, min_sample}
 use Rattle.sketch_frequencies.specs.Items.{Codec}
 use Rattle.sketch_frequencies.specs.State.{FrequentState}
+use Rattle.datasketches.specs.Actions.{Action}
 use Rattle.datasketches.specs.Histories.{History, Assignment, nothing_named, after_action, after_action_told}
 use Rattle.datasketches.specs.Histories.History.{OfFrequent, OfCountI64, OfCountU64, OfBloom, OfStranger}
 use Rattle.datasketches.specs.Laws.{IsNamed, IsCounted}
-use Rattle.datasketches.specs.Names.{Name}
 use Rattle.datasketches.specs.SessionStandsFor.{SessionStandsFor}
 use Rattle.datasketches.specs.Stands.{IsSketch}
 use Rattle.datasketches.specs.State.{SessionState}
 use Rattle.datasketches.specs.Steps.{Performs}
-use Rattle.datasketches.specs.declared.action.Action.{Action}
-use Rattle.datasketches.specs.declared.action.Action.TheVariants.{Load, ShowImage}
+use Rattle.datasketches.specs.Actions.Action.{Load, ShowImage}
 use Rattle.datasketches.specs.declared.image_kind.ImageKind.{ImageKind}
 use Rattle.datasketches.specs.declared.image_kind.ImageKind.TheVariants as kind
 use Rattle.datasketches.specs.declared.reply.Reply.{Reply}
@@ -59,7 +57,7 @@ module _ {T : Type 0} where
 pub data Process (T : Type 0) : Type 0 where
   Began : Process T
   Did : Process T → Action T → Reply T → SessionState T → Process T
-  Took : Process T → (from : Process T) → (image : Name) → (shown : Vec ℕ Global) → Action T → Reply T → SessionState T
+  Took : Process T → (from : Process T) → (image : List ℕ) → (shown : Vec ℕ Global) → Action T → Reply T → SessionState T
       → Process T
 
 module _ {T : Type 0} where
@@ -71,7 +69,7 @@ module _ {T : Type 0} where
 
   -- the action loads these bytes as an image of this history's kind
   abbrev pub LoadsShown : Vec ℕ Global → History T → Action T → Type 0
-  LoadsShown shown h (Load name kind bytes max_bytes) = IsKindOf kind h × (bytes.items ≡ shown.items)
+  LoadsShown shown h (Load name kind bytes max_bytes) = IsKindOf kind h × (bytes ≡ shown.items)
   LoadsShown shown h _ = ⊥
 
 module _ {T : Type 0} (input : T → List (List ℕ)) where
@@ -80,11 +78,11 @@ module _ {T : Type 0} (input : T → List (List ℕ)) where
   histories_of Began = nothing_named
   histories_of (Did p action reply now) = after_action input (histories_of p) action reply
   histories_of (Took p from image shown action reply now) =
-      after_action_told input (histories_of p) action (or_stranger ((histories_of from).images (string_bytes image))) reply
+      after_action_told input (histories_of p) action (or_stranger ((histories_of from).images image)) reply
 
 module _ {T C : Type 0} (slot : ℕ) (eq : T → T → Bool) (input : T → List (List ℕ)) (codec : Codec C) (content : T → C) where
   -- the session returns these bytes for the image
-  abbrev pub Shows : SessionState T → Name → Vec ℕ Global → Type 0
+  abbrev pub Shows : SessionState T → List ℕ → Vec ℕ Global → Type 0
   Shows session image shown =
       (after : SessionState T) × Performs slot eq input codec content session (ShowImage image) (Shown shown) after
 
@@ -94,16 +92,16 @@ module _ {T C : Type 0} (slot : ℕ) (eq : T → T → Bool) (input : T → List
   IsProcess (Did p action reply now) = IsProcess p × Performs slot eq input codec content (session_of p) action reply now
   IsProcess (Took p from image shown action reply now) =
       IsProcess p × IsProcess from × Shows (session_of from) image shown
-      × LoadsShown shown (or_stranger ((histories_of input from).images (string_bytes image))) action
+      × LoadsShown shown (or_stranger ((histories_of input from).images image)) action
       × Performs slot eq input codec content (session_of p) action reply now
 
   -- the law of two sessions. If one returns the bytes of an image and another loads them, the other stands for the image's
   -- history
   abbrev pub LoadKeepsShown : Type 0
-  LoadKeepsShown = (from old new : SessionState T) (a b : Assignment T) (h : History T) (image name : Name)
-      (shown bytes : Vec ℕ Global) (kind : ImageKind) (max_bytes : ℕ) (reply : Reply T)
-      → SessionStandsFor eq codec content from a → a.images (string_bytes image) ≡ Some h → Shows from image shown
-      → SessionStandsFor eq codec content old b → IsKindOf kind h → bytes.items ≡ shown.items
+  LoadKeepsShown = (from old new : SessionState T) (a b : Assignment T) (h : History T) (image name : List ℕ)
+      (shown : Vec ℕ Global) (bytes : List ℕ) (kind : ImageKind) (max_bytes : ℕ) (reply : Reply T)
+      → SessionStandsFor eq codec content from a → a.images image ≡ Some h → Shows from image shown
+      → SessionStandsFor eq codec content old b → IsKindOf kind h → bytes ≡ shown.items
       → Performs slot eq input codec content old (Load name kind bytes max_bytes) reply new
       → SessionStandsFor eq codec content new (after_action_told input b (Load name kind bytes max_bytes) h reply)
 

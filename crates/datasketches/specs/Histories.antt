@@ -1,6 +1,5 @@
 -- Histories of sketches of every kind, and how each accepted command extends the history of a name.
 use Rattle.std.specs.Prelude.{ℕ, ◌==◌, List, [], ◌∷◌, Option, Some, None, option_map, bytes_eq, if◌then◌else◌, pos, unsigned_abs}
-use Rattle.std.specs.String.{string_bytes}
 use Rattle.sketch_base.specs.Hashes.{fed_bytes}
 use Rattle.sketch_bloom.specs.Building.{words_for}
 use Rattle.sketch_bloom.specs.History as bloom
@@ -10,19 +9,14 @@ use Rattle.sketch_countmin.specs.History.{CountHistory}
 use Rattle.sketch_frequencies.specs.History as frequent
 use Rattle.sketch_frequencies.specs.History.{FrequentHistory}
 use Rattle.sketch_frequencies.specs.State.{max_sample_size}
-use Rattle.datasketches.specs.Actions.{action_of}
-use Rattle.datasketches.specs.Names.{Name}
-use Rattle.datasketches.specs.Replies.{is_refused}
-use Rattle.datasketches.specs.declared.action.Action.{Action}
-use Rattle.datasketches.specs.declared.action.Action.TheVariants as action
-use Rattle.datasketches.specs.declared.command.Command.{Command}
-use Rattle.datasketches.specs.declared.reply.Reply.{Reply}
-use Rattle.datasketches.specs.declared.change.Change.{Change}
-use Rattle.datasketches.specs.declared.change.Change.TheVariants as change
-use Rattle.datasketches.specs.declared.join.Join.{Join}
-use Rattle.datasketches.specs.declared.join.Join.TheVariants as join
+use Rattle.datasketches.specs.Actions.{action_of, Action, Action as action, Change, Change as change}
 use Rattle.datasketches.specs.declared.shape.Shape.{Shape}
 use Rattle.datasketches.specs.declared.shape.Shape.TheVariants as shape
+use Rattle.datasketches.specs.declared.join.Join.{Join}
+use Rattle.datasketches.specs.declared.join.Join.TheVariants as join
+use Rattle.datasketches.specs.Replies.{is_refused}
+use Rattle.datasketches.specs.declared.command.Command.{Command}
+use Rattle.datasketches.specs.declared.reply.Reply.{Reply}
 
 -- the history of a sketch of one kind, or of an untrusted image, of which nothing is known
 pub data History (T : Type 0) : Type 0 where
@@ -96,33 +90,29 @@ module _ {T : Type 0} (input : T → List (List ℕ)) where
   changed _ history = history
 
   -- the assignment after a sketch was created under the name
-  abbrev pub made : Assignment T → Name → Shape → Assignment T
-  made a name shape = record a { sketches = put_at (string_bytes name) (Some (begun shape)) a.sketches }
+  abbrev pub made : Assignment T → List ℕ → Shape → Assignment T
+  made a name shape = record a { sketches = put_at name (Some (begun shape)) a.sketches }
 
   -- the assignment after the sketch of the name was changed
-  abbrev pub grown : Assignment T → Name → Change T → Assignment T
-  grown a name change =
-      record a { sketches = put_at (string_bytes name) (option_map (changed change) (a.sketches (string_bytes name))) a.sketches }
+  abbrev pub grown : Assignment T → List ℕ → Change T → Assignment T
+  grown a name change = record a { sketches = put_at name (option_map (changed change) (a.sketches name)) a.sketches }
 
   -- the assignment after the sketch of one name was combined into that of another
-  abbrev pub both_joined : Assignment T → Name → Name → Join → Assignment T
+  abbrev pub both_joined : Assignment T → List ℕ → List ℕ → Join → Assignment T
   both_joined a into other join =
-      record a {
-        sketches = put_at (string_bytes into)
-            (of_both (joined join) (a.sketches (string_bytes into)) (a.sketches (string_bytes other))) a.sketches;
-      }
+      record a { sketches = put_at into (of_both (joined join) (a.sketches into) (a.sketches other)) a.sketches }
 
   -- the assignment after an accepted action. `loaded` is the history of the bytes that it loads, if any
   abbrev pub accepted_told : Assignment T → Action T → History T → Assignment T
   accepted_told a (action.Create name shape) loaded = made a name shape
-  accepted_told a (action.Change name change) loaded = grown a name change
-  accepted_told a (action.Join into other join) loaded = both_joined a into other join
+  accepted_told a (action.Alter name change) loaded = grown a name change
+  accepted_told a (action.Combine into other join) loaded = both_joined a into other join
   accepted_told a (action.Save name image) loaded =
-      record a { images = put_at (string_bytes image) (a.sketches (string_bytes name)) a.images }
+      record a { images = put_at image (a.sketches name) a.images }
   accepted_told a (action.Restore image name) loaded =
-      record a { sketches = put_at (string_bytes name) (option_map restored (a.images (string_bytes image))) a.sketches }
-  accepted_told a (action.Load name kind image max_bytes) loaded =
-      record a { sketches = put_at (string_bytes name) (Some (restored loaded)) a.sketches }
+      record a { sketches = put_at name (option_map restored (a.images image)) a.sketches }
+  accepted_told a (action.Load name kind bytes max_bytes) loaded =
+      record a { sketches = put_at name (Some (restored loaded)) a.sketches }
   accepted_told a (action.ShowImage image) loaded = a
   accepted_told a (action.Ask name item) loaded = a
   accepted_told a (action.GetStatus name) loaded = a

@@ -1,7 +1,5 @@
 -- Images of sketches: how they are written and read, and for which histories they stand.
 use Rattle.std.specs.Prelude.{◌≡◌, ◌≤◌, ℕ, ◌*◌, nat_lt, ℤ, Bool, List, Option, Some, None, if◌then◌else◌}
-use Rattle.std.specs.Global.{Global}
-use Rattle.std.specs.declared.vec.Vec.{Vec}
 use Rattle.counter_table.specs.Bytes.{slots_bytes}
 use Rattle.sketch_base.specs.Checks.{IsImageRefusal, or_else}
 use Rattle.sketch_base.specs.Errors.{ErrorValue, no_memory}
@@ -26,38 +24,27 @@ use Rattle.datasketches.specs.Histories.{History, restored}
 use Rattle.datasketches.specs.Histories.History.{OfFrequent, OfCountI64, OfCountU64, OfBloom, OfStranger}
 use Rattle.datasketches.specs.Replies.{min_signed, max_signed, min_unsigned, max_unsigned}
 use Rattle.datasketches.specs.Stands.{StandsFor}
-use Rattle.datasketches.specs.declared.image.Image.{Image}
-use Rattle.datasketches.specs.declared.image.Image.TheVariants as image
 use Rattle.datasketches.specs.declared.image_kind.ImageKind.{ImageKind}
 use Rattle.datasketches.specs.declared.image_kind.ImageKind.TheVariants as kind
 use Rattle.datasketches.specs.declared.sketch.Sketch.{Sketch}
 use Rattle.datasketches.specs.declared.sketch.Sketch.TheVariants.{Frequent, CountI64, CountU64, Bloom}
 
--- the bytes of an image
-abbrev pub bytes_of : Image → List ℕ
-bytes_of (image.Frequent bytes) = bytes.items
-bytes_of (image.CountI64 seed bytes) = bytes.items
-bytes_of (image.CountU64 seed bytes) = bytes.items
-bytes_of (image.Bloom bytes) = bytes.items
-
--- the image of these bytes, read as one of this kind
-abbrev pub image_of : ImageKind → Vec ℕ Global → Image
-image_of kind.Frequent bytes = image.Frequent bytes
-image_of (kind.CountI64 seed) bytes = image.CountI64 seed bytes
-image_of (kind.CountU64 seed) bytes = image.CountU64 seed bytes
-image_of kind.Bloom bytes = image.Bloom bytes
+-- an image: its kind and its bytes
+pub record Image : Type 0 where
+  pub kind : ImageKind
+  pub bytes : List ℕ
 
 -- `codec` is how items are written and read, and `content` is what an image keeps of an item
 module _ {T C : Type 0} (codec : Codec C) (content : T → C) where
   -- the image is one that the sketch writes, and is read under the sketch's seed
-  abbrev pub IsWrittenBy : Sketch T → Image → Type 0
-  IsWrittenBy (Frequent s) (image.Frequent bytes) = frequent.IsSpelledFor codec content bytes.items s
-  IsWrittenBy (CountI64 s) (image.CountI64 seed bytes) =
-      (seed ≡ s.seed) × count.IsSpelled min_signed max_signed bytes.items s
-  IsWrittenBy (CountU64 s) (image.CountU64 seed bytes) =
-      (seed ≡ s.seed) × count.IsSpelled min_unsigned max_unsigned bytes.items s
-  IsWrittenBy (Bloom s) (image.Bloom bytes) = bloom.IsSpelled bytes.items s
-  IsWrittenBy _ _ = ⊥
+  abbrev pub IsWrittenBy : Sketch T → ImageKind → List ℕ → Type 0
+  IsWrittenBy (Frequent s) kind.Frequent bytes = frequent.IsSpelledFor codec content bytes s
+  IsWrittenBy (CountI64 s) (kind.CountI64 seed) bytes =
+      (seed ≡ s.seed) × count.IsSpelled min_signed max_signed bytes s
+  IsWrittenBy (CountU64 s) (kind.CountU64 seed) bytes =
+      (seed ≡ s.seed) × count.IsSpelled min_unsigned max_unsigned bytes s
+  IsWrittenBy (Bloom s) kind.Bloom bytes = bloom.IsSpelled bytes s
+  IsWrittenBy _ _ _ = ⊥
 
   -- the error if a sketch is not written: `NoMemory`, or an item's own fault
   abbrev pub IsWriteRefusal : Sketch T → ErrorValue → Type 0
@@ -67,28 +54,28 @@ module _ {T C : Type 0} (codec : Codec C) (content : T → C) where
   IsWriteRefusal (Bloom s) e = e ≡ no_memory
 
   -- the bytes are an image of the sketch. A frequent items sketch gets the sample size of a new one
-  abbrev pub IsReadFrom : Image → Sketch T → Type 0
-  IsReadFrom (image.Frequent bytes) (Frequent s) =
-      frequent.IsImageOf codec content bytes.items s × (s.sample_size ≡ max_sample_size s.max_size)
-  IsReadFrom (image.CountI64 seed bytes) (CountI64 s) =
-      count.IsImage min_signed max_signed seed bytes.items s
-  IsReadFrom (image.CountU64 seed bytes) (CountU64 s) =
-      count.IsImage min_unsigned max_unsigned seed bytes.items s
-  IsReadFrom (image.Bloom bytes) (Bloom s) = bloom.IsImage bytes.items s
-  IsReadFrom _ _ = ⊥
+  abbrev pub IsReadFrom : ImageKind → List ℕ → Sketch T → Type 0
+  IsReadFrom kind.Frequent bytes (Frequent s) =
+      frequent.IsImageOf codec content bytes s × (s.sample_size ≡ max_sample_size s.max_size)
+  IsReadFrom (kind.CountI64 seed) bytes (CountI64 s) =
+      count.IsImage min_signed max_signed seed bytes s
+  IsReadFrom (kind.CountU64 seed) bytes (CountU64 s) =
+      count.IsImage min_unsigned max_unsigned seed bytes s
+  IsReadFrom kind.Bloom bytes (Bloom s) = bloom.IsImage bytes s
+  IsReadFrom _ _ _ = ⊥
 
 -- the error if an image is not read: its first fault, or `NoMemory` if no check before the allocation fails
-abbrev pub IsReadRefusal : {C : Type 0} → Codec C → Image → ErrorValue → Type 0
-IsReadRefusal codec (image.Frequent bytes) e =
-    IsImageRefusal (frequent.early_fault bytes.items) (frequent.first_fault codec bytes.items) e
-IsReadRefusal codec (image.CountI64 seed bytes) e =
-    IsImageRefusal (count.early_fault seed bytes.items)
-    (count.first_fault min_signed max_signed seed bytes.items) e
-IsReadRefusal codec (image.CountU64 seed bytes) e =
-    IsImageRefusal (count.early_fault seed bytes.items)
-    (count.first_fault min_unsigned max_unsigned seed bytes.items) e
-IsReadRefusal codec (image.Bloom bytes) e =
-    IsImageRefusal (bloom.early_fault bytes.items) (bloom.first_fault bytes.items) e
+abbrev pub IsReadRefusal : {C : Type 0} → Codec C → ImageKind → List ℕ → ErrorValue → Type 0
+IsReadRefusal codec kind.Frequent bytes e =
+    IsImageRefusal (frequent.early_fault bytes) (frequent.first_fault codec bytes) e
+IsReadRefusal codec (kind.CountI64 seed) bytes e =
+    IsImageRefusal (count.early_fault seed bytes)
+    (count.first_fault min_signed max_signed seed bytes) e
+IsReadRefusal codec (kind.CountU64 seed) bytes e =
+    IsImageRefusal (count.early_fault seed bytes)
+    (count.first_fault min_unsigned max_unsigned seed bytes) e
+IsReadRefusal codec kind.Bloom bytes e =
+    IsImageRefusal (bloom.early_fault bytes) (bloom.first_fault bytes) e
 
 -- `TableTooLarge` if a sketch would take more bytes than the limit
 abbrev pub over_limit : (max_bytes taken : ℕ) → Option Fault
@@ -96,29 +83,29 @@ over_limit max_bytes taken = if nat_lt max_bytes taken then Some TableTooLarge e
 
 -- the fault if the sketch of the image would exceed the limit. A slot of frequent items takes `slot` + 12 bytes, besides what the
 -- items can own. A cell of a Count-Min sketch takes 8
-abbrev pub load_fault : (slot : ℕ) → {C : Type 0} → Codec C → (max_bytes : ℕ) → Image → Option Fault
-load_fault slot codec max_bytes (image.Frequent bytes) =
+abbrev pub load_fault : (slot : ℕ) → {C : Type 0} → Codec C → (max_bytes : ℕ) → ImageKind → List ℕ → Option Fault
+load_fault slot codec max_bytes kind.Frequent bytes =
     over_limit max_bytes
-    (memory_bytes (slots_bytes slot (frequent.restored_size bytes.items))
-    (max_owned codec (frequent.bytes_for_items bytes.items)))
-load_fault slot codec max_bytes (image.CountI64 seed bytes) = count.limit_fault 8 max_bytes bytes.items
-load_fault slot codec max_bytes (image.CountU64 seed bytes) = count.limit_fault 8 max_bytes bytes.items
-load_fault slot codec max_bytes (image.Bloom bytes) = bloom.limit_fault max_bytes bytes.items
+    (memory_bytes (slots_bytes slot (frequent.restored_size bytes))
+    (max_owned codec (frequent.bytes_for_items bytes)))
+load_fault slot codec max_bytes (kind.CountI64 seed) bytes = count.limit_fault 8 max_bytes bytes
+load_fault slot codec max_bytes (kind.CountU64 seed) bytes = count.limit_fault 8 max_bytes bytes
+load_fault slot codec max_bytes kind.Bloom bytes = bloom.limit_fault max_bytes bytes
 
 -- the error if an image is not loaded: that of reading it, or of the limit. The limit is the last check before the allocation
-abbrev pub IsLoadRefusal : (slot : ℕ) → {C : Type 0} → Codec C → (max_bytes : ℕ) → Image → ErrorValue → Type 0
-IsLoadRefusal slot codec max_bytes (image.Frequent bytes) e =
-    let early = or_else (frequent.early_fault bytes.items) (load_fault slot codec max_bytes (image.Frequent bytes)) in
-    IsImageRefusal early (or_else early (frequent.late_fault codec bytes.items)) e
-IsLoadRefusal slot codec max_bytes (image.CountI64 seed bytes) e =
-    IsImageRefusal (count.early_fault_within 8 max_bytes seed bytes.items)
-    (count.first_fault_within min_signed max_signed 8 max_bytes seed bytes.items) e
-IsLoadRefusal slot codec max_bytes (image.CountU64 seed bytes) e =
-    IsImageRefusal (count.early_fault_within 8 max_bytes seed bytes.items)
-    (count.first_fault_within min_unsigned max_unsigned 8 max_bytes seed bytes.items) e
-IsLoadRefusal slot codec max_bytes (image.Bloom bytes) e =
-    IsImageRefusal (bloom.early_fault_within max_bytes bytes.items)
-    (bloom.first_fault_within max_bytes bytes.items) e
+abbrev pub IsLoadRefusal : (slot : ℕ) → {C : Type 0} → Codec C → (max_bytes : ℕ) → ImageKind → List ℕ → ErrorValue → Type 0
+IsLoadRefusal slot codec max_bytes kind.Frequent bytes e =
+    let early = or_else (frequent.early_fault bytes) (load_fault slot codec max_bytes kind.Frequent bytes) in
+    IsImageRefusal early (or_else early (frequent.late_fault codec bytes)) e
+IsLoadRefusal slot codec max_bytes (kind.CountI64 seed) bytes e =
+    IsImageRefusal (count.early_fault_within 8 max_bytes seed bytes)
+    (count.first_fault_within min_signed max_signed 8 max_bytes seed bytes) e
+IsLoadRefusal slot codec max_bytes (kind.CountU64 seed) bytes e =
+    IsImageRefusal (count.early_fault_within 8 max_bytes seed bytes)
+    (count.first_fault_within min_unsigned max_unsigned 8 max_bytes seed bytes) e
+IsLoadRefusal slot codec max_bytes kind.Bloom bytes e =
+    IsImageRefusal (bloom.early_fault_within max_bytes bytes)
+    (bloom.first_fault_within max_bytes bytes) e
 
 -- the sketch takes at most `max_bytes`, with the bytes that its items own
 abbrev pub TakesWithin : (slot : ℕ) → {T C : Type 0} → Codec C → (T → C) → (max_bytes : ℕ) → Sketch T → Type 0
@@ -152,16 +139,19 @@ module _ {T C : Type 0} (eq : T → T → Bool) (codec : Codec C) (content : T �
     pub budget : frequent_stands.KeepsTailBudget eq sketch h
 
   -- the image was written by a sketch that stands for the history. Of an untrusted image nothing is known
-  abbrev pub IsImageOf : Image → History T → Type 0
-  IsImageOf (image.Frequent bytes) (OfFrequent h) = IsFrequentImage bytes.items h
-  IsImageOf (image.CountI64 seed bytes) (OfCountI64 h) =
-      IsCountImage min_signed max_signed seed bytes.items h
-  IsImageOf (image.CountU64 seed bytes) (OfCountU64 h) =
-      IsCountImage min_unsigned max_unsigned seed bytes.items h
-  IsImageOf (image.Bloom bytes) (OfBloom h) = IsFilterImage bytes.items h
-  IsImageOf _ OfStranger = Unit {0}
-  IsImageOf _ _ = ⊥
+  abbrev pub IsImageOf : ImageKind → List ℕ → History T → Type 0
+  IsImageOf kind.Frequent bytes (OfFrequent h) = IsFrequentImage bytes h
+  IsImageOf (kind.CountI64 seed) bytes (OfCountI64 h) =
+      IsCountImage min_signed max_signed seed bytes h
+  IsImageOf (kind.CountU64 seed) bytes (OfCountU64 h) =
+      IsCountImage min_unsigned max_unsigned seed bytes h
+  IsImageOf kind.Bloom bytes (OfBloom h) = IsFilterImage bytes h
+  IsImageOf _ _ OfStranger = Unit {0}
+  IsImageOf _ _ _ = ⊥
+
+  abbrev pub IsSavedOf : Image → History T → Type 0
+  IsSavedOf image h = IsImageOf image.kind image.bytes h
 
   -- for each history of the image, the sketch stands for the restored history
-  abbrev pub GivesBack : Image → Sketch T → Type 0
-  GivesBack image sketch = (h : History T) → IsImageOf image h → StandsFor eq sketch (restored h)
+  abbrev pub GivesBack : ImageKind → List ℕ → Sketch T → Type 0
+  GivesBack kind bytes sketch = (h : History T) → IsImageOf kind bytes h → StandsFor eq sketch (restored h)

@@ -1,11 +1,11 @@
 -- Combining sketches at their indices.
 use Rattle.std.specs.Prelude.{◌≡◌, ℕ, Bool, List, Some, slice_set}
 use Rattle.std.specs.List.{slice_get}
+use Rattle.datasketches.specs.declared.join.Join.{Join}
 use Rattle.datasketches.specs.Histories.{joined}
 use Rattle.datasketches.specs.Joining.{Joins}
 use Rattle.datasketches.specs.Stands.{DoesWith}
 use Rattle.datasketches.specs.declared.reply.Reply.{Reply}
-use Rattle.datasketches.specs.declared.join.Join.{Join}
 use Rattle.datasketches.specs.declared.sketch.Sketch.{Sketch}
 
 -- the sketch at index `other` was combined into that at index `into`, or an error left all unchanged

@@ -11,6 +11,7 @@ use Rattle.sketch_frequencies.specs.Items.{Codec}
 use Rattle.sketch_frequencies.specs.Stands.{HasFewItems, KeepsTailBudget}
 use Rattle.sketch_frequencies.specs.State.{FrequentState, IsState, capacity}
 use Rattle.counter_table.specs.Tables.{count_of, sum_of}
+use Rattle.datasketches.specs.Actions.{Action}
 use Rattle.datasketches.specs.SessionStandsFor.{SessionStandsFor}
 use Rattle.datasketches.specs.Histories.{History, Assignment, after_action, after_action_told, after_one, after_one_told}
 use Rattle.datasketches.specs.Histories.History.{OfFrequent, OfCountI64, OfCountU64, OfBloom}
@@ -19,7 +20,6 @@ use Rattle.datasketches.specs.Names.{at_name}
 use Rattle.datasketches.specs.Replies.{max_signed, max_unsigned}
 use Rattle.datasketches.specs.State.{SessionState}
 use Rattle.datasketches.specs.Steps.{Performs, Step}
-use Rattle.datasketches.specs.declared.action.Action.{Action}
 use Rattle.datasketches.specs.declared.command.Command.{Command}
 use Rattle.datasketches.specs.declared.reply.Reply.{Reply}
 use Rattle.datasketches.specs.declared.sketch.Sketch.{Sketch}

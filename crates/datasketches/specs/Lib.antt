@@ -17,6 +17,8 @@ pub mod Steps
 pub mod SessionStandsFor
 pub mod Laws
 pub mod Clusters
+pub mod Performed
+pub mod Keyed
 pub mod Running
 -- names of lower crates that upper crates use
 pub use Rattle.sketch_base.specs.Faults

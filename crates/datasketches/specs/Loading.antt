@@ -1,17 +1,15 @@
 -- The histories of bytes that are loaded.
 use Rattle.std.specs.Prelude.{Bool, List, ◌∷◌}
 use Rattle.sketch_frequencies.specs.Items.{Codec}
-use Rattle.datasketches.specs.Actions.{action_of}
+use Rattle.datasketches.specs.Actions.{action_of, Action, Action as action}
 use Rattle.datasketches.specs.Histories.{History}
-use Rattle.datasketches.specs.Images.{image_of, IsImageOf}
-use Rattle.datasketches.specs.declared.action.Action.{Action}
-use Rattle.datasketches.specs.declared.action.Action.TheVariants as action
+use Rattle.datasketches.specs.Images.{IsImageOf}
 use Rattle.datasketches.specs.declared.command.Command.{Command}
 
 module _ {T C : Type 0} (eq : T → T → Bool) (codec : Codec C) (content : T → C) where
   -- the bytes that the action loads, if any, are an image that a sketch of this history would write
   abbrev pub IsActionTold : Action T → History T → Type 0
-  IsActionTold (action.Load name kind image max_bytes) loaded = IsImageOf eq codec content (image_of kind image) loaded
+  IsActionTold (action.Load name kind bytes max_bytes) loaded = IsImageOf eq codec content kind bytes loaded
   IsActionTold _ loaded = Unit {0}
 
   -- the same of a command

@@ -2,6 +2,8 @@
 use Rattle.std.specs.Prelude.{◌≡◌, ℕ, ◌^◌, ◌-◌, Bool, true, false, Result, Ok, Err, ⊤, ℤ, pos, negsuc}
 use Rattle.sketch_base.specs.Errors.{ErrorValue}
 use Rattle.datasketches.specs.declared.reply.Reply.{Reply}
+use Rattle.datasketches.specs.declared.reply.Bounds.{Bounds}
+use Rattle.datasketches.specs.declared.reply.Reply.TheVariants as reply
 use Rattle.datasketches.specs.declared.reply.Reply.TheVariants.{Done, Refused}
 use Rattle.datasketches.specs.declared.reply.Refusal.{Refusal}
 use Rattle.datasketches.specs.declared.reply.Refusal.TheVariants.{WrongKind, Call}
@@ -35,9 +37,25 @@ module _ {T : Type 0} where
   told (Ok reply) = reply
   told (Err refusal) = Refused refusal
 
+  -- the same of a call that returns a part of a reply
+  abbrev pub told_as : {X : Type 0} → (X → Reply T) → Result X Refusal → Reply T
+  told_as reply_of (Ok x) = reply_of x
+  told_as reply_of (Err refusal) = Refused refusal
+
   abbrev pub is_refused : Reply T → Bool
   is_refused (Refused refusal) = true
   is_refused _ = false
+
+  -- the bounds, or the answer of a filter, that a call returned. Another reply is that of the wrong kind of sketch
+  abbrev pub bounds_in : Result (Reply T) Refusal → Result Bounds Refusal
+  bounds_in (Ok (reply.Bounds estimate lower upper)) = Ok (record { estimate = estimate; lower = lower; upper = upper })
+  bounds_in (Ok _) = Err WrongKind
+  bounds_in (Err refusal) = Err refusal
+
+  abbrev pub contains_in : Result (Reply T) Refusal → Result Bool Refusal
+  contains_in (Ok (reply.Contains found)) = Ok found
+  contains_in (Ok _) = Err WrongKind
+  contains_in (Err refusal) = Err refusal
 
   -- the sketch is of a kind without this command, and is unchanged
   abbrev pub IsWrongKind : Sketch T → Reply T → Sketch T → Type 0

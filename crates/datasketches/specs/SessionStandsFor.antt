@@ -2,7 +2,7 @@
 use Rattle.std.specs.Prelude.{ℕ, Bool, List, Option, Some, None}
 use Rattle.sketch_frequencies.specs.Items.{Codec}
 use Rattle.datasketches.specs.Histories.{Assignment}
-use Rattle.datasketches.specs.Images.{IsImageOf}
+use Rattle.datasketches.specs.Images.{IsSavedOf}
 use Rattle.datasketches.specs.Names.{at_name}
 use Rattle.datasketches.specs.Stands.{StandsFor}
 use Rattle.datasketches.specs.State.{SessionState}
@@ -18,4 +18,4 @@ Paired R _ _ = ⊥
 pub record SessionStandsFor {T C : Type 0} (eq : T → T → Bool) (codec : Codec C) (content : T → C) (s : SessionState T)
     (a : Assignment T) : Type 0 where
   pub sketches : (name : List ℕ) → Paired (StandsFor eq) (at_name name s.sketches) (a.sketches name)
-  pub images : (name : List ℕ) → Paired (IsImageOf eq codec content) (at_name name s.images) (a.images name)
+  pub images : (name : List ℕ) → Paired (IsSavedOf eq codec content) (at_name name s.images) (a.images name)

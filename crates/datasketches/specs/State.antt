@@ -1,7 +1,7 @@
 -- A session as its named sketches and images.
 use Rattle.std.specs.Prelude.{ℕ, List}
 use Rattle.datasketches.specs.Names.{AreSame}
-use Rattle.datasketches.specs.declared.image.Image.{Image}
+use Rattle.datasketches.specs.Images.{Image}
 use Rattle.datasketches.specs.declared.sketch.Sketch.{Sketch}
 
 -- the sketches and the images with their names, each in some order

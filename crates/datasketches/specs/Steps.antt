@@ -1,31 +1,27 @@
 -- Effects of actions and commands, and the replies to them.
 use Rattle.std.specs.Prelude.{◌≡◌, ◌≢◌, ℕ, ◌⊎◌, Bool, List, [], ◌∷◌, Option, None, MatchOption}
 use Rattle.std.specs.Global.{Global}
-use Rattle.std.specs.String.{string_bytes}
 use Rattle.std.specs.declared.vec.Vec.{Vec}
 use Rattle.sketch_frequencies.specs.Items.{Codec}
 use Rattle.sketch_base.specs.Errors.{ErrorValue, invalid_argument, no_memory}
-use Rattle.datasketches.specs.Actions.{action_of}
+use Rattle.datasketches.specs.Actions.{action_of, Action, Action as action, Change}
+use Rattle.datasketches.specs.declared.shape.Shape.{Shape}
+use Rattle.datasketches.specs.declared.join.Join.{Join}
 use Rattle.datasketches.specs.Answering.{Tells, Lists, status_of}
 use Rattle.datasketches.specs.Changing.{Changes}
 use Rattle.datasketches.specs.Histories.{begun, changed, joined}
-use Rattle.datasketches.specs.Images.{bytes_of, image_of, IsWriteRefusal, IsReadRefusal, IsLoadRefusal, IsWrittenBy, IsReadFrom, GivesBack, TakesWithin, load_fault}
+use Rattle.datasketches.specs.Images.{Image, IsWriteRefusal, IsReadRefusal, IsLoadRefusal, IsWrittenBy, IsReadFrom, GivesBack, TakesWithin, load_fault}
 use Rattle.datasketches.specs.Joining.{Joins}
 use Rattle.datasketches.specs.Names.{at_name, Puts, AreSame}
 use Rattle.datasketches.specs.Replies.{refused}
 use Rattle.datasketches.specs.Shapes.{empty_sketch, fault_of}
 use Rattle.datasketches.specs.Stands.{StandsFor, Does, DoesWith}
 use Rattle.datasketches.specs.State.{SessionState, IsUnchanged}
-use Rattle.datasketches.specs.declared.action.Action.{Action}
-use Rattle.datasketches.specs.declared.action.Action.TheVariants as action
-use Rattle.datasketches.specs.declared.change.Change.{Change}
 use Rattle.datasketches.specs.declared.command.Command.{Command}
-use Rattle.datasketches.specs.declared.image.Image.{Image}
+use Rattle.datasketches.specs.declared.image_kind.ImageKind.{ImageKind}
 use Rattle.datasketches.specs.declared.reply.Refusal.TheVariants.{NoSuchName, NameTaken, SameName}
 use Rattle.datasketches.specs.declared.reply.Reply.{Reply}
 use Rattle.datasketches.specs.declared.reply.Reply.TheVariants.{Done, Status, Image as Shown, Refused}
-use Rattle.datasketches.specs.declared.join.Join.{Join}
-use Rattle.datasketches.specs.declared.shape.Shape.{Shape}
 use Rattle.datasketches.specs.declared.sketch.Sketch.{Sketch}
 
 -- ---- on named sketches
@@ -95,7 +91,7 @@ module _ {T : Type 0} where
   -- the reply has a copy of the image's bytes, or allocation failed
   abbrev pub ShowsBytes : Image → Reply T → Type 0
   ShowsBytes image reply =
-      ((bytes : Vec ℕ Global) × (reply ≡ Shown bytes) × (bytes.items ≡ bytes_of image)) ⊎ (reply ≡ refused no_memory)
+      ((bytes : Vec ℕ Global) × (reply ≡ Shown bytes) × (bytes.items ≡ image.bytes)) ⊎ (reply ≡ refused no_memory)
 
   -- the reply has the bytes of the image of the name, or is `NoSuchName` if there is none. The session is unchanged
   abbrev pub ShowsImage : List ℕ → SessionState T → Reply T → SessionState T → Type 0
@@ -120,7 +116,7 @@ module _ {T C : Type 0} (codec : Codec C) (content : T → C) where
       : Type 0 where
     pub sketches : AreSame old.sketches new.sketches
     pub outcome :
-        ((image : Image) × (reply ≡ Done) × IsWrittenBy codec content sketch image × Puts name image old.images new.images)
+        ((image : Image) × (reply ≡ Done) × IsWrittenBy codec content sketch image.kind image.bytes × Puts name image old.images new.images)
         ⊎ ((e : ErrorValue) × IsWriteRefusal codec content sketch e × Refuses (refused e) old.images reply new.images)
 
   -- the sketch of the name is saved if it exists and the image's name is free
@@ -136,9 +132,9 @@ module _ {T C : Type 0} (eq : T → T → Bool) (codec : Codec C) (content : T �
       : Type 0 where
     pub images : AreSame old.images new.images
     pub outcome :
-        ((sketch : Sketch T) × (reply ≡ Done) × IsReadFrom codec content image sketch × GivesBack eq codec content image sketch
-        × Puts name sketch old.sketches new.sketches)
-        ⊎ ((e : ErrorValue) × IsReadRefusal codec image e × Refuses (refused e) old.sketches reply new.sketches)
+        ((sketch : Sketch T) × (reply ≡ Done) × IsReadFrom codec content image.kind image.bytes sketch
+        × GivesBack eq codec content image.kind image.bytes sketch × Puts name sketch old.sketches new.sketches)
+        ⊎ ((e : ErrorValue) × IsReadRefusal codec image.kind image.bytes e × Refuses (refused e) old.sketches reply new.sketches)
 
   -- the image of the name is restored if it exists and the sketch's name is free
   abbrev pub Restores : List ℕ → List ℕ → SessionState T → Reply T → SessionState T → Type 0
@@ -148,26 +144,26 @@ module _ {T C : Type 0} (eq : T → T → Bool) (codec : Codec C) (content : T �
 
 module _ {T C : Type 0} (slot : ℕ) (eq : T → T → Bool) (codec : Codec C) (content : T → C) where
   -- the sketch was read from the image within the limit, takes no more than that, and stands for the image's histories, restored
-  pub record IsLoaded (image : Image) (max_bytes : ℕ) (sketch : Sketch T) : Type 0 where
-    pub read : IsReadFrom codec content image sketch
-    pub stands : GivesBack eq codec content image sketch
+  pub record IsLoaded (kind : ImageKind) (bytes : List ℕ) (max_bytes : ℕ) (sketch : Sketch T) : Type 0 where
+    pub read : IsReadFrom codec content kind bytes sketch
+    pub stands : GivesBack eq codec content kind bytes sketch
     pub within : TakesWithin slot codec content max_bytes sketch
-    pub accepted : load_fault slot codec max_bytes image ≡ None
+    pub accepted : load_fault slot codec max_bytes kind bytes ≡ None
 
   -- the name now has the loaded sketch, or an error left all sketches unchanged. Images are unchanged
-  pub record Brings (image : Image) (max_bytes : ℕ) (name : List ℕ) (old : SessionState T) (reply : Reply T)
+  pub record Brings (kind : ImageKind) (bytes : List ℕ) (max_bytes : ℕ) (name : List ℕ) (old : SessionState T) (reply : Reply T)
       (new : SessionState T) : Type 0 where
     pub images : AreSame old.images new.images
     pub outcome :
-        ((sketch : Sketch T) × (reply ≡ Done) × IsLoaded image max_bytes sketch × Puts name sketch old.sketches new.sketches)
-        ⊎ ((e : ErrorValue) × IsLoadRefusal slot codec max_bytes image e
+        ((sketch : Sketch T) × (reply ≡ Done) × IsLoaded kind bytes max_bytes sketch × Puts name sketch old.sketches new.sketches)
+        ⊎ ((e : ErrorValue) × IsLoadRefusal slot codec max_bytes kind bytes e
         × Refuses (refused e) old.sketches reply new.sketches)
 
   -- an untrusted image is loaded if the sketch's name is free
-  abbrev pub Loads : Image → ℕ → List ℕ → SessionState T → Reply T → SessionState T → Type 0
-  Loads image max_bytes name old reply new =
+  abbrev pub Loads : ImageKind → List ℕ → ℕ → List ℕ → SessionState T → Reply T → SessionState T → Type 0
+  Loads kind bytes max_bytes name old reply new =
       MatchOption (at_name name old.sketches)
-      (Brings image max_bytes name old reply new)
+      (Brings kind bytes max_bytes name old reply new)
       (λ _. IsUnchanged old new × (reply ≡ Refused NameTaken))
 
 module _ {T : Type 0} (eq : T → T → Bool) (input : T → List (List ℕ)) where
@@ -179,23 +175,17 @@ module _ {T C : Type 0} (slot : ℕ) (eq : T → T → Bool) (input : T → List
     (content : T → C) where
   -- the effect of one action
   abbrev pub Performs : SessionState T → Action T → Reply T → SessionState T → Type 0
-  Performs old (action.Create name shape) reply new = OnSketches (Creates eq shape (string_bytes name)) old reply new
-  Performs old (action.Change name change) reply new =
-      OnSketches (ChangesNamed eq input change (string_bytes name)) old reply new
-  Performs old (action.Join into other join) reply new =
-      OnSketches (JoinsNamed eq join (string_bytes into) (string_bytes other)) old reply new
-  Performs old (action.Save name image) reply new =
-      Saves codec content (string_bytes name) (string_bytes image) old reply new
-  Performs old (action.Restore image name) reply new =
-      Restores eq codec content (string_bytes image) (string_bytes name) old reply new
-  Performs old (action.Load name kind image max_bytes) reply new =
-      Loads slot eq codec content (image_of kind image) max_bytes (string_bytes name) old reply new
-  Performs old (action.ShowImage image) reply new = ShowsImage (string_bytes image) old reply new
-  Performs old (action.Ask name item) reply new = Answers (Tells eq input item) (string_bytes name) old reply new
-  Performs old (action.GetStatus name) reply new =
-      Answers (λ sketch r. r ≡ Status (status_of sketch)) (string_bytes name) old reply new
-  Performs old (action.ListRows name error_type threshold) reply new =
-      Answers (Lists eq error_type threshold) (string_bytes name) old reply new
+  Performs old (action.Create name shape) reply new = OnSketches (Creates eq shape name) old reply new
+  Performs old (action.Alter name change) reply new = OnSketches (ChangesNamed eq input change name) old reply new
+  Performs old (action.Combine into other join) reply new = OnSketches (JoinsNamed eq join into other) old reply new
+  Performs old (action.Save name image) reply new = Saves codec content name image old reply new
+  Performs old (action.Restore image name) reply new = Restores eq codec content image name old reply new
+  Performs old (action.Load name kind bytes max_bytes) reply new =
+      Loads slot eq codec content kind bytes max_bytes name old reply new
+  Performs old (action.ShowImage image) reply new = ShowsImage image old reply new
+  Performs old (action.Ask name item) reply new = Answers (Tells eq input item) name old reply new
+  Performs old (action.GetStatus name) reply new = Answers (λ sketch r. r ≡ Status (status_of sketch)) name old reply new
+  Performs old (action.ListRows name error_type threshold) reply new = Answers (Lists eq error_type threshold) name old reply new
 
   -- the effect of one command: that of its action
   abbrev pub Step : SessionState T → Command T → Reply T → SessionState T → Type 0

@@ -1,6 +1,4 @@
 //! Commands of a session.
-ghost use Rattle.std.specs.Prelude.{◌≡◌, None};
-
 use crate::image_kind::ImageKind;
 use sketch_frequencies::ErrorType;
 
@@ -143,37 +141,4 @@ pub enum Command<T> {
         error_type: ErrorType,
         threshold: u64,
     },
-}
-
-/// A name and an item that commands did not keep. Further commands may reuse their memory.
-///
-/// # Examples
-///
-/// ```
-/// use datasketches::{Command, Recycled, Session};
-///
-/// fn recycles(session: &mut Session<u64>, name: String, item: u64) -> bool {
-///     let mut recycled = Recycled::new();
-///     session.apply_recycling(Command::Insert { name, item }, &mut recycled);
-///     recycled.name.is_some()
-/// }
-/// ```
-#[derive(Drop)]
-pub struct Recycled<T> {
-    /// A name, if any.
-    pub name: Option<String>,
-    /// An item, if any.
-    pub item: Option<T>,
-}
-
-impl<T> Recycled<T> {
-    /// Creates a value with no name and no item.
-    pub fn new() -> Self
-        ensures { result ≡ record { name = None; item = None } }
-    {
-        Recycled {
-            name: None,
-            item: None,
-        }
-    }
 }

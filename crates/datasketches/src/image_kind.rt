@@ -6,16 +6,10 @@
 /// # Examples
 ///
 /// ```
-/// use datasketches::{Command, ImageKind, Reply, Session};
+/// use datasketches::{ImageKind, Session};
 ///
-/// fn takes_filter(session: &mut Session<u64>, name: String, image: Vec<u8>) -> bool {
-///     let told = session.apply(Command::Load {
-///         name,
-///         kind: ImageKind::Bloom,
-///         image,
-///         max_bytes: 1 << 20,
-///     });
-///     matches!(told, Reply::Done)
+/// fn takes_filter(session: &mut Session<u64>, name: &str, image: &[u8]) -> bool {
+///     session.load(name, ImageKind::Bloom, image, 1 << 20).is_ok()
 /// }
 /// ```
 #[derive(Clone, Copy, Debug, PartialEq, Eq)]

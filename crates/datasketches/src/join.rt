@@ -1,21 +1,7 @@
 //! Merges and set operations on two sketches.
 
 /// A merge or set operation that combines another sketch into one. Each kind of sketch supports some of these.
-///
-/// # Examples
-///
-/// ```
-/// use datasketches::{Action, Join};
-///
-/// fn union(into: String, other: String) -> Action<u64> {
-///     Action::Join {
-///         into,
-///         other,
-///         join: Join::Union,
-///     }
-/// }
-/// ```
-#[derive(Clone, Copy, Debug, PartialEq, Eq)]
+#[derive(Clone, Copy)]
 pub enum Join {
     /// Adds the other's weights.
     Merge,

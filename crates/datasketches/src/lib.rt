@@ -3,12 +3,10 @@
 //! - [`frequencies`] finds the most frequent items.
 //! - [`countmin`] counts weights in a table of a fixed size.
 //! - [`bloom`] tests whether an item was seen.
-//! - [`Session`] keeps sketches of these kinds and their images under names, and runs [`Command`]s on them.
+//! - [`Session`] keeps sketches of these kinds and their images under names. It also runs [`Command`]s on them.
 //! - [`error`], [`codec`] and [`hash`] have what the sketches share: errors, cursors over bytes, and hash functions.
 #![tactic(auto)]
 
-mod action;
-mod change;
 mod command;
 mod image;
 mod image_kind;
@@ -21,14 +19,10 @@ mod session;
 mod shape;
 mod sketch;
 
-pub use action::Action;
-pub use change::Change;
-pub use command::{Command, Recycled};
+pub use command::Command;
 pub use image_kind::ImageKind;
-pub use join::Join;
-pub use reply::{Refusal, Reply, Status};
+pub use reply::{Bounds, Refusal, Reply, Status};
 pub use session::Session;
-pub use shape::Shape;
 
 /// Bloom filters with exact set algebra.
 pub mod bloom {

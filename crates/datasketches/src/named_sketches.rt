@@ -1,37 +1,14 @@
-//! Named sketches: changes of one, and merges and set operations on two.
+//! Merges and set operations on two named sketches.
 ghost use Rattle.std.specs.Prelude.{◌≢◌, ◌<◌, length, IsTrue};
 ghost use Rattle.datasketches.specs.Indices.{JoinsAt};
 ghost use Rattle.datasketches.specs.Replies.{done_or};
-ghost use Rattle.datasketches.specs.Steps.{ChangesNamed, JoinsNamed};
+ghost use Rattle.datasketches.specs.Steps.{JoinsNamed};
 
-use crate::change::Change;
 use crate::join::Join;
 use crate::name_map::{NameMap, index_of};
 use crate::reply::Refusal;
 use crate::sketch::Sketch;
 use std::hash::Hash;
-
-impl<T: Eq + Hash + Drop> NameMap<Sketch<T>> {
-    /// Changes the named sketch. An item that it does not keep may be moved into `recycled`.
-    ///
-    /// # Errors
-    ///
-    /// Returns `NoSuchName` if no sketch has the name, and the errors of [`Sketch::change`].
-    #[inline(always)]
-    pub fn change(
-        &mut self,
-        name: &str,
-        change: Change<T>,
-        recycled: &mut Option<T>,
-    ) -> Result<(), Refusal>
-        ensures { ChangesNamed T.eq T.hash_input change name.now self.old (done_or result) self.new }
-    {
-        let Some(sketch) = self.get_mut(name) else {
-            return Err(Refusal::NoSuchName);
-        };
-        sketch.change(change, recycled)
-    }
-}
 
 impl<T: Eq + Hash + Clone + Drop> NameMap<Sketch<T>> {
     /// Combines the sketch named `other` into the one named `into`.

@@ -1,5 +1,6 @@
 //! Replies of a session.
 ghost use Rattle.std.specs.Prelude.{◌≡◌};
+ghost use Rattle.datasketches.specs.Replies.{done_or};
 ghost use Rattle.datasketches.specs.Refusals.{refusal_text, refusal_name};
 
 use sketch_base::Error;
@@ -11,25 +12,10 @@ use std::fmt;
 /// # Examples
 ///
 /// ```
-/// use datasketches::error::Error;
 /// use datasketches::{Command, Reply, Session};
-/// use std::alloc::Global;
 ///
-/// fn visits_by_seven(alloc: Global) -> Result<Reply<u64>, Error> {
-///     let mut session = Session::new(alloc);
-///     let name = String::from_str(alloc, "visits")?;
-///     session.apply(Command::CreateFrequent {
-///         name,
-///         max_map_size: 64,
-///     });
-///     let name = String::from_str(alloc, "visits")?;
-///     session.apply(Command::Add {
-///         name,
-///         item: 7,
-///         weight: 5,
-///     });
-///     let name = String::from_str(alloc, "visits")?;
-///     Ok(session.apply(Command::Ask { name, item: 7 }))
+/// fn is_done(session: &mut Session<u64>, command: Command<u64>) -> bool {
+///     matches!(session.apply(command), Reply::Done)
 /// }
 /// ```
 #[derive(Debug, PartialEq, Eq, Drop)]
@@ -52,6 +38,39 @@ pub enum Reply<T> {
     Image(Vec<u8>),
     /// The command was rejected, and nothing changed.
     Refused(Refusal),
+}
+
+impl<T> Reply<T> {
+    /// Returns `Done`, or `Refused` with the reason.
+    pub fn from_outcome(outcome: Result<(), Refusal>) -> Self
+        ensures { result ≡ done_or outcome }
+    {
+        match outcome {
+            Ok(()) => Reply::Done,
+            Err(refusal) => Reply::Refused(refusal),
+        }
+    }
+}
+
+/// An item's estimate and the bounds of its weight.
+///
+/// # Examples
+///
+/// ```
+/// use datasketches::Bounds;
+///
+/// fn is_exact(bounds: Bounds) -> bool {
+///     bounds.lower == bounds.upper
+/// }
+/// ```
+#[derive(Clone, Copy, Debug, PartialEq, Eq)]
+pub struct Bounds {
+    /// The estimate.
+    pub estimate: i128,
+    /// The lower bound.
+    pub lower: i128,
+    /// The upper bound.
+    pub upper: i128,
 }
 
 /// The numbers of a sketch.

@@ -1,27 +1,28 @@
 //! Sessions: named sketches and images.
-ghost use Rattle.std.specs.Prelude.{◌≡◌, List, [], true, None, Some, IfOk, IfErr, OnErr, IsTrue, string_bytes};
+ghost use Rattle.std.specs.Prelude.{◌≡◌, List, Result, [], true, None, Some, IfOk, IfErr, OnErr, IsTrue, string_bytes};
 ghost use Rattle.sketch_base.specs.Errors.{no_memory};
 ghost use Rattle.counter_table.specs.Bytes.{option_bytes};
-ghost use Rattle.datasketches.specs.Answering.{Tells, Lists, status_of};
+ghost use Rattle.datasketches.specs.Actions.{Action, Change, action_of};
 ghost use Rattle.datasketches.specs.SessionStandsFor.{SessionStandsFor};
-ghost use Rattle.datasketches.specs.Histories.{Assignment, History, nothing_named, after_action, after_action_told, after_one, after_one_told, after, after_told};
-ghost use Rattle.datasketches.specs.Loading.{IsActionTold, IsTold, AreTold};
+ghost use Rattle.datasketches.specs.Histories.{Assignment, History, nothing_named, after_one, after_one_told, after, after_told};
+ghost use Rattle.datasketches.specs.Loading.{IsTold, AreTold};
 ghost use Rattle.datasketches.specs.Names.{at_name};
-ghost use Rattle.datasketches.specs.Replies.{told, is_refused};
+ghost use Rattle.datasketches.specs.Keyed.{PerformedByKey};
+ghost use Rattle.datasketches.specs.Performed.{Performed};
+ghost use Rattle.datasketches.specs.Replies.{done_or, told, told_as, is_refused, bounds_in, contains_in};
 ghost use Rattle.datasketches.specs.State.{SessionState, IsUnchanged};
-ghost use Rattle.datasketches.specs.Steps.{OnSketches, Creates, ChangesNamed, JoinsNamed, Answers, Saves, Restores, Loads, ShowsImage, Performs, Step, Run};
+ghost use Rattle.datasketches.specs.Steps.{Step, Run};
 
-use crate::action::Action;
-use crate::change::Change;
-use crate::command::{Command, Recycled};
+use crate::command::Command;
 use crate::image::Image;
+use crate::image_kind::ImageKind;
 use crate::join::Join;
 use crate::name_map::NameMap;
-use crate::reply::{Refusal, Reply};
+use crate::reply::{Bounds, Refusal, Reply, Status};
 use crate::shape::Shape;
 use crate::sketch::Sketch;
 use sketch_base::{Error, MapState};
-use sketch_frequencies::{ErrorType, FrequentItemValue, TableKey};
+use sketch_frequencies::{ErrorType, FrequentItemValue, ItemKey, OwnedKey, Row, TableKey};
 use std::alloc::Global;
 use std::fmt;
 use std::hash::{Hash, RandomState};
@@ -29,31 +30,20 @@ use std::marker::Model;
 
 /// Sketches of four kinds and saved images of them, each under its own name.
 ///
-/// Running commands preserves an invariant, whatever histories the names had before: each sketch stands for the history
+/// Calls and commands preserve an invariant, whatever histories the names had before: each sketch stands for the history
 /// of its accepted commands.
 ///
 /// # Examples
 ///
 /// ```
-/// use datasketches::error::Error;
-/// use datasketches::{Command, Reply, Session};
+/// use datasketches::{Bounds, Refusal, Session};
 /// use std::alloc::Global;
 ///
-/// fn visits_by_seven(alloc: Global) -> Result<Reply<u64>, Error> {
+/// fn visits_by_seven(alloc: Global) -> Result<Bounds, Refusal> {
 ///     let mut session = Session::new(alloc);
-///     let name = String::from_str(alloc, "visits")?;
-///     session.apply(Command::CreateFrequent {
-///         name,
-///         max_map_size: 64,
-///     });
-///     let name = String::from_str(alloc, "visits")?;
-///     session.apply(Command::Add {
-///         name,
-///         item: 7,
-///         weight: 5,
-///     });
-///     let name = String::from_str(alloc, "visits")?;
-///     Ok(session.apply(Command::Ask { name, item: 7 }))
+///     session.create_frequent_items("visits", 64)?;
+///     session.add("visits", 7_u64, 5)?;
+///     session.bounds("visits", &7)
 /// }
 /// ```
 #[derive(Drop)]
@@ -162,7 +152,371 @@ impl<T: FrequentItemValue + Clone + Drop> Session<T> {
         }
     }
 
-    /// Runs one command.
+    /// Creates a sketch of the most frequent items under the name, with a table of at most `max_map_size` slots.
+    ///
+    /// # Errors
+    ///
+    /// This and the other calls that create a sketch return `NameTaken` if a sketch has the name already. Otherwise they
+    /// return the error of the sketch's own constructor, or `NoMemory` if the name cannot be kept. An error of any call
+    /// changes nothing.
+    pub fn create_frequent_items(&mut self, name: &str, max_map_size: usize) -> Result<(), Refusal>
+        ensures { Performed (option_bytes T.row) T.eq T.hash_input T.codec T.content
+            (Action.Create name.now (Shape.Frequent max_map_size)) self.old (done_or result) self.new }
+    {
+        self.create(name, Shape::Frequent { max_map_size })
+    }
+
+    /// Creates a sketch as [`create_frequent_items`](Self::create_frequent_items) does, whose purges sample `sample_size`
+    /// counters.
+    pub fn create_frequent_items_sampled(
+        &mut self,
+        name: &str,
+        max_map_size: usize,
+        sample_size: usize,
+    ) -> Result<(), Refusal>
+        ensures { Performed (option_bytes T.row) T.eq T.hash_input T.codec T.content
+            (Action.Create name.now (Shape.FrequentSampled max_map_size sample_size)) self.old (done_or result) self.new }
+    {
+        let shape = Shape::FrequentSampled {
+            max_map_size,
+            sample_size,
+        };
+        self.create(name, shape)
+    }
+
+    /// Creates a Count-Min sketch of signed weights under the name.
+    pub fn create_count_min_i64(
+        &mut self,
+        name: &str,
+        num_hashes: u8,
+        num_buckets: u32,
+        seed: u64,
+    ) -> Result<(), Refusal>
+        ensures { Performed (option_bytes T.row) T.eq T.hash_input T.codec T.content
+            (Action.Create name.now (Shape.CountI64 num_hashes num_buckets seed)) self.old (done_or result) self.new }
+    {
+        let shape = Shape::CountI64 {
+            num_hashes,
+            num_buckets,
+            seed,
+        };
+        self.create(name, shape)
+    }
+
+    /// Creates a Count-Min sketch of nonnegative weights under the name.
+    pub fn create_count_min_u64(
+        &mut self,
+        name: &str,
+        num_hashes: u8,
+        num_buckets: u32,
+        seed: u64,
+    ) -> Result<(), Refusal>
+        ensures { Performed (option_bytes T.row) T.eq T.hash_input T.codec T.content
+            (Action.Create name.now (Shape.CountU64 num_hashes num_buckets seed)) self.old (done_or result) self.new }
+    {
+        let shape = Shape::CountU64 {
+            num_hashes,
+            num_buckets,
+            seed,
+        };
+        self.create(name, shape)
+    }
+
+    /// Creates a Bloom filter of at least `num_bits` bits under the name.
+    pub fn create_bloom_filter(
+        &mut self,
+        name: &str,
+        num_bits: u64,
+        num_hashes: u16,
+        seed: u64,
+    ) -> Result<(), Refusal>
+        ensures { Performed (option_bytes T.row) T.eq T.hash_input T.codec T.content
+            (Action.Create name.now (Shape.Bloom num_bits num_hashes seed)) self.old (done_or result) self.new }
+    {
+        let shape = Shape::Bloom {
+            num_bits,
+            num_hashes,
+            seed,
+        };
+        self.create(name, shape)
+    }
+
+    /// Adds an item with a weight to a sketch of frequent items, or to a Count-Min sketch of nonnegative weights.
+    ///
+    /// # Errors
+    ///
+    /// Calls on a sketch return `NoSuchName` if no sketch has the name, `WrongKind` if its kind does not support the call,
+    /// and the error of the sketch's own call.
+    pub fn add(&mut self, name: &str, item: T, weight: u64) -> Result<(), Refusal>
+        ensures { Performed (option_bytes T.row) T.eq T.hash_input T.codec T.content
+            (Action.Alter name.now (Change.Add item weight)) self.old (done_or result) self.new }
+    {
+        let Some(sketch) = self.sketches.get_mut(name) else {
+            return Err(Refusal::NoSuchName);
+        };
+        sketch.add(item, weight)
+    }
+
+    /// Adds the item that the key names, as [`add`](Self::add) does. A session of `String`s takes a `&str` as the key.
+    ///
+    /// Creates an owned item only if a sketch of frequent items tracks none. So `NoMemory` may also come for that item.
+    #[inline(always)]
+    pub fn add_by_key<K: OwnedKey<T>>(
+        &mut self,
+        name: &str,
+        item: K,
+        weight: u64,
+    ) -> Result<(), Refusal>
+        ensures { (x : T) → IsTrue (K.names item x)
+            → PerformedByKey (option_bytes T.row) T.eq T.hash_input T.codec T.content name.now (K.names item) weight
+            self.old result self.new }
+    {
+        let Some(sketch) = self.sketches.get_mut(name) else {
+            return Err(Refusal::NoSuchName);
+        };
+        sketch.add_by_key(item, weight)
+    }
+
+    /// Adds an item with a weight that may be negative to a Count-Min sketch of signed weights.
+    pub fn add_signed<K: ItemKey<T>>(
+        &mut self,
+        name: &str,
+        item: K,
+        weight: i64,
+    ) -> Result<(), Refusal>
+        ensures { (x : T) → IsTrue (K.names item x)
+            → Performed (option_bytes T.row) T.eq T.hash_input T.codec T.content
+            (Action.Alter name.now (Change.AddSigned x weight)) self.old (done_or result) self.new }
+    {
+        let Some(sketch) = self.sketches.get_mut(name) else {
+            return Err(Refusal::NoSuchName);
+        };
+        sketch.add_signed(item, weight)
+    }
+
+    /// Inserts an item into a Bloom filter. The key is a reference to the item, or a `&str` if items are `String`s.
+    #[inline(always)]
+    pub fn insert<K: ItemKey<T>>(&mut self, name: &str, item: K) -> Result<(), Refusal>
+        ensures { (x : T) → IsTrue (K.names item x)
+            → Performed (option_bytes T.row) T.eq T.hash_input T.codec T.content
+            (Action.Alter name.now (Change.Insert x)) self.old (done_or result) self.new }
+    {
+        let Some(sketch) = self.sketches.get_mut(name) else {
+            return Err(Refusal::NoSuchName);
+        };
+        sketch.insert(item)
+    }
+
+    /// Empties a sketch of frequent items or a filter.
+    pub fn reset(&mut self, name: &str) -> Result<(), Refusal>
+        ensures { Performed (option_bytes T.row) T.eq T.hash_input T.codec T.content
+            (Action.Alter name.now Change.Reset) self.old (done_or result) self.new }
+    {
+        let Some(sketch) = self.sketches.get_mut(name) else {
+            return Err(Refusal::NoSuchName);
+        };
+        sketch.reset()
+    }
+
+    /// Halves all weights of a Count-Min sketch of nonnegative weights.
+    pub fn halve(&mut self, name: &str) -> Result<(), Refusal>
+        ensures { Performed (option_bytes T.row) T.eq T.hash_input T.codec T.content
+            (Action.Alter name.now Change.Halve) self.old (done_or result) self.new }
+    {
+        let Some(sketch) = self.sketches.get_mut(name) else {
+            return Err(Refusal::NoSuchName);
+        };
+        sketch.halve()
+    }
+
+    /// Multiplies all weights of a Count-Min sketch of nonnegative weights by a fraction.
+    ///
+    /// Returns `BadFraction` if the fraction is not above 0 and at most 1.
+    pub fn decay(&mut self, name: &str, numerator: u64, denominator: u64) -> Result<(), Refusal>
+        ensures { Performed (option_bytes T.row) T.eq T.hash_input T.codec T.content
+            (Action.Alter name.now (Change.Decay numerator denominator)) self.old (done_or result) self.new }
+    {
+        let Some(sketch) = self.sketches.get_mut(name) else {
+            return Err(Refusal::NoSuchName);
+        };
+        sketch.decay(numerator, denominator)
+    }
+
+    /// Adds the weights of the sketch `other` to the sketch `into`. Both are of the same kind, which is not a filter.
+    ///
+    /// # Errors
+    ///
+    /// Calls on two sketches return `NoSuchName` if a name has no sketch, `SameName` if both names are the same, `WrongKind` if
+    /// the kinds differ or do not support the call, and the error of the sketch's own call.
+    pub fn merge(&mut self, into: &str, other: &str) -> Result<(), Refusal>
+        requires clones { (x y : T) → T.is_clone x y → IsTrue (T.eq x y) }
+        ensures { Performed (option_bytes T.row) T.eq T.hash_input T.codec T.content
+            (Action.Combine into.now other.now Join.Merge) self.old (done_or result) self.new }
+    {
+        self.join(into, other, Join::Merge)
+    }
+
+    /// Adds the positions of the filter `other` to the filter `into`.
+    pub fn union(&mut self, into: &str, other: &str) -> Result<(), Refusal>
+        requires clones { (x y : T) → T.is_clone x y → IsTrue (T.eq x y) }
+        ensures { Performed (option_bytes T.row) T.eq T.hash_input T.codec T.content
+            (Action.Combine into.now other.now Join.Union) self.old (done_or result) self.new }
+    {
+        self.join(into, other, Join::Union)
+    }
+
+    /// Keeps in the filter `into` only the positions that are also in the filter `other`.
+    pub fn intersect(&mut self, into: &str, other: &str) -> Result<(), Refusal>
+        requires clones { (x y : T) → T.is_clone x y → IsTrue (T.eq x y) }
+        ensures { Performed (option_bytes T.row) T.eq T.hash_input T.codec T.content
+            (Action.Combine into.now other.now Join.Intersect) self.old (done_or result) self.new }
+    {
+        self.join(into, other, Join::Intersect)
+    }
+
+    /// Removes the positions of the filter `other` from the filter `into`.
+    pub fn difference(&mut self, into: &str, other: &str) -> Result<(), Refusal>
+        requires clones { (x y : T) → T.is_clone x y → IsTrue (T.eq x y) }
+        ensures { Performed (option_bytes T.row) T.eq T.hash_input T.codec T.content
+            (Action.Combine into.now other.now Join.Difference) self.old (done_or result) self.new }
+    {
+        self.join(into, other, Join::Difference)
+    }
+
+    /// Saves an image of a sketch under the name `image`.
+    ///
+    /// # Errors
+    ///
+    /// Returns `NoSuchName` if no sketch has the name, and `NameTaken` if an image has its name already. Otherwise returns the
+    /// fault of an item that cannot be written, or `NoMemory`.
+    pub fn save(&mut self, name: &str, image: &str) -> Result<(), Refusal>
+        ensures { Performed (option_bytes T.row) T.eq T.hash_input T.codec T.content
+            (Action.Save name.now image.now) self.old (done_or result) self.new }
+    {
+        let Some(sketch) = self.sketches.get(name) else {
+            return Err(Refusal::NoSuchName);
+        };
+        if self.images.contains_name(image) {
+            return Err(Refusal::NameTaken);
+        }
+        let saved = sketch.save()?;
+        let image = copied(self.alloc, image)?;
+        self.images.insert(image, saved)?;
+        Ok(())
+    }
+
+    /// Creates a sketch from a saved image.
+    ///
+    /// # Errors
+    ///
+    /// Returns `NoSuchName` if no image has its name, and `NameTaken` if a sketch has the name already. Otherwise returns the
+    /// image's first fault, or `NoMemory`.
+    pub fn restore(&mut self, image: &str, name: &str) -> Result<(), Refusal>
+        ensures { Performed (option_bytes T.row) T.eq T.hash_input T.codec T.content
+            (Action.Restore image.now name.now) self.old (done_or result) self.new }
+    {
+        let saved = self.saved_image(image)?;
+        if self.sketches.contains_name(name) {
+            return Err(Refusal::NameTaken);
+        }
+        let sketch = Sketch::restore(self.alloc, saved.kind(), saved.bytes(), self.key)?;
+        let name = copied(self.alloc, name)?;
+        self.sketches.insert(name, sketch)?;
+        Ok(())
+    }
+
+    /// Creates a sketch from the bytes of an untrusted image, if it takes at most `max_bytes`.
+    ///
+    /// # Errors
+    ///
+    /// Returns `NameTaken` if a sketch has the name already. Otherwise returns the image's first fault, `TableTooLarge` if the
+    /// limit is exceeded, or `NoMemory`.
+    pub fn load(
+        &mut self,
+        name: &str,
+        kind: ImageKind,
+        image: &[u8],
+        max_bytes: usize,
+    ) -> Result<(), Refusal>
+        ensures { Performed (option_bytes T.row) T.eq T.hash_input T.codec T.content
+            (Action.Load name.now kind image.now max_bytes) self.old (done_or result) self.new }
+    {
+        if self.sketches.contains_name(name) {
+            return Err(Refusal::NameTaken);
+        }
+        let sketch = Sketch::load(self.alloc, kind, image, max_bytes, self.key)?;
+        let name = copied(self.alloc, name)?;
+        self.sketches.insert(name, sketch)?;
+        Ok(())
+    }
+
+    /// Returns a copy of the bytes of a saved image.
+    ///
+    /// # Errors
+    ///
+    /// Returns `NoSuchName` if no image has the name, and `NoMemory` if the copy cannot be allocated.
+    pub fn image(&self, name: &str) -> Result<Vec<u8>, Refusal>
+        ensures { Performed (option_bytes T.row) T.eq T.hash_input T.codec T.content
+            (Action.ShowImage name.now) self.now (told_as Reply.Image result) self.now }
+    {
+        Ok(self.saved_image(name)?.copy_bytes(self.alloc)?)
+    }
+
+    /// Returns what a sketch tells of an item: `Reply::Contains` if it is a filter, and `Reply::Bounds` otherwise.
+    #[inline(always)]
+    pub fn ask<K: ItemKey<T>>(&self, name: &str, item: K) -> Result<Reply<T>, Refusal>
+        ensures { (x : T) → IsTrue (K.names item x)
+            → Performed (option_bytes T.row) T.eq T.hash_input T.codec T.content
+            (Action.Ask name.now x) self.now (told result) self.now }
+    {
+        Ok(self.sketch(name)?.ask(item))
+    }
+
+    /// Returns an item's estimate and bounds. Also returns `WrongKind` if the sketch is a filter.
+    pub fn bounds<K: ItemKey<T>>(&self, name: &str, item: K) -> Result<Bounds, Refusal>
+        ensures { (x : T) → IsTrue (K.names item x) → (given : Result (Reply T) Refusal)
+            × Performed (option_bytes T.row) T.eq T.hash_input T.codec T.content
+            (Action.Ask name.now x) self.now (told given) self.now
+            × (result ≡ bounds_in given) }
+    {
+        bounds_in(self.ask(name, item))
+    }
+
+    /// Returns whether a filter contains an item. Also returns `WrongKind` if the sketch is no filter.
+    pub fn contains<K: ItemKey<T>>(&self, name: &str, item: K) -> Result<bool, Refusal>
+        ensures { (x : T) → IsTrue (K.names item x) → (given : Result (Reply T) Refusal)
+            × Performed (option_bytes T.row) T.eq T.hash_input T.codec T.content
+            (Action.Ask name.now x) self.now (told given) self.now
+            × (result ≡ contains_in given) }
+    {
+        contains_in(self.ask(name, item))
+    }
+
+    /// Returns the numbers of a sketch.
+    pub fn status(&self, name: &str) -> Result<Status, Refusal>
+        ensures { Performed (option_bytes T.row) T.eq T.hash_input T.codec T.content
+            (Action.GetStatus name.now) self.now (told_as Reply.Status result) self.now }
+    {
+        Ok(self.sketch(name)?.status())
+    }
+
+    /// Returns the frequent items above a threshold, descending by estimate.
+    ///
+    /// Also returns `NoMemory` if the rows or a clone cannot be allocated.
+    pub fn rows(
+        &self,
+        name: &str,
+        error_type: ErrorType,
+        threshold: u64,
+    ) -> Result<Vec<Row<T>>, Refusal>
+        requires clones { (x y : T) → T.is_clone x y → IsTrue (T.eq x y) }
+        ensures { Performed (option_bytes T.row) T.eq T.hash_input T.codec T.content
+            (Action.ListRows name.now error_type threshold) self.now (told_as Reply.Rows result) self.now }
+    {
+        self.sketch(name)?.rows(error_type, threshold)
+    }
+
+    /// Runs one command: the call of its name.
     ///
     /// It does to the sketch or image that it creates or names what the sketch's own call does. All others are
     /// unchanged. A rejected command changes nothing.
@@ -176,57 +530,123 @@ impl<T: FrequentItemValue + Clone + Drop> Session<T> {
             → SessionStandsFor T.eq T.codec T.content self.new (after_one_told T.hash_input a command loaded result) }
         ensures refused { is_refused result ≡ true → IsUnchanged self.old self.new }
     {
-        let mut recycled = Recycled::new();
-        self.apply_recycling(command, &mut recycled)
+        self.perform(command)
     }
 
-    /// Runs one command as [`Session::apply`] does, and moves names and items that it does not keep into `recycled`.
-    ///
-    /// So a caller of many commands can reuse the memory of one for the next. No clause says what `recycled` holds.
-    #[inline(always)]
-    pub fn apply_recycling(&mut self, command: Command<T>, recycled: &mut Recycled<T>) -> Reply<T>
+    fn perform(&mut self, command: Command<T>) -> Reply<T>
         requires clones { (x y : T) → T.is_clone x y → IsTrue (T.eq x y) }
-        ensures step { Step (option_bytes T.row) T.eq T.hash_input T.codec T.content self.old command result self.new }
-        ensures fits { (a : Assignment T) → SessionStandsFor T.eq T.codec T.content self.old a
-            → SessionStandsFor T.eq T.codec T.content self.new (after_one T.hash_input a command result) }
-        ensures told { (a : Assignment T) (loaded : History T) → SessionStandsFor T.eq T.codec T.content self.old a
-            → IsTold T.eq T.codec T.content command loaded
-            → SessionStandsFor T.eq T.codec T.content self.new (after_one_told T.hash_input a command loaded result) }
-        ensures refused { is_refused result ≡ true → IsUnchanged self.old self.new }
+        ensures { Performed (option_bytes T.row) T.eq T.hash_input T.codec T.content
+            (action_of command) self.old result self.new }
     {
-        self.perform_recycling(Action::from(command), recycled)
-    }
-
-    /// Runs one action. [`Session::apply`] runs the action of its command.
-    pub fn perform(&mut self, action: Action<T>) -> Reply<T>
-        requires clones { (x y : T) → T.is_clone x y → IsTrue (T.eq x y) }
-        ensures step { Performs (option_bytes T.row) T.eq T.hash_input T.codec T.content self.old action result self.new }
-        ensures fits { (a : Assignment T) → SessionStandsFor T.eq T.codec T.content self.old a
-            → SessionStandsFor T.eq T.codec T.content self.new (after_action T.hash_input a action result) }
-        ensures told { (a : Assignment T) (loaded : History T) → SessionStandsFor T.eq T.codec T.content self.old a
-            → IsActionTold T.eq T.codec T.content action loaded
-            → SessionStandsFor T.eq T.codec T.content self.new (after_action_told T.hash_input a action loaded result) }
-        ensures refused { is_refused result ≡ true → IsUnchanged self.old self.new }
-    {
-        let mut recycled = Recycled::new();
-        self.perform_recycling(action, &mut recycled)
-    }
-
-    /// Runs one action as [`Session::perform`] does, and moves names and items that it does not keep into `recycled`.
-    #[inline(always)]
-    pub fn perform_recycling(&mut self, action: Action<T>, recycled: &mut Recycled<T>) -> Reply<T>
-        requires clones { (x y : T) → T.is_clone x y → IsTrue (T.eq x y) }
-        ensures step { Performs (option_bytes T.row) T.eq T.hash_input T.codec T.content self.old action result self.new }
-        ensures fits { (a : Assignment T) → SessionStandsFor T.eq T.codec T.content self.old a
-            → SessionStandsFor T.eq T.codec T.content self.new (after_action T.hash_input a action result) }
-        ensures told { (a : Assignment T) (loaded : History T) → SessionStandsFor T.eq T.codec T.content self.old a
-            → IsActionTold T.eq T.codec T.content action loaded
-            → SessionStandsFor T.eq T.codec T.content self.new (after_action_told T.hash_input a action loaded result) }
-        ensures refused { is_refused result ≡ true → IsUnchanged self.old self.new }
-    {
-        match self.answer(action, recycled) {
-            Ok(reply) => reply,
-            Err(refusal) => Reply::Refused(refusal),
+        match command {
+            Command::CreateFrequent { name, max_map_size } => {
+                Reply::from_outcome(self.create_frequent_items(name.as_str(), max_map_size))
+            }
+            Command::CreateFrequentSampled {
+                name,
+                max_map_size,
+                sample_size,
+            } => Reply::from_outcome(self.create_frequent_items_sampled(
+                name.as_str(),
+                max_map_size,
+                sample_size,
+            )),
+            Command::CreateCountI64 {
+                name,
+                num_hashes,
+                num_buckets,
+                seed,
+            } => Reply::from_outcome(self.create_count_min_i64(
+                name.as_str(),
+                num_hashes,
+                num_buckets,
+                seed,
+            )),
+            Command::CreateCountU64 {
+                name,
+                num_hashes,
+                num_buckets,
+                seed,
+            } => Reply::from_outcome(self.create_count_min_u64(
+                name.as_str(),
+                num_hashes,
+                num_buckets,
+                seed,
+            )),
+            Command::CreateBloom {
+                name,
+                num_bits,
+                num_hashes,
+                seed,
+            } => Reply::from_outcome(self.create_bloom_filter(
+                name.as_str(),
+                num_bits,
+                num_hashes,
+                seed,
+            )),
+            Command::Add { name, item, weight } => Reply::from_outcome(self.add(
+                name.as_str(),
+                item,
+                weight,
+            )),
+            Command::AddSigned { name, item, weight } => {
+                Reply::from_outcome(self.add_signed(name.as_str(), &item, weight))
+            }
+            Command::Insert { name, item } => Reply::from_outcome(self.insert(
+                name.as_str(),
+                &item,
+            )),
+            Command::Merge { into, other } => Reply::from_outcome(self.merge(
+                into.as_str(),
+                other.as_str(),
+            )),
+            Command::Union { into, other } => Reply::from_outcome(self.union(
+                into.as_str(),
+                other.as_str(),
+            )),
+            Command::Intersect { into, other } => {
+                Reply::from_outcome(self.intersect(into.as_str(), other.as_str()))
+            }
+            Command::Difference { into, other } => {
+                Reply::from_outcome(self.difference(into.as_str(), other.as_str()))
+            }
+            Command::Reset { name } => Reply::from_outcome(self.reset(name.as_str())),
+            Command::Halve { name } => Reply::from_outcome(self.halve(name.as_str())),
+            Command::Decay {
+                name,
+                numerator,
+                denominator,
+            } => Reply::from_outcome(self.decay(name.as_str(), numerator, denominator)),
+            Command::Save { name, image } => Reply::from_outcome(self.save(
+                name.as_str(),
+                image.as_str(),
+            )),
+            Command::Restore { image, name } => {
+                Reply::from_outcome(self.restore(image.as_str(), name.as_str()))
+            }
+            Command::Load {
+                name,
+                kind,
+                image,
+                max_bytes,
+            } => Reply::from_outcome(self.load(name.as_str(), kind, &image, max_bytes)),
+            Command::ShowImage { image } => match self.image(image.as_str()) {
+                Ok(bytes) => Reply::Image(bytes),
+                Err(refusal) => Reply::Refused(refusal),
+            },
+            Command::Ask { name, item } => told(self.ask(name.as_str(), &item)),
+            Command::GetStatus { name } => match self.status(name.as_str()) {
+                Ok(status) => Reply::Status(status),
+                Err(refusal) => Reply::Refused(refusal),
+            },
+            Command::ListRows {
+                name,
+                error_type,
+                threshold,
+            } => match self.rows(name.as_str(), error_type, threshold) {
+                Ok(rows) => Reply::Rows(rows),
+                Err(refusal) => Reply::Refused(refusal),
+            },
         }
     }
 
@@ -254,141 +674,25 @@ impl<T: FrequentItemValue + Clone + Drop> Session<T> {
         Ok(replies)
     }
 
-    // inlined: where the action is known, only its own case is compiled
-    #[inline(always)]
-    fn answer(&mut self, action: Action<T>, recycled: &mut Recycled<T>) -> Result<Reply<T>, Refusal>
-        requires clones { (x y : T) → T.is_clone x y → IsTrue (T.eq x y) }
-        ensures { Performs (option_bytes T.row) T.eq T.hash_input T.codec T.content self.old action (told result) self.new }
+    fn create(&mut self, name: &str, shape: Shape) -> Result<(), Refusal>
+        ensures { Performed (option_bytes T.row) T.eq T.hash_input T.codec T.content
+            (Action.Create name.now shape) self.old (done_or result) self.new }
     {
-        match action {
-            Action::Create { name, shape } => self.create(name, shape),
-            Action::Change { name, change } => {
-                let done = self.change(name.as_str(), change, &mut recycled.item);
-                recycled.name = Some(name);
-                done
-            }
-            Action::Join { into, other, join } => self.join(into.as_str(), other.as_str(), join),
-            Action::Save { name, image } => self.save(name.as_str(), image),
-            Action::Restore { image, name } => self.restore(image.as_str(), name),
-            Action::Load {
-                name,
-                kind,
-                image,
-                max_bytes,
-            } => self.load(name, &Image::new(kind, image), max_bytes),
-            Action::ShowImage { image } => self.show_image(image.as_str()),
-            Action::Ask { name, item } => {
-                let told = self.ask(name.as_str(), &item);
-                recycled.name = Some(name);
-                recycled.item = Some(item);
-                told
-            }
-            Action::GetStatus { name } => self.status(name.as_str()),
-            Action::ListRows {
-                name,
-                error_type,
-                threshold,
-            } => self.rows(name.as_str(), error_type, threshold),
-        }
-    }
-
-    fn create(&mut self, name: String, shape: Shape) -> Result<Reply<T>, Refusal>
-        ensures { OnSketches (Creates T.eq shape (string_bytes name)) self.old (told result) self.new }
-    {
-        if self.sketches.contains_name(name.as_str()) {
+        if self.sketches.contains_name(name) {
             return Err(Refusal::NameTaken);
         }
         let sketch = Sketch::new(self.alloc, shape, self.key)?;
+        let name = copied(self.alloc, name)?;
         self.sketches.insert(name, sketch)?;
-        Ok(Reply::Done)
+        Ok(())
     }
 
-    #[inline(always)]
-    fn change(
-        &mut self,
-        name: &str,
-        change: Change<T>,
-        recycled: &mut Option<T>,
-    ) -> Result<Reply<T>, Refusal>
-        ensures { OnSketches (ChangesNamed T.eq T.hash_input change name.now) self.old (told result) self.new }
-    {
-        self.sketches.change(name, change, recycled)?;
-        Ok(Reply::Done)
-    }
-
-    fn join(&mut self, into: &str, other: &str, join: Join) -> Result<Reply<T>, Refusal>
+    fn join(&mut self, into: &str, other: &str, join: Join) -> Result<(), Refusal>
         requires clones { (x y : T) → T.is_clone x y → IsTrue (T.eq x y) }
-        ensures { OnSketches (JoinsNamed T.eq join into.now other.now) self.old (told result) self.new }
+        ensures { Performed (option_bytes T.row) T.eq T.hash_input T.codec T.content
+            (Action.Combine into.now other.now join) self.old (done_or result) self.new }
     {
-        self.sketches.join(into, other, join)?;
-        Ok(Reply::Done)
-    }
-
-    fn save(&mut self, name: &str, image: String) -> Result<Reply<T>, Refusal>
-        ensures { Saves T.codec T.content name.now (string_bytes image) self.old (told result) self.new }
-    {
-        let Some(sketch) = self.sketches.get(name) else {
-            return Err(Refusal::NoSuchName);
-        };
-        if self.images.contains_name(image.as_str()) {
-            return Err(Refusal::NameTaken);
-        }
-        let saved = sketch.save()?;
-        self.images.insert(image, saved)?;
-        Ok(Reply::Done)
-    }
-
-    fn restore(&mut self, image: &str, name: String) -> Result<Reply<T>, Refusal>
-        ensures { Restores T.eq T.codec T.content image.now (string_bytes name) self.old (told result) self.new }
-    {
-        let saved = self.image(image)?;
-        if self.sketches.contains_name(name.as_str()) {
-            return Err(Refusal::NameTaken);
-        }
-        let sketch = Sketch::restore(self.alloc, saved, self.key)?;
-        self.sketches.insert(name, sketch)?;
-        Ok(Reply::Done)
-    }
-
-    fn load(
-        &mut self,
-        new_name: String,
-        image: &Image,
-        max_bytes: usize,
-    ) -> Result<Reply<T>, Refusal>
-        ensures { Loads (option_bytes T.row) T.eq T.codec T.content image.now max_bytes (string_bytes new_name) self.old (told result) self.new }
-    {
-        if self.sketches.contains_name(new_name.as_str()) {
-            return Err(Refusal::NameTaken);
-        }
-        let sketch = Sketch::load(self.alloc, image, max_bytes, self.key)?;
-        self.sketches.insert(new_name, sketch)?;
-        Ok(Reply::Done)
-    }
-
-    fn show_image(&self, image: &str) -> Result<Reply<T>, Refusal>
-        ensures { ShowsImage image.now self.now (told result) self.now }
-    {
-        Ok(Reply::Image(self.image(image)?.copy_bytes(self.alloc)?))
-    }
-
-    fn ask(&self, name: &str, item: &T) -> Result<Reply<T>, Refusal>
-        ensures { Answers (Tells T.eq T.hash_input item.now) name.now self.now (told result) self.now }
-    {
-        Ok(self.sketch(name)?.ask(item))
-    }
-
-    fn status(&self, name: &str) -> Result<Reply<T>, Refusal>
-        ensures { Answers (λ sketch r. r ≡ Reply.Status (status_of sketch)) name.now self.now (told result) self.now }
-    {
-        Ok(Reply::Status(self.sketch(name)?.status()))
-    }
-
-    fn rows(&self, name: &str, error_type: ErrorType, threshold: u64) -> Result<Reply<T>, Refusal>
-        requires clones { (x y : T) → T.is_clone x y → IsTrue (T.eq x y) }
-        ensures { Answers (Lists T.eq error_type threshold) name.now self.now (told result) self.now }
-    {
-        self.sketch(name)?.rows(error_type, threshold)
+        self.sketches.join(into, other, join)
     }
 
     /// Returns the sketch of the name. Returns `NoSuchName` if there is none.
@@ -404,7 +708,7 @@ impl<T: FrequentItemValue + Clone + Drop> Session<T> {
     }
 
     /// Returns the image of the name. Returns `NoSuchName` if there is none.
-    fn image(&self, name: &str) -> Result<&Image, Refusal>
+    fn saved_image(&self, name: &str) -> Result<&Image, Refusal>
         ensures found { IfOk result (λ image. at_name name.now self.now.images ≡ Some image.now) }
         ensures err { IfErr result (λ e. e ≡ Refusal.NoSuchName) }
         ensures missing { OnErr result (at_name name.now self.now.images ≡ None) }
@@ -414,4 +718,54 @@ impl<T: FrequentItemValue + Clone + Drop> Session<T> {
             None => Err(Refusal::NoSuchName),
         }
     }
+}
+
+/// Returns the reply, or `Refused` with the reason.
+fn told<T>(given: Result<Reply<T>, Refusal>) -> Reply<T>
+    ensures { result ≡ told given }
+{
+    match given {
+        Ok(reply) => reply,
+        Err(refusal) => Reply::Refused(refusal),
+    }
+}
+
+/// Returns the bounds that a reply has, or `WrongKind`.
+fn bounds_in<T: Drop>(given: Result<Reply<T>, Refusal>) -> Result<Bounds, Refusal>
+    ensures { result ≡ bounds_in given }
+{
+    match given {
+        Ok(
+            Reply::Bounds {
+                estimate,
+                lower,
+                upper,
+            },
+        ) => Ok(Bounds {
+            estimate,
+            lower,
+            upper,
+        }),
+        Ok(_) => Err(Refusal::WrongKind),
+        Err(refusal) => Err(refusal),
+    }
+}
+
+/// Returns whether a reply says that an item is contained, or `WrongKind`.
+fn contains_in<T: Drop>(given: Result<Reply<T>, Refusal>) -> Result<bool, Refusal>
+    ensures { result ≡ contains_in given }
+{
+    match given {
+        Ok(Reply::Contains(found)) => Ok(found),
+        Ok(_) => Err(Refusal::WrongKind),
+        Err(refusal) => Err(refusal),
+    }
+}
+
+/// Returns a copy of a string. Returns `NoMemory` if it cannot be allocated.
+fn copied(alloc: Global, text: &str) -> Result<String, Error>
+    ensures copy { IfOk result (λ copy. string_bytes copy ≡ text.now) }
+    ensures err { IfErr result (λ e. e ≡ no_memory) }
+{
+    Ok(String::from_str(alloc, text)?)
 }

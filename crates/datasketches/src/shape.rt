@@ -1,20 +1,7 @@
 //! Shapes of sketches.
 
-/// The kind of a new sketch and its parameters.
-///
-/// # Examples
-///
-/// ```
-/// use datasketches::{Action, Command, Shape};
-///
-/// fn made_shape(command: Command<u64>) -> Option<Shape> {
-///     match Action::from(command) {
-///         Action::Create { shape, .. } => Some(shape),
-///         _ => None,
-///     }
-/// }
-/// ```
-#[derive(Clone, Copy, Debug, PartialEq, Eq)]
+/// The kind of a new sketch and its sizes.
+#[derive(Clone, Copy)]
 pub enum Shape {
     /// A frequent items sketch of at most `max_map_size` slots.
     Frequent {

@@ -2,17 +2,19 @@
 ghost use Rattle.std.specs.Prelude.{◌≡◌, ◌≢◌, None, IfOk, IfErr, IsOk, OnOk, OnErr, IsTrue, pos};
 ghost use Rattle.sketch_base.specs.Errors.{refusal_of};
 ghost use Rattle.counter_table.specs.Bytes.{option_bytes};
+ghost use Rattle.datasketches.specs.Actions.{Change};
 ghost use Rattle.datasketches.specs.Answering.{Tells, Lists, status_of};
-ghost use Rattle.datasketches.specs.Changing.{Changes, Adds, AddsSigned, Inserts, Resets, Halves, Decays};
+ghost use Rattle.datasketches.specs.Changing.{Adds, AddsSigned, Inserts, Resets, Halves, Decays};
 ghost use Rattle.datasketches.specs.Histories.{begun, changed, joined};
 ghost use Rattle.datasketches.specs.Images.{IsWrittenBy, IsReadFrom, IsWriteRefusal, IsReadRefusal, IsLoadRefusal, TakesWithin, GivesBack, load_fault};
+ghost use Rattle.datasketches.specs.Keyed.{AddsNamed};
 ghost use Rattle.datasketches.specs.Joining.{Joins, Merges};
-ghost use Rattle.datasketches.specs.Replies.{done_or, told};
+ghost use Rattle.datasketches.specs.Replies.{done_or, told_as};
 ghost use Rattle.datasketches.specs.Shapes.{empty_sketch, fault_of};
 ghost use Rattle.datasketches.specs.Stands.{StandsFor, Carries, CarriesBoth};
 
-use crate::change::Change;
 use crate::image::Image;
+use crate::image_kind::ImageKind;
 use crate::join::Join;
 use crate::reply::{Refusal, Reply, Status};
 use crate::shape::Shape;
@@ -20,7 +22,8 @@ use sketch_base::Error;
 use sketch_bloom::{BloomFilter, BloomFilterBuilder, laws as bloom};
 use sketch_countmin::{CountMinSketch, laws as countmin};
 use sketch_frequencies::{
-    ErrorType, FrequentItemValue, FrequentItemsSketch, TableKey, laws as frequencies,
+    ErrorType, FrequentItemValue, FrequentItemsSketch, ItemKey, OwnedKey, Row, TableKey,
+    laws as frequencies,
 };
 use std::alloc::Global;
 use std::hash::Hash;
@@ -99,79 +102,72 @@ impl<T: Eq + Hash + Drop> Sketch<T> {
         }
     }
 
-    /// Makes the change, if the sketch's kind supports it. An item that it does not keep may be moved into `recycled`.
+    /// Adds an item with a weight to a sketch of frequent items, or to a Count-Min sketch of nonnegative weights.
     ///
     /// # Errors
     ///
-    /// Returns `WrongKind` if the kind does not support the change. Returns `BadFraction` if the fraction of a decay is
-    /// not above 0 and at most 1. Returns the error of the sketch's own call if that fails. The sketch is then
-    /// unchanged.
-    #[inline(always)]
-    pub fn change(&mut self, change: Change<T>, recycled: &mut Option<T>) -> Result<(), Refusal>
-        ensures own { Changes T.eq T.hash_input change self.old (done_or result) self.new }
-        ensures carries { OnOk result (Carries T.eq (changed T.hash_input change) self.old self.new) }
-        ensures refused { OnErr result (self.new ≡ self.old) }
-    {
-        match change {
-            Change::Add { item, weight } => self.add(item, weight, recycled),
-            Change::AddSigned { item, weight } => self.add_signed(item, weight, recycled),
-            Change::Insert { item } => self.insert(item, recycled),
-            Change::Reset => self.reset(),
-            Change::Halve => self.halve(),
-            Change::Decay {
-                numerator,
-                denominator,
-            } => self.decay(numerator, denominator),
-        }
-    }
-
-    fn add(&mut self, item: T, weight: u64, recycled: &mut Option<T>) -> Result<(), Refusal>
+    /// This and the other changes return `WrongKind` if the kind does not support the change, and the error of the sketch's
+    /// own call if that fails. The sketch is then unchanged.
+    pub fn add(&mut self, item: T, weight: u64) -> Result<(), Refusal>
         ensures own { Adds T.eq T.hash_input item weight self.old (done_or result) self.new }
         ensures carries { OnOk result (Carries T.eq (changed T.hash_input (Change.Add item weight)) self.old self.new) }
         ensures refused { OnErr result (self.new ≡ self.old) }
     {
         match self {
             Sketch::Frequent(sketch) => Ok(sketch.update_with_count(item, weight)?),
-            Sketch::CountU64(sketch) => {
-                sketch.update_with_weight(&item, weight)?;
-                *recycled = Some(item);
-                Ok(())
-            }
+            Sketch::CountU64(sketch) => Ok(sketch.update_with_weight(&item, weight)?),
             _ => Err(Refusal::WrongKind),
         }
     }
 
-    fn add_signed(&mut self, item: T, weight: i64, recycled: &mut Option<T>) -> Result<(), Refusal>
-        ensures own { AddsSigned T.hash_input item weight self.old (done_or result) self.new }
-        ensures carries { OnOk result (Carries T.eq (changed T.hash_input (Change.AddSigned item weight)) self.old self.new) }
+    /// Adds the item that the key names, as [`add`](Self::add) does. Creates an item only if none is tracked.
+    #[inline(always)]
+    pub fn add_by_key<K: OwnedKey<T>>(&mut self, item: K, weight: u64) -> Result<(), Refusal>
+        ensures added { (x : T) → IsTrue (K.names item x)
+            → AddsNamed T.eq T.hash_input (K.names item) weight self.old result self.new }
+        ensures carries { (x : T) → IsTrue (K.names item x)
+            → OnOk result (Carries T.eq (changed T.hash_input (Change.Add x weight)) self.old self.new) }
         ensures refused { OnErr result (self.new ≡ self.old) }
     {
         match self {
-            Sketch::CountI64(sketch) => {
-                sketch.update_with_weight(&item, weight)?;
-                *recycled = Some(item);
-                Ok(())
-            }
+            Sketch::Frequent(sketch) => Ok(sketch.update_with_count_by_key(item, weight)?),
+            Sketch::CountU64(sketch) => Ok(sketch.update_with_weight(item, weight)?),
             _ => Err(Refusal::WrongKind),
         }
     }
 
-    fn insert(&mut self, item: T, recycled: &mut Option<T>) -> Result<(), Refusal>
-        ensures own { Inserts T.hash_input item self.old (done_or result) self.new }
-        ensures carries { OnOk result (Carries T.eq (changed T.hash_input (Change.Insert item)) self.old self.new) }
+    /// Adds an item with a weight to a Count-Min sketch of signed weights.
+    pub fn add_signed<K: ItemKey<T>>(&mut self, item: K, weight: i64) -> Result<(), Refusal>
+        ensures own { (x : T) → IsTrue (K.names item x) → AddsSigned T.hash_input x weight self.old (done_or result) self.new }
+        ensures carries { (x : T) → IsTrue (K.names item x)
+            → OnOk result (Carries T.eq (changed T.hash_input (Change.AddSigned x weight)) self.old self.new) }
+        ensures refused { OnErr result (self.new ≡ self.old) }
+    {
+        match self {
+            Sketch::CountI64(sketch) => Ok(sketch.update_with_weight(item, weight)?),
+            _ => Err(Refusal::WrongKind),
+        }
+    }
+
+    /// Inserts an item into a filter.
+    #[inline(always)]
+    pub fn insert<K: ItemKey<T>>(&mut self, item: K) -> Result<(), Refusal>
+        ensures own { (x : T) → IsTrue (K.names item x) → Inserts T.hash_input x self.old (done_or result) self.new }
+        ensures carries { (x : T) → IsTrue (K.names item x)
+            → OnOk result (Carries T.eq (changed T.hash_input (Change.Insert x)) self.old self.new) }
         ensures refused { OnErr result (self.new ≡ self.old) }
     {
         match self {
             Sketch::Bloom(filter) => {
-                filter.insert(&item);
-                *recycled = Some(item);
+                filter.insert(item);
                 Ok(())
             }
             _ => Err(Refusal::WrongKind),
         }
     }
 
-    fn reset(&mut self) -> Result<(), Refusal>
+    /// Empties a sketch of frequent items or a filter.
+    pub fn reset(&mut self) -> Result<(), Refusal>
         ensures own { Resets self.old (done_or result) self.new }
         ensures carries { OnOk result (Carries T.eq (changed T.hash_input Change.Reset) self.old self.new) }
         ensures refused { OnErr result (self.new ≡ self.old) }
@@ -189,7 +185,8 @@ impl<T: Eq + Hash + Drop> Sketch<T> {
         }
     }
 
-    fn halve(&mut self) -> Result<(), Refusal>
+    /// Halves all weights of a Count-Min sketch of nonnegative weights.
+    pub fn halve(&mut self) -> Result<(), Refusal>
         ensures own { Halves self.old (done_or result) self.new }
         ensures carries { OnOk result (Carries T.eq (changed T.hash_input Change.Halve) self.old self.new) }
         ensures refused { OnErr result (self.new ≡ self.old) }
@@ -203,7 +200,10 @@ impl<T: Eq + Hash + Drop> Sketch<T> {
         }
     }
 
-    fn decay(&mut self, numerator: u64, denominator: u64) -> Result<(), Refusal>
+    /// Multiplies all weights of a Count-Min sketch of nonnegative weights by a fraction.
+    ///
+    /// Returns `BadFraction` if the fraction is not above 0 and at most 1.
+    pub fn decay(&mut self, numerator: u64, denominator: u64) -> Result<(), Refusal>
         ensures own { Decays numerator denominator self.old (done_or result) self.new }
         ensures carries { OnOk result (Carries T.eq (changed T.hash_input (Change.Decay numerator denominator)) self.old self.new) }
         ensures refused { OnErr result (self.new ≡ self.old) }
@@ -242,15 +242,15 @@ impl<T: Eq + Hash + Drop> Sketch<T> {
     }
 
     /// Returns an item's estimate and bounds, or whether a filter contains it.
-    pub fn ask(&self, item: &T) -> Reply<T>
-        ensures { Tells T.eq T.hash_input item.now self.now result }
+    #[inline(always)]
+    pub fn ask<K: ItemKey<T>>(&self, item: K) -> Reply<T>
+        ensures { (x : T) → IsTrue (K.names item x) → Tells T.eq T.hash_input x self.now result }
     {
         match self {
-            Sketch::Frequent(sketch) => bounds(
-                sketch.estimate(item),
-                sketch.lower_bound(item),
-                sketch.upper_bound(item),
-            ),
+            Sketch::Frequent(sketch) => {
+                let found = sketch.bounds_by_key(item);
+                bounds(found.estimate, found.lower_bound, found.upper_bound)
+            }
             Sketch::CountI64(sketch) => signed_bounds(
                 sketch.estimate(item),
                 sketch.lower_bound(item),
@@ -261,7 +261,7 @@ impl<T: Eq + Hash + Drop> Sketch<T> {
                 sketch.lower_bound(item),
                 sketch.upper_bound(item),
             ),
-            Sketch::Bloom(filter) => Reply::Contains(filter.contains(item)),
+            Sketch::Bloom(filter) => Reply::Contains(filter.contains(&item)),
         }
     }
 
@@ -308,35 +308,40 @@ impl<T: FrequentItemValue + Drop> Sketch<T> {
     /// Returns a tracked item's own fault if the item cannot be written, and `NoMemory` if the image cannot be
     /// allocated.
     pub fn save(&self) -> Result<Image, Error>
-        ensures written { IfOk result (IsWrittenBy T.codec T.content self.now) }
+        ensures written { IfOk result (λ image. IsWrittenBy T.codec T.content self.now image.kind image.bytes) }
         ensures refused { IfErr result (IsWriteRefusal T.codec T.content self.now) }
     {
         match self {
-            Sketch::Frequent(sketch) => Ok(Image::Frequent(sketch.serialize()?)),
-            Sketch::CountI64(sketch) => Ok(Image::CountI64 {
-                seed: sketch.seed(),
-                bytes: sketch.serialize()?,
-            }),
-            Sketch::CountU64(sketch) => Ok(Image::CountU64 {
-                seed: sketch.seed(),
-                bytes: sketch.serialize()?,
-            }),
-            Sketch::Bloom(filter) => Ok(Image::Bloom(filter.serialize()?)),
+            Sketch::Frequent(sketch) => { Ok(Image::new(ImageKind::Frequent, sketch.serialize()?)) }
+            Sketch::CountI64(sketch) => {
+                let seed = sketch.seed();
+                Ok(Image::new(ImageKind::CountI64 { seed }, sketch.serialize()?))
+            }
+            Sketch::CountU64(sketch) => {
+                let seed = sketch.seed();
+                Ok(Image::new(ImageKind::CountU64 { seed }, sketch.serialize()?))
+            }
+            Sketch::Bloom(filter) => Ok(Image::new(ImageKind::Bloom, filter.serialize()?)),
         }
     }
 
-    /// Returns the sketch of an image. The table of frequent items hashes under `key`.
+    /// Returns the sketch of an image of the kind. The table of frequent items hashes under `key`.
     ///
     /// # Errors
     ///
     /// Returns the image's first fault if it has one, and `NoMemory` if the sketch cannot be allocated.
-    pub fn restore(alloc: Global, image: &Image, key: TableKey) -> Result<Self, Error>
-        ensures read { IfOk result (IsReadFrom T.codec T.content image.now) }
-        ensures stands { IfOk result (GivesBack T.eq T.codec T.content image.now) }
-        ensures refused { IfErr result (IsReadRefusal T.codec image.now) }
+    pub fn restore(
+        alloc: Global,
+        kind: ImageKind,
+        bytes: &[u8],
+        key: TableKey,
+    ) -> Result<Self, Error>
+        ensures read { IfOk result (IsReadFrom T.codec T.content kind bytes.now) }
+        ensures stands { IfOk result (GivesBack T.eq T.codec T.content kind bytes.now) }
+        ensures refused { IfErr result (IsReadRefusal T.codec kind bytes.now) }
     {
-        match image {
-            Image::Frequent(bytes) => {
+        match kind {
+            ImageKind::Frequent => {
                 frequencies::image_laws::<T>();
                 of_kind!(
                     Frequent,
@@ -348,21 +353,21 @@ impl<T: FrequentItemValue + Drop> Sketch<T> {
                     )
                 )
             }
-            Image::CountI64 { seed, bytes } => {
+            ImageKind::CountI64 { seed } => {
                 countmin::image_laws::<i64>();
                 of_kind!(
                     CountI64,
-                    CountMinSketch::deserialize_with_seed(alloc, bytes, *seed)
+                    CountMinSketch::deserialize_with_seed(alloc, bytes, seed)
                 )
             }
-            Image::CountU64 { seed, bytes } => {
+            ImageKind::CountU64 { seed } => {
                 countmin::image_laws::<u64>();
                 of_kind!(
                     CountU64,
-                    CountMinSketch::deserialize_with_seed(alloc, bytes, *seed)
+                    CountMinSketch::deserialize_with_seed(alloc, bytes, seed)
                 )
             }
-            Image::Bloom(bytes) => {
+            ImageKind::Bloom => {
                 bloom::image_laws();
                 of_kind!(Bloom, BloomFilter::deserialize(alloc, bytes))
             }
@@ -382,18 +387,19 @@ impl<T: FrequentItemValue + Drop> Sketch<T> {
     /// sketch cannot be allocated.
     pub fn load(
         alloc: Global,
-        image: &Image,
+        kind: ImageKind,
+        bytes: &[u8],
         max_bytes: usize,
         key: TableKey,
     ) -> Result<Self, Error>
-        ensures read { IfOk result (IsReadFrom T.codec T.content image.now) }
-        ensures stands { IfOk result (GivesBack T.eq T.codec T.content image.now) }
+        ensures read { IfOk result (IsReadFrom T.codec T.content kind bytes.now) }
+        ensures stands { IfOk result (GivesBack T.eq T.codec T.content kind bytes.now) }
         ensures within { IfOk result (TakesWithin (option_bytes T.row) T.codec T.content max_bytes) }
-        ensures accepted { IsOk result → load_fault (option_bytes T.row) T.codec max_bytes image.now ≡ None }
-        ensures refused { IfErr result (IsLoadRefusal (option_bytes T.row) T.codec max_bytes image.now) }
+        ensures accepted { IsOk result → load_fault (option_bytes T.row) T.codec max_bytes kind bytes.now ≡ None }
+        ensures refused { IfErr result (IsLoadRefusal (option_bytes T.row) T.codec max_bytes kind bytes.now) }
     {
-        match image {
-            Image::Frequent(bytes) => {
+        match kind {
+            ImageKind::Frequent => {
                 frequencies::image_laws::<T>();
                 of_kind!(
                     Frequent,
@@ -402,21 +408,21 @@ impl<T: FrequentItemValue + Drop> Sketch<T> {
                     )
                 )
             }
-            Image::CountI64 { seed, bytes } => {
+            ImageKind::CountI64 { seed } => {
                 countmin::image_laws::<i64>();
                 of_kind!(
                     CountI64,
-                    CountMinSketch::deserialize_with_seed_and_limit(alloc, bytes, *seed, max_bytes)
+                    CountMinSketch::deserialize_with_seed_and_limit(alloc, bytes, seed, max_bytes)
                 )
             }
-            Image::CountU64 { seed, bytes } => {
+            ImageKind::CountU64 { seed } => {
                 countmin::image_laws::<u64>();
                 of_kind!(
                     CountU64,
-                    CountMinSketch::deserialize_with_seed_and_limit(alloc, bytes, *seed, max_bytes)
+                    CountMinSketch::deserialize_with_seed_and_limit(alloc, bytes, seed, max_bytes)
                 )
             }
-            Image::Bloom(bytes) => {
+            ImageKind::Bloom => {
                 bloom::image_laws();
                 of_kind!(
                     Bloom,
@@ -474,14 +480,14 @@ impl<T: Eq + Hash + Clone + Drop> Sketch<T> {
     /// # Errors
     ///
     /// Returns `WrongKind` if the sketch is of another kind, and `NoMemory` if the rows or a clone cannot be allocated.
-    pub fn rows(&self, error_type: ErrorType, threshold: u64) -> Result<Reply<T>, Refusal>
+    pub fn rows(&self, error_type: ErrorType, threshold: u64) -> Result<Vec<Row<T>>, Refusal>
         requires clones { (x y : T) → T.is_clone x y → IsTrue (T.eq x y) }
-        ensures { Lists T.eq error_type threshold self.now (told result) }
+        ensures { Lists T.eq error_type threshold self.now (told_as Reply.Rows result) }
     {
         match self {
-            Sketch::Frequent(sketch) => Ok(Reply::Rows(sketch.frequent_items_with_threshold(
-                error_type, threshold,
-            )?)),
+            Sketch::Frequent(sketch) => {
+                Ok(sketch.frequent_items_with_threshold(error_type, threshold)?)
+            }
             _ => Err(Refusal::WrongKind),
         }
     }

@@ -1,12 +1,9 @@
-pub mod Answered
-pub mod Asking
 pub mod Digits
 pub mod LineReading
 pub mod Lines
 pub mod Numbers
-pub mod Places
 pub mod Printed
-pub mod Shapes
+pub mod Spelling
+pub mod TextItems
 pub mod Transcripts
-pub mod Verbs
 pub mod Words

@@ -53,6 +53,11 @@ widen limit word n le e =
       omega arith,
     )
 
+-- a word that is no number of 64 bits below a limit
+pub none_below : (limit : ℕ) (word : List ℕ) (found : Option ℕ) → limit ≤ 2 ^ 64 → number_below limit word ≡ found → ((n : ℕ) → number_below (2 ^ 64) word ≡ Some n → n < limit → ⊥) → None ≡ number_below limit word
+none_below limit word None le e none = sym e
+none_below limit word (Some n) le e none = let (same, less) = widen limit word n le e in absurd (none n same less)
+
 -- what was parsed, as an option
 of_result : {T E : Type 0} (of : ℕ → T) (limit : ℕ) (word : List ℕ) (r : Result T E) → OkIff r ((all_ascii_digits word ≡ true) × (0 < length word) × (digits_value 10 word < limit)) (of (digits_value 10 word)) → result_ok r ≡ option_map of (number_below limit word)
 of_result of limit word (Ok z) h = ap Some h.1 ∙ sym (ap (option_map of) (is_number limit word h.0.0 h.0.1 h.0.2))

@@ -5,8 +5,7 @@ use Rattle.std.specs.Io.BufRead.{take_through, drop_through, strip_last}
 use Rattle.std.specs.Io.KnownBytes.{Appends, IsAtEnd, prepend_known}
 use Rattle.std.specs.String.{string_bytes}
 use Rattle.std.proofs.lemmas.Bool.{false≢true}
-use Rattle.datasketches_cli.specs.declared.request.Answer.{Answer}
-use Rattle.datasketches_cli.specs.declared.request.Request.{Request}
+use Rattle.datasketches_cli.specs.Requests.{Answer, Request}
 use Rattle.datasketches_cli.specs.declared.state.State.{State}
 use Rattle.datasketches_cli.specs.declared.serve.Ended.{Ended}
 use Rattle.datasketches_cli.specs.declared.serve.Ended.TheVariants.{All, BadLine}
@@ -63,7 +62,7 @@ passed (Some input) is now held holds gathered line state before (rest, e, text,
     (drop_through 10 rest, t'.2, text, told, λ ended more goes. leads ended more (rw (first_of rest line t'.0 t'.1) (inl (blank, goes))))
 
 -- a request was read, done and answered
-pub answered : (was is now held holds : Option (List ℕ)) (gathered gathered' line : List ℕ) (state after : State) (before : ℕ) (request : Request) (answer : Answer) → Midway was is held holds gathered state before → TakesLine true is now line → Says (text_of line) request → ServingStep state request answer after → gathered' ≡ gathered ++ answer_line answer → Midway was now held holds gathered' after (before + 1)
+pub answered : (was is now held holds : Option (List ℕ)) (gathered gathered' line : List ℕ) (state after : State) (before : ℕ) (request : Request Text) (answer : Answer) → Midway was is held holds gathered state before → TakesLine true is now line → Says (text_of line) request → ServingStep state request answer after → gathered' ≡ gathered ++ answer_line answer → Midway was now held holds gathered' after (before + 1)
 answered None is now held holds gathered gathered' line state after before request answer m t says step more = tt
 answered (Some input) is now held holds gathered gathered' line state after before request answer (rest, e, text, told, leads) t says step grown =
     let t' = rw e at t in
@@ -99,7 +98,7 @@ all_read (Some input) is now held holds holds' gathered line state before (rest,
 
 -- the same but for what is gathered
 abbrev pub with_replies : Responder → Text → Responder
-with_replies old replies = record { alloc = old.alloc; keys = old.keys; state = old.state; recycled = old.recycled; replies = replies }
+with_replies old replies = record { alloc = old.alloc; keys = old.keys; state = old.state; replies = replies }
 
 -- a turn with a line that is not bad
 pub turns : (was is now held mid holds : Option (List ℕ)) (old new : Responder) (left : Text) (before : ℕ) (found : Option LineOutcome) (became : LineOutcome) →

@@ -2,26 +2,24 @@
 use Rattle.std.specs.Prelude.{◌≡◌, ◌<◌, ℕ, List, [], ◌∷◌, ◌++◌, Some, All, codes}
 use Rattle.std.specs.Global.{Global}
 use Rattle.std.specs.declared.vec.Vec.{Vec}
-use Rattle.datasketches.specs.declared.action.Action.TheVariants.{Load}
+use Rattle.datasketches.specs.Actions.{Load}
 use Rattle.datasketches.specs.declared.image_kind.ImageKind.{ImageKind}
 use Rattle.datasketches.specs.declared.reply.Reply.TheVariants.{Image}
-use Rattle.datasketches_cli.specs.declared.request.Answer.TheVariants.{Reply}
-use Rattle.datasketches_cli.specs.declared.request.Request.TheVariants.{Action}
 use Rattle.datasketches_cli.specs.Asking.{Says}
 use Rattle.datasketches_cli.specs.Grammar.{split_words, bytes_of_digits}
-use Rattle.datasketches_cli.specs.Texts.{Text}
+use Rattle.datasketches_cli.specs.Requests.{Act, Replied}
 use Rattle.datasketches_cli.specs.Transcript.{answer_line}
 
 -- these are the digits that a run prints for these bytes
 abbrev pub IsShownAs : List ℕ → Vec ℕ Global → Type 0
-IsShownAs digits shown = answer_line (Reply (Image shown)) ≡ codes "image " ++ digits ++ codes "\n"
+IsShownAs digits shown = answer_line (Replied (Image shown)) ≡ codes "image " ++ digits ++ codes "\n"
 
 -- a line whose last word is the digits that a run printed loads the bytes for which it printed them
 abbrev pub LoadsWhatWasShown : Type 0
 LoadsWhatWasShown = (digits : List ℕ) (shown : Vec ℕ Global) → IsShownAs digits shown
-    → (line : List ℕ) (front : List (List ℕ)) (name : Text) (kind : ImageKind) (image : Vec ℕ Global) (max_bytes : ℕ)
-    → split_words line ≡ front ++ digits ∷ [] → Says line (Action (Load name kind image max_bytes))
-    → image.items ≡ shown.items
+    → (line : List ℕ) (front : List (List ℕ)) (name : List ℕ) (kind : ImageKind) (image : List ℕ) (max_bytes : ℕ)
+    → split_words line ≡ front ++ digits ∷ [] → Says line (Act (Load name kind image max_bytes))
+    → image ≡ shown.items
 
 -- the digits that a run printed spell its bytes, so a line is never bad because of them
 abbrev pub DigitsMakeWhatWasShown : Type 0

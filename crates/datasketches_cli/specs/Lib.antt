@@ -6,6 +6,7 @@ pub mod Laws
 pub mod Parsing
 pub mod Printing
 pub mod Reading
+pub mod Requests
 pub mod Serving
 pub mod Steps
 pub mod Texts

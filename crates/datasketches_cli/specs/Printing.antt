@@ -11,8 +11,7 @@ use Rattle.datasketches.specs.declared.reply.Reply.TheVariants as reply
 use Rattle.datasketches.specs.declared.reply.Status.{Status}
 use Rattle.datasketches.specs.declared.reply.Status.TheVariants as status
 use Rattle.heavy_windows.specs.declared.report.Report.{Report}
-use Rattle.datasketches_cli.specs.declared.request.Answer.{Answer}
-use Rattle.datasketches_cli.specs.declared.request.Answer.TheVariants as answer
+use Rattle.datasketches_cli.specs.Requests.{Answer, Replied, Reported}
 use Rattle.datasketches_cli.specs.Texts.{Text}
 
 -- a sketch's kind and its numbers
@@ -57,5 +56,5 @@ report_text report =
 
 -- the line of an `Answer`, without its line feed
 abbrev pub answer_text : Answer → List ℕ
-answer_text (answer.Reply reply) = reply_text reply
-answer_text (answer.Report report) = report_text report
+answer_text (Replied reply) = reply_text reply
+answer_text (Reported report) = report_text report

@@ -3,21 +3,16 @@ use Rattle.std.specs.Prelude.{◌≡◌, ℕ, Bool, true, false, List, [], ◌++
 use Rattle.std.specs.Io.BufRead.{strip_last}
 use Rattle.std.specs.Io.KnownBytes.{Appends, IsAtEnd}
 use Rattle.std.specs.String.{string_bytes}
-use Rattle.datasketches.specs.declared.action.Action.{Action}
-use Rattle.datasketches.specs.declared.action.Action.TheVariants as action
-use Rattle.datasketches.specs.declared.change.Change.{Change}
 use Rattle.datasketches_cli.specs.Asking.{Says, IsBad}
-use Rattle.datasketches_cli.specs.Grammar.{IsBlank}
+use Rattle.datasketches_cli.specs.Grammar.{Spelled, IsBlank}
 use Rattle.datasketches_cli.specs.Texts.{Text}
 use Rattle.datasketches_cli.specs.declared.responder.Responder.{Responder}
 use Rattle.datasketches_cli.specs.declared.responder.LineOutcome.{LineOutcome}
 use Rattle.datasketches_cli.specs.declared.responder.LineOutcome.TheVariants as line
 use Rattle.datasketches_cli.specs.declared.serve.Ended.{Ended}
 use Rattle.datasketches_cli.specs.declared.serve.Ended.TheVariants.{All}
-use Rattle.datasketches_cli.specs.declared.request.Answer.{Answer}
-use Rattle.datasketches_cli.specs.declared.request.Request.{Request}
-use Rattle.datasketches_cli.specs.declared.request.Request.TheVariants as request
 use Rattle.datasketches_cli.specs.Reading.{TakesLine}
+use Rattle.datasketches_cli.specs.Requests.{Answer, Request, request_bytes}
 use Rattle.datasketches_cli.specs.Steps.{ServingStep}
 use Rattle.datasketches_cli.specs.Transcript.{answer_line, Serves}
 
@@ -26,7 +21,7 @@ abbrev pub WritesFront : Option (List ℕ) → Option (List ℕ) → List ℕ �
 WritesFront held holds gathered left = (front : List ℕ) × Appends held holds front × (gathered ≡ front ++ left)
 
 -- the request was done, and the line of its `Answer` was appended to the gathered replies
-abbrev pub HasAnswered : Request → Responder → Responder → Type 0
+abbrev pub HasAnswered : Request Text → Responder → Responder → Type 0
 HasAnswered request old new =
     (answer : Answer) × ServingStep old.state request answer new.state
     × (string_bytes new.replies ≡ string_bytes old.replies ++ answer_line answer)
@@ -35,27 +30,21 @@ HasAnswered request old new =
 abbrev pub IsIdle : Responder → Responder → Type 0
 IsIdle old new = (new.state ≡ old.state) × (string_bytes new.replies ≡ string_bytes old.replies)
 
--- a request as in `IsAsked` was done and answered; or there is none, and nothing was done
-abbrev pub Answers : (Request → Type 0) → Bool → Responder → Responder → Type 0
-Answers IsAsked true old new = (request : Request) × IsAsked request × HasAnswered request old new
-Answers IsAsked false old new = ((request : Request) → ¬ IsAsked request) × IsIdle old new
+-- the line of the answer was appended to the gathered replies, and nothing else was done
+abbrev pub HasReplied : Answer → Bool → Responder → Responder → Type 0
+HasReplied answer found old new =
+    (found ≡ true) × (new.state ≡ old.state) × (string_bytes new.replies ≡ string_bytes old.replies ++ answer_line answer)
 
--- the request is the action, if any
-abbrev pub IsRequest : Option (Action Text) → Request → Type 0
-IsRequest None asked = ⊥
-IsRequest (Some action) asked = asked ≡ request.Action action
-
--- the change, if any, was done on the sketch of this name and answered
-abbrev pub AnswersChange : List ℕ → Option (Change Text) → Bool → Responder → Responder → Type 0
-AnswersChange name None found old new = (found ≡ false) × IsIdle old new
-AnswersChange name (Some change) found old new =
-    (found ≡ true) × (named : Text) × (string_bytes named ≡ name)
-    × HasAnswered (request.Action (action.Change named change)) old new
+-- the spelled request was done and answered; or there is none, and nothing was done
+abbrev pub Answers : Spelled → Bool → Responder → Responder → Type 0
+Answers (Some spelled) true old new = (request : Request Text) × (request_bytes request ≡ spelled) × HasAnswered request old new
+Answers None false old new = IsIdle old new
+Answers _ _ old new = ⊥
 
 -- the outcome of the line
 abbrev pub IsAnswered : List ℕ → Responder → Responder → LineOutcome → Type 0
 IsAnswered text old new line.Blank = IsBlank text × IsIdle old new
-IsAnswered text old new line.Answered = Answers (Says text) true old new
+IsAnswered text old new line.Answered = (request : Request Text) × Says text request × HasAnswered request old new
 IsAnswered text old new line.Bad = IsBad text × IsIdle old new
 
 -- the outcome of the next line, or none if no input is left

@@ -20,11 +20,12 @@ mod laws;
 mod line_reader;
 mod parse;
 mod reply;
-mod request;
 mod responder;
 mod serve;
 mod state;
 mod stopped;
+mod strings;
+mod verbs;
 
 use counted::Counted;
 use keys::KeyFault;

@@ -2,29 +2,30 @@
 ghost use Rattle.std.specs.Prelude.{◌≡◌, ◌++◌, OnOk, string_bytes, codes};
 ghost use Rattle.hex.specs.Hex.{encode_lower};
 ghost use Rattle.std.specs.List.{flat_map};
+ghost use Rattle.datasketches.specs.Replies.{done_or};
 ghost use Rattle.datasketches_cli.specs.Printing.{report_text, reply_text, status_text, row_text};
+ghost use Rattle.datasketches_cli.specs.Requests.{Replied};
 ghost use Rattle.datasketches_cli.specs.Transcript.{answer_line};
 
-use crate::request::Answer;
 use datasketches::frequencies::Row;
-use datasketches::{Reply, Status};
+use datasketches::{Refusal, Reply, Status};
 use heavy_windows::Report;
 use std::alloc::{AllocError, Global};
 use std::fmt::Write;
 
-/// Writes the line of an answer.
+/// Writes the line of the reply `Done`, or of `Refused` with the reason.
 #[inline(always)]
-pub fn write_answer(alloc: Global, out: &mut String, answer: &Answer) -> Result<(), AllocError>
-    ensures { OnOk result (string_bytes out.new ≡ string_bytes out.old ++ answer_line answer.now) }
+pub fn write_outcome(out: &mut String, outcome: Result<(), Refusal>) -> Result<(), AllocError>
+    ensures { OnOk result (string_bytes out.new ≡ string_bytes out.old ++ answer_line (Replied (done_or outcome))) }
 {
-    match answer {
-        Answer::Reply(reply) => write_reply(alloc, out, reply),
-        Answer::Report(report) => write_report(out, report),
+    match outcome {
+        Ok(()) => out.push_str("ok\n"),
+        Err(refusal) => writeln!(out, "refused {}", refusal.name()),
     }
 }
 
 /// Writes the line of a report on a tenant's windows.
-fn write_report(out: &mut String, report: &Report<String>) -> Result<(), AllocError>
+pub fn write_report(out: &mut String, report: &Report<String>) -> Result<(), AllocError>
     ensures { OnOk result (string_bytes out.new ≡ string_bytes out.old ++ (report_text report.now ++ codes "\n")) }
 {
     write!(
@@ -39,7 +40,7 @@ fn write_report(out: &mut String, report: &Report<String>) -> Result<(), AllocEr
 
 /// Writes the line of a reply.
 #[inline(always)]
-fn write_reply(alloc: Global, out: &mut String, reply: &Reply<String>) -> Result<(), AllocError>
+pub fn write_reply(alloc: Global, out: &mut String, reply: &Reply<String>) -> Result<(), AllocError>
     ensures { OnOk result (string_bytes out.new ≡ string_bytes out.old ++ (reply_text reply.now ++ codes "\n")) }
 {
     match reply {

@@ -1,19 +1,18 @@
 //! From lines to replies.
-ghost use Rattle.std.specs.Prelude.{◌≡◌, [], IfOk, OnOk, string_bytes};
-ghost use Rattle.datasketches_cli.specs.Asking.{Ask, AskAction};
+ghost use Rattle.std.specs.Prelude.{◌≡◌, [], ◌∷◌, IfOk, string_bytes};
+ghost use Rattle.datasketches.specs.Replies.{done_or};
+ghost use Rattle.datasketches_cli.specs.Grammar.{request_of};
 ghost use Rattle.datasketches_cli.specs.Parsing.{texts_of};
-ghost use Rattle.datasketches_cli.specs.Serving.{Answers, AnswersChange, HasAnswered, IsAnswered, IsRequest};
+ghost use Rattle.datasketches_cli.specs.Requests.{Replied, Reported};
+ghost use Rattle.datasketches_cli.specs.Serving.{Answers, HasReplied, IsAnswered};
 ghost use Rattle.datasketches_cli.specs.Steps.{nothing_served};
 
 use crate::keys::Keys;
-use crate::parse::change::{add, insert};
-use crate::parse::windows::windows_request_of;
-use crate::parse::words::{MAX_WORDS, copied, first_words};
-use crate::parse::{action_of, ask};
-use crate::reply::write_answer;
-use crate::request::Request;
+use crate::parse::words::{MAX_WORDS, first_words};
+use crate::reply::{write_outcome, write_reply, write_report};
 use crate::state::State;
-use datasketches::{Action, Change, Recycled};
+use datasketches::{Refusal, Reply};
+use heavy_windows::Report;
 use std::alloc::{AllocError, Global};
 
 /// The outcome of a line.
@@ -30,12 +29,10 @@ pub enum LineOutcome {
 /// The state on which the lines of one input run, and their gathered replies.
 #[derive(Drop)]
 pub struct Responder {
-    alloc: Global,
-    keys: Keys,
+    pub(crate) alloc: Global,
+    pub(crate) keys: Keys,
     /// The session and the windows.
-    state: State,
-    /// A name and an item of earlier lines, whose memory is reused.
-    recycled: Recycled<String>,
+    pub(crate) state: State,
     /// The replies that were gathered and are not written yet.
     pub replies: String,
 }
@@ -51,7 +48,6 @@ impl Responder {
             alloc,
             keys,
             state,
-            recycled: Recycled::new(),
             replies: String::new(alloc),
         }
     }
@@ -78,90 +74,73 @@ impl Responder {
 
     /// Runs the request of the words and gathers its reply. Returns whether the words are a request.
     fn answer_words(&mut self, words: &[&str]) -> Result<bool, AllocError>
-        ensures { IfOk result (λ found. Answers (Ask (texts_of words.now)) found self.old self.new) }
+        ensures { IfOk result (λ found. Answers (request_of (texts_of words.now)) found self.old self.new) }
     {
-        if self.answer_on_sketches(words)? {
-            return Ok(true);
-        }
-        match windows_request_of(self.alloc, words)? {
-            Some(request) => {
-                self.answer(request)?;
-                Ok(true)
-            }
-            None => Ok(false),
-        }
-    }
-
-    /// Runs the action of the words and gathers its reply. Returns whether the words are an action.
-    ///
-    /// The most frequent verbs have their own cases, so that their actions are not copied.
-    fn answer_on_sketches(&mut self, words: &[&str]) -> Result<bool, AllocError>
-        ensures { IfOk result (λ found. Answers (AskAction (texts_of words.now)) found self.old self.new) }
-    {
-        let [verb, name, rest @ ..] = words else {
+        let [verb, rest @ ..] = words else {
             return Ok(false);
         };
-        match *verb {
-            "add" => {
-                let change = add(self.alloc, rest, &mut self.recycled.item)?;
-                self.answer_change(name, change)
-            }
-            "insert" => {
-                let change = insert(self.alloc, rest, &mut self.recycled.item)?;
-                self.answer_change(name, change)
-            }
-            "ask" => {
-                let action = ask(self.alloc, name, rest, &mut self.recycled)?;
-                self.answer_action(action)
-            }
-            _ => {
-                let action = action_of(self.alloc, verb, name, rest, &mut self.recycled)?;
-                self.answer_action(action)
-            }
+        self.answer_verb(verb, rest)
+    }
+
+    /// Runs the request of a verb and the words after it.
+    #[inline(always)]
+    fn answer_verb(&mut self, verb: &str, words: &[&str]) -> Result<bool, AllocError>
+        ensures { IfOk result (λ found. Answers (request_of (verb.now ∷ texts_of words.now)) found self.old self.new) }
+    {
+        match verb {
+            "add" => self.add(words),
+            "insert" => self.insert(words),
+            "ask" => self.ask(words),
+            "adds" => self.adds(words),
+            "frequent" => self.frequent(words),
+            "sampled" => self.sampled(words),
+            "counti" => self.counti(words),
+            "countu" => self.countu(words),
+            "bloom" => self.bloom(words),
+            "reset" => self.reset(words),
+            "halve" => self.halve(words),
+            "decay" => self.decay(words),
+            "merge" => self.merge(words),
+            "union" => self.union(words),
+            "intersect" => self.intersect(words),
+            "difference" => self.difference(words),
+            "save" => self.save(words),
+            "restore" => self.restore(words),
+            "load" => self.load(words),
+            "image" => self.image(words),
+            "status" => self.status(words),
+            "rows" => self.rows(words),
+            "windows" => self.windows(words),
+            "hadd" => self.hadd(words),
+            "hturn" => self.hturn(words),
+            "hreport" => self.hreport(words),
+            _ => Ok(false),
         }
     }
 
-    /// Makes a change of the named sketch, if any is given, and gathers its reply. Returns whether one is given.
+    /// Gathers the reply `Done`, or `Refused` with the reason. Returns true.
     #[inline(always)]
-    fn answer_change(
-        &mut self,
-        name: &str,
-        change: Option<Change<String>>,
-    ) -> Result<bool, AllocError>
-        ensures { IfOk result (λ found. AnswersChange name.now change found self.old self.new) }
+    pub(crate) fn done(&mut self, outcome: Result<(), Refusal>) -> Result<bool, AllocError>
+        ensures { IfOk result (λ found. HasReplied (Replied (done_or outcome)) found self.old self.new) }
     {
-        match change {
-            Some(change) => {
-                let name = copied(self.alloc, name, &mut self.recycled.name)?;
-                self.answer(Request::Action(Action::Change { name, change }))?;
-                Ok(true)
-            }
-            None => Ok(false),
-        }
+        write_outcome(&mut self.replies, outcome)?;
+        Ok(true)
     }
 
-    /// Runs an action, if any is given, and gathers its reply. Returns whether one is given.
+    /// Gathers a reply of the session. Returns true.
     #[inline(always)]
-    fn answer_action(&mut self, action: Option<Action<String>>) -> Result<bool, AllocError>
-        ensures { IfOk result (λ found. Answers (IsRequest action) found self.old self.new) }
+    pub(crate) fn reply(&mut self, reply: &Reply<String>) -> Result<bool, AllocError>
+        ensures { IfOk result (λ found. HasReplied (Replied reply.now) found self.old self.new) }
     {
-        match action {
-            Some(action) => {
-                self.answer(Request::Action(action))?;
-                Ok(true)
-            }
-            None => Ok(false),
-        }
+        write_reply(self.alloc, &mut self.replies, reply)?;
+        Ok(true)
     }
 
-    /// Runs a request and gathers its reply.
-    #[inline(always)]
-    fn answer(&mut self, request: Request) -> Result<(), AllocError>
-        ensures { OnOk result (HasAnswered request self.old self.new) }
+    /// Gathers a report on windows. Returns true.
+    pub(crate) fn reported(&mut self, report: &Report<String>) -> Result<bool, AllocError>
+        ensures { IfOk result (λ found. HasReplied (Reported report.now) found self.old self.new) }
     {
-        let answer = self
-            .state
-            .apply(self.alloc, &self.keys, request, &mut self.recycled);
-        write_answer(self.alloc, &mut self.replies, &answer)
+        write_report(&mut self.replies, report)?;
+        Ok(true)
     }
 }

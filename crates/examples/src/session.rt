@@ -1,51 +1,34 @@
-//! Examples of commands on named sketches.
+//! Examples of calls and commands on named sketches.
 use datasketches::error::Error;
 use datasketches::frequencies::{HashKey, TableKey};
-use datasketches::{
-    Action, Change, Command, ImageKind, Join, Recycled, Refusal, Reply, Session, Shape, Status,
-};
+use datasketches::{Bounds, Command, ImageKind, Refusal, Reply, Session, Status};
 use std::alloc::Global;
 use std::hash::RandomState;
 
 /// Returns whether a filter of a session has seen the number 7.
-pub fn has_seen_seven(alloc: Global) -> Result<bool, Error> {
-    insert_and_ask(alloc, &mut Session::new(alloc))
-}
-
-/// Creates a filter, inserts the number, and looks it up.
-fn insert_and_ask(alloc: Global, session: &mut Session<u64>) -> Result<bool, Error> {
-    let name = String::from_str(alloc, "seen")?;
-    if let Reply::Refused(_) = session.apply(Command::CreateBloom {
-        name,
-        num_bits: 959,
-        num_hashes: 7,
-        seed: 9001,
-    }) {
-        return Ok(false);
-    }
-    let name = String::from_str(alloc, "seen")?;
-    session.apply(Command::Insert { name, item: 7 });
-    let name = String::from_str(alloc, "seen")?;
-    let told = session.apply(Command::Ask { name, item: 7 });
-    Ok(matches!(told, Reply::Contains(true)))
-}
-
-/// Returns the reply of a session about the visits by 7.
-pub fn visits_by_seven(alloc: Global) -> Result<Reply<u64>, Error> {
+pub fn has_seen_seven(alloc: Global) -> Result<bool, Refusal> {
     let mut session = Session::new(alloc);
-    let name = String::from_str(alloc, "visits")?;
-    session.apply(Command::CreateFrequent {
-        name,
-        max_map_size: 64,
-    });
-    let name = String::from_str(alloc, "visits")?;
-    session.apply(Command::Add {
-        name,
-        item: 7,
-        weight: 5,
-    });
-    let name = String::from_str(alloc, "visits")?;
-    Ok(session.apply(Command::Ask { name, item: 7 }))
+    session.create_bloom_filter("seen", 959, 7, 9001)?;
+    session.insert("seen", &7_u64)?;
+    session.contains("seen", &7)
+}
+
+/// Returns the bounds of the visits by 7.
+pub fn visits_by_seven(alloc: Global) -> Result<Bounds, Refusal> {
+    let mut session = Session::new(alloc);
+    session.create_frequent_items("visits", 64)?;
+    session.add("visits", 7_u64, 5)?;
+    session.bounds("visits", &7)
+}
+
+/// Returns whether the bounds of an item are its weight.
+pub fn is_exact(bounds: Bounds) -> bool {
+    bounds.lower == bounds.upper
+}
+
+/// Runs a command, and returns whether it was done.
+pub fn is_done(session: &mut Session<u64>, command: Command<u64>) -> bool {
+    matches!(session.apply(command), Reply::Done)
 }
 
 /// Returns the error of an insertion if no sketch has the name.
@@ -55,14 +38,6 @@ pub fn refusal_of_an_unknown_name(alloc: Global) -> Result<Option<Refusal>, Erro
     match session.apply(Command::Insert { name, item: 7_u64 }) {
         Reply::Refused(refusal) => Ok(Some(refusal)),
         _ => Ok(None),
-    }
-}
-
-/// Returns the shape of the sketch that a command creates.
-pub fn made_shape(command: Command<u64>) -> Option<Shape> {
-    match Action::from(command) {
-        Action::Create { shape, .. } => Some(shape),
-        _ => None,
     }
 }
 
@@ -79,39 +54,9 @@ pub fn word_for(refusal: Refusal) -> &'static str {
     refusal.name()
 }
 
-/// Returns the action that inserts an item into a filter.
-pub fn insertion(name: String, item: u64) -> Action<u64> {
-    Action::Change {
-        name,
-        change: Change::Insert { item },
-    }
-}
-
-/// Returns the action that adds another filter's positions to a filter.
-pub fn union(into: String, other: String) -> Action<u64> {
-    Action::Join {
-        into,
-        other,
-        join: Join::Union,
-    }
-}
-
-/// Inserts an item, and returns whether its name can be used again.
-pub fn recycles(session: &mut Session<u64>, name: String, item: u64) -> bool {
-    let mut recycled = Recycled::new();
-    session.apply_recycling(Command::Insert { name, item }, &mut recycled);
-    recycled.name.is_some()
-}
-
 /// Loads a filter's image into a session, and returns whether it was accepted. The filter may take a mebibyte.
-pub fn takes_filter(session: &mut Session<u64>, name: String, image: Vec<u8>) -> bool {
-    let told = session.apply(Command::Load {
-        name,
-        kind: ImageKind::Bloom,
-        image,
-        max_bytes: 1 << 20,
-    });
-    matches!(told, Reply::Done)
+pub fn takes_filter(session: &mut Session<u64>, name: &str, image: &[u8]) -> bool {
+    session.load(name, ImageKind::Bloom, image, 1 << 20).is_ok()
 }
 
 /// Creates a session whose sketches of frequent items hash under a random key.

@@ -83,13 +83,11 @@ use crate::many_strings::shard_of_name;
 use crate::many_strings::visits_of_both;
 use crate::many_strings::visits_of_page;
 use crate::session::has_seen_seven;
-use crate::session::insertion;
-use crate::session::made_shape;
+use crate::session::is_done;
+use crate::session::is_exact;
 use crate::session::max_slots;
-use crate::session::recycles;
 use crate::session::refusal_of_an_unknown_name;
 use crate::session::takes_filter;
-use crate::session::union;
 use crate::session::visits_by_seven;
 use crate::session::word_for;
 use crate::strings::complete_lines;
@@ -100,12 +98,10 @@ use crate::strings::number_of_lines;
 use crate::windows::load_of_a_customer;
 use crate::windows::weight_of_the_first;
 use counter_table::ReversePurgeItemHashMap;
-use datasketches::Action;
+use datasketches::Bounds;
 use datasketches::Command;
 use datasketches::Refusal;
-use datasketches::Reply;
 use datasketches::Session;
-use datasketches::Shape;
 use datasketches::Status;
 use datasketches::bloom::BloomFilterBuilder;
 use datasketches::error::Error;
@@ -498,26 +494,23 @@ fn lists_are_as_the_docs_say(rt: HostRuntime) -> Result<(), Fail> {
     Ok(())
 }
 
-/// Returns the shape of a command that creates a sketch with an empty name.
-fn shape_of_visits(alloc: Global) -> Option<Shape> {
-    made_shape(Command::CreateFrequent {
-        name: String::new(alloc),
-        max_map_size: 64,
-    })
-}
-
 #[test]
 fn sessions_are_as_the_docs_say(rt: HostRuntime) {
     assert!(rt; refusal_of_an_unknown_name(rt.alloc()) == Ok(Some(Refusal::NoSuchName)));
-    assert!(rt; shape_of_visits(rt.alloc()) == Some(Shape::Frequent { max_map_size: 64 }));
-    assert!(rt;
-        visits_by_seven(rt.alloc())
-            == Ok(Reply::Bounds {
-                estimate: 5,
-                lower: 5,
-                upper: 5
-            })
-    );
+    let bounds = Bounds {
+        estimate: 5,
+        lower: 5,
+        upper: 5,
+    };
+    assert!(rt; visits_by_seven(rt.alloc()) == Ok(bounds));
+    assert!(rt; is_exact(bounds));
+    assert!(rt; !is_done_without_names(rt.alloc()));
+}
+
+/// Returns whether a command on an unknown name is done.
+fn is_done_without_names(alloc: Global) -> bool {
+    let name = String::new(alloc);
+    is_done(&mut Session::new(alloc), Command::Reset { name })
 }
 
 /// Returns half of a weight of 16.
@@ -528,30 +521,11 @@ fn half_of_sixteen(alloc: Global) -> Result<u64, Error> {
     Ok(weight_of_all(&counts))
 }
 
-/// Returns whether `insertion` returns a change.
-fn inserts(alloc: Global) -> bool {
-    matches!(insertion(String::new(alloc), 7), Action::Change { .. })
-}
-
-/// Returns whether `union` returns a join.
-fn unites(alloc: Global) -> bool {
-    matches!(
-        union(String::new(alloc), String::new(alloc)),
-        Action::Join { .. }
-    )
-}
-
-/// Returns whether the name of a rejected insertion can be used again.
-fn recycles_a_name(alloc: Global) -> bool {
-    let mut session = Session::new(alloc);
-    recycles(&mut session, String::new(alloc), 7)
-}
-
 /// Returns whether a session accepts an empty filter's image under an empty name.
 fn takes_image(alloc: Global, session: &mut Session<u64>) -> Result<bool, Error> {
     let filter = BloomFilterBuilder::with_size(64, 1).build(alloc)?;
     let image = filter.serialize()?;
-    Ok(takes_filter(session, String::new(alloc), image))
+    Ok(takes_filter(session, "", &image))
 }
 
 /// Returns whether an image is accepted under a name, and whether it is accepted again under the same name.
@@ -570,7 +544,6 @@ fn types_are_as_their_docs_say(rt: HostRuntime) {
         seed: 9001,
     };
     assert!(rt; half_of_sixteen(rt.alloc()) == Ok(8));
-    assert!(rt; inserts(rt.alloc()) && unites(rt.alloc()) && recycles_a_name(rt.alloc()));
     assert!(rt; takes_a_filter_once(rt.alloc()) == (Ok(true), Ok(false)));
     assert!(rt; max_slots(status) == None);
     assert!(rt; word_for(Refusal::NameTaken) == "NameTaken");

@@ -1,7 +1,6 @@
 //! Parses numbers.
 ghost use Rattle.std.specs.Prelude.{◌≡◌, ◌^◌, [], ◌∷◌};
 ghost use Rattle.datasketches_cli.specs.Grammar.{number_below, signed_number};
-ghost use Rattle.datasketches_cli.specs.Parsing.{AreTwoNumbers, AreThreeNumbers, texts_of};
 
 /// Parses a word of decimal digits as a number of 64 bits.
 pub fn number_of(word: &str) -> Option<u64>
@@ -29,34 +28,43 @@ fn digit_of(byte: u8) -> Option<u64>
     }
 }
 
-/// Parses exactly two words as numbers.
-pub fn two_numbers(words: &[&str]) -> Option<(u64, u64)>
-    ensures { AreTwoNumbers (texts_of words.now) result }
+/// Parses a word of decimal digits as a number of 8 bits.
+pub fn number_of_u8(word: &str) -> Option<u8>
+    ensures { result ≡ number_below (2 ^ 8) word.now }
 {
-    let [first, second] = words else {
+    let Some(number) = number_of(word) else {
         return None;
     };
-    let (Some(first), Some(second)) = (number_of(first), number_of(second)) else {
+    if number > 0xff {
         return None;
-    };
-    Some((first, second))
+    }
+    Some(number as u8)
 }
 
-/// Parses exactly three words as numbers.
-pub fn three_numbers(words: &[&str]) -> Option<(u64, u64, u64)>
-    ensures { AreThreeNumbers (texts_of words.now) result }
+/// Parses a word of decimal digits as a number of 16 bits.
+pub fn number_of_u16(word: &str) -> Option<u16>
+    ensures { result ≡ number_below (2 ^ 16) word.now }
 {
-    let [first, second, third] = words else {
+    let Some(number) = number_of(word) else {
         return None;
     };
-    let (Some(first), Some(second), Some(third)) = (
-        number_of(first),
-        number_of(second),
-        number_of(third),
-    ) else {
+    if number > 0xffff {
+        return None;
+    }
+    Some(number as u16)
+}
+
+/// Parses a word of decimal digits as a number of 32 bits.
+pub fn number_of_u32(word: &str) -> Option<u32>
+    ensures { result ≡ number_below (2 ^ 32) word.now }
+{
+    let Some(number) = number_of(word) else {
         return None;
     };
-    Some((first, second, third))
+    if number > 0xffffffff {
+        return None;
+    }
+    Some(number as u32)
 }
 
 /// Parses a word of decimal digits, after a minus sign if any, as a signed number of 64 bits.

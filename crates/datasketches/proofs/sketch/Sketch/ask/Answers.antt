@@ -1,15 +1,18 @@
-use Rattle.std.proofs.Common.{◌≡◌, to_z-of_z, arith}
+use Rattle.std.proofs.Common.{◌≡◌, ◌++◌, List, ℕ, ap, subst, to_z-of_z, arith}
+use Rattle.sketch_base.specs.Hashes.{fed_bytes}
+use Rattle.datasketches.specs.Answering.{TellsCount}
+use Rattle.datasketches.specs.Replies.{max_signed, max_unsigned}
 use Rattle.datasketches.specs.declared.reply.Reply.TheVariants.{Bounds}
 use Rattle.datasketches.proofs.Cells.{tells}
 use Rattle.datasketches.proofs.sketch.Sketch.ask.Goals as goal
 
 pub returns-in-CountI64 : goal.returns-in-CountI64
-returns-in-CountI64 g c =
-    let least = c.estimate-in-CountI64.ensures.least in
-    let shown : c.signed_bounds.result ≡ Bounds c.estimate-in-CountI64.result c.lower_bound-in-CountI64.result c.upper_bound-in-CountI64.result = grind (arith, to_z-of_z) in
-    rw (c.in-CountI64.is, shown) (tells _ _ _ _ _ _ least c.lower_bound-in-CountI64.ensures (c.upper_bound-in-CountI64.ensures _ least))
+returns-in-CountI64 g c = λ x is.
+    let least = c.estimate.ensures.least in
+    let shown : c.signed_bounds.result ≡ Bounds c.estimate.result c.lower_bound.result c.upper_bound.result = grind (arith, to_z-of_z) in
+    rw (c.in-CountI64.is, shown, ← g.met.K.ItemKey.respects_hash c.args.item x is) (tells _ _ _ _ _ _ least c.lower_bound.ensures (c.upper_bound.ensures _ least))
 
 pub returns-in-CountU64 : goal.returns-in-CountU64
-returns-in-CountU64 g c =
+returns-in-CountU64 g c = λ x is.
     let least = c.estimate-in-CountU64.ensures.least in
-    rw (c.in-CountU64.is, c.bounds-in-CountU64.ensures) (tells _ _ _ _ _ _ least c.lower_bound-in-CountU64.ensures (c.upper_bound-in-CountU64.ensures _ least))
+    rw (c.in-CountU64.is, c.bounds-in-CountU64.ensures, ← g.met.K.ItemKey.respects_hash c.args.item x is) (tells _ _ _ _ _ _ least c.lower_bound-in-CountU64.ensures (c.upper_bound-in-CountU64.ensures _ least))

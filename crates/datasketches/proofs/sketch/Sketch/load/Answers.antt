@@ -12,20 +12,20 @@ unfolding table_bytes
 returns-in-Ok-clause-within g c = c.in-Ok.ensures.within
 
 pub returns-in-Ok-clause-stands : goal.returns-in-Ok-clause-stands
-returns-in-Ok-clause-stands g c = rw c.in-Frequent.is (frequent_back g.T.PartialEq.eq g.T.FrequentItemValue.codec g.T.FrequentItemValue.content c.in-Frequent.bytes c.deref.ensures.value c.image_laws.ensures.spelled c.in-Ok.ensures.state c.in-Ok.ensures.stands c.in-Ok.ensures.budget)
+returns-in-Ok-clause-stands g c = rw c.in-Frequent.is (frequent_back g.T.PartialEq.eq g.T.FrequentItemValue.codec g.T.FrequentItemValue.content c.args.bytes.now c.image_laws.ensures.spelled c.in-Ok.ensures.state c.in-Ok.ensures.stands c.in-Ok.ensures.budget)
 
 pub returns-in-Ok-deserialize_with_limit-clause-stands : goal.returns-in-Ok-deserialize_with_limit-clause-stands
-returns-in-Ok-deserialize_with_limit-clause-stands g c = rw c.in-Bloom.is (filter_back g.T.PartialEq.eq g.T.FrequentItemValue.codec g.T.FrequentItemValue.content c.in-Bloom.bytes c.deref-in-Bloom.ensures.value c.image_laws-in-Bloom.ensures.spelled c.in-Ok-deserialize_with_limit.ensures.state c.in-Ok-deserialize_with_limit.ensures.stands)
+returns-in-Ok-deserialize_with_limit-clause-stands g c = rw c.in-Bloom.is (filter_back g.T.PartialEq.eq g.T.FrequentItemValue.codec g.T.FrequentItemValue.content c.args.bytes.now c.image_laws-in-Bloom.ensures.spelled c.in-Ok-deserialize_with_limit.ensures.state c.in-Ok-deserialize_with_limit.ensures.stands)
 
 pub returns-in-Ok-deserialize_with_limit-clause-within : goal.returns-in-Ok-deserialize_with_limit-clause-within
 returns-in-Ok-deserialize_with_limit-clause-within g c = c.in-Ok-deserialize_with_limit.ensures.within
 
 pub returns-in-Err-deserialize_with_limit-clause-refused : goal.returns-in-Err-deserialize_with_limit-clause-refused
-returns-in-Err-deserialize_with_limit-clause-refused g c = rw (c.in-Bloom.is, ← c.deref-in-Bloom.ensures.value) c.in-Err-deserialize_with_limit.ensures.err
+returns-in-Err-deserialize_with_limit-clause-refused g c = rw c.in-Bloom.is c.in-Err-deserialize_with_limit.ensures.err
 
 pub returns-in-Ok-clause-accepted : goal.returns-in-Ok-clause-accepted
 unfolding table_bytes
-returns-in-Ok-clause-accepted g c = λ ok. rw (c.in-Frequent.is, ← c.deref.ensures.value) (c.in-Ok.ensures.accepted refl)
+returns-in-Ok-clause-accepted g c = λ ok. rw c.in-Frequent.is (c.in-Ok.ensures.accepted refl)
 
 pub returns-in-Ok-deserialize_with_limit-clause-accepted : goal.returns-in-Ok-deserialize_with_limit-clause-accepted
-returns-in-Ok-deserialize_with_limit-clause-accepted g c = λ ok. rw (c.in-Bloom.is, ← c.deref-in-Bloom.ensures.value) (bloom_accepted c.args.max_bytes _ _ c.in-Ok-deserialize_with_limit.ensures.image c.in-Ok-deserialize_with_limit.ensures.within)
+returns-in-Ok-deserialize_with_limit-clause-accepted g c = λ ok. rw c.in-Bloom.is (bloom_accepted c.args.max_bytes _ _ c.in-Ok-deserialize_with_limit.ensures.image c.in-Ok-deserialize_with_limit.ensures.within)

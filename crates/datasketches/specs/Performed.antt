@@ -1,0 +1,26 @@
+-- The clauses of a session's calls.
+use Rattle.std.specs.Prelude.{◌≡◌, ℕ, Bool, true, List}
+use Rattle.sketch_frequencies.specs.Items.{Codec}
+use Rattle.datasketches.specs.Actions.{Action}
+use Rattle.datasketches.specs.Histories.{History, Assignment, after_action, after_action_told}
+use Rattle.datasketches.specs.Loading.{IsActionTold}
+use Rattle.datasketches.specs.Replies.{is_refused}
+use Rattle.datasketches.specs.SessionStandsFor.{SessionStandsFor}
+use Rattle.datasketches.specs.State.{SessionState, IsUnchanged}
+use Rattle.datasketches.specs.Steps.{Performs}
+use Rattle.datasketches.specs.declared.reply.Reply.{Reply}
+
+-- the action was performed, with this reply
+pub record Performed {T C : Type 0} (slot : ℕ) (eq : T → T → Bool) (input : T → List (List ℕ)) (codec : Codec C) (content : T → C)
+    (action : Action T) (old : SessionState T) (reply : Reply T) (new : SessionState T) : Type 0 where
+  -- it did to the sketch or image that it creates or names first what the sketch's own call does, and changed no other
+  pub step : Performs slot eq input codec content old action reply new
+  -- a session that stood for an assignment stands for it as the action and its reply changed it
+  pub fits : (a : Assignment T) → SessionStandsFor eq codec content old a
+      → SessionStandsFor eq codec content new (after_action input a action reply)
+  -- the same if the bytes that it loads are truly of the history `loaded`
+  pub told : (a : Assignment T) (loaded : History T) → SessionStandsFor eq codec content old a
+      → IsActionTold eq codec content action loaded
+      → SessionStandsFor eq codec content new (after_action_told input a action loaded reply)
+  -- a rejected action changed nothing
+  pub refused : is_refused reply ≡ true → IsUnchanged old new

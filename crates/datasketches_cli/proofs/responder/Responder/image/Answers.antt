@@ -1,0 +1,15 @@
+use Rattle.std.proofs.Common.{refl}
+use Rattle.datasketches.specs.Actions.{ShowImage}
+use Rattle.datasketches_cli.specs.Grammar.{image_of}
+use Rattle.datasketches_cli.proofs.Spelling.{acted, at_one}
+use Rattle.datasketches_cli.proofs.responder.Responder.image.Goals as goal
+
+pub returns-in-Ok : goal.returns-in-Ok
+returns-in-Ok c =
+    acted (ShowImage _) _ _ _ _ _ _ _ c.in-Ok.ensures.step refl refl c.reply.ensures
+    (at_one image_of c.args.words.now _ _ c.in-len1.len_at_least c.in-len1.len_below refl)
+
+pub returns-in-Err : goal.returns-in-Err
+returns-in-Err c =
+    acted (ShowImage _) _ _ _ _ _ _ _ c.in-Err.ensures.step refl refl c.done.ensures
+    (at_one image_of c.args.words.now _ _ c.in-len1.len_at_least c.in-len1.len_below refl)
