@@ -3,7 +3,6 @@ use Rattle.std.specs.Prelude.{◌≡◌, ℕ, ◌⊎◌, Bool, false, List, Resu
 use Rattle.counter_table.specs.Tables.{is_tracked_by_key}
 use Rattle.sketch_base.specs.Errors.{no_memory}
 use Rattle.sketch_frequencies.specs.Items.{Codec}
-use Rattle.datasketches.specs.Actions.{Action}
 use Rattle.datasketches.specs.Actions.Action.{Alter}
 use Rattle.datasketches.specs.Actions.Change.{Add}
 use Rattle.datasketches.specs.Changing.{Adds}

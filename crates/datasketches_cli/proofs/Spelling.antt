@@ -15,7 +15,7 @@ use Rattle.datasketches.specs.declared.reply.Reply.{Reply}
 use Rattle.datasketches.specs.declared.shape.Shape.{Shape}
 use Rattle.datasketches.specs.declared.shape.Shape.TheVariants as shape
 use Rattle.datasketches_cli.specs.Asking.{Says, IsBad}
-use Rattle.datasketches_cli.specs.Grammar.{Spelled, split_words, request_of, verbs, number, number_below, report_of, bytes_of_digits, signed_number, frequent_of, sampled_of, counts_of, bloom_of, add_of, adds_of, insert_of, decay_of, ask_of, rows_of, windows_of, hadd_of, hturn_of, hreport_of, IsBlank}
+use Rattle.datasketches_cli.specs.Grammar.{Spelled, split_words, request_of, verbs, number, number_below, report_of, bytes_of_digits, signed_number, frequent_of, sampled_of, counts_of, bloom_of, add_of, adds_of, insert_of, decay_of, ask_of, rows_of, windows_of, hadd_of, hturn_of, hreport_of}
 use Rattle.datasketches_cli.specs.Parsing.{spelled_by, texts_of}
 use Rattle.datasketches_cli.specs.Requests.{Answer, Replied, Request, Act, OpenWindows, AddTo, TurnOf, ReportOf, action_bytes, request_bytes}
 use Rattle.datasketches_cli.specs.Serving.{Answers, HasAnswered, IsIdle}

@@ -13,7 +13,6 @@ use Rattle.sketch_base.specs.Errors.{no_memory}
 use Rattle.datasketches.specs.Actions.{Change, Alter, Add}
 use Rattle.datasketches.specs.Changing.{Changes}
 use Rattle.datasketches.specs.Histories.{changed}
-use Rattle.datasketches.specs.Items.{text_codec}
 use Rattle.datasketches.specs.Keyed.{RunsOut}
 use Rattle.datasketches.specs.Names.{at_name, AreSame}
 use Rattle.datasketches.specs.Replies.{done_or, is_refused}
@@ -25,7 +24,7 @@ use Rattle.datasketches.specs.declared.reply.Refusal.TheVariants.{Call}
 use Rattle.datasketches.specs.declared.reply.Reply.{Reply}
 use Rattle.datasketches.specs.declared.sketch.Sketch.{Sketch}
 use Rattle.datasketches_cli.specs.Steps.{Did, DidByBytes, DidWith}
-use Rattle.datasketches_cli.specs.Texts.{Text, text_input, text_slot}
+use Rattle.datasketches_cli.specs.Texts.{Text, text_input}
 
 pub text_of_bytes : (bytes : List ℕ) → IsUtf8 bytes → length bytes < 2 ^ 63 → Global → (text : Text) × (string_bytes text ≡ bytes)
 text_of_bytes bytes utf8 small alloc = (

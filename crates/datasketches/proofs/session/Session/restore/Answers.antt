@@ -1,5 +1,5 @@
 use Rattle.std.proofs.Common.{refl}
-use Rattle.datasketches.proofs.Saving.{refused_call, free, taken, restores_none, restores_taken, restores_refused, restores_memory, restores_unnamed, restores_done}
+use Rattle.datasketches.proofs.Saving.{refused_call, free, taken, restores_taken, restores_refused, restores_memory, restores_unnamed, restores_done}
 use Rattle.datasketches.proofs.session.Session.restore.Goals as goal
 
 pub returns-then-contains_name : goal.returns-then-contains_name

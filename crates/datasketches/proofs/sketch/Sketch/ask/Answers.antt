@@ -1,7 +1,4 @@
-use Rattle.std.proofs.Common.{◌≡◌, ◌++◌, List, ℕ, ap, subst, to_z-of_z, arith}
-use Rattle.sketch_base.specs.Hashes.{fed_bytes}
-use Rattle.datasketches.specs.Answering.{TellsCount}
-use Rattle.datasketches.specs.Replies.{max_signed, max_unsigned}
+use Rattle.std.proofs.Common.{◌≡◌, to_z-of_z, arith}
 use Rattle.datasketches.specs.declared.reply.Reply.TheVariants.{Bounds}
 use Rattle.datasketches.proofs.Cells.{tells}
 use Rattle.datasketches.proofs.sketch.Sketch.ask.Goals as goal
