@@ -114,7 +114,8 @@ impl<const KIND: u8> FrequentItemValue for Item<KIND> {
     }
 
     fn checked_serialize_size(item: &Self) -> Result<usize, Error> {
-        if KIND == UNWRITABLE && item.0 == MARKED {
+        let number = item.0;
+        if KIND == UNWRITABLE && number == MARKED {
             return Err(Error::invalid_argument(Fault::BadItem));
         }
         Ok(8)
