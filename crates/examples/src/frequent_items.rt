@@ -169,8 +169,7 @@ pub fn pages_of_two_images(
     key: TableKey,
 ) -> Result<FrequentItemsSketch<u64>, Error> {
     let max_bytes = 1 << 20;
-    let (mut first, used) =
-        FrequentItemsSketch::deserialize_prefix(alloc, images, max_bytes, key)?;
+    let (mut first, used) = FrequentItemsSketch::deserialize_prefix(alloc, images, max_bytes, key)?;
     let rest = &images[used..];
     let (second, _) = FrequentItemsSketch::deserialize_prefix(alloc, rest, max_bytes, key)?;
     first.merge(&second)?;

@@ -154,7 +154,7 @@ fn pages_in_a_row(alloc: Global) -> Result<(u64, u64), Error> {
     let mut first = FrequentItemsSketch::new(alloc, 64)?;
     first.update_with_count(7u64, 5)?;
     let mut second = FrequentItemsSketch::new(alloc, 64)?;
-    second.update_with_count(9, 2)?;
+    second.update_with_count(9u64, 2)?;
     let mut images = first.serialize()?;
     images.extend_from_slice(&second.serialize()?)?;
     let pages = pages_of_two_images(alloc, &images, TableKey::Plain)?;
