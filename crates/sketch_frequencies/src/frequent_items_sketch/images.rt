@@ -175,7 +175,7 @@ impl<T: FrequentItemValue + Drop> FrequentItemsSketch<T> {
     ///
     /// ```
     /// use sketch_frequencies::{Error, FrequentItemsSketch};
-    /// use std::alloc::{AllocError, Global};
+    /// use std::alloc::Global;
     ///
     /// fn sent_pages(
     ///     alloc: Global,
@@ -218,7 +218,7 @@ impl<T: FrequentItemValue + Drop> FrequentItemsSketch<T> {
     ///
     /// ```
     /// use sketch_frequencies::{Error, FrequentItemsSketch, TableKey};
-    /// use std::alloc::{AllocError, Global};
+    /// use std::alloc::Global;
     ///
     /// fn received(
     ///     alloc: Global,
@@ -270,8 +270,7 @@ impl<T: FrequentItemValue + Drop> FrequentItemsSketch<T> {
     ///     key: TableKey,
     /// ) -> Result<FrequentItemsSketch<u64>, Error> {
     ///     let max_bytes = 1 << 20;
-    ///     let (mut first, used) =
-    ///         FrequentItemsSketch::deserialize_prefix(alloc, images, max_bytes, key)?;
+    ///     let (mut first, used) = FrequentItemsSketch::deserialize_prefix(alloc, images, max_bytes, key)?;
     ///     let rest = &images[used..];
     ///     let (second, _) = FrequentItemsSketch::deserialize_prefix(alloc, rest, max_bytes, key)?;
     ///     first.merge(&second)?;
