@@ -454,8 +454,8 @@ class Tests:
         return numbers[0], out.decode().splitlines()
 
     def lines_counted(self):
-        """Checks lines for which a session and its windows allocate nothing. The only allocations are one for each word that a
-        line keeps."""
+        """Checks lines for which a session and its windows allocate nothing. The only allocations are one for each word that is
+        copied."""
         rows = [([line], copied, reply) for line, copied, reply in counted.LINES] + [(counted.PURGED, len(counted.PURGED), "ok")]
         for lines, copied, reply in rows:
             few, _ = self.requests_of(counted.text(lines, counted.FEW))
