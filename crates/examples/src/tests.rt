@@ -26,7 +26,6 @@ use crate::counts::count_queries;
 use crate::counts::count_text;
 use crate::counts::halve;
 use crate::counts::sent_counts;
-use crate::counts::sum_of_two_images;
 use crate::counts::visits_of;
 use crate::counts::weight_of_all;
 use crate::filters::add_visitors_of_weekend;
@@ -53,7 +52,6 @@ use crate::frequent_items::largest_weight_of_the;
 use crate::frequent_items::lines_of_log;
 use crate::frequent_items::longest_look_up;
 use crate::frequent_items::most_visited;
-use crate::frequent_items::pages_of_two_images;
 use crate::frequent_items::sent_pages;
 use crate::frequent_items::sketch_of_visitors;
 use crate::frequent_items::surely_weighs_more;
@@ -63,7 +61,6 @@ use crate::frequent_items::visits_within_a_percent;
 use crate::frequent_items::weights_of_four;
 use crate::frequent_items::words_of_line;
 use crate::images::sent;
-use crate::images::union_of_two_images;
 use crate::many_strings::add_fruit_prices;
 use crate::many_strings::add_names;
 use crate::many_strings::are_blocked;
@@ -111,7 +108,6 @@ use sketch_countmin::CountMinSketch;
 use sketch_frequencies::ErrorType;
 use sketch_frequencies::FrequentItemsSketch;
 use sketch_frequencies::ItemBounds;
-use sketch_frequencies::TableKey;
 use std::alloc::Global;
 use std::test::Fail;
 
@@ -127,45 +123,6 @@ fn comes_back(alloc: Global) -> Result<bool, Error> {
     let mut filter = BloomFilterBuilder::with_size(64, 1).build(alloc)?;
     filter.insert("apple");
     Ok(sent(alloc, &filter)? == filter)
-}
-
-/// Returns whether two filters that are read from one buffer have their items.
-fn filters_in_a_row(alloc: Global) -> Result<bool, Error> {
-    let mut apples = BloomFilterBuilder::with_size(959, 7).build(alloc)?;
-    let mut pears = BloomFilterBuilder::with_size(959, 7).build(alloc)?;
-    apples.insert("apple");
-    pears.insert("pear");
-    let mut images = apples.serialize()?;
-    images.extend_from_slice(&pears.serialize()?)?;
-    let both = union_of_two_images(alloc, &images)?;
-    Ok(both.contains(&"apple") && both.contains(&"pear"))
-}
-
-/// Returns the estimate of an item in two sketches that are read from one buffer.
-fn counts_in_a_row(alloc: Global) -> Result<u64, Error> {
-    let counts = aged(alloc)?;
-    let mut images = counts.serialize()?;
-    images.extend_from_slice(&counts.serialize()?)?;
-    Ok(sum_of_two_images(alloc, &images, counts.seed())?.estimate("apple"))
-}
-
-/// Returns the weights of two items in two sketches that are read from one buffer.
-fn pages_in_a_row(alloc: Global) -> Result<(u64, u64), Error> {
-    let mut first = FrequentItemsSketch::new(alloc, 64)?;
-    first.update_with_count(7u64, 5)?;
-    let mut second = FrequentItemsSketch::new(alloc, 64)?;
-    second.update_with_count(9u64, 2)?;
-    let mut images = first.serialize()?;
-    images.extend_from_slice(&second.serialize()?)?;
-    let pages = pages_of_two_images(alloc, &images, TableKey::Plain)?;
-    Ok((pages.estimate(&7), pages.estimate(&9)))
-}
-
-#[test]
-fn images_in_a_row_are_read(rt: HostRuntime) {
-    assert!(rt; filters_in_a_row(rt.alloc()) == Ok(true));
-    assert!(rt; counts_in_a_row(rt.alloc()) == Ok(18));
-    assert!(rt; pages_in_a_row(rt.alloc()) == Ok((5, 2)));
 }
 
 #[test]
