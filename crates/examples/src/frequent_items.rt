@@ -2,8 +2,7 @@
 use counter_table::{ReversePurgeItemHashMap, Slot};
 use sketch_base::SketchBytes;
 use sketch_frequencies::{
-    Error, ErrorType, FrequentItemValue, FrequentItemsSketch, ItemBounds, Row, TableKey,
-    suggest_max_map_size,
+    Error, ErrorType, FrequentItemValue, FrequentItemsSketch, ItemBounds, Row, suggest_max_map_size,
 };
 use std::alloc::Global;
 
@@ -160,20 +159,6 @@ pub fn sent_pages(
 ) -> Result<FrequentItemsSketch<u64>, Error> {
     let image = pages.serialize()?;
     FrequentItemsSketch::deserialize_with_limit(alloc, &image, 1 << 20)
-}
-
-/// Returns the merge of the sketches of two images that stand one after the other.
-pub fn pages_of_two_images(
-    alloc: Global,
-    images: &[u8],
-    key: TableKey,
-) -> Result<FrequentItemsSketch<u64>, Error> {
-    let max_bytes = 1 << 20;
-    let (mut first, used) = FrequentItemsSketch::deserialize_prefix(alloc, images, max_bytes, key)?;
-    let rest = &images[used..];
-    let (second, _) = FrequentItemsSketch::deserialize_prefix(alloc, rest, max_bytes, key)?;
-    first.merge(&second)?;
-    Ok(first)
 }
 
 /// Returns whether a sketch takes more bytes than the budget.

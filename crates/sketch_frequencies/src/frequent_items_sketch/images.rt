@@ -257,26 +257,6 @@ impl<T: FrequentItemValue + Drop> FrequentItemsSketch<T> {
     /// # Errors
     ///
     /// Returns those of `deserialize_with_limit`.
-    ///
-    /// # Examples
-    ///
-    /// ```
-    /// use sketch_frequencies::{Error, FrequentItemsSketch, TableKey};
-    /// use std::alloc::Global;
-    ///
-    /// fn pages_of_two_images(
-    ///     alloc: Global,
-    ///     images: &[u8],
-    ///     key: TableKey,
-    /// ) -> Result<FrequentItemsSketch<u64>, Error> {
-    ///     let max_bytes = 1 << 20;
-    ///     let (mut first, used) = FrequentItemsSketch::deserialize_prefix(alloc, images, max_bytes, key)?;
-    ///     let rest = &images[used..];
-    ///     let (second, _) = FrequentItemsSketch::deserialize_prefix(alloc, rest, max_bytes, key)?;
-    ///     first.merge(&second)?;
-    ///     Ok(first)
-    /// }
-    /// ```
     pub fn deserialize_prefix(
         alloc: Global,
         image: &[u8],
