@@ -17,6 +17,7 @@ mod strings;
 mod updates;
 mod words_and_lines;
 
+use crate::frequent_items_sizes::FrequentItemsSizes;
 use crate::sizes::{MIN_MAP_SIZE, check_map_size, check_sample_size, max_sample_of};
 use counter_table::{ReversePurgeItemHashMap, TableKey, capacity_of, lg_of};
 use sketch_base::{Error, Fault};
@@ -169,15 +170,40 @@ impl<T: Eq + Hash + Drop> FrequentItemsSketch<T> {
         ensures accepted { IsOk result → sizes_fault max_map_size sample_size ≡ None }
         ensures refused { IfErr result (λ e. e ≡ refusal_of (sizes_fault max_map_size sample_size)) }
     {
-        check_map_size(max_map_size)?;
-        check_sample_size(max_map_size, sample_size)?;
+        let sizes = FrequentItemsSizes {
+            max_map_size,
+            sample_size,
+        };
+        Self::with_sizes(alloc, sizes, key)
+    }
+
+    /// Creates an empty sketch of these sizes, whose table hashes under `key`, as that of [`with_key`](Self::with_key).
+    ///
+    /// # Errors
+    ///
+    /// Returns those of `with_sample_size`.
+    pub fn with_sizes(
+        alloc: Global,
+        sizes: FrequentItemsSizes,
+        key: TableKey,
+    ) -> Result<Self, Error>
+        ensures ok { IfOk result (λ sketch. sketch ≡ empty_state sizes.max_map_size sizes.sample_size) }
+        ensures state { IfOk result (λ sketch. IsState T.eq sketch) }
+        ensures stands { IfOk result (λ sketch. StandsFor T.eq sketch (New sizes.max_map_size sizes.sample_size)) }
+        ensures budget { IfOk result (λ sketch.
+            KeepsTailBudget T.eq sketch (New sizes.max_map_size sizes.sample_size)) }
+        ensures accepted { IsOk result → sizes_fault sizes.max_map_size sizes.sample_size ≡ None }
+        ensures refused { IfErr result (λ e. e ≡ refusal_of (sizes_fault sizes.max_map_size sizes.sample_size)) }
+    {
+        check_map_size(sizes.max_map_size)?;
+        check_sample_size(sizes.max_map_size, sizes.sample_size)?;
         let map = ReversePurgeItemHashMap::with_key(alloc, MIN_MAP_SIZE, key)?;
         Ok(FrequentItemsSketch {
             map,
             error: 0,
             total: 0,
-            max_size: max_map_size,
-            sample_size,
+            max_size: sizes.max_map_size,
+            sample_size: sizes.sample_size,
         })
     }
 

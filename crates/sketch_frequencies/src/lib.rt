@@ -19,6 +19,7 @@
 
 mod error_type;
 mod frequent_item_value;
+mod frequent_items_sizes;
 mod frequent_items_sketch;
 mod image;
 mod item_bounds;
@@ -31,6 +32,7 @@ pub use counter_table::{
 };
 pub use error_type::ErrorType;
 pub use frequent_item_value::FrequentItemValue;
+pub use frequent_items_sizes::FrequentItemsSizes;
 pub use frequent_items_sketch::FrequentItemsSketch;
 pub use image::{EMPTY_FLAG_MASK, PREAMBLE_LONGS_EMPTY, PREAMBLE_LONGS_NONEMPTY};
 pub use item_bounds::ItemBounds;

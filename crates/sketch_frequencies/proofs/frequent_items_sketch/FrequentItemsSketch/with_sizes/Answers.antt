@@ -3,7 +3,7 @@ use Rattle.std.specs.List.{IsDistinct}
 use Rattle.std.proofs.lemmas.List.Elements.{All-nil}
 use Rattle.sketch_frequencies.proofs.Powers.{eight_is_power}
 use Rattle.sketch_frequencies.proofs.SampleSizes.{size_passes}
-use Rattle.sketch_frequencies.proofs.frequent_items_sketch.FrequentItemsSketch.with_sample_size_and_key.Goals as goal
+use Rattle.sketch_frequencies.proofs.frequent_items_sketch.FrequentItemsSketch.with_sizes.Goals as goal
 
 pub with_key-requires-clause-power : goal.with_key-requires-clause-power
 with_key-requires-clause-power g c = eight_is_power
@@ -11,7 +11,7 @@ with_key-requires-clause-power g c = eight_is_power
 pub invariant_of-result : goal.invariant_of-result
 unfolding IsDistinct
 invariant_of-result g c =
-    let size = size_passes c.args.max_map_size (c.in_ok-check_map_size.ensures.accepted.0 refl) in
+    let size = size_passes c.args.sizes.max_map_size (c.in_ok-check_map_size.ensures.accepted.0 refl) in
     rw c.in_ok-map.ensures.ok (record {
       distinct = tt;
       positive = All-nil _;
