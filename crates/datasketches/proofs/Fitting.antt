@@ -5,8 +5,8 @@ use Rattle.std.specs.Str.{bytes_eq}
 use Rattle.std.proofs.lemmas.Bool.{true≢false, false≢true}
 use Rattle.std.proofs.lemmas.Slice.Eq.{bytes_eq-Decides}
 use Rattle.sketch_base.specs.declared.fault.Fault.{Fault}
-use Rattle.datasketches.specs.declared.shape.Shape.{Shape}
-use Rattle.datasketches.specs.declared.join.Join.{Join}
+use Rattle.datasketches.specs.Actions.{Shape}
+use Rattle.datasketches.specs.Actions.{Join}
 use Rattle.datasketches.specs.SessionStandsFor.{Paired}
 use Rattle.datasketches.specs.Histories.{History, put_at, begun, joined, of_both}
 use Rattle.datasketches.specs.Joining.{Joins}

@@ -1,6 +1,6 @@
 pub mod Cells
 pub mod Fitting
-pub mod Joining
+pub mod FilterJoins
 pub mod Keyed
 pub mod Names
 pub mod Powers

@@ -1,6 +1,6 @@
 -- Calls of a session, by the clauses of the calls beneath.
 use Rattle.std.proofs.Common.{◌≡◌, ℕ, Bool, true, false, List, Option, Some, None, inl, inr, refl, sym, ◌∙◌, ap, subst}
-use Rattle.std.specs.Prelude.{Result, Ok, Err, ⊤, IsErrAnd, IsTrue, OnOk, OnErr}
+use Rattle.std.specs.Prelude.{Result, Ok, Err, ⊤, IsTrue, IfErr, IfOk, IsOk, OnErr, OnOk}
 use Rattle.std.specs.Global.{Global}
 use Rattle.std.specs.declared.vec.Vec.{Vec}
 use Rattle.std.specs.Option.{MatchOption, is_some}
@@ -15,7 +15,7 @@ use Rattle.datasketches.specs.Histories.{begun, changed}
 use Rattle.datasketches.specs.Images.{Image, IsWrittenBy, IsWriteRefusal, IsReadFrom, IsReadRefusal, IsLoadRefusal, GivesBack, TakesWithin, load_fault}
 use Rattle.datasketches.specs.Actions.Change.{Add}
 use Rattle.datasketches.specs.Keyed.{RunsOut, AddsNamed, PerformedByKey}
-use Rattle.datasketches.specs.Names.{at_name, Puts, AreSame}
+use Rattle.datasketches.specs.Names.{at_name, Puts, AreSame, Keeps}
 use Rattle.datasketches.specs.Performed.{Performed}
 use Rattle.datasketches.specs.Replies.{done_or, refused}
 use Rattle.datasketches.specs.Shapes.{empty_sketch, fault_of}
@@ -23,22 +23,18 @@ use Rattle.datasketches.specs.Stands.{StandsFor, Carries, Does}
 use Rattle.datasketches.specs.State.{SessionState, IsUnchanged}
 use Rattle.datasketches.specs.Steps.{JoinsNamed, MakesEmpty, Refuses, Performs}
 use Rattle.datasketches.specs.declared.image_kind.ImageKind.{ImageKind}
-use Rattle.datasketches.specs.declared.join.Join.{Join}
+use Rattle.datasketches.specs.Actions.{Join}
 use Rattle.datasketches.specs.declared.reply.Refusal.{Refusal}
 use Rattle.datasketches.specs.declared.reply.Refusal.TheVariants.{Call, NoSuchName, NameTaken}
 use Rattle.datasketches.specs.declared.reply.Reply.{Reply}
 use Rattle.datasketches.specs.declared.reply.Reply.TheVariants.{Done, Image as Shown, Refused}
-use Rattle.datasketches.specs.declared.shape.Shape.{Shape}
+use Rattle.datasketches.specs.Actions.{Shape}
 use Rattle.datasketches.specs.declared.sketch.Sketch.{Sketch}
 use Rattle.datasketches.specs.declared.sketch.Sketch.TheVariants.{Frequent, CountI64, CountU64, Bloom}
 use Rattle.datasketches.proofs.Fitting.{put_again}
 use Rattle.datasketches.proofs.Saved.{read_first, load_first}
 use Rattle.datasketches.proofs.Stepping.{performed}
 use Rattle.datasketches.proofs.Steps.{on_some, does}
-
--- a refusal that was passed on
-pub refused_call : {T : Type 0} (result : Result ⊤ Refusal) (error : ErrorValue) → IsErrAnd result (λ refusal. refusal ≡ Call error) → done_or {T = T} result ≡ refused error
-refused_call result error from = let p = err_from_is_err_and result from in ap done_or p.1 ∙ ap Refused p.2
 
 -- a name that is not contained, and one that is
 pub free : {V : Type 0} (found : Option V) (contained : Bool) → contained ≡ false → contained ≡ is_some found → found ≡ None
@@ -97,29 +93,24 @@ module _ {T C : Type 0} (slot : ℕ) (eq : T → T → Bool) (input : T → List
   pub creates_taken : (shape : Shape) (name : List ℕ) (seen old : SessionState T) → seen ≡ old → (sketch : Sketch T) × (at_name name seen.sketches ≡ Some sketch) → Did (Create name shape) old (Refused NameTaken) old
   creates_taken shape name seen old same (sketch, found) = by_parts_alone (Create name shape) seen old (Refused NameTaken) same (rw found (refl, λ _. refl), λ _. refl)
 
-  refused_case : (name : List ℕ) (shape : Shape) (old : List (List ℕ × Sketch T)) (reply : Reply T) (error : ErrorValue) (fault : Option Fault) → reply ≡ refused error → error ≡ refusal_of fault →
-      MatchOption fault (MakesEmpty eq name shape old reply old) (λ f. Refuses (refused (invalid_argument f)) old reply old)
-  refused_case name shape old reply error None r e = inr (r ∙ ap refused e, λ _. refl)
-  refused_case name shape old reply error (Some fault) r e = (r ∙ ap refused e, λ _. refl)
+  refused_case : (name : List ℕ) (shape : Shape) (old new : List (List ℕ × Sketch T)) (reply : Reply T) (error : ErrorValue) (fault : Option Fault) → reply ≡ refused error → error ≡ refusal_of fault → AreSame old new →
+      MatchOption fault (MakesEmpty eq name shape old reply new) (λ f. Refuses (refused (invalid_argument f)) old reply new)
+  refused_case name shape old new reply error None r e same = inr (r ∙ ap refused e, same)
+  refused_case name shape old new reply error (Some fault) r e same = (r ∙ ap refused e, same)
 
-  -- a shape was refused, or memory
-  pub creates_refused : (shape : Shape) (name : List ℕ) (seen old : SessionState T) (reply : Reply T) (error : ErrorValue) → seen ≡ old → at_name name seen.sketches ≡ None → reply ≡ refused error → error ≡ refusal_of (fault_of shape) → Did (Create name shape) old reply old
-  creates_refused shape name seen old reply error same none r e =
-      by_parts_alone (Create name shape) seen old reply same (rw none (refused_case name shape seen.sketches reply error (fault_of shape) r e), λ _. refl)
-
-  -- a sketch that was made
-  pub creates_done : (shape : Shape) (name : List ℕ) (seen old new : SessionState T) (sketch : Sketch T) → seen ≡ old → at_name name seen.sketches ≡ None → fault_of shape ≡ None →
-      sketch ≡ empty_sketch shape → StandsFor eq sketch (begun shape) → Puts name sketch seen.sketches new.sketches → AreSame seen.images new.images → Did (Create name shape) old Done new
-  creates_done shape name seen old new sketch same none well is stands puts images = by_parts (Create name shape) seen old new Done same (
-    rw (none, well) (inl (refl, subst (λ (s : Sketch T). Puts name s seen.sketches new.sketches) is puts, subst (λ (s : Sketch T). StandsFor eq s (begun shape)) is stands)),
+  -- a sketch that was made, or not, under a free name
+  pub creates : (shape : Shape) (name : List ℕ) (seen old new : SessionState T) (made : Result (Sketch T) ErrorValue) (result : Result ⊤ Refusal) → seen ≡ old → at_name name seen.sketches ≡ None →
+      IfOk made (λ sketch. sketch ≡ empty_sketch shape) → IfOk made (λ sketch. StandsFor eq sketch (begun shape)) → (IsOk made → fault_of shape ≡ None) → IfErr made (λ e. e ≡ refusal_of (fault_of shape)) →
+      Keeps name made seen.sketches result new.sketches → AreSame seen.images new.images → Did (Create name shape) old (done_or result) new
+  creates shape name seen old new (Ok sketch) (Ok u) same none is stands accepted refused keeps images = by_parts (Create name shape) seen old new Done same (
+    rw (none, accepted refl) (inl (refl, subst (λ (s : Sketch T). Puts name s seen.sketches new.sketches) is keeps, subst (λ (s : Sketch T). StandsFor eq s (begun shape)) is stands)),
     images,
   )
-
-  -- a sketch that was made, where there was no memory for its name
-  pub creates_unnamed : (shape : Shape) (name : List ℕ) (seen old new : SessionState T) (reply : Reply T) (error : ErrorValue) → seen ≡ old → at_name name seen.sketches ≡ None → fault_of shape ≡ None →
-      reply ≡ refused error → error ≡ no_memory → AreSame seen.sketches new.sketches → AreSame seen.images new.images → Did (Create name shape) old reply new
-  creates_unnamed shape name seen old new reply error same none well r e sketches images =
-      by_parts (Create name shape) seen old new reply same (rw (none, well) (inr (r ∙ ap refused e, sketches)), images)
+  creates shape name seen old new (Ok sketch) (Err why) same none is stands accepted refused keeps images =
+      by_parts (Create name shape) seen old new (Refused why) same (rw (none, accepted refl) (inr (ap Refused keeps.0, keeps.1)), images)
+  creates shape name seen old new (Err error) (Ok u) same none is stands accepted refused keeps images = absurd keeps
+  creates shape name seen old new (Err error) (Err why) same none is stands accepted refused keeps images =
+      by_parts (Create name shape) seen old new (Refused why) same (rw none (refused_case name shape seen.sketches new.sketches (Refused why) error (fault_of shape) (ap Refused keeps.0) refused keeps.1), images)
 
   -- ---- an image that is saved
 
@@ -133,27 +124,17 @@ module _ {T C : Type 0} (slot : ℕ) (eq : T → T → Bool) (input : T → List
   saves_taken name image seen old sketch same found (saved, taken) =
       by_parts_alone (Save name image) seen old (Refused NameTaken) same (rw (found, taken) (record { sketches = λ _. refl; images = λ _. refl }, refl))
 
-  -- a sketch was not written
-  pub saves_refused : (name image : List ℕ) (seen old : SessionState T) (reply : Reply T) (error : ErrorValue) (sketch : Sketch T) → seen ≡ old → at_name name seen.sketches ≡ Some sketch → at_name image seen.images ≡ None →
-      IsWriteRefusal codec content sketch error → reply ≡ refused error → Did (Save name image) old reply old
-  saves_refused name image seen old reply error sketch same found none why r =
-      by_parts_alone (Save name image) seen old reply same (rw (found, none) (record { sketches = λ _. refl; outcome = inr (error, why, (r, λ _. refl)) }))
-
-  pub saves_memory : (name image : List ℕ) (seen old : SessionState T) (reply : Reply T) (error : ErrorValue) (sketch : Sketch T) → seen ≡ old → at_name name seen.sketches ≡ Some sketch → at_name image seen.images ≡ None →
-      reply ≡ refused error → error ≡ no_memory → Did (Save name image) old reply old
-  saves_memory name image seen old reply error sketch same found none r e = saves_refused name image seen old reply no_memory sketch same found none (write_memory sketch) (r ∙ ap refused e)
-
-  -- there was no memory for the image's name
-  pub saves_unnamed : (name image : List ℕ) (seen old new : SessionState T) (reply : Reply T) (error : ErrorValue) (sketch : Sketch T) → seen ≡ old → at_name name seen.sketches ≡ Some sketch → at_name image seen.images ≡ None →
-      reply ≡ refused error → error ≡ no_memory → AreSame seen.images new.images → AreSame seen.sketches new.sketches → Did (Save name image) old reply new
-  saves_unnamed name image seen old new reply error sketch same found none r e images sketches =
-      by_parts (Save name image) seen old new reply same (rw (found, none) (record { sketches = sketches; outcome = inr (no_memory, write_memory sketch, (r ∙ ap refused e, images)) }))
-
-  -- a sketch that was written
-  pub saves_done : (name image : List ℕ) (seen old new : SessionState T) (sketch : Sketch T) (saved : Image) → seen ≡ old → at_name name seen.sketches ≡ Some sketch → at_name image seen.images ≡ None →
-      IsWrittenBy codec content sketch saved.kind saved.bytes → Puts image saved seen.images new.images → AreSame seen.sketches new.sketches → Did (Save name image) old Done new
-  saves_done name image seen old new sketch saved same found none written puts sketches =
-      by_parts (Save name image) seen old new Done same (rw (found, none) (record { sketches = sketches; outcome = inl (saved, refl, written, puts) }))
+  -- a sketch that was written, or not, under a free name
+  pub saves : (name image : List ℕ) (seen old new : SessionState T) (sketch : Sketch T) (made : Result Image ErrorValue) (result : Result ⊤ Refusal) → seen ≡ old → at_name name seen.sketches ≡ Some sketch → at_name image seen.images ≡ None →
+      IfOk made (λ saved. IsWrittenBy codec content sketch saved.kind saved.bytes) → IfErr made (IsWriteRefusal codec content sketch) →
+      Keeps image made seen.images result new.images → AreSame seen.sketches new.sketches → Did (Save name image) old (done_or result) new
+  saves name image seen old new sketch (Ok saved) (Ok u) same found none written refused keeps sketches =
+      by_parts (Save name image) seen old new Done same (rw (found, none) (record { sketches = sketches; outcome = inl (saved, refl, written, keeps) }))
+  saves name image seen old new sketch (Ok saved) (Err why) same found none written refused keeps sketches =
+      by_parts (Save name image) seen old new (Refused why) same (rw (found, none) (record { sketches = sketches; outcome = inr (no_memory, write_memory sketch, (ap Refused keeps.0, keeps.1)) }))
+  saves name image seen old new sketch (Err error) (Ok u) same found none written refused keeps sketches = absurd keeps
+  saves name image seen old new sketch (Err error) (Err why) same found none written refused keeps sketches =
+      by_parts (Save name image) seen old new (Refused why) same (rw (found, none) (record { sketches = sketches; outcome = inr (error, refused, (ap Refused keeps.0, keeps.1)) }))
 
   -- ---- an image that is restored
 
@@ -165,31 +146,20 @@ module _ {T C : Type 0} (slot : ℕ) (eq : T → T → Bool) (input : T → List
       let here = subst (λ (s : SessionState T). at_name image s.images ≡ Some saved) (sym same) found in
       by_parts_alone (Restore image name) seen old (Refused NameTaken) same (rw (here, taken) (record { sketches = λ _. refl; images = λ _. refl }, refl))
 
-  -- an image was refused, or memory
-  pub restores_refused : (image name : List ℕ) (seen old : SessionState T) (reply : Reply T) (error : ErrorValue) (saved : Image) → seen ≡ old → at_name image old.images ≡ Some saved → at_name name seen.sketches ≡ None →
-      IsReadRefusal codec saved.kind saved.bytes error → reply ≡ refused error → Did (Restore image name) old reply old
-  restores_refused image name seen old reply error saved same found none why r =
+  -- an image that was read, or not, under a free name
+  pub restores : (image name : List ℕ) (seen old new : SessionState T) (saved : Image) (made : Result (Sketch T) ErrorValue) (result : Result ⊤ Refusal) → seen ≡ old → at_name image old.images ≡ Some saved → at_name name seen.sketches ≡ None →
+      IfOk made (IsReadFrom codec content saved.kind saved.bytes) → IfOk made (GivesBack eq codec content saved.kind saved.bytes) → IfErr made (IsReadRefusal codec saved.kind saved.bytes) →
+      Keeps name made seen.sketches result new.sketches → AreSame seen.images new.images → Did (Restore image name) old (done_or result) new
+  restores image name seen old new saved (Ok sketch) (Ok u) same found none read back refused keeps images =
       let here = subst (λ (s : SessionState T). at_name image s.images ≡ Some saved) (sym same) found in
-      by_parts_alone (Restore image name) seen old reply same (rw (here, none) (record { images = λ _. refl; outcome = inr (error, why, (r, λ _. refl)) }))
-
-  pub restores_memory : (image name : List ℕ) (seen old : SessionState T) (reply : Reply T) (error : ErrorValue) (saved : Image) (sketch : Sketch T) → seen ≡ old → at_name image old.images ≡ Some saved → at_name name seen.sketches ≡ None →
-      IsReadFrom codec content saved.kind saved.bytes sketch → reply ≡ refused error → error ≡ no_memory → Did (Restore image name) old reply old
-  restores_memory image name seen old reply error saved sketch same found none read r e =
-      restores_refused image name seen old reply no_memory saved same found none (read_first codec content saved.kind saved.bytes sketch read) (r ∙ ap refused e)
-
-  -- an image that was read, where there was no memory for the name
-  pub restores_unnamed : (image name : List ℕ) (seen old new : SessionState T) (reply : Reply T) (error : ErrorValue) (saved : Image) (sketch : Sketch T) → seen ≡ old → at_name image old.images ≡ Some saved → at_name name seen.sketches ≡ None →
-      IsReadFrom codec content saved.kind saved.bytes sketch → reply ≡ refused error → error ≡ no_memory → AreSame seen.sketches new.sketches → AreSame seen.images new.images → Did (Restore image name) old reply new
-  restores_unnamed image name seen old new reply error saved sketch same found none read r e sketches images =
+      by_parts (Restore image name) seen old new Done same (rw (here, none) (record { images = images; outcome = inl (sketch, refl, read, back, keeps) }))
+  restores image name seen old new saved (Ok sketch) (Err why) same found none read back refused keeps images =
       let here = subst (λ (s : SessionState T). at_name image s.images ≡ Some saved) (sym same) found in
-      by_parts (Restore image name) seen old new reply same (rw (here, none) (record { images = images; outcome = inr (no_memory, read_first codec content saved.kind saved.bytes sketch read, (r ∙ ap refused e, sketches)) }))
-
-  -- an image that was read
-  pub restores_done : (image name : List ℕ) (seen old new : SessionState T) (saved : Image) (sketch : Sketch T) → seen ≡ old → at_name image old.images ≡ Some saved → at_name name seen.sketches ≡ None →
-      IsReadFrom codec content saved.kind saved.bytes sketch → GivesBack eq codec content saved.kind saved.bytes sketch → Puts name sketch seen.sketches new.sketches → AreSame seen.images new.images → Did (Restore image name) old Done new
-  restores_done image name seen old new saved sketch same found none read back puts images =
+      by_parts (Restore image name) seen old new (Refused why) same (rw (here, none) (record { images = images; outcome = inr (no_memory, read_first codec content saved.kind saved.bytes sketch read, (ap Refused keeps.0, keeps.1)) }))
+  restores image name seen old new saved (Err error) (Ok u) same found none read back refused keeps images = absurd keeps
+  restores image name seen old new saved (Err error) (Err why) same found none read back refused keeps images =
       let here = subst (λ (s : SessionState T). at_name image s.images ≡ Some saved) (sym same) found in
-      by_parts (Restore image name) seen old new Done same (rw (here, none) (record { images = images; outcome = inl (sketch, refl, read, back, puts) }))
+      by_parts (Restore image name) seen old new (Refused why) same (rw (here, none) (record { images = images; outcome = inr (error, refused, (ap Refused keeps.0, keeps.1)) }))
 
   -- ---- an image that is shown
 
@@ -202,24 +172,14 @@ module _ {T C : Type 0} (slot : ℕ) (eq : T → T → Bool) (input : T → List
   loads_taken kind bytes most name seen old same (sketch, taken) =
       by_parts_alone (Load name kind bytes most) seen old (Refused NameTaken) same (rw taken (record { sketches = λ _. refl; images = λ _. refl }, refl))
 
-  pub loads_refused : (kind : ImageKind) (bytes : List ℕ) (most : ℕ) (name : List ℕ) (seen old : SessionState T) (reply : Reply T) (error : ErrorValue) → seen ≡ old → at_name name seen.sketches ≡ None →
-      IsLoadRefusal slot codec most kind bytes error → reply ≡ refused error → Did (Load name kind bytes most) old reply old
-  loads_refused kind bytes most name seen old reply error same none why r =
-      by_parts_alone (Load name kind bytes most) seen old reply same (rw none (record { images = λ _. refl; outcome = inr (error, why, (r, λ _. refl)) }))
-
-  pub loads_memory : (kind : ImageKind) (bytes : List ℕ) (most : ℕ) (name : List ℕ) (seen old : SessionState T) (reply : Reply T) (error : ErrorValue) (sketch : Sketch T) → seen ≡ old → at_name name seen.sketches ≡ None →
-      IsReadFrom codec content kind bytes sketch → load_fault slot codec most kind bytes ≡ None → reply ≡ refused error → error ≡ no_memory → Did (Load name kind bytes most) old reply old
-  loads_memory kind bytes most name seen old reply error sketch same none read accepted r e =
-      loads_refused kind bytes most name seen old reply no_memory same none (load_first slot codec content most kind bytes sketch read accepted) (r ∙ ap refused e)
-
-  -- an image that was loaded, where there was no memory for the name
-  pub loads_unnamed : (kind : ImageKind) (bytes : List ℕ) (most : ℕ) (name : List ℕ) (seen old new : SessionState T) (reply : Reply T) (error : ErrorValue) (sketch : Sketch T) → seen ≡ old → at_name name seen.sketches ≡ None →
-      IsReadFrom codec content kind bytes sketch → load_fault slot codec most kind bytes ≡ None → reply ≡ refused error → error ≡ no_memory → AreSame seen.sketches new.sketches → AreSame seen.images new.images → Did (Load name kind bytes most) old reply new
-  loads_unnamed kind bytes most name seen old new reply error sketch same none read accepted r e sketches images =
-      by_parts (Load name kind bytes most) seen old new reply same (rw none (record { images = images; outcome = inr (no_memory, load_first slot codec content most kind bytes sketch read accepted, (r ∙ ap refused e, sketches)) }))
-
-  -- an image that was loaded
-  pub loads_done : (kind : ImageKind) (bytes : List ℕ) (most : ℕ) (name : List ℕ) (seen old new : SessionState T) (sketch : Sketch T) → seen ≡ old → at_name name seen.sketches ≡ None →
-      IsReadFrom codec content kind bytes sketch → GivesBack eq codec content kind bytes sketch → TakesWithin slot codec content most sketch → load_fault slot codec most kind bytes ≡ None → Puts name sketch seen.sketches new.sketches → AreSame seen.images new.images → Did (Load name kind bytes most) old Done new
-  loads_done kind bytes most name seen old new sketch same none read back within accepted puts images =
-      by_parts (Load name kind bytes most) seen old new Done same (rw none (record { images = images; outcome = inl (sketch, refl, record { read = read; stands = back; within = within; accepted = accepted }, puts) }))
+  -- an image that was loaded, or not, under a free name
+  pub loads : (kind : ImageKind) (bytes : List ℕ) (most : ℕ) (name : List ℕ) (seen old new : SessionState T) (made : Result (Sketch T) ErrorValue) (result : Result ⊤ Refusal) → seen ≡ old → at_name name seen.sketches ≡ None →
+      IfOk made (IsReadFrom codec content kind bytes) → IfOk made (GivesBack eq codec content kind bytes) → IfOk made (TakesWithin slot codec content most) → (IsOk made → load_fault slot codec most kind bytes ≡ None) → IfErr made (IsLoadRefusal slot codec most kind bytes) →
+      Keeps name made seen.sketches result new.sketches → AreSame seen.images new.images → Did (Load name kind bytes most) old (done_or result) new
+  loads kind bytes most name seen old new (Ok sketch) (Ok u) same none read back within accepted refused keeps images =
+      by_parts (Load name kind bytes most) seen old new Done same (rw none (record { images = images; outcome = inl (sketch, refl, record { read = read; stands = back; within = within; accepted = accepted refl }, keeps) }))
+  loads kind bytes most name seen old new (Ok sketch) (Err why) same none read back within accepted refused keeps images =
+      by_parts (Load name kind bytes most) seen old new (Refused why) same (rw none (record { images = images; outcome = inr (no_memory, load_first slot codec content most kind bytes sketch read (accepted refl), (ap Refused keeps.0, keeps.1)) }))
+  loads kind bytes most name seen old new (Err error) (Ok u) same none read back within accepted refused keeps images = absurd keeps
+  loads kind bytes most name seen old new (Err error) (Err why) same none read back within accepted refused keeps images =
+      by_parts (Load name kind bytes most) seen old new (Refused why) same (rw none (record { images = images; outcome = inr (error, refused, (ap Refused keeps.0, keeps.1)) }))

@@ -5,7 +5,7 @@ use Rattle.std.specs.Option.{is_some}
 use Rattle.std.specs.List.{slice_get}
 use Rattle.std.proofs.lemmas.Bool.{true≢false, false≢true}
 use Rattle.std.proofs.lemmas.List.{length-append, set-append_left, set-append_right, get_or_append_left, get_or-append_right}
-use Rattle.datasketches.specs.declared.join.Join.{Join}
+use Rattle.datasketches.specs.Actions.{Join}
 use Rattle.datasketches.specs.declared.reply.Refusal.{Refusal}
 use Rattle.datasketches.specs.declared.reply.Refusal.TheVariants.{NoSuchName, SameName}
 use Rattle.datasketches.specs.declared.reply.Reply.{Reply}

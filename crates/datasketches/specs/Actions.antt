@@ -1,14 +1,32 @@
 -- The actions of a session, and the action of each command.
 use Rattle.std.specs.Prelude.{ℕ, ℤ, List}
 use Rattle.std.specs.String.{string_bytes}
+use Rattle.sketch_bloom.specs.Building.{Request}
+use Rattle.sketch_countmin.specs.declared.count_min_sizes.CountMinSizes.{CountMinSizes}
+use Rattle.sketch_frequencies.specs.State.{max_sample_size}
 use Rattle.sketch_frequencies.specs.declared.error_type.ErrorType.{ErrorType}
+use Rattle.sketch_frequencies.specs.declared.frequent_items_sizes.FrequentItemsSizes.{FrequentItemsSizes}
 use Rattle.datasketches.specs.declared.command.Command.{Command}
 use Rattle.datasketches.specs.declared.command.Command.TheVariants as command
 use Rattle.datasketches.specs.declared.image_kind.ImageKind.{ImageKind}
-use Rattle.datasketches.specs.declared.join.Join.{Join}
-use Rattle.datasketches.specs.declared.join.Join.TheVariants.{Merge, Union, Intersect, Difference}
-use Rattle.datasketches.specs.declared.shape.Shape.{Shape}
-use Rattle.datasketches.specs.declared.shape.Shape.TheVariants.{Frequent, FrequentSampled, CountI64, CountU64, Bloom}
+
+-- the kind of a new sketch and its sizes
+pub data Shape : Type 0 where
+  Frequent : FrequentItemsSizes → Shape
+  CountI64 : CountMinSizes → Shape
+  CountU64 : CountMinSizes → Shape
+  Bloom : Request → Shape
+
+-- the sizes of a sketch of frequent items whose purges sample as many counters as they may
+abbrev pub usual_sizes : ℕ → FrequentItemsSizes
+usual_sizes max_map_size = record { max_map_size = max_map_size; sample_size = max_sample_size max_map_size }
+
+-- a way to combine another sketch into one: a merge or a set operation
+pub data Join : Type 0 where
+  Merge : Join
+  Union : Join
+  Intersect : Join
+  Difference : Join
 
 -- a change of one sketch
 pub data Change (T : Type 0) : Type 0 where
@@ -34,12 +52,15 @@ pub data Action (T : Type 0) : Type 0 where
 
 -- the action of the command
 abbrev pub action_of : {T : Type 0} → Command T → Action T
-action_of (command.CreateFrequent name max_map_size) = Create (string_bytes name) (Frequent max_map_size)
+action_of (command.CreateFrequent name max_map_size) = Create (string_bytes name) (Frequent (usual_sizes max_map_size))
 action_of (command.CreateFrequentSampled name max_map_size sample_size) =
-    Create (string_bytes name) (FrequentSampled max_map_size sample_size)
-action_of (command.CreateCountI64 name hashes buckets seed) = Create (string_bytes name) (CountI64 hashes buckets seed)
-action_of (command.CreateCountU64 name hashes buckets seed) = Create (string_bytes name) (CountU64 hashes buckets seed)
-action_of (command.CreateBloom name bits hashes seed) = Create (string_bytes name) (Bloom bits hashes seed)
+    Create (string_bytes name) (Frequent (record { max_map_size = max_map_size; sample_size = sample_size }))
+action_of (command.CreateCountI64 name hashes buckets seed) =
+    Create (string_bytes name) (CountI64 (record { num_hashes = hashes; num_buckets = buckets; seed = seed }))
+action_of (command.CreateCountU64 name hashes buckets seed) =
+    Create (string_bytes name) (CountU64 (record { num_hashes = hashes; num_buckets = buckets; seed = seed }))
+action_of (command.CreateBloom name bits hashes seed) =
+    Create (string_bytes name) (Bloom (record { num_bits = bits; num_hashes = hashes; seed = seed }))
 action_of (command.Add name item weight) = Alter (string_bytes name) (Add item weight)
 action_of (command.AddSigned name item weight) = Alter (string_bytes name) (AddSigned item weight)
 action_of (command.Insert name item) = Alter (string_bytes name) (Insert item)

@@ -8,12 +8,7 @@ use Rattle.sketch_countmin.specs.History as count
 use Rattle.sketch_countmin.specs.History.{CountHistory}
 use Rattle.sketch_frequencies.specs.History as frequent
 use Rattle.sketch_frequencies.specs.History.{FrequentHistory}
-use Rattle.sketch_frequencies.specs.State.{max_sample_size}
-use Rattle.datasketches.specs.Actions.{action_of, Action, Action as action, Change, Change as change}
-use Rattle.datasketches.specs.declared.shape.Shape.{Shape}
-use Rattle.datasketches.specs.declared.shape.Shape.TheVariants as shape
-use Rattle.datasketches.specs.declared.join.Join.{Join}
-use Rattle.datasketches.specs.declared.join.Join.TheVariants as join
+use Rattle.datasketches.specs.Actions.{action_of, Action, Action as action, Change, Change as change, Join, Join as join, Shape, Shape as shape}
 use Rattle.datasketches.specs.Replies.{is_refused}
 use Rattle.datasketches.specs.declared.command.Command.{Command}
 use Rattle.datasketches.specs.declared.reply.Reply.{Reply}
@@ -48,11 +43,10 @@ module _ {T : Type 0} where
 
   -- the history of a new sketch of the shape
   abbrev pub begun : Shape → History T
-  begun (shape.Frequent max_map_size) = OfFrequent (frequent.New max_map_size (max_sample_size max_map_size))
-  begun (shape.FrequentSampled max_map_size sample_size) = OfFrequent (frequent.New max_map_size sample_size)
-  begun (shape.CountI64 hashes buckets seed) = OfCountI64 (count.New hashes buckets seed)
-  begun (shape.CountU64 hashes buckets seed) = OfCountU64 (count.New hashes buckets seed)
-  begun (shape.Bloom bits hashes seed) = OfBloom (bloom.New (words_for bits) hashes seed)
+  begun (shape.Frequent sizes) = OfFrequent (frequent.New sizes.max_map_size sizes.sample_size)
+  begun (shape.CountI64 sizes) = OfCountI64 (count.New sizes.num_hashes sizes.num_buckets sizes.seed)
+  begun (shape.CountU64 sizes) = OfCountU64 (count.New sizes.num_hashes sizes.num_buckets sizes.seed)
+  begun (shape.Bloom request) = OfBloom (bloom.New (words_for request.num_bits) request.num_hashes request.seed)
 
   -- the history of a sketch that was restored from an image of this history
   abbrev pub restored : History T → History T

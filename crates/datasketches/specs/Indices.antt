@@ -1,7 +1,7 @@
 -- Combining sketches at their indices.
 use Rattle.std.specs.Prelude.{◌≡◌, ℕ, Bool, List, Some, slice_set}
 use Rattle.std.specs.List.{slice_get}
-use Rattle.datasketches.specs.declared.join.Join.{Join}
+use Rattle.datasketches.specs.Actions.{Join}
 use Rattle.datasketches.specs.Histories.{joined}
 use Rattle.datasketches.specs.Joining.{Joins}
 use Rattle.datasketches.specs.Stands.{DoesWith}

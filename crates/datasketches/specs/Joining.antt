@@ -7,10 +7,10 @@ use Rattle.sketch_frequencies.specs.Steps.{JoinsEqual}
 use Rattle.sketch_countmin.specs.State.{CountState, SameShape}
 use Rattle.sketch_countmin.specs.State as count
 use Rattle.sketch_bloom.specs.State.{FilterState, IsCompatible, united, intersected, subtracted}
-use Rattle.datasketches.specs.declared.join.Join.{Join}
+use Rattle.datasketches.specs.Actions.{Join}
 use Rattle.datasketches.specs.declared.reply.Reply.{Reply}
 use Rattle.datasketches.specs.declared.reply.Reply.TheVariants.{Done}
-use Rattle.datasketches.specs.declared.join.Join.TheVariants.{Merge, Union, Intersect, Difference}
+use Rattle.datasketches.specs.Actions.Join.{Merge, Union, Intersect, Difference}
 use Rattle.datasketches.specs.declared.sketch.Sketch.{Sketch}
 use Rattle.datasketches.specs.declared.sketch.Sketch.TheVariants.{Frequent, CountI64, CountU64, Bloom}
 use Rattle.datasketches.specs.Replies.{refused, IsWrongKind, Becomes, max_signed, max_unsigned}

@@ -1,10 +1,13 @@
 -- Values under names.
-use Rattle.std.specs.Prelude.{◌≡◌, ◌<◌, ℕ, List, [], ◌∷◌, Option, Some, None, IfSome, bytes_eq, if◌then◌else◌}
+use Rattle.std.specs.Prelude.{◌≡◌, ◌<◌, ℕ, List, [], ◌∷◌, Option, Some, None, IfSome, Result, Ok, Err, ⊤, bytes_eq, if◌then◌else◌}
 use Rattle.std.specs.Global.{Global}
 use Rattle.std.specs.List.{slice_get}
 use Rattle.std.specs.Map.{lookup}
 use Rattle.std.specs.String.{string_bytes}
 use Rattle.std.specs.declared.string.String.{String}
+use Rattle.sketch_base.specs.Errors.{ErrorValue, no_memory}
+use Rattle.datasketches.specs.declared.reply.Refusal.{Refusal}
+use Rattle.datasketches.specs.declared.reply.Refusal.TheVariants.{Call}
 
 -- a name, as a session keeps it
 abbrev pub Name : Type 0
@@ -33,6 +36,14 @@ module _ {V : Type 0} where
   -- each name keeps its value
   abbrev pub AreSame : List (List ℕ × V) → List (List ℕ × V) → Type 0
   AreSame old new = (name : List ℕ) → at_name name new ≡ at_name name old
+
+  -- a value that was made was put under the name. Or each name keeps its value, and the error is that of making it, or `NoMemory`
+  abbrev pub Keeps :
+      List ℕ → Result V ErrorValue → List (List ℕ × V) → Result ⊤ Refusal → List (List ℕ × V) → Type 0
+  Keeps name (Ok value) old (Ok _) new = Puts name value old new
+  Keeps name (Ok value) old (Err why) new = (why ≡ Call no_memory) × AreSame old new
+  Keeps name (Err error) old (Ok _) new = ⊥
+  Keeps name (Err error) old (Err why) new = (why ≡ Call error) × AreSame old new
 
   -- the value at the index, if any
   abbrev pub at_index : Option ℕ → List V → Option V

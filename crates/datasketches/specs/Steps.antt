@@ -5,8 +5,8 @@ use Rattle.std.specs.declared.vec.Vec.{Vec}
 use Rattle.sketch_frequencies.specs.Items.{Codec}
 use Rattle.sketch_base.specs.Errors.{ErrorValue, invalid_argument, no_memory}
 use Rattle.datasketches.specs.Actions.{action_of, Action, Action as action, Change}
-use Rattle.datasketches.specs.declared.shape.Shape.{Shape}
-use Rattle.datasketches.specs.declared.join.Join.{Join}
+use Rattle.datasketches.specs.Actions.{Shape}
+use Rattle.datasketches.specs.Actions.{Join}
 use Rattle.datasketches.specs.Answering.{Tells, Lists, status_of}
 use Rattle.datasketches.specs.Changing.{Changes}
 use Rattle.datasketches.specs.Histories.{begun, changed, joined}

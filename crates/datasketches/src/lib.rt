@@ -10,13 +10,13 @@
 mod command;
 mod image;
 mod image_kind;
-mod join;
+mod joining;
 pub mod laws;
 mod name_map;
 mod named_sketches;
+mod new_sketch;
 mod reply;
 mod session;
-mod shape;
 mod sketch;
 
 pub use command::Command;
@@ -35,8 +35,8 @@ pub mod bloom {
 /// Count-Min sketches.
 pub mod countmin {
     pub use sketch_countmin::{
-        CountMinSketch, CountMinValue, Error, ErrorKind, Fault, UnsignedCountMinValue,
-        suggest_num_buckets, suggest_num_hashes,
+        CountMinSizes, CountMinSketch, CountMinValue, Error, ErrorKind, Fault,
+        UnsignedCountMinValue, suggest_num_buckets, suggest_num_hashes,
     };
 }
 
@@ -44,7 +44,7 @@ pub mod countmin {
 pub mod frequencies {
     pub use sketch_base::{SketchBytes, SketchSlice};
     pub use sketch_frequencies::{
-        EMPTY_FLAG_MASK, Error, ErrorKind, ErrorType, Fault, FrequentItemValue,
+        EMPTY_FLAG_MASK, Error, ErrorKind, ErrorType, Fault, FrequentItemValue, FrequentItemsSizes,
         FrequentItemsSketch, HashKey, ItemBounds, ItemKey, OwnedKey, PREAMBLE_LONGS_EMPTY,
         PREAMBLE_LONGS_NONEMPTY, ReversePurgeItemHashMap, ReversePurgeItemIter, Row,
         SERIAL_VERSION, TableKey, suggest_max_map_size,

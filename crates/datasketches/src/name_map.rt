@@ -1,11 +1,12 @@
 //! Maps from names to values.
-ghost use Rattle.std.specs.Prelude.{◌≡◌, [], None, Some, is_some, string_bytes, MatchOption, OnOk, OnErr, IfErr};
+ghost use Rattle.std.specs.Prelude.{◌≡◌, [], None, Some, is_some, string_bytes, MatchOption, OnOk, OnErr, IfOk, IfErr};
 ghost use Rattle.sketch_base.specs.Errors.{no_memory};
 ghost use Rattle.std.specs.Borrow.{sem};
 ghost use Rattle.std.specs.Option.{option_copied_mut};
 ghost use Rattle.datasketches.specs.Lending.{LendsValue};
-ghost use Rattle.datasketches.specs.Names.{at_name, index_of, Puts, AreSame};
+ghost use Rattle.datasketches.specs.Names.{at_name, index_of, Puts, AreSame, Keeps};
 
+use crate::reply::Refusal;
 use sketch_base::{Error, MapState};
 use std::alloc::Global;
 use std::collections::HashMap;
@@ -82,12 +83,23 @@ impl<V: Drop> NameMap<V> {
         }
     }
 
-    /// Inserts a value under a name that has none.
+    /// Inserts a value that was made, under a name that has none.
     ///
     /// # Errors
     ///
-    /// Returns `NoMemory` if the entry cannot be allocated. Each name then has the same value as before.
-    pub fn insert(&mut self, name: String, value: V) -> Result<(), Error>
+    /// Returns the error of making it, or `NoMemory` if the entry cannot be allocated. Each name then has the same value as
+    /// before.
+    pub fn keep(&mut self, alloc: Global, name: &str, made: Result<V, Error>) -> Result<(), Refusal>
+        requires free { at_name name.now self.old ≡ None }
+        ensures { Keeps name.now made self.old result self.new }
+    {
+        let value = made?;
+        let name = copied(alloc, name)?;
+        Ok(self.insert(name, value)?)
+    }
+
+    /// Inserts a value under a name that has none. Returns `NoMemory` if the entry cannot be allocated.
+    fn insert(&mut self, name: String, value: V) -> Result<(), Error>
         requires free { at_name (string_bytes name) self.old ≡ None }
         ensures put { OnOk result (Puts (string_bytes name) value self.old self.new) }
         ensures same { OnErr result (AreSame self.old self.new) }
@@ -103,6 +115,14 @@ impl<V: Drop> NameMap<V> {
             }
         }
     }
+}
+
+/// Returns a copy of a name. Returns `NoMemory` if it cannot be allocated.
+fn copied(alloc: Global, name: &str) -> Result<String, Error>
+    ensures copy { IfOk result (λ copy. string_bytes copy ≡ name.now) }
+    ensures err { IfErr result (λ e. e ≡ no_memory) }
+{
+    Ok(String::from_str(alloc, name)?)
 }
 
 /// Returns the index of the name's value, if any.

@@ -4,7 +4,7 @@ ghost use Rattle.datasketches.specs.Indices.{JoinsAt};
 ghost use Rattle.datasketches.specs.Replies.{done_or};
 ghost use Rattle.datasketches.specs.Steps.{JoinsNamed};
 
-use crate::join::Join;
+use crate::joining::Joining;
 use crate::name_map::{NameMap, index_of};
 use crate::reply::Refusal;
 use crate::sketch::Sketch;
@@ -16,10 +16,10 @@ impl<T: Eq + Hash + Clone + Drop> NameMap<Sketch<T>> {
     /// # Errors
     ///
     /// Returns `NoSuchName` if a name has no sketch, `SameName` if both names are the same, and the errors of
-    /// [`Sketch::join`].
-    pub fn join(&mut self, into: &str, other: &str, join: Join) -> Result<(), Refusal>
+    /// [`Joining::join`].
+    pub fn join<J: Joining<T>>(&mut self, into: &str, other: &str) -> Result<(), Refusal>
         requires clones { (x y : T) → T.is_clone x y → IsTrue (T.eq x y) }
-        ensures { JoinsNamed T.eq join into.now other.now self.old (done_or result) self.new }
+        ensures { JoinsNamed T.eq J.join into.now other.now self.old (done_or result) self.new }
     {
         let Some(index) = index_of(&self.indices, into) else {
             return Err(Refusal::NoSuchName);
@@ -30,28 +30,27 @@ impl<T: Eq + Hash + Clone + Drop> NameMap<Sketch<T>> {
         if index == from {
             return Err(Refusal::SameName);
         }
-        join_at(&mut self.values, index, from, join)
+        join_at::<T, J>(&mut self.values, index, from)
     }
 }
 
 /// Combines the sketch at index `other` into the one at index `into`.
-fn join_at<T: Eq + Hash + Clone + Drop>(
+fn join_at<T: Eq + Hash + Clone + Drop, J: Joining<T>>(
     sketches: &mut [Sketch<T>],
     into: usize,
     other: usize,
-    join: Join,
 ) -> Result<(), Refusal>
     requires clones { (x y : T) → T.is_clone x y → IsTrue (T.eq x y) }
     requires into_below { into < length sketches.old }
     requires other_below { other < length sketches.old }
     requires apart { into ≢ other }
-    ensures { JoinsAt T.eq join sketches.old into other (done_or result) sketches.new }
+    ensures { JoinsAt T.eq J.join sketches.old into other (done_or result) sketches.new }
 {
     if into < other {
         let (front, back) = sketches.split_at_mut(other);
-        front[into].join(join, &back[0])
+        J::join(&mut front[into], &back[0])
     } else {
         let (front, back) = sketches.split_at_mut(into);
-        back[0].join(join, &front[other])
+        J::join(&mut back[0], &front[other])
     }
 }

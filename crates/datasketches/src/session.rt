@@ -2,7 +2,7 @@
 ghost use Rattle.std.specs.Prelude.{◌≡◌, List, Result, [], true, None, Some, IfOk, IfErr, OnErr, IsTrue, string_bytes};
 ghost use Rattle.sketch_base.specs.Errors.{no_memory};
 ghost use Rattle.counter_table.specs.Bytes.{option_bytes};
-ghost use Rattle.datasketches.specs.Actions.{Action, Change, action_of};
+ghost use Rattle.datasketches.specs.Actions.{Action, Change, Join, Shape, action_of, usual_sizes};
 ghost use Rattle.datasketches.specs.SessionStandsFor.{SessionStandsFor};
 ghost use Rattle.datasketches.specs.Histories.{Assignment, History, nothing_named, after_one, after_one_told, after, after_told};
 ghost use Rattle.datasketches.specs.Loading.{IsTold, AreTold};
@@ -16,13 +16,17 @@ ghost use Rattle.datasketches.specs.Steps.{Step, Run};
 use crate::command::Command;
 use crate::image::Image;
 use crate::image_kind::ImageKind;
-use crate::join::Join;
+use crate::joining::{Difference, Intersect, Joining, Merge, Union};
 use crate::name_map::NameMap;
+use crate::new_sketch::{NewSketch, SignedCounts, UnsignedCounts};
 use crate::reply::{Bounds, Refusal, Reply, Status};
-use crate::shape::Shape;
 use crate::sketch::Sketch;
 use sketch_base::{Error, MapState};
-use sketch_frequencies::{ErrorType, FrequentItemValue, ItemKey, OwnedKey, Row, TableKey};
+use sketch_bloom::BloomFilterBuilder;
+use sketch_countmin::CountMinSizes;
+use sketch_frequencies::{
+    ErrorType, FrequentItemValue, FrequentItemsSizes, ItemKey, OwnedKey, Row, TableKey,
+};
 use std::alloc::Global;
 use std::fmt;
 use std::hash::{Hash, RandomState};
@@ -161,84 +165,49 @@ impl<T: FrequentItemValue + Clone + Drop> Session<T> {
     /// changes nothing.
     pub fn create_frequent_items(&mut self, name: &str, max_map_size: usize) -> Result<(), Refusal>
         ensures { Performed (option_bytes T.row) T.eq T.hash_input T.codec T.content
-            (Action.Create name.now (Shape.Frequent max_map_size)) self.old (done_or result) self.new }
+            (Action.Create name.now (Shape.Frequent (usual_sizes max_map_size))) self.old (done_or result) self.new }
     {
-        self.create(name, Shape::Frequent { max_map_size })
+        self.create(name, FrequentItemsSizes::new(max_map_size))
     }
 
-    /// Creates a sketch as [`create_frequent_items`](Self::create_frequent_items) does, whose purges sample `sample_size`
-    /// counters.
-    pub fn create_frequent_items_sampled(
+    /// Creates a sketch as [`create_frequent_items`](Self::create_frequent_items) does, with a sample size.
+    pub fn create_frequent_items_with_sizes(
         &mut self,
         name: &str,
-        max_map_size: usize,
-        sample_size: usize,
+        sizes: FrequentItemsSizes,
     ) -> Result<(), Refusal>
         ensures { Performed (option_bytes T.row) T.eq T.hash_input T.codec T.content
-            (Action.Create name.now (Shape.FrequentSampled max_map_size sample_size)) self.old (done_or result) self.new }
+            (Action.Create name.now (Shape.Frequent sizes)) self.old (done_or result) self.new }
     {
-        let shape = Shape::FrequentSampled {
-            max_map_size,
-            sample_size,
-        };
-        self.create(name, shape)
+        self.create(name, sizes)
     }
 
     /// Creates a Count-Min sketch of signed weights under the name.
-    pub fn create_count_min_i64(
-        &mut self,
-        name: &str,
-        num_hashes: u8,
-        num_buckets: u32,
-        seed: u64,
-    ) -> Result<(), Refusal>
+    pub fn create_count_min_i64(&mut self, name: &str, sizes: CountMinSizes) -> Result<(), Refusal>
         ensures { Performed (option_bytes T.row) T.eq T.hash_input T.codec T.content
-            (Action.Create name.now (Shape.CountI64 num_hashes num_buckets seed)) self.old (done_or result) self.new }
+            (Action.Create name.now (Shape.CountI64 sizes)) self.old (done_or result) self.new }
     {
-        let shape = Shape::CountI64 {
-            num_hashes,
-            num_buckets,
-            seed,
-        };
-        self.create(name, shape)
+        self.create(name, SignedCounts(sizes))
     }
 
     /// Creates a Count-Min sketch of nonnegative weights under the name.
-    pub fn create_count_min_u64(
-        &mut self,
-        name: &str,
-        num_hashes: u8,
-        num_buckets: u32,
-        seed: u64,
-    ) -> Result<(), Refusal>
+    pub fn create_count_min_u64(&mut self, name: &str, sizes: CountMinSizes) -> Result<(), Refusal>
         ensures { Performed (option_bytes T.row) T.eq T.hash_input T.codec T.content
-            (Action.Create name.now (Shape.CountU64 num_hashes num_buckets seed)) self.old (done_or result) self.new }
+            (Action.Create name.now (Shape.CountU64 sizes)) self.old (done_or result) self.new }
     {
-        let shape = Shape::CountU64 {
-            num_hashes,
-            num_buckets,
-            seed,
-        };
-        self.create(name, shape)
+        self.create(name, UnsignedCounts(sizes))
     }
 
-    /// Creates a Bloom filter of at least `num_bits` bits under the name.
+    /// Creates a Bloom filter of the builder's size under the name.
     pub fn create_bloom_filter(
         &mut self,
         name: &str,
-        num_bits: u64,
-        num_hashes: u16,
-        seed: u64,
+        sizes: BloomFilterBuilder,
     ) -> Result<(), Refusal>
         ensures { Performed (option_bytes T.row) T.eq T.hash_input T.codec T.content
-            (Action.Create name.now (Shape.Bloom num_bits num_hashes seed)) self.old (done_or result) self.new }
+            (Action.Create name.now (Shape.Bloom sizes)) self.old (done_or result) self.new }
     {
-        let shape = Shape::Bloom {
-            num_bits,
-            num_hashes,
-            seed,
-        };
-        self.create(name, shape)
+        self.create(name, sizes)
     }
 
     /// Adds an item with a weight to a sketch of frequent items, or to a Count-Min sketch of nonnegative weights.
@@ -353,7 +322,7 @@ impl<T: FrequentItemValue + Clone + Drop> Session<T> {
         ensures { Performed (option_bytes T.row) T.eq T.hash_input T.codec T.content
             (Action.Combine into.now other.now Join.Merge) self.old (done_or result) self.new }
     {
-        self.join(into, other, Join::Merge)
+        self.join::<Merge>(into, other)
     }
 
     /// Adds the positions of the filter `other` to the filter `into`.
@@ -362,7 +331,7 @@ impl<T: FrequentItemValue + Clone + Drop> Session<T> {
         ensures { Performed (option_bytes T.row) T.eq T.hash_input T.codec T.content
             (Action.Combine into.now other.now Join.Union) self.old (done_or result) self.new }
     {
-        self.join(into, other, Join::Union)
+        self.join::<Union>(into, other)
     }
 
     /// Keeps in the filter `into` only the positions that are also in the filter `other`.
@@ -371,7 +340,7 @@ impl<T: FrequentItemValue + Clone + Drop> Session<T> {
         ensures { Performed (option_bytes T.row) T.eq T.hash_input T.codec T.content
             (Action.Combine into.now other.now Join.Intersect) self.old (done_or result) self.new }
     {
-        self.join(into, other, Join::Intersect)
+        self.join::<Intersect>(into, other)
     }
 
     /// Removes the positions of the filter `other` from the filter `into`.
@@ -380,7 +349,7 @@ impl<T: FrequentItemValue + Clone + Drop> Session<T> {
         ensures { Performed (option_bytes T.row) T.eq T.hash_input T.codec T.content
             (Action.Combine into.now other.now Join.Difference) self.old (done_or result) self.new }
     {
-        self.join(into, other, Join::Difference)
+        self.join::<Difference>(into, other)
     }
 
     /// Saves an image of a sketch under the name `image`.
@@ -399,10 +368,8 @@ impl<T: FrequentItemValue + Clone + Drop> Session<T> {
         if self.images.contains_name(image) {
             return Err(Refusal::NameTaken);
         }
-        let saved = sketch.save()?;
-        let image = copied(self.alloc, image)?;
-        self.images.insert(image, saved)?;
-        Ok(())
+        let saved = sketch.save();
+        self.images.keep(self.alloc, image, saved)
     }
 
     /// Creates a sketch from a saved image.
@@ -419,10 +386,8 @@ impl<T: FrequentItemValue + Clone + Drop> Session<T> {
         if self.sketches.contains_name(name) {
             return Err(Refusal::NameTaken);
         }
-        let sketch = Sketch::restore(self.alloc, saved.kind(), saved.bytes(), self.key)?;
-        let name = copied(self.alloc, name)?;
-        self.sketches.insert(name, sketch)?;
-        Ok(())
+        let read = Sketch::restore(self.alloc, saved.kind(), saved.bytes(), self.key);
+        self.sketches.keep(self.alloc, name, read)
     }
 
     /// Creates a sketch from the bytes of an untrusted image, if it takes at most `max_bytes`.
@@ -444,10 +409,8 @@ impl<T: FrequentItemValue + Clone + Drop> Session<T> {
         if self.sketches.contains_name(name) {
             return Err(Refusal::NameTaken);
         }
-        let sketch = Sketch::load(self.alloc, kind, image, max_bytes, self.key)?;
-        let name = copied(self.alloc, name)?;
-        self.sketches.insert(name, sketch)?;
-        Ok(())
+        let read = Sketch::load(self.alloc, kind, image, max_bytes, self.key);
+        self.sketches.keep(self.alloc, name, read)
     }
 
     /// Returns a copy of the bytes of a saved image.
@@ -546,44 +509,48 @@ impl<T: FrequentItemValue + Clone + Drop> Session<T> {
                 name,
                 max_map_size,
                 sample_size,
-            } => Reply::from_outcome(self.create_frequent_items_sampled(
-                name.as_str(),
-                max_map_size,
-                sample_size,
-            )),
+            } => {
+                let sizes = FrequentItemsSizes {
+                    max_map_size,
+                    sample_size,
+                };
+                Reply::from_outcome(self.create_frequent_items_with_sizes(name.as_str(), sizes))
+            }
             Command::CreateCountI64 {
                 name,
                 num_hashes,
                 num_buckets,
                 seed,
-            } => Reply::from_outcome(self.create_count_min_i64(
-                name.as_str(),
-                num_hashes,
-                num_buckets,
-                seed,
-            )),
+            } => {
+                let sizes = CountMinSizes {
+                    num_hashes,
+                    num_buckets,
+                    seed,
+                };
+                Reply::from_outcome(self.create_count_min_i64(name.as_str(), sizes))
+            }
             Command::CreateCountU64 {
                 name,
                 num_hashes,
                 num_buckets,
                 seed,
-            } => Reply::from_outcome(self.create_count_min_u64(
-                name.as_str(),
-                num_hashes,
-                num_buckets,
-                seed,
-            )),
+            } => {
+                let sizes = CountMinSizes {
+                    num_hashes,
+                    num_buckets,
+                    seed,
+                };
+                Reply::from_outcome(self.create_count_min_u64(name.as_str(), sizes))
+            }
             Command::CreateBloom {
                 name,
                 num_bits,
                 num_hashes,
                 seed,
-            } => Reply::from_outcome(self.create_bloom_filter(
-                name.as_str(),
-                num_bits,
-                num_hashes,
-                seed,
-            )),
+            } => {
+                let sizes = BloomFilterBuilder::with_size(num_bits, num_hashes).seed(seed);
+                Reply::from_outcome(self.create_bloom_filter(name.as_str(), sizes))
+            }
             Command::Add { name, item, weight } => Reply::from_outcome(self.add(
                 name.as_str(),
                 item,
@@ -674,25 +641,23 @@ impl<T: FrequentItemValue + Clone + Drop> Session<T> {
         Ok(replies)
     }
 
-    fn create(&mut self, name: &str, shape: Shape) -> Result<(), Refusal>
+    fn create<S: NewSketch<T> + Drop>(&mut self, name: &str, sizes: S) -> Result<(), Refusal>
         ensures { Performed (option_bytes T.row) T.eq T.hash_input T.codec T.content
-            (Action.Create name.now shape) self.old (done_or result) self.new }
+            (Action.Create name.now (S.shape sizes)) self.old (done_or result) self.new }
     {
         if self.sketches.contains_name(name) {
             return Err(Refusal::NameTaken);
         }
-        let sketch = Sketch::new(self.alloc, shape, self.key)?;
-        let name = copied(self.alloc, name)?;
-        self.sketches.insert(name, sketch)?;
-        Ok(())
+        let made = sizes.create(self.alloc, self.key);
+        self.sketches.keep(self.alloc, name, made)
     }
 
-    fn join(&mut self, into: &str, other: &str, join: Join) -> Result<(), Refusal>
+    fn join<J: Joining<T>>(&mut self, into: &str, other: &str) -> Result<(), Refusal>
         requires clones { (x y : T) → T.is_clone x y → IsTrue (T.eq x y) }
         ensures { Performed (option_bytes T.row) T.eq T.hash_input T.codec T.content
-            (Action.Combine into.now other.now join) self.old (done_or result) self.new }
+            (Action.Combine into.now other.now J.join) self.old (done_or result) self.new }
     {
-        self.sketches.join(into, other, join)
+        self.sketches.join::<J>(into, other)
     }
 
     /// Returns the sketch of the name. Returns `NoSuchName` if there is none.
@@ -760,12 +725,4 @@ fn contains_in<T: Drop>(given: Result<Reply<T>, Refusal>) -> Result<bool, Refusa
         Ok(_) => Err(Refusal::WrongKind),
         Err(refusal) => Err(refusal),
     }
-}
-
-/// Returns a copy of a string. Returns `NoMemory` if it cannot be allocated.
-fn copied(alloc: Global, text: &str) -> Result<String, Error>
-    ensures copy { IfOk result (λ copy. string_bytes copy ≡ text.now) }
-    ensures err { IfErr result (λ e. e ≡ no_memory) }
-{
-    Ok(String::from_str(alloc, text)?)
 }

@@ -15,11 +15,9 @@ ghost use Rattle.datasketches.specs.Stands.{StandsFor, Carries, CarriesBoth};
 
 use crate::image::Image;
 use crate::image_kind::ImageKind;
-use crate::join::Join;
 use crate::reply::{Refusal, Reply, Status};
-use crate::shape::Shape;
 use sketch_base::Error;
-use sketch_bloom::{BloomFilter, BloomFilterBuilder, laws as bloom};
+use sketch_bloom::{BloomFilter, laws as bloom};
 use sketch_countmin::{CountMinSketch, laws as countmin};
 use sketch_frequencies::{
     ErrorType, FrequentItemValue, FrequentItemsSketch, ItemKey, OwnedKey, Row, TableKey,
@@ -47,61 +45,9 @@ macro_rules! of_kind {
     };
 }
 
-impl<T: Eq + Hash + Drop> Sketch<T> {
-    /// Creates an empty sketch of the shape. The table of frequent items hashes under `key`.
-    ///
-    /// # Errors
-    ///
-    /// Returns the error of the kind's own constructor.
-    pub fn new(alloc: Global, shape: Shape, key: TableKey) -> Result<Self, Error>
-        ensures ok { IfOk result (λ sketch. sketch ≡ empty_sketch shape) }
-        ensures stands { IfOk result (λ sketch. StandsFor T.eq sketch (begun shape)) }
-        ensures accepted { IsOk result → fault_of shape ≡ None }
-        ensures refused { IfErr result (λ e. e ≡ refusal_of (fault_of shape)) }
-    {
-        match shape {
-            Shape::Frequent { max_map_size } => {
-                of_kind!(
-                    Frequent,
-                    FrequentItemsSketch::with_key(alloc, max_map_size, key)
-                )
-            }
-            Shape::FrequentSampled {
-                max_map_size,
-                sample_size,
-            } => of_kind!(
-                Frequent,
-                FrequentItemsSketch::with_sample_size_and_key(alloc, max_map_size, sample_size, key)
-            ),
-            Shape::CountI64 {
-                num_hashes,
-                num_buckets,
-                seed,
-            } => of_kind!(
-                CountI64,
-                CountMinSketch::with_seed(alloc, num_hashes, num_buckets, seed)
-            ),
-            Shape::CountU64 {
-                num_hashes,
-                num_buckets,
-                seed,
-            } => of_kind!(
-                CountU64,
-                CountMinSketch::with_seed(alloc, num_hashes, num_buckets, seed)
-            ),
-            Shape::Bloom {
-                num_bits,
-                num_hashes,
-                seed,
-            } => of_kind!(
-                Bloom,
-                BloomFilterBuilder::with_size(num_bits, num_hashes)
-                    .seed(seed)
-                    .build(alloc)
-            ),
-        }
-    }
+pub(crate) use of_kind;
 
+impl<T: Eq + Hash + Drop> Sketch<T> {
     /// Adds an item with a weight to a sketch of frequent items, or to a Count-Min sketch of nonnegative weights.
     ///
     /// # Errors
@@ -217,27 +163,6 @@ impl<T: Eq + Hash + Drop> Sketch<T> {
                 Ok(())
             }
             _ => Err(Refusal::WrongKind),
-        }
-    }
-
-    /// Combines another filter into this one, if both are filters.
-    fn combine(&mut self, join: Join, other: &Sketch<T>) -> Result<(), Refusal>
-        requires { join ≢ Join.Merge }
-        ensures own { Joins T.eq join other.now self.old (done_or result) self.new }
-        ensures carries { OnOk result (CarriesBoth T.eq (joined join) self.old other.now self.new) }
-        ensures refused { OnErr result (self.new ≡ self.old) }
-    {
-        let Sketch::Bloom(other) = other else {
-            return Err(Refusal::WrongKind);
-        };
-        let Sketch::Bloom(filter) = self else {
-            return Err(Refusal::WrongKind);
-        };
-        match join {
-            Join::Merge => Err(Refusal::WrongKind),
-            Join::Union => Ok(filter.union(other)?),
-            Join::Intersect => Ok(filter.intersect(other)?),
-            Join::Difference => Ok(filter.difference(other)?),
         }
     }
 
@@ -434,47 +359,6 @@ impl<T: FrequentItemValue + Drop> Sketch<T> {
 }
 
 impl<T: Eq + Hash + Clone + Drop> Sketch<T> {
-    /// Combines another sketch into this one, if both are of one kind that supports it.
-    ///
-    /// # Errors
-    ///
-    /// Returns `WrongKind` if the kinds differ or do not support it, and the error of the sketch's own call. The sketch
-    /// is then unchanged.
-    pub fn join(&mut self, join: Join, other: &Sketch<T>) -> Result<(), Refusal>
-        requires clones { (x y : T) → T.is_clone x y → IsTrue (T.eq x y) }
-        ensures own { Joins T.eq join other.now self.old (done_or result) self.new }
-        ensures carries { OnOk result (CarriesBoth T.eq (joined join) self.old other.now self.new) }
-        ensures refused { OnErr result (self.new ≡ self.old) }
-    {
-        match join {
-            Join::Merge => self.merge(other),
-            Join::Union | Join::Intersect | Join::Difference => self.combine(join, other),
-        }
-    }
-
-    fn merge(&mut self, other: &Sketch<T>) -> Result<(), Refusal>
-        requires clones { (x y : T) → T.is_clone x y → IsTrue (T.eq x y) }
-        ensures own { Merges T.eq other.now self.old (done_or result) self.new }
-        ensures carries { OnOk result (CarriesBoth T.eq (joined Join.Merge) self.old other.now self.new) }
-        ensures refused { OnErr result (self.new ≡ self.old) }
-    {
-        match self {
-            Sketch::Frequent(sketch) => match other {
-                Sketch::Frequent(other) => Ok(sketch.merge(other)?),
-                _ => Err(Refusal::WrongKind),
-            },
-            Sketch::CountI64(sketch) => match other {
-                Sketch::CountI64(other) => Ok(sketch.merge(other)?),
-                _ => Err(Refusal::WrongKind),
-            },
-            Sketch::CountU64(sketch) => match other {
-                Sketch::CountU64(other) => Ok(sketch.merge(other)?),
-                _ => Err(Refusal::WrongKind),
-            },
-            Sketch::Bloom(_) => Err(Refusal::WrongKind),
-        }
-    }
-
     /// Returns the items above a threshold, if the sketch is of frequent items.
     ///
     /// # Errors

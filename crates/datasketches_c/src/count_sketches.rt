@@ -21,7 +21,7 @@ use crate::images::to_bytes;
 use crate::kind::on_kind;
 use crate::making::{put_made, put_read};
 use crate::status_code::{BAD_FRACTION, OK};
-use sketch_countmin::CountMinSketch;
+use sketch_countmin::{CountMinSizes, CountMinSketch};
 use std::alloc::Global;
 
 /// Puts an empty Count-Min sketch with weights in `u64` into the handle, and frees what the handle had. The sketch has
@@ -49,8 +49,12 @@ pub extern "C" fn ds_count_min_u64_new(
     ensures refused { OnRefused result ((handle.new.value ≡ handle.old.value)
         × (result ≡ refusal_number (refusal_of (shape_fault num_hashes num_buckets seed)).fault)) }
 {
-    let made = CountMinSketch::<u64>::with_seed(alloc, num_hashes, num_buckets, seed);
-    put_made(alloc, handle, made)
+    let sizes = CountMinSizes {
+        num_hashes,
+        num_buckets,
+        seed,
+    };
+    put_made(alloc, handle, CountMinSketch::<u64>::with_sizes(alloc, sizes))
 }
 
 /// Puts an empty Count-Min sketch with weights in `i64` into the handle, and frees what the handle had. The sketch has
@@ -78,8 +82,12 @@ pub extern "C" fn ds_count_min_i64_new(
     ensures refused { OnRefused result ((handle.new.value ≡ handle.old.value)
         × (result ≡ refusal_number (refusal_of (shape_fault num_hashes num_buckets seed)).fault)) }
 {
-    let made = CountMinSketch::<i64>::with_seed(alloc, num_hashes, num_buckets, seed);
-    put_made(alloc, handle, made)
+    let sizes = CountMinSizes {
+        num_hashes,
+        num_buckets,
+        seed,
+    };
+    put_made(alloc, handle, CountMinSketch::<i64>::with_sizes(alloc, sizes))
 }
 
 /// Adds the other sketch's cells and total. The other sketch stays as it was.

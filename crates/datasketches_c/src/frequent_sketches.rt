@@ -23,7 +23,7 @@ use crate::handle::SketchHandle;
 use crate::images::to_bytes;
 use crate::join::join;
 use crate::making::{put_made, put_read};
-use sketch_frequencies::{FrequentItemsSketch, HashKey, TableKey};
+use sketch_frequencies::{FrequentItemsSizes, FrequentItemsSketch, HashKey, TableKey};
 use std::alloc::Global;
 
 /// Puts an empty sketch of frequent strings into the handle, and frees what the handle had. Its table may grow to
@@ -54,13 +54,11 @@ pub extern "C" fn ds_frequent_items_string_new_with_key(
         × (result ≡ refusal_number (refusal_of (sizes_fault max_map_size sample_size)).fault)) }
 {
     let key = TableKey::Keyed(HashKey::new(k0, k1));
-    let made = FrequentItemsSketch::<String>::with_sample_size_and_key(
-        alloc,
+    let sizes = FrequentItemsSizes {
         max_map_size,
         sample_size,
-        key,
-    );
-    put_made(alloc, handle, made)
+    };
+    put_made(alloc, handle, FrequentItemsSketch::<String>::with_sizes(alloc, sizes, key))
 }
 
 /// Puts an empty sketch of frequent numbers into the handle, and frees what the handle had. Its table may grow to
@@ -91,13 +89,11 @@ pub extern "C" fn ds_frequent_items_u64_new_with_key(
         × (result ≡ refusal_number (refusal_of (sizes_fault max_map_size sample_size)).fault)) }
 {
     let key = TableKey::Keyed(HashKey::new(k0, k1));
-    let made = FrequentItemsSketch::<u64>::with_sample_size_and_key(
-        alloc,
+    let sizes = FrequentItemsSizes {
         max_map_size,
         sample_size,
-        key,
-    );
-    put_made(alloc, handle, made)
+    };
+    put_made(alloc, handle, FrequentItemsSketch::<u64>::with_sizes(alloc, sizes, key))
 }
 
 /// Puts an empty sketch of frequent numbers into the handle, and frees what the handle had. Its table may grow to
@@ -128,13 +124,11 @@ pub extern "C" fn ds_frequent_items_i64_new_with_key(
         × (result ≡ refusal_number (refusal_of (sizes_fault max_map_size sample_size)).fault)) }
 {
     let key = TableKey::Keyed(HashKey::new(k0, k1));
-    let made = FrequentItemsSketch::<i64>::with_sample_size_and_key(
-        alloc,
+    let sizes = FrequentItemsSizes {
         max_map_size,
         sample_size,
-        key,
-    );
-    put_made(alloc, handle, made)
+    };
+    put_made(alloc, handle, FrequentItemsSketch::<i64>::with_sizes(alloc, sizes, key))
 }
 
 /// Merges the other sketch into this one, which then stands for both streams and keeps its own sizes. The other sketch

@@ -2,7 +2,8 @@
 use counter_table::{ReversePurgeItemHashMap, Slot};
 use sketch_base::SketchBytes;
 use sketch_frequencies::{
-    Error, ErrorType, FrequentItemValue, FrequentItemsSketch, ItemBounds, Row, suggest_max_map_size,
+    Error, ErrorType, FrequentItemValue, FrequentItemsSizes, FrequentItemsSketch, ItemBounds, Row,
+    TableKey, suggest_max_map_size,
 };
 use std::alloc::Global;
 
@@ -24,6 +25,15 @@ pub fn sketch_of_visitors(
     let mut sketch = FrequentItemsSketch::new(alloc, 1024)?;
     sketch.update_all(visitors)?;
     Ok(sketch)
+}
+
+/// Creates a sketch whose purges are cheap.
+pub fn with_cheap_purges(alloc: Global, key: TableKey) -> Result<FrequentItemsSketch<u64>, Error> {
+    let sizes = FrequentItemsSizes {
+        max_map_size: 1024,
+        sample_size: 64,
+    };
+    FrequentItemsSketch::with_sizes(alloc, sizes, key)
 }
 
 /// Adds the bytes of three pages in one call.

@@ -1,4 +1,5 @@
 //! Examples of calls and commands on named sketches.
+use datasketches::bloom::BloomFilterBuilder;
 use datasketches::error::Error;
 use datasketches::frequencies::{HashKey, TableKey};
 use datasketches::{Bounds, Command, ImageKind, Refusal, Reply, Session, Status};
@@ -8,7 +9,7 @@ use std::hash::RandomState;
 /// Returns whether a filter of a session has seen the number 7.
 pub fn has_seen_seven(alloc: Global) -> Result<bool, Refusal> {
     let mut session = Session::new(alloc);
-    session.create_bloom_filter("seen", 959, 7, 9001)?;
+    session.create_bloom_filter("seen", BloomFilterBuilder::with_size(959, 7))?;
     session.insert("seen", &7_u64)?;
     session.contains("seen", &7)
 }

@@ -10,18 +10,18 @@ use Rattle.datasketches.proofs.named_sketches.NameMap+Sketch+T.join.Goals as goa
 
 pub returns-in_default : goal.returns-in_default
 returns-in_default g c =
-    joins_into_none g.T.PartialEq.eq c.args.join c.args.into.now c.args.other.now c.args.self.now (value_missing _ _ _ c.args.into.now c.self.invariant c.self.view_is c.in_default.ensures)
+    joins_into_none g.T.PartialEq.eq g.J.Joining.join c.args.into.now c.args.other.now c.args.self.now (value_missing _ _ _ c.args.into.now c.self.invariant c.self.view_is c.in_default.ensures)
 
 pub returns-in_default-index_of : goal.returns-in_default-index_of
 returns-in_default-index_of g c =
-    joins_from_none g.T.PartialEq.eq c.args.join c.args.into.now c.args.other.now c.args.self.now (value_missing _ _ _ c.args.other.now c.self.invariant c.self.view_is c.in_default-index_of.ensures)
+    joins_from_none g.T.PartialEq.eq g.J.Joining.join c.args.into.now c.args.other.now c.args.self.now (value_missing _ _ _ c.args.other.now c.self.invariant c.self.view_is c.in_default-index_of.ensures)
 
 pub returns-then-index-from : goal.returns-then-index-from
 returns-then-index-from g c =
     let into = is_named _ _ _ c.args.into.now c.self.invariant c.self.view_is ∙ sym (ap is_some c.in-Some.ensures) in
     let other = is_named _ _ _ c.args.other.now c.self.invariant c.self.view_is ∙ sym (ap is_some c.in-Some-index_of.ensures) in
     let same = c.self.invariant.apart c.args.into.now c.args.other.now c.in-Some.index (sym c.in-Some.ensures) (sym c.in-Some-index_of.ensures ∙ ap Some (sym c.if-index-from.true)) in
-    joins_itself g.T.PartialEq.eq c.args.join c.args.into.now c.args.other.now c.args.self.now into other same
+    joins_itself g.T.PartialEq.eq g.J.Joining.join c.args.into.now c.args.other.now c.args.self.now into other same
 
 pub invariant_of-self : goal.invariant_of-self
 invariant_of-self g c =
@@ -38,6 +38,6 @@ returns g c =
     let same_length : length c.join_at.new.sketches ≡ c.self.inside.values.len = ap length joined.new_is ∙ length-set _ _ _ ∙ sym c.self.inside.values.ok.0 in
     let items : (with_items c.self.inside.values c.join_at.new.sketches).items ≡ set c.self.inside.values.items c.in-Some.index joined.after = with_items_is c.self.inside.values c.join_at.new.sketches same_length ∙ joined.new_is in
     let apart : c.args.into.now ≢ c.args.other.now = λ same. c.if-index-from.false (one_index _ _ _ _ _ same c.in-Some.ensures c.in-Some-index_of.ensures) in
-    joins_two g.T.PartialEq.eq c.args.join c.args.into.now c.args.other.now c.args.self.now _ _ joined.sketch joined.from joined.after into other apart joined.does
+    joins_two g.T.PartialEq.eq g.J.Joining.join c.args.into.now c.args.other.now c.args.self.now _ _ joined.sketch joined.from joined.after into other apart joined.does
     (subst (λ (l : List (Sketch g.row.T.Denot)). Puts c.args.into.now joined.after c.args.self.now (listed c.self.inside.indices.entries l)) (sym items)
     (written _ _ _ c.args.into.now c.in-Some.index joined.after c.self.invariant c.self.view_is c.in-Some.ensures))

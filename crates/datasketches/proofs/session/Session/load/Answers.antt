@@ -1,25 +1,14 @@
 use Rattle.std.proofs.Common.{refl}
-use Rattle.datasketches.proofs.Saving.{refused_call, free, taken, loads_taken, loads_refused, loads_memory, loads_unnamed, loads_done}
+use Rattle.datasketches.proofs.Saving.{free, taken, loads, loads_taken}
 use Rattle.datasketches.proofs.session.Session.load.Goals as goal
 
 pub returns-then-contains_name : goal.returns-then-contains_name
 returns-then-contains_name g c = loads_taken _ g.T.PartialEq.eq g.T.Hash.hash_input g.T.FrequentItemValue.codec g.T.FrequentItemValue.content c.args.kind c.args.image.now c.args.max_bytes c.args.name.now _ c.args.self.now c.self.view_is (taken _ _ c.if-contains_name.true c.contains_name.ensures)
 
-pub returns-in_err-sketch : goal.returns-in_err-sketch
-returns-in_err-sketch g c =
-    loads_refused _ g.T.PartialEq.eq g.T.Hash.hash_input g.T.FrequentItemValue.codec g.T.FrequentItemValue.content c.args.kind c.args.image.now c.args.max_bytes c.args.name.now _ c.args.self.now _ _ c.self.view_is (free _ _ c.if-contains_name.false c.contains_name.ensures) c.in_err-sketch.ensures.refused (refused_call _ _ c.from_residual.ensures.1)
-
-pub returns-in_err-name : goal.returns-in_err-name
-returns-in_err-name g c =
-    loads_memory _ g.T.PartialEq.eq g.T.Hash.hash_input g.T.FrequentItemValue.codec g.T.FrequentItemValue.content c.args.kind c.args.image.now c.args.max_bytes c.args.name.now _ c.args.self.now _ _ c.in_ok-sketch.sketch c.self.view_is (free _ _ c.if-contains_name.false c.contains_name.ensures) c.in_ok-sketch.ensures.read (c.in_ok-sketch.ensures.accepted refl) (refused_call _ _ c.from_residual-in_err-name.ensures.1) c.in_err-name.ensures.err
-
-pub insert-requires : goal.insert-requires
-insert-requires g c = record { free = rw c.in_ok-name.ensures.copy (free _ _ c.if-contains_name.false c.contains_name.ensures) }
-
-pub returns-in_err-insert : goal.returns-in_err-insert
-returns-in_err-insert g c =
-    loads_unnamed _ g.T.PartialEq.eq g.T.Hash.hash_input g.T.FrequentItemValue.codec g.T.FrequentItemValue.content c.args.kind c.args.image.now c.args.max_bytes c.args.name.now _ c.args.self.now _ _ _ c.in_ok-sketch.sketch c.self.view_is (free _ _ c.if-contains_name.false c.contains_name.ensures) c.in_ok-sketch.ensures.read (c.in_ok-sketch.ensures.accepted refl) (refused_call _ _ c.from_residual-in_err-insert.ensures.1) c.in_err-insert.ensures.err c.in_err-insert.ensures.same (λ name. refl)
+pub keep-requires : goal.keep-requires
+keep-requires g c = record { free = free _ _ c.if-contains_name.false c.contains_name.ensures }
 
 pub returns : goal.returns
 returns g c =
-    loads_done _ g.T.PartialEq.eq g.T.Hash.hash_input g.T.FrequentItemValue.codec g.T.FrequentItemValue.content c.args.kind c.args.image.now c.args.max_bytes c.args.name.now _ c.args.self.now _ c.in_ok-sketch.sketch c.self.view_is (free _ _ c.if-contains_name.false c.contains_name.ensures) c.in_ok-sketch.ensures.read c.in_ok-sketch.ensures.stands c.in_ok-sketch.ensures.within (c.in_ok-sketch.ensures.accepted refl) (rw c.in_ok-name.ensures.copy at c.in_ok-insert.ensures.put) (λ name. refl)
+    let e = c.load.ensures in
+    loads _ g.T.PartialEq.eq g.T.Hash.hash_input g.T.FrequentItemValue.codec g.T.FrequentItemValue.content c.args.kind c.args.image.now c.args.max_bytes c.args.name.now _ c.args.self.now _ _ _ c.self.view_is (free _ _ c.if-contains_name.false c.contains_name.ensures) e.read e.stands e.within e.accepted e.refused c.keep.ensures (λ name. refl)
