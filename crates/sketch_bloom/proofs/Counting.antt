@@ -14,7 +14,6 @@ use Rattle.std.proofs.lemmas.Bool.Decides.{nat_tests}
 use Rattle.std.specs.FinSet as set
 use Rattle.std.specs.Ordering.{nat_cmp}
 use Rattle.sketch_bloom.specs.BitSet.{bit_in, set_below, set_of}
-use Rattle.sketch_bloom.specs.Fields.{IsFilter}
 use Rattle.sketch_bloom.proofs.Bools.{same_tests}
 use Rattle.sketch_bloom.proofs.Sets.{contains-empty, contains-insert, len-insert}
 
@@ -135,8 +134,3 @@ len-set_below-le words (suc n) = omega (arith, len-set_below-suc words n, len-se
 pub len-set_of-le : (words : List ℕ) → set.len (set_of words) ≤ 64 * length words
 unfolding set_of
 len-set_of-le words = len-set_below-le words (64 * length words)
-
--- so a filter's count has room for those that come in
-pub count_fits : {words lent : List ℕ} {capacity num_hashes bits_used : ℕ} (new : List ℕ) (added : ℕ) → IsFilter words capacity num_hashes bits_used → lent ≡ words → length new ≡ length lent → set.len (set_of new) ≡ set.len (set_of lent) + added → bits_used + added < 2 ^ 64
-count_fits new added f same long grown =
-    omega (arith, len-set_of-le new, ap (λ (ws : List ℕ). set.len (set_of ws)) same, ap length same, f.bits_used_is, f.few_words)

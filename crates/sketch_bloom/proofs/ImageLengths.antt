@@ -1,5 +1,5 @@
 -- The length of what is written for a filter.
-use Rattle.std.proofs.Common.{◌≡◌, ◌≢◌, ℕ, zero, suc, ◌+◌, ◌*◌, ◌<◌, ◌^◌, ◌==◌, Bool, true, false, List, ◌++◌, All, length, refl, sym, ap, ◌∙◌, eq-eqb, eqb-true, arith, length-append}
+use Rattle.std.proofs.Common.{◌≡◌, ◌≢◌, ℕ, zero, suc, ◌+◌, ◌*◌, ◌<◌, ◌^◌, ◌==◌, Bool, true, false, List, ◌++◌, length, refl, sym, ap, ◌∙◌, eq-eqb, eqb-true, arith, length-append}
 use Rattle.std.specs.Prelude.{if◌then◌else◌}
 use Rattle.std.specs.Int.{w64, to_le_bytes}
 use Rattle.std.specs.FinSet as set
@@ -7,11 +7,10 @@ use Rattle.std.specs.Ordering.{nat_cmp}
 use Rattle.std.proofs.lemmas.Bool.{false≢true}
 use Rattle.sketch_base.specs.Fields.{bytes_of_words}
 use Rattle.sketch_bloom.specs.Fields.{IsFilter}
-use Rattle.sketch_bloom.specs.Image.{IsSpelled, image_bytes, preamble}
+use Rattle.sketch_bloom.specs.Image.{IsSpelled, AreWordsOf, image_bytes, preamble}
 use Rattle.sketch_bloom.specs.State.{FilterState}
 use Rattle.sketch_bloom.proofs.RoundTrips.{length-bytes_of_words}
 use Rattle.sketch_bloom.proofs.Spellings.{spelled_empty, spelled_full}
-use Rattle.sketch_bloom.proofs.States.{state_of}
 
 -- each image that is written for a filter has the length that the filter's shape and set give
 pub length-spelled : (image : List ℕ) (s : FilterState) → IsSpelled image s → length image ≡ image_bytes s
@@ -27,10 +26,9 @@ length-spelled image s h = by_set (set.len s.set == 0) refl where
       ap length written.bytes
       ∙ omega (arith, length-append (front ++ count) words, length-bytes_of_words written.words, written.are_words.count)
 
--- there is an image for the filter of these fields
-pub some_image : (words : List ℕ) (capacity num_hashes bits_used seed : ℕ) → IsFilter words capacity num_hashes bits_used → seed < 2 ^ 64 → All (λ word. word < 2 ^ 64) words → (image : List ℕ) × IsSpelled image (state_of words num_hashes seed)
-some_image words capacity num_hashes zero seed filter fits words_fit =
-    (preamble 3 4 num_hashes seed (length words), spelled_empty _ words capacity num_hashes zero seed filter fits refl refl)
-some_image words capacity num_hashes (suc n) seed filter fits words_fit =
-    let image = preamble 4 0 num_hashes seed (length words) ++ to_le_bytes w64 (suc n) ++ bytes_of_words words in
-    (image, spelled_full image words capacity num_hashes (suc n) seed filter fits words_fit (λ none. absurd (omega (arith, none))) refl)
+-- there is an image for the filter with these words
+pub some_image : (words : List ℕ) (s : FilterState) (bits_used : ℕ) → IsFilter s bits_used → s.seed < 2 ^ 64 → AreWordsOf s words → (image : List ℕ) × IsSpelled image s
+some_image words s zero filter fits are = (preamble 3 4 s.num_hashes s.seed s.num_words, spelled_empty _ s zero filter fits refl refl)
+some_image words s (suc n) filter fits are =
+    let image = preamble 4 0 s.num_hashes s.seed s.num_words ++ to_le_bytes w64 (suc n) ++ bytes_of_words words in
+    (image, spelled_full image words s (suc n) filter fits are (λ none. absurd (omega (arith, none))) refl)

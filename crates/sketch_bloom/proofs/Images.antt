@@ -14,7 +14,7 @@ use Rattle.sketch_bloom.specs.Preamble.{IsPreamble}
 use Rattle.sketch_bloom.specs.Stands.{StandsFor}
 use Rattle.sketch_bloom.specs.State.{FilterState}
 use Rattle.sketch_bloom.specs.declared.image.Preamble.{Preamble}
-use Rattle.sketch_bloom.proofs.States.{state_of}
+use Rattle.sketch_bloom.specs.Fields.{state_of}
 
 -- so many words are read
 pub length-words_in : (n : ℕ) (bytes : List ℕ) → length (words_in n bytes) ≡ n

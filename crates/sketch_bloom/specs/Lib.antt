@@ -1,10 +1,9 @@
 pub mod BitSet
 pub mod Operations
-pub mod Fields
-pub mod ViewFields
 pub mod Positions
-pub mod Pairs
 pub mod State
+pub mod Fields
+pub mod Pairs
 pub mod History
 pub mod Stands
 pub mod Building

@@ -1,175 +1,27 @@
-//! Sets of numbers in words of 64 bits.
+//! Loops over sets of numbers in words of 64 bits.
 //!
 //! A number `p` is in the set if bit `p % 64` of word `p / 64` is set. Two sets are combined in blocks of eight words,
 //! then at most one block of four, then at most three words one by one.
-ghost use Rattle.std.specs.Prelude.{◌≡◌, ◌+◌, ◌*◌, ◌/◌, ◌%◌, ◌<◌, ◌≤◌, ◌==◌, ◌↔◌, true, IsTrue, map, fold, length, take, drop, count_ones};
+ghost use Rattle.std.specs.Prelude.{◌≡◌, ◌+◌, ◌*◌, ◌/◌, ◌%◌, ◌<◌, ◌≤◌, ◌==◌, ◌↔◌, IsTrue, length, take, drop, count_ones};
 ghost use Rattle.std.specs.List.{sum_by};
 ghost use Rattle.std.specs.FinSet as set;
 ghost use Rattle.std.specs.Simd.Lanes.{zip2, chunk, put_chunk};
 ghost use Rattle.sketch_bloom.specs.BitSet.{set_of};
 ghost use Rattle.sketch_bloom.specs.Operations.{on_sets, on_words};
-ghost use Rattle.sketch_bloom.specs.Positions.{position, positions};
-ghost use Rattle.sketch_bloom.specs.Pairs.{contains_pair, with_pair, pairs_contained};
+ghost use Rattle.sketch_bloom.specs.Positions.{positions};
 
 use crate::limits::MAX_NUM_WORDS;
 use crate::set_operation::SetOperation;
-use crate::words::Words;
 use sketch_base::Divisor;
 use std::simd::prelude::*;
 
 /// Returns the position of a sum of hashes: its half, modulo the capacity.
 #[inline(always)]
-fn index_of(hash: u64, capacity: Divisor) -> u64
+pub fn index_of(hash: u64, capacity: Divisor) -> u64
     ensures value { result ≡ hash / 2 % capacity }
     ensures below { result < capacity }
 {
     capacity.rem(hash >> 1)
-}
-
-/// Returns whether all positions of two hashes are in the set. Stops at the first that is not.
-#[inline(always)]
-pub fn contains_positions<W: Words>(
-    words: &W,
-    capacity: Divisor,
-    num_hashes: u16,
-    h0: u64,
-    h1: u64,
-) -> bool
-    requires { capacity ≡ 64 * length (W.list words.now) }
-    ensures { result ≡ set.is_subset (positions capacity num_hashes h0 h1) (set_of (W.list words.now)) }
-{
-    contains_others(words, capacity, 0, num_hashes, h0, h1)
-}
-
-/// Returns whether all positions of two hashes are in the set, given that the first `probed` are. Stops at the first
-/// that is not.
-#[inline(always)]
-fn contains_others<W: Words>(
-    words: &W,
-    capacity: Divisor,
-    probed: u16,
-    num_hashes: u16,
-    h0: u64,
-    h1: u64,
-) -> bool
-    requires capacity { capacity ≡ 64 * length (W.list words.now) }
-    requires few { probed ≤ num_hashes }
-    requires found { set.is_subset (positions capacity probed h0 h1) (set_of (W.list words.now)) ≡ true }
-    ensures { result ≡ set.is_subset (positions capacity num_hashes h0 h1) (set_of (W.list words.now)) }
-{
-    let mut hash = h0.wrapping_add(h1.wrapping_mul(probed as u64));
-    // The label is for the prover.
-    'probes: for _i in probed..num_hashes {
-        hash = hash.wrapping_add(h1);
-        let index = index_of(hash, capacity);
-        let word = words.word((index / 64) as usize);
-        if word >> (index % 64) & 1 == 0 {
-            return false;
-        }
-    }
-    true
-}
-
-/// Returns whether the first position of two hashes is in the set.
-#[inline(always)]
-fn contains_first<W: Words>(words: &W, capacity: Divisor, h0: u64, h1: u64) -> bool
-    requires { capacity ≡ 64 * length (W.list words.now) }
-    ensures { result ≡ set.contains (set_of (W.list words.now)) (position capacity h0 h1 1) }
-{
-    let index = index_of(h0.wrapping_add(h1), capacity);
-    words.word((index / 64) as usize) >> (index % 64) & 1 != 0
-}
-
-/// Returns whether all positions of two hashes are in the set, given in `found` whether the first is.
-#[inline(always)]
-fn contains_behind<W: Words>(
-    words: &W,
-    capacity: Divisor,
-    num_hashes: u16,
-    h0: u64,
-    h1: u64,
-    found: bool,
-) -> bool
-    requires capacity { capacity ≡ 64 * length (W.list words.now) }
-    requires some_hashes { 1 ≤ num_hashes }
-    requires found { found ≡ set.contains (set_of (W.list words.now)) (position capacity h0 h1 1) }
-    ensures { result ≡ set.is_subset (positions capacity num_hashes h0 h1) (set_of (W.list words.now)) }
-{
-    found && contains_others(words, capacity, 1, num_hashes, h0, h1)
-}
-
-/// Writes for each pair of hashes whether all its positions are in the set.
-///
-/// The first positions of all pairs are probed before any other, so that the processor loads their words in parallel.
-#[inline(always)]
-pub fn contains_pairs<W: Words>(
-    words: &W,
-    capacity: Divisor,
-    num_hashes: u16,
-    pairs: &[(u64, u64)],
-    answers: &mut [bool],
-)
-    requires capacity { capacity ≡ 64 * length (W.list words.now) }
-    requires some_hashes { 1 ≤ num_hashes }
-    requires same { length answers.old ≡ length pairs.now }
-    ensures { answers.new ≡ map (contains_pair capacity num_hashes (set_of (W.list words.now))) pairs.now }
-{
-    // The labels are for the prover.
-    'firsts: for i in 0..pairs.len() {
-        answers[i] = contains_first(words, capacity, pairs[i].0, pairs[i].1);
-    }
-    'others: for i in 0..pairs.len() {
-        let found = answers[i];
-        answers[i] = contains_behind(words, capacity, num_hashes, pairs[i].0, pairs[i].1, found);
-    }
-}
-
-/// Inserts all positions of the pairs of hashes. Returns the number of new positions.
-#[inline(always)]
-pub fn insert_pairs(
-    words: &mut [u64],
-    capacity: Divisor,
-    num_hashes: u16,
-    pairs: &[(u64, u64)],
-) -> u64
-    requires capacity { capacity ≡ 64 * length words.old }
-    requires few { length words.old ≤ MAX_NUM_WORDS }
-    ensures union { set_of words.new ≡ fold (with_pair capacity num_hashes) (set_of words.old) pairs.now }
-    ensures added { set.len (set_of words.new) ≡ set.len (set_of words.old) + result }
-{
-    let mut added = 0;
-    // The label is for the prover.
-    'pairs: for i in 0..pairs.len() {
-        added += insert_positions(words, capacity, num_hashes, pairs[i].0, pairs[i].1);
-    }
-    added
-}
-
-/// Inserts all positions of the pairs of hashes, and writes for each pair, in turn, whether all were in the set before.
-/// Returns the number of new positions.
-#[inline(always)]
-pub fn contains_and_insert_pairs(
-    words: &mut [u64],
-    capacity: Divisor,
-    num_hashes: u16,
-    pairs: &[(u64, u64)],
-    answers: &mut [bool],
-) -> u64
-    requires capacity { capacity ≡ 64 * length words.old }
-    requires few { length words.old ≤ MAX_NUM_WORDS }
-    requires same { length answers.old ≡ length pairs.now }
-    ensures answers { answers.new ≡ pairs_contained capacity num_hashes (set_of words.old) pairs.now }
-    ensures union { set_of words.new ≡ fold (with_pair capacity num_hashes) (set_of words.old) pairs.now }
-    ensures added { set.len (set_of words.new) ≡ set.len (set_of words.old) + result }
-{
-    let mut added = 0;
-    // The label is for the prover.
-    'pairs: for i in 0..pairs.len() {
-        let new = insert_positions(words, capacity, num_hashes, pairs[i].0, pairs[i].1);
-        answers[i] = new == 0;
-        added += new;
-    }
-    added
 }
 
 /// Inserts all positions of two hashes. Returns the number of new positions.

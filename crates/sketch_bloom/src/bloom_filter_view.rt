@@ -1,19 +1,16 @@
 //! A Bloom filter in the bytes of its image.
 ghost use Rattle.std.specs.Hash as fed;
-ghost use Rattle.std.specs.Prelude.{◌≡◌, ◌+◌, ◌*◌, ◌≤◌, [], None, Some, false, if◌then◌else◌, length, map, take, drop, IfOk, IfErr, OnOk};
-ghost use Rattle.std.specs.FinSet as set;
+ghost use Rattle.std.specs.Prelude.{◌≡◌, ◌+◌, ◌*◌, ◌≤◌, None, Some, false, if◌then◌else◌, length, map, take, drop, replicate, IfOk, IfErr, OnOk};
 ghost use Rattle.sketch_base.specs.Errors.{invalid_data};
 ghost use Rattle.sketch_base.specs.Hashes.{fed_bytes};
 ghost use Rattle.sketch_bloom.specs.Image.{IsImage, Restores, early_fault, value_at};
-ghost use Rattle.sketch_bloom.specs.Positions.{positions};
 ghost use Rattle.sketch_bloom.specs.State.{FilterState, IsFilterState, capacity_of, contains_item};
 
-use crate::bit_set;
-use crate::hashes::{Batch, ItemBatch, StringBatch, contains_items, hashes_of, hashes_of_str};
+use crate::bits::Bits;
+use crate::hashes::{Batch, ItemBatch, StringBatch};
 use crate::image::read_preamble;
 use crate::limits::MAX_NUM_WORDS;
-use crate::words::ByteWords;
-use sketch_base::{Divisor, Error, Strings};
+use sketch_base::{Error, Strings};
 use std::hash::Hash;
 use std::marker::Model;
 
@@ -35,12 +32,9 @@ use std::marker::Model;
 /// ```
 #[derive(Drop)]
 pub struct BloomFilterView<'a> {
-    // The bytes of the words, or none if the image is marked empty.
-    bytes: &'a [u8],
+    // Of an image that is marked empty, which contains no words, one word of zeros.
+    bits: Bits<&'a [u8]>,
     num_words: usize,
-    capacity: Divisor,
-    num_hashes: u16,
-    seed: u64,
 }
 
 impl<'a> Model for BloomFilterView<'a> {
@@ -50,27 +44,21 @@ impl<'a> Model for BloomFilterView<'a> {
 
     ghost coded = { state_code };
 
-    ghost use Rattle.sketch_bloom.specs.BitSet.{set_of, words_of_bytes};
-    ghost use Rattle.sketch_bloom.specs.ViewFields.{IsView};
+    ghost use Rattle.sketch_bloom.specs.Fields.{IsView, view_of};
 
-    ghost view = { λ v. record {
-      num_words = v.num_words;
-      num_hashes = v.num_hashes;
-      seed = v.seed;
-      set = set_of (words_of_bytes v.bytes.now);
-    } };
+    ghost view = { λ v. view_of v.bits v.num_words };
 
-    ghost invariant = { λ v. IsView v.bytes.now v.num_words v.capacity v.num_hashes };
+    ghost invariant = { λ v. IsView v.bits v.num_words };
 }
 
-/// Returns the bytes of the words, or none if the image is marked empty.
+/// Returns the bytes of the words, or of one word of zeros if the image is marked empty.
 fn bytes_of_set(image: &[u8], is_empty: bool, num_words: usize) -> &[u8]
     requires there { is_empty ≡ false → 32 + 8 * num_words ≤ length image.now }
     requires few { num_words ≤ MAX_NUM_WORDS }
-    ensures { result.now ≡ if is_empty then [] else take (8 * num_words) (drop 32 image.now) }
+    ensures { result.now ≡ if is_empty then replicate 8 0 else take (8 * num_words) (drop 32 image.now) }
 {
     if is_empty {
-        &image[..0]
+        &[0; 8]
     } else {
         &image[32..32 + 8 * num_words]
     }
@@ -98,12 +86,10 @@ impl<'a> BloomFilterView<'a> {
     {
         let preamble = read_preamble(image)?;
         let num_words = preamble.num_words;
+        let bytes = bytes_of_set(image, preamble.is_empty, num_words);
         Ok(BloomFilterView {
-            bytes: bytes_of_set(image, preamble.is_empty, num_words),
+            bits: Bits::new(bytes, preamble.num_hashes, preamble.seed),
             num_words,
-            capacity: Divisor::new(64 * num_words as u64),
-            num_hashes: preamble.num_hashes,
-            seed: preamble.seed,
         })
     }
 
@@ -112,8 +98,7 @@ impl<'a> BloomFilterView<'a> {
     pub fn contains<T: Hash>(&self, item: &T) -> bool
         ensures { result ≡ contains_item self.now (fed_bytes T.hash_input item.now) }
     {
-        let (h0, h1) = hashes_of(item, self.seed);
-        self.contains_hashed(h0, h1)
+        self.bits.contains(item)
     }
 
     /// Returns whether all positions of the string are in the set, as [`contains`](Self::contains) does, in less time.
@@ -131,21 +116,7 @@ impl<'a> BloomFilterView<'a> {
     pub fn contains_str(&self, item: &str) -> bool
         ensures { result ≡ contains_item self.now (fed_bytes fed.str item.now) }
     {
-        let (h0, h1) = hashes_of_str(item, self.seed);
-        self.contains_hashed(h0, h1)
-    }
-
-    /// Returns whether all positions of two hashes are in the set.
-    #[inline(always)]
-    fn contains_hashed(&self, h0: u64, h1: u64) -> bool
-        ensures { result
-            ≡ set.is_subset (positions (capacity_of self.now) self.now.num_hashes h0 h1) self.now.set }
-    {
-        if self.bytes.is_empty() {
-            return false;
-        }
-        let words = ByteWords { bytes: self.bytes };
-        bit_set::contains_positions(&words, self.capacity, self.num_hashes, h0, h1)
+        self.bits.contains_str(item)
     }
 
     /// Writes for each item to `answers` whether all its positions are in the set, as [`contains`](Self::contains)
@@ -199,19 +170,7 @@ impl<'a> BloomFilterView<'a> {
         requires { length answers.old ≡ length (B.inputs batch.now) }
         ensures { answers.new ≡ map (contains_item self.now) (B.inputs batch.now) }
     {
-        if self.bytes.is_empty() {
-            answers.fill(false);
-            return;
-        }
-        let words = ByteWords { bytes: self.bytes };
-        contains_items(
-            &words,
-            self.capacity,
-            self.num_hashes,
-            self.seed,
-            batch,
-            answers,
-        );
+        self.bits.copied().contains_batch(batch, answers);
     }
 
     /// Returns the capacity, which is the number of positions: 64 for each word.
@@ -221,20 +180,20 @@ impl<'a> BloomFilterView<'a> {
         // What holds of every view.
         ensures state { IsFilterState self.now }
     {
-        self.capacity.divisor() as usize
+        64 * self.num_words
     }
 
     /// Returns the number of positions of each item. They need not be distinct.
     pub fn num_hashes(&self) -> u16
         ensures { result ≡ self.now.num_hashes }
     {
-        self.num_hashes
+        self.bits.num_hashes()
     }
 
     /// Returns the seed of the hashes.
     pub fn seed(&self) -> u64
         ensures { result ≡ self.now.seed }
     {
-        self.seed
+        self.bits.seed()
     }
 }

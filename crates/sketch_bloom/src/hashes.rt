@@ -2,28 +2,21 @@
 //!
 //! The hashes of one item do not depend on those of another. So a processor computes several at once, and then loads
 //! the words of several at once.
-ghost use Rattle.std.specs.Prelude.{◌≡◌, ◌+◌, ◌*◌, ◌^◌, ◌<◌, ◌≤◌, [], ℕ, List, map, take, drop, fold, length, slice_index_or};
-ghost use Rattle.std.specs.FinSet as set;
+ghost use Rattle.std.specs.Prelude.{◌≡◌, ◌+◌, ◌^◌, ◌<◌, ◌≤◌, [], ℕ, List, map, take, drop, length, slice_index_or};
 ghost use Rattle.std.specs.Hash as fed;
 ghost use Rattle.sketch_base.specs.Hashes.{fed_bytes};
-ghost use Rattle.sketch_base.specs.Xxh64.{xxh64};
-ghost use Rattle.sketch_bloom.specs.BitSet.{set_of};
-ghost use Rattle.sketch_bloom.specs.Pairs.{pair_of, contains_pair, with_pair, pairs_contained};
+ghost use Rattle.sketch_bloom.specs.Pairs.{pair_of};
 
-use crate::bit_set;
-use crate::limits::MAX_NUM_WORDS;
-use crate::words::Words;
-use sketch_base::{Divisor, Strings, xxh64_of, xxh64_of_str};
+use sketch_base::{Strings, xxh64_of, xxh64_of_str};
 use std::hash::Hash;
 
 /// The number of items that are hashed before the first of them is looked up or inserted.
-const BLOCK: usize = 16;
+pub const BLOCK: usize = 16;
 
 /// Returns the two hashes of an item: under the seed, and under the first hash.
 #[inline(always)]
 pub fn hashes_of<T: Hash>(item: &T, seed: u64) -> (u64, u64)
-    ensures first { result.0 ≡ xxh64 (fed_bytes T.hash_input item.now) seed }
-    ensures second { result.1 ≡ xxh64 (fed_bytes T.hash_input item.now) result.0 }
+    ensures { result ≡ pair_of seed (fed_bytes T.hash_input item.now) }
 {
     let h0 = xxh64_of(item, seed);
     (h0, xxh64_of(item, h0))
@@ -32,8 +25,7 @@ pub fn hashes_of<T: Hash>(item: &T, seed: u64) -> (u64, u64)
 /// Returns the two hashes of a string, straight from its bytes: under the seed, and under the first hash.
 #[inline(always)]
 pub fn hashes_of_str(item: &str, seed: u64) -> (u64, u64)
-    ensures first { result.0 ≡ xxh64 (fed_bytes fed.str item.now) seed }
-    ensures second { result.1 ≡ xxh64 (fed_bytes fed.str item.now) result.0 }
+    ensures { result ≡ pair_of seed (fed_bytes fed.str item.now) }
 {
     let h0 = xxh64_of_str(item, seed);
     (h0, xxh64_of_str(item, h0))
@@ -96,7 +88,7 @@ impl<'a, S: Strings> Batch for StringBatch<'a, S> {
 
 /// Writes the two hashes of each item of a block, which begins at item `from`.
 #[inline(always)]
-fn hash_block<B: Batch>(batch: &B, from: usize, seed: u64, pairs: &mut [(u64, u64)])
+pub fn hash_block<B: Batch>(batch: &B, from: usize, seed: u64, pairs: &mut [(u64, u64)])
     requires inside { from + length pairs.old ≤ length (B.inputs batch.now) }
     requires fits { from + length pairs.old < 2 ^ 64 }
     ensures { pairs.new ≡ map (pair_of seed) (take (length pairs.old) (drop from (B.inputs batch.now))) }
@@ -104,100 +96,5 @@ fn hash_block<B: Batch>(batch: &B, from: usize, seed: u64, pairs: &mut [(u64, u6
     // The label is for the prover.
     'each: for i in 0..pairs.len() {
         pairs[i] = batch.hashes(from + i, seed);
-    }
-}
-
-/// Inserts the positions of all items. Returns the number of new positions.
-#[inline(always)]
-pub fn insert_items<B: Batch>(
-    words: &mut [u64],
-    capacity: Divisor,
-    num_hashes: u16,
-    seed: u64,
-    batch: &B,
-) -> u64
-    requires capacity { capacity ≡ 64 * length words.old }
-    requires few { length words.old ≤ MAX_NUM_WORDS }
-    ensures union { set_of words.new
-        ≡ fold (with_pair capacity num_hashes) (set_of words.old) (map (pair_of seed) (B.inputs batch.now)) }
-    ensures added { set.len (set_of words.new) ≡ set.len (set_of words.old) + result }
-{
-    let mut added = 0;
-    let count = batch.count();
-    let blocks = count.div_ceil(BLOCK);
-    let mut pairs = [(0, 0); BLOCK];
-    // The label is for the prover.
-    'each: for b in 0..blocks {
-        let from = BLOCK * b;
-        let to = from + BLOCK.min(count - from);
-        let block = &mut pairs[..to - from];
-        hash_block(batch, from, seed, block);
-        added += bit_set::insert_pairs(words, capacity, num_hashes, block);
-    }
-    added
-}
-
-/// Inserts the positions of all items, and writes for each item, in turn, whether all its positions were in the set
-/// before. Returns the number of new positions.
-#[inline(always)]
-pub fn contains_and_insert_items<B: Batch>(
-    words: &mut [u64],
-    capacity: Divisor,
-    num_hashes: u16,
-    seed: u64,
-    batch: &B,
-    answers: &mut [bool],
-) -> u64
-    requires capacity { capacity ≡ 64 * length words.old }
-    requires few { length words.old ≤ MAX_NUM_WORDS }
-    requires same { length answers.old ≡ length (B.inputs batch.now) }
-    ensures answers { answers.new
-        ≡ pairs_contained capacity num_hashes (set_of words.old) (map (pair_of seed) (B.inputs batch.now)) }
-    ensures union { set_of words.new
-        ≡ fold (with_pair capacity num_hashes) (set_of words.old) (map (pair_of seed) (B.inputs batch.now)) }
-    ensures added { set.len (set_of words.new) ≡ set.len (set_of words.old) + result }
-{
-    let mut added = 0;
-    let count = batch.count();
-    let blocks = count.div_ceil(BLOCK);
-    let mut pairs = [(0, 0); BLOCK];
-    // The label is for the prover.
-    'each: for b in 0..blocks {
-        let from = BLOCK * b;
-        let to = from + BLOCK.min(count - from);
-        let block = &mut pairs[..to - from];
-        hash_block(batch, from, seed, block);
-        let answers = &mut answers[from..to];
-        added += bit_set::contains_and_insert_pairs(words, capacity, num_hashes, block, answers);
-    }
-    added
-}
-
-/// Writes for each item whether all its positions are in the set.
-#[inline(always)]
-pub fn contains_items<W: Words, B: Batch>(
-    words: &W,
-    capacity: Divisor,
-    num_hashes: u16,
-    seed: u64,
-    batch: &B,
-    answers: &mut [bool],
-)
-    requires capacity { capacity ≡ 64 * length (W.list words.now) }
-    requires some_hashes { 1 ≤ num_hashes }
-    requires same { length answers.old ≡ length (B.inputs batch.now) }
-    ensures { answers.new
-        ≡ map (λ input. contains_pair capacity num_hashes (set_of (W.list words.now)) (pair_of seed input)) (B.inputs batch.now) }
-{
-    let count = batch.count();
-    let blocks = count.div_ceil(BLOCK);
-    let mut pairs = [(0, 0); BLOCK];
-    // The label is for the prover.
-    'each: for b in 0..blocks {
-        let from = BLOCK * b;
-        let to = from + BLOCK.min(count - from);
-        let block = &mut pairs[..to - from];
-        hash_block(batch, from, seed, block);
-        bit_set::contains_pairs(words, capacity, num_hashes, block, &mut answers[from..to]);
     }
 }

@@ -99,6 +99,7 @@ pub fn read_words(
     requires there { 32 + 8 * num_words ≤ length image.now }
     requires few { num_words ≤ MAX_NUM_WORDS }
     ensures words { IfOk result (λ read. read.0.items ≡ words_in num_words (drop 32 image.now)) }
+    ensures count { IfOk result (λ read. length read.0.items ≡ num_words) }
     ensures size { IfOk result (λ read. read.1 ≡ set.len (set_of read.0.items)) }
 {
     let mut words = Vec::with_capacity(alloc, num_words)?;

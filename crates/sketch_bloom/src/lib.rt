@@ -6,6 +6,7 @@
 #![tactic(auto)]
 
 mod bit_set;
+mod bits;
 mod bloom_filter;
 mod bloom_filter_builder;
 mod bloom_filter_view;

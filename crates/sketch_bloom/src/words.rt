@@ -1,4 +1,4 @@
-//! The words that a set of numbers is read from: in memory, or in the bytes of an image.
+//! Words of 64 bits: in memory, or in the bytes of an image.
 ghost use Rattle.std.specs.Prelude.{◌≡◌, ℕ, ◌<◌, List, length, slice_index};
 ghost use Rattle.sketch_bloom.specs.BitSet.{words_of_bytes};
 
@@ -9,14 +9,37 @@ pub trait Words {
     // The words.
     ghost list: { Self → List ℕ };
 
+    /// Returns the number of words.
+    fn count(&self) -> usize
+        ensures { result ≡ length (list self.now) };
+
     /// Returns word `i`.
     fn word(&self, i: usize) -> u64
         requires { i < length (list self.now) }
         ensures { result ≡ slice_index (list self.now) i };
 }
 
+impl Words for Vec<u64> {
+    ghost list = { λ words. words.items };
+
+    #[inline(always)]
+    fn count(&self) -> usize {
+        self.len()
+    }
+
+    #[inline(always)]
+    fn word(&self, i: usize) -> u64 {
+        self[i]
+    }
+}
+
 impl<'a> Words for &'a [u64] {
     ghost list = { λ words. words.now };
+
+    #[inline(always)]
+    fn count(&self) -> usize {
+        self.len()
+    }
 
     #[inline(always)]
     fn word(&self, i: usize) -> u64 {
@@ -25,16 +48,16 @@ impl<'a> Words for &'a [u64] {
 }
 
 /// The words of bytes, little-endian. The bytes need not be aligned.
-#[derive(Drop)]
-pub struct ByteWords<'a> {
-    pub bytes: &'a [u8],
-}
+impl<'a> Words for &'a [u8] {
+    ghost list = { λ bytes. words_of_bytes bytes.now };
 
-impl<'a> Words for ByteWords<'a> {
-    ghost list = { λ words. words_of_bytes words.bytes.now };
+    #[inline(always)]
+    fn count(&self) -> usize {
+        self.len() / 8
+    }
 
     #[inline(always)]
     fn word(&self, i: usize) -> u64 {
-        u64_at(self.bytes, 8 * i)
+        u64_at(self, 8 * i)
     }
 }

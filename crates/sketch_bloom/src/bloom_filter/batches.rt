@@ -1,13 +1,14 @@
 //! Many items, or many other filters, in one call.
-ghost use Rattle.std.specs.Prelude.{◌≡◌, ◌↔◌, map, length, All, IfErr, IsOk, IsTrue, OnOk, OnErr};
+ghost use Rattle.std.specs.Prelude.{◌≡◌, ◌↔◌, map, fold, length, All, IfErr, IsOk, IsTrue, OnOk, OnErr};
 ghost use Rattle.sketch_base.specs.Errors.{invalid_argument};
 ghost use Rattle.sketch_base.specs.Hashes.{fed_bytes};
 ghost use Rattle.sketch_bloom.specs.History.{all_inserted_after, all_united_after};
+ghost use Rattle.sketch_bloom.specs.Pairs.{with_pair, pairs_contained};
 ghost use Rattle.sketch_bloom.specs.Stands.{Extends, ExtendsByAll};
 ghost use Rattle.sketch_bloom.specs.State.{IsFilterState, IsCompatible, contains_item, answers_in_turn, all_inserted, all_united};
 
 use crate::bloom_filter::BloomFilter;
-use crate::hashes::{Batch, ItemBatch, contains_and_insert_items, contains_items, insert_items};
+use crate::hashes::{BLOCK, Batch, ItemBatch, hash_block};
 use crate::set_operation::SetOperation;
 use sketch_base::{Error, Fault};
 use std::hash::Hash;
@@ -82,14 +83,31 @@ impl BloomFilter {
         ensures state { IsFilterState self.new }
         ensures stands { Extends self.old self.new (λ h. all_inserted_after h (B.inputs batch.now)) }
     {
-        let added = insert_items(
-            &mut self.words,
-            self.capacity,
-            self.num_hashes,
-            self.seed,
-            batch,
-        );
-        self.bits_used += added;
+        let seed = self.bits.seed();
+        let count = batch.count();
+        let blocks = count.div_ceil(BLOCK);
+        let mut pairs = [(0, 0); BLOCK];
+        // The label is for the prover.
+        'each: for b in 0..blocks {
+            let from = BLOCK * b;
+            let to = from + BLOCK.min(count - from);
+            let block = &mut pairs[..to - from];
+            hash_block(batch, from, seed, block);
+            self.insert_pairs(block);
+        }
+    }
+
+    /// Inserts the positions of all pairs of hashes.
+    #[inline(always)]
+    fn insert_pairs(&mut self, pairs: &[(u64, u64)])
+        ensures insertions { self.new ≡ fold with_pair self.old pairs.now }
+        ensures state { IsFilterState self.new }
+    {
+        // For the prover: this read brings in what holds of every filter.
+        let _bits_used = self.bits_used;
+        'pairs: for i in 0..pairs.len() {
+            self.insert_pair(pairs[i]);
+        }
     }
 
     /// Writes for each item of a batch whether all its positions are in the set.
@@ -98,14 +116,7 @@ impl BloomFilter {
         requires { length answers.old ≡ length (B.inputs batch.now) }
         ensures { answers.new ≡ map (contains_item self.now) (B.inputs batch.now) }
     {
-        contains_items(
-            &self.words.as_slice(),
-            self.capacity,
-            self.num_hashes,
-            self.seed,
-            batch,
-            answers,
-        );
+        self.bits.borrowed().contains_batch(batch, answers);
     }
 
     /// Inserts the positions of all items of a batch, and writes for each item whether it was contained before.
@@ -117,15 +128,34 @@ impl BloomFilter {
         ensures state { IsFilterState self.new }
         ensures stands { Extends self.old self.new (λ h. all_inserted_after h (B.inputs batch.now)) }
     {
-        let added = contains_and_insert_items(
-            &mut self.words,
-            self.capacity,
-            self.num_hashes,
-            self.seed,
-            batch,
-            answers,
-        );
-        self.bits_used += added;
+        let seed = self.bits.seed();
+        let count = batch.count();
+        let blocks = count.div_ceil(BLOCK);
+        let mut pairs = [(0, 0); BLOCK];
+        // The label is for the prover.
+        'each: for b in 0..blocks {
+            let from = BLOCK * b;
+            let to = from + BLOCK.min(count - from);
+            let block = &mut pairs[..to - from];
+            hash_block(batch, from, seed, block);
+            self.contains_and_insert_pairs(block, &mut answers[from..to]);
+        }
+    }
+
+    /// Inserts the positions of all pairs of hashes, and writes for each pair, in turn, whether all were in the set
+    /// before.
+    #[inline(always)]
+    fn contains_and_insert_pairs(&mut self, pairs: &[(u64, u64)], answers: &mut [bool])
+        requires { length answers.old ≡ length pairs.now }
+        ensures answers { answers.new ≡ pairs_contained self.old pairs.now }
+        ensures insertions { self.new ≡ fold with_pair self.old pairs.now }
+        ensures state { IsFilterState self.new }
+    {
+        // For the prover: this read brings in what holds of every filter.
+        let _bits_used = self.bits_used;
+        'pairs: for i in 0..pairs.len() {
+            answers[i] = self.insert_pair(pairs[i]);
+        }
     }
 
     /// Adds all positions of the other filters' sets, as [`union`](Self::union) does one after another. Does not
@@ -177,7 +207,7 @@ impl BloomFilter {
         ensures state { IsFilterState self.now }
     {
         // For the prover: this read brings in what holds of every filter.
-        let _num_hashes = self.num_hashes;
+        let _bits_used = self.bits_used;
         'each: for i in 0..others.len() {
             if !self.is_compatible(others[i]) {
                 return false;

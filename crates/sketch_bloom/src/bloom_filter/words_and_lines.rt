@@ -32,7 +32,7 @@ impl BloomFilter {
         ensures stands { Extends self.old self.new (λ h. all_inserted_after h (map (fed_bytes fed.str) (words_of text.now))) }
     {
         // Borrows a field, which brings the invariant of the filter into the proof.
-        let _ = &self.words;
+        let _ = &self.bits_used;
         let mut rest = text;
         'each: loop {
             let (word, after) = next_word(rest, Separator::AsciiWhitespace);
@@ -65,7 +65,7 @@ impl BloomFilter {
         ensures stands { Extends self.old self.new (λ h. all_inserted_after h (map (fed_bytes fed.str) (lines text.now))) }
     {
         // Borrows a field, which brings the invariant of the filter into the proof.
-        let _ = &self.words;
+        let _ = &self.bits_used;
         let mut rest = text;
         'each: while let Some((line, after)) = next_line(rest) {
             self.insert_str(line);

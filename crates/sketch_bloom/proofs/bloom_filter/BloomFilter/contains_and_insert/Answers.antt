@@ -1,7 +1,7 @@
-use Rattle.std.proofs.Common.{sym, ap, ◌∙◌, subst}
+use Rattle.std.proofs.Common.{ℕ, sym, ap, ◌∙◌, subst}
 use Rattle.sketch_base.specs.Hashes.{fed_bytes}
-use Rattle.sketch_base.specs.Xxh64.{xxh64}
 use Rattle.sketch_bloom.specs.History.BloomHistory.{Insert}
+use Rattle.sketch_bloom.specs.Pairs.{pair_of, contains_pair, with_pair}
 use Rattle.sketch_bloom.specs.Stands.{StandsFor}
 use Rattle.sketch_bloom.specs.State.{FilterState}
 use Rattle.sketch_bloom.proofs.Inserting.{inserted_stands}
@@ -10,12 +10,12 @@ use Rattle.sketch_bloom.proofs.bloom_filter.BloomFilter.contains_and_insert.Goal
 pub returns-clause-answer : goal.returns-clause-answer
 returns-clause-answer g c =
     let bytes = fed_bytes g.T.Hash.hash_input c.args.item.now in
-    c.insert_hashed.ensures.answer bytes (c.hashes_of-h0.ensures.first ∙ ap (λ (s : FilterState). xxh64 bytes s.seed) c.self.view_is) c.hashes_of-h0.ensures.second
+    c.insert_pair.ensures.answer ∙ ap (contains_pair c.args.self.now) (c.hashes_of.ensures ∙ ap (λ (n : ℕ). pair_of n bytes) (c.seed-seed.ensures ∙ ap (λ (s : FilterState). s.seed) c.self.view_is))
 
 pub returns-clause-insertion : goal.returns-clause-insertion
 returns-clause-insertion g c =
     let bytes = fed_bytes g.T.Hash.hash_input c.args.item.now in
-    c.insert_hashed.ensures.insertion bytes (c.hashes_of-h0.ensures.first ∙ ap (λ (s : FilterState). xxh64 bytes s.seed) c.self.view_is) c.hashes_of-h0.ensures.second
+    c.insert_pair.ensures.insertion ∙ ap (with_pair c.args.self.now) (c.hashes_of.ensures ∙ ap (λ (n : ℕ). pair_of n bytes) (c.seed-seed.ensures ∙ ap (λ (s : FilterState). s.seed) c.self.view_is))
 
 pub returns-clause-stands : goal.returns-clause-stands
 returns-clause-stands g c = λ h e.

@@ -1,45 +1,57 @@
-use Rattle.std.proofs.Common.{ℕ, List, map, sym, ap, ◌∙◌, subst, arith}
+use Rattle.std.proofs.Common.{◌≡◌, ◌+◌, ◌-◌, ◌*◌, ℕ, map, take, drop, refl, sym, ap, subst, ◌∙◌, arith}
 use Rattle.std.specs.List.{fold}
-use Rattle.sketch_bloom.specs.BitSet.{set_of}
+use Rattle.std.proofs.lemmas.List.{take_all}
 use Rattle.sketch_bloom.specs.History.{all_inserted_after}
 use Rattle.sketch_bloom.specs.Pairs.{pair_of, with_pair, pairs_contained}
 use Rattle.sketch_bloom.specs.Stands.{StandsFor}
-use Rattle.sketch_bloom.specs.State.{FilterState, answers_in_turn, all_inserted}
-use Rattle.sketch_bloom.proofs.Answering.{answers_are}
-use Rattle.sketch_bloom.proofs.Counting.{count_fits}
-use Rattle.sketch_bloom.proofs.Inserting.{inserted_state, all_inserted_stands}
-use Rattle.sketch_bloom.proofs.States.{state_of, added_filter, written_state}
+use Rattle.sketch_bloom.specs.State.{FilterState, IsFilterState}
+use Rattle.sketch_bloom.proofs.Answering.{contained_block, answers_are}
+use Rattle.sketch_bloom.proofs.Batches.{block_hashed, fold_block}
+use Rattle.sketch_bloom.proofs.Inserting.{all_inserted_is, all_inserted_stands}
 use Rattle.sketch_bloom.proofs.bloom_filter.BloomFilter.contains_and_insert_batch.Goals as goal
 
-pub overflow_add-self : goal.overflow_add-self
-overflow_add-self g c = record { fits = count_fits _ _ c.self.invariant c.deref_mut.ensures.value c.contains_and_insert_items-added.auto.words c.contains_and_insert_items-added.ensures.added }
+pub each-init : goal.each-init
+each-init g c = record { answers = refl; insertions = refl; state = subst (λ (s : FilterState). IsFilterState s) c.self.view_is c.self.invariant.state }
 
-pub invariant_of-self : goal.invariant_of-self
-invariant_of-self g c = added_filter c.self.inside.words c.deref_mut.result.now c.contains_and_insert_items-added.new.words c.self.inside.capacity c.self.inside.num_hashes c.self.inside.bits_used c.contains_and_insert_items-added.result c.self.invariant (omega arith) c.deref_mut.ensures.value c.contains_and_insert_items-added.ensures.added
+pub each-preserved : goal.each-preserved
+each-preserved g c =
+    let inputs = g.B.Batch.inputs c.args.batch.now in
+    let f = pair_of c.seed-seed.result in
+    let from : ℕ = 16 * c.each.b in
+    let to : ℕ = from + c.min.result in
+    let block = take (to - from) (drop from inputs) in
+    let hashed : c.hash_block.new.pairs ≡ map f block = block_hashed f inputs c.each.pairs c.hash_block.new.pairs from (to - from) (omega arith) c.hash_block.ensures in
+    record {
+      answers = contained_block f c.args.self.now inputs c.each.answers c.contains_and_insert_pairs.new.answers from to (16 * (c.each.b + 1)) (to - from)
+          (omega arith) (omega arith) (λ l. omega arith) (omega arith) (omega arith) refl
+          (c.contains_and_insert_pairs.ensures.answers ∙ (λ k. pairs_contained (c.each.invariant.insertions k) (hashed k)))
+          c.each.invariant.answers;
+      insertions = c.contains_and_insert_pairs.ensures.insertions
+          ∙ ((λ k. fold with_pair (c.each.invariant.insertions k) (hashed k))
+          ∙ fold_block f with_pair c.args.self.now inputs from to (16 * (c.each.b + 1)) (omega arith) (omega arith) (λ l. omega arith));
+      state = c.contains_and_insert_pairs.ensures.state;
+    }
+
+pub returns-clause-answers : goal.returns-clause-answers
+returns-clause-answers g c =
+    let s : FilterState = c.args.self.now in
+    let inputs = g.B.Batch.inputs c.args.batch.now in
+    let seeded : c.seed-seed.result ≡ s.seed = c.seed-seed.ensures ∙ ap (λ (t : FilterState). t.seed) c.self.view_is in
+    sym (take_all (16 * c.each.b) c.each.answers (omega arith))
+    ∙ (c.each.invariant.answers
+    ∙ ((λ k. pairs_contained s (map (pair_of (seeded k)) (take_all (16 * c.each.b) inputs (omega arith) k)))
+    ∙ answers_are s inputs))
 
 pub returns-clause-insertions : goal.returns-clause-insertions
 returns-clause-insertions g c =
+    let s : FilterState = c.args.self.now in
     let inputs = g.B.Batch.inputs c.args.batch.now in
-    let inside = c.self.inside in
-    inserted_state inside.words c.contains_and_insert_items-added.new.words inside.capacity inside.num_hashes inside.seed inputs (omega arith) c.self.invariant.capacity_is
-    (c.contains_and_insert_items-added.ensures.union ∙ ap (λ (ws : List ℕ). fold (with_pair inside.capacity inside.num_hashes) (set_of ws) (map (pair_of inside.seed) inputs)) c.deref_mut.ensures.value)
-    ∙ ap (λ (s : FilterState). all_inserted s inputs) c.self.view_is
-
-pub returns-clause-state : goal.returns-clause-state
-returns-clause-state g c = written_state c.self.inside.words c.contains_and_insert_items-added.new.words c.self.inside.capacity c.self.inside.num_hashes c.self.inside.bits_used c.self.inside.seed c.self.invariant (omega arith)
+    let seeded : c.seed-seed.result ≡ s.seed = c.seed-seed.ensures ∙ ap (λ (t : FilterState). t.seed) c.self.view_is in
+    c.each.invariant.insertions
+    ∙ ((λ k. fold with_pair s (map (pair_of (seeded k)) (take_all (16 * c.each.b) inputs (omega arith) k)))
+    ∙ all_inserted_is s inputs)
 
 pub returns-clause-stands : goal.returns-clause-stands
 returns-clause-stands g c = λ h e.
     let inputs = g.B.Batch.inputs c.args.batch.now in
     subst (λ (s : FilterState). StandsFor s (all_inserted_after h inputs)) (sym (returns-clause-insertions g c)) (all_inserted_stands c.args.self.now h inputs e)
-
-pub returns-clause-answers : goal.returns-clause-answers
-returns-clause-answers g c =
-    let inputs = g.B.Batch.inputs c.args.batch.now in
-    let inside = c.self.inside in
-    let pairs = map (pair_of inside.seed) inputs in
-    c.contains_and_insert_items-added.ensures.answers
-    ∙ (ap (λ (ws : List ℕ). pairs_contained inside.capacity inside.num_hashes (set_of ws) pairs) c.deref_mut.ensures.value
-    ∙ (ap (λ (capacity : ℕ). pairs_contained capacity inside.num_hashes (set_of inside.words.items) pairs) c.self.invariant.capacity_is
-    ∙ (answers_are (state_of inside.words.items inside.num_hashes inside.seed) inputs
-    ∙ ap (λ (s : FilterState). answers_in_turn s inputs) c.self.view_is)))

@@ -1,31 +1,40 @@
-use Rattle.std.proofs.Common.{ℕ, List, map, sym, ap, ◌∙◌, subst, arith}
+use Rattle.std.proofs.Common.{◌≡◌, ◌+◌, ◌-◌, ◌*◌, ℕ, map, take, drop, refl, sym, ap, subst, ◌∙◌, arith}
 use Rattle.std.specs.List.{fold}
-use Rattle.sketch_bloom.specs.BitSet.{set_of}
+use Rattle.std.proofs.lemmas.List.{take_all}
 use Rattle.sketch_bloom.specs.History.{all_inserted_after}
 use Rattle.sketch_bloom.specs.Pairs.{pair_of, with_pair}
 use Rattle.sketch_bloom.specs.Stands.{StandsFor}
-use Rattle.sketch_bloom.specs.State.{FilterState, all_inserted}
-use Rattle.sketch_bloom.proofs.Counting.{count_fits}
-use Rattle.sketch_bloom.proofs.Inserting.{inserted_state, all_inserted_stands}
-use Rattle.sketch_bloom.proofs.States.{added_filter, written_state}
+use Rattle.sketch_bloom.specs.State.{FilterState, IsFilterState}
+use Rattle.sketch_bloom.proofs.Batches.{block_hashed, fold_block}
+use Rattle.sketch_bloom.proofs.Inserting.{all_inserted_is, all_inserted_stands}
 use Rattle.sketch_bloom.proofs.bloom_filter.BloomFilter.insert_batch.Goals as goal
 
-pub overflow_add-self : goal.overflow_add-self
-overflow_add-self g c = record { fits = count_fits _ _ c.self.invariant c.deref_mut.ensures.value c.insert_items-added.auto.words c.insert_items-added.ensures.added }
+pub each-init : goal.each-init
+each-init g c = record { insertions = refl; state = subst (λ (s : FilterState). IsFilterState s) c.self.view_is c.self.invariant.state }
 
-pub invariant_of-self : goal.invariant_of-self
-invariant_of-self g c = added_filter c.self.inside.words c.deref_mut.result.now c.insert_items-added.new.words c.self.inside.capacity c.self.inside.num_hashes c.self.inside.bits_used c.insert_items-added.result c.self.invariant (omega arith) c.deref_mut.ensures.value c.insert_items-added.ensures.added
+pub each-preserved : goal.each-preserved
+each-preserved g c =
+    let inputs = g.B.Batch.inputs c.args.batch.now in
+    let f = pair_of c.seed-seed.result in
+    let from : ℕ = 16 * c.each.b in
+    let to : ℕ = from + c.min.result in
+    let block = take (to - from) (drop from inputs) in
+    let hashed : c.hash_block.new.pairs ≡ map f block = block_hashed f inputs c.each.pairs c.hash_block.new.pairs from (to - from) (omega arith) c.hash_block.ensures in
+    record {
+      insertions = c.insert_pairs.ensures.insertions
+          ∙ ((λ k. fold with_pair (c.each.invariant.insertions k) (hashed k))
+          ∙ fold_block f with_pair c.args.self.now inputs from to (16 * (c.each.b + 1)) (omega arith) (omega arith) (λ l. omega arith));
+      state = c.insert_pairs.ensures.state;
+    }
 
 pub returns-clause-insertions : goal.returns-clause-insertions
 returns-clause-insertions g c =
+    let s : FilterState = c.args.self.now in
     let inputs = g.B.Batch.inputs c.args.batch.now in
-    let inside = c.self.inside in
-    inserted_state inside.words c.insert_items-added.new.words inside.capacity inside.num_hashes inside.seed inputs (omega arith) c.self.invariant.capacity_is
-    (c.insert_items-added.ensures.union ∙ ap (λ (ws : List ℕ). fold (with_pair inside.capacity inside.num_hashes) (set_of ws) (map (pair_of inside.seed) inputs)) c.deref_mut.ensures.value)
-    ∙ ap (λ (s : FilterState). all_inserted s inputs) c.self.view_is
-
-pub returns-clause-state : goal.returns-clause-state
-returns-clause-state g c = written_state c.self.inside.words c.insert_items-added.new.words c.self.inside.capacity c.self.inside.num_hashes c.self.inside.bits_used c.self.inside.seed c.self.invariant (omega arith)
+    let seeded : c.seed-seed.result ≡ s.seed = c.seed-seed.ensures ∙ ap (λ (t : FilterState). t.seed) c.self.view_is in
+    c.each.invariant.insertions
+    ∙ ((λ k. fold with_pair s (map (pair_of (seeded k)) (take_all (16 * c.each.b) inputs (omega arith) k)))
+    ∙ all_inserted_is s inputs)
 
 pub returns-clause-stands : goal.returns-clause-stands
 returns-clause-stands g c = λ h e.

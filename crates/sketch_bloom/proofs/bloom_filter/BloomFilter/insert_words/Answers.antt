@@ -6,14 +6,13 @@ use Rattle.sketch_bloom.specs.History.{all_inserted_after}
 use Rattle.sketch_bloom.specs.Stands.{StandsFor}
 use Rattle.sketch_bloom.specs.State.{FilterState, IsFilterState, all_inserted}
 use Rattle.sketch_bloom.proofs.Inserting.{all_inserted_stands}
-use Rattle.sketch_bloom.proofs.States.{filter_state}
 use Rattle.sketch_bloom.proofs.bloom_filter.BloomFilter.insert_words.Goals as goal
 
 pub each-init : goal.each-init
 each-init c = (
   c.utf8.text,
   refl,
-  subst (λ (s : FilterState). IsFilterState s) c.self.view_is (filter_state c.self.inside.words.items c.self.inside.capacity c.self.inside.num_hashes c.self.inside.bits_used c.self.inside.seed c.self.invariant),
+  subst (λ (s : FilterState). IsFilterState s) c.self.view_is c.self.invariant.state,
 )
 
 pub returns-then-is_empty-clause-stands : goal.returns-then-is_empty-clause-stands

@@ -3,7 +3,6 @@ use Rattle.std.proofs.lemmas.Bool.{false≢true}
 use Rattle.std.proofs.lemmas.List.{take_all}
 use Rattle.std.proofs.lemmas.List.Elements.{All-more, All-map}
 use Rattle.sketch_bloom.specs.State.{FilterState, IsFilterState, IsCompatible}
-use Rattle.sketch_bloom.proofs.States.{filter_state}
 use Rattle.sketch_bloom.proofs.Unions.{one_other}
 use Rattle.sketch_bloom.proofs.bloom_filter.BloomFilter.is_compatible_with_all.Goals as goal
 
@@ -14,7 +13,7 @@ returns-then-not-is_compatible-clause-compatible c = (
 )
 
 pub returns-then-not-is_compatible-clause-state : goal.returns-then-not-is_compatible-clause-state
-returns-then-not-is_compatible-clause-state c = subst (λ (s : FilterState). IsFilterState s) c.self.view_is (filter_state c.self.inside.words.items c.self.inside.capacity c.self.inside.num_hashes c.self.inside.bits_used c.self.inside.seed c.self.invariant)
+returns-then-not-is_compatible-clause-state c = subst (λ (s : FilterState). IsFilterState s) c.self.view_is c.self.invariant.state
 
 pub each-preserved : goal.each-preserved
 each-preserved c =
@@ -29,4 +28,4 @@ returns-clause-compatible c = (
 )
 
 pub returns-clause-state : goal.returns-clause-state
-returns-clause-state c = subst (λ (s : FilterState). IsFilterState s) c.self.view_is (filter_state c.self.inside.words.items c.self.inside.capacity c.self.inside.num_hashes c.self.inside.bits_used c.self.inside.seed c.self.invariant)
+returns-clause-state c = subst (λ (s : FilterState). IsFilterState s) c.self.view_is c.self.invariant.state

@@ -1,11 +1,11 @@
-use Rattle.std.proofs.Common.{sym, ap, ◌∙◌, arith}
-use Rattle.std.specs.Ordering.{nat_cmp}
+use Rattle.std.proofs.Common.{sym, ap, ◌∙◌}
 use Rattle.std.specs.FinSet as set
-use Rattle.sketch_bloom.proofs.States.{written_filter, written_state}
+use Rattle.std.specs.Ordering.{nat_cmp}
+use Rattle.sketch_bloom.specs.State.{FilterState}
 use Rattle.sketch_bloom.proofs.bloom_filter.BloomFilter.reset.Goals as goal
 
 pub invariant_of-self : goal.invariant_of-self
-invariant_of-self c = written_filter c.self.inside.words c.clear.new.words c.self.inside.capacity c.self.inside.num_hashes c.self.inside.bits_used 0 c.self.invariant (omega arith) (sym (ap set.len c.clear.ensures ∙ set.len-empty nat_cmp))
-
-pub returns-clause-state : goal.returns-clause-state
-returns-clause-state c = written_state c.self.inside.words c.clear.new.words c.self.inside.capacity c.self.inside.num_hashes c.self.inside.bits_used c.self.inside.seed c.self.invariant (omega arith)
+invariant_of-self c = record {
+  state = c.clear.ensures.state;
+  bits_used_is = sym (ap (λ (s : FilterState). set.len s.set) c.clear.ensures.cleared ∙ set.len-empty nat_cmp);
+}

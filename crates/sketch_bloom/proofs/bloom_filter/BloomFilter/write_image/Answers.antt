@@ -1,4 +1,6 @@
-use Rattle.std.proofs.Common.{sym, ap, subst, ◌∙◌}
+use Rattle.std.proofs.Common.{ℕ, ◌<◌, ◌^◌, ◌++◌, subst, ◌∙◌}
+use Rattle.std.specs.Int.{w64, to_le_bytes}
+use Rattle.sketch_base.specs.Fields.{bytes_of_words}
 use Rattle.sketch_bloom.specs.Image.{IsSpelled, preamble}
 use Rattle.sketch_bloom.specs.State.{FilterState}
 use Rattle.sketch_bloom.proofs.Spellings.{spelled_empty, spelled_full}
@@ -9,14 +11,15 @@ returns-then-self-eq0 c =
     let f = c.self.inside in
     let image = c.write_empty.new.out in
     subst (λ (s : FilterState). IsSpelled image s) c.self.view_is
-    (spelled_empty image f.words.items f.capacity f.num_hashes f.bits_used f.seed c.self.invariant c.write_empty.ensures.seed_fits c.if-self-eq0.true
-    (c.write_empty.ensures.bytes ∙ ap (λ n. preamble 3 4 f.num_hashes f.seed n) (c.len.ensures ∙ f.words.ok.0)))
+    (spelled_empty image f.bits f.bits_used c.self.invariant (subst (λ (n : ℕ). n < 2 ^ 64) c.seed-seed.ensures c.write_empty.ensures.seed_fits) c.if-self-eq0.true
+    (c.write_empty.ensures.bytes ∙ (λ i. preamble 3 4 (c.num_hashes-num_hashes.ensures i) (c.seed-seed.ensures i) (c.num_words.ensures.value i))))
 
 pub returns-else-self-eq0 : goal.returns-else-self-eq0
 returns-else-self-eq0 c =
     let f = c.self.inside in
     let image = c.write_full.new.out in
-    let words = c.deref.ensures.value in
+    let words = c.words.result.now in
     subst (λ (s : FilterState). IsSpelled image s) c.self.view_is
-    (spelled_full image f.words.items f.capacity f.num_hashes f.bits_used f.seed c.self.invariant c.write_full.ensures.seed_fits (rw (sym words) c.write_full.ensures.words_fit) c.if-self-eq0.false
-    (rw (sym words) c.write_full.ensures.bytes))
+    (spelled_full image words f.bits f.bits_used c.self.invariant (subst (λ (n : ℕ). n < 2 ^ 64) c.seed-seed.ensures c.write_full.ensures.seed_fits)
+    (record { count = c.words.ensures.count; fit = c.write_full.ensures.words_fit; set = c.words.ensures.set }) c.if-self-eq0.false
+    (c.write_full.ensures.bytes ∙ (λ i. preamble 4 0 (c.num_hashes-num_hashes.ensures i) (c.seed-seed.ensures i) (c.words.ensures.count i) ++ to_le_bytes w64 f.bits_used ++ bytes_of_words words)))
