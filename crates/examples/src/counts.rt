@@ -1,7 +1,8 @@
 //! Examples of Count-Min sketches: weights in a table of a fixed size.
 use sketch_base::Error;
 use sketch_countmin::{
-    CountMinSketch, CountMinValue, UnsignedCountMinValue, suggest_num_buckets, suggest_num_hashes,
+    CountMinSizes, CountMinSketch, CountMinValue, UnsignedCountMinValue, suggest_num_buckets,
+    suggest_num_hashes,
 };
 use std::alloc::Global;
 
@@ -11,6 +12,16 @@ pub fn bytes_of_apple(alloc: Global) -> Result<u64, Error> {
     traffic.update_with_weight("apple", 90)?;
     traffic.halve();
     Ok(traffic.estimate("apple"))
+}
+
+/// Creates an empty sketch with this seed.
+pub fn empty_traffic(alloc: Global, seed: u64) -> Result<CountMinSketch<u64>, Error> {
+    let sizes = CountMinSizes {
+        num_hashes: 4,
+        num_buckets: 128,
+        seed,
+    };
+    CountMinSketch::with_sizes(alloc, sizes)
 }
 
 /// Creates a sketch whose estimates are at most a thousandth of the total too high, except for one look-up in fifty.

@@ -15,6 +15,7 @@ mod strings;
 mod words_and_lines;
 
 use crate::cells::{add_all, halve_all, row_seeds, same_cells, scale_all, zeros};
+use crate::count_min_sizes::CountMinSizes;
 use crate::count_min_value::CountMinValue;
 use crate::limits::{MAX_TABLE_ENTRIES, MIN_NUM_BUCKETS};
 use crate::margin::with_margin;
@@ -122,6 +123,18 @@ impl<T: CountMinValue> CountMinSketch<T> {
         }
         compute_seed_hash(seed, ErrorKind::InvalidArgument)?;
         Self::empty(alloc, num_hashes, num_buckets, seed)
+    }
+
+    /// Creates an empty sketch of these sizes and this seed, as [`with_seed`](Self::with_seed) does.
+    pub fn with_sizes(alloc: Global, sizes: CountMinSizes) -> Result<Self, Error>
+        ensures ok { IfOk result (λ sketch. sketch ≡ empty_state sizes.num_hashes sizes.num_buckets sizes.seed) }
+        ensures state { IfOk result (λ sketch. IsCountState T.greatest sketch) }
+        ensures stands { IfOk result (λ sketch. StandsFor sketch (New sizes.num_hashes sizes.num_buckets sizes.seed)) }
+        ensures accepted { IsOk result → shape_fault sizes.num_hashes sizes.num_buckets sizes.seed ≡ None }
+        ensures refused { IfErr result (λ e. e
+            ≡ refusal_of (shape_fault sizes.num_hashes sizes.num_buckets sizes.seed)) }
+    {
+        Self::with_seed(alloc, sizes.num_hashes, sizes.num_buckets, sizes.seed)
     }
 
     /// Creates an empty sketch of an allowed shape and seed.

@@ -7,6 +7,7 @@
 
 mod cell_list;
 mod cells;
+mod count_min_sizes;
 mod count_min_sketch;
 mod count_min_value;
 mod count_min_view;
@@ -20,6 +21,7 @@ mod rows;
 mod sizes;
 mod unsigned_count_min_value;
 
+pub use count_min_sizes::CountMinSizes;
 pub use count_min_sketch::CountMinSketch;
 pub use count_min_value::CountMinValue;
 pub use count_min_view::CountMinView;
