@@ -4,6 +4,7 @@ pub mod Equality
 pub mod Fractions
 pub mod History
 pub mod Image
+pub mod Items
 pub mod View
 pub mod Laws
 pub mod Preamble
