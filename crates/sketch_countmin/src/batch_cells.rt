@@ -15,7 +15,7 @@ use crate::rows::Rows;
 use std::hash::Hash;
 
 /// Adds 1 at each item's bucket of each row.
-#[inline(always)]
+#[inline]
 pub fn count_in_rows<T: CountMinValue, I: Hash>(counts: &mut [T], rows: &Rows, items: &[I])
     requires shape { length counts.old ≡ length rows.now.seeds.now * rows.now.buckets }
     requires room { (k : ℕ) → unsigned_abs (cell_in (map T.number counts.old) k) + length items.now ≤ T.greatest }
@@ -29,7 +29,7 @@ pub fn count_in_rows<T: CountMinValue, I: Hash>(counts: &mut [T], rows: &Rows, i
 }
 
 /// Adds 1 at each item's bucket of one row.
-#[inline(always)]
+#[inline]
 fn count_in_row<T: CountMinValue, I: Hash>(counts: &mut [T], rows: &Rows, row: usize, items: &[I])
     requires row { row < length rows.now.seeds.now }
     requires shape { length counts.old ≡ length rows.now.seeds.now * rows.now.buckets }
@@ -39,14 +39,15 @@ fn count_in_row<T: CountMinValue, I: Hash>(counts: &mut [T], rows: &Rows, row: u
         (map (fed_bytes I.hash_input) items.now) row (map T.number counts.old) (map T.number counts.new) }
 {
     let masked = rows.buckets.is_power_of_two();
+    let seed = rows.seeds[row];
     for item in items {
-        let index = rows.index(masked, &HashItem { item }, row);
+        let index = rows.index_by_seed(masked, &HashItem { item }, row, seed);
         add_at(counts, index, T::ONE);
     }
 }
 
 /// Writes the minimum of each item's cells.
-#[inline(always)]
+#[inline]
 pub fn min_cells<T: CountMinValue, I: Hash>(counts: &[T], rows: &Rows, items: &[I], least: &mut [T])
     requires shape { length counts.now ≡ length rows.now.seeds.now * rows.now.buckets }
     requires same { length least.old ≡ length items.now }
@@ -61,7 +62,7 @@ pub fn min_cells<T: CountMinValue, I: Hash>(counts: &[T], rows: &Rows, items: &[
 }
 
 /// Writes each item's cell of the first row.
-#[inline(always)]
+#[inline]
 fn first_cells<T: CountMinValue, I: Hash>(counts: &[T], rows: &Rows, items: &[I], cells: &mut [T])
     requires shape { length counts.now ≡ length rows.now.seeds.now * rows.now.buckets }
     requires same { length cells.old ≡ length items.now }
@@ -70,13 +71,14 @@ fn first_cells<T: CountMinValue, I: Hash>(counts: &[T], rows: &Rows, items: &[I]
         (slice_index_or (map (fed_bytes I.hash_input) items.now) i []) 0) }
 {
     let masked = rows.buckets.is_power_of_two();
+    let seed = rows.seeds[0];
     for (i, item) in items.iter().enumerate() {
-        cells[i] = item_cell(counts, rows, masked, item, 0);
+        cells[i] = item_cell(counts, rows, masked, item, 0, seed);
     }
 }
 
 /// Replaces each number by the minimum of it and the item's cell of a row.
-#[inline(always)]
+#[inline]
 fn lesser_cells<T: CountMinValue, I: Hash>(
     counts: &[T],
     rows: &Rows,
@@ -94,8 +96,9 @@ fn lesser_cells<T: CountMinValue, I: Hash>(
         (slice_index_or (map T.number least.new) i (pos 0)) }
 {
     let masked = rows.buckets.is_power_of_two();
+    let seed = rows.seeds[row];
     for (i, item) in items.iter().enumerate() {
-        let cell = item_cell(counts, rows, masked, item, row);
+        let cell = item_cell(counts, rows, masked, item, row, seed);
         least[i] = least[i].min(cell);
     }
 }
@@ -108,12 +111,14 @@ fn item_cell<T: CountMinValue, I: Hash>(
     masked: bool,
     item: &I,
     row: usize,
+    seed: u64,
 ) -> T
     requires masked { IsTrue masked → IsTrue (is_power_of_two rows.now.buckets) }
     requires row { row < length rows.now.seeds.now }
+    requires seed { seed ≡ slice_index rows.now.seeds.now row }
     requires shape { length counts.now ≡ length rows.now.seeds.now * rows.now.buckets }
     ensures { T.number result ≡ flat_at rows.now.buckets (map T.number counts.now) row
         (buckets_by rows.now.buckets rows.now.seeds.now (fed_bytes I.hash_input item.now) row) }
 {
-    counts[rows.index(masked, &HashItem { item }, row)]
+    counts[rows.index_by_seed(masked, &HashItem { item }, row, seed)]
 }

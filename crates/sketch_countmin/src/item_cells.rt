@@ -5,7 +5,7 @@
 //! most common number beside three and five, have no loop: all four indices are computed before the first cell is
 //! accessed.
 ghost use Rattle.std.specs.Hash as fed;
-ghost use Rattle.std.specs.Prelude.{◌≡◌, ℕ, ◌*◌, ◌≤◌, List, map, length, ℤ, ◌+ℤ◌, unsigned_abs, IsTrue};
+ghost use Rattle.std.specs.Prelude.{◌≡◌, ℕ, ◌*◌, ◌^◌, ◌<◌, ◌≤◌, List, map, length, ℤ, ◌+ℤ◌, unsigned_abs, IsTrue};
 ghost use Rattle.std.specs.Int.{is_power_of_two};
 ghost use Rattle.sketch_base.specs.Hashes.{fed_bytes};
 ghost use Rattle.sketch_countmin.specs.Cells.{cell_in};
@@ -15,7 +15,7 @@ use crate::cell_list::CellList;
 use crate::cells::add_at;
 use crate::count_min_value::CountMinValue;
 use crate::rows::Rows;
-use sketch_base::{Rehashable, RehashableItem, RehashableStr, murmur3_of};
+use sketch_base::{Divisor, Rehashable, RehashableItem, RehashableStr, murmur3_of};
 use std::hash::Hash;
 
 /// An item, by the bytes that are hashed for each row.
@@ -61,7 +61,7 @@ impl<'a, T: CountMinValue, I: Hash> RowItem<T> for HashItem<'a, I> {
         let hashed = RehashableItem::new(self.item);
         match hashed.short() {
             Some(bytes) => add_hashed(counts, rows, bytes, weight),
-            None => add_long(counts, &rows.copy(), self, weight),
+            None => add_long(counts, rows.seeds, rows.buckets, self.item, weight),
         }
     }
 
@@ -70,7 +70,7 @@ impl<'a, T: CountMinValue, I: Hash> RowItem<T> for HashItem<'a, I> {
         let hashed = RehashableItem::new(self.item);
         match hashed.short() {
             Some(bytes) => min_hashed(counts, rows, bytes),
-            None => min_long(counts, &rows.copy(), self),
+            None => min_long(counts, rows.seeds, rows.buckets, self.item),
         }
     }
 }
@@ -115,13 +115,23 @@ fn add_hashed<T: CountMinValue, R: Rehashable>(counts: &mut [T], rows: &Rows, by
 
 /// Does the same as `add_hashed` for an item of many bytes, which is fed again for each row.
 #[inline(never)]
-fn add_long<T: CountMinValue, I: Hash>(counts: &mut [T], rows: &Rows, item: &HashItem<I>, weight: T)
-    requires shape { length counts.old ≡ length rows.now.seeds.now * rows.now.buckets }
+fn add_long<T: CountMinValue, I: Hash>(
+    counts: &mut [T],
+    seeds: &[u64],
+    buckets: Divisor,
+    item: &I,
+    weight: T,
+)
+    requires some { 0 < length seeds.now }
+    requires fits { length seeds.now * buckets < 2 ^ 64 }
+    requires shape { length counts.old ≡ length seeds.now * buckets }
     requires room { (k : ℕ) → unsigned_abs (cell_in (map T.number counts.old) k +ℤ T.number weight) ≤ T.greatest }
-    ensures { IsItemAdded rows.now.buckets rows.now.seeds.now (fed_bytes I.hash_input item.now.item.now) (T.number weight)
+    ensures { IsItemAdded buckets seeds.now (fed_bytes I.hash_input item.now) (T.number weight)
         (map T.number counts.old) (map T.number counts.new) }
 {
-    add_to_each(counts, rows, rows.buckets.is_power_of_two(), item, weight);
+    let rows = Rows { seeds, buckets };
+    let item = HashItem { item };
+    add_to_each(counts, &rows, buckets.is_power_of_two(), &item, weight);
 }
 
 /// Does the same as `add_hashed` for four rows and a power of two of buckets.
@@ -191,14 +201,19 @@ fn min_hashed<T: CountMinValue, C: CellList<T>, R: Rehashable>(
 #[inline(never)]
 fn min_long<T: CountMinValue, C: CellList<T>, I: Hash>(
     counts: &C,
-    rows: &Rows,
-    item: &HashItem<I>,
+    seeds: &[u64],
+    buckets: Divisor,
+    item: &I,
 ) -> T
-    requires shape { length (C.list counts.now) ≡ length rows.now.seeds.now * rows.now.buckets }
-    ensures { IsItemMin rows.now.buckets rows.now.seeds.now (fed_bytes I.hash_input item.now.item.now) (C.list counts.now)
+    requires some { 0 < length seeds.now }
+    requires fits { length seeds.now * buckets < 2 ^ 64 }
+    requires shape { length (C.list counts.now) ≡ length seeds.now * buckets }
+    ensures { IsItemMin buckets seeds.now (fed_bytes I.hash_input item.now) (C.list counts.now)
         (T.number result) }
 {
-    min_of_each(counts, rows, rows.buckets.is_power_of_two(), item)
+    let rows = Rows { seeds, buckets };
+    let item = HashItem { item };
+    min_of_each(counts, &rows, buckets.is_power_of_two(), &item)
 }
 
 /// Does the same as `min_hashed` for four rows and a power of two of buckets.

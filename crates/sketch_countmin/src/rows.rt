@@ -16,29 +16,39 @@ pub struct Rows<'a> {
 }
 
 impl<'a> Rows<'a> {
-    /// Returns a copy. A function that is not inlined takes one, so that its caller keeps its own rows in registers.
-    #[inline(always)]
-    pub fn copy(&self) -> Rows<'a>
-        ensures seeds { result.seeds.now ≡ self.now.seeds.now }
-        ensures buckets { result.buckets ≡ self.now.buckets }
-    {
-        Rows {
-            seeds: self.seeds,
-            buckets: self.buckets,
-        }
-    }
-
     /// Returns the index of the cell of hashed bytes in a row. `masked` requires a power of two of buckets.
     #[inline(always)]
     pub fn index<R: Rehashable>(&self, masked: bool, bytes: &R, row: usize) -> usize
         requires masked { IsTrue masked → IsTrue (is_power_of_two self.now.buckets) }
         requires hashable { R.can_hash bytes.now }
         requires row { row < length self.now.seeds.now }
-        ensures index { result ≡ row * self.now.buckets + buckets_by self.now.buckets self.now.seeds.now (R.bytes bytes.now) row }
+        ensures index { result ≡ row * self.now.buckets
+            + buckets_by self.now.buckets self.now.seeds.now (R.bytes bytes.now) row }
         ensures bucket { buckets_by self.now.buckets self.now.seeds.now (R.bytes bytes.now) row < self.now.buckets }
         ensures inside { result < length self.now.seeds.now * self.now.buckets }
     {
-        let bucket = bucket_in(self.buckets, masked, bytes.murmur3(self.seeds[row]).0);
+        self.index_by_seed(masked, bytes, row, self.seeds[row])
+    }
+
+    /// Does the same as [`index`](Self::index), given the row's seed: a loop over items reads it once.
+    #[inline(always)]
+    pub fn index_by_seed<R: Rehashable>(
+        &self,
+        masked: bool,
+        bytes: &R,
+        row: usize,
+        seed: u64,
+    ) -> usize
+        requires masked { IsTrue masked → IsTrue (is_power_of_two self.now.buckets) }
+        requires hashable { R.can_hash bytes.now }
+        requires row { row < length self.now.seeds.now }
+        requires seed { seed ≡ slice_index self.now.seeds.now row }
+        ensures index { result ≡ row * self.now.buckets
+            + buckets_by self.now.buckets self.now.seeds.now (R.bytes bytes.now) row }
+        ensures bucket { buckets_by self.now.buckets self.now.seeds.now (R.bytes bytes.now) row < self.now.buckets }
+        ensures inside { result < length self.now.seeds.now * self.now.buckets }
+    {
+        let bucket = bucket_in(self.buckets, masked, bytes.murmur3(seed).0);
         row * self.buckets.divisor() as usize + bucket as usize
     }
 }

@@ -22,11 +22,11 @@ read : (g : given.Over) (c : After-ONE g) → fed_bytes g.I.Hash.hash_input c.it
 read g c = read_item (fed_bytes g.I.Hash.hash_input) c.args.items.now c.loop-item.item-index c.item-item.result c.loop-item-test.true c.item-item.is
 
 -- where its cell lies
-index : (g : given.Over) (c : After-ONE g) → c.index-index.result ≡ c.args.row * c.args.rows.now.buckets + bucket g c (get_or (fed g c) c.loop-item.item-index [])
-index g c = subst (λ (bytes : List ℕ). c.index-index.result ≡ c.args.row * c.args.rows.now.buckets + bucket g c bytes) (read g c) c.index-index.ensures.index
+index : (g : given.Over) (c : After-ONE g) → c.index_by_seed-index.result ≡ c.args.row * c.args.rows.now.buckets + bucket g c (get_or (fed g c) c.loop-item.item-index [])
+index g c = subst (λ (bytes : List ℕ). c.index_by_seed-index.result ≡ c.args.row * c.args.rows.now.buckets + bucket g c bytes) (read g c) c.index_by_seed-index.ensures.index
 
 in_row : (g : given.Over) (c : After-ONE g) → bucket g c (get_or (fed g c) c.loop-item.item-index []) < c.args.rows.now.buckets
-in_row g c = subst (λ (bytes : List ℕ). bucket g c bytes < c.args.rows.now.buckets) (read g c) c.index-index.ensures.bucket
+in_row g c = subst (λ (bytes : List ℕ). bucket g c bytes < c.args.rows.now.buckets) (read g c) c.index_by_seed-index.ensures.bucket
 
 more : (g : given.Over) (c : After-ONE g) → c.loop-item.item-index < length (fed g c)
 more g c = omega (arith, length-map c.args.items.now (fed_bytes g.I.Hash.hash_input), c.loop-item-test.true)
@@ -35,7 +35,7 @@ pub loop-item-init : goal.loop-item-init
 loop-item-init g c = row_start _ _ _ _
 
 pub add_at-requires-clause-bounds : goal.add_at-requires-clause-bounds
-add_at-requires-clause-bounds g c = omega (arith, c.index-index.ensures.inside, c.requires.shape, c.loop-item.auto.counts)
+add_at-requires-clause-bounds g c = omega (arith, c.index_by_seed-index.ensures.inside, c.requires.shape, c.loop-item.auto.counts)
 
 pub add_at-requires-clause-room : goal.add_at-requires-clause-room
 add_at-requires-clause-room g c =
@@ -48,10 +48,10 @@ loop-item-preserved g c =
     let now = (goal.at.loop-item-preserved g c).After-ONE in
     let number = g.T.CountMinValue.number in
     let one : number c.ONE.result ≡ pos 1 = ap number c.ONE.ensures ∙ g.met.T.CountMinValue.one_is in
-    let k : ℕ = c.index-index.result in
+    let k : ℕ = c.index_by_seed-index.result in
     let mid : List ℤ = map number c.loop-item.counts in
     row_counted _ _ _ (fed g now) c.loop-item.item-index _ mid _ c.loop-item.invariant (more g now) k (in_row g now) (index g now)
-    (omega (arith, c.index-index.ensures.inside, length-map c.loop-item.counts number, c.loop-item.auto.counts, c.requires.shape))
+    (omega (arith, c.index_by_seed-index.ensures.inside, length-map c.loop-item.counts number, c.loop-item.auto.counts, c.requires.shape))
     (c.add_at.ensures ∙ ap (λ (z : ℤ). set mid k (get_or mid k (pos 0) +ℤ z)) one)
 
 pub returns : goal.returns

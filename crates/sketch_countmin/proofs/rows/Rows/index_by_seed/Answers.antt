@@ -1,6 +1,6 @@
 use Rattle.std.proofs.Common.{arith, refl, ◌+◌, ◌*◌, ◌<◌, length}
 use Rattle.sketch_countmin.proofs.Places.{inside_wide}
-use Rattle.sketch_countmin.proofs.rows.Rows.index.Goals as goal
+use Rattle.sketch_countmin.proofs.rows.Rows.index_by_seed.Goals as goal
 
 pub overflow_mul-result : goal.overflow_mul-result
 overflow_mul-result g c =
