@@ -19,6 +19,7 @@ pub mod laws;
 mod limits;
 mod margin;
 mod number_types;
+mod parts;
 mod rows;
 mod sizes;
 mod unsigned_count_min_value;
