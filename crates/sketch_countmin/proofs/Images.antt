@@ -23,7 +23,7 @@ use Rattle.sketch_countmin.specs.State.{CountState, IsCountState, empty_state}
 use Rattle.sketch_countmin.specs.Table.{IsTable, state_of}
 use Rattle.sketch_countmin.specs.declared.image.Preamble.{Preamble}
 use Rattle.sketch_countmin.proofs.Reading.{first_failing-append}
-use Rattle.sketch_countmin.proofs.Tables.{length-rows_of, rows_width, rows_all, rows_of-replicate, zeros_read}
+use Rattle.sketch_countmin.proofs.Tables.{length-rows_of, rows_width, rows_all, rows_of-replicate, zeros_read, shape_is}
 
 -- so many numbers are read
 pub length-numbers_in : (least : ℤ) (n : ℕ) (bytes : List ℕ) → length (numbers_in least n bytes) ≡ n
@@ -60,14 +60,7 @@ pub table_read : (least : ℤ) (greatest : ℕ) (row_seeds : List ℕ) (d seed m
 table_read least greatest row_seeds d seed m n most total cells bytes height width some few wide small seeded right not_negative fits most_is cells_are pass =
     let area : length row_seeds * d ≡ m * n = ap (λ (k : ℕ). k * d) height ∙ ap (λ (k : ℕ). m * k) width in
     record {
-      shape = record {
-        some_rows = omega (arith, height);
-        few_rows = omega (arith, height);
-        some_buckets = omega (arith, width);
-        few_cells = omega (arith, area);
-        seeded = seeded;
-        seeds = λ r lt. right r (omega (arith, lt, height));
-      };
+      shape = shape_is row_seeds d seed m n height width some few wide small seeded right;
       size = ap length cells_are ∙ (length-numbers_in least (m * n) bytes ∙ sym area);
       total_is = not_negative;
       fits = fits;

@@ -48,10 +48,6 @@ room_fits x y most n top own small le = small_fits (to_z w128 (of_z w128 x) -ℤ
 pub cells_bytes : (cells size : ℕ) → cells < 2 ^ 30 → size ≤ 8 → cells * size < 2 ^ 33
 cells_bytes cells size few small = omega (arith, mul-le cells size cells 8 (omega arith) small)
 
--- a row of a small table is small
-pub row_bytes : (rows width : ℕ) → 0 < rows → rows * width < 2 ^ 30 → width < 2 ^ 30
-row_bytes rows width some few = omega (arith, mul-le 1 width rows width some (omega arith))
-
 -- the cells of the largest shape
 pub cells_fit : (rows width : ℕ) → rows < 2 ^ 8 → width < 2 ^ 32 → rows * width < 2 ^ 64
 cells_fit rows width h k = omega (arith, mul-le rows width 255 4294967295 (omega arith) (omega arith))

@@ -87,13 +87,3 @@ counted_stop old mid items rest after bytes greatest so next fits over =
     let room : greatest - old.total ≡ length so.before = omega (arith, so.counted.total) in
     let front : take (greatest - old.total) items ≡ so.before = ap (λ (n : ℕ). take n items) room ∙ (ap (take (length so.before)) parts ∙ take_front so.before (bytes ∷ after)) in
     (subst (λ xs. CountsAll old xs mid) (sym front) so.counted, omega (arith, so.counted.total, ap length parts, length-append so.before (bytes ∷ after)))
-
--- a word and those after it
-pub next_word_is : (words after : List (List ℕ)) (word : List ℕ) (f : List ℕ → List ℕ) → words ≡ with_word word after → eqb (length word) 0 ≡ false → map f words ≡ f word ∷ map f after
-next_word_is words after [] f e some = absurd (false≢true (sym some))
-next_word_is words after (x ∷ xs) f e some = ap (map f) e
-
--- no word is left
-pub no_word_is : (words after : List (List ℕ)) (word : List ℕ) (f : List ℕ → List ℕ) → words ≡ with_word word after → eqb (length word) 0 ≡ true → map f words ≡ []
-no_word_is words after [] f e none = ap (map f) e
-no_word_is words after (x ∷ xs) f e none = let some : eqb (length (x ∷ xs)) 0 ≡ false = grind (arith, nat_tests) in absurd (false≢true (sym some ∙ none))

@@ -2,15 +2,9 @@
 use Rattle.std.proofs.Common.{◌≡◌, ◌≢◌, ℕ, ◌+◌, ◌*◌, ◌<◌, ◌≤◌, List, map, length, get_or, set, ℤ, pos, ◌+ℤ◌, unsigned_abs, sym, ap, ◌∙◌, subst, arith, get_or-set_other, get_or-set_same, below_more, ⊎_elim}
 use Rattle.std.proofs.lemmas.Bool.{cases_lt}
 use Rattle.std.proofs.lemmas.Nat.{mul-le}
-use Rattle.std.proofs.lemmas.Int.{ints}
 use Rattle.std.proofs.lemmas.List.{length-map, get_or_past}
-use Rattle.std.specs.Prelude.{◌≤ℤ◌}
-use Rattle.sketch_countmin.specs.Cells.{flat_at, RowsAdded, CellsAdded, IsMinOf}
+use Rattle.sketch_countmin.specs.Cells.{RowsAdded, CellsAdded}
 use Rattle.sketch_countmin.proofs.RowSteps.{inside, plus_zero, read_cell, rows_added_next}
-
--- a index in the first row
-pub inside_first : (d rows b l : ℕ) → l ≡ rows * d → 0 < rows → b < d → b < l
-inside_first d rows b l e some p = omega (arith, inside d rows 0 b l e some p)
 
 -- a index in a row, where the width has two spellings
 pub inside_wide : (d rows n b l w : ℕ) → w ≡ d → l ≡ rows * d → n < rows → b < d → n * w + b < l
@@ -71,18 +65,6 @@ cells_all_added number n old new other h end k =
     ⊎_elim (λ (lt : k < n). h.done k lt)
     (λ (le : n ≤ k). h.rest k le ∙ (plus_zero (get_or old k (pos 0)) ∙ ap (λ (z : ℤ). get_or old k (pos 0) +ℤ z) (sym (get_or_past (map number other) k (pos 0) (omega (arith, le, end, length-map other number))))))
     (cases_lt k n)
-
--- ---- the least cell
-
--- the least of the first row alone
-pub least_at_first : (d : ℕ) (cells : List ℤ) (bucket : ℕ → ℕ) (z : ℤ) → z ≡ get_or cells (bucket 0) (pos 0) → IsMinOf d cells bucket 1 z
-least_at_first d cells bucket z e =
-    let start : 0 * d + bucket 0 ≡ bucket 0 = omega arith in
-    let here : flat_at d cells 0 (bucket 0) ≡ z = ap (λ (j : ℕ). get_or cells j (pos 0)) start ∙ sym e in
-    record {
-      below = λ r lt. let at_zero : 0 ≡ r = omega arith in subst (λ (r : ℕ). z ≤ℤ flat_at d cells r (bucket r)) at_zero (omega (arith, ints, here));
-      reached = (0, omega arith, sym here);
-    }
 
 -- ---- the parts of a sketch, as a loop over them sees them
 

@@ -5,7 +5,6 @@ use Rattle.std.proofs.lemmas.Int.{ints}
 use Rattle.std.proofs.lemmas.Bool.{eqb-true, eqb-false}
 use Rattle.std.proofs.lemmas.List.{length-take-le, get_or-map}
 use Rattle.std.proofs.lemmas.List.Sums.{count_by-le-length, count_by_more_yes, count_by_more_no}
-use Rattle.std.proofs.lemmas.Nat.{mul-le}
 use Rattle.sketch_countmin.specs.Cells.{flat_at, RowCounted, RowsCounted}
 use Rattle.sketch_countmin.proofs.RowSteps.{plus_zero, inside}
 
@@ -64,10 +63,6 @@ room_in_row d n greatest bucket items i old mid b k h lt p index room =
     rw here (omega (arith, ints, few, length-take-le i items (omega arith), room))
 
 -- ---- row after row
-
--- the cells of a row are in the table
-pub row_fits : (d rows n l : ℕ) → l ≡ rows * d → n < rows → n * d + d ≤ l
-row_fits d rows n l e lt = omega (arith, e, mul-le (n + 1) d rows d (omega arith) (omega arith))
 
 pub rows_start : (d : ℕ) (bucket : ℕ → List ℕ → ℕ) (items : List (List ℕ)) (old : List ℤ) → RowsCounted d bucket items 0 old old
 rows_start d bucket items old = record { done = λ r h _ _. absurd (omega arith); rest = λ k _. refl }

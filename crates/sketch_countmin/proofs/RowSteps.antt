@@ -1,5 +1,5 @@
 -- One row more.
-use Rattle.std.proofs.Common.{◌≡◌, ◌≢◌, ℕ, ◌+◌, ◌*◌, ◌%◌, ◌<◌, ◌≤◌, Bool, true, false, eqb, cond, List, [], ◌∷◌, ◌++◌, replicate, length, get_or, set, ℤ, pos, ◌+ℤ◌, refl, sym, ap, ◌∙◌, subst, arith, get_or-set_other, get_or-set_same, below_more, map, inl, inr, ⊎_elim}
+use Rattle.std.proofs.Common.{◌≡◌, ◌≢◌, ℕ, ◌+◌, ◌*◌, ◌<◌, ◌≤◌, Bool, true, false, eqb, cond, List, [], ◌∷◌, ◌++◌, replicate, length, get_or, set, ℤ, pos, ◌+ℤ◌, refl, sym, ap, ◌∙◌, subst, arith, get_or-set_other, get_or-set_same, below_more, map, inl, inr, ⊎_elim}
 use Rattle.std.proofs.lemmas.List.{get_or-map, map-set, map_push, replicate_more, get_or_append_left, get_or_push}
 use Rattle.sketch_base.specs.Hashes.{le64}
 use Rattle.sketch_base.specs.Murmur3.{murmur3_x64_128}
@@ -11,11 +11,7 @@ use Rattle.std.proofs.lemmas.Int.{ints}
 use Rattle.std.proofs.lemmas.Nat.{mul-le}
 use Rattle.std.proofs.lemmas.Bool.{eqb-true, eqb-false}
 use Rattle.sketch_countmin.specs.Cells.{flat_at, RowsAdded, IsMinOf, IsLesser}
-use Rattle.sketch_countmin.specs.Buckets.{row_seed, bucket_by}
-
--- where an item is counted in a row, by its hash under the row's seed
-pub bucket_found : (d seed index : ℕ) (hash : ℕ × ℕ) (hashed bytes : List ℕ) → index ≡ hash.0 % d → hash ≡ murmur3_x64_128 hashed seed → hashed ≡ bytes → index ≡ bucket_by d seed bytes
-bucket_found d seed index hash hashed bytes at h e = at ∙ (ap (λ (h : ℕ × ℕ). h.0 % d) h ∙ ap (bucket_by d seed) e)
+use Rattle.sketch_countmin.specs.Buckets.{row_seed}
 
 pub plus_zero : (z : ℤ) → z ≡ z +ℤ pos 0
 plus_zero z = omega (arith, ints)
@@ -97,14 +93,16 @@ lesser_here num cmp a b c x y ordered ex ey chosen =
     (subst (λ (y : ℤ). IsLesser (num a) y (num c)) ey
     (subst (λ (c : _). IsLesser (num a) (num b) (num c)) (sym chosen) (lesser num a b (cmp b a) (ordered b a))))
 
-pub least_first : {T : Type 0} (num : T → ℤ) (d : ℕ) (bucket : ℕ → ℕ) (cells : List ℤ) (k : ℕ) (x : T) → k ≡ bucket 0 → num x ≡ get_or cells k (pos 0)
+-- the cell of the first row alone
+pub least_at_first : (d : ℕ) (cells : List ℤ) (bucket : ℕ → ℕ) (z : ℤ) → z ≡ flat_at d cells 0 (bucket 0) → IsMinOf d cells bucket 1 z
+least_at_first d cells bucket z here = record {
+  below = λ r lt. let at_zero : 0 ≡ r = omega arith in subst (λ (r : ℕ). z ≤ℤ flat_at d cells r (bucket r)) at_zero (omega (arith, ints, here));
+  reached = (0, omega arith, here);
+}
+
+pub least_first : {T : Type 0} (num : T → ℤ) (d : ℕ) (bucket : ℕ → ℕ) (cells : List ℤ) (k : ℕ) (x : T) → k ≡ 0 * d + bucket 0 → num x ≡ get_or cells k (pos 0)
     → IsMinOf d cells bucket 1 (num x)
-least_first num d bucket cells k x index e =
-    let here : flat_at d cells 0 (bucket 0) ≡ num x = ap (λ (j : ℕ). get_or cells j (pos 0)) (omega (arith, index)) ∙ sym e in
-    record {
-      below = λ r lt. let at_zero : 0 ≡ r = omega arith in subst (λ (r : ℕ). num x ≤ℤ flat_at d cells r (bucket r)) at_zero (omega (arith, ints, here));
-      reached = (0, omega arith, sym here);
-    }
+least_first num d bucket cells k x index e = least_at_first d cells bucket (num x) (e ∙ ap (λ (j : ℕ). get_or cells j (pos 0)) index)
 
 -- with the cell of one row more
 pub least_lesser : (d : ℕ) (cells : List ℤ) (bucket : ℕ → ℕ) (n : ℕ) (x z : ℤ) → IsMinOf d cells bucket n x → IsLesser x (flat_at d cells n (bucket n)) z → IsMinOf d cells bucket (n + 1) z

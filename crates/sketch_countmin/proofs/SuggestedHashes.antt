@@ -54,13 +54,6 @@ hashes_enough n k lt le =
     let more : n * denominator ^ k ≤ t * denominator ^ k = mul-le n _ t _ le (omega arith) in
     (25, omega (arith, more, p.low))
 
--- every number of 64 bits
-pub last_enough : (n : ℕ) → n < 18446744073709551616 → IsWithinPowerOfE n 45
-last_enough n fits =
-    let more : n * denominator ^ 45 ≤ 18446744073709551616 * denominator ^ 45 = mul-le n (denominator ^ 45) 18446744073709551616 (denominator ^ 45) (omega (arith, fits)) (omega arith) in
-    let last : 18446744073709551616 * denominator ^ 45 ≤ numerator ^ 45 = leb-true _ _ refl in
-    (25, omega (arith, more, last))
-
 -- a number above t is not reached by the power of a sum that is at most (a + 1) / f, where t is that power, rounded down
 not_reached : (a f m t n s g : ℕ) → IsPower a f m t → t < n → s * f ≤ (a + 1) * g → 0 < g → n * g ^ m ≤ s ^ m → ⊥
 not_reached a f m t n s g p lt le some reached =

@@ -1,9 +1,12 @@
 -- A list of cells and the rows that it makes.
-use Rattle.std.proofs.Common.{◌≡◌, ℕ, zero, suc, ◌+◌, ◌-◌, ◌*◌, ◌/◌, ◌%◌, ◌<◌, ◌≤◌, List, ◌∷◌, length, get_or, map, replicate, take, drop, All, ℤ, pos, unsigned_abs, refl, sym, ap, ◌∙◌, subst, arith, ⊎_elim}
+use Rattle.std.proofs.Common.{◌≡◌, ◌≢◌, ◌^◌, ℕ, zero, suc, ◌+◌, ◌-◌, ◌*◌, ◌/◌, ◌%◌, ◌<◌, ◌≤◌, List, ◌∷◌, length, get_or, map, replicate, take, drop, All, ℤ, pos, unsigned_abs, refl, sym, ap, ◌∙◌, subst, arith, ⊎_elim}
 use Rattle.std.proofs.lemmas.Bool.{cases_lt}
 use Rattle.std.proofs.lemmas.List.{get_or-take, get_or-drop, get_or_past, length-take-le, length-take, length-drop, length-replicate, take-map, drop-map, take-replicate, drop-replicate, get_or-replicate, ext_get_or}
 use Rattle.std.proofs.lemmas.List.Elements.{All-cons}
 use Rattle.std.proofs.lemmas.Nat.{div-add-mod', div_below, mod_below}
+use Rattle.std.specs.Prelude.{slice_index}
+use Rattle.sketch_base.specs.Hashes.{seed_hash}
+use Rattle.sketch_countmin.specs.Buckets.{row_seed}
 use Rattle.sketch_countmin.specs.Rows.{cell_at, rows_of}
 use Rattle.sketch_countmin.specs.State.{CountState, IsCountState, empty_state}
 use Rattle.sketch_countmin.specs.Table.{IsTable, IsTableShape, state_of}
@@ -123,6 +126,20 @@ remade_rows greatest row_seeds d seed t t' old new w i long sum fits grown rest 
 
     past : (k : ℕ) → length row_seeds * d ≤ k → unsigned_abs (get_or new k (pos 0)) ≤ unsigned_abs t'
     past k le = rw (rest k le) (omega (arith, i.bounded k, total))
+
+-- seeds of as many rows as an allowed shape has, and its number of buckets
+pub shape_is : (row_seeds : List ℕ) (d seed m n : ℕ) → length row_seeds ≡ m → d ≡ n → 1 ≤ m → m ≤ 255 → 3 ≤ n → m * n < 2 ^ 30 → seed_hash seed ≢ 0
+    → ((r : ℕ) → r < m → slice_index row_seeds r ≡ row_seed r seed) → IsTableShape row_seeds d seed
+shape_is row_seeds d seed m n height width some few wide small seeded right =
+    let area : length row_seeds * d ≡ m * n = ap (λ (k : ℕ). k * d) height ∙ ap (λ (k : ℕ). m * k) width in
+    record {
+      some_rows = omega (arith, height);
+      few_rows = omega (arith, height);
+      some_buckets = omega (arith, width);
+      few_cells = omega (arith, area);
+      seeded = seeded;
+      seeds = λ r lt. right r (omega (arith, lt, height));
+    }
 
 -- the parts of an empty sketch
 pub empty_is : (greatest : ℕ) (row_seeds : List ℕ) (d seed : ℕ) (z : ℤ) (cells : List ℤ) → IsTableShape row_seeds d seed → z ≡ pos 0 → cells ≡ replicate (length row_seeds * d) (pos 0) → IsTable greatest row_seeds d seed z cells

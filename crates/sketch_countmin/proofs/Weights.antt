@@ -1,7 +1,6 @@
 -- Weights for which a total has room.
-use Rattle.std.proofs.Common.{◌≡◌, ℕ, ◌+◌, ◌-◌, ◌<◌, ◌≤◌, List, length, take, get_or, ap, arith}
+use Rattle.std.proofs.Common.{◌≡◌, ℕ, ◌+◌, ◌<◌, ◌≤◌, List, length, take, get_or, ap, arith}
 use Rattle.std.specs.Prelude.{sum_by}
-use Rattle.std.proofs.lemmas.List.{take_all}
 use Rattle.std.proofs.lemmas.List.Sums.{sum_by_more, sum_by_more_le}
 
 -- a weight fits where all of them fit
@@ -26,19 +25,4 @@ pub one_over : {W : Type 0} (size : W → ℕ) (weights : List W) (i : ℕ) (w :
 one_over size weights i w start room greatest there is so_far over =
     let same : size w ≡ size (get_or weights i w) = ap size is in
     let most : sum_by size (take i weights) + size (get_or weights i w) ≤ sum_by size weights = sum_by_more_le size weights i w there in
-    omega arith
-
--- and one that is not leaves the rest of it
-pub room_more : {W : Type 0} (size : W → ℕ) (weights : List W) (i : ℕ) (w : W) (start room greatest : ℕ) → i < length weights → w ≡ get_or weights i w
-    → start + sum_by size (take i weights) + room ≡ greatest → size w ≤ room → start + sum_by size (take (i + 1) weights) + (room - size w) ≡ greatest
-room_more size weights i w start room greatest there is so_far fits =
-    let same : size w ≡ size (get_or weights i w) = ap size is in
-    let more : sum_by size (take (i + 1) weights) ≡ sum_by size (take i weights) + size (get_or weights i w) = sum_by_more size weights i w there in
-    omega arith
-
--- so all of them fit where each did
-pub all_fit : {W : Type 0} (size : W → ℕ) (weights : List W) (i start room greatest : ℕ) → length weights ≤ i
-    → start + sum_by size (take i weights) + room ≡ greatest → start + sum_by size weights ≤ greatest
-all_fit size weights i start room greatest here so_far =
-    let whole : sum_by size (take i weights) ≡ sum_by size weights = ap (sum_by size) (take_all i weights here) in
     omega arith

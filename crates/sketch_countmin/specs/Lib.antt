@@ -4,8 +4,10 @@ pub mod Equality
 pub mod Fractions
 pub mod History
 pub mod Image
+pub mod Items
 pub mod View
 pub mod Laws
+pub mod Parts
 pub mod Preamble
 pub mod Rows
 pub mod Shapes

@@ -5,6 +5,7 @@
 //! and read from one.
 #![tactic(auto)]
 
+mod batch_cells;
 mod cell_list;
 mod cells;
 mod count_min_sizes;
@@ -13,10 +14,12 @@ mod count_min_value;
 mod count_min_view;
 mod fraction;
 mod image;
+mod item_cells;
 pub mod laws;
 mod limits;
 mod margin;
 mod number_types;
+mod parts;
 mod rows;
 mod sizes;
 mod unsigned_count_min_value;

@@ -7,11 +7,11 @@ ghost use Rattle.sketch_countmin.specs.Image.{early_fault, late_fault, first_fau
 ghost use Rattle.sketch_countmin.specs.Preamble.{IsPreamble};
 ghost use Rattle.sketch_countmin.specs.State.{IsCountState};
 
-use crate::cells::row_seeds;
 use crate::count_min_sketch::{CountMinSketch, bucket_count};
 use crate::count_min_value::CountMinValue;
 use crate::image::{Preamble, read_cells, read_preamble, read_total, write_empty, write_full};
 use crate::limits::{MAX_TABLE_ENTRIES, MIN_NUM_BUCKETS};
+use crate::rows::row_seeds;
 use sketch_base::{DEFAULT_UPDATE_SEED, Error, ErrorKind, Fault, compute_seed_hash};
 use std::alloc::Global;
 

@@ -11,7 +11,7 @@ ghost use Rattle.sketch_countmin.specs.State.{IsCountState, Counts, CountsAll, C
 
 use crate::count_min_sketch::CountMinSketch;
 use crate::count_min_value::CountMinValue;
-use crate::rows::StrItem;
+use crate::item_cells::StrItem;
 use sketch_base::{Error, Fault, Strings};
 
 impl<T: CountMinValue> CountMinSketch<T> {

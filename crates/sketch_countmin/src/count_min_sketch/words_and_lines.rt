@@ -11,7 +11,8 @@ ghost use Rattle.sketch_countmin.specs.State.{IsCountState, CountsAll};
 
 use crate::count_min_sketch::CountMinSketch;
 use crate::count_min_value::CountMinValue;
-use sketch_base::{Error, Fault, Separator, next_line, next_word};
+use crate::parts::{Lines, Parts, Words};
+use sketch_base::{Error, Fault};
 
 impl<T: CountMinValue> CountMinSketch<T> {
     /// Counts each word of a string with weight 1, in order. Does not allocate.
@@ -45,19 +46,7 @@ impl<T: CountMinValue> CountMinSketch<T> {
             → IsErrOf result (invalid_argument Fault.WeightOverflow) }
         ensures succeeds { self.old.total + length (words_of text.now) ≤ T.greatest → IsOk result }
     {
-        // For the prover: this read brings in what holds of every sketch.
-        let _total = self.total;
-        let mut rest = text;
-        'each: loop {
-            let (word, after) = next_word(rest, Separator::AsciiWhitespace);
-            if word.is_empty() {
-                return Ok(());
-            }
-            let Ok(()) = self.update_str(word) else {
-                return Err(Error::invalid_argument(Fault::WeightOverflow));
-            };
-            rest = after;
-        }
+        self.update_parts::<Words>(text)
     }
 
     /// Counts each line of a string with weight 1, in order. Does not allocate.
@@ -92,11 +81,26 @@ impl<T: CountMinValue> CountMinSketch<T> {
             → IsErrOf result (invalid_argument Fault.WeightOverflow) }
         ensures succeeds { self.old.total + length (lines text.now) ≤ T.greatest → IsOk result }
     {
+        self.update_parts::<Lines>(text)
+    }
+
+    /// Counts each part of a string with weight 1, in order.
+    #[inline(always)]
+    fn update_parts<P: Parts>(&mut self, text: &str) -> Result<(), Error>
+        ensures counted { CountsAll self.old
+            (take (T.greatest - self.old.total) (map (fed_bytes fed.str) (P.parts text.now))) self.new }
+        ensures state { IsCountState T.greatest self.new }
+        ensures stands { Extends self.old self.new (λ h. all_updated h
+            (take (T.greatest - self.old.total) (map (fed_bytes fed.str) (P.parts text.now)))) }
+        ensures overflow { T.greatest < self.old.total + length (P.parts text.now)
+            → IsErrOf result (invalid_argument Fault.WeightOverflow) }
+        ensures succeeds { self.old.total + length (P.parts text.now) ≤ T.greatest → IsOk result }
+    {
         // For the prover: this read brings in what holds of every sketch.
         let _total = self.total;
         let mut rest = text;
-        'each: while let Some((line, after)) = next_line(rest) {
-            let Ok(()) = self.update_str(line) else {
+        'each: while let Some((part, after)) = P::next(rest) {
+            let Ok(()) = self.update_str(part) else {
                 return Err(Error::invalid_argument(Fault::WeightOverflow));
             };
             rest = after;

@@ -3,7 +3,7 @@ use Rattle.sketch_countmin.specs.State.{CountState, empty_state}
 use Rattle.sketch_countmin.specs.History.CountHistory.{New}
 use Rattle.sketch_countmin.specs.Stands.{StandsFor}
 use Rattle.sketch_countmin.specs.Table.{IsTableShape}
-use Rattle.sketch_countmin.proofs.Tables.{is_state, empty_is, empty_value}
+use Rattle.sketch_countmin.proofs.Tables.{is_state, shape_is, empty_is, empty_value}
 use Rattle.sketch_countmin.proofs.Standing.{stands_empty}
 use Rattle.sketch_countmin.proofs.count_min_sketch.CountMinSketch.empty.Given as given
 use Rattle.sketch_countmin.proofs.count_min_sketch.CountMinSketch.empty.Goals as goal
@@ -32,14 +32,7 @@ returns-clause-ok g c =
 pub invariant_of-result : goal.invariant_of-result
 invariant_of-result g c =
     let now = (goal.at.invariant_of-result g c).After-ZERO in
-    let shape : IsTableShape c.in_ok-row_seeds.row_seeds.items c.bucket_count.result c.args.seed = record {
-      some_rows = omega (arith, height g now);
-      few_rows = omega (arith, height g now);
-      some_buckets = omega (arith, c.bucket_count.ensures);
-      few_cells = omega (arith, size g now);
-      seeded = c.requires.seeded;
-      seeds = λ r lr. c.in_ok-row_seeds.ensures.seeds r (omega (arith, lr, height g now));
-    } in
+    let shape = shape_is _ c.bucket_count.result c.args.seed _ _ (height g now) c.bucket_count.ensures c.requires.some_hashes (omega arith) c.requires.some_buckets c.requires.few_cells c.requires.seeded c.in_ok-row_seeds.ensures.seeds in
     empty_is g.T.CountMinValue.greatest _ c.bucket_count.result c.args.seed _ _ shape (total g now) (cells g now)
 
 pub returns-clause-state : goal.returns-clause-state

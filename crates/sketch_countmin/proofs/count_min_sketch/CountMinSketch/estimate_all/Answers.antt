@@ -13,7 +13,7 @@ returns-clause-least g c = λ j lt.
     let z : ℤ = get_or (map number c.min_cells.new.least) j (pos 0) in
     subst (λ (s : CountState). IsMinCell s bytes z) c.self.view_is
     (least_here _ _ _ _ _ _ bytes z c.self.invariant
-    (least_own number i.buckets bytes i.row_seeds.items c.deref-2.result.now i.counts.items c.deref.result.now z c.deref-2.ensures.value c.deref.ensures.value (c.min_cells.ensures j lt)))
+    (least_own number i.buckets bytes i.row_seeds.items c.deref.result.now i.counts.items c.deref-2.result.now z c.deref.ensures.value c.deref-2.ensures.value (c.min_cells.ensures j lt)))
 
 pub min_cells-requires-clause-shape : goal.min_cells-requires-clause-shape
-min_cells-requires-clause-shape g c = lent_shape g.T.CountMinValue.number c.self.inside.buckets c.self.inside.counts.items _ c.self.inside.row_seeds.items _ c.deref.ensures.value c.deref-2.ensures.value c.self.invariant.size
+min_cells-requires-clause-shape g c = lent_shape g.T.CountMinValue.number c.self.inside.buckets c.self.inside.counts.items _ c.self.inside.row_seeds.items _ c.deref-2.ensures.value c.deref.ensures.value c.self.invariant.size

@@ -1,7 +1,7 @@
 use Rattle.std.proofs.Common.{◌≡◌, ◌<◌, ◌*◌, ℕ, take, length, ap, ◌∙◌, arith}
 use Rattle.std.proofs.lemmas.List.{length-take-le, get_or-take}
 use Rattle.sketch_countmin.specs.Table.{IsTableShape}
-use Rattle.sketch_countmin.proofs.Tables.{is_state}
+use Rattle.sketch_countmin.proofs.Tables.{is_state, shape_is}
 use Rattle.sketch_countmin.proofs.Views.{view_fields, view_value, view_reads, view_restores}
 use Rattle.sketch_countmin.proofs.count_min_view.CountMinView.with_seed.Given as given
 use Rattle.sketch_countmin.proofs.count_min_view.CountMinView.with_seed.Goals as goal
@@ -16,18 +16,8 @@ shape : (g : given.Over) (c : After-row_seeds_of g) → IsTableShape (take c.in_
 shape g c =
     let p = c.in_ok-preamble.preamble in
     let read = c.in_ok-preamble.ensures in
-    let tall : length (take p.num_hashes c.row_seeds_of.result) ≡ p.num_hashes = height g c in
-    let area : length (take p.num_hashes c.row_seeds_of.result) * c.bucket_count.result ≡ p.num_hashes * p.num_buckets = ap (λ (k : ℕ). k * c.bucket_count.result) tall ∙ ap (λ (k : ℕ). p.num_hashes * k) c.bucket_count.ensures in
-    record {
-      some_rows = omega (arith, tall, read.some_hashes);
-      few_rows = omega (arith, tall);
-      some_buckets = omega (arith, c.bucket_count.ensures, read.some_buckets);
-      few_cells = omega (arith, area, read.few_cells);
-      seeded = read.seeded;
-      seeds = λ r lt.
-          let below : r < p.num_hashes = omega (arith, tall, lt) in
-          get_or-take p.num_hashes c.row_seeds_of.result r 0 below ∙ c.row_seeds_of.ensures.seeds r below;
-    }
+    shape_is _ c.bucket_count.result c.args.seed p.num_hashes p.num_buckets (height g c) c.bucket_count.ensures read.some_hashes (omega arith) read.some_buckets read.few_cells read.seeded
+    (λ r lt. get_or-take p.num_hashes c.row_seeds_of.result r 0 lt ∙ c.row_seeds_of.ensures.seeds r lt)
 
 pub invariant_of-result : goal.invariant_of-result
 invariant_of-result g c =
